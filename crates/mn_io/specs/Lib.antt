@@ -1,0 +1,3 @@
+pub mod DiskModel
+pub mod Faults
+pub mod Memory
