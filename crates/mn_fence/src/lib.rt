@@ -1,0 +1,33 @@
+//! Which keys lie within the fences of a page, and which child of an inner page a key belongs to.
+#![tactic(auto)]
+
+ghost use Rattle.std.specs.Prelude.{◌≡◌, option_map};
+ghost use Rattle.mn_base.specs.Order.{covers_key};
+ghost use Rattle.mn_fence.specs.Child.{count_not_above};
+
+use mn_base::Key;
+
+/// Whether the key is at or above the low fence and below the high one. Without a high fence no key is too
+/// high. Keys are ordered by their bytes, where a proper prefix comes first.
+pub fn covers(low: &[u8], high: Option<&[u8]>, key: &[u8]) -> bool
+    ensures { result ≡ covers_key low.now (option_map (λ h. h.now) high.entry) key.now }
+{
+    if key.cmp(low).is_lt() {
+        return false;
+    }
+    match high {
+        Some(high) => key.cmp(high).is_lt(),
+        None => true,
+    }
+}
+
+/// How many of the separators are not above the key. Where they ascend, this is the number of the child
+/// that covers the key.
+pub fn child_of(separators: &[Key], key: &[u8]) -> usize
+    ensures { result ≡ count_not_above separators.now key.now }
+{
+    separators
+        .iter()
+        .filter(|separator| !key.cmp(separator.as_slice()).is_lt())
+        .count()
+}
