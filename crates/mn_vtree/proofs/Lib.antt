@@ -1,0 +1,4 @@
+pub mod Parents
+pub mod Walks
+pub mod Sets
+pub mod Served
