@@ -3,7 +3,7 @@
 
 ghost use Rattle.std.specs.Prelude.{◌≡◌, option_map};
 ghost use Rattle.mn_base.specs.Order.{covers_key};
-ghost use Rattle.mn_fence.specs.Child.{count_not_above};
+ghost use Rattle.mn_fence.specs.Child.{count_not_above, Ascend, IsChild};
 
 use mn_base::Key;
 
@@ -22,9 +22,10 @@ pub fn covers(low: &[u8], high: Option<&[u8]>, key: &[u8]) -> bool
 }
 
 /// How many of the separators are not above the key. Where they ascend, this is the number of the child
-/// that covers the key.
+/// that covers the key: child `i` has the separator before it as its low fence, and the next as its high one.
 pub fn child_of(separators: &[Key], key: &[u8]) -> usize
-    ensures { result ≡ count_not_above separators.now key.now }
+    ensures count { result ≡ count_not_above separators.now key.now }
+    ensures child { Ascend separators.now → IsChild separators.now key.now result }
 {
     separators
         .iter()
