@@ -147,7 +147,7 @@ module _ {E : Type 0} (legal : List (ℕ × E) → List (ℕ × E) → Line E �
 
   -- who owns all actors has the whole log
   pub ends : {S : Type 0} (id : ℕ) (v : View E) (ws : List ℕ) (xs : List S) (clock : ℕ) → OwnsAll nodes clients v → Final (Seen (Kept legal nodes clients {S = S}) id v) ws xs → get_elem? ws 0 ≡ some clock
-      → IsOneLog legal nodes clients v clock
+      → IsOneLog legal nodes clients (held v) clock
   ends id v ws xs clock all f e =
       let r = f.1.0 in
       let fits = r.views id v f.1.1 in

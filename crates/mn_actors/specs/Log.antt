@@ -4,9 +4,7 @@ use Rattle.mn_base.specs.declared.ids.NodeNo.{NodeNo}
 use Rattle.mn_base.specs.declared.ids.ClientNo.{ClientNo}
 use Rattle.mn_actors.specs.declared.actor.Actor.{Actor}
 use Rattle.mn_actors.specs.declared.actor.Actor.TheVariants.{Node, Client}
-use Rattle.mn_actors.specs.declared.clock.View.{View}
 use Rattle.mn_actors.specs.Lines.{Line, stands_in, IsActor}
-use Rattle.mn_actors.specs.Lists.{held}
 
 module _ {E : Type 0} where
   -- the list of an actor in a log whose first place is p
@@ -49,10 +47,10 @@ module _ {E : Type 0} where
     pub alone : (a : Actor) (e : E) → StandsAt p e (lists a) → (stands_in a x ≡ true) × (e ≡ x.entry)
 
   -- the lists of all actors are one log, as long as the clock, of lines that were legal when they were added
-  pub record IsOneLog (legal : List (ℕ × E) → List (ℕ × E) → Line E → Type 0) (nodes clients : ℕ) (v : View E) (clock : ℕ) : Type 0 where
+  pub record IsOneLog (legal : List (ℕ × E) → List (ℕ × E) → Line E → Type 0) (nodes clients : ℕ) (owned : Actor → Option (List (ℕ × E))) (clock : ℕ) : Type 0 where
     pub log : List (Line E)
     pub clock_is : clock ≡ length log
-    pub lists : (a : Actor) → IsActor nodes clients a → held v a ≡ Some (entries_of a log)
+    pub lists : (a : Actor) → IsActor nodes clients a → owned a ≡ Some (entries_of a log)
     pub ascending : (a : Actor) → Ascends (entries_of a log)
     pub manned : (p : ℕ) (x : Line E) → slice_get log p ≡ Some x → IsManned nodes clients x
     -- by what its actors' lists held before it

@@ -124,8 +124,8 @@ impl<L: Law> Board<L> {
         self.split_named::<Brand>(from, actor)
     }
 
-    /// The place that the pass knows: all entries of its actors stand below it, and so does every entry
-    /// that it has heard of.
+    /// The place that the pass knows. The clock has reached it, so that each later entry of the pass stands
+    /// there or above.
     pub fn note(&self, pass: &Pass<L>) -> u64
         requires { board_of pass.now ≡ id_of self.now }
         ensures { result ≡ (view_of pass.now).known }
@@ -133,7 +133,7 @@ impl<L: Law> Board<L> {
         pass.known
     }
 
-    /// Looks at the clock, which is what the pass then knows, and says whether it has reached the place.
+    /// Looks at the clock, whose value the pass then knows, and says whether it has reached the place.
     pub fn hear(&self, pass: &mut Pass<L>, place: u64) -> bool
         requires board { board_of pass.old ≡ id_of self.now }
         ensures board { board_of pass.new ≡ board_of pass.old }
@@ -146,11 +146,12 @@ impl<L: Law> Board<L> {
         place <= clock
     }
 
-    /// Ends the log, and answers the clock, which is the number of entries. The pass owns all actors.
+    /// Ends the log, and answers the clock, which is the number of entries. The pass owns all actors: their
+    /// lists are one log, in which each place below the clock is one entry.
     pub fn close(self, pass: Pass<L>) -> u64
         requires board { board_of pass ≡ id_of self }
         requires all { OwnsAll (nodes_of self) (clients_of self) (view_of pass) }
-        ensures { IsOneLog L.legal (nodes_of self) (clients_of self) (view_of pass) result }
+        ensures { IsOneLog L.legal (nodes_of self) (clients_of self) (held (view_of pass)) result }
     {
         let Board { table } = self;
         let Pass { known: _, seat } = pass;
