@@ -8,7 +8,7 @@ use Rattle.mn_actors.specs.declared.actor.Actor.{Actor}
 use Rattle.mn_actors.specs.declared.actor.Actor.TheVariants.{Node, Client}
 use Rattle.mn_actors.specs.declared.clock.View.{View}
 use Rattle.mn_actors.specs.Lines.{Line, is_node, is_client, stands_in, same_actor}
-use Rattle.mn_actors.specs.Lists.{held, grow, grow_if, or_else, own_node, own_client, or_empty}
+use Rattle.mn_actors.specs.Lists.{held, grow, or_else, own_node, own_client, or_empty, HasRoom, SomeActor, NodeRoom, ClientRoom, MayAppend}
 use Rattle.mn_actors.specs.Rule.{list_of, node_list, client_list, node_place, client_place, put, appended, without, lone, alone, merged, joined}
 
 pub stands_node : (n : NodeNo) → is_node (Some n) n ≡ true
@@ -47,6 +47,20 @@ is_client_place : (o : Option ClientNo) (n : ClientNo) → is_place (client_plac
 unfolding is_place
 is_client_place None n = refl
 is_client_place (Some m) n = refl
+
+-- the actors of a line
+at_node : (P : Actor → Type 0) (o : Option NodeNo) (n : NodeNo) → is_node o n ≡ true → ((m : NodeNo) → o ≡ Some m → P (Node m)) → P (Node n)
+at_node P None n is h = absurd (true≢false (sym is))
+at_node P (Some m) n is h = subst (λ (k : NodeNo). P (Node k)) (sym (same_node n m is)) (h m refl)
+
+at_client : (P : Actor → Type 0) (o : Option ClientNo) (c : ClientNo) → is_client o c ≡ true → ((d : ClientNo) → o ≡ Some d → P (Client d)) → P (Client c)
+at_client P None c is h = absurd (true≢false (sym is))
+at_client P (Some d) c is h = subst (λ (k : ClientNo). P (Client k)) (sym (same_client c d is)) (h d refl)
+
+-- a list that grows where the test holds
+abbrev pub grow_if : {E : Type 0} → Bool → Option (List (ℕ × E)) → ℕ × E → Option (List (ℕ × E))
+grow_if true o e = grow o e
+grow_if false o e = o
 
 module _ {E : Type 0} where
   set_same : (ls : List (Option (List (ℕ × E)))) (k : ℕ) (e : ℕ × E) → get_or (set ls k (grow (get_or ls k None) e)) k None ≡ grow (get_or ls k None) e
@@ -145,3 +159,16 @@ module _ {E : Type 0} where
   replicate_past zero k o not = refl
   replicate_past (suc n) zero o not = absurd (not (omega arith))
   replicate_past (suc n) (suc k) o not = replicate_past n k o (λ h. not (omega arith))
+
+  -- what holds at the line's node and at its client holds at each actor of the line
+  pub at_actors : (P : Actor → Type 0) (x : Line E) → ((n : NodeNo) → x.node ≡ Some n → P (Node n)) → ((c : ClientNo) → x.client ≡ Some c → P (Client c)) → (a : Actor) → stands_in a x ≡ true → P a
+  at_actors P x node client (Node n) is = at_node P x.node n is node
+  at_actors P x node client (Client c) is = at_client P x.client c is client
+
+  pub room_of : (legal : List (ℕ × E) → List (ℕ × E) → Line E → Type 0) (v : View E) (x : Line E) → MayAppend legal v x → (a : Actor) → stands_in a x ≡ true → HasRoom v a
+  room_of legal v x may = at_actors (HasRoom v) x (λ n is. subst (NodeRoom v) is may.node_room) (λ c is. subst (ClientRoom v) is may.client_room)
+
+  pub actor_of : (n : Option NodeNo) (c : Option ClientNo) (e : E) → SomeActor n c → (a : Actor) × (stands_in a (record { node = n; client = c; entry = e }) ≡ true)
+  actor_of None None e some = absurd some
+  actor_of None (Some c) e some = (Client c, stands_client c)
+  actor_of (Some n) c e some = (Node n, stands_node n)

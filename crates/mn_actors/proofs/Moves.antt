@@ -14,7 +14,7 @@ use Rattle.mn_actors.specs.Lines.{Line, stands_in, same_actor, IsActor}
 use Rattle.mn_actors.specs.Lists.{held, grow, Owns, OwnsAll, IsSplit, MayAppend}
 use Rattle.mn_actors.specs.Log.{Ascends, IsManned, IsPlace, IsOneLog}
 use Rattle.mn_actors.specs.Rule.{list_of, node_list, client_list, first_view, appended, without, alone, joined, spent, Fits, Kept, adds, hears}
-use Rattle.mn_actors.proofs.Growing.{held_appended, own_node_is, own_client_is, replicate_at, replicate_here, replicate_past, same_true, held_without, held_alone, held_joined}
+use Rattle.mn_actors.proofs.Growing.{held_appended, own_node_is, own_client_is, replicate_at, replicate_here, replicate_past, same_true, same_itself, room_of, actor_of, held_without, held_alone, held_joined}
 use Rattle.mn_actors.proofs.Counting.{log_bound}
 use Rattle.mn_actors.proofs.Ordered.{ordered, length_ordered, ordered_list, ordered_manned, ordered_legal}
 use Rattle.mn_actors.proofs.Places.{list_ascends, each_place}
@@ -76,7 +76,7 @@ module _ {E : Type 0} (legal : List (ℕ × E) → List (ℕ × E) → Line E �
     -- who adds the line owns its actors
     ours : (a : Actor) → stands_in a x ≡ true → (held v a ≡ Some (list_of a log)) × (length (list_of a log) < 2 ^ 58) × (owner a ≡ id) × IsActor nodes clients a
     ours a is =
-        let r = may.room a is in
+        let r = room_of legal v x may a is in
         let f = fits.owned a r.0 r.1 in
         (r.1 ∙ ap (λ (l : List (ℕ × E)). Some l) f.1, subst (λ (l : List (ℕ × E)). length l < 2 ^ 58) f.1 r.2, f.0, f.2)
 
@@ -116,7 +116,7 @@ module _ {E : Type 0} (legal : List (ℕ × E) → List (ℕ × E) → Line E �
         (λ i. (own_node_is v log x.node (λ n is. (ours (Node n) is).0) i, own_client_is v log x.client (λ c is. (ours (Client c) is).0) i)) may.is_legal
 
     manned_now : IsManned nodes clients x
-    manned_now = record { some_actor = may.some_actor; on_board = λ a is. (ours a is).3 }
+    manned_now = record { some_actor = actor_of x.node x.client x.entry may.some_actor; on_board = λ a is. (ours a is).3 }
 
   pub adds_moves : {S : Type 0} (slots id : ℕ) (me : Me S (View E)) (x : Line E) → nodes ≤ 8 → clients ≤ 21 → MayAppend legal me.0 x
       → Allows (Kept legal nodes clients {S = S}) slots id me 0 (λ n. (n + 1) % 2 ^ 64) (adds (Some x) (step slots 0 1 0 none) me)
@@ -348,7 +348,11 @@ module _ {E : Type 0} (legal : List (ℕ × E) → List (ℕ × E) → Line E �
       }
 
 pub is_split : {E : Type 0} (v : View E) (a : Actor) (w u : View E) → w ≡ without v a → u ≡ alone v a → IsSplit v a w u
-is_split {E} v a w u left right = subst (λ (p : View E × View E). IsSplit v a p.0 p.1) (λ i. (sym left i, sym right i)) record { known = (first a, second a); kept = held_without v a; given = held_alone v a }
+is_split {E} v a w u left right = subst (λ (p : View E × View E). IsSplit v a p.0 p.1) (λ i. (sym left i, sym right i)) record {
+  known = (first a, second a);
+  given = (held_alone v a a ∙ (rw (same_itself a) refl), held_without v a a ∙ (rw (same_itself a) refl));
+  others = λ b not. (held_without v a b ∙ (rw not refl), held_alone v a b ∙ (rw not refl));
+}
   where
     first : (c : Actor) → (without v c).known ≡ v.known
     first (Node n) = refl

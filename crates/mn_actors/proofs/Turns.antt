@@ -1,13 +1,13 @@
 -- For the test of two threads: entries that count the node's list, and who owns what at the end.
-use Rattle.std.proofs.Common.{◌≡◌, ℕ, ◌+◌, ◌<◌, Some, List, [], ◌∷◌, ◌++◌, length, sym, ◌∙◌, subst, ⊎_elim, arith, length-append}
+use Rattle.std.proofs.Common.{◌≡◌, ℕ, ◌+◌, ◌<◌, Option, Some, List, [], ◌∷◌, ◌++◌, length, sym, ap, ◌∙◌, subst, ⊎_elim, arith, length-append}
 use Rattle.mn_base.specs.declared.ids.NodeNo.{NodeNo}
 use Rattle.mn_base.specs.declared.ids.ClientNo.{ClientNo}
 use Rattle.mn_actors.specs.declared.actor.Actor.{Actor}
 use Rattle.mn_actors.specs.declared.actor.Actor.TheVariants.{Node, Client}
 use Rattle.mn_actors.specs.declared.clock.View.{View}
 use Rattle.mn_actors.specs.Lines.{Line, line, IsActor}
-use Rattle.mn_actors.specs.Lists.{held, Owns, OwnsAll, IsAppended, IsJoined, IsSplit, IsSameLists, MayAppend}
-use Rattle.mn_actors.proofs.Passes.{may_both, node_grows, client_grows, append_keeps, split_keeps, join_keeps, join_takes}
+use Rattle.mn_actors.specs.Lists.{held, grow, or_empty, Owns, OwnsAll, IsAppended, IsJoined, IsSplit, IsSameLists, MayAppend}
+use Rattle.mn_actors.proofs.Passes.{append_keeps, split_keeps, join_keeps, join_takes}
 
 module _ {E : Type 0} where
   abbrev pub KeepsOwned : View E → View E → Type 0
@@ -17,16 +17,27 @@ module _ {E : Type 0} where
   IsLong n v a = (l : List (ℕ × E)) × (held v a ≡ Some l) × (length l ≡ n)
 
 pub may : (v : View ℕ) (n : NodeNo) (c : ClientNo) (i : ℕ) → IsLong i v (Node n) → IsLong i v (Client c) → i < 100 → MayAppend (λ (ns : List (ℕ × ℕ)) (cs : List (ℕ × ℕ)) (x : Line ℕ). x.entry ≡ length ns) v (line (Some n) (Some c) i)
-may v n c i a b lt = let x = a.2 in let y = b.2 in may_both _ v n c i a.0 b.0 a.1 b.1 (omega arith) (omega arith) (sym a.2)
+may v n c i a b lt =
+    let x = a.2 in
+    let y = b.2 in
+    record {
+      some_actor = tt;
+      node_room = (a.0, a.1, omega arith);
+      client_room = (b.0, b.1, omega arith);
+      is_legal = sym (ap (λ (o : Option (List (ℕ × ℕ))). length (or_empty o)) a.1 ∙ a.2);
+    }
 
 longer : (l : List (ℕ × ℕ)) (e : ℕ × ℕ) (i : ℕ) → length l ≡ i → length (l ++ e ∷ []) ≡ i + 1
 longer l e i is = omega (arith, length-append l (e ∷ []))
 
+grown : (o : Option (List (ℕ × ℕ))) (e : ℕ × ℕ) (l : List (ℕ × ℕ)) → o ≡ Some l → grow o e ≡ Some (l ++ e ∷ [])
+grown o e l is = ap (λ (h : Option (List (ℕ × ℕ))). grow h e) is
+
 pub long_node : (v w : View ℕ) (p : ℕ) (n : NodeNo) (c : ClientNo) (i : ℕ) → IsAppended v p (line (Some n) (Some c) i) w → IsLong i v (Node n) → IsLong (i + 1) w (Node n)
-long_node v w p n c i app a = (a.0 ++ (p, i) ∷ [], node_grows v w p n (Some c) i a.0 app a.1, longer a.0 (p, i) i a.2)
+long_node v w p n c i app a = (a.0 ++ (p, i) ∷ [], app.node_list ∙ grown (held v (Node n)) (p, i) a.0 a.1, longer a.0 (p, i) i a.2)
 
 pub long_client : (v w : View ℕ) (p : ℕ) (n : NodeNo) (c : ClientNo) (i : ℕ) → IsAppended v p (line (Some n) (Some c) i) w → IsLong i v (Client c) → IsLong (i + 1) w (Client c)
-long_client v w p n c i app a = (a.0 ++ (p, i) ∷ [], client_grows v w p c (Some n) i a.0 app a.1, longer a.0 (p, i) i a.2)
+long_client v w p n c i app a = (a.0 ++ (p, i) ∷ [], app.client_list ∙ grown (held v (Client c)) (p, i) a.0 a.1, longer a.0 (p, i) i a.2)
 
 pub keeps : (u v w : View ℕ) (p : ℕ) (n : NodeNo) (c : ClientNo) (i : ℕ) → IsAppended v p (line (Some n) (Some c) i) w → KeepsOwned u v → KeepsOwned u w
 keeps u v w p n c i app k a o = append_keeps v w p (line (Some n) (Some c) i) app a (k a o)

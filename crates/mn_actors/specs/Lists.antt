@@ -1,11 +1,17 @@
 -- The lists that a pass owns, and what each call does to them.
-use Rattle.std.specs.Prelude.{ℕ, ◌≡◌, ◌+◌, ◌^◌, ◌<◌, max, cond, Bool, true, false, Option, Some, None, List, [], ◌∷◌, ◌++◌, length, slice_index_or}
+use Rattle.std.specs.Prelude.{ℕ, ◌≡◌, ◌+◌, ◌^◌, ◌<◌, max, false, Option, Some, None, List, [], ◌∷◌, ◌++◌, length, slice_index_or}
 use Rattle.mn_base.specs.declared.ids.NodeNo.{NodeNo}
 use Rattle.mn_base.specs.declared.ids.ClientNo.{ClientNo}
 use Rattle.mn_actors.specs.declared.actor.Actor.{Actor}
 use Rattle.mn_actors.specs.declared.actor.Actor.TheVariants.{Node, Client}
 use Rattle.mn_actors.specs.declared.clock.View.{View}
 use Rattle.mn_actors.specs.Lines.{Line, stands_in, same_actor, IsActor}
+
+-- there is a node or a client
+abbrev pub SomeActor : Option NodeNo → Option ClientNo → Type 0
+SomeActor None None = ⊥
+SomeActor None (Some c) = Unit {0}
+SomeActor (Some n) c = Unit {0}
 
 module _ {E : Type 0} where
   -- the list of an actor, if the pass owns it: its entries with their places
@@ -39,24 +45,43 @@ module _ {E : Type 0} where
   own_client v None = []
   own_client v (Some c) = or_empty (held v (Client c))
 
+  -- the pass owns the node, if there is one, and its list may grow
+  abbrev pub NodeRoom : View E → Option NodeNo → Type 0
+  NodeRoom v None = Unit {0}
+  NodeRoom v (Some n) = HasRoom v (Node n)
+
+  -- the pass owns the client, if there is one, and its list may grow
+  abbrev pub ClientRoom : View E → Option ClientNo → Type 0
+  ClientRoom v None = Unit {0}
+  ClientRoom v (Some c) = HasRoom v (Client c)
+
   -- the pass may add the line: it owns the actors, of which there is one at least, and the line is legal by their lists
   pub record MayAppend (legal : List (ℕ × E) → List (ℕ × E) → Line E → Type 0) (v : View E) (x : Line E) : Type 0 where
-    pub some_actor : (a : Actor) × (stands_in a x ≡ true)
-    pub room : (a : Actor) → stands_in a x ≡ true → HasRoom v a
+    pub some_actor : SomeActor x.node x.client
+    pub node_room : NodeRoom v x.node
+    pub client_room : ClientRoom v x.client
     pub is_legal : legal (own_node v x.node) (own_client v x.client) x
 
   abbrev pub grow : Option (List (ℕ × E)) → ℕ × E → Option (List (ℕ × E))
   grow None e = None
   grow (Some l) e = Some (l ++ e ∷ [])
 
-  abbrev pub grow_if : Bool → Option (List (ℕ × E)) → ℕ × E → Option (List (ℕ × E))
-  grow_if true o e = grow o e
-  grow_if false o e = o
+  -- the entry ends the list of the node, if there is one
+  abbrev pub NodeGrows : View E → View E → Option NodeNo → ℕ × E → Type 0
+  NodeGrows v w None e = Unit {0}
+  NodeGrows v w (Some n) e = held w (Node n) ≡ grow (held v (Node n)) e
+
+  -- the entry ends the list of the client, if there is one
+  abbrev pub ClientGrows : View E → View E → Option ClientNo → ℕ × E → Type 0
+  ClientGrows v w None e = Unit {0}
+  ClientGrows v w (Some c) e = held w (Client c) ≡ grow (held v (Client c)) e
 
   -- v became w by a line at the place: it ends the lists of its actors, and the others stay
   pub record IsAppended (v : View E) (place : ℕ) (x : Line E) (w : View E) : Type 0 where
     pub known : w.known ≡ place + 1
-    pub lists : (a : Actor) → held w a ≡ grow_if (stands_in a x) (held v a) (place, x.entry)
+    pub node_list : NodeGrows v w x.node (place, x.entry)
+    pub client_list : ClientGrows v w x.client (place, x.entry)
+    pub others : (a : Actor) → stands_in a x ≡ false → held w a ≡ held v a
 
   abbrev pub IsSameLists : View E → View E → Type 0
   IsSameLists v w = (a : Actor) → held w a ≡ held v a
@@ -73,5 +98,5 @@ module _ {E : Type 0} where
   -- v became w and u: u owns the actor alone, and w the others
   pub record IsSplit (v : View E) (a : Actor) (w u : View E) : Type 0 where
     pub known : (w.known ≡ v.known) × (u.known ≡ v.known)
-    pub kept : (b : Actor) → held w b ≡ cond (same_actor b a) None (held v b)
-    pub given : (b : Actor) → held u b ≡ cond (same_actor b a) (held v b) None
+    pub given : (held u a ≡ held v a) × (held w a ≡ None)
+    pub others : (b : Actor) → same_actor b a ≡ false → (held w b ≡ held v b) × (held u b ≡ None)

@@ -1,4 +1,4 @@
-use Rattle.std.proofs.Common.{◌∙◌, ◌<◌, ℕ, Option, List, [], ap, arith}
+use Rattle.std.proofs.Common.{◌∙◌, ◌<◌, ℕ, Option, List, [], refl, ap, arith}
 use Rattle.mn_actors.specs.Lines.{node_at, client_at}
 use Rattle.mn_actors.specs.Lists.{held, or_else}
 use Rattle.mn_actors.proofs.Turns.{all_owned}
@@ -14,7 +14,7 @@ pub split-other-requires-clause-owns : goal.split-other-requires-clause-owns
 split-other-requires-clause-owns g c = ([], c.in-Ok.ensures.owns (node_at 1) one_of_two)
 
 pub split-client-requires-clause-owns : goal.split-client-requires-clause-owns
-split-client-requires-clause-owns g c = ([], c.split-other.ensures.view.kept (client_at 1) ∙ c.in-Ok.ensures.owns (client_at 1) one_of_two)
+split-client-requires-clause-owns g c = ([], (c.split-other.ensures.view.others (client_at 1) refl).0 ∙ c.in-Ok.ensures.owns (client_at 1) one_of_two)
 
 pub join-one-requires-after_bounds : goal.join-one-requires-after_bounds
 join-one-requires-after_bounds g c κs within =
@@ -22,11 +22,11 @@ join-one-requires-after_bounds g c κs within =
     let s1 = c.split-other.ensures in
     let s2 = c.split-client.ensures in
     let j = c.join.ensures in (
-      (s2.board.0 ∙ (s1.board.0 ∙ made.pass.0), s2.view.kept (node_at 0) ∙ (s1.view.kept (node_at 0) ∙ made.owns (node_at 0) zero_of_two), s2.view.kept (client_at 0) ∙ (s1.view.kept (client_at 0) ∙ made.owns (client_at 0) zero_of_two)),
+      (s2.board.0 ∙ (s1.board.0 ∙ made.pass.0), (s2.view.others (node_at 0) refl).0 ∙ ((s1.view.others (node_at 0) refl).0 ∙ made.owns (node_at 0) zero_of_two), (s2.view.others (client_at 0) refl).0 ∙ ((s1.view.others (client_at 0) refl).0 ∙ made.owns (client_at 0) zero_of_two)),
       (
         j.board ∙ (s1.board.1 ∙ made.pass.0),
-        j.view.lists (node_at 1) ∙ ap (λ (o : Option (List (ℕ × ℕ))). or_else o (held c.split-client.result.seat.me.0 (node_at 1))) (s1.view.given (node_at 1) ∙ made.owns (node_at 1) one_of_two),
-        j.view.lists (client_at 1) ∙ (ap (λ (o : Option (List (ℕ × ℕ))). or_else o (held c.split-client.result.seat.me.0 (client_at 1))) (s1.view.given (client_at 1)) ∙ (s2.view.given (client_at 1) ∙ (s1.view.kept (client_at 1) ∙ made.owns (client_at 1) one_of_two))),
+        j.view.lists (node_at 1) ∙ ap (λ (o : Option (List (ℕ × ℕ))). or_else o (held c.split-client.result.seat.me.0 (node_at 1))) (s1.view.given.0 ∙ made.owns (node_at 1) one_of_two),
+        j.view.lists (client_at 1) ∙ (ap (λ (o : Option (List (ℕ × ℕ))). or_else o (held c.split-client.result.seat.me.0 (client_at 1))) ((s1.view.others (client_at 1) refl).1) ∙ (s2.view.given.0 ∙ ((s1.view.others (client_at 1) refl).0 ∙ made.owns (client_at 1) one_of_two))),
       ),
     )
 
