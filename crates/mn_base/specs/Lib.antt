@@ -1,0 +1,7 @@
+pub mod Ids
+pub mod Name
+pub mod Refusal
+pub mod Order
+pub mod Store
+pub mod History
+pub mod Tree

@@ -1,0 +1,35 @@
+/// The number of a memory node, from 0.
+#[derive(Clone, Copy, Debug, PartialEq, Eq, PartialOrd, Ord)]
+pub struct NodeNo(pub u8);
+
+/// The number of an actor that calls nodes: a client (0 to 15), the coordinator that opens and closes (16), or a recovery
+/// coordinator (17 to 20).
+#[derive(Clone, Copy, Debug, PartialEq, Eq, PartialOrd, Ord)]
+pub struct ClientNo(pub u8);
+
+/// The number of a version, 0 to 63.
+#[derive(Clone, Copy, Debug, PartialEq, Eq, PartialOrd, Ord)]
+pub struct VersionNo(pub u8);
+
+/// Where a page stands: a node, and one of its slots (0 to 4,095).
+#[derive(Clone, Copy, Debug, PartialEq, Eq, PartialOrd, Ord)]
+pub struct Addr {
+    pub node: NodeNo,
+    pub slot: u16,
+}
+
+/// The id of a minitransaction: the run that it was made in (from 1), the actor that made it, and its number among those
+/// that this actor made in this run (from 1). Ids are ordered by run, then by client, then by serial.
+#[derive(Clone, Copy, Debug, PartialEq, Eq, PartialOrd, Ord)]
+pub struct Tid {
+    pub run: u32,
+    pub client: ClientNo,
+    pub serial: u32,
+}
+
+/// Bytes of a node's space: the place of the first, and how many.
+#[derive(Clone, Copy, Debug, PartialEq, Eq)]
+pub struct Range {
+    pub start: u32,
+    pub length: u32,
+}

@@ -1,0 +1,3 @@
+pub mod Mini
+pub mod Refusal
+pub mod Flat

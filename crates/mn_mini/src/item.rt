@@ -1,0 +1,113 @@
+ghost use Rattle.std.specs.Prelude.{◌≡◌};
+
+use mn_base::{Bytes, NoMemory, NodeNo, TryCopy, copies_of};
+use std::alloc::Global;
+use std::marker::Model;
+
+/// An item of a minitransaction, at a range of one node's space: 1 to 4,096 bytes from `start` on.
+#[derive(Debug, Drop)]
+pub enum Item {
+    /// Nothing is done unless the range holds these bytes.
+    Compare {
+        node: NodeNo,
+        start: u32,
+        bytes: Bytes,
+    },
+    /// Reads the range.
+    Read {
+        node: NodeNo,
+        start: u32,
+        length: u32,
+    },
+    /// Writes the range.
+    Write {
+        node: NodeNo,
+        start: u32,
+        bytes: Bytes,
+    },
+}
+
+impl Item {
+    ghost use Rattle.mn_mini.specs.Mini.{item_node};
+
+    /// The node whose space it is at.
+    pub fn node(&self) -> NodeNo
+        ensures { result ≡ item_node self.now }
+    {
+        match self {
+            Item::Compare { node, .. } => *node,
+            Item::Read { node, .. } => *node,
+            Item::Write { node, .. } => *node,
+        }
+    }
+}
+
+impl TryCopy for Item {
+    fn try_copy(&self, alloc: Global) -> Result<Self, NoMemory> {
+        match self {
+            Item::Compare { node, start, bytes } => Ok(Item::Compare {
+                node: *node,
+                start: *start,
+                bytes: bytes.try_copy(alloc)?,
+            }),
+            Item::Read {
+                node,
+                start,
+                length,
+            } => Ok(Item::Read {
+                node: *node,
+                start: *start,
+                length: *length,
+            }),
+            Item::Write { node, start, bytes } => Ok(Item::Write {
+                node: *node,
+                start: *start,
+                bytes: bytes.try_copy(alloc)?,
+            }),
+        }
+    }
+}
+
+/// Items in the order given. Contracts see them as a list.
+#[derive(Debug, Drop)]
+pub struct Items {
+    items: Vec<Item>,
+}
+
+impl Model for Items {
+    ghost use Rattle.std.specs.Prelude.{List};
+    ghost use Rattle.mn_mini.specs.declared.item.Item.{Item};
+
+    ghost Value = { List Item };
+
+    ghost view = { λ s. s.items.items };
+}
+
+impl Items {
+    /// It takes no memory.
+    pub fn from_vec(items: Vec<Item>) -> Self
+        ensures { result ≡ items.items }
+    {
+        Items { items }
+    }
+
+    pub fn into_vec(self) -> Vec<Item>
+        ensures { result.items ≡ self }
+    {
+        self.items
+    }
+
+    pub fn as_slice(&self) -> &[Item]
+        ensures { result.now ≡ self.now }
+    {
+        &self.items
+    }
+}
+
+impl TryCopy for Items {
+    fn try_copy(&self, alloc: Global) -> Result<Self, NoMemory> {
+        Ok(Items {
+            items: copies_of(alloc, &self.items)?,
+        })
+    }
+}

@@ -1,0 +1,76 @@
+ghost use Rattle.std.specs.Prelude.{◌≡◌};
+
+use mn_base::{Bytes, NoMemory, TryCopy, copies_of};
+use std::alloc::Global;
+use std::marker::Model;
+
+/// An item without its node.
+#[derive(Debug, Drop)]
+pub enum PartItem {
+    Compare { start: u32, bytes: Bytes },
+    Read { start: u32, length: u32 },
+    Write { start: u32, bytes: Bytes },
+}
+
+impl TryCopy for PartItem {
+    fn try_copy(&self, alloc: Global) -> Result<Self, NoMemory> {
+        match self {
+            PartItem::Compare { start, bytes } => Ok(PartItem::Compare {
+                start: *start,
+                bytes: bytes.try_copy(alloc)?,
+            }),
+            PartItem::Read { start, length } => Ok(PartItem::Read {
+                start: *start,
+                length: *length,
+            }),
+            PartItem::Write { start, bytes } => Ok(PartItem::Write {
+                start: *start,
+                bytes: bytes.try_copy(alloc)?,
+            }),
+        }
+    }
+}
+
+/// A node's items: compares, then reads, then writes, each in the order given. Contracts see them as a list.
+#[derive(Debug, Drop)]
+pub struct Part {
+    items: Vec<PartItem>,
+}
+
+impl Model for Part {
+    ghost use Rattle.std.specs.Prelude.{List};
+    ghost use Rattle.mn_mini.specs.declared.part.PartItem.{PartItem};
+
+    ghost Value = { List PartItem };
+
+    ghost view = { λ p. p.items.items };
+}
+
+impl Part {
+    /// It takes no memory.
+    pub fn from_vec(items: Vec<PartItem>) -> Self
+        ensures { result ≡ items.items }
+    {
+        Part { items }
+    }
+
+    pub fn into_vec(self) -> Vec<PartItem>
+        ensures { result.items ≡ self }
+    {
+        self.items
+    }
+
+    pub fn as_slice(&self) -> &[PartItem]
+        ensures { result.now ≡ self.now }
+    {
+        &self.items
+    }
+}
+
+impl TryCopy for Part {
+    fn try_copy(&self, alloc: Global) -> Result<Self, NoMemory> {
+        Ok(Part {
+            items: copies_of(alloc, &self.items)?,
+        })
+    }
+}
