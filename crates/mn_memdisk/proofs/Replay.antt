@@ -1,10 +1,12 @@
 -- Over the changes one by one, the oldest first.
-use Rattle.std.proofs.Common.{◌≡◌, ◌<◌, get_or, take-append-drop, ℕ, zero, suc, ◌+◌, List, [], ◌∷◌, ◌++◌, length, take, drop, map, reverse, refl, sym, ◌∙◌, ap, subst, arith}
+use Rattle.std.proofs.Common.{◌≡◌, ◌≤◌, ◌<◌, get_or, take-append-drop, ℕ, zero, suc, ◌+◌, ◌-◌, List, [], ◌∷◌, ◌++◌, length, take, drop, map, reverse, refl, sym, ◌∙◌, ap, subst, arith}
 use Rattle.std.proofs.lemmas.List.{reverse-append}
 use Rattle.mn_memdisk.specs.Events.{event_of, events_of, HasBytes, HaveBytes}
-use Rattle.mn_memdisk.specs.History.{Event, after, content_of, Shows, IsImage, IsWithin, IsSound}
+use Rattle.mn_memdisk.specs.Crash.{IsLeft, crashed, left, outcome_of, unsynced}
+use Rattle.mn_memdisk.specs.History.{Event, synced, after, content_of, IsWithin, IsSound}
 use Rattle.mn_memdisk.specs.declared.changes.Change.{Change}
-use Rattle.mn_memdisk.specs.Laws.{content_image}
+use Rattle.mn_memdisk.specs.declared.outcome.Outcome.{Outcome}
+use Rattle.mn_memdisk.specs.declared.changes.Change.TheVariants.{Wrote, LostWrite, Shortened, LostCut, Synced}
 use Rattle.mn_memdisk.proofs.Growth.{map_push}
 
 pub has_at : (n : ℕ) (xs : List Change) (i : ℕ) (d : Change) → i < length xs → HaveBytes n xs → HasBytes n (get_or xs i d)
@@ -47,10 +49,44 @@ module _ (p first : List ℕ) (xs : List Change) (i : ℕ) (d : Change) (within 
   pub content_next : (content content2 : List ℕ) → content ≡ content_of first (events_of p (take i xs)) → content2 ≡ after (event_of p (get_or xs i d)) content → content2 ≡ content_of first (events_of p (take (i + 1) xs))
   content_next content content2 are done = done ∙ ap (λ (l : List ℕ). after (event_of p (get_or xs i d)) l) are ∙ ap (λ (l : List Event). content_of first l) (sym (next_newest p xs i d within))
 
-  pub image_next : (image image2 : List ℕ) → IsImage first (events_of p (take i xs)) image → ((content : List ℕ) → Shows (event_of p (get_or xs i d)) content image image2) → IsImage first (events_of p (take (i + 1) xs)) image2
-  image_next image image2 so_far shows =
-      subst (λ (l : List Event). IsImage first l image2) (sym (next_newest p xs i d within)) (image, so_far, shows (content_of first (events_of p (take i xs))))
+-- what a crash leaves, over one change more that is no sync
+left_step : (choice : ℕ) (first p : List ℕ) (x : Change) (older : List Event) → (x ≡ Synced → ⊥) → crashed choice first (event_of p x ∷ older) ≡ left (outcome_of choice (unsynced older)) (event_of p x) (crashed choice first older)
+left_step choice first p (Wrote at from count) older h = refl
+left_step choice first p (LostWrite at from count) older h = refl
+left_step choice first p (Shortened n) older h = refl
+left_step choice first p (LostCut n) older h = refl
+left_step choice first p Synced older h = absurd (h refl)
 
--- the content after the first changes is an image then
-pub image_at : (p first : List ℕ) (xs : List Change) (i : ℕ) (content : List ℕ) → IsSound first (events_of p xs) → content ≡ content_of first (events_of p (take i xs)) → IsImage first (events_of p (take i xs)) content
-image_at p first xs i content sound are = subst (λ (l : List ℕ). IsImage first (events_of p (take i xs)) l) (sym are) (content_image first (events_of p (take i xs)) (sound_taken p first xs i sound))
+since_step : (p : List ℕ) (x : Change) (older : List Event) → (x ≡ Synced → ⊥) → unsynced (event_of p x ∷ older) ≡ suc (unsynced older)
+since_step p (Wrote at from count) older h = refl
+since_step p (LostWrite at from count) older h = refl
+since_step p (Shortened n) older h = refl
+since_step p (LostCut n) older h = refl
+since_step p Synced older h = absurd (h refl)
+
+pub left_next : (choice stable : ℕ) (p first : List ℕ) (xs : List Change) (i : ℕ) (d : Change) (image image2 : List ℕ) (outcome : Outcome) → i < length xs → stable ≤ i → (get_or xs i d ≡ Synced → ⊥) → IsLeft choice first (i - stable) (events_of p (take i xs)) image
+    → outcome ≡ outcome_of choice (i - stable) → image2 ≡ left outcome (event_of p (get_or xs i d)) image → IsLeft choice first (i + 1 - stable) (events_of p (take (i + 1) xs)) image2
+left_next choice stable p first xs i d image image2 outcome within le other so_far picked done =
+    let x = get_or xs i d in
+    let older = events_of p (take i xs) in
+    record {
+      bytes =
+          done ∙ ap (λ (o : Outcome). left o (event_of p x) image) picked ∙ ap (λ (k : ℕ). left (outcome_of choice k) (event_of p x) image) (sym so_far.since) ∙ ap (λ (l : List ℕ). left (outcome_of choice (unsynced older)) (event_of p x) l) so_far.bytes
+          ∙ sym (left_step choice first p x older other) ∙ ap (λ (l : List Event). crashed choice first l) (sym (next_newest p xs i d within));
+      since = ap unsynced (next_newest p xs i d within) ∙ since_step p x older other ∙ omega (arith, so_far.since);
+    }
+
+-- at the last sync, or before any, a crash leaves the content
+pub left_at : (choice : ℕ) (p first : List ℕ) (xs : List Change) (stable : ℕ) (content : List ℕ) → stable ≤ length xs → (0 < stable → (d : Change) → get_or xs (stable - 1) d ≡ Synced) → content ≡ content_of first (events_of p (take stable xs))
+    → IsLeft choice first 0 (events_of p (take stable xs)) content
+left_at choice p first xs zero content within last are = record { bytes = are; since = refl }
+left_at choice p first xs (suc s) content within last are =
+    let one : suc s - 1 ≡ s = omega arith in
+    let more : s + 1 ≡ suc s = omega arith in
+    let is_synced : get_or xs s Synced ≡ Synced = ap (λ (k : ℕ). get_or xs k Synced) (sym one) ∙ last (omega arith) Synced in
+    let newest : events_of p (take (suc s) xs) ≡ synced ∷ events_of p (take s xs) =
+    ap (λ (k : ℕ). events_of p (take k xs)) (sym more) ∙ next_newest p xs s Synced (omega arith) ∙ ap (λ (x : Change). event_of p x ∷ events_of p (take s xs)) is_synced in
+    record {
+      bytes = are ∙ ap (λ (l : List Event). content_of first l) newest ∙ ap (λ (l : List Event). crashed choice first l) (sym newest);
+      since = ap unsynced newest;
+    }

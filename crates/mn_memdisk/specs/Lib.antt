@@ -1,3 +1,4 @@
+pub mod Crash
 pub mod Events
 pub mod History
 pub mod Laws

@@ -1,35 +1,20 @@
-ghost use Rattle.std.specs.Prelude.{◌≡◌, ◌≢◌, ◌≤◌, ℕ, List, length, take, OnOk, IfOk};
-ghost use Rattle.mn_io.specs.DiskModel.{Torn, Cut, overwritten};
-ghost use Rattle.mn_memdisk.specs.Events.{HasBytes, HaveBytes, event_of, events_of, UnsyncedFrom};
-ghost use Rattle.mn_memdisk.specs.History.{IsImage, IsSound, IsWithin, Shows, after, content_of};
+ghost use Rattle.std.specs.Prelude.{◌≡◌, ◌≤◌, ◌<◌, ◌-◌, ℕ, List, get_or, length, take, OnOk, IfOk};
+ghost use Rattle.mn_io.specs.DiskModel.{overwritten};
+ghost use Rattle.mn_memdisk.specs.Crash.{IsLeft, crashed, filled, left, shortened, written};
+ghost use Rattle.mn_memdisk.specs.Events.{HasBytes, HaveBytes, UnsyncedFrom, event_of, events_of};
+ghost use Rattle.mn_memdisk.specs.History.{IsSound, IsWithin, after, content_of};
+ghost use Rattle.mn_memdisk.specs.declared.changes.Change.{Change};
 
 use crate::changes::Change;
+use crate::outcome::{Outcome, pick};
 use crate::overwrite::overwrite;
 use std::alloc::{AllocError, Global};
-
-/// What a crash leaves of a change that no sync has made stable.
-#[derive(Clone, Copy, Debug, PartialEq, Eq)]
-enum Outcome {
-    Nothing,
-    Whole,
-    Front,
-    Back,
-}
-
-/// The outcome that a choice gives to the change of this number, counted from 0: two bits for each, again from the lowest after 32.
-fn outcome_of(choice: u64, number: usize) -> Outcome {
-    match (choice >> (2 * (number % 32))) & 3 {
-        0 => Outcome::Nothing,
-        1 => Outcome::Whole,
-        2 => Outcome::Front,
-        _ => Outcome::Back,
-    }
-}
 
 /// How many changes there are up to the last sync, and with it.
 fn stable_count(changes: &[Change]) -> usize
     ensures within { result ≤ length changes.now }
     ensures unsynced { UnsyncedFrom result changes.now }
+    ensures synced { 0 < result → (d : Change) → get_or changes.now (result - 1) d ≡ Change.Synced }
 {
     let mut stable = changes.len();
     while stable > 0 && changes[stable - 1] != Change::Synced {
@@ -55,33 +40,28 @@ fn redo(content: &mut Vec<u8>, change: Change, pieces: &[u8]) -> Result<(), Allo
     Ok(())
 }
 
-/// Writes a piece over an image and past its end, where the image reaches so far.
+/// Writes a piece over an image and past its end.
 fn put(image: &mut Vec<u8>, at: usize, piece: &[u8]) -> Result<(), AllocError>
-    ensures torn { OnOk result (Torn at (length piece.now) image.old.items image.new.items) }
-    ensures done { at ≤ length image.old.items → OnOk result (image.new.items ≡ overwritten image.old.items at piece.now) }
+    requires { at ≤ length image.old.items }
+    ensures { OnOk result (image.new.items ≡ overwritten image.old.items at piece.now) }
 {
-    if at <= image.len() {
-        image.reserve(piece.len())?;
-        overwrite(image, at, piece);
+    image.reserve(piece.len())?;
+    overwrite(image, at, piece);
+    Ok(())
+}
+
+/// Puts zeros at the end of an image, up to a length.
+fn fill(alloc: Global, image: &mut Vec<u8>, length: usize) -> Result<(), AllocError>
+    ensures { OnOk result (image.new.items ≡ filled length image.old.items) }
+{
+    if image.len() < length {
+        let gap = vec![in alloc; 0u8; length - image.len()]?;
+        image.extend_from_slice(&gap)?;
     }
     Ok(())
 }
 
-/// Leaves of a write the second half alone. Bytes past the old end that weren't written are zero.
-fn put_back(alloc: Global, image: &mut Vec<u8>, at: usize, piece: &[u8]) -> Result<(), AllocError>
-    requires within { at ≤ length image.old.items }
-    ensures { OnOk result (Torn at (length piece.now) image.old.items image.new.items) }
-{
-    let half = piece.len() / 2;
-    if image.len() < at + half {
-        let gap = vec![in alloc; 0u8; at + half - image.len()]?;
-        let end = image.len();
-        put(image, end, &gap)?;
-    }
-    put(image, at + half, &piece[half..])
-}
-
-/// Leaves a write in an image, or a part of it.
+/// Leaves in an image what the outcome says of a write.
 fn tear(
     alloc: Global,
     image: &mut Vec<u8>,
@@ -89,33 +69,40 @@ fn tear(
     piece: &[u8],
     outcome: Outcome,
 ) -> Result<(), AllocError>
-    ensures { OnOk result (Torn at (length piece.now) image.old.items image.new.items) }
+    ensures { OnOk result (image.new.items ≡ written outcome at piece.now image.old.items) }
 {
     if at > image.len() as u64 {
         return Ok(());
     }
+    let at = at as usize;
+    let half = piece.len() / 2;
     match outcome {
         Outcome::Nothing => Ok(()),
-        Outcome::Whole => put(image, at as usize, piece),
-        Outcome::Front => put(image, at as usize, &piece[..piece.len() / 2]),
-        Outcome::Back => put_back(alloc, image, at as usize, piece),
+        Outcome::Whole => put(image, at, piece),
+        Outcome::Front => put(image, at, &piece[..half]),
+        Outcome::Back => {
+            fill(alloc, image, at + half)?;
+            put(image, at + half, &piece[half..])
+        }
     }
 }
 
-/// Leaves a cut in an image, or a part of it: some length between.
-fn shorten(image: &mut Vec<u8>, length: u64, outcome: Outcome)
-    ensures { Cut length image.old.items image.new.items }
+/// Leaves in an image what the outcome says of a cut.
+fn cut_short(image: &mut Vec<u8>, length: u64, outcome: Outcome)
+    ensures { image.new.items ≡ shortened outcome length image.old.items }
 {
-    let length = (length as usize).min(image.len());
-    let between = length + (image.len() - length) / 2;
+    if length >= image.len() as u64 {
+        return;
+    }
+    let length = length as usize;
     match outcome {
         Outcome::Nothing => {}
         Outcome::Whole => image.truncate(length),
-        Outcome::Front | Outcome::Back => image.truncate(between),
+        Outcome::Front | Outcome::Back => image.truncate(length + (image.len() - length) / 2),
     }
 }
 
-/// Leaves in an image what a crash may leave of a change.
+/// Leaves in an image what the outcome says of a change.
 fn show(
     alloc: Global,
     image: &mut Vec<u8>,
@@ -123,19 +110,18 @@ fn show(
     pieces: &[u8],
     outcome: Outcome,
 ) -> Result<(), AllocError>
-    requires has_bytes { HasBytes (length pieces.now) change }
-    requires unsynced { change ≢ Change.Synced }
-    ensures { OnOk result ((content : List ℕ) → Shows (event_of pieces.now change) content image.old.items image.new.items) }
+    requires { HasBytes (length pieces.now) change }
+    ensures { OnOk result (image.new.items ≡ left outcome (event_of pieces.now change) image.old.items) }
 {
     match change {
         Change::Wrote { at, from, count } | Change::LostWrite { at, from, count } => {
             tear(alloc, image, at, &pieces[from..from + count], outcome)
         }
         Change::Shortened { length } | Change::LostCut { length } => {
-            shorten(image, length, outcome);
+            cut_short(image, length, outcome);
             Ok(())
         }
-        Change::Synced => unreachable!(),
+        Change::Synced => Ok(()),
     }
 }
 
@@ -170,16 +156,16 @@ fn show_rest(
     requires stable { stable ≤ length changes.now }
     requires have_bytes { HaveBytes (length pieces.now) changes.now }
     requires unsynced { UnsyncedFrom stable changes.now }
-    ensures { OnOk result ((first : List ℕ) → IsImage first (events_of pieces.now (take stable changes.now)) image.old.items → IsImage first (events_of pieces.now changes.now) image.new.items) }
+    ensures { OnOk result ((first : List ℕ) → IsLeft choice first 0 (events_of pieces.now (take stable changes.now)) image.old.items → image.new.items ≡ crashed choice first (events_of pieces.now changes.now)) }
 {
     for number in stable..changes.len() {
-        let outcome = outcome_of(choice, number - stable);
+        let outcome = pick(choice, number - stable);
         show(alloc, image, changes[number], pieces, outcome)?;
     }
     Ok(())
 }
 
-/// One of the images that a crash may leave.
+/// The image that a choice picks of those that a crash may leave.
 pub fn image_after(
     alloc: Global,
     first: Vec<u8>,
@@ -189,7 +175,7 @@ pub fn image_after(
 ) -> Result<Vec<u8>, AllocError>
     requires have_bytes { HaveBytes (length pieces.now) changes.now }
     requires sound { IsSound first.items (events_of pieces.now changes.now) }
-    ensures { IfOk result (λ image. IsImage first.items (events_of pieces.now changes.now) image.items) }
+    ensures { IfOk result (λ image. image.items ≡ crashed choice first.items (events_of pieces.now changes.now)) }
 {
     let stable = stable_count(changes);
     let mut image = content_after(first, changes, pieces, stable)?;

@@ -5,6 +5,7 @@ mod calls;
 mod changes;
 mod crash;
 mod memory_disk;
+mod outcome;
 mod overwrite;
 
 pub use memory_disk::MemoryDisk;

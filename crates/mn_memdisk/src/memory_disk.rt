@@ -44,6 +44,7 @@ impl Model for MemoryDisk {
 
 impl MemoryDisk {
     ghost use Rattle.std.specs.Prelude.{◌≡◌, [], IfOk};
+    ghost use Rattle.mn_memdisk.specs.Crash.{crashed};
     ghost use Rattle.mn_memdisk.specs.Memory.{state_of};
 
     /// A disk with these bytes, all of them stable. The calls in `fails` will fail. It takes no memory.
@@ -82,6 +83,7 @@ impl MemoryDisk {
     /// a cut a length between. A change that failed counts as one that wasn't synced.
     pub fn crash(self, alloc: Global, choice: u64) -> Result<MemoryDisk, NoMemory>
         ensures image { IfOk result (λ disk. (state_of self).images disk.content) }
+        ensures chosen { IfOk result (λ disk. disk.content ≡ crashed choice self.first self.events) }
         ensures stable { IfOk result (λ disk. (disk.first ≡ disk.content) × (disk.events ≡ [])) }
         ensures honest { IfOk result (λ disk. (state_of disk).honest) }
         ensures calls { IfOk result (λ disk. disk.calls ≡ self.calls) }
