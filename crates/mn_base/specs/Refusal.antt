@@ -1,6 +1,6 @@
 -- When bytes or steps are refused, and by which error.
 use Rattle.std.specs.Prelude.{◌≡◌, ◌<◌, ◌⊎◌, ℕ, List, [], length, Some}
-use Rattle.mn_base.specs.Name.{name_fault}
+use Rattle.mn_base.specs.Name.{IsName, name_fault}
 use Rattle.mn_base.specs.declared.error.BaseError.{BaseError}
 use Rattle.mn_base.specs.declared.error.BaseError.TheVariants.{Empty, TooLong, BadName, BadSteps, NoMemory}
 
@@ -20,11 +20,11 @@ RefusesValue bytes (BadName at) = ⊥
 RefusesValue bytes (BadSteps n) = ⊥
 RefusesValue bytes NoMemory = Unit {0}
 
--- a name is refused at its first byte at fault
+-- bytes that are no name are refused at the first byte at fault
 abbrev pub RefusesName : List ℕ → BaseError → Type 0
 RefusesName bytes Empty = ⊥
 RefusesName bytes (TooLong n) = ⊥
-RefusesName bytes (BadName at) = name_fault bytes ≡ Some at
+RefusesName bytes (BadName at) = (IsName bytes → ⊥) × (name_fault bytes ≡ Some at)
 RefusesName bytes (BadSteps n) = ⊥
 RefusesName bytes NoMemory = Unit {0}
 

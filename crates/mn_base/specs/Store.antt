@@ -31,9 +31,21 @@ Store = List StoreVersion
 abbrev pub max_versions : ℕ
 max_versions = 64
 
--- one writable version `main`, with no parent and no pairs
+-- `main`, the name of the first version
+abbrev pub main_name : List ℕ
+main_name = 109 ∷ 97 ∷ 105 ∷ 110 ∷ []
+
+-- the writable `main` without a parent, with these pairs
+abbrev pub main_version : List Pair → StoreVersion
+main_version pairs = record { head = record { name = main_name; parent = None; frozen = false }; pairs = pairs }
+
+-- the store whose one version it is
+abbrev pub main_store : List Pair → Store
+main_store pairs = main_version pairs ∷ []
+
+-- the store as it begins
 abbrev pub empty_store : Store
-empty_store = record { head = record { name = 109 ∷ 97 ∷ 105 ∷ 110 ∷ []; parent = None; frozen = false }; pairs = [] } ∷ []
+empty_store = main_store []
 
 abbrev pub heads_of : Store → List Head
 heads_of store = map (λ v. v.head) store

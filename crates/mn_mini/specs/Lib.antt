@@ -1,3 +1,5 @@
 pub mod Mini
 pub mod Refusal
 pub mod Flat
+pub mod Node
+pub mod Laws

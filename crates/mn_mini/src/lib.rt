@@ -1,14 +1,25 @@
-//! Minitransactions: their items, the part of each node, and what they mean on a memory (Sinfonia, SOSP 2007).
+//! Minitransactions: their items, the part of each node, what they mean on a memory, and what a memory node
+//! answers (Sinfonia, SOSP 2007).
 #![tactic(auto)]
 
+mod doubt;
 mod error;
 mod item;
+mod laws;
 mod minitransaction;
 mod part;
+mod record;
+mod reply;
+mod request;
 mod spaces;
 
+pub use doubt::{Doubt, Doubts};
 pub use error::MiniError;
 pub use item::{Item, Items};
+pub use laws::held_parts_apart;
 pub use minitransaction::{MAX_ITEMS, MAX_NODES, Minitransaction};
 pub use part::{Part, PartItem};
+pub use record::{Record, Records};
+pub use reply::{NodeReply, Reads};
+pub use request::Request;
 pub use spaces::{MAX_ITEM, SPACE, Spaces};

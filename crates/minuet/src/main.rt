@@ -1,0 +1,52 @@
+//! The program over the real words, input and output.
+#![tactic(auto)]
+
+mod ends;
+mod no_disk;
+
+use ends::{StdSink, StdSource};
+use mn_base::{NoMemory, OpenGate};
+use mn_top::{Words, run_program, wanted};
+use no_disk::NoDisk;
+use std::alloc::Global;
+use std::env;
+use std::process::ExitCode;
+use std::rt::Env;
+
+/// The words of the command line.
+fn words_of<T: Env + AllocGlobal>(rt: &T) -> Result<Words, NoMemory> {
+    let mut words = Words::new(rt.alloc());
+    if let Ok(arguments) = env::args(rt) {
+        for word in arguments.skip(1) {
+            words.push(rt.alloc(), word.as_str())?;
+        }
+    }
+    Ok(words)
+}
+
+/// One disk for each node that is wanted.
+fn disks_of(alloc: Global, words: &Words) -> Result<Vec<NoDisk>, NoMemory> {
+    let mut disks = Vec::new(alloc);
+    if let Some(wanted) = wanted(words) {
+        for _ in 0..wanted.nodes {
+            disks.push(NoDisk::new())?;
+        }
+    }
+    Ok(disks)
+}
+
+fn main(rt: HostRuntime) -> ExitCode {
+    let alloc = rt.alloc();
+    let Ok(words) = words_of(&rt) else {
+        let _ = println!(rt; "no memory");
+        return ExitCode::from(7);
+    };
+    let Ok(disks) = disks_of(alloc, &words) else {
+        let _ = println!(rt; "no memory");
+        return ExitCode::from(7);
+    };
+    let mut source = StdSource::new(rt.reader());
+    let mut sink = StdSink::new(std::io::writer(&rt));
+    let outcome = run_program(&rt, alloc, &words, &mut source, &mut sink, disks, &OpenGate);
+    ExitCode::from(outcome.status)
+}

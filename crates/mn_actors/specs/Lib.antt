@@ -1,0 +1,5 @@
+pub mod Lines
+pub mod Lists
+pub mod Log
+pub mod Rule
+pub mod Sight

@@ -1,0 +1,23 @@
+-- Laws of a single node.
+use Rattle.std.specs.Prelude.{ℕ, ◌≡◌, false, List, [], ◌∷◌, ⊤}
+use Rattle.std.specs.List.{AllByRecursion}
+use Rattle.mn_base.specs.Ids.{tid_same}
+use Rattle.mn_mini.specs.declared.record.Record.{Record}
+use Rattle.mn_mini.specs.declared.request.Request.{Request}
+use Rattle.mn_mini.specs.Mini.{parts_conflict}
+use Rattle.mn_mini.specs.Node.{HeldPart, held_parts, answer, with_added}
+
+-- the records after these requests, the newest first, in a node that began with these records
+abbrev pub records_after : List ℕ → List Record → List Request → List Record
+records_after base start [] = start
+records_after base start (request ∷ requests) = with_added (answer base (records_after base start requests) request).added (records_after base start requests)
+
+-- no part conflicts with one of another id
+abbrev pub AreApart : List HeldPart → Type 0
+AreApart [] = ⊤
+AreApart (h ∷ hs) = AllByRecursion (λ g. tid_same g.tid h.tid ≡ false → parts_conflict h.part g.part ≡ false) hs × AreApart hs
+
+-- whatever is asked, the held parts of different ids do not conflict
+abbrev pub HeldPartsStayApart : Type 0
+HeldPartsStayApart =
+    (base : List ℕ) (start : List Record) (requests : List Request) → AreApart (held_parts start) → AreApart (held_parts (records_after base start requests))

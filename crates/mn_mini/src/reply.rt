@@ -1,0 +1,126 @@
+ghost use Rattle.std.specs.Prelude.{◌≡◌};
+
+use crate::Doubts;
+use mn_base::{Bytes, NoMemory, Tid, TryCopy, copies_of};
+use std::alloc::Global;
+use std::marker::Model;
+
+/// What the read items read, in order. Contracts see them as a list.
+#[derive(Debug, Drop)]
+pub struct Reads {
+    reads: Vec<Bytes>,
+}
+
+impl Model for Reads {
+    ghost use Rattle.std.specs.Prelude.{ℕ, List};
+
+    ghost Value = { List (List ℕ) };
+
+    ghost view = { λ r. r.reads.items };
+}
+
+impl Reads {
+    /// It takes no memory.
+    pub fn from_vec(reads: Vec<Bytes>) -> Self
+        ensures { result ≡ reads.items }
+    {
+        Reads { reads }
+    }
+
+    pub fn into_vec(self) -> Vec<Bytes>
+        ensures { result.items ≡ self }
+    {
+        self.reads
+    }
+
+    pub fn as_slice(&self) -> &[Bytes]
+        ensures { result.now ≡ self.now }
+    {
+        &self.reads
+    }
+}
+
+impl TryCopy for Reads {
+    fn try_copy(&self, alloc: Global) -> Result<Self, NoMemory> {
+        Ok(Reads {
+            reads: copies_of(alloc, &self.reads)?,
+        })
+    }
+}
+
+/// What a memory node answers.
+#[derive(Debug, Drop)]
+pub enum NodeReply {
+    /// To a Prepare, the yes vote; to an Exec, that it was run. What its read items read.
+    Done {
+        reads: Reads,
+    },
+    /// The first range of the part that conflicts with one held for another id, and the least such id.
+    BadLock {
+        start: u32,
+        length: u32,
+        holder: Tid,
+    },
+    /// Compare item `item` of the part, from 0, is the first that differs; the bytes that stand there.
+    BadCompare {
+        item: u16,
+        found: Bytes,
+    },
+    /// The id was forced here before.
+    BadForced,
+    /// To a Force: the vote of this node.
+    Vote {
+        yes: bool,
+    },
+    /// To a Decide: the id isn't held here, or no longer.
+    Decided,
+    /// To a List: the ids that are held, in order, with their participants.
+    Listed {
+        doubts: Doubts,
+    },
+    /// To a Peek: the bytes of the range.
+    Peeked {
+        bytes: Bytes,
+    },
+    /// The node is down.
+    Down,
+    /// The node stopped inside the request: its record is there after the restart, or not.
+    Stopped,
+    /// There was no memory; the request has done nothing.
+    NoMemory,
+}
+
+impl TryCopy for NodeReply {
+    fn try_copy(&self, alloc: Global) -> Result<Self, NoMemory> {
+        match self {
+            NodeReply::Done { reads } => Ok(NodeReply::Done {
+                reads: reads.try_copy(alloc)?,
+            }),
+            NodeReply::BadLock {
+                start,
+                length,
+                holder,
+            } => Ok(NodeReply::BadLock {
+                start: *start,
+                length: *length,
+                holder: *holder,
+            }),
+            NodeReply::BadCompare { item, found } => Ok(NodeReply::BadCompare {
+                item: *item,
+                found: found.try_copy(alloc)?,
+            }),
+            NodeReply::BadForced => Ok(NodeReply::BadForced),
+            NodeReply::Vote { yes } => Ok(NodeReply::Vote { yes: *yes }),
+            NodeReply::Decided => Ok(NodeReply::Decided),
+            NodeReply::Listed { doubts } => Ok(NodeReply::Listed {
+                doubts: doubts.try_copy(alloc)?,
+            }),
+            NodeReply::Peeked { bytes } => Ok(NodeReply::Peeked {
+                bytes: bytes.try_copy(alloc)?,
+            }),
+            NodeReply::Down => Ok(NodeReply::Down),
+            NodeReply::Stopped => Ok(NodeReply::Stopped),
+            NodeReply::NoMemory => Ok(NodeReply::NoMemory),
+        }
+    }
+}

@@ -1,0 +1,3 @@
+-- Worked examples of the definitions, by computation.
+pub mod Spelling
+pub mod Overlays

@@ -1,0 +1,13 @@
+pub mod Grid
+pub mod Counted
+pub mod Keys
+pub mod Named
+pub mod Leaves
+pub mod Ancestors
+pub mod PairsWith
+pub mod Alike
+pub mod Spelled
+pub mod Split
+pub mod Copy
+pub mod Base
+pub mod Examples

@@ -1,0 +1,6 @@
+pub mod Space
+pub mod Grammar
+pub mod Forest
+pub mod Holds
+pub mod Laws
+pub mod Overlay

@@ -1,0 +1,20 @@
+ghost use Rattle.mn_base.specs.Store.{empty_store};
+ghost use Rattle.mn_page.specs.Forest.{memory_of, base_forest};
+ghost use Rattle.mn_page.specs.Holds.{Holds};
+ghost use Rattle.mn_page.specs.Laws.{LeafTells, LeafTellsGet};
+
+/// The space of one fresh node holds the store with the empty version `main`.
+pub fn base_holds_empty_store()
+    ensures { Holds (memory_of (base_forest 1)) empty_store }
+{}
+
+/// In a memory that holds a store, for each version and key just one leaf serves the version and covers the key, and it tells
+/// the key's value.
+pub fn leaf_tells()
+    ensures { LeafTells }
+{}
+
+/// That leaf tells the reply to a transaction of one Get.
+pub fn leaf_tells_get()
+    ensures { LeafTellsGet }
+{}

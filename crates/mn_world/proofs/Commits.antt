@@ -1,0 +1,5 @@
+-- What is committed at most once, and what is never.
+pub mod Told
+pub mod Never
+pub mod Once
+pub mod Unkept

@@ -1,0 +1,6 @@
+-- Worked examples of the definitions, by computation.
+pub mod TwoNodes
+pub mod Race
+pub mod Starts
+pub mod ListVersions
+pub mod Resumed

@@ -1,0 +1,6 @@
+pub mod Reading
+pub mod Votes
+pub mod Bytes
+pub mod Commits
+pub mod Plans
+pub mod Examples

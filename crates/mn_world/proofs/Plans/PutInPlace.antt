@@ -1,0 +1,251 @@
+-- A Put in place is planned.
+use Rattle.std.proofs.Common.{◌≡◌, ℕ, zero, suc, ◌+◌, ◌*◌, ◌^◌, ◌<◌, ◌⊎◌, inl, inr, Bool, true, false, ◌&&◌, ◌||◌, List, [], ◌∷◌, length, take, Option, Some, None, refl, subst, sym, ap, ◌∙◌, arith, slice_get, slice_set, Contains}
+use Rattle.std.specs.Prelude.{nat_lt, IsTrue, ◌↔◌}
+use Rattle.std.specs.Option.{option_map}
+use Rattle.std.proofs.lemmas.Bool.{and_from, or_left}
+use Rattle.std.proofs.lemmas.Option.{slice_get-map}
+use Rattle.byteorder.specs.Endian.{big_bytes}
+use Rattle.mn_base.specs.Store.{Head, Store, StoreVersion, heads_of, pairs_named, pairs_with, is_ascending, applied, unless_refused}
+use Rattle.mn_base.specs.Tree.{parents_of, serves}
+use Rattle.mn_base.specs.declared.ids.Addr.{Addr}
+use Rattle.mn_base.specs.declared.ids.NodeNo.{NodeNo}
+use Rattle.mn_base.specs.declared.reply.Pair.{Pair}
+use Rattle.mn_base.specs.declared.reply.Reply.{Reply}
+use Rattle.mn_base.specs.declared.op.Step.TheVariants.{Put}
+use Rattle.mn_base.specs.declared.op.Op.TheVariants.{Tx}
+use Rattle.mn_base.specs.declared.reply.Reply.TheVariants.{Values}
+use Rattle.mn_mini.specs.Flat.{bytes_in, space_in, overwritten, mismatch_from, memory_after}
+use Rattle.mn_page.specs.declared.page.Page.{Page}
+use Rattle.mn_page.specs.declared.page.Body.{Body}
+use Rattle.mn_page.specs.declared.page.Body.TheVariants.{Leaf}
+use Rattle.mn_page.specs.declared.entry.CatEntry.{CatEntry}
+use Rattle.mn_page.specs.Grammar.{page_bytes, entry_bytes, IsPage, IsEntry, IsBody, IsKey, IsValue, height_of}
+use Rattle.mn_page.specs.Forest.{Forest, page_at, entry_head, body_children}
+use Rattle.mn_page.specs.Holds.{Holds, page_covers, pairs_in}
+use Rattle.mn_page.specs.Laws.{IsLeafFor, OneLeaf}
+use Rattle.mn_page.proofs.Grid.{all_at_place, all_at_places}
+use Rattle.mn_page.proofs.Named.{NamedVersion, named, not_refused}
+use Rattle.mn_page.proofs.Leaves.{version_in, one_leaf}
+use Rattle.mn_page.proofs.Ancestors.{serves_alone, serves_own}
+use Rattle.mn_page.proofs.PairsWith.{ascending-put, filter-put_inside, filter-put_outside, all-put}
+use Rattle.mn_page.proofs.Alike.{Alike, with_page, re_paired, alike_forest, LeafChange, shows_change}
+use Rattle.mn_page.proofs.Spelled.{page_length, entry_length, entry_spelled_once}
+use Rattle.mn_world.specs.Planned.{Place, page_place, entry_place, count_place, compare_places, IsCompared, HasNextNumber, may_precede, place_rank, Continues, PlanActs}
+use Rattle.mn_world.specs.Plans.{HasRoom, next_leaf, put_in_place, compare_page, compare_entry, write_page, PutIsPlanned}
+use Rattle.mn_world.proofs.Plans.Laying.{laid_is}
+use Rattle.mn_world.proofs.Plans.Spaces.{memory_by_pages, page_there, page_written, entry_read, node_0, memory_length}
+use Rattle.mn_world.proofs.Plans.Compares.{all_met, still_named, page_rank, entry_rank, element_at}
+use Rattle.mn_page.proofs.Counted.{counted, forest, listed, shows, IsCounted, IsPageIn, ListsStore, forest_heads, leaf_pairs_are, serves_in}
+
+-- the leaf after a Put
+
+abbrev new_leaf : Page → List Pair → List ℕ → List ℕ → Page
+new_leaf p pairs key value = next_leaf p (pairs_with pairs key value)
+
+pub next_is_page : (kept : List Head) (nodes : ℕ) (name key value : List ℕ) (v : ℕ) (e : CatEntry) (addr : Addr) (p : Page) (pairs : List Pair) → HasRoom kept nodes name key value v e addr p pairs → IsPage (new_leaf p pairs key value)
+next_is_page kept nodes name key value v e addr p pairs r =
+    let old : IsBody p.low p.high (Leaf pairs) = subst (IsBody p.low p.high) r.leaf r.page.body in
+    record {
+      seq_low = omega arith;
+      seq_high = r.number;
+      made = r.page.made;
+      copied = r.page.copied;
+      copied_above = r.page.copied_above;
+      low = r.page.low;
+      high = r.page.high;
+      fences = r.page.fences;
+      body = (r.room, ascending-put key value pairs old.1, all-put (λ x. IsKey x.key × IsValue x.value × IsTrue (Rattle.mn_base.specs.Order.covers_key p.low p.high x.key)) key value pairs old.2 (r.is_key, r.is_value, r.covers));
+    }
+
+pub next_alike : (p : Page) (pairs old : List Pair) → p.body ≡ Leaf old → Alike p (next_leaf p pairs)
+next_alike p pairs old leaf = record {
+  made = refl;
+  copied = refl;
+  low = refl;
+  high = refl;
+  height = ap height_of (sym leaf);
+  children = ap (body_children p.low p.high) (sym leaf);
+}
+
+-- the store after a Put
+pub put_store : (store : Store) (name key value : List ℕ) (v : ℕ) (n : NamedVersion store name v) → n.version.head.frozen ≡ false
+    → ((applied store (Tx name (Put key value ∷ []))).store ≡ slice_set store v (re_paired n.version (pairs_with n.version.pairs key value))) × (Values [] ≡ (applied store (Tx name (Put key value ∷ []))).reply)
+put_store store name key value v n open_still =
+    let free = not_refused (heads_of store) name (Put key value ∷ []) n.version.head n.head (ap (λ b. b && true) open_still) in (
+      ap (λ (r : Option Reply). (unless_refused store (Tx name (Put key value ∷ [])) r).store) free ∙ (n.changed (pairs_with (pairs_named store name) key value) ∙ ap (λ (ps : List Pair). slice_set store v (re_paired n.version (pairs_with ps key value))) n.pairs),
+      sym (ap (λ (r : Option Reply). (unless_refused store (Tx name (Put key value ∷ [])) r).reply) free),
+    )
+
+-- What a memory has where the compares hold
+pub record PutFacts (f : Forest) (store : Store) (name key : List ℕ) (v : ℕ) (addr : Addr) (p : Page) : Type 0 where
+  pub named : NamedVersion store name v
+  pub writable : named.version.head.frozen ≡ false
+  pub there : page_at f addr ≡ Some p
+  pub serves : serves_in f v p ≡ true
+  pub alone : (w : ℕ) → serves_in f w p ≡ true → w ≡ v
+  pub one : OneLeaf f.entries (page_at f) v named.version key
+  pub leaf : IsLeafFor f.entries (page_at f) v key addr p
+
+pub put_facts : (kept : List Head) (nodes : ℕ) (name key value : List ℕ) (v : ℕ) (e : CatEntry) (addr : Addr) (p : Page) (pairs : List Pair) → HasRoom kept nodes name key value v e addr p pairs
+    → (f : Forest) (store : Store) → IsCounted f → ListsStore f store → addr.node.0 < length f.pages → Continues kept (heads_of store)
+    → bytes_in (space_in (memory_by_pages f) addr.node) (20480 + 1024 * addr.slot) 1024 ≡ page_bytes p → bytes_in (space_in (memory_by_pages f) node_0) (64 + 64 * v) 64 ≡ entry_bytes e
+    → PutFacts f store name key v addr p
+put_facts kept nodes name key value v e addr p pairs r f store sound shown in' on page entry =
+    let n = named store name v (still_named kept (heads_of store) name v on r.named) in
+    let there = page_there f sound addr p in' r.page page in
+    let low = version_in f store v n.version (shows f store shown) n.there in
+    let at_entry = element_at f.entries v low in
+    let is_entry = entry_spelled_once at_entry.0 e (all_at_place IsEntry f.entries v at_entry.0 sound.entries at_entry.1) r.entry (sym (entry_read f sound v at_entry.0 at_entry.1) ∙ entry) in
+    let head_at : slice_get (forest_heads f) v ≡ Some (entry_head e) = slice_get-map entry_head f.entries v ∙ (ap (option_map entry_head) at_entry.1 ∙ ap (λ (x : CatEntry). Some (entry_head x)) is_entry) in
+    let version_at : slice_get (heads_of store) v ≡ Some n.version.head = slice_get-map (λ (x : StoreVersion). x.head) store v ∙ ap (option_map (λ (x : StoreVersion). x.head)) n.there in
+    let both : Some n.version.head ≡ Some (entry_head e) = sym version_at ∙ (ap (λ (hs : List Head). slice_get hs v) shown.heads ∙ head_at) in
+    let head : n.version.head ≡ entry_head e = cc in
+    let of : IsPageIn f p = all_at_places (IsPageIn f) f.pages addr.node.0 addr.slot p sound.pages there in
+    let made_at : slice_get (forest_heads f) p.made.0 ≡ Some (entry_head e) = ap (slice_get (forest_heads f)) r.made ∙ head_at in
+    let serves_made : serves (parents_of (forest_heads f)) p.made.0 p.copied p.made.0 ≡ true = serves_own (forest_heads f) sound.tree p.made.0 p.copied (length f.entries) (entry_head e) made_at r.writable of.copied r.page.copied_above in
+    let serves_v : serves_in f v p ≡ true = subst (λ k. serves (parents_of (forest_heads f)) p.made.0 p.copied k ≡ true) r.made serves_made in
+    record {
+      named = n;
+      writable = ap (λ (h : Head). h.frozen) head ∙ r.writable;
+      there = there;
+      serves = serves_v;
+      alone = λ w s. sym (serves_alone (forest_heads f) sound.tree p.made.0 p.copied w (entry_head e) made_at r.writable s) ∙ r.made;
+      one = one_leaf f store v n.version key (forest f sound) (shows f store shown) n.there;
+      leaf = record { there = there; level = ap height_of r.leaf; serves = serves_v; covers = r.covers };
+    }
+
+pub put_change : (kept : List Head) (nodes : ℕ) (name key value : List ℕ) (v : ℕ) (e : CatEntry) (addr : Addr) (p : Page) (pairs : List Pair) → HasRoom kept nodes name key value v e addr p pairs
+    → (f : Forest) (store : Store) → IsCounted f → ListsStore f store → (facts : PutFacts f store name key v addr p)
+    → LeafChange f store addr p (new_leaf p pairs key value) v facts.named.version (pairs_with facts.named.version.pairs key value)
+put_change kept nodes name key value v e addr p pairs r f store sound shown facts =
+    let asc : is_ascending facts.named.version.pairs ≡ true = all_at_place (λ x. IsTrue (is_ascending x.pairs)) store v facts.named.version shown.ascending facts.named.there in
+    record {
+      there = facts.there;
+      alike = next_alike p (pairs_with pairs key value) pairs r.leaf;
+      at = facts.named.there;
+      alone = facts.alone;
+      ascending = ascending-put key value facts.named.version.pairs asc;
+      here = filter-put_inside (λ k. page_covers k p) key value facts.named.version.pairs r.covers asc
+          ∙ (ap (λ (ps : List Pair). pairs_with ps key value) (leaf_pairs_are f store v facts.named.version addr p shown facts.named.there facts.there facts.leaf.level facts.serves)
+          ∙ ap (λ (b : Body). pairs_with (pairs_in b) key value) r.leaf);
+      elsewhere = λ a x apart at flat serves. filter-put_outside (λ k. page_covers k x) key value facts.named.version.pairs (not_here a x apart at flat serves (page_covers key x) refl);
+    }
+  where
+    not_here : (a : Addr) (x : Page) → (addr.node.0 ≡ a.node.0 → addr.slot ≡ a.slot → ⊥) → page_at f a ≡ Some x → height_of x.body ≡ 0 → serves_in f v x ≡ true → (b : Bool) → page_covers key x ≡ b → page_covers key x ≡ false
+    not_here a x apart at flat serves false c = c
+    not_here a x apart at flat serves true c =
+        let same = facts.one.one.only addr p facts.leaf ∙ sym (facts.one.one.only a x (record { there = at; level = flat; serves = serves; covers = c })) in
+        absurd (apart (ap (λ (y : Addr). y.node.0) same) (ap (λ (y : Addr). y.slot) same))
+
+-- The plan
+
+pub put_numbers : (memory : List (List ℕ)) (addr : Addr) (p q : Page) → bytes_in (space_in memory addr.node) (20480 + 1024 * addr.slot) 1024 ≡ page_bytes p → length (page_bytes q) ≡ 1024 → q.seq ≡ p.seq + 1 → p.seq + 1 < 2 ^ 64
+    → HasNextNumber memory (write_page addr q)
+put_numbers memory addr p q read long next low =
+    inr (p.seq, low, ap (λ k. take 8 (bytes_in (space_in memory addr.node) (20480 + 1024 * addr.slot) k)) long ∙ ap (take 8) read, ap (big_bytes 8) next)
+
+pub place_same : (node : NodeNo) (start a b : ℕ) → a ≡ b → ◌≡◌ {A = Place} (record { node = node; start = start; length = a }) (record { node = node; start = start; length = b })
+place_same node start a b e = ap (λ k. let r : Place = record { node = node; start = start; length = k } in r) e
+
+sizes_differ : ◌≡◌ {A = ℕ} 1024 8 → ⊥
+sizes_differ e = absurd (omega arith)
+
+not_count : (addr : Addr) (n : NodeNo) (place : Place) → page_place addr ≡ place → place ≡ count_place n → ⊥
+not_count addr n place e f = sizes_differ (ap (λ (x : Place). x.length) (e ∙ f))
+
+-- the list has just these places
+two : (x y place : Place) → Contains (x ∷ y ∷ []) place → (x ≡ place) ⊎ (y ≡ place)
+two x y place (zero, in', is) = inl is
+two x y place (suc zero, in', is) = inr is
+two x y place (suc (suc k), in', is) = absurd (omega arith)
+
+only : (x place : Place) → Contains (x ∷ []) place → x ≡ place
+only x place (zero, in', is) = is
+only x place (suc k, in', is) = absurd (omega arith)
+
+put_compares : (f : Forest) (store : Store) (name key value : List ℕ) (v nodes : ℕ) (e : CatEntry) (addr : Addr) (p q : Page) → length (page_bytes p) ≡ 1024 → length (page_bytes q) ≡ 1024 → length (entry_bytes e) ≡ 64
+    → PutFacts f store name key v addr p → (place : Place)
+    → Contains (record { node = addr.node; start = 20480 + 1024 * addr.slot; length = length (page_bytes p) } ∷ (record { node = node_0; start = 64 + 64 * v; length = length (entry_bytes e) } ∷ [])) place
+    ↔ IsCompared f store v (Tx name (Put key value ∷ [])) (record { nodes = nodes; items = compare_page addr p ∷ compare_entry v e ∷ write_page addr q ∷ [] }) place
+put_compares f store name key value v nodes e addr p q lp lq le facts place = (there, back)
+  where
+    first : ◌≡◌ {A = Place} (record { node = addr.node; start = 20480 + 1024 * addr.slot; length = length (page_bytes p) }) (page_place addr)
+    first = place_same addr.node (20480 + 1024 * addr.slot) (length (page_bytes p)) 1024 lp
+
+    second : ◌≡◌ {A = Place} (record { node = node_0; start = 64 + 64 * v; length = length (entry_bytes e) }) (entry_place v)
+    second = place_same node_0 (64 + 64 * v) (length (entry_bytes e)) 64 le
+
+    written : ◌≡◌ {A = Place} (record { node = addr.node; start = 20480 + 1024 * addr.slot; length = length (page_bytes q) }) (page_place addr)
+    written = place_same addr.node (20480 + 1024 * addr.slot) (length (page_bytes q)) 1024 lq
+
+    there : Contains (record { node = addr.node; start = 20480 + 1024 * addr.slot; length = length (page_bytes p) } ∷ (record { node = node_0; start = 64 + 64 * v; length = length (entry_bytes e) } ∷ [])) place
+        → IsCompared f store v (Tx name (Put key value ∷ [])) (record { nodes = nodes; items = compare_page addr p ∷ compare_entry v e ∷ write_page addr q ∷ [] }) place
+    there c = elim (two _ _ place c) as (λ _. IsCompared f store v (Tx name (Put key value ∷ [])) (record { nodes = nodes; items = compare_page addr p ∷ compare_entry v e ∷ write_page addr q ∷ [] }) place) [
+      | inl is ↦ inl (addr, p, sym is ∙ first, facts.there, facts.leaf.level, facts.serves, or_left _ _ facts.leaf.covers)
+      | inr is ↦ inr (inl (refl, sym is ∙ second))
+    ]
+
+    at_first : page_place addr ≡ place → Contains (record { node = addr.node; start = 20480 + 1024 * addr.slot; length = length (page_bytes p) } ∷ (record { node = node_0; start = 64 + 64 * v; length = length (entry_bytes e) } ∷ [])) place
+    at_first is = (0, omega arith, first ∙ is)
+
+    or_none : (b : Bool) → (b || false) ≡ true → b ≡ true
+    or_none true e = refl
+    or_none false e = e
+
+    back : IsCompared f store v (Tx name (Put key value ∷ [])) (record { nodes = nodes; items = compare_page addr p ∷ compare_entry v e ∷ write_page addr q ∷ [] }) place
+        → Contains (record { node = addr.node; start = 20480 + 1024 * addr.slot; length = length (page_bytes p) } ∷ (record { node = node_0; start = 64 + 64 * v; length = length (entry_bytes e) } ∷ [])) place
+    back (inl leaf) =
+        let same = facts.one.one.only addr p facts.leaf ∙ sym (facts.one.one.only leaf.0 leaf.1 (record { there = leaf.3; level = leaf.4; serves = leaf.5; covers = or_none _ leaf.6 })) in
+        at_first (ap page_place same ∙ sym leaf.2)
+    back (inr (inl entry)) = (1, omega arith, second ∙ sym entry.1)
+    back (inr (inr (inl old))) = at_first (sym written ∙ only _ place old.4)
+    back (inr (inr (inr count))) = absurd (not_count addr count.0.0 place (sym written ∙ only _ place count.1) count.0.1)
+
+put_acts : (kept : List Head) (nodes : ℕ) (name key value : List ℕ) (v : ℕ) (e : CatEntry) (addr : Addr) (p : Page) (pairs : List Pair) → HasRoom kept nodes name key value v e addr p pairs
+    → (memory : List (List ℕ)) (store : Store) → length memory ≡ nodes → (holds : Holds memory store) → Continues kept (heads_of store)
+    → mismatch_from memory 0 (put_in_place nodes key value v e addr p pairs).items ≡ None → PlanActs memory store holds (Tx name (Put key value ∷ [])) (put_in_place nodes key value v e addr p pairs) (Values [])
+put_acts kept nodes name key value v e addr p pairs r memory store many holds on met =
+    let sound = counted holds.forest holds.sound in
+    let shown = listed holds.forest store holds.shown in
+    let is_spelled : memory ≡ memory_by_pages holds.forest = holds.spelled ∙ laid_is holds.forest in
+    let q = new_leaf p pairs key value in
+    let lp : length (page_bytes p) ≡ 1024 = page_length p r.page in
+    let spelled : IsPage (new_leaf p pairs key value) = next_is_page kept nodes name key value v e addr p pairs r in
+    let lq : length (page_bytes (new_leaf p pairs key value)) ≡ 1024 = page_length (new_leaf p pairs key value) spelled in
+    let le : length (entry_bytes e) ≡ 64 = entry_length e r.entry in
+    let mets = all_met memory 0 (put_in_place nodes key value v e addr p pairs).items met in
+    let page : bytes_in (space_in memory addr.node) (20480 + 1024 * addr.slot) 1024 ≡ page_bytes p = ap (bytes_in (space_in memory addr.node) (20480 + 1024 * addr.slot)) (sym lp) ∙ mets.0 in
+    let entry : bytes_in (space_in memory node_0) (64 + 64 * v) 64 ≡ entry_bytes e = ap (bytes_in (space_in memory node_0) (64 + 64 * v)) (sym le) ∙ (mets.1).0 in
+    let nodes_are : nodes ≡ length holds.forest.pages = sym many ∙ (ap (λ (m : List (List ℕ)). length m) is_spelled ∙ memory_length holds.forest) in
+    let in' : addr.node.0 < length holds.forest.pages = subst (λ k. addr.node.0 < k) nodes_are r.node in
+    let facts = put_facts kept nodes name key value v e addr p pairs r holds.forest store sound shown in' on
+    (ap (λ (m : List (List ℕ)). bytes_in (space_in m addr.node) (20480 + 1024 * addr.slot) 1024) (sym is_spelled) ∙ page)
+    (ap (λ (m : List (List ℕ)). bytes_in (space_in m node_0) (64 + 64 * v) 64) (sym is_spelled) ∙ entry) in
+    let change = put_change kept nodes name key value v e addr p pairs r holds.forest store sound shown facts in
+    let stored = put_store store name key value v facts.named facts.writable in
+    record {
+      effect = subst (Holds (memory_after memory (put_in_place nodes key value v e addr p pairs).items)) (sym stored.0) (record {
+        forest = with_page holds.forest addr (new_leaf p pairs key value);
+        spelled = ap (λ (m : List (List ℕ)). slice_set m addr.node.0 (overwritten (space_in m addr.node) (20480 + 1024 * addr.slot) (page_bytes (new_leaf p pairs key value)))) is_spelled
+            ∙ page_written holds.forest sound addr p (new_leaf p pairs key value) facts.there spelled ∙ sym (laid_is (with_page holds.forest addr (new_leaf p pairs key value)));
+        sound = forest (with_page holds.forest addr (new_leaf p pairs key value)) (alike_forest holds.forest sound addr p (new_leaf p pairs key value) facts.there change.alike spelled);
+        shown = shows (with_page holds.forest addr (new_leaf p pairs key value)) (slice_set store v (re_paired facts.named.version (pairs_with facts.named.version.pairs key value))) (shows_change holds.forest store addr p (new_leaf p pairs key value) v facts.named.version (pairs_with facts.named.version.pairs key value) sound shown change);
+      });
+      replies = stored.1;
+      compares = λ w is place. subst
+          (λ k. Contains (compare_places (put_in_place nodes key value v e addr p pairs)) place ↔ IsCompared holds.forest store k (Tx name (Put key value ∷ [])) (put_in_place nodes key value v e addr p pairs) place)
+          (same_some v w (sym (still_named kept (heads_of store) name v on r.named) ∙ is))
+          (put_compares holds.forest store name key value v nodes e addr p (new_leaf p pairs key value) lp lq le facts place);
+      numbers = (tt, (tt, (put_numbers memory addr p (new_leaf p pairs key value) page lq refl r.number, tt)));
+    }
+  where
+    same_some : (a b : ℕ) → Some a ≡ Some b → a ≡ b
+    same_some a b e = cc
+
+pub put_is_planned : PutIsPlanned
+put_is_planned kept nodes name key value v e addr p pairs r = record {
+  acts = λ memory store many sizes holds on met. put_acts kept nodes name key value v e addr p pairs r memory store many holds on met;
+  order = and_from (may_precede addr.node (20480 + 1024 * addr.slot) node_0 (64 + 64 * v)) true
+      (or_left (nat_lt (place_rank (20480 + 1024 * addr.slot)) (place_rank (64 + 64 * v))) _ (ap (λ k. nat_lt k (place_rank (64 + 64 * v))) (page_rank addr.slot) ∙ ap (nat_lt 0) (entry_rank v r.few)))
+      refl;
+}

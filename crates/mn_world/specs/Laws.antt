@@ -1,0 +1,218 @@
+-- The laws of runs. Each public law function has one of these as its contract.
+use Rattle.std.specs.Prelude.{ℕ, ◌≡◌, ◌+◌, ◌<◌, ◌≤◌, ◌⊎◌, Bool, true, false, not, ◌&&◌, ◌||◌, IsTrue, List, [], ◌∷◌, ◌++◌, length, Option, Some, None, ⊤, slice_get, slice_index_or, Contains}
+use Rattle.std.specs.List.{list_any, AllByRecursion}
+use Rattle.mn_base.specs.declared.ids.NodeNo.{NodeNo}
+use Rattle.mn_base.specs.declared.ids.ClientNo.{ClientNo}
+use Rattle.mn_base.specs.declared.ids.Tid.{Tid}
+use Rattle.mn_mini.specs.declared.part.PartItem.{PartItem}
+use Rattle.mn_mini.specs.declared.request.Request.{Request}
+use Rattle.mn_mini.specs.declared.request.Request.TheVariants as Ask
+use Rattle.mn_mini.specs.declared.reply.NodeReply.TheVariants as Say
+use Rattle.mn_mini.specs.Mini.{Mini, participants_of, range_of, is_write, space_size}
+use Rattle.mn_mini.specs.Flat.{Committed, bytes_in, outcome_on, part_reads, space_in}
+use Rattle.mn_mini.specs.Node.{HeldPart, held_parts, has_voted, has_forced, has_decided_yes, has_decided_no, space_of}
+use Rattle.mn_mini.specs.Laws.{AreApart}
+use Rattle.mn_world.specs.declared.entry.Entry.{Entry}
+use Rattle.mn_base.specs.declared.answer.Answer.{Answer}
+use Rattle.mn_world.specs.declared.entry.What.TheVariants.{Called, Restarted, Answered}
+use Rattle.mn_world.specs.Calls.{Issued, is_by, node_entries, client_entries, is_exec, is_done, is_stopped, was_told_somewhere, was_done, was_stopped, was_abandoned, issue_named, issues_of, since_begin}
+use Rattle.mn_world.specs.Nodes.{stopped_request, NodeAllows}
+use Rattle.mn_world.specs.Protocol.{Start, start_nodes, base_at, start_records, records_of, IsOfRun, FollowsProtocol}
+use Rattle.mn_world.specs.Commits.{committed_by, flat_after}
+use Rattle.mn_world.specs.Opened.{AreSound, is_committed, have_voted, voted_participants, memory_in, opened_memory}
+use Rattle.mn_world.specs.Run.{IsRun, IsLegalBy}
+use Rattle.mn_world.specs.Answers.{is_given_up}
+use Rattle.mn_world.specs.Shown.{Seen, seen_in}
+use Rattle.mn_world.specs.History.{seen_at}
+
+-- Lists
+
+-- each entry of a node's list is allowed by the ones before it
+abbrev pub NodeListAllowed : Start → NodeNo → List Entry → Type 0
+NodeListAllowed start n [] = ⊤
+NodeListAllowed start n (e ∷ es) = NodeListAllowed start n es × NodeAllows (base_at start n) (start_records start n) es e.what
+
+-- each entry of a client's list is legal by the ones before it
+abbrev pub ClientListLegal : List Entry → Type 0
+ClientListLegal [] = ⊤
+ClientListLegal (e ∷ es) = ClientListLegal es × IsLegalBy es e
+
+-- an entry of the run: at one of its nodes if at any, of this run's number, and legal without a list where no client makes it
+abbrev pub IsAtNode : Start → Option NodeNo → Type 0
+IsAtNode start None = ⊤
+IsAtNode start (Some n) = n.0 < start_nodes start
+
+abbrev pub IsLegalAlone : Entry → Option ClientNo → Type 0
+IsLegalAlone e None = IsLegalBy [] e
+IsLegalAlone e (Some c) = ⊤
+
+abbrev pub IsEntryOf : Start → Entry → Type 0
+IsEntryOf start e = IsAtNode start e.node × IsOfRun start e.what × IsLegalAlone e e.client
+
+-- a log whose actors' lists are allowed and legal one by one is a run
+abbrev pub ListsMakeRun : Type 0
+ListsMakeRun =
+    (start : Start) (past : List Entry) → ((n : NodeNo) → NodeListAllowed start n (node_entries n past)) → ((c : ClientNo) → ClientListLegal (client_entries c past))
+    → AllByRecursion (IsEntryOf start) past → IsRun start past
+
+-- Votes
+
+-- the start's records fit together
+abbrev pub StartsSound : Start → Type 0
+StartsSound start = AreSound (start_nodes start) (start_records start)
+
+-- no node has a record
+abbrev pub StartsFresh : Start → Type 0
+StartsFresh start = (n : NodeNo) → start_records start n ≡ []
+
+abbrev pub FreshIsSound : Type 0
+FreshIsSound = (start : Start) → StartsFresh start → StartsSound start
+
+-- no id is decided both ways
+abbrev pub DecidedOneWay : Type 0
+DecidedOneWay =
+    (start : Start) (past : List Entry) (n m : NodeNo) (tid : Tid) → StartsSound start → FollowsProtocol start past
+    → n.0 < start_nodes start → m.0 < start_nodes start
+    → has_decided_yes (records_of start past n) tid ≡ true → has_decided_no (records_of start past m) tid ≡ true → ⊥
+
+-- a decided yes has all its votes
+abbrev pub YesHasVotes : Type 0
+YesHasVotes =
+    (start : Start) (past : List Entry) (n : NodeNo) (tid : Tid) (participants : List NodeNo) → StartsSound start → FollowsProtocol start past
+    → n.0 < start_nodes start → has_decided_yes (records_of start past n) tid ≡ true → voted_participants tid (records_of start past n) ≡ Some participants
+    → have_voted (records_of start past) tid participants ≡ true
+
+-- an id with a decided no is never committed
+abbrev pub NoIsNotCommitted : Type 0
+NoIsNotCommitted =
+    (start : Start) (past : List Entry) (n : NodeNo) (tid : Tid) → StartsSound start → FollowsProtocol start past
+    → n.0 < start_nodes start → has_decided_no (records_of start past n) tid ≡ true → is_committed (start_nodes start) (records_of start past) tid ≡ false
+
+-- held parts never conflict
+abbrev pub HeldPartsApart : Type 0
+HeldPartsApart =
+    (start : Start) (past : List Entry) (n : NodeNo) → StartsSound start → FollowsProtocol start past → n.0 < start_nodes start → AreApart (held_parts (records_of start past n))
+
+-- the records at every place fit together
+abbrev pub RecordsStaySound : Type 0
+RecordsStaySound =
+    (start : Start) (past : List Entry) → StartsSound start → FollowsProtocol start past → AreSound (start_nodes start) (records_of start past)
+
+-- Bytes
+
+-- the bases and the opened memory have a space for each node
+abbrev pub HasSpaces : Start → Type 0
+HasSpaces start = (length start.bases ≡ start_nodes start) × AllByRecursion (λ space. length space ≡ space_size) start.bases
+
+-- a minitransaction that commits has the flat meaning there: its compares hold
+abbrev pub CommitsAreFlat : Type 0
+CommitsAreFlat =
+    (start : Start) (past : List Entry) (e : Entry) (i : Issued) → StartsSound start → HasSpaces start → FollowsProtocol start (e ∷ past) → committed_by past e ≡ Some i
+    → (reads : List (List ℕ)) × (memory : List (List ℕ)) × (outcome_on (flat_after (opened_memory start) past) i.mini ≡ Committed reads memory)
+
+-- a write item of the part covers the place
+abbrev pub writes_at : ℕ → PartItem → Bool
+writes_at place item =
+    is_write item && (Rattle.std.specs.Prelude.nat_le (range_of item).start place && Rattle.std.specs.Prelude.nat_lt place ((range_of item).start + (range_of item).length))
+
+-- a held part of a committed id covers the place by a write
+abbrev pub is_pending_at : (Tid → Bool) → ℕ → List HeldPart → Bool
+is_pending_at committed place hs = list_any (λ h. committed h.tid && list_any (writes_at place) h.part) hs
+
+-- a byte of a node's space is the flat memory's, unless a write of a committed id that is still held covers it
+abbrev pub SpacesAgree : Type 0
+SpacesAgree =
+    (start : Start) (past : List Entry) (n : NodeNo) (place : ℕ) → StartsSound start → HasSpaces start → FollowsProtocol start past → n.0 < start_nodes start
+    → is_pending_at (is_committed (start_nodes start) (records_of start past)) place (held_parts (records_of start past n)) ≡ false
+    → slice_get (space_of (base_at start n) (records_of start past n)) place ≡ slice_get (space_in (flat_after (opened_memory start) past) n) place
+
+-- a node's Done to the Prepare or Exec of a part
+abbrev pub part_of_request : Request → Option (List PartItem)
+part_of_request (Ask.Prepare tid participants part) = Some part
+part_of_request (Ask.Exec tid part) = Some part
+part_of_request request = None
+
+-- the reads of a Done are those of the flat memory at its place
+abbrev pub ReadsAreFlat : Type 0
+ReadsAreFlat =
+    (start : Start) (past : List Entry) (e : Entry) (k : NodeNo) (request : Request) (part : List PartItem) (reads : List (List ℕ)) → StartsSound start → HasSpaces start → FollowsProtocol start (e ∷ past)
+    → e.node ≡ Some k → e.what ≡ Called request (Say.Done reads) → part_of_request request ≡ Some part
+    → reads ≡ part_reads (space_in (flat_after (opened_memory start) past) k) part
+
+-- an Exec that is done commits its minitransaction there, and answers what that reads of the flat memory
+abbrev pub ExecsAreFlat : Type 0
+ExecsAreFlat =
+    (start : Start) (past : List Entry) (e : Entry) (k : NodeNo) (tid : Tid) (part : List PartItem) (reads : List (List ℕ)) → StartsSound start → HasSpaces start → FollowsProtocol start (e ∷ past)
+    → e.node ≡ Some k → e.what ≡ Called (Ask.Exec tid part) (Say.Done reads)
+    → (i : Issued) × (memory : List (List ℕ)) × (i.tid ≡ tid) × (committed_by past e ≡ Some i) × (outcome_on (flat_after (opened_memory start) past) i.mini ≡ Committed reads memory)
+
+-- a Prepare that is done answers no reads, since what has several participants has no read items
+abbrev pub PreparesReadNothing : Type 0
+PreparesReadNothing =
+    (start : Start) (past : List Entry) (e : Entry) (k : NodeNo) (tid : Tid) (participants : List NodeNo) (part : List PartItem) (reads : List (List ℕ)) → StartsSound start → HasSpaces start → FollowsProtocol start (e ∷ past)
+    → e.node ≡ Some k → e.what ≡ Called (Ask.Prepare tid participants part) (Say.Done reads) → reads ≡ []
+
+-- what a client has seen stood in the flat memory where it was read
+abbrev pub SeenIsFlat : Type 0
+SeenIsFlat =
+    (start : Start) (past : List Entry) (c : ClientNo) (seen : Seen) → StartsSound start → HasSpaces start → FollowsProtocol start past → Contains (seen_in (client_entries c past)) seen
+    → (e : Entry) × (later : List Entry) × (before : List Entry) × (past ≡ later ++ e ∷ before) × IsTrue (is_by c e) × Contains (seen_at e) seen
+    × (seen.bytes ≡ bytes_in (space_in (flat_after (opened_memory start) before) seen.place.node) seen.place.start seen.place.length)
+
+-- the memory that the records make, with what is committed applied whether decided or not, is the flat memory
+abbrev pub MemoryIsFlat : Type 0
+MemoryIsFlat =
+    (start : Start) (past : List Entry) → StartsSound start → HasSpaces start → FollowsProtocol start past
+    → memory_in (start_nodes start) (base_at start) (records_of start past) ≡ flat_after (opened_memory start) past
+
+-- no entry commits the id
+abbrev pub IsNeverCommitted : Tid → List Entry → Type 0
+IsNeverCommitted tid [] = ⊤
+IsNeverCommitted tid (e ∷ past) = ((i : Issued) → committed_by past e ≡ Some i → i.tid ≡ tid → ⊥) × IsNeverCommitted tid past
+
+-- an id that was abandoned is committed at no place, before or after
+abbrev pub AbandonedIsNever : Type 0
+AbandonedIsNever =
+    (start : Start) (past later : List Entry) (c : ClientNo) (tid : Tid) → StartsSound start → FollowsProtocol start (later ++ past) → was_abandoned tid (client_entries c past) ≡ true
+    → IsNeverCommitted tid (later ++ past)
+
+-- nor is one whose Exec was answered neither Done nor Stopped
+abbrev pub RefusedIsNever : Type 0
+RefusedIsNever =
+    (start : Start) (past later : List Entry) (c : ClientNo) (tid : Tid) → StartsSound start → FollowsProtocol start (later ++ past)
+    → was_told_somewhere (is_exec tid) (λ reply. not (is_done reply || is_stopped reply)) (client_entries c past) ≡ true → IsNeverCommitted tid (later ++ past)
+
+-- nor is a plan that is given up when its operation is answered
+abbrev pub GivenUpIsNever : Type 0
+GivenUpIsNever =
+    (start : Start) (past later : List Entry) (e : Entry) (c : ClientNo) (number : ℕ) (answer : Answer) (i : Issued) → StartsSound start → FollowsProtocol start (later ++ e ∷ past)
+    → e.client ≡ Some c → e.what ≡ Answered number answer → issue_named i.tid (issues_of (since_begin (client_entries c past))) ≡ Some i.mini → is_given_up (since_begin (client_entries c past)) i ≡ true
+    → IsNeverCommitted i.tid (later ++ e ∷ past)
+
+-- nor is one whose Exec a node stopped inside, where the restart did not keep it
+abbrev pub UnkeptIsNever : Type 0
+UnkeptIsNever =
+    (start : Start) (past later : List Entry) (e : Entry) (k : NodeNo) (tid : Tid) (part : List PartItem) → StartsSound start → FollowsProtocol start (later ++ e ∷ past)
+    → e.node ≡ Some k → e.what ≡ Restarted false → stopped_request (node_entries k past) ≡ Some (Ask.Exec tid part) → IsNeverCommitted tid (later ++ e ∷ past)
+
+-- an id is committed at most once
+abbrev pub CommitsOnce : Type 0
+CommitsOnce =
+    (start : Start) (past : List Entry) (e : Entry) (i : Issued) → StartsSound start → FollowsProtocol start (e ∷ past) → committed_by past e ≡ Some i → IsNeverCommitted i.tid past
+
+-- a node that was forced never votes
+abbrev pub ForcedNeverVotes : Type 0
+ForcedNeverVotes =
+    (start : Start) (past later : List Entry) (n : NodeNo) (tid : Tid) → StartsSound start → FollowsProtocol start (later ++ past) → n.0 < start_nodes start → has_forced (records_of start past n) tid ≡ true
+    → has_voted (records_of start (later ++ past) n) tid ≡ false
+
+-- the participant has no vote, and its client's list has no Prepare or Exec of the id that it was done with or stopped in
+abbrev pub LacksVote : Start → List Entry → Tid → NodeNo → Type 0
+LacksVote start past tid k =
+    (has_voted (records_of start past k) tid ≡ false) × (was_done tid k (client_entries tid.client past) ≡ false) × (was_stopped tid k (client_entries tid.client past) ≡ false)
+
+-- after an id was abandoned, some participant lacks its vote at every later place
+abbrev pub AbandonedLacksVote : Type 0
+AbandonedLacksVote =
+    (start : Start) (past : List Entry) (c : ClientNo) (tid : Tid) → StartsSound start → FollowsProtocol start past → was_abandoned tid (client_entries c past) ≡ true
+    → (mini : Mini) × (issue_named tid (issues_of past) ≡ Some mini) × (k : NodeNo) × Contains (participants_of mini) k × ((later : List Entry) → FollowsProtocol start (later ++ past) → LacksVote start (later ++ past) tid k)

@@ -1,0 +1,14 @@
+pub mod Calls
+pub mod Nodes
+pub mod Clients
+pub mod Protocol
+pub mod Commits
+pub mod Opened
+pub mod Planned
+pub mod Shown
+pub mod Needs
+pub mod Answers
+pub mod Run
+pub mod History
+pub mod Laws
+pub mod Plans

@@ -1,0 +1,157 @@
+-- When a minitransaction is a plan of an operation.
+use Rattle.std.specs.Prelude.{ℕ, ◌≡◌, ◌+◌, ◌^◌, ◌<◌, ◌↔◌, ◌⊎◌, Bool, true, false, ◌&&◌, ◌||◌, nat_lt, nat_eq, IsTrue, List, [], ◌∷◌, length, take, Some, None, ⊤, if◌then◌else◌, Contains, slice_get}
+use Rattle.std.specs.List.{list_any, flat_map, AllByRecursion}
+use Rattle.byteorder.specs.Endian.{big_bytes}
+use Rattle.mn_base.specs.Store.{Head, Store, heads_of, number_named, pairs_named, is_change, step_key, steps_run, op_version, applied, max_versions}
+use Rattle.mn_base.specs.declared.ids.NodeNo.{NodeNo}
+use Rattle.mn_base.specs.declared.ids.Addr.{Addr}
+use Rattle.mn_base.specs.declared.op.Step.{Step}
+use Rattle.mn_base.specs.declared.op.Op.{Op}
+use Rattle.mn_base.specs.declared.op.Op.TheVariants.{Tx, Snapshot, Branch, Scan, Versions}
+use Rattle.mn_base.specs.declared.reply.Reply.{Reply}
+use Rattle.mn_mini.specs.declared.item.Item.{Item}
+use Rattle.mn_mini.specs.declared.item.Item.TheVariants.{Compare, Read, Write}
+use Rattle.mn_mini.specs.Mini.{Mini, space_size}
+use Rattle.mn_mini.specs.Flat.{bytes_in, space_in, mismatch_from, memory_after}
+use Rattle.mn_page.specs.declared.page.Page.{Page}
+use Rattle.mn_page.specs.declared.entry.CatEntry.{CatEntry}
+use Rattle.mn_page.specs.Space.{count_start, count_size, catalog_start, catalog_size, entry_size, entry_start, slots_start, slot_size, slot_start}
+use Rattle.mn_page.specs.Grammar.{height_of}
+use Rattle.mn_page.specs.Forest.{Forest, page_at}
+use Rattle.mn_page.specs.Holds.{Holds, page_covers, page_serves}
+
+-- Places
+
+-- the range of a page, an entry or a count
+pub record Place : Type 0 where
+  pub node : NodeNo
+  pub start : ℕ
+  pub length : ℕ
+
+abbrev pub page_place : Addr → Place
+page_place addr = record { node = addr.node; start = slot_start addr.slot; length = slot_size }
+
+abbrev pub entry_place : ℕ → Place
+entry_place v = record { node = record { 0 = 0 }; start = entry_start v; length = entry_size }
+
+abbrev pub count_place : NodeNo → Place
+count_place n = record { node = n; start = count_start; length = count_size }
+
+-- the catalog stands on node 0
+abbrev pub catalog_place : Place
+catalog_place = record { node = record { 0 = 0 }; start = catalog_start; length = catalog_size }
+
+abbrev pub IsPagePlace : Place → Type 0
+IsPagePlace place = (addr : Addr) × (place ≡ page_place addr)
+
+abbrev pub IsEntryPlace : Place → Type 0
+IsEntryPlace place = (v : ℕ) × (v < max_versions) × (place ≡ entry_place v)
+
+abbrev pub IsCountPlace : Place → Type 0
+IsCountPlace place = (n : NodeNo) × (place ≡ count_place n)
+
+abbrev pub compare_place : Item → List Place
+compare_place (Compare node start bytes) = record { node = node; start = start; length = length bytes } ∷ []
+compare_place (Read node start length) = []
+compare_place (Write node start bytes) = []
+
+abbrev pub write_place : Item → List Place
+write_place (Compare node start bytes) = []
+write_place (Read node start length) = []
+write_place (Write node start bytes) = record { node = node; start = start; length = length bytes } ∷ []
+
+abbrev pub compare_places : Mini → List Place
+compare_places mini = flat_map compare_place mini.items
+
+abbrev pub write_places : Mini → List Place
+write_places mini = flat_map write_place mini.items
+
+-- Which places a plan compares
+
+-- a leaf that serves the version and covers the key of one of these steps
+abbrev pub IsLeafOf : Forest → ℕ → List Step → Place → Type 0
+IsLeafOf f v steps place =
+    (addr : Addr) × (page : Page) × (place ≡ page_place addr) × (page_at f addr ≡ Some page) × (height_of page.body ≡ 0)
+    × IsTrue (page_serves f.entries v page) × IsTrue (list_any (λ step. page_covers (step_key step) page) steps)
+
+-- a page that is there and is written
+abbrev pub IsOldPage : Forest → Mini → Place → Type 0
+IsOldPage f mini place = (addr : Addr) × (page : Page) × (place ≡ page_place addr) × (page_at f addr ≡ Some page) × Contains (write_places mini) place
+
+-- a count that is written
+abbrev pub IsWrittenCount : Mini → Place → Type 0
+IsWrittenCount mini place = IsCountPlace place × Contains (write_places mini) place
+
+-- the root page of a version
+abbrev pub IsRootOf : Forest → ℕ → Place → Type 0
+IsRootOf f v place = (e : CatEntry) × (slice_get f.entries v ≡ Some e) × (place ≡ page_place e.root)
+
+abbrev pub IsCompared : Forest → Store → ℕ → Op → Mini → Place → Type 0
+IsCompared f store v (Tx version steps) mini place =
+    IsLeafOf f v (steps_run (pairs_named store version) steps) place
+    ⊎ (IsTrue (list_any is_change steps) × (place ≡ entry_place v))
+    ⊎ IsOldPage f mini place
+    ⊎ IsWrittenCount mini place
+IsCompared f store v (Snapshot version child) mini place = IsRootOf f v place ⊎ (place ≡ entry_place v) ⊎ (place ≡ entry_place (length f.entries)) ⊎ IsWrittenCount mini place
+IsCompared f store v (Branch version child) mini place = IsRootOf f v place ⊎ (place ≡ entry_place v) ⊎ (place ≡ entry_place (length f.entries)) ⊎ IsWrittenCount mini place
+IsCompared f store v (Scan version low high limit) mini place = ⊥
+IsCompared f store v Versions mini place = ⊥
+
+-- Numbers and order
+
+-- the place's number in the memory is the one before that of the bytes written; a free place has 0
+abbrev pub IsNextNumber : List ℕ → List ℕ → Type 0
+IsNextNumber old new = (k : ℕ) × (k + 1 < 2 ^ 64) × (take 8 old ≡ big_bytes 8 k) × (take 8 new ≡ big_bytes 8 (k + 1))
+
+-- each page or entry that is written has the next number
+abbrev pub HasNextNumber : List (List ℕ) → Item → Type 0
+HasNextNumber memory (Compare node start bytes) = ⊤
+HasNextNumber memory (Read node start length) = ⊤
+HasNextNumber memory (Write node start bytes) =
+    IsCountPlace (record { node = node; start = start; length = length bytes }) ⊎ IsNextNumber (bytes_in (space_in memory node) start (length bytes)) bytes
+
+-- pages stand before entries, and entries before counts
+abbrev pub place_rank : ℕ → ℕ
+place_rank start = if nat_eq start count_start then 2 else (if nat_lt start slots_start then 1 else 0)
+
+-- pages in any order, entries by number, counts by node
+abbrev pub may_precede : NodeNo → ℕ → NodeNo → ℕ → Bool
+may_precede n s m t = nat_lt (place_rank s) (place_rank t) || (nat_eq (place_rank s) (place_rank t) && (nat_eq (place_rank s) 0 || (nat_lt s t || (nat_eq s t && nat_lt n.0 m.0))))
+
+abbrev pub item_may_precede : Item → Item → Bool
+item_may_precede (Compare n s b) (Compare m t c) = may_precede n s m t
+item_may_precede (Compare n s b) (Read m t c) = false
+item_may_precede (Compare n s b) (Write m t c) = true
+item_may_precede (Read n s b) item = false
+item_may_precede (Write n s b) (Compare m t c) = false
+item_may_precede (Write n s b) (Read m t c) = false
+item_may_precede (Write n s b) (Write m t c) = may_precede n s m t
+
+-- the compares, then the writes
+abbrev pub are_in_order : List Item → Bool
+are_in_order [] = true
+are_in_order (i ∷ []) = true
+are_in_order (i ∷ (j ∷ is)) = item_may_precede i j && are_in_order (j ∷ is)
+
+-- Planned
+
+-- the catalog's versions are the first ones, with their names and parents; what it has frozen stays frozen
+abbrev pub Continues : List Head → List Head → Type 0
+Continues [] heads = ⊤
+Continues (k ∷ kept) [] = ⊥
+Continues (k ∷ kept) (h ∷ heads) = (h.name ≡ k.name) × (h.parent ≡ k.parent) × (k.frozen ≡ true → h.frozen ≡ true) × Continues kept heads
+
+-- what a plan does to a memory that holds the store
+pub record PlanActs (memory : List (List ℕ)) (store : Store) (holds : Holds memory store) (op : Op) (mini : Mini) (reply : Reply) : Type 0 where
+  pub effect : Holds (memory_after memory mini.items) (applied store op).store
+  pub replies : reply ≡ (applied store op).reply
+  pub compares : (v : ℕ) → number_named (heads_of store) (op_version op) ≡ Some v
+      → (place : Place) → Contains (compare_places mini) place ↔ IsCompared holds.forest store v op mini place
+  pub numbers : AllByRecursion (HasNextNumber memory) mini.items
+
+-- wherever its compares hold, in a memory that holds a store that continues the kept catalog, it does what the operation does
+pub record IsPlanned (kept : List Head) (op : Op) (mini : Mini) (reply : Reply) : Type 0 where
+  pub acts : (memory : List (List ℕ)) (store : Store) → length memory ≡ mini.nodes → AllByRecursion (λ space. length space ≡ space_size) memory
+      → (holds : Holds memory store) → Continues kept (heads_of store) → mismatch_from memory 0 mini.items ≡ None
+      → PlanActs memory store holds op mini reply
+  pub order : IsTrue (are_in_order mini.items)

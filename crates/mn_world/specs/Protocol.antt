@@ -1,0 +1,90 @@
+-- Runs: each entry is allowed by what its actors' lists held before it.
+use Rattle.std.specs.Prelude.{ℕ, ◌+◌, ◌≡◌, ◌<◌, ◌≤◌, max, List, [], ◌∷◌, length, reverse, Option, Some, None, ⊤, slice_index_or}
+use Rattle.std.specs.List.{flat_map}
+use Rattle.mn_base.specs.declared.ids.NodeNo.{NodeNo}
+use Rattle.mn_base.specs.declared.ids.ClientNo.{ClientNo}
+use Rattle.mn_base.specs.declared.ids.Tid.{Tid}
+use Rattle.mn_mini.specs.declared.record.Record.{Record}
+use Rattle.mn_mini.specs.declared.record.Record.TheVariants.{Voted, Executed, Decided, Forced}
+use Rattle.mn_world.specs.declared.entry.Entry.{Entry}
+use Rattle.mn_world.specs.declared.entry.What.{What}
+use Rattle.mn_world.specs.declared.entry.What.TheVariants.{Issue, Called, Stopped, Restarted}
+use Rattle.mn_world.specs.Calls.{node_entries, client_entries}
+use Rattle.mn_world.specs.Nodes.{node_records, NodeAllows}
+use Rattle.mn_world.specs.Clients.{ClientAllows}
+
+-- what a run starts from: for each node its base space and its records, from the first on
+pub record Start : Type 0 where
+  pub bases : List (List ℕ)
+  pub records : List (List Record)
+
+abbrev pub start_nodes : Start → ℕ
+start_nodes start = length start.records
+
+abbrev pub base_at : Start → NodeNo → List ℕ
+base_at start n = slice_index_or start.bases n.0 []
+
+-- newest first
+abbrev pub start_records : Start → NodeNo → List Record
+start_records start n = reverse (slice_index_or start.records n.0 [])
+
+abbrev pub record_tid : Record → Tid
+record_tid (Voted tid participants part) = tid
+record_tid (Executed tid part) = tid
+record_tid (Decided tid verdict) = tid
+record_tid (Forced tid) = tid
+
+abbrev pub greatest_run : List Record → ℕ
+greatest_run [] = 0
+greatest_run (r ∷ rs) = max (record_tid r).run (greatest_run rs)
+
+-- one above the greatest run of the records, or 1 where there is none
+abbrev pub run_number : Start → ℕ
+run_number start = greatest_run (flat_map (λ records. records) start.records) + 1
+
+-- the records of a node, newest first
+abbrev pub records_of : Start → List Entry → NodeNo → List Record
+records_of start past n = node_records (base_at start n) (start_records start n) (node_entries n past)
+
+-- a step that a client takes alone
+abbrev pub IsOwnStep : What → Type 0
+IsOwnStep (Called request reply) = ⊥
+IsOwnStep (Stopped request asked) = ⊥
+IsOwnStep (Restarted kept) = ⊥
+IsOwnStep what = ⊤
+
+-- a step that a node takes with no caller
+abbrev pub IsNodeStep : What → Type 0
+IsNodeStep (Stopped None asked) = ⊤
+IsNodeStep (Restarted kept) = ⊤
+IsNodeStep what = ⊥
+
+abbrev pub AllowedAt : Start → List Entry → Option NodeNo → What → Type 0
+AllowedAt start past None what = IsOwnStep what
+AllowedAt start past (Some n) what = (n.0 < start_nodes start) × NodeAllows (base_at start n) (start_records start n) (node_entries n past) what
+
+abbrev pub AllowedBy : List Entry → Option ClientNo → Option NodeNo → What → Type 0
+AllowedBy past None at what = IsNodeStep what
+AllowedBy past (Some c) at what = ClientAllows c (client_entries c past) at what
+
+-- an issue has this run's number, and was made for as many nodes as there are
+abbrev pub IsOfRun : Start → What → Type 0
+IsOfRun start (Issue tid mini) = (tid.run ≡ run_number start) × (mini.nodes ≡ start_nodes start)
+IsOfRun start what = ⊤
+
+-- clients have the numbers 0 to 15, the closing coordinator 16, the recovery coordinators 17 to 20
+abbrev pub IsActor : Option ClientNo → Type 0
+IsActor None = ⊤
+IsActor (Some c) = c.0 ≤ 20
+
+-- the entry keeps the commit protocol, after these entries
+pub record KeepsProtocol (start : Start) (past : List Entry) (e : Entry) : Type 0 where
+  pub actor : IsActor e.client
+  pub at_node : AllowedAt start past e.node e.what
+  pub by_client : AllowedBy past e.client e.node e.what
+  pub of_run : IsOfRun start e.what
+
+-- each entry does; newest first
+abbrev pub FollowsProtocol : Start → List Entry → Type 0
+FollowsProtocol start [] = ⊤
+FollowsProtocol start (e ∷ past) = FollowsProtocol start past × KeepsProtocol start past e

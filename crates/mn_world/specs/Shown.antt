@@ -1,0 +1,137 @@
+-- What a client's own list shows: bytes that were read, catalogs, pages, and the replies that follow from them.
+use Rattle.std.specs.Prelude.{ℕ, ◌≡◌, ◌≤◌, ◌⊎◌, true, IsTrue, List, [], ◌∷◌, ◌++◌, length, take, Option, Some, None, ⊤, Contains, unwrap_or}
+use Rattle.std.specs.List.{flat_map, AllByRecursion}
+use Rattle.mn_base.specs.Order.{key_le}
+use Rattle.mn_base.specs.Store.{Head, number_named, head_named, value_at, pairs_within, refusal, listing_of, max_versions}
+use Rattle.mn_base.specs.declared.ids.NodeNo.{NodeNo}
+use Rattle.mn_base.specs.declared.ids.Addr.{Addr}
+use Rattle.mn_base.specs.declared.reply.Pair.{Pair}
+use Rattle.mn_base.specs.declared.op.Step.TheVariants.{Get}
+use Rattle.mn_base.specs.declared.op.Op.{Op}
+use Rattle.mn_base.specs.declared.op.Op.TheVariants.{Tx, Scan, Versions}
+use Rattle.mn_base.specs.declared.reply.Reply.{Reply}
+use Rattle.mn_base.specs.declared.reply.Reply.TheVariants.{Values, Pairs, Listing}
+use Rattle.mn_mini.specs.declared.part.PartItem.TheVariants as Bare
+use Rattle.mn_mini.specs.declared.request.Request.{Request}
+use Rattle.mn_mini.specs.declared.request.Request.TheVariants as Ask
+use Rattle.mn_mini.specs.declared.reply.NodeReply.{NodeReply}
+use Rattle.mn_mini.specs.declared.reply.NodeReply.TheVariants as Say
+use Rattle.mn_page.specs.declared.page.Page.{Page}
+use Rattle.mn_page.specs.declared.entry.CatEntry.{CatEntry}
+use Rattle.mn_page.specs.Grammar.{padded, entry_bytes, IsEntry, SpellsPage, height_of}
+use Rattle.mn_page.specs.Space.{catalog_size}
+use Rattle.mn_page.specs.Forest.{heads_in}
+use Rattle.mn_page.specs.Holds.{page_covers, page_serves, pairs_in}
+use Rattle.mn_world.specs.declared.entry.Entry.{Entry}
+use Rattle.mn_world.specs.Calls.{calls_of}
+use Rattle.mn_world.specs.Planned.{Place, page_place, catalog_place}
+
+-- Bytes that were read
+
+-- the bytes of a place, as a read brought them
+pub record Seen : Type 0 where
+  pub place : Place
+  pub bytes : List ℕ
+
+-- an Exec of one read item that was done
+abbrev pub seen_by : NodeNo → Request → NodeReply → List Seen
+seen_by n (Ask.Exec tid (Bare.Read start length ∷ [])) (Say.Done (bytes ∷ [])) = record { place = record { node = n; start = start; length = length }; bytes = bytes } ∷ []
+seen_by n request reply = []
+
+-- the reads of a list that were done, the newest first
+abbrev pub seen_in : List Entry → List Seen
+seen_in es = flat_map (λ c. seen_by c.node c.request c.reply) (calls_of es)
+
+-- a read of the catalog with these entries
+abbrev pub SeesCatalog : Seen → List CatEntry → Type 0
+SeesCatalog seen entries = (seen.place ≡ catalog_place) × (length entries ≤ max_versions) × AllByRecursion IsEntry entries × (seen.bytes ≡ padded catalog_size (flat_map entry_bytes entries))
+
+-- a read of this page at this address
+abbrev pub SeesPage : Seen → Addr → Page → Type 0
+SeesPage seen addr page = (seen.place ≡ page_place addr) × SpellsPage seen.bytes page
+
+-- the list shows a catalog as read
+abbrev pub ShowsCatalog : List Entry → List CatEntry → Type 0
+ShowsCatalog es entries = (seen : Seen) × Contains (seen_in es) seen × SeesCatalog seen entries
+
+-- the page serves the version of this name, by these entries
+abbrev pub ServesNamed : List CatEntry → List ℕ → Page → Type 0
+ServesNamed entries name page = (v : ℕ) × (number_named (heads_in entries) name ≡ Some v) × IsTrue (page_serves entries v page)
+
+-- Replies that a read shows
+
+-- a leaf shows a lone Get's reply, where the list shows a catalog by which it serves the version
+abbrev pub LeafShows : List Entry → Seen → Op → Reply → Type 0
+LeafShows es seen (Tx version (Get key ∷ [])) reply =
+    (entries : List CatEntry) × (addr : Addr) × (page : Page) × ShowsCatalog es entries × SeesPage seen addr page × (height_of page.body ≡ 0)
+    × ServesNamed entries version page × IsTrue (page_covers key page) × (reply ≡ Values (value_at (pairs_in page.body) key ∷ []))
+LeafShows es seen op reply = ⊥
+
+-- a catalog shows a refusing reply, or the listing
+abbrev pub CatalogReplies : List Head → Op → Reply → Type 0
+CatalogReplies heads Versions reply = reply ≡ Listing (listing_of heads)
+CatalogReplies heads op reply = refusal heads op ≡ Some reply
+
+abbrev pub CatalogShows : Seen → Op → Reply → Type 0
+CatalogShows seen op reply = (entries : List CatEntry) × SeesCatalog seen entries × CatalogReplies (heads_in entries) op reply
+
+-- a read shows a reply
+abbrev pub ReadShows : List Entry → Seen → Op → Reply → Type 0
+ReadShows es seen op reply = LeafShows es seen op reply ⊎ CatalogShows seen op reply
+
+-- Replies of a scan
+
+-- each leaf begins where the one before it ends
+abbrev pub IsChain : List Page → Type 0
+IsChain [] = ⊥
+IsChain (p ∷ []) = ⊤
+IsChain (p ∷ (q ∷ ps)) = (p.high ≡ Some q.low) × IsChain (q ∷ ps)
+
+-- a leaf that ends here ends at or above the bound
+abbrev pub EndsAtOrAbove : Option (List ℕ) → Option (List ℕ) → Type 0
+EndsAtOrAbove bound None = ⊤
+EndsAtOrAbove None (Some fence) = ⊥
+EndsAtOrAbove (Some bound) (Some fence) = IsTrue (key_le bound fence)
+
+-- the last leaf ends at or above the bound
+abbrev pub ReachesEnd : Option (List ℕ) → List Page → Type 0
+ReachesEnd high [] = ⊥
+ReachesEnd high (p ∷ []) = EndsAtOrAbove high p.high
+ReachesEnd high (p ∷ (q ∷ ps)) = ReachesEnd high (q ∷ ps)
+
+-- the first leaf covers the bound, or is the first of all
+abbrev pub BeginsAt : Option (List ℕ) → List Page → Type 0
+BeginsAt low [] = ⊥
+BeginsAt low (p ∷ ps) = IsTrue (page_covers (unwrap_or low []) p)
+
+-- the pairs of these leaves
+abbrev pub leaf_pairs : List Page → List Pair
+leaf_pairs pages = flat_map (λ p. pairs_in p.body) pages
+
+-- leaves that were read, in order, have the pairs within the bounds, up to the limit or to the end
+pub record ShowsPairs (entries : List CatEntry) (later : List Seen) (name : List ℕ) (low high : Option (List ℕ)) (limit : ℕ) (pairs : List Pair) : Type 0 where
+  pub leaves : List Page
+  pub seen : AllByRecursion (λ p. (seen : Seen) × (addr : Addr) × Contains later seen × SeesPage seen addr p × (height_of p.body ≡ 0) × ServesNamed entries name p) leaves
+  pub chain : IsChain leaves
+  pub first : BeginsAt low leaves
+  pub pairs_are : pairs ≡ take limit (pairs_within (leaf_pairs leaves) low high)
+  pub enough : (limit ≤ length (pairs_within (leaf_pairs leaves) low high)) ⊎ ReachesEnd high leaves
+
+-- whether a read is a read of the catalog
+abbrev pub IsCatalogRead : Seen → Type 0
+IsCatalogRead seen = seen.place ≡ catalog_place
+
+-- the oldest catalog read of these, with the reads after it; the newest stand first
+pub record FirstCatalog (seens : List Seen) (seen : Seen) (later : List Seen) : Type 0 where
+  pub earlier : List Seen
+  pub split : seens ≡ later ++ seen ∷ [] ++ earlier
+  pub catalog : IsCatalogRead seen
+  pub none_before : AllByRecursion (λ s. IsCatalogRead s → ⊥) earlier
+
+-- an operation's first catalog read shows the version as frozen, and leaves read after it show the pairs
+abbrev pub ScanShows : List Seen → Op → Reply → Type 0
+ScanShows seens (Scan version low high limit) (Pairs pairs) =
+    (seen : Seen) × (later : List Seen) × (entries : List CatEntry) × (head : Head)
+    × FirstCatalog seens seen later × SeesCatalog seen entries × (head_named (heads_in entries) version ≡ Some head) × (head.frozen ≡ true)
+    × ShowsPairs entries later version low high limit pairs
+ScanShows seens op reply = ⊥
