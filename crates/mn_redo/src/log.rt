@@ -7,7 +7,12 @@ ghost use Rattle.mn_redo.specs.Log.{IsReady, HasRoom, AreKept, listed, listed_in
 use crate::change::{change, stage};
 use mn_io::{Disk, Failed, NoMemory};
 
-/// Writes a record behind the closed gate, which stays closed.
+/// More than these is refused like want of memory, so that no sum wraps.
+const MOST_BODIES: u32 = 1_000_000_000;
+
+const MOST_BYTES: usize = 1_000_000_000_000;
+
+/// Writes the record of a body behind the closed gate, which stays closed, with a closed gate behind it.
 pub fn half<D: Disk>(
     disk: &mut D,
     node: u8,
@@ -81,7 +86,7 @@ impl<D: Disk> Log<D> {
         Ok(())
     }
 
-    /// Takes the memory for so many more bodies with so many bytes in them, and for a header.
+    /// Takes the memory for so many more bodies with so many bytes in them, and for a header, so that neither takes any.
     pub fn reserve(&mut self, bodies: u32, bytes: usize) -> Result<(), NoMemory>
         requires room { HasRoom D.spare_changes D.spare_bytes self.old }
         ensures room { HasRoom D.spare_changes D.spare_bytes self.new }
@@ -101,13 +106,17 @@ impl<D: Disk> Log<D> {
     {
         let bodies = self.spare_bodies.max(bodies);
         let bytes = self.spare_bytes.max(bytes);
-        if bodies > 1_000_000_000 || bytes > 1_000_000_000_000 {
+        if bodies > MOST_BODIES || bytes > MOST_BYTES {
             return Err(NoMemory);
         }
         let count = bodies as usize;
+
+        // The number of a body fits 32 bits.
         if self.gates.len() >= 4_294_967_296 - count {
             return Err(NoMemory);
         }
+
+        // A body is two writes and two syncs, of its bytes and six more; a header is eight changes of 18 bytes.
         self.disk.make_room(4 * bodies + 8, bytes + 6 * count + 18)?;
         self.gates.reserve(count)?;
         self.bytes.reserve(bytes + 5 * count)?;

@@ -1,7 +1,7 @@
 ghost use Rattle.std.specs.Prelude.{◌≡◌, [], ◌≢◌, ◌≤◌, ◌<◌, ◌^◌, ◌+◌, ℕ, length, take, get_or, IfOk, OnOk, IfSome, IsNone, IsErrOf, true, false};
 ghost use Rattle.std.specs.Int.{w32, from_be_bytes};
 ghost use Rattle.mn_io.specs.Faults.{Rose};
-ghost use Rattle.mn_io.specs.DiskModel.{Stays, IsStable, LeavesOnly};
+ghost use Rattle.mn_io.specs.DiskModel.{IsStable, NoneNew, Stays, WritesNothing};
 ghost use Rattle.mn_redo.specs.Grammar.{header, IsFront, IsFresh, IsLog, IsDamaged, IsDamagedAt, places};
 ghost use Rattle.mn_redo.specs.Log.{AreKept, listed_in};
 ghost use Rattle.mn_redo.specs.declared.open.OpenCause.TheVariants as causes;
@@ -75,7 +75,8 @@ fn size_in(rest: &[u8]) -> Option<usize>
     None
 }
 
-/// The places of the gates of the open records, and that of the closed gate behind them.
+/// The places of the gates of the open records, and that of the closed gate behind them. An open gate with no whole record and gate behind it
+/// is damage at that gate.
 pub fn scan(
     alloc: Global,
     bytes: &[u8],
@@ -100,6 +101,8 @@ pub fn scan(
         if rest.len() - 4 <= size {
             return Err(OpenCause::Damaged { at: at as u64 });
         }
+
+        // The number of a body fits 32 bits.
         if gates.len() >= 4_294_967_295 {
             return Err(OpenCause::NoMemory);
         }
@@ -117,7 +120,7 @@ pub struct Found {
     pub is_fresh: bool,
 }
 
-/// Reads the log in the bytes of a disk.
+/// Reads the log in the bytes of a disk. Of a fresh disk the bytes are those that its header will have.
 pub fn read_log(alloc: Global, content: Vec<u8>, node: u8, nodes: u8) -> Result<Found, OpenCause>
     ensures kept { IfOk result (λ found. AreKept (header node nodes) found.bytes.items) }
     ensures gates { IfOk result (λ found. found.gates.items ≡ places 16 (listed_in 16 found.bytes.items)) }
@@ -189,10 +192,12 @@ pub fn prepare<D: Disk>(
     ensures damaged { (D.state disk.old).honest → (at : ℕ) → IsErrOf result (causes.Damaged at) → IsDamaged node nodes (D.state disk.old).content at }
     ensures fault { IsErrOf result causes.Fault → Rose (D.faults disk.old) (D.faults disk.new) }
     ensures later { D.faults disk.old ≤ D.faults disk.new }
-    ensures any_moment { (D.state disk.old).honest → LeavesOnly (D.state disk.old) (D.state disk.new) (D.state disk.old).images }
+    ensures unwritten { (D.state disk.old).honest → WritesNothing (D.state disk.old) (D.state disk.new) }
+    ensures images { (D.state disk.old).honest → NoneNew (D.state disk.old) (D.state disk.new) }
     ensures honest { (D.state disk.old).honest → (D.state disk.new).honest }
     ensures no_better { (D.state disk.new).honest → (D.state disk.old).honest }
 {
+    // The sync here, and the eight changes of a header, which has 18 bytes with its gate written twice.
     disk.make_room(9, 18)?;
     disk.sync()?;
     let content = read_whole(alloc, disk)?;

@@ -1,5 +1,5 @@
-ghost use Rattle.std.specs.Prelude.{◌≡◌, ◌≢◌, ◌≤◌, ◌<◌, ◌^◌, ◌+◌, ◌++◌, ◌∷◌, [], ℕ, length, get_or, IfOk, IfErr, OnOk, OnErr, IsOk, IsTrue, ◌↔◌};
-ghost use Rattle.mn_io.specs.DiskModel.{IsStable, LeavesOnly, Stays, WritesNothing};
+ghost use Rattle.std.specs.Prelude.{◌≡◌, ◌≢◌, ◌≤◌, ◌<◌, ◌^◌, ◌+◌, ◌++◌, ◌∷◌, [], ℕ, List, length, get_or, IfOk, IfErr, OnOk, OnErr, IsOk, IsTrue, ◌↔◌};
+ghost use Rattle.mn_io.specs.DiskModel.{IsStable, LeavesOnly, NoneNew, Stays, WritesNothing};
 ghost use Rattle.mn_io.specs.Faults.{HasCause, Rose};
 ghost use Rattle.mn_redo.specs.Grammar.{header, IsBeforeOrAfter, IsDamaged, IsFresh, IsLog, IsStaged, Stands, places};
 ghost use Rattle.mn_redo.specs.Redo.{StandsFor};
@@ -74,6 +74,8 @@ impl<D: Disk> Redo<D> {
         ensures content { (D.state disk).honest → IfOk result (λ redo. (D.state redo.disk).content ≡ (D.state disk).content) }
         ensures unwritten_ok { (D.state disk).honest → IfOk result (λ redo. WritesNothing (D.state disk) (D.state redo.disk)) }
         ensures unwritten_err { (D.state disk).honest → IfErr result (λ failed. WritesNothing (D.state disk) (D.state failed.disk)) }
+        ensures images_ok { (D.state disk).honest → IfOk result (λ redo. NoneNew (D.state disk) (D.state redo.disk)) }
+        ensures images_err { (D.state disk).honest → IfErr result (λ failed. NoneNew (D.state disk) (D.state failed.disk)) }
         ensures honest_ok { (D.state disk).honest → IfOk result (λ redo. (D.state redo.disk).honest) }
         ensures honest_err { (D.state disk).honest → IfErr result (λ failed. (D.state failed.disk).honest) }
         ensures no_better_ok { IfOk result (λ redo. (D.state redo.disk).honest → (D.state disk).honest) }
@@ -175,6 +177,7 @@ impl<D: Disk> Redo<D> {
         // A crash at any moment of the call leaves the list from before it, with the body or without.
         ensures any_moment { (D.state self.old.disk).honest → LeavesOnly (D.state self.old.disk) (D.state self.new.disk)
             (IsBeforeOrAfter self.old.node self.old.nodes self.old.bodies body.now) }
+        ensures images { (D.state self.old.disk).honest → (c : List ℕ) → (D.state self.new.disk).images c → IsBeforeOrAfter self.old.node self.old.nodes self.old.bodies body.now c }
         ensures node { self.new.node ≡ self.old.node }
         ensures nodes { self.new.nodes ≡ self.old.nodes }
         ensures honest { (D.state self.old.disk).honest → (D.state self.new.disk).honest }
@@ -195,6 +198,7 @@ impl<D: Disk> Redo<D> {
         requires spare_body { 0 < self.old.spare_bodies }
         requires spare_bytes { length body.now ≤ self.old.spare_bytes }
         ensures closing { self.new.phase ≡ Phase.Closing }
+        ensures stands { (D.state self.old.disk).honest → StandsFor (D.state self.new.disk) self.old.node self.old.nodes self.old.bodies }
         ensures any_moment { (D.state self.old.disk).honest → LeavesOnly (D.state self.old.disk) (D.state self.new.disk)
             (λ c. Stands self.old.node self.old.nodes c self.old.bodies) }
 
