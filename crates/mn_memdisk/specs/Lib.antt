@@ -1,0 +1,5 @@
+pub mod Crash
+pub mod Events
+pub mod History
+pub mod Laws
+pub mod Memory

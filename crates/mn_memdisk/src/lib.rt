@@ -1,0 +1,14 @@
+//! A disk in memory, which fails at chosen calls and shows what a crash may leave.
+#![tactic(auto)]
+
+mod calls;
+mod changes;
+mod crash;
+mod memory_disk;
+mod outcome;
+mod overwrite;
+
+pub use memory_disk::MemoryDisk;
+
+#[cfg(test)]
+mod tests;

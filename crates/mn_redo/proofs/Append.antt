@@ -1,0 +1,78 @@
+-- What each moment of an append leaves.
+use Rattle.std.proofs.Common.{◌≡◌, ◌<◌, ◌≤◌, ◌^◌, ◌⊎◌, inl, inr, ℕ, ◌+◌, List, [], ◌∷◌, ◌++◌, length, take, drop, set, ◌-◌, sym, ◌∙◌, ap, subst, arith, append_assoc, length-append}
+use Rattle.std.proofs.lemmas.Bool.{cases_eq}
+use Rattle.std.proofs.lemmas.List.{drop_at, take_rest, set_at}
+use Rattle.mn_io.specs.DiskModel.{Torn, overwritten}
+use Rattle.mn_redo.specs.Grammar.{header, behind_gate, records, HaveSizes, IsBeforeOrAfter, IsLog, IsStaged}
+use Rattle.mn_redo.proofs.Pieces.{torn_behind, written_behind, torn_gate, written_gate}
+use Rattle.mn_redo.proofs.Parse.{records_push, sizes_push, length-behind_gate}
+
+pub before_or_after : (node nodes : ℕ) (bodies : List (List ℕ)) (body c : List ℕ) → IsLog (header node nodes) c bodies ⊎ IsLog (header node nodes) c (bodies ++ body ∷ []) → IsBeforeOrAfter node nodes bodies body c
+before_or_after node nodes bodies body c (inl old) = inl (inr old)
+before_or_after node nodes bodies body c (inr new) = inr (inr new)
+
+abbrev pub front : List ℕ → List (List ℕ) → List ℕ
+front before bodies = before ++ records bodies
+
+module _ (before : List ℕ) (bodies : List (List ℕ)) (body : List ℕ) (m : ℕ) where
+  pub staged_length : (content : List ℕ) → IsStaged before bodies body content → length (front before bodies) ≤ length content
+  staged_length content staged = omega (arith, ap length staged.bytes, length-append (front before bodies) (staged.gate ∷ (behind_gate body ++ 0 ∷ staged.tail)))
+
+  -- each outcome of the first write stands for the old list
+  pub stage_torn : (content c : List ℕ) (n : ℕ) → IsLog before content bodies → m ≡ length (front before bodies) + 1 → Torn m n content c → IsLog before c bodies
+  stage_torn content c n log is torn =
+      let behind = torn_behind (front before bodies) log.tail c log.gate m n is (subst (λ (l : List ℕ). Torn m n l c) log.bytes torn) in
+      record { gate = log.gate; tail = drop m c; closed = log.closed; sizes = log.sizes; bytes = behind }
+
+  pub stage_done : (content new piece : List ℕ) → IsLog before content bodies → m ≡ length (front before bodies) + 1 → piece ≡ behind_gate body ++ 0 ∷ [] → new ≡ overwritten content m piece → IsStaged before bodies body new
+  stage_done content new piece log is piece_is done = record {
+    gate = log.gate;
+    tail = drop (length piece) log.tail;
+    closed = log.closed;
+    sizes = log.sizes;
+    bytes =
+        done ∙ ap (λ (l : List ℕ). overwritten l m piece) log.bytes ∙ written_behind (front before bodies) log.tail piece log.gate m is
+        ∙ ap (λ (p : List ℕ). front before bodies ++ log.gate ∷ (p ++ drop (length piece) log.tail)) piece_is
+        ∙ ap (λ (l : List ℕ). front before bodies ++ log.gate ∷ l) (append_assoc (behind_gate body) (0 ∷ []) (drop (length piece) log.tail));
+  }
+
+  -- with the gate open, the record is one of them
+  pub opened_bytes : (tail : List ℕ) → front before bodies ++ 1 ∷ (behind_gate body ++ 0 ∷ tail) ≡ front before (bodies ++ body ∷ []) ++ 0 ∷ tail
+  opened_bytes tail =
+      sym (append_assoc (front before bodies) (1 ∷ behind_gate body) (0 ∷ tail))
+      ∙ ap (λ (l : List ℕ). l ++ 0 ∷ tail) (append_assoc before (records bodies) (1 ∷ behind_gate body) ∙ ap (λ (l : List ℕ). before ++ l) (sym (records_push bodies body)))
+
+  pub opened : (tail c : List ℕ) → HaveSizes bodies → length body < 2 ^ 32 → c ≡ front before bodies ++ 1 ∷ (behind_gate body ++ 0 ∷ tail) → IsLog before c (bodies ++ body ∷ [])
+  opened tail c sizes size is = record { gate = 0; tail = tail; closed = omega arith; sizes = sizes_push bodies body sizes size; bytes = is ∙ opened_bytes tail }
+
+  -- and so in memory
+  pub opened_in_memory : (bytes staged : List ℕ) → bytes ≡ front before bodies ++ 0 ∷ [] → staged ≡ bytes ++ (behind_gate body ++ 0 ∷ []) → m ≡ length (front before bodies) → set staged m 1 ≡ front before (bodies ++ body ∷ []) ++ 0 ∷ []
+  opened_in_memory bytes staged is more at =
+      ap (λ (l : List ℕ). set l m 1) (more ∙ ap (λ (l : List ℕ). l ++ (behind_gate body ++ 0 ∷ [])) is ∙ append_assoc (front before bodies) (0 ∷ []) (behind_gate body ++ 0 ∷ []))
+      ∙ set_at (front before bodies) 0 (behind_gate body ++ 0 ∷ []) 1 m (sym at) ∙ opened_bytes []
+
+  -- each outcome of the second write stands for the old list or the new one
+  pub gate_torn : (content c : List ℕ) → IsStaged before bodies body content → length body < 2 ^ 32 → m ≡ length (front before bodies) → Torn m 1 content c → IsLog before c bodies ⊎ IsLog before c (bodies ++ body ∷ [])
+  gate_torn content c staged size is torn =
+      let some = torn_gate (front before bodies) (behind_gate body ++ 0 ∷ staged.tail) c staged.gate m is (subst (λ (l : List ℕ). Torn m 1 l c) staged.bytes torn) in
+      elim (cases_eq some.0 1) [
+        | inl one ↦ inr (opened staged.tail c staged.sizes size (some.1 ∙ ap (λ (x : ℕ). front before bodies ++ x ∷ (behind_gate body ++ 0 ∷ staged.tail)) one))
+        | inr other ↦ inl (record { gate = some.0; tail = behind_gate body ++ 0 ∷ staged.tail; closed = other; sizes = staged.sizes; bytes = some.1 })
+      ]
+
+  pub gate_done : (content new : List ℕ) → IsStaged before bodies body content → length body < 2 ^ 32 → m ≡ length (front before bodies) → new ≡ overwritten content m (1 ∷ []) → IsLog before new (bodies ++ body ∷ [])
+  gate_done content new staged size is done =
+      opened staged.tail new staged.sizes size (done ∙ ap (λ (l : List ℕ). overwritten l m (1 ∷ [])) staged.bytes ∙ written_gate (front before bodies) (behind_gate body ++ 0 ∷ staged.tail) staged.gate m 1 is)
+
+  -- what is staged in memory is the piece to be written
+  pub piece_is : (bytes staged : List ℕ) → bytes ≡ front before bodies ++ 0 ∷ [] → m ≡ length (front before bodies) + 1 → staged ≡ bytes ++ (behind_gate body ++ 0 ∷ []) → take (length staged - m) (drop m staged) ≡ behind_gate body ++ 0 ∷ []
+  piece_is bytes staged is at more =
+      take_rest staged m ∙ ap (λ (l : List ℕ). drop m l) more
+      ∙ drop_at bytes (behind_gate body ++ 0 ∷ []) m (omega (arith, at, ap length is, length-append (front before bodies) (0 ∷ [])))
+
+  pub piece_length : (bytes staged : List ℕ) → bytes ≡ front before bodies ++ 0 ∷ [] → m ≡ length (front before bodies) + 1 → staged ≡ bytes ++ (behind_gate body ++ 0 ∷ []) → length (take (length staged - m) (drop m staged)) ≡ 5 + length body
+  piece_length bytes staged is at more = omega (arith, ap length (piece_is bytes staged is at more), length-append (behind_gate body) (0 ∷ []), length-behind_gate body)
+
+  pub staged_now : (content new bytes staged : List ℕ) → IsLog before content bodies → bytes ≡ front before bodies ++ 0 ∷ [] → m ≡ length (front before bodies) + 1 → staged ≡ bytes ++ (behind_gate body ++ 0 ∷ [])
+      → new ≡ overwritten content m (take (length staged - m) (drop m staged)) → IsStaged before bodies body new
+  staged_now content new bytes staged log is at more done = stage_done content new (take (length staged - m) (drop m staged)) log at (piece_is bytes staged is at more) done

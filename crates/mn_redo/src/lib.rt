@@ -1,0 +1,15 @@
+//! A redo log: a list of bodies on a disk, to which bodies are appended. A crash at any moment of an append leaves the list from before it or
+//! the one after it.
+#![tactic(auto)]
+
+mod body;
+mod change;
+mod header;
+mod laws;
+mod log;
+mod open;
+mod redo;
+
+pub use laws::{damaged_or_not, one_list, one_place};
+pub use open::OpenCause;
+pub use redo::{OpenFailed, Phase, Redo};

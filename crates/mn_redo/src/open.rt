@@ -1,0 +1,205 @@
+ghost use Rattle.std.specs.Prelude.{◌≡◌, [], ◌≢◌, ◌≤◌, ◌<◌, ◌^◌, ◌+◌, ℕ, length, take, get_or, IfOk, OnOk, IfSome, IsNone, IsErrOf, true, false};
+ghost use Rattle.std.specs.Int.{w32, from_be_bytes};
+ghost use Rattle.mn_io.specs.Faults.{Rose};
+ghost use Rattle.mn_io.specs.DiskModel.{IsStable, NoneNew, Stays, WritesNothing};
+ghost use Rattle.mn_redo.specs.Grammar.{header, IsFront, IsFresh, IsLog, IsDamaged, IsDamagedAt, places};
+ghost use Rattle.mn_redo.specs.Log.{AreKept, listed_in};
+ghost use Rattle.mn_redo.specs.declared.open.OpenCause.TheVariants as causes;
+
+use crate::header::{has_header, header_of, is_fresh};
+use mn_io::{Disk, Failed, NoMemory};
+use std::alloc::{AllocError, AllocFailed, Global};
+
+/// Why a disk wasn't opened.
+#[derive(Clone, Copy, Debug, PartialEq, Eq)]
+pub enum OpenCause {
+    Fault,
+    Damaged { at: u64 },
+    NoMemory,
+}
+
+impl From<Failed> for OpenCause {
+    ghost use Rattle.std.specs.Prelude.{◌≡◌};
+    ghost use Rattle.mn_redo.specs.declared.open.OpenCause.TheVariants.{Fault};
+
+    ghost from_gives = { λ _ e. e ≡ Fault };
+
+    fn from(_failed: Failed) -> Self {
+        OpenCause::Fault
+    }
+}
+
+impl From<NoMemory> for OpenCause {
+    ghost use Rattle.std.specs.Prelude.{◌≡◌};
+    ghost use Rattle.mn_redo.specs.declared.open.OpenCause.TheVariants.{NoMemory};
+
+    ghost from_gives = { λ _ e. e ≡ NoMemory };
+
+    fn from(_error: NoMemory) -> Self {
+        OpenCause::NoMemory
+    }
+}
+
+impl From<AllocError> for OpenCause {
+    ghost use Rattle.std.specs.Prelude.{◌≡◌};
+    ghost use Rattle.mn_redo.specs.declared.open.OpenCause.TheVariants.{NoMemory};
+
+    ghost from_gives = { λ _ e. e ≡ NoMemory };
+
+    fn from(_error: AllocError) -> Self {
+        OpenCause::NoMemory
+    }
+}
+
+impl<T: Drop> From<AllocFailed<T>> for OpenCause {
+    ghost use Rattle.std.specs.Prelude.{◌≡◌};
+    ghost use Rattle.mn_redo.specs.declared.open.OpenCause.TheVariants.{NoMemory};
+
+    ghost from_gives = { λ _ e. e ≡ NoMemory };
+
+    fn from(_error: AllocFailed<T>) -> Self {
+        OpenCause::NoMemory
+    }
+}
+
+/// The length in the first four bytes.
+fn size_in(rest: &[u8]) -> Option<usize>
+    ensures some { IfSome result (λ n. n ≡ from_be_bytes w32 (take 4 rest.now)) }
+    ensures four { IfSome result (λ n. 4 ≤ length rest.now) }
+    ensures small { IfSome result (λ n. n < 2 ^ 32) }
+    ensures none { IsNone result → length rest.now < 4 }
+{
+    if let [a, b, c, d, ..] = rest {
+        return Some(u32::from_be_bytes([*a, *b, *c, *d]) as usize);
+    }
+    None
+}
+
+/// The places of the gates of the open records, and that of the closed gate behind them. An open gate with no whole record and gate behind it
+/// is damage at that gate.
+pub fn scan(
+    alloc: Global,
+    bytes: &[u8],
+    node: u8,
+    nodes: u8,
+) -> Result<(Vec<u64>, usize), OpenCause>
+    requires header { take 16 bytes.now ≡ header node nodes }
+    requires gate { 17 ≤ length bytes.now }
+    ensures front { IfOk result (λ found. IsFront (header node nodes) bytes.now found.0.items found.1) }
+    ensures closed { IfOk result (λ found. get_or bytes.now found.1 0 ≢ 1) }
+    ensures count { IfOk result (λ found. length found.0.items < 2 ^ 32) }
+    ensures damaged { (at : ℕ) → IsErrOf result (causes.Damaged at) → IsDamagedAt (header node nodes) bytes.now at }
+    ensures no_fault { IsErrOf result causes.Fault → ⊥ }
+{
+    let mut gates = Vec::new(alloc);
+    let mut at = 16;
+    while bytes[at] == 1 {
+        let rest = &bytes[at + 1..];
+        let Some(size) = size_in(rest) else {
+            return Err(OpenCause::Damaged { at: at as u64 });
+        };
+        if rest.len() - 4 <= size {
+            return Err(OpenCause::Damaged { at: at as u64 });
+        }
+
+        // The number of a body fits 32 bits.
+        if gates.len() >= 4_294_967_295 {
+            return Err(OpenCause::NoMemory);
+        }
+        gates.push(at as u64)?;
+        at += 5 + size;
+    }
+    Ok((gates, at))
+}
+
+/// A log's bytes up to its closed gate, as they are on a disk or as they will be on one that is fresh.
+#[derive(Drop)]
+pub struct Found {
+    pub bytes: Vec<u8>,
+    pub gates: Vec<u64>,
+    pub is_fresh: bool,
+}
+
+/// Reads the log in the bytes of a disk. Of a fresh disk the bytes are those that its header will have.
+pub fn read_log(alloc: Global, content: Vec<u8>, node: u8, nodes: u8) -> Result<Found, OpenCause>
+    ensures kept { IfOk result (λ found. AreKept (header node nodes) found.bytes.items) }
+    ensures gates { IfOk result (λ found. found.gates.items ≡ places 16 (listed_in 16 found.bytes.items)) }
+    ensures count { IfOk result (λ found. length found.gates.items < 2 ^ 32) }
+    ensures fresh { IfOk result (λ found. found.is_fresh ≡ true → IsFresh content.items) }
+    ensures none { IfOk result (λ found. found.is_fresh ≡ true → listed_in 16 found.bytes.items ≡ []) }
+    ensures log { IfOk result (λ found. found.is_fresh ≡ false → IsLog (header node nodes) content.items (listed_in 16 found.bytes.items)) }
+    ensures damaged { (at : ℕ) → IsErrOf result (causes.Damaged at) → IsDamaged node nodes content.items at }
+    ensures no_fault { IsErrOf result causes.Fault → ⊥ }
+{
+    if is_fresh(&content) {
+        let mut bytes = Vec::from_slice(alloc, &header_of(node, nodes))?;
+        bytes.push(0)?;
+        return Ok(Found {
+            bytes,
+            gates: Vec::new(alloc),
+            is_fresh: true,
+        });
+    }
+    if !has_header(&content, node, nodes) {
+        return Err(OpenCause::Damaged { at: 0 });
+    }
+    let (gates, at) = scan(alloc, &content, node, nodes)?;
+    let mut bytes = content;
+    bytes.truncate(at);
+    bytes.push(0)?;
+    Ok(Found {
+        bytes,
+        gates,
+        is_fresh: false,
+    })
+}
+
+/// All bytes of a disk.
+pub fn read_whole<D: Disk>(alloc: Global, disk: &mut D) -> Result<Vec<u8>, OpenCause>
+    ensures content { (D.state disk.old).honest → IfOk result (λ bytes. bytes.items ≡ (D.state disk.old).content) }
+    ensures same { (D.state disk.old).honest → Stays (D.state disk.old) (D.state disk.new) }
+    ensures no_better { (D.state disk.new).honest → (D.state disk.old).honest }
+    ensures changes { D.spare_changes disk.old ≤ D.spare_changes disk.new }
+    ensures room { D.spare_bytes disk.old ≤ D.spare_bytes disk.new }
+    ensures later { D.faults disk.old ≤ D.faults disk.new }
+    ensures fault { IsErrOf result causes.Fault → Rose (D.faults disk.old) (D.faults disk.new) }
+    ensures not_damaged { (at : ℕ) → IsErrOf result (causes.Damaged at) → ⊥ }
+{
+    let length = disk.length()? as usize;
+    let mut bytes = vec![in alloc; 0; length]?;
+    let count = disk.read(0, &mut bytes)?;
+    bytes.truncate(count);
+    Ok(bytes)
+}
+
+/// Makes the room for a header, syncs, and reads the log. It writes nothing.
+pub fn prepare<D: Disk>(
+    alloc: Global,
+    disk: &mut D,
+    node: u8,
+    nodes: u8,
+) -> Result<Found, OpenCause>
+    ensures kept { IfOk result (λ found. AreKept (header node nodes) found.bytes.items) }
+    ensures gates { IfOk result (λ found. found.gates.items ≡ places 16 (listed_in 16 found.bytes.items)) }
+    ensures count { IfOk result (λ found. length found.gates.items < 2 ^ 32) }
+    ensures none { IfOk result (λ found. found.is_fresh ≡ true → listed_in 16 found.bytes.items ≡ []) }
+    ensures fresh { (D.state disk.old).honest → IfOk result (λ found. found.is_fresh ≡ true → IsFresh (D.state disk.new).content) }
+    ensures log { (D.state disk.old).honest → IfOk result (λ found. found.is_fresh ≡ false → IsLog (header node nodes) (D.state disk.new).content (listed_in 16 found.bytes.items)) }
+    ensures content { (D.state disk.old).honest → OnOk result ((D.state disk.new).content ≡ (D.state disk.old).content) }
+    ensures stable { (D.state disk.old).honest → OnOk result (IsStable (D.state disk.new)) }
+    ensures changes { OnOk result (8 ≤ D.spare_changes disk.new) }
+    ensures room { OnOk result (18 ≤ D.spare_bytes disk.new) }
+    ensures damaged { (D.state disk.old).honest → (at : ℕ) → IsErrOf result (causes.Damaged at) → IsDamaged node nodes (D.state disk.old).content at }
+    ensures fault { IsErrOf result causes.Fault → Rose (D.faults disk.old) (D.faults disk.new) }
+    ensures later { D.faults disk.old ≤ D.faults disk.new }
+    ensures unwritten { (D.state disk.old).honest → WritesNothing (D.state disk.old) (D.state disk.new) }
+    ensures images { (D.state disk.old).honest → NoneNew (D.state disk.old) (D.state disk.new) }
+    ensures honest { (D.state disk.old).honest → (D.state disk.new).honest }
+    ensures no_better { (D.state disk.new).honest → (D.state disk.old).honest }
+{
+    // The sync here, and the eight changes of a header, which has 18 bytes with its gate written twice.
+    disk.make_room(9, 18)?;
+    disk.sync()?;
+    let content = read_whole(alloc, disk)?;
+    read_log(alloc, content, node, nodes)
+}

@@ -1,0 +1,273 @@
+ghost use Rattle.std.specs.Prelude.{◌≡◌, ◌≢◌, ◌≤◌, ◌<◌, ◌^◌, ◌+◌, ◌++◌, ◌∷◌, [], ℕ, List, length, get_or, IfOk, IfErr, OnOk, OnErr, IsOk, IsTrue, ◌↔◌};
+ghost use Rattle.mn_io.specs.DiskModel.{IsStable, LeavesOnly, NoneNew, Stays, WritesNothing};
+ghost use Rattle.mn_io.specs.Faults.{HasCause, Rose};
+ghost use Rattle.mn_redo.specs.Grammar.{header, IsBeforeOrAfter, IsDamaged, IsFresh, IsLog, IsStaged, Stands, places};
+ghost use Rattle.mn_redo.specs.Redo.{StandsFor};
+ghost use Rattle.mn_redo.specs.declared.open.OpenCause.TheVariants as causes;
+
+use crate::body::body_of;
+use crate::header::write_header;
+use crate::log::{Log, half};
+use crate::open::{OpenCause, prepare};
+use mn_base::NodeNo;
+use mn_io::{Disk, Fault, NoMemory};
+use std::alloc::Global;
+use std::marker::Model;
+
+/// How far a log has come.
+#[derive(Clone, Copy, Debug, PartialEq, Eq)]
+pub enum Phase {
+    /// The disk was read as fresh, and its header isn't written yet.
+    Fresh,
+    /// The disk has its header, and bodies may be appended.
+    Started,
+    /// A call failed or wrote half a record, and only `close` may be called.
+    Closing,
+}
+
+/// A list of bodies on a disk.
+#[derive(Drop)]
+pub struct Redo<D: Disk> {
+    log: Log<D>,
+    phase: Phase,
+}
+
+impl<D: Disk> Model for Redo<D> {
+    ghost use Rattle.mn_redo.specs.Log.{listed};
+    ghost use Rattle.mn_redo.specs.Redo.{RedoState, IsSound};
+
+    ghost Value = { RedoState D };
+
+    ghost view = { λ r. record { disk = r.log.disk; node = r.log.node; nodes = r.log.nodes; phase = r.phase; bodies = listed r.log; spare_bodies = r.log.spare_bodies; spare_bytes = r.log.spare_bytes } };
+
+    ghost invariant = { λ r. IsSound D.state D.spare_changes D.spare_bytes r.phase r.log };
+}
+
+/// A disk that wasn't opened, and why.
+#[derive(Drop)]
+pub struct OpenFailed<D: Disk> {
+    pub disk: D,
+    pub cause: OpenCause,
+}
+
+impl<D: Disk> Redo<D> {
+    /// Reads the log of the node of this number, of so many nodes, from its disk. It writes nothing: it makes the room that `start` needs,
+    /// syncs, and reads the disk once.
+    ///
+    /// `Fault` comes only where the disk's count of faults rose, `Damaged` exactly where the disk's bytes are outside the grammar, with the
+    /// place of the fault, and `NoMemory` where there is no room for the bytes. The disk comes back with the cause.
+    pub fn open(alloc: Global, disk: D, node: NodeNo, nodes: u8) -> Result<Redo<D>, OpenFailed<D>>
+        // The list is that of the bytes that the disk had; a fresh disk has none.
+        ensures read { (D.state disk).honest → IfOk result (λ redo. Stands node.0 nodes (D.state disk).content redo.bodies) }
+        ensures stands { (D.state disk).honest → IfOk result (λ redo. StandsFor (D.state redo.disk) node.0 nodes redo.bodies) }
+        ensures fresh { (D.state disk).honest → IfOk result (λ redo. redo.phase ≡ Phase.Fresh → IsFresh (D.state disk).content) }
+        ensures used { (D.state disk).honest → IfOk result (λ redo. redo.phase ≡ Phase.Started → IsLog (header node.0 nodes) (D.state disk).content redo.bodies) }
+        ensures going { IfOk result (λ redo. redo.phase ≢ Phase.Closing) }
+        ensures node { IfOk result (λ redo. redo.node ≡ node.0) }
+        ensures nodes { IfOk result (λ redo. redo.nodes ≡ nodes) }
+        ensures damaged { (D.state disk).honest → (at : ℕ) → IfErr result (λ failed. failed.cause ≡ causes.Damaged at → IsDamaged node.0 nodes (D.state disk).content at) }
+        ensures fault { IfErr result (λ failed. failed.cause ≡ causes.Fault → Rose (D.faults disk) (D.faults failed.disk)) }
+        ensures later_ok { IfOk result (λ redo. D.faults disk ≤ D.faults redo.disk) }
+        ensures later_err { IfErr result (λ failed. D.faults disk ≤ D.faults failed.disk) }
+
+        // Nothing was written.
+        ensures content { (D.state disk).honest → IfOk result (λ redo. (D.state redo.disk).content ≡ (D.state disk).content) }
+        ensures unwritten_ok { (D.state disk).honest → IfOk result (λ redo. WritesNothing (D.state disk) (D.state redo.disk)) }
+        ensures unwritten_err { (D.state disk).honest → IfErr result (λ failed. WritesNothing (D.state disk) (D.state failed.disk)) }
+        ensures images_ok { (D.state disk).honest → IfOk result (λ redo. NoneNew (D.state disk) (D.state redo.disk)) }
+        ensures images_err { (D.state disk).honest → IfErr result (λ failed. NoneNew (D.state disk) (D.state failed.disk)) }
+        ensures honest_ok { (D.state disk).honest → IfOk result (λ redo. (D.state redo.disk).honest) }
+        ensures honest_err { (D.state disk).honest → IfErr result (λ failed. (D.state failed.disk).honest) }
+        ensures no_better_ok { IfOk result (λ redo. (D.state redo.disk).honest → (D.state disk).honest) }
+        ensures no_better_err { IfErr result (λ failed. (D.state failed.disk).honest → (D.state disk).honest) }
+    {
+        let mut disk = disk;
+        match prepare(alloc, &mut disk, node.0, nodes) {
+            Ok(found) => Ok(Redo {
+                phase: if found.is_fresh {
+                    Phase::Fresh
+                } else {
+                    Phase::Started
+                },
+                log: Log {
+                    disk,
+                    node: node.0,
+                    nodes,
+                    bytes: found.bytes,
+                    gates: found.gates,
+                    spare_bodies: 0,
+                    spare_bytes: 0,
+                },
+            }),
+            Err(cause) => Err(OpenFailed { disk, cause }),
+        }
+    }
+
+    /// Gives a fresh disk its header; of a disk that has one it calls nothing. `Fault` comes only where the disk's count of faults rose; after
+    /// it only `close` may be called.
+    pub fn start(&mut self) -> Result<(), Fault>
+        requires going { self.old.phase ≢ Phase.Closing }
+        ensures started { OnOk result (self.new.phase ≡ Phase.Started) }
+        ensures closing { OnErr result (self.new.phase ≡ Phase.Closing) }
+        ensures bodies { self.new.bodies ≡ self.old.bodies }
+        ensures spare_bodies { self.new.spare_bodies ≡ self.old.spare_bodies }
+        ensures spare_bytes { self.new.spare_bytes ≡ self.old.spare_bytes }
+        ensures stands { (D.state self.old.disk).honest → StandsFor (D.state self.new.disk) self.old.node self.old.nodes self.old.bodies }
+        ensures used { self.old.phase ≡ Phase.Started → self.new ≡ self.old }
+        ensures used_ok { self.old.phase ≡ Phase.Started → IsOk result }
+
+        // A crash at any moment of the call leaves a disk that stands for the same list.
+        ensures any_moment { (D.state self.old.disk).honest → LeavesOnly (D.state self.old.disk) (D.state self.new.disk)
+            (λ c. Stands self.old.node self.old.nodes c self.old.bodies) }
+        ensures node { self.new.node ≡ self.old.node }
+        ensures nodes { self.new.nodes ≡ self.old.nodes }
+        ensures honest { (D.state self.old.disk).honest → (D.state self.new.disk).honest }
+        ensures no_better { (D.state self.new.disk).honest → (D.state self.old.disk).honest }
+        ensures cause { HasCause (D.faults self.old.disk) (D.faults self.new.disk) result }
+    {
+        if self.phase != Phase::Fresh {
+            return Ok(());
+        }
+        self.phase = Phase::Closing;
+        write_header(
+            &mut self.log.disk,
+            self.log.node,
+            self.log.nodes,
+            &self.log.bytes,
+        )?;
+        self.phase = Phase::Started;
+        Ok(())
+    }
+
+    /// Takes the memory for so many more bodies with so many bytes in them, on the disk too: the spare numbers are both at least so much.
+    /// `NoMemory` where there is none; then nothing but the room has changed.
+    pub fn reserve(&mut self, bodies: u32, bytes: usize) -> Result<(), NoMemory>
+        requires going { self.old.phase ≢ Phase.Closing }
+        ensures spare_bodies { OnOk result (bodies ≤ self.new.spare_bodies) }
+        ensures spare_bytes { OnOk result (bytes ≤ self.new.spare_bytes) }
+        ensures no_fewer { self.old.spare_bodies ≤ self.new.spare_bodies }
+        ensures no_less { self.old.spare_bytes ≤ self.new.spare_bytes }
+        ensures phase { self.new.phase ≡ self.old.phase }
+        ensures bodies { self.new.bodies ≡ self.old.bodies }
+        ensures node { self.new.node ≡ self.old.node }
+        ensures nodes { self.new.nodes ≡ self.old.nodes }
+        ensures stays { (D.state self.old.disk).honest → Stays (D.state self.old.disk) (D.state self.new.disk) }
+        ensures no_better { (D.state self.new.disk).honest → (D.state self.old.disk).honest }
+        ensures faults { D.faults self.new.disk ≡ D.faults self.old.disk }
+    {
+        self.log.reserve(bodies, bytes)
+    }
+
+    /// Adds a body of fewer than 2^32 bytes at the end of the list; at `Ok` it is stable. It uses up one spare body and as many spare bytes as
+    /// the body has. `Fault` comes only where the disk's count of faults rose; after it only `close` may be called.
+    pub fn append(&mut self, body: &[u8]) -> Result<(), Fault>
+        requires started { self.old.phase ≡ Phase.Started }
+        requires size { length body.now < 2 ^ 32 }
+        requires spare_body { 0 < self.old.spare_bodies }
+        requires spare_bytes { length body.now ≤ self.old.spare_bytes }
+        ensures started { OnOk result (self.new.phase ≡ Phase.Started) }
+        ensures closing { OnErr result (self.new.phase ≡ Phase.Closing) }
+        ensures list { OnOk result (self.new.bodies ≡ self.old.bodies ++ body.now ∷ []) }
+        ensures bodies { OnOk result (self.old.spare_bodies ≤ self.new.spare_bodies + 1) }
+        ensures bytes { OnOk result (self.old.spare_bytes ≤ self.new.spare_bytes + length body.now) }
+
+        // At Ok each image of the disk stands for the list with the body.
+        ensures stable { (D.state self.old.disk).honest → OnOk result (StandsFor (D.state self.new.disk) self.old.node self.old.nodes (self.old.bodies ++ body.now ∷ [])) }
+
+        // A crash at any moment of the call leaves the list from before it, with the body or without.
+        ensures any_moment { (D.state self.old.disk).honest → LeavesOnly (D.state self.old.disk) (D.state self.new.disk)
+            (IsBeforeOrAfter self.old.node self.old.nodes self.old.bodies body.now) }
+        ensures images { (D.state self.old.disk).honest → (c : List ℕ) → (D.state self.new.disk).images c → IsBeforeOrAfter self.old.node self.old.nodes self.old.bodies body.now c }
+        ensures node { self.new.node ≡ self.old.node }
+        ensures nodes { self.new.nodes ≡ self.old.nodes }
+        ensures honest { (D.state self.old.disk).honest → (D.state self.new.disk).honest }
+        ensures no_better { (D.state self.new.disk).honest → (D.state self.old.disk).honest }
+        ensures cause { HasCause (D.faults self.old.disk) (D.faults self.new.disk) result }
+    {
+        self.phase = Phase::Closing;
+        self.log.append(body)?;
+        self.phase = Phase::Started;
+        Ok(())
+    }
+
+    /// Writes all of a body's record but its open gate, so that a crash leaves the list without it. After it only `close` may be called.
+    /// `Fault` comes only where the disk's count of faults rose.
+    pub fn write_half(&mut self, body: &[u8]) -> Result<(), Fault>
+        requires started { self.old.phase ≡ Phase.Started }
+        requires size { length body.now < 2 ^ 32 }
+        requires spare_body { 0 < self.old.spare_bodies }
+        requires spare_bytes { length body.now ≤ self.old.spare_bytes }
+        ensures closing { self.new.phase ≡ Phase.Closing }
+        ensures stands { (D.state self.old.disk).honest → StandsFor (D.state self.new.disk) self.old.node self.old.nodes self.old.bodies }
+        ensures any_moment { (D.state self.old.disk).honest → LeavesOnly (D.state self.old.disk) (D.state self.new.disk)
+            (λ c. Stands self.old.node self.old.nodes c self.old.bodies) }
+
+        // At Ok the record stands on the disk behind a closed gate.
+        ensures half { (D.state self.old.disk).honest → OnOk result (IsStaged (header self.old.node self.old.nodes) self.old.bodies body.now (D.state self.new.disk).content) }
+        ensures stable { (D.state self.old.disk).honest → OnOk result (IsStable (D.state self.new.disk)) }
+        ensures node { self.new.node ≡ self.old.node }
+        ensures nodes { self.new.nodes ≡ self.old.nodes }
+        ensures honest { (D.state self.old.disk).honest → (D.state self.new.disk).honest }
+        ensures no_better { (D.state self.new.disk).honest → (D.state self.old.disk).honest }
+        ensures cause { HasCause (D.faults self.old.disk) (D.faults self.new.disk) result }
+    {
+        self.phase = Phase::Closing;
+        half(
+            &mut self.log.disk,
+            self.log.node,
+            self.log.nodes,
+            &mut self.log.bytes,
+            body,
+        )?;
+        Ok(())
+    }
+
+    /// How many bodies there are.
+    pub fn count(&self) -> u32
+        requires going { self.now.phase ≢ Phase.Closing }
+        ensures { result ≡ length self.now.bodies }
+    {
+        self.log.gates.len() as u32
+    }
+
+    /// The bytes of a body, whose number is below the count.
+    pub fn body(&self, number: u32) -> &[u8]
+        requires going { self.now.phase ≢ Phase.Closing }
+        requires number { number < length self.now.bodies }
+        ensures { result.now ≡ get_or self.now.bodies number [] }
+    {
+        body_of(
+            &self.log.bytes,
+            &self.log.gates,
+            self.log.node,
+            self.log.nodes,
+            number as usize,
+        )
+    }
+
+    /// The place on the disk of the gate of a body, whose number is below the count.
+    pub fn gate(&self, number: u32) -> u64
+        requires going { self.now.phase ≢ Phase.Closing }
+        requires number { number < length self.now.bodies }
+        ensures { result ≡ get_or (places 16 self.now.bodies) number 0 }
+    {
+        self.log.gates[number as usize]
+    }
+
+    /// Whether the disk was read as fresh and `start` hasn't written its header.
+    pub fn is_fresh(&self) -> bool
+        ensures { IsTrue result ↔ (self.now.phase ≡ Phase.Fresh) }
+    {
+        self.phase == Phase::Fresh
+    }
+
+    /// The disk, as the last call left it.
+    pub fn close(self) -> D
+        ensures disk { result ≡ self.disk }
+
+        // Unless a call failed or wrote half a record, each image of it stands for the list.
+        ensures stands { self.phase ≢ Phase.Closing → (D.state result).honest → StandsFor (D.state result) self.node self.nodes self.bodies }
+    {
+        self.log.disk
+    }
+}
