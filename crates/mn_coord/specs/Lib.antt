@@ -1,0 +1,3 @@
+pub mod Coordination
+pub mod Tries
+pub mod Inside
