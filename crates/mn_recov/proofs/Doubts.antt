@@ -1,7 +1,6 @@
 -- The first doubt of an id is what a list gives for it.
-use Rattle.std.proofs.Common.{◌≡◌, ℕ, zero, suc, ◌<◌, Bool, true, List, [], ◌∷◌, length, drop, Some, refl, ap, ◌∙◌, arith, if◌then◌else◌, slice_get, get_or, sym}
+use Rattle.std.proofs.Common.{◌≡◌, ℕ, zero, suc, true, List, [], ◌∷◌, drop, Some, ap, ◌∙◌, if◌then◌else◌, slice_get, get_or}
 use Rattle.mn_base.specs.Ids.{tid_same}
-use Rattle.mn_base.specs.declared.ids.NodeNo.{NodeNo}
 use Rattle.mn_base.specs.declared.ids.Tid.{Tid}
 use Rattle.mn_mini.specs.declared.doubt.Doubt.{Doubt}
 use Rattle.mn_world.specs.Calls.{lists_doubt}

@@ -77,7 +77,13 @@ fn listed(tid: Tid, nodes: u8, node: u8, reply: NodeReply) -> RecovStage
 }
 
 impl Recoverer {
+    ghost use Rattle.std.specs.Prelude.{List, ◌∷◌};
+    ghost use Rattle.mn_base.specs.declared.ids.NodeNo.{NodeNo};
+    ghost use Rattle.mn_mini.specs.declared.request.Request.{Request};
+    ghost use Rattle.mn_world.specs.declared.entry.Entry.{Entry};
+    ghost use Rattle.mn_recov.specs.declared.step.RecovStep.TheVariants.{Send};
     ghost use Rattle.mn_recov.specs.Recovery.{step_of, fed, IsSend};
+    ghost use Rattle.mn_recov.specs.Legal.{Agrees, MayMake, IsAnswered};
 
     /// The recovery of the id among so many nodes. NoMemory: there was no memory for it.
     pub fn new(_alloc: Global, tid: Tid, nodes: u8) -> Result<Self, NoMemory>
@@ -90,8 +96,16 @@ impl Recoverer {
         })
     }
 
-    /// What it wants next: the same until a reply is fed. It takes no memory.
+    /// What it wants next: the same until a reply is fed. It takes no memory. The client may make it, by the commit protocol, where its
+    /// list holds the calls so far.
     pub fn next(&self) -> RecovStep
+        ensures step { result ≡ step_of self.now }
+        ensures legal { (es : List Entry) → Agrees es self.now → MayMake es result }
+    {
+        self.step()
+    }
+
+    fn step(&self) -> RecovStep
         ensures { result ≡ step_of self.now }
     {
         match &self.stage {
@@ -130,6 +144,15 @@ impl Recoverer {
     /// The reply to the request that `next` gives. It takes no memory.
     pub fn feed(&mut self, reply: NodeReply)
         requires out { IsSend (step_of self.old) }
+        ensures fed { self.new ≡ fed self.old reply }
+        ensures agrees { (es : List Entry) (e : Entry) (node : NodeNo) (request : Request) → Agrees es self.old → step_of self.old ≡ Send node request → IsAnswered e node request reply → Agrees (e ∷ es) self.new }
+        ensures no_entry { (reply ≡ NodeReply.NoMemory) → ((es : List Entry) → Agrees es self.old → Agrees es self.new) }
+    {
+        self.advance(reply);
+    }
+
+    fn advance(&mut self, reply: NodeReply)
+        requires { IsSend (step_of self.old) }
         ensures { self.new ≡ fed self.old reply }
     {
         match &mut self.stage {

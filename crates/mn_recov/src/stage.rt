@@ -4,7 +4,9 @@ use mn_base::Nodes;
 #[derive(Debug, Drop)]
 pub enum RecovStage {
     /// The nodes below this number listed no such id.
-    Looking { node: u8 },
+    Looking {
+        node: u8,
+    },
     /// A node listed the id with these participants. So many have voted, with `yes` all of them yes, and so many were sent the decision.
     Found {
         participants: Nodes,

@@ -1,4 +1,4 @@
-use Rattle.std.proofs.Common.{true, sym, ap, ◌∙◌}
+use Rattle.std.proofs.Common.{sym, ap, ◌∙◌}
 use Rattle.mn_base.specs.Ids.{tid_same}
 use Rattle.mn_mini.specs.declared.doubt.Doubt.{Doubt}
 use Rattle.mn_recov.proofs.Doubts.{first_here, element}
