@@ -1,3 +1,4 @@
 pub mod Coordination
 pub mod Tries
 pub mod Inside
+pub mod Legal
