@@ -4,16 +4,15 @@ use Rattle.std.specs.List.{list_any}
 use Rattle.mn_base.specs.declared.ids.NodeNo.{NodeNo}
 use Rattle.mn_base.specs.declared.ids.Tid.{Tid}
 use Rattle.mn_mini.specs.declared.request.Request.{Request}
-use Rattle.mn_mini.specs.declared.request.Request.TheVariants as Ask
 use Rattle.mn_mini.specs.declared.reply.NodeReply.{NodeReply}
 use Rattle.mn_mini.specs.declared.reply.NodeReply.TheVariants as Say
 use Rattle.mn_mini.specs.Mini.{participants_of}
 use Rattle.mn_world.specs.declared.entry.Entry.{Entry}
 use Rattle.mn_world.specs.declared.entry.What.TheVariants.{Issue, Abandoned}
-use Rattle.mn_world.specs.Calls.{Call, call_in, calls_of, is_prepare, is_exec, is_done, is_stopped, was_told, was_sent, was_done, was_stopped, was_abandoned, is_in_doubt, issues_of, issue_named, since_begin, is_try}
+use Rattle.mn_world.specs.Calls.{Call, call_in, calls_of, is_prepare, is_done, is_stopped, was_told, was_sent, was_done, was_stopped, was_abandoned, is_in_doubt, issues_of, issue_named, since_begin, is_try}
 use Rattle.mn_world.specs.Clients.{Sends, AllowsAbandoned}
 use Rattle.mn_coord.specs.declared.step.CoordStep.{CoordStep}
-use Rattle.mn_coord.specs.declared.step.CoordStep.TheVariants.{Send, Abandon, Committed, Failed, Doubt}
+use Rattle.mn_coord.specs.declared.step.CoordStep.TheVariants.{Send, Abandon}
 use Rattle.mn_coord.specs.Coordination.{Coordination, is_stopped_at_last, participant, step_of, after_step, fed}
 
 abbrev pub has_stopped : Option NodeReply → Bool

@@ -1,4 +1,4 @@
-ghost use Rattle.std.specs.Prelude.{◌≡◌, ◌<◌, ◌≤◌, ◌-◌, Bool, true, false, None, List, [], ◌∷◌, length, replicate, slice_index_or, IfOk};
+ghost use Rattle.std.specs.Prelude.{◌≡◌, ◌≢◌, ◌<◌, ◌≤◌, ◌-◌, Bool, true, false, None, List, [], ◌∷◌, length, replicate, slice_index_or, IfOk};
 ghost use Rattle.std.specs.Option.{option_map};
 ghost use Rattle.mn_mini.specs.Mini.{participants_of};
 ghost use Rattle.mn_coord.specs.Coordination.{try_request};
@@ -100,11 +100,18 @@ fn no_reads(alloc: Global, participants: usize) -> Result<Vec<Reads>, NoMemory>
 }
 
 impl Coordinator {
+    ghost use Rattle.mn_base.specs.declared.ids.NodeNo.{NodeNo};
+    ghost use Rattle.mn_mini.specs.declared.request.Request.{Request};
+    ghost use Rattle.mn_world.specs.declared.entry.Entry.{Entry};
+    ghost use Rattle.mn_world.specs.declared.entry.What.TheVariants as is;
+    ghost use Rattle.mn_coord.specs.declared.step.CoordStep.TheVariants.{Send, Abandon};
     ghost use Rattle.mn_coord.specs.Coordination.{stage_in, step_of, after_step, fed};
+    ghost use Rattle.mn_coord.specs.Legal.{Agrees, IsFresh, IsAnswered, MayMake};
 
     /// The coordinator of the minitransaction under this id. NoMemory: there was no memory for all that it will need.
     pub fn new(alloc: Global, tid: Tid, mini: Minitransaction) -> Result<Self, NoMemory>
-        ensures { IfOk result (λ c. c ≡ record { tid = tid; mini = mini; done = 0; reads = replicate (length (participants_of mini)) []; refused = None; told = false; decided = 0; asked = false }) }
+        ensures starts { IfOk result (λ c. c ≡ record { tid = tid; mini = mini; done = 0; reads = replicate (length (participants_of mini)) []; refused = None; told = false; decided = 0; asked = false }) }
+        ensures agrees { (es : List Entry) (e : Entry) → IsFresh tid es → e.node ≡ None → e.what ≡ is.Issue tid mini → IfOk result (λ c. Agrees (e ∷ es) c) }
     {
         let requests = tries_for(alloc, tid, &mini)?;
         let reads = no_reads(alloc, participants_in(&mini))?;
@@ -133,8 +140,20 @@ impl Coordinator {
         )
     }
 
-    /// What it wants next. A request is handed out once, and Abandon is told once. It takes no memory.
+    /// What it wants next. A request is handed out once, and Abandon is told once. It takes no memory. The client may make it, by the
+    /// commit protocol, where its list holds the issue and the calls so far.
     pub fn next(&mut self) -> CoordStep
+        requires idle { self.old.asked ≡ false }
+        ensures step { result ≡ step_of self.old }
+        ensures after { self.new ≡ after_step self.old result }
+        ensures legal { (es : List Entry) → Agrees es self.old → MayMake es self.old.tid result }
+        ensures agrees { (es : List Entry) → Agrees es self.old → step_of self.old ≢ Abandon → Agrees es self.new }
+        ensures abandoned { (es : List Entry) (e : Entry) → Agrees es self.old → step_of self.old ≡ Abandon → e.node ≡ None → e.what ≡ is.Abandoned self.old.tid → Agrees (e ∷ es) self.new }
+    {
+        self.advance()
+    }
+
+    fn advance(&mut self) -> CoordStep
         requires idle { self.old.asked ≡ false }
         ensures step { result ≡ step_of self.old }
         ensures after { self.new ≡ after_step self.old result }
@@ -185,6 +204,15 @@ impl Coordinator {
     /// The reply to the request that is out. It takes no memory.
     pub fn feed(&mut self, reply: NodeReply)
         requires out { self.old.asked ≡ true }
+        ensures fed { self.new ≡ fed self.old reply }
+        ensures agrees { (es : List Entry) (e : Entry) (node : NodeNo) (request : Request) → Agrees es self.old → step_of self.old ≡ Send node request → IsAnswered e node request reply → Agrees (e ∷ es) self.new }
+        ensures no_entry { (reply ≡ NodeReply.NoMemory) → ((es : List Entry) → Agrees es self.old → Agrees es self.new) }
+    {
+        self.take(reply);
+    }
+
+    fn take(&mut self, reply: NodeReply)
+        requires { self.old.asked ≡ true }
         ensures { self.new ≡ fed self.old reply }
     {
         let stage = self.stage();
