@@ -9,3 +9,6 @@ mod step;
 pub use coordinator::Coordinator;
 pub use stage::Stage;
 pub use step::CoordStep;
+
+#[cfg(test)]
+mod tests;
