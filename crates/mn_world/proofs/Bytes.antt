@@ -9,3 +9,4 @@ pub mod Spaces
 pub mod Reads
 pub mod Seen
 pub mod Prepares
+pub mod Flat

@@ -4,3 +4,4 @@ pub mod Bytes
 pub mod Commits
 pub mod Plans
 pub mod Examples
+pub mod Computed

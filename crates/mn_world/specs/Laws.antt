@@ -216,3 +216,26 @@ abbrev pub AbandonedLacksVote : Type 0
 AbandonedLacksVote =
     (start : Start) (past : List Entry) (c : ClientNo) (tid : Tid) → StartsSound start → FollowsProtocol start past → was_abandoned tid (client_entries c past) ≡ true
     → (mini : Mini) × (issue_named tid (issues_of past) ≡ Some mini) × (k : NodeNo) × Contains (participants_of mini) k × ((later : List Entry) → FollowsProtocol start (later ++ past) → LacksVote start (later ++ past) tid k)
+
+-- All of the flat meaning, for a run with its memory
+
+-- a run from records that fit together, whose opened memory this is
+pub record IsRunFrom (start : Start) (memory : List (List ℕ)) (past : List Entry) : Type 0 where
+  pub sound : StartsSound start
+  pub spaces : HasSpaces start
+  pub opened : opened_memory start ≡ memory
+  pub keeps : FollowsProtocol start past
+
+-- what a committed minitransaction found, what each node's records make of its space, and what was read are the flat meaning's:
+-- `memory` is the memory before the run, `after` the one after it
+pub record IsFlatRun (start : Start) (memory after : List (List ℕ)) (past : List Entry) : Type 0 where
+  pub commits : (later : List Entry) (e : Entry) (before : List Entry) (i : Issued) → past ≡ later ++ e ∷ before → committed_by before e ≡ Some i
+      → (reads : List (List ℕ)) × (next : List (List ℕ)) × (outcome_on (flat_after memory before) i.mini ≡ Committed reads next)
+  pub execs : (later : List Entry) (e : Entry) (before : List Entry) (k : NodeNo) (tid : Tid) (part : List PartItem) (reads : List (List ℕ)) → past ≡ later ++ e ∷ before
+      → e.node ≡ Some k → e.what ≡ Called (Ask.Exec tid part) (Say.Done reads)
+      → (i : Issued) × (next : List (List ℕ)) × (i.tid ≡ tid) × (committed_by before e ≡ Some i) × (outcome_on (flat_after memory before) i.mini ≡ Committed reads next)
+  pub spaces : (n : NodeNo) (place : ℕ) → n.0 < start_nodes start
+      → is_pending_at (is_committed (start_nodes start) (records_of start past)) place (held_parts (records_of start past n)) ≡ false
+      → slice_get (space_of (base_at start n) (records_of start past n)) place ≡ slice_get (space_in after n) place
+  pub records : memory_in (start_nodes start) (base_at start) (records_of start past) ≡ after
+  pub held_apart : (n : NodeNo) → n.0 < start_nodes start → AreApart (held_parts (records_of start past n))

@@ -3,6 +3,7 @@ pub mod Nodes
 pub mod Clients
 pub mod Protocol
 pub mod Commits
+pub mod Standing
 pub mod Opened
 pub mod Planned
 pub mod Shown

@@ -3,11 +3,13 @@
 #![tactic(auto)]
 
 mod entry;
+mod flat;
 mod law;
 mod laws;
 mod lists;
 
 pub use entry::{Entry, What};
+pub use flat::flat_after;
 pub use law::CoreLaw;
 pub use laws::{
     abandoned_is_never, abandoned_lacks_vote, commits_are_flat, commits_once, decided_one_way,

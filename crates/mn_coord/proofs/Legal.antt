@@ -1,0 +1,576 @@
+-- A coordinator makes only entries that the commit protocol allows its client.
+use Rattle.std.proofs.Common.{◌≡◌, ℕ, ◌+◌, ◌<◌, ◌≤◌, Bool, true, false, ◌&&◌, ◌||◌, not, List, [], ◌∷◌, ◌++◌, length, Option, Some, None, refl, sym, ap, subst, ◌∙◌, arith, inl, if◌then◌else◌}
+use Rattle.std.specs.Prelude.{nat_lt, nat_eq, MatchOption, ⊤}
+use Rattle.std.specs.List.{list_any, AllByRecursion}
+use Rattle.std.proofs.lemmas.Bool.{ltb-true, ltb-false, le-ltb, eq-eqb, eqb-true, eqb-false, ne_eqb}
+use Rattle.mn_base.specs.Ids.{node_same}
+use Rattle.mn_base.specs.declared.ids.NodeNo.{NodeNo}
+use Rattle.mn_base.specs.declared.ids.ClientNo.{ClientNo}
+use Rattle.mn_base.specs.declared.ids.Tid.{Tid}
+use Rattle.mn_mini.specs.declared.request.Request.{Request}
+use Rattle.mn_mini.specs.declared.request.Request.TheVariants as Ask
+use Rattle.mn_mini.specs.declared.reply.NodeReply.{NodeReply}
+use Rattle.mn_mini.specs.declared.reply.NodeReply.TheVariants as Say
+use Rattle.mn_mini.specs.Mini.{Mini, participants_of, part_of}
+use Rattle.mn_world.specs.declared.entry.Entry.{Entry}
+use Rattle.mn_world.specs.declared.entry.What.{What}
+use Rattle.mn_world.specs.declared.entry.What.TheVariants.{Begin, Issue, Called, Stopped, Restarted, Abandoned, Answered}
+use Rattle.mn_world.specs.Calls.{Call, call_in, calls_of, is_prepare, is_exec, is_try, is_done, is_stopped, is_last_of, was_told, was_done, was_sent, was_stopped, has_yes, was_abandoned, is_abandonment, is_in_doubt, Issued, issue_in, issues_of, issue_named, since_begin, since_begin_after}
+use Rattle.mn_world.specs.Clients.{Sends}
+use Rattle.mn_world.proofs.Reading.Same.{tid_same-refl}
+use Rattle.mn_coord.specs.declared.stage.Stage.{Stage}
+use Rattle.mn_coord.specs.declared.stage.Stage.TheVariants as At
+use Rattle.mn_coord.specs.declared.step.CoordStep.{CoordStep}
+use Rattle.mn_coord.specs.declared.step.CoordStep.TheVariants.{Send, Abandon, Committed, Failed, Doubt}
+use Rattle.mn_coord.specs.Coordination.{Coordination, is_stopped_at_last, stage_of, stage_in, participant, try_request, step_at, step_of, after_step, after_reply, fed_at}
+use Rattle.mn_coord.specs.Legal.{has_stopped, is_doubtful, Agrees, MayMake, IsAnswered, StepsAreAllowed, AnswersAgree, NoAnswerAgrees, AbandonedAgrees, names_tid, IssuesAgree}
+use Rattle.mn_coord.proofs.Stages.{asking}
+use Rattle.mn_coord.proofs.Order.{participants_ascend, all_of, order_down, told_apart, element, any_at, last_at, below_next, eq_turn, single}
+
+or_true : (a b : Bool) → b ≡ true → (a || b) ≡ true
+or_true true b e = refl
+or_true false b e = e
+
+or_here : (a b : Bool) → a ≡ true → (a || b) ≡ true
+or_here true b e = refl
+or_here false b e = absurd cc
+
+and_false : (a : Bool) → (a && false) ≡ false
+and_false true = refl
+and_false false = refl
+
+abbrev count : Coordination → ℕ
+count c = length (participants_of c.mini)
+
+-- What the stages say
+
+commits : (n done : ℕ) (refused : Option NodeReply) (told : Bool) (decided : ℕ) → stage_of n done refused told decided ≡ At.Commit → (refused ≡ None) × (n ≤ done) × (2 ≤ n)
+commits n done None told decided e = (refl, first (nat_lt done n) refl e, second (nat_lt done n) (nat_lt 1 n) refl e)
+  where
+    first : (b : Bool) → nat_lt done n ≡ b → (if b then At.Ask else (if nat_lt 1 n && nat_lt decided n then At.Commit else At.Committed)) ≡ At.Commit → n ≤ done
+    first true f g = absurd cc
+    first false f g = ltb-false done n f
+
+    second : (b c : Bool) → nat_lt 1 n ≡ c → (if b then At.Ask else (if c && nat_lt decided n then At.Commit else At.Committed)) ≡ At.Commit → 2 ≤ n
+    second true c f g = absurd cc
+    second false true f g = ltb-true 1 n f
+    second false false f g = absurd cc
+commits n done (Some reply) told decided e = absurd (other (is_stopped_at_last n done reply) (nat_eq n 1) (not told) (nat_lt decided done) e)
+  where
+    other : (a b c d : Bool) → (if a then At.Doubt else (if b then At.Failed else (if c then At.Abandon else (if d then At.Cancel else At.Failed)))) ≡ At.Commit → ⊥
+    other true b c d f = absurd cc
+    other false true c d f = absurd cc
+    other false false true d f = absurd cc
+    other false false false true f = absurd cc
+    other false false false false f = absurd cc
+
+-- after a refusal
+pub record IsRefused (n done : ℕ) (refused : Option NodeReply) : Type 0 where
+  pub reply : NodeReply
+  pub is : refused ≡ Some reply
+  pub known : is_stopped_at_last n done reply ≡ false
+
+refusing : (n done : ℕ) (refused : Option NodeReply) (told : Bool) (decided : ℕ) (stage : Stage) → stage_of n done refused told decided ≡ stage → (stage ≡ At.Abandon → IsRefused n done refused × (told ≡ false)) × (stage ≡ At.Cancel → IsRefused n done refused × (told ≡ true))
+refusing n done None told decided stage e = (λ f. absurd (first (nat_lt done n) (nat_lt 1 n && nat_lt decided n) (e ∙ f)), λ f. absurd (second (nat_lt done n) (nat_lt 1 n && nat_lt decided n) (e ∙ f)))
+  where
+    first : (a b : Bool) → (if a then At.Ask else (if b then At.Commit else At.Committed)) ≡ At.Abandon → ⊥
+    first true b g = absurd cc
+    first false true g = absurd cc
+    first false false g = absurd cc
+
+    second : (a b : Bool) → (if a then At.Ask else (if b then At.Commit else At.Committed)) ≡ At.Cancel → ⊥
+    second true b g = absurd cc
+    second false true g = absurd cc
+    second false false g = absurd cc
+refusing n done (Some reply) told decided stage e = (
+  λ f. first (is_stopped_at_last n done reply) refl (nat_eq n 1) told refl (nat_lt decided done) (e ∙ f),
+  λ f. second (is_stopped_at_last n done reply) refl (nat_eq n 1) told refl (nat_lt decided done) (e ∙ f),
+)
+  where
+    first : (a : Bool) → is_stopped_at_last n done reply ≡ a → (b c : Bool) → told ≡ c → (d : Bool) → (if a then At.Doubt else (if b then At.Failed else (if not c then At.Abandon else (if d then At.Cancel else At.Failed)))) ≡ At.Abandon
+        → IsRefused n done (Some reply) × (told ≡ false)
+    first true k b c t d g = absurd cc
+    first false k true c t d g = absurd cc
+    first false k false false t d g = (record { reply = reply; is = refl; known = k }, t)
+    first false k false true t true g = absurd cc
+    first false k false true t false g = absurd cc
+
+    second : (a : Bool) → is_stopped_at_last n done reply ≡ a → (b c : Bool) → told ≡ c → (d : Bool) → (if a then At.Doubt else (if b then At.Failed else (if not c then At.Abandon else (if d then At.Cancel else At.Failed)))) ≡ At.Cancel
+        → IsRefused n done (Some reply) × (told ≡ true)
+    second true k b c t d g = absurd cc
+    second false k true c t d g = absurd cc
+    second false k false false t d g = absurd cc
+    second false k false true t true g = (record { reply = reply; is = refl; known = k }, t)
+    second false k false true t false g = absurd cc
+
+-- Allowed
+
+not_doubtful : (es : List Entry) (c : Coordination) → Agrees es c → IsRefused (count c) c.done c.refused → is_in_doubt c.tid es ≡ false
+not_doubtful es c a r = a.doubt ∙ (ap (is_doubtful (count c) c.done) r.is ∙ r.known)
+
+ask_allowed : (es : List Entry) (c : Coordination) → Agrees es c → stage_in c ≡ At.Ask → Sends es (Some (participant c c.done)) (try_request c.tid c.mini (participant c c.done))
+ask_allowed es c a stage = by (nat_eq (count c) 1) refl
+  where
+    facts : (c.refused ≡ None) × (c.done < count c)
+    facts = asking (count c) c.done c.refused c.told c.decided stage
+
+    once : was_sent c.tid (participant c c.done) es ≡ false
+    once = a.sent facts.0 c.done facts.1 ∙ le-ltb c.done c.done (omega arith)
+
+    open_still : was_abandoned c.tid es ≡ false
+    open_still = a.told ∙ a.untold facts.0
+
+    by : (b : Bool) → nat_eq (count c) 1 ≡ b → Sends es (Some (participant c c.done)) (if b then Ask.Exec c.tid (part_of c.mini (participant c c.done)) else Ask.Prepare c.tid (participants_of c.mini) (part_of c.mini (participant c c.done)))
+    by true e =
+        let one : count c ≡ 1 = eqb-true (count c) 1 e in
+        let first : c.done ≡ 0 = (let low = facts.1 in omega arith) in
+        record { mini = c.mini; issued = a.now; alone = single (participants_of c.mini) one ∙ ap (λ k. participant c k ∷ []) (sym first); own_part = refl; once = once; open_still = open_still }
+    by false e =
+        let some = a.some in
+        let apart = eqb-false (count c) 1 e in
+        record {
+          mini = c.mini;
+          issued = a.now;
+          all = refl;
+          several = omega (arith, apart);
+          named = element (participants_of c.mini) c.done facts.1;
+          own_part = refl;
+          once = once;
+          open_still = open_still;
+          lower = all_of (λ (m : NodeNo). m.0 < (participant c c.done).0 → was_done c.tid m es ≡ true) (participants_of c.mini)
+              (λ j low below. a.done j low ∙ lt j (order_down (participants_of c.mini) c.done j (participants_ascend c.mini) facts.1 low below));
+        }
+      where
+        lt : (j : ℕ) → j < c.done → nat_lt j c.done ≡ true
+        lt j h = Rattle.std.proofs.lemmas.Bool.lt-ltb j c.done h
+
+commit_allowed : (es : List Entry) (c : Coordination) → Agrees es c → stage_in c ≡ At.Commit → Sends es (Some (participant c c.decided)) (Ask.Decide c.tid true)
+commit_allowed es c a stage =
+    let facts = commits (count c) c.done c.refused c.told c.decided stage in
+    let all = facts.1 in (
+      a.doubt ∙ ap (is_doubtful (count c) c.done) facts.0,
+      (participants_of c.mini, inl (c.mini, a.ever, refl), all_of (λ m. has_yes c.tid m es ≡ true) (participants_of c.mini) (λ i low. or_here _ _ (a.votes facts.2 i low (omega arith)))),
+    )
+
+cancel_allowed : (es : List Entry) (c : Coordination) → Agrees es c → stage_in c ≡ At.Cancel → Sends es (Some (participant c c.decided)) (Ask.Decide c.tid false)
+cancel_allowed es c a stage =
+    let facts = (refusing (count c) c.done c.refused c.told c.decided At.Cancel stage).1 refl in
+    (not_doubtful es c a facts.0, or_here _ _ (a.told ∙ facts.1))
+
+abandon_allowed : (es : List Entry) (c : Coordination) → Agrees es c → stage_in c ≡ At.Abandon → MayMake es c.tid Abandon
+abandon_allowed es c a stage = (c.mini, a.ever, by (is_stopped r.reply) refl)
+  where
+    r : IsRefused (count c) c.done c.refused
+    r = ((refusing (count c) c.done c.refused c.told c.decided At.Abandon stage).0 refl).0
+
+    low : c.done < count c
+    low = subst (λ (o : Option NodeReply). MatchOption o (c.done ≤ count c) (λ reply. c.done < count c)) r.is a.within
+
+    stopped_is : (i : ℕ) → i < count c → was_stopped c.tid (participant c i) es ≡ (nat_eq i c.done && is_stopped r.reply)
+    stopped_is i l = a.stopped i l ∙ ap (λ (o : Option NodeReply). nat_eq i c.done && has_stopped o) r.is
+
+    lacks : (i : ℕ) → i < count c → c.done ≤ i → was_stopped c.tid (participant c i) es ≡ false → list_any (λ n. not (was_done c.tid n es) && not (was_stopped c.tid n es)) (participants_of c.mini) ≡ true
+    lacks i l high free =
+        any_at (λ n. not (was_done c.tid n es) && not (was_stopped c.tid n es)) (participants_of c.mini) i l
+        (ap (λ b. not b && not (was_stopped c.tid (participant c i) es)) (a.done i l ∙ le-ltb i c.done high) ∙ ap (λ b. true && not b) free)
+
+    -- the last one did not stop
+    not_last : (reply : NodeReply) → is_stopped_at_last (count c) c.done reply ≡ false → is_stopped reply ≡ true → c.done + 1 < count c
+    not_last Say.Stopped known is = let apart = eqb-false (c.done + 1) (count c) known in omega (arith, apart, low)
+    not_last (Say.Done reads) known is = absurd cc
+    not_last (Say.BadLock s k h) known is = absurd cc
+    not_last (Say.BadCompare i f) known is = absurd cc
+    not_last Say.BadForced known is = absurd cc
+    not_last (Say.Vote v) known is = absurd cc
+    not_last Say.Decided known is = absurd cc
+    not_last (Say.Listed d) known is = absurd cc
+    not_last (Say.Peeked b) known is = absurd cc
+    not_last Say.Down known is = absurd cc
+    not_last Say.NoMemory known is = absurd cc
+
+    by : (b : Bool) → is_stopped r.reply ≡ b → list_any (λ n. not (was_done c.tid n es) && not (was_stopped c.tid n es)) (participants_of c.mini) ≡ true
+    by true e =
+        let next = not_last r.reply r.known e in
+        lacks (c.done + 1) next (omega arith) (stopped_is (c.done + 1) next ∙ ap (λ b. b && is_stopped r.reply) (ne_eqb (c.done + 1) c.done (λ f. absurd (omega arith))))
+    by false e = lacks c.done low (omega arith) (stopped_is c.done low ∙ (ap (λ b. nat_eq c.done c.done && b) e ∙ and_false (nat_eq c.done c.done)))
+
+pub steps_are_allowed : StepsAreAllowed
+steps_are_allowed es c a = by (stage_in c) refl
+  where
+    by : (stage : Stage) → stage_in c ≡ stage → MayMake es c.tid (step_at c stage)
+    by At.Ask e = ask_allowed es c a e
+    by At.Commit e = commit_allowed es c a e
+    by At.Abandon e = abandon_allowed es c a e
+    by At.Cancel e = cancel_allowed es c a e
+    by At.Committed e = tt
+    by At.Failed e = tt
+    by At.Doubt e = tt
+
+-- One more call in the list
+
+-- an entry that is a call issues nothing, abandons nothing, and begins and ends no operation
+pub record IsCall (es : List Entry) (e : Entry) : Type 0 where
+  pub issues : issue_in e.what ≡ []
+  pub since : since_begin (e ∷ es) ≡ e ∷ since_begin es
+  pub keeps : (tid : Tid) → is_abandonment tid e.what ≡ false
+
+call_what : (es : List Entry) (n : Option NodeNo) (by : Option ClientNo) (what : What) (call : Call) → call_in n what ≡ call ∷ [] → IsCall es (record { node = n; client = by; what = what })
+call_what es None by what call is = absurd cc
+call_what es (Some n) by (Begin number op) call is = absurd cc
+call_what es (Some n) by (Issue tid mini) call is = absurd cc
+call_what es (Some n) by (Called request reply) call is = record { issues = refl; since = refl; keeps = λ tid. refl }
+call_what es (Some n) by (Stopped None asked) call is = absurd cc
+call_what es (Some n) by (Stopped (Some request) asked) call is = record { issues = refl; since = refl; keeps = λ tid. refl }
+call_what es (Some n) by (Restarted kept) call is = absurd cc
+call_what es (Some n) by (Abandoned tid) call is = absurd cc
+call_what es (Some n) by (Answered number answer) call is = absurd cc
+
+a_call : (es : List Entry) (e : Entry) (call : Call) → call_in e.node e.what ≡ call ∷ [] → IsCall es e
+a_call es e call is = call_what es e.node e.client e.what call is
+
+any_more : (t : Call → Bool) (es : List Entry) (e : Entry) (call : Call) → call_in e.node e.what ≡ call ∷ [] → list_any t (calls_of (e ∷ es)) ≡ (t call || list_any t (calls_of es))
+any_more t es e call is = ap (λ (cs : List Call). list_any t (cs ++ calls_of es)) is
+
+same_issues : (es : List Entry) (e : Entry) → issue_in e.what ≡ [] → issues_of (e ∷ es) ≡ issues_of es
+same_issues es e is = ap (λ (i : List Issued). i ++ issues_of es) is
+
+still_now : (es : List Entry) (e : Entry) (tid : Tid) (mini : Mini) → IsCall es e → issue_named tid (issues_of (since_begin es)) ≡ Some mini → issue_named tid (issues_of (since_begin (e ∷ es))) ≡ Some mini
+still_now es e tid mini k h = ap (λ (l : List Entry). issue_named tid (issues_of l)) k.since ∙ (ap (issue_named tid) (same_issues (since_begin es) e k.issues) ∙ h)
+
+still_ever : (es : List Entry) (e : Entry) (tid : Tid) (mini : Mini) → IsCall es e → issue_named tid (issues_of es) ≡ Some mini → issue_named tid (issues_of (e ∷ es)) ≡ Some mini
+still_ever es e tid mini k h = ap (issue_named tid) (same_issues es e k.issues) ∙ h
+
+still_told : (es : List Entry) (e : Entry) (tid : Tid) → IsCall es e → was_abandoned tid (e ∷ es) ≡ was_abandoned tid es
+still_told es e tid k = ap (λ b. b || was_abandoned tid es) (k.keeps tid)
+
+-- A decision is passed over
+
+abbrev IsDecide : Request → Type 0
+IsDecide (Ask.Decide tid verdict) = ⊤
+IsDecide request = ⊥
+
+decide_no_try : (tid : Tid) (request : Request) → IsDecide request → is_try tid request ≡ false
+decide_no_try tid (Ask.Decide t verdict) d = refl
+decide_no_try tid (Ask.Prepare t ps part) d = absurd d
+decide_no_try tid (Ask.Exec t part) d = absurd d
+decide_no_try tid (Ask.Force t) d = absurd d
+decide_no_try tid Ask.List d = absurd d
+decide_no_try tid (Ask.Peek s k) d = absurd d
+
+-- a test of tries, or of Prepares, takes no note of it
+pass_over : (t : Request → Bool) (say : NodeReply → Bool) (es : List Entry) (e : Entry) (n m : NodeNo) (request : Request) (reply : NodeReply) → IsAnswered e n request reply → t request ≡ false
+    → was_told t say m (e ∷ es) ≡ was_told t say m es
+pass_over t say es e n m request reply is none =
+    any_more (λ (c : Call). node_same c.node m && (t c.request && say c.reply)) es e (record { node = n; request = request; reply = reply }) is
+    ∙ ap (λ b. b || was_told t say m es) (ap (λ b. node_same n m && (b && say reply)) none ∙ and_false (node_same n m))
+
+prepare_of_try : (tid : Tid) (request : Request) → is_try tid request ≡ false → is_prepare tid request ≡ false
+prepare_of_try tid request e = by (is_prepare tid request) e
+  where
+    by : (b : Bool) → (b || is_exec tid request) ≡ false → b ≡ false
+    by true f = absurd cc
+    by false f = refl
+
+exec_of_try : (tid : Tid) (request : Request) → is_try tid request ≡ false → is_exec tid request ≡ false
+exec_of_try tid request e = by (is_prepare tid request) e
+  where
+    by : (b : Bool) → (b || is_exec tid request) ≡ false → is_exec tid request ≡ false
+    by true f = absurd cc
+    by false f = f
+
+doubt_more : (es : List Entry) (e : Entry) (n : NodeNo) (request : Request) (reply : NodeReply) (tid : Tid) → IsAnswered e n request reply
+    → is_in_doubt tid (e ∷ es) ≡ ((is_stopped reply && (is_exec tid request || (is_prepare tid request && is_last_of n request))) || is_in_doubt tid es)
+doubt_more es e n request reply tid is = any_more (λ (c : Call). is_stopped c.reply && (is_exec tid c.request || (is_prepare tid c.request && is_last_of c.node c.request))) es e (record { node = n; request = request; reply = reply }) is
+
+no_doubt : (es : List Entry) (e : Entry) (n : NodeNo) (request : Request) (reply : NodeReply) (tid : Tid) → IsAnswered e n request reply → is_try tid request ≡ false → is_in_doubt tid (e ∷ es) ≡ is_in_doubt tid es
+no_doubt es e n request reply tid is none =
+    doubt_more es e n request reply tid is
+    ∙ ap (λ b. b || is_in_doubt tid es)
+    (ap (λ b. is_stopped reply && (b || (is_prepare tid request && is_last_of n request))) (exec_of_try tid request none)
+    ∙ (ap (λ b. is_stopped reply && (b && is_last_of n request)) (prepare_of_try tid request none) ∙ and_false (is_stopped reply)))
+
+decided_agrees : (es : List Entry) (e : Entry) (c : Coordination) (n : NodeNo) (request : Request) (reply : NodeReply) (k : ℕ) (asked : Bool) → Agrees es c → IsAnswered e n request reply → IsDecide request
+    → Agrees (e ∷ es) (record c { decided = k; asked = asked })
+decided_agrees es e c n request reply k asked a is d =
+    let none = decide_no_try c.tid request d in
+    let call = a_call es e (record { node = n; request = request; reply = reply }) is in
+    record {
+      now = still_now es e c.tid c.mini call a.now;
+      ever = still_ever es e c.tid c.mini call a.ever;
+      some = a.some;
+      within = a.within;
+      untold = a.untold;
+      told = still_told es e c.tid call ∙ a.told;
+      done = λ i low. pass_over (is_try c.tid) is_done es e n (participant c i) request reply is none ∙ a.done i low;
+      votes = λ two i low below. pass_over (is_prepare c.tid) is_done es e n (participant c i) request reply is (prepare_of_try c.tid request none) ∙ a.votes two i low below;
+      sent = λ open_still i low. pass_over (is_try c.tid) (λ r. true) es e n (participant c i) request reply is none ∙ a.sent open_still i low;
+      stopped = λ i low. pass_over (is_try c.tid) is_stopped es e n (participant c i) request reply is none ∙ a.stopped i low;
+      doubt = no_doubt es e n request reply c.tid is none ∙ a.doubt;
+    }
+
+-- A try
+
+-- the participant's own Prepare or Exec
+pub record IsTryOf (c : Coordination) (request : Request) : Type 0 where
+  pub try : is_try c.tid request ≡ true
+  pub prepare : 2 ≤ count c → is_prepare c.tid request ≡ true
+  pub last : (is_exec c.tid request || (is_prepare c.tid request && is_last_of (participant c c.done) request)) ≡ nat_eq (c.done + 1) (count c)
+
+try_is : (c : Coordination) → c.done < count c → IsTryOf c (try_request c.tid c.mini (participant c c.done))
+try_is c low = by (nat_eq (count c) 1) refl
+  where
+    by : (b : Bool) → nat_eq (count c) 1 ≡ b → IsTryOf c (if b then Ask.Exec c.tid (part_of c.mini (participant c c.done)) else Ask.Prepare c.tid (participants_of c.mini) (part_of c.mini (participant c c.done)))
+    by true e =
+        let one = eqb-true (count c) 1 e in
+        record { try = tid_same-refl c.tid; prepare = λ two. absurd (omega arith); last = ap (λ b. b || false) (tid_same-refl c.tid) ∙ sym (eq-eqb (c.done + 1) (count c) (omega arith)) }
+    by false e = record {
+      try = or_here _ _ (tid_same-refl c.tid);
+      prepare = λ two. tid_same-refl c.tid;
+      last = ap (λ b. b && is_last_of (participant c c.done) (Ask.Prepare c.tid (participants_of c.mini) (part_of c.mini (participant c c.done)))) (tid_same-refl c.tid)
+          ∙ last_at (participants_of c.mini) c.done (participants_ascend c.mini) low;
+    }
+
+-- a test of tries takes note of it at its own participant
+noted : (t : Request → Bool) (say : NodeReply → Bool) (es : List Entry) (e : Entry) (c : Coordination) (i : ℕ) (request : Request) (reply : NodeReply) → IsAnswered e (participant c c.done) request reply → t request ≡ true
+    → c.done < count c → i < count c → was_told t say (participant c i) (e ∷ es) ≡ ((nat_eq c.done i && say reply) || was_told t say (participant c i) es)
+noted t say es e c i request reply is own here low =
+    any_more (λ (k : Call). node_same k.node (participant c i) && (t k.request && say k.reply)) es e (record { node = participant c c.done; request = request; reply = reply }) is
+    ∙ ap (λ b. b || was_told t say (participant c i) es)
+    (ap (λ b. b && (t request && say reply)) (told_apart (participants_of c.mini) c.done i (participants_ascend c.mini) here low) ∙ ap (λ b. nat_eq c.done i && (b && say reply)) own)
+
+done_agrees : (es : List Entry) (e : Entry) (c : Coordination) (request : Request) (reads : List (List ℕ)) (all : List (List (List ℕ))) → Agrees es c → c.refused ≡ None → c.done < count c → IsTryOf c request
+    → IsAnswered e (participant c c.done) request (Say.Done reads) → Agrees (e ∷ es) (record c { done = c.done + 1; reads = all; asked = false })
+done_agrees es e c request reads all a open_still low t is =
+    let call = a_call es e (record { node = participant c c.done; request = request; reply = Say.Done reads }) is in
+    record {
+      now = still_now es e c.tid c.mini call a.now;
+      ever = still_ever es e c.tid c.mini call a.ever;
+      some = a.some;
+      within = subst (λ (o : Option NodeReply). MatchOption o (c.done + 1 ≤ count c) (λ reply. c.done + 1 < count c)) (sym open_still) (omega arith);
+      untold = a.untold;
+      told = still_told es e c.tid call ∙ a.told;
+      done = λ i l. noted (is_try c.tid) is_done es e c i request (Say.Done reads) is t.try low l ∙ (ap (λ b. (nat_eq c.done i && true) || b) (a.done i l) ∙ next i);
+      votes = λ two i l below. noted (is_prepare c.tid) is_done es e c i request (Say.Done reads) is (t.prepare two) low l ∙ vote two i l below (nat_eq c.done i) refl;
+      sent = λ o i l. noted (is_try c.tid) (λ r. true) es e c i request (Say.Done reads) is t.try low l ∙ (ap (λ b. (nat_eq c.done i && true) || b) (a.sent o i l) ∙ next i);
+      stopped = λ i l. noted (is_try c.tid) is_stopped es e c i request (Say.Done reads) is t.try low l
+          ∙ (ap (λ b. b || was_stopped c.tid (participant c i) es) (and_false (nat_eq c.done i))
+          ∙ (a.stopped i l ∙ (ap (λ (o : Option NodeReply). nat_eq i c.done && has_stopped o) open_still
+          ∙ (and_false (nat_eq i c.done) ∙ sym (ap (λ (o : Option NodeReply). nat_eq i (c.done + 1) && has_stopped o) open_still ∙ and_false (nat_eq i (c.done + 1)))))));
+      doubt = doubt_more es e (participant c c.done) request (Say.Done reads) c.tid is
+          ∙ (a.doubt ∙ (ap (is_doubtful (count c) c.done) open_still ∙ sym (ap (is_doubtful (count c) (c.done + 1)) open_still)));
+    }
+  where
+    and_true : (b : Bool) → (b && true) ≡ b
+    and_true true = refl
+    and_true false = refl
+
+    next : (i : ℕ) → ((nat_eq c.done i && true) || nat_lt i c.done) ≡ nat_lt i (c.done + 1)
+    next i = ap (λ b. b || nat_lt i c.done) (and_true (nat_eq c.done i)) ∙ below_next i c.done
+
+    vote : 2 ≤ count c → (i : ℕ) → i < count c → i < c.done + 1 → (b : Bool) → nat_eq c.done i ≡ b → ((b && true) || was_told (is_prepare c.tid) is_done (participant c i) es) ≡ true
+    vote two i l below true f = refl
+    vote two i l below false f = let apart = eqb-false c.done i f in a.votes two i l (omega (arith, apart))
+
+-- any other reply to it
+refused_agrees : (es : List Entry) (e : Entry) (c : Coordination) (request : Request) (reply : NodeReply) → Agrees es c → c.refused ≡ None → c.done < count c → IsTryOf c request → is_done reply ≡ false
+    → ((is_stopped reply && nat_eq (c.done + 1) (count c)) ≡ is_stopped_at_last (count c) c.done reply) → IsAnswered e (participant c c.done) request reply → Agrees (e ∷ es) (record c { refused = Some reply; asked = false })
+refused_agrees es e c request reply a open_still low t other last is =
+    let call = a_call es e (record { node = participant c c.done; request = request; reply = reply }) is in
+    record {
+      now = still_now es e c.tid c.mini call a.now;
+      ever = still_ever es e c.tid c.mini call a.ever;
+      some = a.some;
+      within = low;
+      untold = λ none. absurd cc;
+      told = still_told es e c.tid call ∙ a.told;
+      done = λ i l. noted (is_try c.tid) is_done es e c i request reply is t.try low l
+          ∙ (ap (λ b. (nat_eq c.done i && b) || was_done c.tid (participant c i) es) other ∙ (ap (λ b. b || was_done c.tid (participant c i) es) (and_false (nat_eq c.done i)) ∙ a.done i l));
+      votes = λ two i l below. noted (is_prepare c.tid) is_done es e c i request reply is (t.prepare two) low l ∙ or_true _ _ (a.votes two i l below);
+      sent = λ none. absurd cc;
+      stopped = λ i l. noted (is_try c.tid) is_stopped es e c i request reply is t.try low l
+          ∙ (ap (λ b. (nat_eq c.done i && is_stopped reply) || b) (a.stopped i l ∙ (ap (λ (o : Option NodeReply). nat_eq i c.done && has_stopped o) open_still ∙ and_false (nat_eq i c.done)))
+          ∙ (or_none (nat_eq c.done i && is_stopped reply) ∙ ap (λ b. b && is_stopped reply) (eq_turn c.done i)));
+      doubt = doubt_more es e (participant c c.done) request reply c.tid is
+          ∙ (ap (λ b. (is_stopped reply && b) || is_in_doubt c.tid es) t.last
+          ∙ (ap (λ b. (is_stopped reply && nat_eq (c.done + 1) (count c)) || b) (a.doubt ∙ ap (is_doubtful (count c) c.done) open_still) ∙ (or_none (is_stopped reply && nat_eq (c.done + 1) (count c)) ∙ last)));
+    }
+  where
+    or_none : (b : Bool) → (b || false) ≡ b
+    or_none true = refl
+    or_none false = refl
+
+reply_agrees : (es : List Entry) (e : Entry) (c : Coordination) (request : Request) (reply : NodeReply) → Agrees es c → c.refused ≡ None → c.done < count c → IsTryOf c request
+    → IsAnswered e (participant c c.done) request reply → Agrees (e ∷ es) (after_reply c reply)
+reply_agrees es e c request (Say.Done reads) a o low t is = done_agrees es e c request reads (Rattle.std.specs.Prelude.slice_set c.reads c.done reads) a o low t is
+reply_agrees es e c request (Say.BadLock s k h) a o low t is = refused_agrees es e c request (Say.BadLock s k h) a o low t refl refl is
+reply_agrees es e c request (Say.BadCompare i f) a o low t is = refused_agrees es e c request (Say.BadCompare i f) a o low t refl refl is
+reply_agrees es e c request Say.BadForced a o low t is = refused_agrees es e c request Say.BadForced a o low t refl refl is
+reply_agrees es e c request (Say.Vote v) a o low t is = refused_agrees es e c request (Say.Vote v) a o low t refl refl is
+reply_agrees es e c request Say.Decided a o low t is = refused_agrees es e c request Say.Decided a o low t refl refl is
+reply_agrees es e c request (Say.Listed d) a o low t is = refused_agrees es e c request (Say.Listed d) a o low t refl refl is
+reply_agrees es e c request (Say.Peeked b) a o low t is = refused_agrees es e c request (Say.Peeked b) a o low t refl refl is
+reply_agrees es e c request Say.Down a o low t is = refused_agrees es e c request Say.Down a o low t refl refl is
+reply_agrees es e c request Say.Stopped a o low t is = refused_agrees es e c request Say.Stopped a o low t refl refl is
+reply_agrees es e c request Say.NoMemory a o low t is = refused_agrees es e c request Say.NoMemory a o low t refl refl is
+
+send_is : (n m : NodeNo) (q r : Request) → Send n q ≡ Send m r → (n ≡ m) × (q ≡ r)
+send_is n m q r e = (cc, cc)
+
+moved : (e : Entry) (n m : NodeNo) (q r : Request) (reply : NodeReply) → n ≡ m → q ≡ r → IsAnswered e m r reply → IsAnswered e n q reply
+moved e n m q r reply f g is = is ∙ (ap (λ (k : NodeNo). record { node = k; request = r; reply = reply } ∷ []) (sym f) ∙ ap (λ (k : Request). record { node = n; request = k; reply = reply } ∷ []) (sym g))
+
+pub answers_agree : AnswersAgree
+answers_agree es e c node request reply a step is = by (stage_in c) refl step
+  where
+    by : (stage : Stage) → stage_in c ≡ stage → step_at c stage ≡ Send node request → Agrees (e ∷ es) (fed_at c stage reply)
+    by At.Ask s f =
+        let facts = asking (count c) c.done c.refused c.told c.decided s in
+        let parts = send_is _ _ _ _ f in
+        reply_agrees es e c (try_request c.tid c.mini (participant c c.done)) reply a facts.0 facts.1 (try_is c facts.1)
+        (moved e (participant c c.done) node (try_request c.tid c.mini (participant c c.done)) request reply parts.0 parts.1 is)
+    by At.Commit s f = decided_agrees es e c node request reply (c.decided + 1) false a is (subst IsDecide (send_is _ _ _ _ f).1 tt)
+    by At.Cancel s f = decided_agrees es e c node request reply (c.decided + 1) false a is (subst IsDecide (send_is _ _ _ _ f).1 tt)
+    by At.Abandon s f = absurd cc
+    by At.Committed s f = absurd cc
+    by At.Failed s f = absurd cc
+    by At.Doubt s f = absurd cc
+
+-- A reply that is no entry
+
+pub no_answer_agrees : NoAnswerAgrees
+no_answer_agrees es c a = by (stage_in c) refl
+  where
+    same : (k : ℕ) → Agrees es (record c { decided = k; asked = false })
+    same k = record { now = a.now; ever = a.ever; some = a.some; within = a.within; untold = a.untold; told = a.told; done = a.done; votes = a.votes; sent = a.sent; stopped = a.stopped; doubt = a.doubt }
+
+    idle : Agrees es (record c { asked = false })
+    idle = record { now = a.now; ever = a.ever; some = a.some; within = a.within; untold = a.untold; told = a.told; done = a.done; votes = a.votes; sent = a.sent; stopped = a.stopped; doubt = a.doubt }
+
+    refuses : c.refused ≡ None → c.done < count c → Agrees es (record c { refused = Some Say.NoMemory; asked = false })
+    refuses o low = record {
+      now = a.now;
+      ever = a.ever;
+      some = a.some;
+      within = low;
+      untold = λ none. absurd cc;
+      told = a.told;
+      done = a.done;
+      votes = a.votes;
+      sent = λ none. absurd cc;
+      stopped = λ i l. a.stopped i l ∙ (ap (λ (r : Option NodeReply). nat_eq i c.done && has_stopped r) o);
+      doubt = a.doubt ∙ ap (is_doubtful (count c) c.done) o;
+    }
+
+    by : (stage : Stage) → stage_in c ≡ stage → Agrees es (fed_at c stage Say.NoMemory)
+    by At.Ask s = let facts = asking (count c) c.done c.refused c.told c.decided s in refuses facts.0 facts.1
+    by At.Commit s = same (c.decided + 1)
+    by At.Cancel s = same (c.decided + 1)
+    by At.Abandon s = idle
+    by At.Committed s = idle
+    by At.Failed s = idle
+    by At.Doubt s = idle
+
+-- Abandoned
+
+no_call : (n : Option NodeNo) (what : What) → n ≡ None → call_in n what ≡ []
+no_call n what e = ap (λ (m : Option NodeNo). call_in m what) e
+
+same_calls : (es : List Entry) (e : Entry) → e.node ≡ None → calls_of (e ∷ es) ≡ calls_of es
+same_calls es e none = ap (λ (cs : List Call). cs ++ calls_of es) (no_call e.node e.what none)
+
+abandons : (c : Coordination) → step_of c ≡ Abandon → stage_in c ≡ At.Abandon
+abandons c step = by (stage_in c) refl step
+  where
+    by : (stage : Stage) → stage_in c ≡ stage → step_at c stage ≡ Abandon → stage_in c ≡ At.Abandon
+    by At.Ask s f = absurd cc
+    by At.Commit s f = absurd cc
+    by At.Abandon s f = s
+    by At.Cancel s f = absurd cc
+    by At.Committed s f = absurd cc
+    by At.Failed s f = absurd cc
+    by At.Doubt s f = absurd cc
+
+pub abandoned_agrees : AbandonedAgrees
+abandoned_agrees es e c a step none what = record {
+  now = ap (λ (l : List Entry). issue_named c.tid (issues_of l)) (ap (λ (w : What). since_begin_after w e (since_begin es)) what)
+      ∙ (ap (issue_named c.tid) (same_issues (since_begin es) e (ap issue_in what)) ∙ a.now);
+  ever = ap (issue_named c.tid) (same_issues es e (ap issue_in what)) ∙ a.ever;
+  some = a.some;
+  within = a.within;
+  untold = λ o. absurd (let r = ((refusing (count c) c.done c.refused c.told c.decided At.Abandon (abandons c step)).0 refl).0 in let both : Some r.reply ≡ None = sym r.is ∙ o in cc);
+  told = ap (λ (w : What). is_abandonment c.tid w || was_abandoned c.tid es) what ∙ ap (λ b. b || was_abandoned c.tid es) (tid_same-refl c.tid);
+  done = λ i l. ap (list_any (λ (k : Call). node_same k.node (participant c i) && (is_try c.tid k.request && is_done k.reply))) (same_calls es e none) ∙ a.done i l;
+  votes = λ two i l below. ap (list_any (λ (k : Call). node_same k.node (participant c i) && (is_prepare c.tid k.request && is_done k.reply))) (same_calls es e none) ∙ a.votes two i l below;
+  sent = λ o i l. ap (list_any (λ (k : Call). node_same k.node (participant c i) && (is_try c.tid k.request && true))) (same_calls es e none) ∙ a.sent o i l;
+  stopped = λ i l. ap (list_any (λ (k : Call). node_same k.node (participant c i) && (is_try c.tid k.request && is_stopped k.reply))) (same_calls es e none) ∙ a.stopped i l;
+  doubt = ap (list_any (λ (k : Call). is_stopped k.reply && (is_exec c.tid k.request || (is_prepare c.tid k.request && is_last_of k.node k.request)))) (same_calls es e none) ∙ a.doubt;
+}
+
+-- The issue
+
+-- where no call is a try of the id, no test of its tries passes
+untried : (t : Request → Bool) (say : NodeReply → Bool) (tid : Tid) (m : NodeNo) (cs : List Call) → ((request : Request) → is_try tid request ≡ false → t request ≡ false) → list_any (names_tid tid) cs ≡ false
+    → list_any (λ (c : Call). node_same c.node m && (t c.request && say c.reply)) cs ≡ false
+untried t say tid m [] within fresh = refl
+untried t say tid m (k ∷ cs) within fresh =
+    let parts = split (is_try tid k.request) (list_any (names_tid tid) cs) fresh in
+    ap (λ b. b || list_any (λ (c : Call). node_same c.node m && (t c.request && say c.reply)) cs) (ap (λ b. node_same k.node m && (b && say k.reply)) (within k.request parts.0) ∙ and_false (node_same k.node m)) ∙ untried t say tid m cs within parts.1
+  where
+    split : (a b : Bool) → (a || b) ≡ false → (a ≡ false) × (b ≡ false)
+    split true b e = absurd cc
+    split false b e = (refl, e)
+
+not_in_doubt : (tid : Tid) (cs : List Call) → list_any (names_tid tid) cs ≡ false → list_any (λ (k : Call). is_stopped k.reply && (is_exec tid k.request || (is_prepare tid k.request && is_last_of k.node k.request))) cs ≡ false
+not_in_doubt tid [] fresh = refl
+not_in_doubt tid (k ∷ cs) fresh =
+    let parts = split (is_try tid k.request) (list_any (names_tid tid) cs) fresh in
+    ap (λ b. b || list_any (λ (c : Call). is_stopped c.reply && (is_exec tid c.request || (is_prepare tid c.request && is_last_of c.node c.request))) cs)
+    (ap (λ b. is_stopped k.reply && (b || (is_prepare tid k.request && is_last_of k.node k.request))) (exec_of_try tid k.request parts.0)
+    ∙ (ap (λ b. is_stopped k.reply && (b && is_last_of k.node k.request)) (prepare_of_try tid k.request parts.0) ∙ and_false (is_stopped k.reply)))
+    ∙ not_in_doubt tid cs parts.1
+  where
+    split : (a b : Bool) → (a || b) ≡ false → (a ≡ false) × (b ≡ false)
+    split true b e = absurd cc
+    split false b e = (refl, e)
+
+issue_first : (tid : Tid) (mini : Mini) (rest : List Issued) → issue_named tid (record { tid = tid; mini = mini } ∷ rest) ≡ Some mini
+issue_first tid mini rest = ap (λ b. if b then Some mini else issue_named tid rest) (tid_same-refl tid)
+
+none_below : (i k : ℕ) → k ≡ 0 → nat_lt i k ≡ false
+none_below i k e = le-ltb i k (omega arith)
+
+pub issues_agree : IssuesAgree
+issues_agree es e c fresh some zero_done open_still quiet none what = record {
+  now = ap (λ (l : List Entry). issue_named c.tid (issues_of l)) (ap (λ (w : What). since_begin_after w e (since_begin es)) what)
+      ∙ (ap (λ (w : What). issue_named c.tid (issue_in w ++ issues_of (since_begin es))) what ∙ issue_first c.tid c.mini (issues_of (since_begin es)));
+  ever = ap (λ (w : What). issue_named c.tid (issue_in w ++ issues_of es)) what ∙ issue_first c.tid c.mini (issues_of es);
+  some = some;
+  within = subst (λ (o : Option NodeReply). MatchOption o (c.done ≤ count c) (λ reply. c.done < count c)) (sym open_still) (omega arith);
+  untold = λ o. quiet;
+  told = ap (λ (w : What). is_abandonment c.tid w || was_abandoned c.tid es) what ∙ (fresh.1 ∙ sym quiet);
+  done = λ i l. tested (is_try c.tid) is_done (λ request h. h) i ∙ sym (none_below i c.done zero_done);
+  votes = λ two i l below. absurd (omega arith);
+  sent = λ o i l. tested (is_try c.tid) (λ r. true) (λ request h. h) i ∙ sym (none_below i c.done zero_done);
+  stopped = λ i l. tested (is_try c.tid) is_stopped (λ request h. h) i ∙ sym (ap (λ (o : Option NodeReply). nat_eq i c.done && has_stopped o) open_still ∙ and_false (nat_eq i c.done));
+  doubt = ap (list_any (λ (k : Call). is_stopped k.reply && (is_exec c.tid k.request || (is_prepare c.tid k.request && is_last_of k.node k.request)))) (same_calls es e none)
+      ∙ (not_in_doubt c.tid (calls_of es) fresh.0 ∙ sym (ap (is_doubtful (count c) c.done) open_still));
+}
+  where
+    tested : (t : Request → Bool) (say : NodeReply → Bool) → ((request : Request) → is_try c.tid request ≡ false → t request ≡ false) → (i : ℕ) → was_told t say (participant c i) (e ∷ es) ≡ false
+    tested t say within i =
+        ap (list_any (λ (k : Call). node_same k.node (participant c i) && (t k.request && say k.reply))) (same_calls es e none) ∙ untried t say c.tid (participant c i) (calls_of es) within fresh.0
+
+-- A request that is handed out
+
+pub handed_out_agrees : (es : List Entry) (c : Coordination) → Agrees es c → (step_of c ≡ Abandon → ⊥) → Agrees es (after_step c (step_of c))
+handed_out_agrees es c a other = by (step_of c) other
+  where
+    out : Agrees es (record c { asked = true })
+    out = record { now = a.now; ever = a.ever; some = a.some; within = a.within; untold = a.untold; told = a.told; done = a.done; votes = a.votes; sent = a.sent; stopped = a.stopped; doubt = a.doubt }
+
+    by : (step : CoordStep) → (step ≡ Abandon → ⊥) → Agrees es (after_step c step)
+    by (Send node request) o = out
+    by Abandon o = absurd (o refl)
+    by Committed o = a
+    by (Failed node) o = a
+    by (Doubt node) o = a

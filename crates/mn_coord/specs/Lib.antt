@@ -1,0 +1,4 @@
+pub mod Coordination
+pub mod Tries
+pub mod Inside
+pub mod Legal

@@ -1,0 +1,11 @@
+use Rattle.std.proofs.Common.{◌∷◌, ap, subst, sym, ◌∙◌}
+use Rattle.mn_recov.specs.Recovery.{fed}
+use Rattle.mn_recov.specs.Legal.{Agrees}
+use Rattle.mn_recov.proofs.Legal.{answers_agree, no_answer_agrees}
+use Rattle.mn_recov.proofs.recoverer.Recoverer.feed.Goals as goal
+
+pub returns-clause-agrees : goal.returns-clause-agrees
+returns-clause-agrees c = λ es e node request a step is. subst (Agrees (e ∷ es)) (sym c.advance.ensures) (answers_agree es e c.args.self.now node request c.args.reply a step is)
+
+pub returns-clause-no_entry : goal.returns-clause-no_entry
+returns-clause-no_entry c = λ none es a. subst (Agrees es) (sym (c.advance.ensures ∙ ap (fed c.args.self.now) none)) (no_answer_agrees es c.args.self.now a)
