@@ -1,0 +1,32 @@
+#!/usr/bin/env python3
+"""Times the program on scripts of N operations: every second one a put, over eight keys.
+
+bench/replay.py [N ..]     default 500 1000 2000; build first with scripts/minuet
+"""
+import subprocess
+import sys
+import time
+from pathlib import Path
+
+PROGRAM = Path(__file__).resolve().parent.parent / "crates/minuet/out/minuet"
+
+
+def script(operations: int) -> bytes:
+    lines = ["nodes 1", "client a"]
+    for number in range(operations):
+        key = f"key{number % 8}"
+        lines.append(f"put main {key} {number}" if number % 2 == 0 else f"get main {key}")
+    return ("\n".join(lines) + "\n").encode()
+
+
+def main() -> None:
+    for operations in [int(word) for word in sys.argv[1:]] or [500, 1000, 2000]:
+        text = script(operations)
+        began = time.perf_counter()
+        run = subprocess.run([PROGRAM, "replay", "1"], input=text, capture_output=True, check=True)
+        seconds = time.perf_counter() - began
+        print(f"{operations} operations: {seconds * 1000:.1f} ms, {len(run.stdout)} bytes of report")
+
+
+if __name__ == "__main__":
+    main()
