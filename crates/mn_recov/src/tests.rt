@@ -32,9 +32,7 @@ fn tid() -> Tid {
 }
 
 fn both(alloc: Global) -> Result<Nodes, Fail> {
-    Ok(Nodes::from_vec(
-        [NodeNo(0), NodeNo(1)].to_vec(alloc)?,
-    ))
+    Ok(Nodes::from_vec([NodeNo(0), NodeNo(1)].to_vec(alloc)?))
 }
 
 fn listed(alloc: Global, held: bool) -> Result<NodeReply, Fail> {
