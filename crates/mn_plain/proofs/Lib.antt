@@ -1,0 +1,4 @@
+pub mod PairLemmas
+pub mod StepLemmas
+pub mod KeptLemmas
+pub mod ApplyLemmas

@@ -1,0 +1,10 @@
+//! The store of versions as its rules say it, in one list and without nodes: what every other form of it must answer.
+#![tactic(auto)]
+
+mod digest;
+mod pairs;
+mod steps;
+mod store;
+mod version;
+
+pub use store::{MAX_VERSIONS, Store};

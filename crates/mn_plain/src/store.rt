@@ -1,0 +1,325 @@
+ghost use Rattle.std.specs.Prelude.{◌≡◌, ◌<◌, ◌&&◌, not, length, IfOk, IfNone, OnOk, OnErr, IsSomeAnd, slice_get, option_map, option_and_then};
+ghost use Rattle.mn_base.specs.Store.{applied, empty_store, heads_of, listed, listing_of, child_refusal, max_versions};
+ghost use Rattle.mn_plain.specs.Run.{Does, is_unmet_reply, pairs_after};
+ghost use Rattle.mn_plain.specs.Digest.{pairs_digest};
+ghost use Rattle.mn_plain.specs.Kept.{version_of, store_of, IsPlace, SetsPairs, Freezes, AddsChild};
+
+use crate::digest::digest_of;
+use crate::pairs::within;
+use crate::steps::{has_change, reply_to, take_steps};
+use crate::version::{Kept, Place};
+use mn_base::{Key, Listing, Name, NoMemory, Op, Pairs, Reply, Steps, TryCopy, Version, VersionNo};
+use std::alloc::Global;
+use std::marker::Model;
+use std::mem;
+
+/// The most versions of a store.
+pub const MAX_VERSIONS: usize = 64;
+
+/// The versions in order of number, each with its pairs in order of key. Contracts see the list that the rules of the
+/// store speak of.
+#[derive(Debug, Drop)]
+pub struct Store {
+    versions: Vec<Kept>,
+}
+
+impl Model for Store {
+    ghost use Rattle.std.specs.Prelude.{◌≤◌, List, length};
+    ghost use Rattle.mn_base.specs.Store.{StoreVersion, max_versions};
+    ghost use Rattle.mn_plain.specs.Kept.{store_of};
+
+    ghost Value = { List StoreVersion };
+
+    ghost view = { λ s. store_of s.versions.items };
+
+    ghost invariant = { λ s. length s.versions.items ≤ max_versions };
+}
+
+/// Where the version of this name stands.
+fn place_of(versions: &[Kept], name: &Name) -> Option<Place>
+    ensures { IsPlace (store_of versions.now) name.now result }
+{
+    for (at, version) in versions.iter().enumerate() {
+        if version.name.as_slice() == name.as_slice() {
+            return Some(Place {
+                at,
+                frozen: version.frozen,
+            });
+        }
+    }
+    None
+}
+
+/// The name of a version.
+fn name_at(versions: &[Kept], at: usize) -> Option<&Name>
+    ensures { option_map (λ n. n.now) result ≡ option_map (λ p. p.name) (slice_get (heads_of (store_of versions.now)) at) }
+{
+    if at < versions.len() {
+        Some(&versions[at].name)
+    } else {
+        None
+    }
+}
+
+/// The name of a version's parent.
+fn parent_name(versions: &[Kept], parent: Option<VersionNo>) -> Option<&Name>
+    ensures { option_map (λ n. n.now) result ≡ option_and_then (λ n. option_map (λ p. p.name) (slice_get (heads_of (store_of versions.now)) n)) (option_map (λ n. n.0) parent) }
+{
+    match parent {
+        Some(number) => name_at(versions, usize::from(number.0)),
+        None => None,
+    }
+}
+
+fn copy_of_name(alloc: Global, name: Option<&Name>) -> Result<Option<Name>, NoMemory>
+    ensures { IfOk result (λ copy. copy ≡ option_map (λ n. n.now) name.entry) }
+{
+    match name {
+        Some(name) => Ok(Some(name.try_copy(alloc)?)),
+        None => Ok(None),
+    }
+}
+
+/// What a listing says of a version among these.
+fn listed_of(alloc: Global, versions: &[Kept], version: &Kept) -> Result<Version, NoMemory>
+    ensures { IfOk result (λ line. line ≡ listed (heads_of (store_of versions.now)) (version_of version.now).head) }
+{
+    Ok(Version {
+        name: version.name.try_copy(alloc)?,
+        parent: copy_of_name(alloc, parent_name(versions, version.parent))?,
+        frozen: version.frozen,
+    })
+}
+
+/// Whether a transaction is refused there, which changes pairs or not.
+fn is_shut(place: Place, change: bool) -> bool
+    ensures { result ≡ (place.frozen && change) }
+{
+    place.frozen && change
+}
+
+/// Whether a transaction with this reply leaves all pairs, which holds a change or not.
+fn is_without_effect(reply: &Reply, change: bool) -> bool
+    ensures { result ≡ not (change && not (is_unmet_reply reply.now)) }
+{
+    match reply {
+        Reply::Unmet { .. } => true,
+        _ => !change,
+    }
+}
+
+impl Store {
+    /// The store as it begins: one writable version, number 0, named `main`, without a parent and without pairs.
+    /// NoMemory: there was no memory for it.
+    pub fn new(alloc: Global) -> Result<Self, NoMemory>
+        ensures { IfOk result (λ store. store ≡ empty_store) }
+    {
+        let Ok(name) = Name::new(alloc, b"main") else {
+            return Err(NoMemory);
+        };
+        let mut versions = Vec::new(alloc);
+        versions.push(Kept {
+            name,
+            parent: None,
+            frozen: false,
+            pairs: Pairs::from_vec(Vec::new(alloc)),
+        })?;
+        Ok(Store { versions })
+    }
+
+    /// Does the operation and replies to it. After a refusing reply or an unmet Check the store is as it was. NoMemory: there
+    /// was no memory for the operation or its reply; the store is as it was.
+    pub fn apply(&mut self, alloc: Global, op: &Op) -> Result<Reply, NoMemory>
+        ensures reply { IfOk result (λ reply. reply ≡ (applied self.old op.now).reply) }
+        ensures store { OnOk result (self.new ≡ (applied self.old op.now).store) }
+        ensures kept { OnErr result (self.new ≡ self.old) }
+    {
+        match op {
+            Op::Tx { version, steps } => self.run(alloc, version, steps),
+            Op::Snapshot { version, child } => self.snapshot(alloc, version, child),
+            Op::Branch { version, child } => self.branch(alloc, version, child),
+            Op::Scan {
+                version,
+                low,
+                high,
+                limit,
+            } => self.scan(alloc, version, low, high, *limit),
+            Op::Versions => Ok(Reply::Listing {
+                versions: self.listing(alloc)?,
+            }),
+        }
+    }
+
+    /// Where the version of this name stands.
+    fn find(&self, name: &Name) -> Option<Place>
+        ensures { IsPlace self.now name.now result }
+    {
+        place_of(&self.versions, name)
+    }
+
+    /// The pairs of a version.
+    fn pairs_at(&self, at: usize) -> &Pairs
+        requires { at < length self.now }
+        ensures { IsSomeAnd (slice_get self.now at) (λ kept. result.now ≡ kept.pairs) }
+    {
+        &self.versions[at].pairs
+    }
+
+    /// Does the steps in a version.
+    fn take(&mut self, alloc: Global, at: usize, steps: &Steps) -> Result<(), NoMemory>
+        requires { at < length self.old }
+        ensures taken { OnOk result (SetsPairs (λ ps. pairs_after ps steps.now) self.old at self.new) }
+        ensures kept { OnErr result (self.new ≡ self.old) }
+    {
+        let steps = steps.try_copy(alloc)?.into_vec();
+        let version = &mut self.versions[at];
+        let mut pairs = mem::replace(
+            &mut version.pairs,
+            Pairs::from_vec(Vec::new(alloc)),
+        ).into_vec();
+        let taken = take_steps(&mut pairs, steps);
+        version.pairs = Pairs::from_vec(pairs);
+        taken
+    }
+
+    /// Freezes a version.
+    fn freeze(&mut self, at: usize)
+        requires { at < length self.old }
+        ensures { Freezes self.old at self.new }
+    {
+        self.versions[at].frozen = true;
+    }
+
+    /// Adds a writable child of a version, with the same pairs.
+    fn add_child(&mut self, alloc: Global, at: usize, child: &Name) -> Result<(), NoMemory>
+        requires there { at < length self.old }
+        requires room { length self.old < max_versions }
+        ensures added { OnOk result (AddsChild self.old at child.now self.new) }
+        ensures kept { OnErr result (self.new ≡ self.old) }
+    {
+        let kept = Kept {
+            name: child.try_copy(alloc)?,
+            parent: Some(VersionNo(at as u8)),
+            frozen: false,
+            pairs: self.pairs_at(at).try_copy(alloc)?,
+        };
+        self.versions.push(kept)?;
+        Ok(())
+    }
+
+    /// Why no version of this name can be made.
+    fn child_refusal(&self, child: &Name) -> Option<Reply>
+        ensures refused { result ≡ child_refusal (heads_of self.now) child.now }
+        ensures room { IfNone result (length self.now < max_versions) }
+    {
+        if self.find(child).is_some() {
+            return Some(Reply::NameTaken);
+        }
+        if self.versions.len() >= MAX_VERSIONS {
+            return Some(Reply::VersionsFull);
+        }
+        None
+    }
+
+    fn run(&mut self, alloc: Global, version: &Name, steps: &Steps) -> Result<Reply, NoMemory>
+        ensures { Does (Op.Tx version.now steps.now) self.old self.new result }
+    {
+        let Some(place) = self.find(version) else {
+            return Ok(Reply::NoVersion);
+        };
+        let change = has_change(steps.as_slice());
+        if is_shut(place, change) {
+            return Ok(Reply::Frozen);
+        }
+        let reply = reply_to(alloc, self.pairs_at(place.at).as_slice(), steps.as_slice())?;
+        if is_without_effect(&reply, change) {
+            return Ok(reply);
+        }
+        self.take(alloc, place.at, steps)?;
+        Ok(reply)
+    }
+
+    fn snapshot(&mut self, alloc: Global, version: &Name, child: &Name) -> Result<Reply, NoMemory>
+        ensures { Does (Op.Snapshot version.now child.now) self.old self.new result }
+    {
+        let Some(place) = self.find(version) else {
+            return Ok(Reply::NoVersion);
+        };
+        if place.frozen {
+            return Ok(Reply::Frozen);
+        }
+        if let Some(refusal) = self.child_refusal(child) {
+            return Ok(refusal);
+        }
+        self.add_child(alloc, place.at, child)?;
+        self.freeze(place.at);
+        Ok(Reply::Made)
+    }
+
+    fn branch(&mut self, alloc: Global, version: &Name, child: &Name) -> Result<Reply, NoMemory>
+        ensures { Does (Op.Branch version.now child.now) self.old self.new result }
+    {
+        let Some(place) = self.find(version) else {
+            return Ok(Reply::NoVersion);
+        };
+        if !place.frozen {
+            return Ok(Reply::NotFrozen);
+        }
+        if let Some(refusal) = self.child_refusal(child) {
+            return Ok(refusal);
+        }
+        self.add_child(alloc, place.at, child)?;
+        Ok(Reply::Made)
+    }
+
+    fn scan(
+        &self,
+        alloc: Global,
+        version: &Name,
+        low: &Option<Key>,
+        high: &Option<Key>,
+        limit: u32,
+    ) -> Result<Reply, NoMemory>
+        ensures { Does (Op.Scan version.now low.now high.now limit) self.now self.now result }
+    {
+        let Some(place) = self.find(version) else {
+            return Ok(Reply::NoVersion);
+        };
+        if !place.frozen {
+            return Ok(Reply::NotFrozen);
+        }
+        let found = within(alloc, self.pairs_at(place.at).as_slice(), low, high, limit)?;
+        Ok(Reply::Pairs {
+            pairs: Pairs::from_vec(found),
+        })
+    }
+
+    /// Every version in order of number. NoMemory: there was no memory for the list.
+    pub fn listing(&self, alloc: Global) -> Result<Listing, NoMemory>
+        ensures { IfOk result (λ listing. listing ≡ listing_of (heads_of self.now)) }
+    {
+        let versions = &self.versions;
+        let mut lines = Vec::new(alloc);
+        for version in versions {
+            lines.push(listed_of(alloc, versions, version)?)?;
+        }
+        Ok(Listing::from_vec(lines))
+    }
+
+    /// The pairs of a version that is there.
+    pub fn pairs(&self, version: VersionNo) -> &Pairs
+        requires { version.0 < length self.now }
+        ensures { IsSomeAnd (slice_get self.now version.0) (λ kept. result.now ≡ kept.pairs) }
+    {
+        self.pairs_at(usize::from(version.0))
+    }
+
+    /// The SHA-256 of the pairs of a version that is there: for each pair in order of key the key's length (1 byte), the
+    /// key, the value's length (1 byte), the value. NoMemory: there was no memory for these bytes.
+    pub fn digest(&self, alloc: Global, version: VersionNo) -> Result<[u8; 32], NoMemory>
+        requires { version.0 < length self.now }
+        ensures { IfOk result (λ digest. IsSomeAnd (slice_get self.now version.0) (λ kept. digest ≡ pairs_digest kept.pairs)) }
+    {
+        digest_of(alloc, self.pairs(version).as_slice())
+    }
+}

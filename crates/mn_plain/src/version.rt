@@ -1,0 +1,17 @@
+use mn_base::{Name, Pairs, VersionNo};
+
+/// A version as it is kept: its name, its parent's number or none, whether it is frozen, and its pairs in order of key.
+#[derive(Debug, Drop)]
+pub struct Kept {
+    pub name: Name,
+    pub parent: Option<VersionNo>,
+    pub frozen: bool,
+    pub pairs: Pairs,
+}
+
+/// Where a version stands, and whether it is frozen.
+#[derive(Clone, Copy, Debug)]
+pub struct Place {
+    pub at: usize,
+    pub frozen: bool,
+}
