@@ -8,3 +8,6 @@ mod store;
 mod version;
 
 pub use store::{MAX_VERSIONS, Store};
+
+#[cfg(test)]
+mod tests;
