@@ -4,3 +4,6 @@ pub mod Apart
 pub mod Parts
 pub mod Bytes
 pub mod Answers
+pub mod RecordGrammar
+pub mod ItemLists
+pub mod RecordBytes

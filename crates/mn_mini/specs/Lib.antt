@@ -3,3 +3,4 @@ pub mod Refusal
 pub mod Flat
 pub mod Node
 pub mod Laws
+pub mod RecordGrammar
