@@ -1,9 +1,8 @@
 -- Lists that show answers: a read's reply, a scan's, each kind of Busy, Full and Worn; and a plan.
-use Rattle.std.proofs.Common.{◌≡◌, ℕ, zero, suc, ◌+◌, ◌-◌, ◌^◌, true, false, IsTrue, ◌&&◌, inl, inr, List, [], ◌∷◌, ◌++◌, length, replicate, take, Some, None, refl, subst, lit<, lit≤}
+use Rattle.std.proofs.Common.{◌≡◌, ℕ, zero, suc, ◌-◌, ◌^◌, true, false, IsTrue, ◌&&◌, inl, inr, List, [], ◌∷◌, ◌++◌, length, replicate, take, Some, None, refl, subst, lit<, lit≤}
 use Rattle.std.specs.Prelude.{slice_get}
 use Rattle.std.specs.List.{list_all, flat_map}
 use Rattle.byteorder.specs.Endian.{big_bytes}
-use Rattle.mn_base.specs.declared.ids.NodeNo.{NodeNo}
 use Rattle.mn_base.specs.declared.ids.Addr.{Addr}
 use Rattle.mn_base.specs.declared.reply.Pair.{Pair}
 use Rattle.mn_base.specs.declared.op.Step.TheVariants.{Get, Put}
@@ -23,7 +22,7 @@ use Rattle.mn_mini.specs.Mini.{Mini, part_of}
 use Rattle.mn_page.specs.declared.page.Page.{Page}
 use Rattle.mn_page.specs.declared.page.Body.TheVariants.{Leaf}
 use Rattle.mn_page.specs.declared.entry.CatEntry.{CatEntry}
-use Rattle.mn_page.specs.Grammar.{padded, page_bytes, entry_bytes, IsPage, IsEntry}
+use Rattle.mn_page.specs.Grammar.{padded, page_bytes, entry_bytes, IsPage}
 use Rattle.mn_page.specs.Forest.{heads_in}
 use Rattle.mn_world.specs.declared.entry.Entry.{Entry}
 use Rattle.mn_world.specs.declared.entry.What.TheVariants.{Issue, Called, Abandoned}
@@ -32,7 +31,7 @@ use Rattle.mn_world.specs.Planned.{page_place, catalog_place, count_place, entry
 use Rattle.mn_world.specs.Plans.{put_in_place}
 use Rattle.mn_world.specs.Shown.{Seen, SeesCatalog, seen_in, ShowsPairs}
 use Rattle.mn_world.specs.Needs.{ReadsTree}
-use Rattle.mn_world.specs.Answers.{by_root, FailsAs, FailedTries, IsWhole, LastTry, ShowsBytes, FreeSlots, Shows, is_no_try, is_one_try}
+use Rattle.mn_world.specs.Answers.{by_root, FailsAs, FailedTries, ShowsBytes, Shows, is_no_try, is_one_try}
 use Rattle.mn_world.proofs.Plans.PutInPlace.{put_is_planned}
 use Rattle.mn_world.proofs.Examples.TwoNodes.{node, client, id, a_writes, prepare}
 
@@ -168,9 +167,12 @@ abbrev moved_try : List Entry
 moved_try = refused 2 plan exec (Say.BadCompare 0 (3 ∷ [])) (read 1 64 1 (1 ∷ []) [])
 
 moved_example : Shows (eight [] moved_try) (eight [] moved_try) put (GaveUp (Moved (node 0) 64 (1 ∷ []) (3 ∷ [])))
-moved_example = (refl, failed 1 [] moved_try (Moved (node 0) 64 (1 ∷ []) (3 ∷ []))
-    (inl (record { node = node 0; request = exec; reply = Say.BadCompare 0 (3 ∷ []) }, refl, (64, 1 ∷ [], refl, (record { place = record { node = node 0; start = 64; length = 1 }; bytes = 1 ∷ [] }, (0, lit< tt, refl), refl, lit≤ tt, refl), refl)))
-    refl refl)
+moved_example = (
+  refl,
+  failed 1 [] moved_try (Moved (node 0) 64 (1 ∷ []) (3 ∷ []))
+      (inl (record { node = node 0; request = exec; reply = Say.BadCompare 0 (3 ∷ []) }, refl, (64, 1 ∷ [], refl, (record { place = record { node = node 0; start = 64; length = 1 }; bytes = 1 ∷ [] }, (0, lit< tt, refl), refl, lit≤ tt, refl), refl)))
+      refl refl,
+)
 
 abbrev forced_try : List Entry
 forced_try = refused 1 a_writes (prepare 0 1 a_writes 0) Say.BadForced []
@@ -187,9 +189,12 @@ abbrev count_try : List Entry
 count_try = read 1 16 8 [] []
 
 count_example : Shows (eight [] count_try) (eight [] count_try) put (GaveUp (Path root 0))
-count_example = (refl, failed 1 [] count_try (Path root 0)
-    (inr (inr (inr (record { place = count_place (node 0); bytes = [] }, (0, lit< tt, refl), inr (refl, λ count few same. absurd cc), refl, refl))))
-    refl refl)
+count_example = (
+  refl,
+  failed 1 [] count_try (Path root 0)
+      (inr (inr (inr (record { place = count_place (node 0); bytes = [] }, (0, lit< tt, refl), inr (refl, λ count few same. absurd cc), refl, refl))))
+      refl refl,
+)
 
 -- a leaf that begins above the key
 abbrev high_leaf : Page
@@ -212,18 +217,21 @@ abbrev page_try : List Entry
 page_try = read 2 20480 1024 (page_bytes high_leaf) (read 1 64 4096 catalog [])
 
 page_example : Shows (eight [] page_try) (eight [] page_try) put (GaveUp (Path root 7))
-page_example = (refl, failed 1 [] page_try (Path root 7)
-    (inr (inl (
-      record { place = page_place root; bytes = page_bytes high_leaf },
-      97 ∷ [],
-      None,
-      entries,
-      (0, lit< tt, refl),
-      (catalog_seen, (1, lit< tt, refl), catalog_is, by_root catalog_seen entries 0 (entry 1) (1, lit< tt, refl) catalog_is refl refl),
-      refl,
-      inr (high_leaf, (high_is_page, refl), inr (inl refl), refl),
-    )))
-    refl refl)
+page_example = (
+  refl,
+  failed 1 [] page_try (Path root 7)
+      (inr (inl (
+        record { place = page_place root; bytes = page_bytes high_leaf },
+        97 ∷ [],
+        None,
+        entries,
+        (0, lit< tt, refl),
+        (catalog_seen, (1, lit< tt, refl), catalog_is, by_root catalog_seen entries 0 (entry 1) (1, lit< tt, refl) catalog_is refl refl),
+        refl,
+        inr (high_leaf, (high_is_page, refl), inr (inl refl), refl),
+      )))
+      refl refl,
+)
 
 -- Full and Worn
 
