@@ -3,4 +3,5 @@ pub mod TwoNodes
 pub mod Race
 pub mod Starts
 pub mod ListVersions
+pub mod Answering
 pub mod Resumed
