@@ -9,13 +9,15 @@ use Rattle.mn_base.specs.declared.ids.Tid.{Tid}
 use Rattle.mn_mini.specs.declared.item.Item.{Item}
 use Rattle.mn_mini.specs.declared.item.Item.TheVariants.{Compare, Read, Write}
 use Rattle.mn_mini.specs.declared.reply.NodeReply.{NodeReply}
+use Rattle.mn_mini.specs.declared.reply.NodeReply.TheVariants as Say
 use Rattle.mn_mini.specs.declared.request.Request.{Request}
 use Rattle.mn_mini.specs.Mini.{Mini, IsSound, IsSoundItem, item_node, participants_of}
 use Rattle.mn_mini.proofs.Parts.{named_takes_part}
+use Rattle.mn_coord.specs.declared.stage.Stage.{Stage}
 use Rattle.mn_coord.specs.declared.stage.Stage.TheVariants as At
 use Rattle.mn_coord.specs.declared.step.CoordStep.TheVariants.{Send}
 use Rattle.mn_coord.specs.declared.coordinator.Coordinator.TheInside.{Inside}
-use Rattle.mn_coord.specs.Coordination.{is_stopped_at_last, stage_of, stage_in, try_request, step_at, step_of}
+use Rattle.mn_coord.specs.Coordination.{Coordination, is_stopped_at_last, stage_of, stage_in, try_request, step_at, step_of, fed_at}
 use Rattle.mn_coord.specs.Tries.{tries_of}
 use Rattle.mn_coord.specs.Inside.{view_of, sent_of, IsSoundInside}
 
@@ -80,3 +82,25 @@ asks c is idle stage request rest first node at =
     let left : drop c.done (tries_of c.tid c.mini) ≡ request ∷ rest = ap (λ k. drop k (tries_of c.tid c.mini)) (sym sent) ∙ (sym is.left ∙ first) in
     let request_is = first_left c.tid c.mini (participants_of c.mini) c.done request rest left in
     ap (λ (m : NodeNo). Send m request) at ∙ (ap (λ (r : Request). Send (slice_index_or (participants_of c.mini) c.done (record { 0 = 0 })) r) request_is ∙ sym (ap (step_at (view_of c)) stage))
+
+-- Replies
+
+-- a reply is no longer awaited
+pub idle_after : (c : Coordination) (stage : Stage) (reply : NodeReply) → (fed_at c stage reply).asked ≡ false
+idle_after c At.Ask (Say.Done reads) = refl
+idle_after c At.Ask (Say.BadLock s k h) = refl
+idle_after c At.Ask (Say.BadCompare i f) = refl
+idle_after c At.Ask Say.BadForced = refl
+idle_after c At.Ask (Say.Vote v) = refl
+idle_after c At.Ask Say.Decided = refl
+idle_after c At.Ask (Say.Listed d) = refl
+idle_after c At.Ask (Say.Peeked b) = refl
+idle_after c At.Ask Say.Down = refl
+idle_after c At.Ask Say.Stopped = refl
+idle_after c At.Ask Say.NoMemory = refl
+idle_after c At.Commit reply = refl
+idle_after c At.Abandon reply = refl
+idle_after c At.Cancel reply = refl
+idle_after c At.Committed reply = refl
+idle_after c At.Failed reply = refl
+idle_after c At.Doubt reply = refl

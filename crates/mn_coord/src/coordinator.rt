@@ -205,6 +205,7 @@ impl Coordinator {
     pub fn feed(&mut self, reply: NodeReply)
         requires out { self.old.asked ≡ true }
         ensures fed { self.new ≡ fed self.old reply }
+        ensures idle { self.new.asked ≡ false }
         ensures agrees { (es : List Entry) (e : Entry) (node : NodeNo) (request : Request) → Agrees es self.old → step_of self.old ≡ Send node request → IsAnswered e node request reply → Agrees (e ∷ es) self.new }
         ensures no_entry { (reply ≡ NodeReply.NoMemory) → ((es : List Entry) → Agrees es self.old → Agrees es self.new) }
     {

@@ -1,0 +1,6 @@
+use Rattle.std.proofs.Common.{◌≡◌, false}
+use Rattle.mn_recov.proofs.tests.race.Given as goal
+
+-- no request of the coordinator is out
+abbrev pub invariant-loop-n : goal.invariant-loop-n
+invariant-loop-n g l = l.c.asked ≡ false
