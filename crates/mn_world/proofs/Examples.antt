@@ -4,3 +4,5 @@ pub mod Race
 pub mod Starts
 pub mod ListVersions
 pub mod Resumed
+pub mod Entries
+pub mod LoneGet
