@@ -6,3 +6,4 @@ pub mod ListVersions
 pub mod Resumed
 pub mod Entries
 pub mod LoneGet
+pub mod Scans
