@@ -7,3 +7,4 @@ pub mod Resumed
 pub mod Entries
 pub mod LoneGet
 pub mod Scans
+pub mod ScansUnshown

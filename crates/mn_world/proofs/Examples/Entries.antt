@@ -73,7 +73,7 @@ version v = record { 0 = v }
 abbrev pub main : List ℕ
 main = main_entry.name
 
-main_is_entry : IsEntry main_entry
+pub main_is_entry : IsEntry main_entry
 main_is_entry = record { seq_low = lit≤ tt; seq_high = lit< tt; parent = tt; root = (lit< tt, lit< tt); name = (lit≤ tt, lit≤ tt, refl) }
 
 -- the catalog whose one version is main

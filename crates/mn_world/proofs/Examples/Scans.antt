@@ -1,36 +1,29 @@
 -- Scans answered by the leaves that they read: up to a leaf that reaches the end, and up to the limit; and lists that show no such reply.
-use Rattle.std.proofs.Common.{◌≡◌, ℕ, zero, suc, ◌+◌, ◌⊎◌, inl, inr, true, false, List, [], ◌∷◌, ◌++◌, length, Option, Some, None, refl, sym, ap, ◌∙◌, arith, lit<, lit≤, Contains}
-use Rattle.mn_base.specs.Store.{Head}
-use Rattle.mn_base.specs.declared.ids.Addr.{Addr}
+use Rattle.std.proofs.Common.{ℕ, inl, inr, true, false, List, [], ◌∷◌, ◌++◌, Some, None, refl, lit<, lit≤}
 use Rattle.mn_base.specs.declared.op.Op.{Op}
 use Rattle.mn_base.specs.declared.op.Op.TheVariants.{Scan}
-use Rattle.mn_base.specs.declared.reply.Pair.{Pair}
-use Rattle.mn_base.specs.declared.reply.Reply.{Reply}
 use Rattle.mn_base.specs.declared.reply.Reply.TheVariants.{Pairs}
 use Rattle.mn_base.specs.declared.answer.Answer.TheVariants.{Replied}
 use Rattle.mn_page.specs.declared.page.Page.{Page}
 use Rattle.mn_page.specs.declared.page.Body.TheVariants.{Leaf, Inner}
 use Rattle.mn_page.specs.declared.entry.CatEntry.{CatEntry}
 use Rattle.mn_page.specs.Grammar.{page_bytes, IsPage, IsEntry}
-use Rattle.mn_page.specs.Forest.{main_entry, heads_in}
+use Rattle.mn_page.specs.Forest.{main_entry}
 use Rattle.mn_page.proofs.Examples.Spelling.{at}
-use Rattle.mn_page.proofs.Spelled.{page_spelled_once}
 use Rattle.mn_world.specs.declared.entry.Entry.{Entry}
 use Rattle.mn_world.specs.Planned.{page_place, catalog_place}
-use Rattle.mn_world.specs.Shown.{Seen, seen_in, SeesCatalog, ShowsPairs, FirstCatalog, ScanShows}
-use Rattle.mn_world.specs.Answers.{Shows}
-use Rattle.mn_world.specs.Calls.{since_begin}
+use Rattle.mn_world.specs.Shown.{Seen, seen_in, SeesCatalog, ShowsPairs, FirstCatalog}
 use Rattle.mn_world.specs.Run.{IsLegalBy}
-use Rattle.mn_world.proofs.Examples.Entries.{begin, answered, read, seen, catalog_of, version, main, key, pair, one_of_two, read_is_no_plan, page_is_no_catalog}
+use Rattle.mn_world.proofs.Examples.Entries.{begin, answered, read, seen, catalog_of, version, main, key, pair}
 
 -- main was frozen by a Snapshot, which made m2
-abbrev frozen_main : CatEntry
+abbrev pub frozen_main : CatEntry
 frozen_main = record main_entry { seq = 2; frozen = true }
 
-abbrev m2 : CatEntry
+abbrev pub m2 : CatEntry
 m2 = record { seq = 1; frozen = false; parent = Some (version 0); root = at 1 1; name = 109 ∷ 50 ∷ [] }
 
-abbrev entries : List CatEntry
+abbrev pub entries : List CatEntry
 entries = frozen_main ∷ m2 ∷ []
 
 entry_rules : IsEntry frozen_main × (IsEntry m2 × Unit {0})
@@ -40,16 +33,16 @@ entry_rules = (
 )
 
 -- main's root, copied for m2, and its two leaves
-abbrev root : Page
+abbrev pub root : Page
 root = record { seq = 11; made = version 0; copied = 2; low = []; high = None; body = Inner 1 (at 1 0) (record { separator = key 5; addr = at 0 1 } ∷ []) }
 
-abbrev left : Page
+abbrev pub left : Page
 left = record { seq = 1; made = version 0; copied = 0; low = []; high = Some (key 5); body = Leaf (pair 3 ∷ pair 4 ∷ []) }
 
-abbrev right : Page
+abbrev pub right : Page
 right = record { seq = 4; made = version 0; copied = 0; low = key 5; high = None; body = Leaf (pair 5 ∷ pair 7 ∷ []) }
 
-left_is_page : IsPage left
+pub left_is_page : IsPage left
 left_is_page = record {
   seq_low = lit≤ tt;
   seq_high = lit< tt;
@@ -62,7 +55,7 @@ left_is_page = record {
   body = (lit≤ tt, refl, (((lit≤ tt, lit≤ tt, refl), (lit≤ tt, refl), refl), (((lit≤ tt, lit≤ tt, refl), (lit≤ tt, refl), refl), tt)));
 }
 
-right_is_page : IsPage right
+pub right_is_page : IsPage right
 right_is_page = record {
   seq_low = lit≤ tt;
   seq_high = lit< tt;
@@ -75,26 +68,39 @@ right_is_page = record {
   body = (lit≤ tt, refl, (((lit≤ tt, lit≤ tt, refl), (lit≤ tt, refl), refl), (((lit≤ tt, lit≤ tt, refl), (lit≤ tt, refl), refl), tt)));
 }
 
-abbrev catalog_seen : Seen
+pub root_is_page : IsPage root
+root_is_page = record {
+  seq_low = lit≤ tt;
+  seq_high = lit< tt;
+  made = lit< tt;
+  copied = lit< tt;
+  copied_above = refl;
+  low = (lit≤ tt, refl);
+  high = tt;
+  fences = refl;
+  body = (lit≤ tt, lit< tt, lit≤ tt, lit≤ tt, (lit< tt, lit< tt), refl, (((lit≤ tt, lit≤ tt, refl), (lit< tt, lit< tt), refl, refl), tt));
+}
+
+abbrev pub catalog_seen : Seen
 catalog_seen = seen catalog_place (catalog_of entries)
 
-abbrev root_seen : Seen
+abbrev pub root_seen : Seen
 root_seen = seen (page_place (at 0 0)) (page_bytes root)
 
-abbrev left_seen : Seen
+abbrev pub left_seen : Seen
 left_seen = seen (page_place (at 1 0)) (page_bytes left)
 
-abbrev right_seen : Seen
+abbrev pub right_seen : Seen
 right_seen = seen (page_place (at 0 1)) (page_bytes right)
 
 sees_entries : SeesCatalog catalog_seen entries
 sees_entries = (refl, lit≤ tt, entry_rules, refl)
 
-abbrev read_seen : ℕ → Seen → List Entry
+abbrev pub read_seen : ℕ → Seen → List Entry
 read_seen serial s = read serial s.place s.bytes
 
 -- from k4 on and below k7: the catalog, the root, the leaf of k4, the leaf after it
-abbrev scan : Op
+abbrev pub scan : Op
 scan = Scan main (Some (key 4)) (Some (key 7)) 10
 
 abbrev reads : List Entry
