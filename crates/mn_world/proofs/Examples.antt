@@ -8,3 +8,4 @@ pub mod Entries
 pub mod LoneGet
 pub mod Scans
 pub mod ScansUnshown
+pub mod PlannedPut

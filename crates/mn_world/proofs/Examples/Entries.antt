@@ -1,5 +1,6 @@
 -- Entries of one client over two nodes, for worked examples: a list is put together of them, newest first.
 use Rattle.std.proofs.Common.{◌≡◌, ℕ, zero, suc, ◌+◌, ◌⊎◌, inl, inr, Bool, true, false, ◌&&◌, List, [], ◌∷◌, Option, Some, None, if◌then◌else◌, refl, sym, ap, ◌∙◌, arith, lit<, lit≤, Contains}
+use Rattle.std.specs.Prelude.{⊤}
 use Rattle.std.specs.List.{flat_map}
 use Rattle.mn_base.specs.declared.ids.VersionNo.{VersionNo}
 use Rattle.mn_base.specs.Store.{Head, head_named, refusal, refusal_at}
@@ -28,6 +29,7 @@ use Rattle.mn_world.specs.Clients.{is_plan}
 use Rattle.mn_world.specs.Planned.{Place, page_place, catalog_place}
 use Rattle.mn_world.specs.Answers.{LastIssue}
 use Rattle.mn_world.specs.Shown.{Seen, SeesCatalog}
+use Rattle.mn_world.specs.Run.{IsLegalBy}
 use Rattle.mn_world.proofs.Examples.TwoNodes.{node, client, id}
 
 -- Steps of client 0
@@ -43,6 +45,11 @@ answered answer = own (Did.Answered 1 answer)
 
 abbrev pub called : ℕ → Request → NodeReply → Entry
 called n request reply = record { node = Some (node n); client = Some (client 0); what = Did.Called request reply }
+
+-- each entry is legal by the list before it
+abbrev pub AreLegal : List Entry → Type 0
+AreLegal [] = ⊤
+AreLegal (e ∷ es) = AreLegal es × IsLegalBy es e
 
 -- Reads
 
