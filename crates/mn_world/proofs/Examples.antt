@@ -5,3 +5,8 @@ pub mod Starts
 pub mod ListVersions
 pub mod Answering
 pub mod Resumed
+pub mod Entries
+pub mod LoneGet
+pub mod Scans
+pub mod ScansUnshown
+pub mod PlannedPut
