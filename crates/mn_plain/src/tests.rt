@@ -33,10 +33,25 @@ fn branch(alloc: Global, version: &[u8], child: &[u8]) -> Result<Op, Fail> {
     })
 }
 
+/// The digest of a version, if it is there.
+fn digest_of(alloc: Global, store: &Store, version: VersionNo) -> Result<Option<[u8; 32]>, Fail> {
+    let there = store.listing(alloc)?.as_slice().len();
+    if usize::from(version.0) >= there {
+        return Ok(None);
+    }
+    Ok(Some(store.digest(alloc, version)?))
+}
+
 /// The SHA-256 of the bytes `01 6B 01 76`.
 const K_IS_V: [u8; 32] = [
     0x3A, 0x05, 0x11, 0xD8, 0x5E, 0xAC, 0xBB, 0xDD, 0x36, 0xDE, 0xB8, 0x3B, 0x3E, 0x4A, 0x9E, 0x8A,
     0xBE, 0x6B, 0xAE, 0x92, 0xF8, 0x91, 0x57, 0x15, 0x5B, 0x49, 0xAE, 0x03, 0xA6, 0x28, 0xC1, 0xAD,
+];
+
+/// The SHA-256 of the bytes `01 6B 01 77`.
+const K_IS_W: [u8; 32] = [
+    0x0E, 0x04, 0x64, 0x7F, 0xA6, 0xAC, 0x09, 0x67, 0x58, 0x16, 0x44, 0xEE, 0x90, 0x42, 0x03, 0x1D,
+    0x37, 0x7D, 0x58, 0xB2, 0xBF, 0xEE, 0x60, 0xA9, 0xB3, 0x9A, 0xFF, 0x58, 0x64, 0x44, 0x1C, 0x7D,
 ];
 
 #[test]
@@ -49,8 +64,9 @@ fn a_snapshot_keeps_what_it_had(rt: HostRuntime) -> Result<(), Fail> {
     let refused = store.apply(alloc, &tx(alloc, b"main", put(alloc, b"k", b"w")?)?)?;
     assert!(rt; matches!(refused, Reply::Frozen));
     store.apply(alloc, &tx(alloc, b"next", put(alloc, b"k", b"w")?)?)?;
-    assert_eq!(rt; store.digest(alloc, VersionNo(0))?, K_IS_V);
-    assert!(rt; store.digest(alloc, VersionNo(1))? != K_IS_V);
+    assert_eq!(rt; digest_of(alloc, &store, VersionNo(0))?, Some(K_IS_V));
+    assert_eq!(rt; digest_of(alloc, &store, VersionNo(1))?, Some(K_IS_W));
+    assert_eq!(rt; digest_of(alloc, &store, VersionNo(2))?, None);
     Ok(())
 }
 
