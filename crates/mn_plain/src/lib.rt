@@ -7,6 +7,7 @@ mod steps;
 mod store;
 mod version;
 
+pub use digest::digest_of;
 pub use store::{MAX_VERSIONS, Store};
 
 #[cfg(test)]

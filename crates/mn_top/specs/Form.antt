@@ -8,7 +8,8 @@ use Rattle.mn_base.specs.declared.op.Op.TheVariants.{Tx}
 use Rattle.mn_base.specs.declared.op.Step.TheVariants as step
 use Rattle.mn_top.specs.declared.command.Command.{Command}
 use Rattle.mn_top.specs.declared.command.Command.TheVariants.{Put, Get}
-use Rattle.mn_top.specs.Text.{lines_of, word_of, IsBytes}
+use Rattle.mn_report.specs.Spelling.{word_of}
+use Rattle.mn_top.specs.Text.{lines_of, IsBytes}
 
 -- the operation that a command stands for
 abbrev pub op_of : Command → Op

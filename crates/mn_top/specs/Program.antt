@@ -2,18 +2,19 @@
 use Rattle.std.specs.Prelude.{◌≡◌, ◌⊎◌, ◌++◌, ◌∷◌, [], codes, ℕ, List, Option, map, take, IfSome}
 use Rattle.std.specs.Io.KnownBytes.{Appends}
 use Rattle.mn_base.specs.Store.{empty_store}
+use Rattle.mn_report.specs.Report.{report_text}
 use Rattle.mn_base.specs.History.{replies_of, store_after_ops}
 use Rattle.mn_top.specs.declared.command.Command.{Command}
 use Rattle.mn_top.specs.declared.due.Due.{Due}
 use Rattle.mn_top.specs.declared.due.Due.TheVariants.{Report, Usage, ReadFault, Unbuilt, NoMemory}
 use Rattle.mn_top.specs.Form.{IsForm, IsOutsideForm, op_of}
-use Rattle.mn_top.specs.Report.{report_text}
+use Rattle.mn_top.specs.Report.{report_on}
 use Rattle.mn_top.specs.Words.{IsReplayOne}
 
 -- the report on these commands: the store's replies to them in order, their history, and the store after them
 abbrev pub report_of : List ℕ → List Command → List ℕ
 report_of client commands =
-    report_text client (replies_of empty_store (map op_of commands)) (store_after_ops empty_store (map op_of commands))
+    report_text (report_on client (replies_of empty_store (map op_of commands)) (store_after_ops empty_store (map op_of commands)))
 
 -- what may be due on a text: a report where it is of the form, and `unbuilt` where it isn't
 abbrev pub IsDueOn : List ℕ → Due → Type 0

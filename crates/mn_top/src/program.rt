@@ -30,7 +30,7 @@ fn report_on(alloc: Global, text: &[u8]) -> Result<Vec<u8>, FormError>
 {
     let form = read_form(alloc, text)?;
     let ran = run(alloc, &form.commands)?;
-    Ok(write_report(alloc, &form.client, &ran.replies, &ran.pairs)?)
+    Ok(write_report(alloc, &form.client, ran)?.into_vec())
 }
 
 /// What is due on the script that a source holds.

@@ -220,6 +220,7 @@ fn run_on(alloc: Global, space: &mut [u8], commands: &[Command]) -> Result<Ran, 
     ensures replies { IfOk result (λ ran. ran.replies.items ≡ replies_of empty_store (map op_of commands.now)) }
     ensures count { IfOk result (λ ran. length ran.replies.items ≡ length commands.now) }
     ensures pairs { IfOk result (λ ran. main_store ran.pairs.items ≡ store_after_ops empty_store (map op_of commands.now)) }
+    ensures few { IfOk result (λ ran. length ran.pairs.items ≤ 8) }
 {
     let mut replies = Vec::new(alloc);
     for command in commands {
@@ -235,6 +236,7 @@ pub fn run(alloc: Global, commands: &[Command]) -> Result<Ran, NoMemory>
     ensures replies { IfOk result (λ ran. ran.replies.items ≡ replies_of empty_store (map op_of commands.now)) }
     ensures count { IfOk result (λ ran. length ran.replies.items ≡ length commands.now) }
     ensures pairs { IfOk result (λ ran. main_store ran.pairs.items ≡ store_after_ops empty_store (map op_of commands.now)) }
+    ensures few { IfOk result (λ ran. length ran.pairs.items ≤ 8) }
 {
     let mut space = fresh_space(alloc)?;
     run_on(alloc, &mut space, commands)

@@ -1,4 +1,4 @@
-use Rattle.std.proofs.Common.{sym, ap, ◌∙◌, subst, length, List, ◌+◌}
+use Rattle.std.proofs.Common.{sym, ap, ◌∙◌, subst, length, List, ◌+◌, arith}
 use Rattle.mn_base.specs.declared.reply.Reply.{Reply}
 use Rattle.mn_base.specs.declared.reply.Pair.{Pair}
 use Rattle.mn_base.specs.Store.{main_store}
@@ -31,3 +31,8 @@ pub returns-clause-pairs : goal.returns-clause-pairs
 returns-clause-pairs c =
     let now = c.loop-command.invariant in
     ap (λ (l : List Pair). main_store l) (c.in_ok-pairs.ensures now.seq now.pairs now.holds) ∙ (run_ends c.loop-command.space c.loop-command.replies.items c.loop-command.command-index c.args.commands.now (at_end c.loop-command.command-index (length c.args.commands.now) c.loop-command-test.false c.loop-command.auto.command-index-end) now).1
+
+pub returns-clause-few : goal.returns-clause-few
+returns-clause-few c =
+    let now = c.loop-command.invariant in
+    rw (c.in_ok-pairs.ensures now.seq now.pairs now.holds) (let room = now.room in omega arith)
