@@ -9,3 +9,5 @@ pub mod LoneGet
 pub mod Scans
 pub mod ScansUnshown
 pub mod PlannedPut
+pub mod Tries
+pub mod BusyTries
