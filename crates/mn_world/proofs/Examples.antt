@@ -11,3 +11,4 @@ pub mod ScansUnshown
 pub mod PlannedPut
 pub mod Tries
 pub mod BusyTries
+pub mod SevenTries

@@ -69,7 +69,7 @@ lock_answered = record {
     (put, refl),
     (
       refl,
-      (refl, record { rest = locked.after 21; last = later_try locked locked 21; middle = six_tries; first = first_try; taken = []; split = refl; over = refl; six = refl; last_fails = locked_fails 21 (locked.after 18); others_fail = six_fail; tries = refl; whole = refl }),
+      (refl, record { rest = locked.after 21; last = later_try locked locked 21; middle = six_tries; first = first_try; taken = []; split = refl; over = refl; six = refl; last_fails = locked_fails 21 (locked.after 18); others_fail = six_fail; tries = refl; anew = refl; whole = refl }),
     ),
   );
 }
@@ -97,6 +97,7 @@ moved_answered = record {
           last_fails = moved_fails (99 ∷ []) 21 (locked.after 18);
           others_fail = six_fail;
           tries = refl;
+          anew = refl;
           whole = refl;
         },
       ),
@@ -113,7 +114,7 @@ forced_answered = record {
     (put, refl),
     (
       refl,
-      (refl, record { rest = forced.after 21; last = later_try forced locked 21; middle = six_tries; first = first_try; taken = []; split = refl; over = refl; six = refl; last_fails = forced_fails 21 (locked.after 18); others_fail = six_fail; tries = refl; whole = refl }),
+      (refl, record { rest = forced.after 21; last = later_try forced locked 21; middle = six_tries; first = first_try; taken = []; split = refl; over = refl; six = refl; last_fails = forced_fails 21 (locked.after 18); others_fail = six_fail; tries = refl; anew = refl; whole = refl }),
     ),
   );
 }
@@ -127,7 +128,7 @@ path_answered = record {
     (put, refl),
     (
       refl,
-      (refl, record { rest = []; last = later_try strayed locked 21; middle = six_tries; first = first_try; taken = []; split = refl; over = refl; six = refl; last_fails = strayed_fails 21 (locked.after 18); others_fail = six_fail; tries = refl; whole = refl }),
+      (refl, record { rest = []; last = later_try strayed locked 21; middle = six_tries; first = first_try; taken = []; split = refl; over = refl; six = refl; last_fails = strayed_fails 21 (locked.after 18); others_fail = six_fail; tries = refl; anew = refl; whole = refl }),
     ),
   );
 }

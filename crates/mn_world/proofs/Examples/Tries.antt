@@ -197,10 +197,6 @@ six_tries =
     later_try locked strayed 18 ∷ later_try strayed forced 15 ∷ later_try forced (entry_moved (97 ∷ [])) 12 ∷ later_try (entry_moved (97 ∷ [])) (moved (98 ∷ [])) 9
     ∷ later_try (moved (98 ∷ [])) locked 6 ∷ later_try locked locked 3 ∷ []
 
--- the first is over; behind it stands what the operation began with
-abbrev pub seven_tries : List Entry
-seven_tries = flat_map (λ try. try) six_tries ++ first_try
-
 -- the eighth is of this kind
 abbrev pub eight_tries : Kind → List Entry
 eight_tries kind = kind.after 21 ++ later_try kind locked 21 ++ flat_map (λ try. try) six_tries ++ first_try ++ begin put ∷ []
