@@ -12,3 +12,4 @@ pub mod PlannedPut
 pub mod Tries
 pub mod BusyTries
 pub mod SevenTries
+pub mod FullAndWorn
