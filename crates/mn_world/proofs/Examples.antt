@@ -10,3 +10,7 @@ pub mod LoneGet
 pub mod Scans
 pub mod ScansUnshown
 pub mod PlannedPut
+pub mod Tries
+pub mod BusyTries
+pub mod SevenTries
+pub mod FullAndWorn

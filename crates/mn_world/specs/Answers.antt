@@ -27,7 +27,7 @@ use Rattle.mn_mini.specs.Flat.{bytes_in}
 use Rattle.mn_page.specs.declared.page.Page.{Page}
 use Rattle.mn_page.specs.declared.entry.CatEntry.{CatEntry}
 use Rattle.mn_page.specs.Grammar.{SpellsPage, height_of}
-use Rattle.mn_page.specs.Space.{count_start, count_size, max_slots}
+use Rattle.mn_page.specs.Space.{count_start, count_size, catalog_start, catalog_size, max_slots}
 use Rattle.mn_page.specs.Forest.{heads_in, ChildRange, children_of}
 use Rattle.mn_page.specs.Holds.{page_covers}
 use Rattle.mn_world.specs.declared.entry.Entry.{Entry}
@@ -208,12 +208,26 @@ abbrev pub is_any_decide : Request → Bool
 is_any_decide (Ask.Decide tid verdict) = true
 is_any_decide request = false
 
+abbrev pub is_peek : Request → Bool
+is_peek (Ask.Peek start length) = true
+is_peek request = false
+
+-- an Exec that reads the catalog
+abbrev pub asks_catalog : Request → Bool
+asks_catalog (Ask.Exec tid (Bare.Read start length ∷ [])) = nat_eq start catalog_start && nat_eq length catalog_size
+asks_catalog request = false
+
+-- a later try reads everything anew: it asks for the catalog, and peeks at nothing
+abbrev pub reads_anew : List Entry → Bool
+reads_anew es = list_any (λ c. nat_eq c.node.0 0 && asks_catalog c.request) (calls_of es) && list_all (λ c. not (is_peek c.request)) (calls_of es)
+
 -- the tries are all of the operation's, but for a scan, which may have taken leaves before
 abbrev pub IsWhole : Op → List Entry → Type 0
 IsWhole (Scan version low high limit) taken = ⊤
 IsWhole op taken = taken ≡ []
 
--- eight tries failed, each from the second on by a cause, and the last by this one. A scan counts from the leaf that it took last
+-- eight tries failed, each from the second on anew and by a cause, and the last by this one. A scan counts from the leaf that it took last. The first may have
+-- no entry: what it used was kept from earlier operations
 pub record FailedTries (nodes : ℕ) (op : Op) (now : List Entry) (busy : Busy) : Type 0 where
   pub rest : List Entry
   pub last : List Entry
@@ -226,6 +240,7 @@ pub record FailedTries (nodes : ℕ) (op : Op) (now : List Entry) (busy : Busy) 
   pub last_fails : FailsAs nodes op last busy
   pub others_fail : AllByRecursion (λ try. (cause : Busy) × FailsAs nodes op try cause) middle
   pub tries : IsTrue (is_one_try last && (list_all is_one_try middle && is_one_try first))
+  pub anew : IsTrue (reads_anew last && list_all reads_anew middle)
   pub whole : IsWhole op taken
 
 -- Answers

@@ -26,7 +26,7 @@ m2 = record { seq = 1; frozen = false; parent = Some (version 0); root = at 1 1;
 abbrev pub entries : List CatEntry
 entries = frozen_main ∷ m2 ∷ []
 
-entry_rules : IsEntry frozen_main × (IsEntry m2 × Unit {0})
+pub entry_rules : IsEntry frozen_main × (IsEntry m2 × Unit {0})
 entry_rules = (
   record { seq_low = lit≤ tt; seq_high = lit< tt; parent = tt; root = (lit< tt, lit< tt); name = (lit≤ tt, lit≤ tt, refl) },
   (record { seq_low = lit≤ tt; seq_high = lit< tt; parent = lit< tt; root = (lit< tt, lit< tt); name = (lit≤ tt, lit≤ tt, refl) }, tt),

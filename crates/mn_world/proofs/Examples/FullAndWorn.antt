@@ -1,0 +1,175 @@
+-- Want of slots and want of numbers: what a later try read of a full leaf, of counts and of a last number shows Full and Worn.
+use Rattle.std.proofs.Common.{◌≡◌, ℕ, zero, suc, ◌^◌, ◌-◌, inl, List, [], ◌∷◌, ◌++◌, Some, None, refl, subst, slice_get, lit<, lit≤}
+use Rattle.byteorder.specs.Endian.{big_bytes}
+use Rattle.mn_base.specs.declared.answer.Busy.TheVariants.{Lock}
+use Rattle.mn_base.specs.declared.answer.Answer.TheVariants as Gives
+use Rattle.mn_mini.specs.Flat.{bytes_in}
+use Rattle.mn_page.specs.declared.page.Page.{Page}
+use Rattle.mn_page.specs.declared.page.Body.TheVariants.{Leaf}
+use Rattle.mn_page.specs.Grammar.{page_bytes, IsPage, SpellsPage}
+use Rattle.mn_page.proofs.Examples.Spelling.{at}
+use Rattle.mn_world.specs.declared.entry.Entry.{Entry}
+use Rattle.mn_world.specs.Planned.{page_place, count_place, catalog_place}
+use Rattle.mn_world.specs.Needs.{NeedsSlots, WritesOld}
+use Rattle.mn_world.specs.Shown.{seen_in}
+use Rattle.mn_world.specs.Answers.{FailsAs, FreeSlots, ShowsBytes}
+use Rattle.mn_world.specs.Run.{IsLegalBy}
+use Rattle.mn_world.proofs.Examples.TwoNodes.{node, id}
+use Rattle.mn_world.proofs.Examples.Entries.{begin, answered, read, seen, version, pair}
+use Rattle.mn_world.proofs.Examples.Scans.{entries, m2}
+use Rattle.mn_world.proofs.Examples.Tries.{catalog_bytes, catalog_seen, sees_catalog, put, locked, first_try}
+
+-- What the later try reads
+
+-- the leaf has eight pairs, and k7 would be the ninth
+abbrev full_leaf : Page
+full_leaf = record {
+  seq = 8;
+  made = version 1;
+  copied = 0;
+  low = [];
+  high = None;
+  body = Leaf (pair 1 ∷ pair 2 ∷ pair 3 ∷ pair 4 ∷ pair 5 ∷ pair 6 ∷ pair 8 ∷ pair 9 ∷ []);
+}
+
+-- the leaf has the last number
+abbrev worn_leaf : Page
+worn_leaf = record { seq = 2 ^ 64 - 1; made = version 1; copied = 0; low = []; high = None; body = Leaf (pair 3 ∷ pair 7 ∷ []) }
+
+full_is_page : IsPage full_leaf
+full_is_page = record {
+  seq_low = lit≤ tt;
+  seq_high = lit< tt;
+  made = lit< tt;
+  copied = lit< tt;
+  copied_above = refl;
+  low = (lit≤ tt, refl);
+  high = tt;
+  fences = refl;
+  body = (lit≤ tt, refl, (((lit≤ tt, lit≤ tt, refl), (lit≤ tt, refl), refl), (((lit≤ tt, lit≤ tt, refl), (lit≤ tt, refl), refl), (((lit≤ tt, lit≤ tt, refl), (lit≤ tt, refl), refl), (((lit≤ tt, lit≤ tt, refl), (lit≤ tt, refl), refl), (((lit≤ tt, lit≤ tt, refl), (lit≤ tt, refl), refl), (((lit≤ tt, lit≤ tt, refl), (lit≤ tt, refl), refl), (((lit≤ tt, lit≤ tt, refl), (lit≤ tt, refl), refl), (((lit≤ tt, lit≤ tt, refl), (lit≤ tt, refl), refl), tt)))))))));
+}
+
+worn_is_page : IsPage worn_leaf
+worn_is_page = record {
+  seq_low = lit≤ tt;
+  seq_high = lit< tt;
+  made = lit< tt;
+  copied = lit< tt;
+  copied_above = refl;
+  low = (lit≤ tt, refl);
+  high = tt;
+  fences = refl;
+  body = (lit≤ tt, refl, (((lit≤ tt, lit≤ tt, refl), (lit≤ tt, refl), refl), (((lit≤ tt, lit≤ tt, refl), (lit≤ tt, refl), refl), tt)));
+}
+
+full_bytes : List ℕ
+full_bytes = page_bytes full_leaf
+
+worn_bytes : List ℕ
+worn_bytes = page_bytes worn_leaf
+
+full_spelled : SpellsPage full_bytes full_leaf
+unfolding full_bytes
+full_spelled = (full_is_page, refl)
+
+worn_spelled : SpellsPage worn_bytes worn_leaf
+unfolding worn_bytes
+worn_spelled = (worn_is_page, refl)
+
+last_number_shown : bytes_in worn_bytes 0 8 ≡ big_bytes 8 (2 ^ 64 - 1)
+unfolding worn_bytes
+last_number_shown = refl
+
+-- Full
+
+-- the first try was refused by a lock; the second reads the catalog, the leaf and both counts, which leave one slot
+abbrev full_try : List Entry
+full_try =
+    read 6 (count_place (node 1)) (big_bytes 8 4096) ++ read 5 (count_place (node 0)) (big_bytes 8 4095) ++ read 4 (page_place (at 1 1)) full_bytes ++ read 3 catalog_place catalog_bytes ++ locked.after 0
+
+abbrev full_tries : List Entry
+full_tries = full_try ++ first_try
+
+first_failed : FailsAs 2 put first_try (Lock (node 0) 128 64 (id 1 1))
+first_failed = inl (_, refl, refl)
+
+two_slots : NeedsSlots (seen_in full_try) put 2
+two_slots = (
+  record {
+    entries = entries;
+    catalog = catalog_seen;
+    version = version 1;
+    entry = m2;
+    pages = record { addr = at 1 1; page = full_leaf } ∷ [];
+    seen = ((3, lit< tt, refl), sees_catalog);
+    named = refl;
+    at = refl;
+    read = ((seen (page_place (at 1 1)) full_bytes, (2, lit< tt, refl), (refl, full_spelled)), tt);
+  },
+  refl,
+)
+
+one_free : FreeSlots 2 (seen_in full_try) 1
+one_free = (4095 ∷ 4096 ∷ [], refl, refl, λ n count is. by n.0 count is)
+  where
+    by : (k count : ℕ) → slice_get (4095 ∷ 4096 ∷ []) k ≡ Some count → ShowsBytes (seen_in full_try) (node k) 16 (big_bytes 8 count)
+    by zero count is =
+        let same : ◌≡◌ {A = ℕ} 4095 count = cc in
+        subst (λ (c : ℕ). ShowsBytes (seen_in full_try) (node 0) 16 (big_bytes 8 c)) same (seen (count_place (node 0)) (big_bytes 8 4095), (1, lit< tt, refl), refl, lit≤ tt, refl)
+    by (suc zero) count is =
+        let same : ◌≡◌ {A = ℕ} 4096 count = cc in
+        subst (λ (c : ℕ). ShowsBytes (seen_in full_try) (node 1) 16 (big_bytes 8 c)) same (seen (count_place (node 1)) (big_bytes 8 4096), (0, lit< tt, refl), refl, lit≤ tt, refl)
+    by (suc (suc k)) count is = absurd cc
+
+full_answered : IsLegalBy (full_tries ++ begin put ∷ []) (answered (Gives.Full 2 1))
+full_answered = record {
+  actor = lit≤ tt;
+  node = tt;
+  step = (
+    (put, refl),
+    (refl, (refl, full_try, (record { rest = []; earlier = first_try; split = refl; over = refl; begins = (_, first_failed); is_try = refl }), lit< tt, two_slots, one_free)),
+  );
+}
+
+-- Worn
+
+abbrev worn_try : List Entry
+worn_try = read 4 (page_place (at 1 1)) worn_bytes ++ read 3 catalog_place catalog_bytes ++ locked.after 0
+
+writes_leaf : WritesOld (seen_in worn_try) put (page_place (at 1 1))
+writes_leaf = (
+  record {
+    entries = entries;
+    catalog = catalog_seen;
+    version = version 1;
+    entry = m2;
+    pages = record { addr = at 1 1; page = worn_leaf } ∷ [];
+    seen = ((1, lit< tt, refl), sees_catalog);
+    named = refl;
+    at = refl;
+    read = ((seen (page_place (at 1 1)) worn_bytes, (0, lit< tt, refl), (refl, worn_spelled)), tt);
+  },
+  inl (at 1 1 ∷ [], at 1 1, refl, (0, lit< tt, refl), refl),
+)
+
+worn_answered : IsLegalBy (worn_try ++ first_try ++ begin put ∷ []) (answered (Gives.Worn (node 1) 21504))
+worn_answered = record {
+  actor = lit≤ tt;
+  node = tt;
+  step = (
+    (put, refl),
+    (
+      refl,
+      (
+        refl,
+        worn_try,
+        page_place (at 1 1),
+        (record { rest = []; earlier = first_try; split = refl; over = refl; begins = (_, first_failed); is_try = refl }),
+        refl,
+        refl,
+        writes_leaf,
+        (seen (page_place (at 1 1)) worn_bytes, (0, lit< tt, refl), refl, lit≤ tt, last_number_shown),
+      ),
+    ),
+  );
+}
