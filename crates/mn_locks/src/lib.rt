@@ -7,3 +7,6 @@ mod table;
 
 pub use hold::{Held, Hold};
 pub use table::LockTable;
+
+#[cfg(test)]
+mod tests;
