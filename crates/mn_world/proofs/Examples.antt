@@ -3,7 +3,6 @@ pub mod TwoNodes
 pub mod Race
 pub mod Starts
 pub mod ListVersions
-pub mod Answering
 pub mod Resumed
 pub mod Entries
 pub mod LoneGet

@@ -1,5 +1,5 @@
 -- When a minitransaction is a plan of an operation.
-use Rattle.std.specs.Prelude.{ℕ, ◌≡◌, ◌+◌, ◌^◌, ◌<◌, ◌↔◌, ◌⊎◌, Bool, true, false, ◌&&◌, ◌||◌, nat_lt, nat_eq, IsTrue, List, [], ◌∷◌, length, take, Some, None, ⊤, if◌then◌else◌, Contains, slice_get}
+use Rattle.std.specs.Prelude.{ℕ, ◌≡◌, ◌+◌, ◌^◌, ◌<◌, ◌↔◌, ◌⊎◌, Bool, true, false, ◌&&◌, ◌||◌, nat_lt, nat_eq, IsTrue, List, [], ◌∷◌, ◌++◌, length, map, take, Some, None, ⊤, if◌then◌else◌, Contains, slice_get}
 use Rattle.std.specs.List.{list_any, flat_map, AllByRecursion}
 use Rattle.byteorder.specs.Endian.{big_bytes}
 use Rattle.mn_base.specs.Store.{Head, Store, heads_of, number_named, pairs_named, is_change, step_key, steps_run, op_version, applied, max_versions}
@@ -114,7 +114,7 @@ HasNextNumber memory (Write node start bytes) =
 abbrev pub place_rank : ℕ → ℕ
 place_rank start = if nat_eq start count_start then 2 else (if nat_lt start slots_start then 1 else 0)
 
--- pages in any order, entries by number, counts by node
+-- pages by WritesPages, entries by number, counts by node
 abbrev pub may_precede : NodeNo → ℕ → NodeNo → ℕ → Bool
 may_precede n s m t = nat_lt (place_rank s) (place_rank t) || (nat_eq (place_rank s) (place_rank t) && (nat_eq (place_rank s) 0 || (nat_lt s t || (nat_eq s t && nat_lt n.0 m.0))))
 
@@ -133,6 +133,22 @@ are_in_order [] = true
 are_in_order (i ∷ []) = true
 are_in_order (i ∷ (j ∷ is)) = item_may_precede i j && are_in_order (j ∷ is)
 
+-- some of the places, in their order
+abbrev pub IsPickOf : List Place → List Place → Type 0
+IsPickOf [] places = ⊤
+IsPickOf (x ∷ xs) [] = ⊥
+IsPickOf (x ∷ xs) (place ∷ places) = ((x ≡ place) × IsPickOf xs places) ⊎ IsPickOf (x ∷ xs) places
+
+-- the pages that are written: changed ones in the order of their compares, then new ones
+pub record WritesPages (f : Forest) (mini : Mini) : Type 0 where
+  pub changed : List Addr
+  pub new : List Addr
+  pub others : List Place
+  pub written : write_places mini ≡ map page_place (changed ++ new) ++ others
+  pub as_compared : IsPickOf (map page_place changed) (compare_places mini)
+  pub free : AllByRecursion (λ addr. page_at f addr ≡ None) new
+  pub no_more : AllByRecursion (λ place. IsPagePlace place → ⊥) others
+
 -- Planned
 
 -- the catalog's versions are the first ones, with their names and parents; what it has frozen stays frozen
@@ -148,6 +164,7 @@ pub record PlanActs (memory : List (List ℕ)) (store : Store) (holds : Holds me
   pub compares : (v : ℕ) → number_named (heads_of store) (op_version op) ≡ Some v
       → (place : Place) → Contains (compare_places mini) place ↔ IsCompared holds.forest store v op mini place
   pub numbers : AllByRecursion (HasNextNumber memory) mini.items
+  pub pages : WritesPages holds.forest mini
 
 -- wherever its compares hold, in a memory that holds a store that continues the kept catalog, it does what the operation does
 pub record IsPlanned (kept : List Head) (op : Op) (mini : Mini) (reply : Reply) : Type 0 where

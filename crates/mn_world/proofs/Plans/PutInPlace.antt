@@ -237,6 +237,15 @@ put_acts kept nodes name key value v e addr p pairs r memory store many holds on
           (same_some v w (sym (still_named kept (heads_of store) name v on r.named) ∙ is))
           (put_compares holds.forest store name key value v nodes e addr p (new_leaf p pairs key value) lp lq le facts place);
       numbers = (tt, (tt, (put_numbers memory addr p (new_leaf p pairs key value) page lq refl r.number, tt)));
+      pages = record {
+        changed = addr ∷ [];
+        new = [];
+        others = [];
+        written = ap (λ (place : Place). place ∷ []) (place_same addr.node (20480 + 1024 * addr.slot) (length (page_bytes (new_leaf p pairs key value))) 1024 lq);
+        as_compared = inl (sym (place_same addr.node (20480 + 1024 * addr.slot) (length (page_bytes p)) 1024 lp), tt);
+        free = tt;
+        no_more = tt;
+      };
     }
   where
     same_some : (a b : ℕ) → Some a ≡ Some b → a ≡ b

@@ -31,7 +31,7 @@ use Rattle.mn_page.proofs.PairsWith.{ascending-put, all-put, two_parts}
 use Rattle.mn_page.proofs.Alike.{re_paired, all-set}
 use Rattle.mn_page.proofs.Spelled.{length-padded, page_length, entry_length, entry_spelled_once, big_bytes-inj}
 use Rattle.mn_page.proofs.Split.{Split, CanSplit, split_forest, with_root, with_left, new_root, left_page, right_page, split_is_forest, CutPairs, shows_split, old_serves, old_covers, lt_nil}
-use Rattle.mn_world.specs.Planned.{Place, page_place, entry_place, count_place, compare_places, write_places, IsCompared, HasNextNumber, Continues, PlanActs, IsPlanned, place_rank}
+use Rattle.mn_world.specs.Planned.{Place, page_place, entry_place, count_place, compare_places, write_places, IsCompared, HasNextNumber, WritesPages, Continues, PlanActs, IsPlanned, place_rank}
 use Rattle.mn_world.specs.Plans.{write_page, slot_at, left_half, right_half, parent_of_halves, HasSplit, split_items, SplitIsPlanned}
 use Rattle.mn_world.proofs.Plans.Pieces.{bytes_in-skip, bytes_in-within, bytes_in-padded}
 use Rattle.mn_world.proofs.Plans.Spaces.{memory_by_pages, catalog_bytes, page_there, page_read, entry_read, node_0, memory_length, space_in-memory_by_pages, head_length, front_length, catalog_length, AreSlots, node_slots, text_length, get_in-index}
@@ -496,6 +496,27 @@ new_number : (memory : List (List ℕ)) (n : NodeNo) (slot : ℕ) (q : Page) →
 new_number memory n slot q free long one =
     inr (0, omega arith, ap (λ k. take 8 (bytes_in (space_in memory n) (20480 + 1024 * slot) k)) long ∙ ap (take 8) free, ap (big_bytes 8) one)
 
+none_there : (o : Option Page) → ((x : Page) → o ≡ Some x → ⊥) → o ≡ None
+none_there None never = refl
+none_there (Some x) never = absurd (never x refl)
+
+-- the old root is changed, and the two halves are new
+split_pages : (f : Forest) (v nodes : ℕ) (e : CatEntry) (p : Page) (n : NodeNo) (count : ℕ) (lows : List Pair) (first : Pair) (more : List Pair) → CanSplit (split_of f e p n count lows first more) v e (entry_head e)
+    → count ≡ length (slice_index_or f.pages n.0 []) → length (page_bytes p) ≡ 1024 → WritesPages f (record { nodes = nodes; items = split_items v e p n count lows first more })
+split_pages f v nodes e p n count lows first more can count_is lp =
+    let root_is = place_same e.root.node (20480 + 1024 * e.root.slot) (length (page_bytes (new_root (split_of f e p n count lows first more)))) 1024 (page_length (new_root (split_of f e p n count lows first more)) can.root_spelled) in
+    let left_is = place_same n (20480 + 1024 * count) (length (page_bytes (left_page (split_of f e p n count lows first more)))) 1024 (page_length (left_page (split_of f e p n count lows first more)) can.left_spelled) in
+    let right_is = place_same n (20480 + 1024 * (count + 1)) (length (page_bytes (right_page (split_of f e p n count lows first more)))) 1024 (page_length (right_page (split_of f e p n count lows first more)) can.right_spelled) in
+    record {
+      changed = e.root ∷ [];
+      new = slot_at n count ∷ slot_at n (count + 1) ∷ [];
+      others = count_place n ∷ [];
+      written = ap (λ (place : Place). place ∷ _) root_is ∙ ap (λ (place : Place). page_place e.root ∷ place ∷ _) left_is ∙ ap (λ (place : Place). page_place e.root ∷ page_place (slot_at n count) ∷ place ∷ count_place n ∷ []) right_is;
+      as_compared = inl (sym (place_same e.root.node (20480 + 1024 * e.root.slot) (length (page_bytes p)) 1024 lp), tt);
+      free = (none_there _ (λ x. no_page f n count x (omega arith)), (none_there _ (λ x. no_page f n (count + 1) x (omega arith)), tt));
+      no_more = ((λ is. page_not_count is.0 n (sym is.1)), tt);
+    }
+
 split_acts : (kept : List Head) (nodes : ℕ) (name key value : List ℕ) (v : ℕ) (e : CatEntry) (p : Page) (pairs : List Pair) (n : NodeNo) (count : ℕ) (lows : List Pair) (first : Pair) (more : List Pair)
     → HasSplit kept nodes name key value v e p pairs n count lows first more → (memory : List (List ℕ)) (store : Store) → length memory ≡ nodes → (holds : Holds memory store) → Continues kept (heads_of store)
     → mismatch_from memory 0 (split_items v e p n count lows first more) ≡ None
@@ -559,6 +580,7 @@ split_acts kept nodes name key value v e p pairs n count lows first more r memor
           ),
         ),
       );
+      pages = split_pages holds.forest v nodes e p n count lows first more can facts.count_is lp;
     }
   where
     same_some : (a b : ℕ) → Some a ≡ Some b → a ≡ b
