@@ -13,3 +13,4 @@ pub mod Tries
 pub mod BusyTries
 pub mod SevenTries
 pub mod FullAndWorn
+pub mod FullAndWornUnshown
