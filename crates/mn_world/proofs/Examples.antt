@@ -14,3 +14,4 @@ pub mod BusyTries
 pub mod SevenTries
 pub mod FullAndWorn
 pub mod FullAndWornUnshown
+pub mod DownAndDoubt
