@@ -15,3 +15,5 @@ pub mod SevenTries
 pub mod FullAndWorn
 pub mod FullAndWornUnshown
 pub mod DownAndDoubt
+pub mod OneCatalog
+pub mod PathFaults
