@@ -13,3 +13,7 @@ pub mod Tries
 pub mod BusyTries
 pub mod SevenTries
 pub mod FullAndWorn
+pub mod FullAndWornUnshown
+pub mod DownAndDoubt
+pub mod OneCatalog
+pub mod PathFaults

@@ -1,7 +1,10 @@
 -- Entries of one client over two nodes, for worked examples: a list is put together of them, newest first.
-use Rattle.std.proofs.Common.{◌≡◌, ℕ, zero, suc, ◌+◌, ◌⊎◌, inl, inr, Bool, true, false, ◌&&◌, List, [], ◌∷◌, Option, Some, None, if◌then◌else◌, refl, sym, ap, ◌∙◌, arith, lit<, lit≤, Contains}
+use Rattle.std.proofs.Common.{◌≡◌, ℕ, zero, suc, ◌+◌, ◌⊎◌, inl, inr, Bool, true, false, ◌&&◌, List, [], ◌∷◌, ◌++◌, Option, Some, None, if◌then◌else◌, refl, subst, sym, ap, ◌∙◌, arith, lit<, lit≤, Contains}
 use Rattle.std.specs.Prelude.{⊤}
 use Rattle.std.specs.List.{flat_map}
+use Rattle.std.proofs.lemmas.List.{append_assoc}
+use Rattle.std.proofs.lemmas.List.Elements.{Contains-append_left, Contains-append_right}
+use Rattle.std.proofs.lemmas.Grind.{flat_map-append}
 use Rattle.mn_base.specs.declared.ids.VersionNo.{VersionNo}
 use Rattle.mn_base.specs.Store.{Head, head_named, refusal, refusal_at}
 use Rattle.mn_base.specs.declared.ids.Addr.{Addr}
@@ -24,11 +27,11 @@ use Rattle.mn_page.specs.Space.{catalog_size}
 use Rattle.mn_world.specs.declared.entry.Entry.{Entry}
 use Rattle.mn_world.specs.declared.entry.What.{What}
 use Rattle.mn_world.specs.declared.entry.What.TheVariants as Did
-use Rattle.mn_world.specs.Calls.{Issued, issues_of}
+use Rattle.mn_world.specs.Calls.{Call, call_in, calls_of, Issued, issues_of}
 use Rattle.mn_world.specs.Clients.{is_plan}
 use Rattle.mn_world.specs.Planned.{Place, page_place, catalog_place}
 use Rattle.mn_world.specs.Answers.{LastIssue}
-use Rattle.mn_world.specs.Shown.{Seen, SeesCatalog}
+use Rattle.mn_world.specs.Shown.{Seen, seen_by, seen_in, SeesCatalog}
 use Rattle.mn_world.specs.Run.{IsLegalBy}
 use Rattle.mn_world.proofs.Examples.TwoNodes.{node, client, id}
 
@@ -105,6 +108,12 @@ one_of_two x y z (zero, in', is) = inl cc
 one_of_two x y z (suc zero, in', is) = inr cc
 one_of_two x y z (suc (suc k), in', is) = absurd (omega arith)
 
+pub one_of_three : {A : Type 0} (x y z w : A) → Contains (x ∷ y ∷ z ∷ []) w → (x ≡ w) ⊎ (y ≡ w) ⊎ (z ≡ w)
+one_of_three x y z w (zero, in', is) = inl cc
+one_of_three x y z w (suc zero, in', is) = inr (inl cc)
+one_of_three x y z w (suc (suc zero), in', is) = inr (inr cc)
+one_of_three x y z w (suc (suc (suc k)), in', is) = absurd (omega arith)
+
 -- an operation whose last issue is a read is answered by no plan
 pub read_is_no_plan : (es now before : List Entry) (i j : Issued) (js : List Issued) → issues_of now ≡ j ∷ js → is_plan j.mini.items ≡ false → LastIssue es now i before → is_plan i.mini.items ≡ true → ⊥
 read_is_no_plan es now before i j js issued reads last plans =
@@ -132,3 +141,19 @@ page_is_no_catalog addr e = sizes_differ (ap (λ (x : Place). x.length) e)
   where
     sizes_differ : ◌≡◌ {A = ℕ} 4096 1024 → ⊥
     sizes_differ e = absurd (omega arith)
+
+-- Lists that are put together
+
+pub calls_append : (xs ys : List Entry) → calls_of (xs ++ ys) ≡ calls_of xs ++ calls_of ys
+calls_append [] ys = refl
+calls_append (x ∷ xs) ys = ap (λ (l : List Call). call_in x.node x.what ++ l) (calls_append xs ys) ∙ sym (append_assoc (call_in x.node x.what) (calls_of xs) (calls_of ys))
+
+-- what a part of a list has seen, the whole has seen
+pub seen_in_part : (now rest part earlier : List Entry) (s : Seen) → now ≡ rest ++ part ++ earlier → Contains (seen_in part) s → Contains (seen_in now) s
+seen_in_part now rest part earlier s split has =
+    let parts : seen_in (rest ++ part ++ earlier) ≡ seen_in rest ++ seen_in part ++ seen_in earlier =
+    seen_append (rest ++ part) earlier ∙ ap (λ (l : List Seen). l ++ seen_in earlier) (seen_append rest part) in
+    subst (λ (l : List Seen). Contains l s) (sym (ap seen_in split ∙ parts)) (Contains-append_left (seen_in rest ++ seen_in part) (seen_in earlier) s (Contains-append_right (seen_in rest) (seen_in part) s has))
+  where
+    seen_append : (xs ys : List Entry) → seen_in (xs ++ ys) ≡ seen_in xs ++ seen_in ys
+    seen_append xs ys = ap (flat_map (λ (c : Call). seen_by c.node c.request c.reply)) (calls_append xs ys) ∙ flat_map-append (λ (c : Call). seen_by c.node c.request c.reply) (calls_of xs) (calls_of ys)

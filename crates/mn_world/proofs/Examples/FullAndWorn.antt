@@ -62,7 +62,7 @@ worn_is_page = record {
   body = (lit≤ tt, refl, (((lit≤ tt, lit≤ tt, refl), (lit≤ tt, refl), refl), (((lit≤ tt, lit≤ tt, refl), (lit≤ tt, refl), refl), tt)));
 }
 
-full_bytes : List ℕ
+pub full_bytes : List ℕ
 full_bytes = page_bytes full_leaf
 
 worn_bytes : List ℕ

@@ -25,13 +25,13 @@ use Rattle.mn_world.proofs.Examples.Entries.{AreLegal, own, begin, answered, cal
 use Rattle.mn_world.proofs.Examples.Scans.{root, left, left_is_page}
 
 -- the left leaf of main stands on node 1, and has room for k2
-abbrev put : Op
+abbrev pub put : Op
 put = Tx main (Put (key 2) (119 ∷ []) ∷ [])
 
 abbrev heads : List Head
 heads = heads_in (main_entry ∷ [])
 
-abbrev plan : Mini
+abbrev pub plan : Mini
 plan = put_in_place 2 (key 2) (119 ∷ []) 0 main_entry (at 1 0) left (pair 3 ∷ pair 4 ∷ [])
 
 has_room : HasRoom heads 2 main (key 2) (119 ∷ []) 0 main_entry (at 1 0) left (pair 3 ∷ pair 4 ∷ [])
@@ -58,15 +58,15 @@ planned = put_is_planned heads 2 main (key 2) (119 ∷ []) 0 main_entry (at 1 0)
 abbrev listed : List Entry
 listed = answered (Replied (Listing (listing_of heads))) ∷ read 1 catalog_place (catalog_of (main_entry ∷ [])) ++ begin Versions ∷ []
 
-abbrev looked : List Entry
+abbrev pub looked : List Entry
 looked =
     called 1 (Ask.Peek 20480 1024) (Say.Peeked (page_bytes left)) ∷ called 0 (Ask.Peek 20480 1024) (Say.Peeked (page_bytes (record root { copied = 0 })))
     ∷ own (Did.Begin 2 put) ∷ listed
 
-abbrev issued : List Entry
+abbrev pub issued : List Entry
 issued = own (Did.Issue (id 0 2) plan) ∷ looked
 
-abbrev voted : List Entry
+abbrev pub voted : List Entry
 voted = called 0 (prepare 0 2 plan 0) (Say.Done []) ∷ issued
 
 abbrev all_voted : List Entry
@@ -78,7 +78,7 @@ told_one = called 0 (Ask.Decide (id 0 2) true) Say.Decided ∷ all_voted
 abbrev told : List Entry
 told = called 1 (Ask.Decide (id 0 2) true) Say.Decided ∷ told_one
 
-plan_is_by : IsPlanBy looked put plan (Values [])
+pub plan_is_by : IsPlanBy looked put plan (Values [])
 plan_is_by = (main_entry ∷ [], (seen catalog_place (catalog_of (main_entry ∷ [])), (0, lit< tt, refl), sees_main), planned)
 
 replied_by_plan : LastPlanReplies told (since_begin told) put (Values [])
@@ -127,7 +127,7 @@ sound_plan = record {
   inside = (((lit< tt, lit< tt), (lit≤ tt, lit≤ tt, lit≤ tt)), (((lit< tt, lit< tt), (lit≤ tt, lit≤ tt, lit≤ tt)), (((lit< tt, lit< tt), (lit≤ tt, lit≤ tt, lit≤ tt)), tt)));
 }
 
-legal_issued : AreLegal issued
+pub legal_issued : AreLegal issued
 legal_issued = (
   (((legal_listed, record { actor = lit≤ tt; node = tt; step = ((refl, refl), tt) }), record { actor = lit≤ tt; node = tt; step = (tt, tt) }), record { actor = lit≤ tt; node = tt; step = (tt, tt) }),
   record {
@@ -137,16 +137,19 @@ legal_issued = (
   },
 )
 
-legal_voted : AreLegal all_voted
+pub legal_voted : AreLegal voted
 legal_voted = (
-  (
-    legal_issued,
-    record {
-      actor = lit≤ tt;
-      node = tt;
-      step = (record { mini = plan; issued = refl; all = refl; several = lit≤ tt; named = (0, lit< tt, refl); own_part = refl; once = refl; open_still = refl; lower = (λ h. absurd (omega arith), (λ h. absurd (omega arith), tt)) }, tt);
-    },
-  ),
+  legal_issued,
+  record {
+    actor = lit≤ tt;
+    node = tt;
+    step = (record { mini = plan; issued = refl; all = refl; several = lit≤ tt; named = (0, lit< tt, refl); own_part = refl; once = refl; open_still = refl; lower = (λ h. absurd (omega arith), (λ h. absurd (omega arith), tt)) }, tt);
+  },
+)
+
+legal_all_voted : AreLegal all_voted
+legal_all_voted = (
+  legal_voted,
   record {
     actor = lit≤ tt;
     node = tt;
@@ -156,7 +159,7 @@ legal_voted = (
 
 legal_told : AreLegal told
 legal_told = (
-  (legal_voted, record { actor = lit≤ tt; node = tt; step = ((refl, (node 0 ∷ node 1 ∷ [], inl (plan, refl, refl), (refl, (refl, tt)))), tt) }),
+  (legal_all_voted, record { actor = lit≤ tt; node = tt; step = ((refl, (node 0 ∷ node 1 ∷ [], inl (plan, refl, refl), (refl, (refl, tt)))), tt) }),
   record { actor = lit≤ tt; node = tt; step = ((refl, (node 0 ∷ node 1 ∷ [], inl (plan, refl, refl), (refl, (refl, tt)))), tt) },
 )
 

@@ -1,5 +1,5 @@
 -- Lists that show no reply of a scan: one that stops before the end, one that read a leaf before the catalog, one whose catalog shows the version as writable.
-use Rattle.std.proofs.Common.{◌≡◌, ℕ, zero, suc, ◌-◌, ◌⊎◌, inl, inr, Bool, true, false, List, [], ◌∷◌, ◌++◌, length, replicate, Option, Some, None, if◌then◌else◌, refl, subst, sym, ap, ◌∙◌, arith, lit<, Contains}
+use Rattle.std.proofs.Common.{◌≡◌, ℕ, ◌-◌, ◌⊎◌, inl, inr, Bool, true, false, List, [], ◌∷◌, ◌++◌, length, replicate, Option, Some, None, if◌then◌else◌, refl, subst, sym, ap, ◌∙◌, arith, lit<, Contains}
 use Rattle.std.specs.Prelude.{◌≤◌}
 use Rattle.std.specs.List.{flat_map, AllByRecursion}
 use Rattle.std.proofs.lemmas.List.{append_assoc, length-append}
@@ -23,7 +23,7 @@ use Rattle.mn_world.specs.Shown.{Seen, seen_in, SeesPage, ServesNamed, IsChain, 
 use Rattle.mn_world.specs.Answers.{Shows}
 use Rattle.mn_world.specs.Calls.{Issued, issues_of, since_begin}
 use Rattle.mn_world.specs.Clients.{is_plan}
-use Rattle.mn_world.proofs.Examples.Entries.{begin, seen, catalog_of, main_is_entry, read_is_no_plan, page_is_no_catalog, only, main, key}
+use Rattle.mn_world.proofs.Examples.Entries.{begin, seen, catalog_of, main_is_entry, read_is_no_plan, page_is_no_catalog, only, one_of_three, main, key}
 use Rattle.mn_world.proofs.Examples.Scans.{root, left, right, left_is_page, right_is_page, root_is_page, catalog_seen, root_seen, left_seen, right_seen, read_seen, scan}
 
 -- no catalog refuses a scan with pairs
@@ -37,12 +37,6 @@ pairs_refuse_nothing heads name low high limit pairs e = by (head_named heads na
     by : (h : Option Head) → refusal_at heads (Scan name low high limit) h ≡ Some (Pairs pairs) → ⊥
     by None e = cc
     by (Some h) e = frozen h.frozen e
-
-one_of_three : {A : Type 0} (x y z w : A) → Contains (x ∷ y ∷ z ∷ []) w → (x ≡ w) ⊎ (y ≡ w) ⊎ (z ≡ w)
-one_of_three x y z w (zero, in', is) = inl cc
-one_of_three x y z w (suc zero, in', is) = inr (inl cc)
-one_of_three x y z w (suc (suc zero), in', is) = inr (inr cc)
-one_of_three x y z w (suc (suc (suc k)), in', is) = absurd (omega arith)
 
 -- where no plan was issued, leaves alone show pairs
 leaves_alone : (es : List Entry) (j : Issued) (js : List Issued) (pairs : List Pair) → issues_of (since_begin es) ≡ j ∷ js → is_plan j.mini.items ≡ false → (ScanShows (seen_in (since_begin es)) scan (Pairs pairs) → ⊥)

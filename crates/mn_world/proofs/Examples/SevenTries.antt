@@ -1,7 +1,7 @@
 -- Seven failed tries are not enough for Busy, where the first used the kept catalog: each later one asks for it.
-use Rattle.std.proofs.Common.{◌≡◌, ℕ, ◌+◌, ◌≤◌, Bool, true, false, ◌&&◌, ◌||◌, nat_eq, List, [], ◌∷◌, ◌++◌, length, filter, if◌then◌else◌, refl, sym, ap, ◌∙◌, arith}
+use Rattle.std.proofs.Common.{◌≡◌, ℕ, ◌+◌, ◌≤◌, Bool, true, false, ◌&&◌, ◌||◌, nat_eq, List, [], ◌∷◌, ◌++◌, length, filter, if◌then◌else◌, refl, ap, ◌∙◌, arith}
 use Rattle.std.specs.List.{list_any, list_all, flat_map}
-use Rattle.std.proofs.lemmas.List.{append_assoc, length-append}
+use Rattle.std.proofs.lemmas.List.{length-append}
 use Rattle.std.proofs.lemmas.List.Elements.{filter-append}
 use Rattle.mn_base.specs.declared.op.Op.{Op}
 use Rattle.mn_base.specs.declared.answer.Busy.{Busy}
@@ -10,10 +10,10 @@ use Rattle.mn_mini.specs.declared.request.Request.TheVariants as Ask
 use Rattle.mn_mini.specs.declared.reply.NodeReply.TheVariants as Say
 use Rattle.mn_world.specs.declared.entry.Entry.{Entry}
 use Rattle.mn_world.specs.declared.entry.What.TheVariants as Did
-use Rattle.mn_world.specs.Calls.{Call, call_in, calls_of}
+use Rattle.mn_world.specs.Calls.{Call, calls_of}
 use Rattle.mn_world.specs.Answers.{asks_catalog, reads_anew, FailedTries, Shows}
 use Rattle.mn_world.proofs.Examples.TwoNodes.{id, prepare}
-use Rattle.mn_world.proofs.Examples.Entries.{own, called}
+use Rattle.mn_world.proofs.Examples.Entries.{own, called, calls_append}
 use Rattle.mn_world.proofs.Examples.Tries.{leaf_bytes, put, plan, locked, six_tries}
 
 -- How often a list asks for the catalog
@@ -23,10 +23,6 @@ asks c = nat_eq c.node.0 0 && asks_catalog c.request
 
 abbrev times_asked : List Entry → ℕ
 times_asked es = length (filter asks (calls_of es))
-
-calls_append : (xs ys : List Entry) → calls_of (xs ++ ys) ≡ calls_of xs ++ calls_of ys
-calls_append [] ys = refl
-calls_append (x ∷ xs) ys = ap (λ (l : List Call). call_in x.node x.what ++ l) (calls_append xs ys) ∙ sym (append_assoc (call_in x.node x.what) (calls_of xs) (calls_of ys))
 
 asked_append : (xs ys : List Entry) → times_asked (xs ++ ys) ≡ times_asked xs + times_asked ys
 asked_append xs ys =
