@@ -511,11 +511,14 @@ split_pages f v nodes e p n count lows first more can count_is lp =
       changed = e.root ∷ [];
       new = slot_at n count ∷ slot_at n (count + 1) ∷ [];
       others = count_place n ∷ [];
-      written = ap (λ (place : Place). place ∷ _) root_is ∙ ap (λ (place : Place). page_place e.root ∷ place ∷ _) left_is ∙ ap (λ (place : Place). page_place e.root ∷ page_place (slot_at n count) ∷ place ∷ count_place n ∷ []) right_is;
+      written = four_same root_is left_is right_is;
       as_compared = inl (sym (place_same e.root.node (20480 + 1024 * e.root.slot) (length (page_bytes p)) 1024 lp), tt);
       free = (none_there _ (λ x. no_page f n count x (omega arith)), (none_there _ (λ x. no_page f n (count + 1) x (omega arith)), tt));
       no_more = ((λ is. page_not_count is.0 n (sym is.1)), tt);
     }
+  where
+    four_same : {a b c x y z : Place} → a ≡ x → b ≡ y → c ≡ z → ◌≡◌ {A = List Place} (a ∷ b ∷ c ∷ count_place n ∷ []) (x ∷ y ∷ z ∷ count_place n ∷ [])
+    four_same p q r = cc
 
 split_acts : (kept : List Head) (nodes : ℕ) (name key value : List ℕ) (v : ℕ) (e : CatEntry) (p : Page) (pairs : List Pair) (n : NodeNo) (count : ℕ) (lows : List Pair) (first : Pair) (more : List Pair)
     → HasSplit kept nodes name key value v e p pairs n count lows first more → (memory : List (List ℕ)) (store : Store) → length memory ≡ nodes → (holds : Holds memory store) → Continues kept (heads_of store)
