@@ -19,3 +19,6 @@ pub use laws::{
     seen_is_flat, spaces_agree, split_is_planned, unkept_is_never, yes_has_votes,
 };
 pub use lists::{ClientList, EntryList, Log};
+
+#[cfg(test)]
+mod tests;
