@@ -17,3 +17,4 @@ pub mod FullAndWornUnshown
 pub mod DownAndDoubt
 pub mod OneCatalog
 pub mod PathFaults
+pub mod SoundReads
