@@ -18,3 +18,4 @@ pub mod DownAndDoubt
 pub mod OneCatalog
 pub mod PathFaults
 pub mod SoundReads
+pub mod SevenTriesAnew
