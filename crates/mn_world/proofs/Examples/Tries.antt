@@ -179,6 +179,10 @@ forced = record { made = λ s. called 1 (prepare 0 (s + 2) plan 1) Say.BadForced
 abbrev pub strayed : Kind
 strayed = record { made = λ s. read (s + 2) (page_place (at 0 1)) child_bytes ++ read (s + 1) (page_place (at 1 1)) inner_bytes ++ read s catalog_place catalog_bytes; after = λ s. [] }
 
+-- the path meets a page that was kept at fault: nothing is sent
+abbrev pub kept_astray : Kind
+kept_astray = record { made = λ s. []; after = λ s. [] }
+
 -- Eight tries
 
 -- the first looks at the leaf, and is refused by a lock
@@ -191,11 +195,14 @@ first_try =
 abbrev pub later_try : Kind → Kind → ℕ → List Entry
 later_try kind before s = kind.made s ++ before.after (s - 3)
 
--- the second to the seventh, the newest first
-abbrev pub six_tries : List (List Entry)
-six_tries =
+-- the second to the seventh, the newest first, after a first of this kind
+abbrev pub six_after : Kind → List (List Entry)
+six_after first =
     later_try locked strayed 18 ∷ later_try strayed forced 15 ∷ later_try forced (entry_moved (97 ∷ [])) 12 ∷ later_try (entry_moved (97 ∷ [])) (moved (98 ∷ [])) 9
-    ∷ later_try (moved (98 ∷ [])) locked 6 ∷ later_try locked locked 3 ∷ []
+    ∷ later_try (moved (98 ∷ [])) locked 6 ∷ later_try locked first 3 ∷ []
+
+abbrev pub six_tries : List (List Entry)
+six_tries = six_after locked
 
 -- the eighth is of this kind
 abbrev pub eight_tries : Kind → List Entry
