@@ -19,3 +19,4 @@ pub mod OneCatalog
 pub mod PathFaults
 pub mod SoundReads
 pub mod SevenTriesAnew
+pub mod ScanTries
