@@ -20,3 +20,4 @@ pub mod PathFaults
 pub mod SoundReads
 pub mod SevenTriesAnew
 pub mod ScanTries
+pub mod TriesLegal
