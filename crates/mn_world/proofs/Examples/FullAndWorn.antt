@@ -51,7 +51,32 @@ full_is_page = record {
   low = (lit≤ tt, refl);
   high = tt;
   fences = refl;
-  body = (lit≤ tt, refl, (((lit≤ tt, lit≤ tt, refl), (lit≤ tt, refl), refl), (((lit≤ tt, lit≤ tt, refl), (lit≤ tt, refl), refl), (((lit≤ tt, lit≤ tt, refl), (lit≤ tt, refl), refl), (((lit≤ tt, lit≤ tt, refl), (lit≤ tt, refl), refl), (((lit≤ tt, lit≤ tt, refl), (lit≤ tt, refl), refl), (((lit≤ tt, lit≤ tt, refl), (lit≤ tt, refl), refl), (((lit≤ tt, lit≤ tt, refl), (lit≤ tt, refl), refl), (((lit≤ tt, lit≤ tt, refl), (lit≤ tt, refl), refl), tt)))))))));
+  body = (
+    lit≤ tt,
+    refl,
+    (
+      ((lit≤ tt, lit≤ tt, refl), (lit≤ tt, refl), refl),
+      (
+        ((lit≤ tt, lit≤ tt, refl), (lit≤ tt, refl), refl),
+        (
+          ((lit≤ tt, lit≤ tt, refl), (lit≤ tt, refl), refl),
+          (
+            ((lit≤ tt, lit≤ tt, refl), (lit≤ tt, refl), refl),
+            (
+              ((lit≤ tt, lit≤ tt, refl), (lit≤ tt, refl), refl),
+              (
+                ((lit≤ tt, lit≤ tt, refl), (lit≤ tt, refl), refl),
+                (
+                  ((lit≤ tt, lit≤ tt, refl), (lit≤ tt, refl), refl),
+                  (((lit≤ tt, lit≤ tt, refl), (lit≤ tt, refl), refl), tt),
+                ),
+              ),
+            ),
+          ),
+        ),
+      ),
+    ),
+  );
 }
 
 worn_is_page : IsPage worn_leaf
