@@ -17,3 +17,7 @@ pub mod FullAndWornUnshown
 pub mod DownAndDoubt
 pub mod OneCatalog
 pub mod PathFaults
+pub mod SoundReads
+pub mod SevenTriesAnew
+pub mod ScanTries
+pub mod TriesLegal

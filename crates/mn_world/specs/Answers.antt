@@ -194,12 +194,6 @@ abbrev pub is_one_try : List Entry → Bool
 is_one_try [] = true
 is_one_try (e ∷ es) = none_refused es
 
--- neither a Prepare nor an Exec
-abbrev pub is_no_try : Request → Bool
-is_no_try (Ask.Prepare tid participants part) = false
-is_no_try (Ask.Exec tid part) = false
-is_no_try request = true
-
 abbrev pub is_any_prepare : Request → Bool
 is_any_prepare (Ask.Prepare tid participants part) = true
 is_any_prepare request = false
@@ -235,7 +229,7 @@ pub record FailedTries (nodes : ℕ) (op : Op) (now : List Entry) (busy : Busy) 
   pub first : List Entry
   pub taken : List Entry
   pub split : now ≡ rest ++ last ++ flat_map (λ try. try) middle ++ first ++ taken
-  pub over : IsTrue (list_all (λ c. is_no_try c.request) (calls_of rest))
+  pub over : IsTrue (list_all (λ c. is_any_decide c.request) (calls_of rest))
   pub six : length middle ≡ 6
   pub last_fails : FailsAs nodes op last busy
   pub others_fail : AllByRecursion (λ try. (cause : Busy) × FailsAs nodes op try cause) middle
@@ -256,19 +250,18 @@ FreeSlots nodes seens free =
     (counts : List ℕ) × (length counts ≡ nodes) × (free + sum counts ≡ max_slots * nodes)
     × ((n : NodeNo) (count : ℕ) → slice_get counts n.0 ≡ Some count → ShowsBytes seens n count_start (big_bytes count_size count))
 
--- a try begins with the operation, or after a try that failed
+-- a later try begins after one that failed; that the first failed may not be seen, where it was not refused
 abbrev pub BeginsAfter : ℕ → Op → List Entry → Type 0
-BeginsAfter nodes op [] = ⊤
-BeginsAfter nodes op (e ∷ es) = (cause : Busy) × FailsAs nodes op (e ∷ es) cause
+BeginsAfter nodes op earlier = IsTrue (none_refused earlier) ⊎ ((cause : Busy) × FailsAs nodes op earlier cause)
 
--- the last try of the operation, which was not refused, and what came after it
+-- the last try of the operation, a later one that was not refused, and the decisions after it
 pub record LastTry (nodes : ℕ) (op : Op) (now : List Entry) (try : List Entry) : Type 0 where
   pub rest : List Entry
   pub earlier : List Entry
   pub split : now ≡ rest ++ try ++ earlier
-  pub over : IsTrue (list_all (λ c. is_no_try c.request) (calls_of rest))
+  pub over : IsTrue (list_all (λ c. is_any_decide c.request) (calls_of rest))
   pub begins : BeginsAfter nodes op earlier
-  pub is_try : IsTrue (none_refused try)
+  pub is_try : IsTrue (reads_anew try && none_refused try)
 
 -- a node answered Down to a request that is no Decide, or stopped inside a Prepare that was not the last
 abbrev pub is_down_cause : NodeNo → Call → Bool

@@ -1,6 +1,6 @@
 -- Eight failed tries of one Put, which end in each kind of Busy.
 use Rattle.std.proofs.Common.{ℕ, ◌+◌, inl, inr, List, [], ◌∷◌, ◌++◌, Some, None, refl, arith, lit<, lit≤}
-use Rattle.std.specs.List.{AllByRecursion}
+use Rattle.std.specs.List.{AllByRecursion, flat_map}
 use Rattle.mn_base.specs.declared.answer.Busy.{Busy}
 use Rattle.mn_base.specs.declared.answer.Busy.TheVariants.{Lock, Moved, Forced, Path}
 use Rattle.mn_base.specs.declared.answer.Answer.TheVariants as Gives
@@ -10,9 +10,9 @@ use Rattle.mn_world.specs.declared.entry.Entry.{Entry}
 use Rattle.mn_world.specs.Answers.{FailsAs, Reached}
 use Rattle.mn_world.specs.Run.{IsLegalBy}
 use Rattle.mn_world.proofs.Examples.TwoNodes.{node, id}
-use Rattle.mn_world.proofs.Examples.Entries.{answered, key}
+use Rattle.mn_world.proofs.Examples.Entries.{begin, answered, key}
 use Rattle.mn_world.proofs.Examples.Scans.{entries, m2}
-use Rattle.mn_world.proofs.Examples.Tries.{leaf_bytes, catalog_seen, leaf_seen, inner_seen, child_seen, sees_catalog, inner_spelled, child_spelled, leaf_shown, entry_shown, put, inner, copied_child, locked, moved, entry_moved, forced, strayed, first_try, later_try, six_tries, eight_tries}
+use Rattle.mn_world.proofs.Examples.Tries.{leaf_bytes, catalog_seen, leaf_seen, inner_seen, child_seen, sees_catalog, inner_spelled, child_spelled, leaf_shown, entry_shown, put, inner, copied_child, Kind, locked, moved, entry_moved, forced, strayed, first_try, later_try, six_after, six_tries, eight_tries, kept_astray}
 
 -- How each kind fails
 
@@ -48,14 +48,14 @@ strayed_fails s before = inr (inl (
 
 -- Eight tries
 
-six_fail : AllByRecursion (λ try. (cause : Busy) × FailsAs 2 put try cause) six_tries
-six_fail = (
+six_fail : (first : Kind) → AllByRecursion (λ try. (cause : Busy) × FailsAs 2 put try cause) (six_after first)
+six_fail first = (
   (_, locked_fails 18 (strayed.after 15)),
   (
     (_, strayed_fails 15 (forced.after 12)),
     (
       (_, forced_fails 12 ((entry_moved (97 ∷ [])).after 9)),
-      ((_, entry_moved_fails (97 ∷ []) 9 ((moved (98 ∷ [])).after 6)), ((_, moved_fails (98 ∷ []) 6 (locked.after 3)), ((_, locked_fails 3 (locked.after 0)), tt))),
+      ((_, entry_moved_fails (97 ∷ []) 9 ((moved (98 ∷ [])).after 6)), ((_, moved_fails (98 ∷ []) 6 (locked.after 3)), ((_, locked_fails 3 (first.after 0)), tt))),
     ),
   ),
 )
@@ -69,7 +69,7 @@ lock_answered = record {
     (put, refl),
     (
       refl,
-      (refl, record { rest = locked.after 21; last = later_try locked locked 21; middle = six_tries; first = first_try; taken = []; split = refl; over = refl; six = refl; last_fails = locked_fails 21 (locked.after 18); others_fail = six_fail; tries = refl; anew = refl; whole = refl }),
+      (refl, record { rest = locked.after 21; last = later_try locked locked 21; middle = six_tries; first = first_try; taken = []; split = refl; over = refl; six = refl; last_fails = locked_fails 21 (locked.after 18); others_fail = six_fail locked; tries = refl; anew = refl; whole = refl }),
     ),
   );
 }
@@ -95,7 +95,7 @@ moved_answered = record {
           over = refl;
           six = refl;
           last_fails = moved_fails (99 ∷ []) 21 (locked.after 18);
-          others_fail = six_fail;
+          others_fail = six_fail locked;
           tries = refl;
           anew = refl;
           whole = refl;
@@ -114,7 +114,7 @@ forced_answered = record {
     (put, refl),
     (
       refl,
-      (refl, record { rest = forced.after 21; last = later_try forced locked 21; middle = six_tries; first = first_try; taken = []; split = refl; over = refl; six = refl; last_fails = forced_fails 21 (locked.after 18); others_fail = six_fail; tries = refl; anew = refl; whole = refl }),
+      (refl, record { rest = forced.after 21; last = later_try forced locked 21; middle = six_tries; first = first_try; taken = []; split = refl; over = refl; six = refl; last_fails = forced_fails 21 (locked.after 18); others_fail = six_fail locked; tries = refl; anew = refl; whole = refl }),
     ),
   );
 }
@@ -128,7 +128,41 @@ path_answered = record {
     (put, refl),
     (
       refl,
-      (refl, record { rest = []; last = later_try strayed locked 21; middle = six_tries; first = first_try; taken = []; split = refl; over = refl; six = refl; last_fails = strayed_fails 21 (locked.after 18); others_fail = six_fail; tries = refl; anew = refl; whole = refl }),
+      (refl, record { rest = []; last = later_try strayed locked 21; middle = six_tries; first = first_try; taken = []; split = refl; over = refl; six = refl; last_fails = strayed_fails 21 (locked.after 18); others_fail = six_fail locked; tries = refl; anew = refl; whole = refl }),
+    ),
+  );
+}
+
+-- the first sent nothing
+abbrev kept_first : List Entry
+kept_first = locked.after 21 ++ later_try locked locked 21 ++ flat_map (λ try. try) (six_after kept_astray) ++ begin put ∷ []
+
+kept_first_answered : IsLegalBy kept_first (answered (Gives.Busy (Lock (node 0) 128 64 (id 1 1))))
+kept_first_answered = record {
+  actor = lit≤ tt;
+  node = tt;
+  step = (
+    (put, refl),
+    (
+      refl,
+      (
+        refl,
+        record {
+          rest = locked.after 21;
+          last = later_try locked locked 21;
+          middle = six_after kept_astray;
+          first = [];
+          taken = [];
+          split = refl;
+          over = refl;
+          six = refl;
+          last_fails = locked_fails 21 (locked.after 18);
+          others_fail = six_fail kept_astray;
+          tries = refl;
+          anew = refl;
+          whole = refl;
+        },
+      ),
     ),
   );
 }

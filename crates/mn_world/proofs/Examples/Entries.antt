@@ -83,7 +83,7 @@ version v = record { 0 = v }
 abbrev pub main : List ℕ
 main = main_entry.name
 
-pub main_is_entry : IsEntry main_entry
+main_is_entry : IsEntry main_entry
 main_is_entry = record { seq_low = lit≤ tt; seq_high = lit< tt; parent = tt; root = (lit< tt, lit< tt); name = (lit≤ tt, lit≤ tt, refl) }
 
 -- the catalog whose one version is main

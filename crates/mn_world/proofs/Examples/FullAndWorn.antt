@@ -1,22 +1,27 @@
 -- Want of slots and want of numbers: what a later try read of a full leaf, of counts and of a last number shows Full and Worn.
-use Rattle.std.proofs.Common.{◌≡◌, ℕ, zero, suc, ◌^◌, ◌-◌, inl, List, [], ◌∷◌, ◌++◌, Some, None, refl, subst, slice_get, lit<, lit≤}
+use Rattle.std.proofs.Common.{◌≡◌, ℕ, zero, suc, ◌^◌, ◌-◌, inl, inr, List, [], ◌∷◌, ◌++◌, Some, None, refl, subst, slice_get, lit<, lit≤}
 use Rattle.byteorder.specs.Endian.{big_bytes}
+use Rattle.mn_base.specs.declared.op.Op.{Op}
+use Rattle.mn_base.specs.declared.op.Op.TheVariants.{Snapshot}
 use Rattle.mn_base.specs.declared.answer.Busy.TheVariants.{Lock}
 use Rattle.mn_base.specs.declared.answer.Answer.TheVariants as Gives
+use Rattle.mn_mini.specs.declared.request.Request.TheVariants as Ask
+use Rattle.mn_mini.specs.declared.reply.NodeReply.TheVariants as Say
 use Rattle.mn_mini.specs.Flat.{bytes_in}
 use Rattle.mn_page.specs.declared.page.Page.{Page}
 use Rattle.mn_page.specs.declared.page.Body.TheVariants.{Leaf}
+use Rattle.mn_page.specs.declared.entry.CatEntry.{CatEntry}
 use Rattle.mn_page.specs.Grammar.{page_bytes, IsPage, SpellsPage}
 use Rattle.mn_page.proofs.Examples.Spelling.{at}
 use Rattle.mn_world.specs.declared.entry.Entry.{Entry}
-use Rattle.mn_world.specs.Planned.{page_place, count_place, catalog_place}
+use Rattle.mn_world.specs.Planned.{page_place, entry_place, count_place, catalog_place}
 use Rattle.mn_world.specs.Needs.{NeedsSlots, WritesOld}
-use Rattle.mn_world.specs.Shown.{seen_in}
+use Rattle.mn_world.specs.Shown.{Seen, seen_in, SeesCatalog}
 use Rattle.mn_world.specs.Answers.{FailsAs, FreeSlots, ShowsBytes}
 use Rattle.mn_world.specs.Run.{IsLegalBy}
 use Rattle.mn_world.proofs.Examples.TwoNodes.{node, id}
-use Rattle.mn_world.proofs.Examples.Entries.{begin, answered, read, seen, version, pair}
-use Rattle.mn_world.proofs.Examples.Scans.{entries, m2}
+use Rattle.mn_world.proofs.Examples.Entries.{begin, answered, called, read, seen, catalog_of, version, pair}
+use Rattle.mn_world.proofs.Examples.Scans.{entries, entry_rules, frozen_main, m2}
 use Rattle.mn_world.proofs.Examples.Tries.{catalog_bytes, catalog_seen, sees_catalog, put, locked, first_try}
 
 -- What the later try reads
@@ -46,7 +51,32 @@ full_is_page = record {
   low = (lit≤ tt, refl);
   high = tt;
   fences = refl;
-  body = (lit≤ tt, refl, (((lit≤ tt, lit≤ tt, refl), (lit≤ tt, refl), refl), (((lit≤ tt, lit≤ tt, refl), (lit≤ tt, refl), refl), (((lit≤ tt, lit≤ tt, refl), (lit≤ tt, refl), refl), (((lit≤ tt, lit≤ tt, refl), (lit≤ tt, refl), refl), (((lit≤ tt, lit≤ tt, refl), (lit≤ tt, refl), refl), (((lit≤ tt, lit≤ tt, refl), (lit≤ tt, refl), refl), (((lit≤ tt, lit≤ tt, refl), (lit≤ tt, refl), refl), (((lit≤ tt, lit≤ tt, refl), (lit≤ tt, refl), refl), tt)))))))));
+  body = (
+    lit≤ tt,
+    refl,
+    (
+      ((lit≤ tt, lit≤ tt, refl), (lit≤ tt, refl), refl),
+      (
+        ((lit≤ tt, lit≤ tt, refl), (lit≤ tt, refl), refl),
+        (
+          ((lit≤ tt, lit≤ tt, refl), (lit≤ tt, refl), refl),
+          (
+            ((lit≤ tt, lit≤ tt, refl), (lit≤ tt, refl), refl),
+            (
+              ((lit≤ tt, lit≤ tt, refl), (lit≤ tt, refl), refl),
+              (
+                ((lit≤ tt, lit≤ tt, refl), (lit≤ tt, refl), refl),
+                (
+                  ((lit≤ tt, lit≤ tt, refl), (lit≤ tt, refl), refl),
+                  (((lit≤ tt, lit≤ tt, refl), (lit≤ tt, refl), refl), tt),
+                ),
+              ),
+            ),
+          ),
+        ),
+      ),
+    ),
+  );
 }
 
 worn_is_page : IsPage worn_leaf
@@ -127,7 +157,7 @@ full_answered = record {
   node = tt;
   step = (
     (put, refl),
-    (refl, (refl, full_try, (record { rest = []; earlier = first_try; split = refl; over = refl; begins = (_, first_failed); is_try = refl }), lit< tt, two_slots, one_free)),
+    (refl, (refl, full_try, (record { rest = []; earlier = first_try; split = refl; over = refl; begins = inr (_, first_failed); is_try = refl }), lit< tt, two_slots, one_free)),
   );
 }
 
@@ -164,11 +194,80 @@ worn_answered = record {
         refl,
         worn_try,
         page_place (at 1 1),
-        (record { rest = []; earlier = first_try; split = refl; over = refl; begins = (_, first_failed); is_try = refl }),
+        (record { rest = []; earlier = first_try; split = refl; over = refl; begins = inr (_, first_failed); is_try = refl }),
         refl,
         refl,
         writes_leaf,
         (seen (page_place (at 1 1)) worn_bytes, (0, lit< tt, refl), refl, lit≤ tt, last_number_shown),
+      ),
+    ),
+  );
+}
+
+-- a Snapshot writes its version's entry, which has the last number
+abbrev worn_m2 : CatEntry
+worn_m2 = record m2 { seq = 2 ^ 64 - 1 }
+
+pub worn_catalog : List ℕ
+worn_catalog = catalog_of (frozen_main ∷ worn_m2 ∷ [])
+
+abbrev worn_catalog_seen : Seen
+worn_catalog_seen = seen catalog_place worn_catalog
+
+sees_worn : SeesCatalog worn_catalog_seen (frozen_main ∷ worn_m2 ∷ [])
+unfolding worn_catalog
+sees_worn = (refl, lit≤ tt, (entry_rules.0, (record { seq_low = lit≤ tt; seq_high = lit< tt; parent = lit< tt; root = (lit< tt, lit< tt); name = (lit≤ tt, lit≤ tt, refl) }, tt)), refl)
+
+entry_number_shown : bytes_in worn_catalog 64 8 ≡ big_bytes 8 (2 ^ 64 - 1)
+unfolding worn_catalog
+entry_number_shown = refl
+
+abbrev pub snapshot : Op
+snapshot = Snapshot m2.name (120 ∷ [])
+
+-- the first try was not refused: it looked at the root and the counts, and would be Worn as well
+abbrev pub snapshot_first : List Entry
+snapshot_first =
+    called 1 (Ask.Peek 16 8) (Say.Peeked (big_bytes 8 7)) ∷ called 0 (Ask.Peek 16 8) (Say.Peeked (big_bytes 8 6)) ∷ called 1 (Ask.Peek 21504 1024) (Say.Peeked full_bytes)
+    ∷ read 1 catalog_place worn_catalog
+
+abbrev snapshot_try : List Entry
+snapshot_try =
+    read 5 (count_place (node 1)) (big_bytes 8 7) ++ read 4 (count_place (node 0)) (big_bytes 8 6) ++ read 3 (page_place (at 1 1)) full_bytes ++ read 2 catalog_place worn_catalog
+
+writes_entry : WritesOld (seen_in snapshot_try) snapshot (entry_place 1)
+writes_entry = (
+  record {
+    entries = frozen_main ∷ worn_m2 ∷ [];
+    catalog = worn_catalog_seen;
+    version = version 1;
+    entry = worn_m2;
+    pages = record { addr = at 1 1; page = full_leaf } ∷ [];
+    seen = ((3, lit< tt, refl), sees_worn);
+    named = refl;
+    at = refl;
+    read = ((seen (page_place (at 1 1)) full_bytes, (2, lit< tt, refl), (refl, full_spelled)), tt);
+  },
+  inr refl,
+)
+
+snapshot_answered : IsLegalBy (snapshot_try ++ snapshot_first ++ begin snapshot ∷ []) (answered (Gives.Worn (node 0) 128))
+snapshot_answered = record {
+  actor = lit≤ tt;
+  node = tt;
+  step = (
+    (snapshot, refl),
+    (
+      refl,
+      (
+        refl,
+        snapshot_try,
+        entry_place 1,
+        (record { rest = []; earlier = snapshot_first; split = refl; over = refl; begins = inl refl; is_try = refl }),
+        refl,
+        refl,
+        writes_entry,
+        (worn_catalog_seen, (3, lit< tt, refl), refl, lit≤ tt, entry_number_shown),
       ),
     ),
   );

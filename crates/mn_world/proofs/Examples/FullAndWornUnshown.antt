@@ -1,5 +1,7 @@
 -- Lists that show neither Full nor Worn: one that looked at the counts, and one whose leaf has the number before the last.
-use Rattle.std.proofs.Common.{◌≡◌, ℕ, ◌-◌, ◌^◌, ◌≤◌, ◌⊎◌, inl, inr, List, [], ◌∷◌, ◌++◌, length, get_or, None, refl, subst, sym, ap, ◌∙◌, arith, Contains}
+use Rattle.std.proofs.Common.{◌≡◌, ℕ, ◌-◌, ◌^◌, ◌≤◌, ◌⊎◌, inl, inr, List, [], ◌∷◌, ◌++◌, length, get_or, None, refl, subst, sym, ap, ◌∙◌, arith, Contains, Bool, true, false, ◌&&◌}
+use Rattle.std.specs.Prelude.{IsTrue}
+use Rattle.std.specs.List.{list_all}
 use Rattle.byteorder.specs.Endian.{big_bytes}
 use Rattle.mn_base.specs.declared.ids.NodeNo.{NodeNo}
 use Rattle.mn_base.specs.declared.answer.Answer.TheVariants as Gives
@@ -13,11 +15,12 @@ use Rattle.mn_page.proofs.Examples.Spelling.{at}
 use Rattle.mn_world.specs.declared.entry.Entry.{Entry}
 use Rattle.mn_world.specs.Planned.{page_place, catalog_place}
 use Rattle.mn_world.specs.Shown.{Seen, seen_in}
-use Rattle.mn_world.specs.Answers.{FreeSlots, ShowsBytes, Shows}
+use Rattle.mn_world.specs.Calls.{calls_of}
+use Rattle.mn_world.specs.Answers.{FreeSlots, ShowsBytes, LastTry, is_any_decide, none_refused, reads_anew, Shows}
 use Rattle.mn_world.proofs.Examples.TwoNodes.{node}
 use Rattle.mn_world.proofs.Examples.Entries.{called, read, seen, version, pair, one_of_three, seen_in_part}
 use Rattle.mn_world.proofs.Examples.Tries.{catalog_bytes, catalog_seen, put, locked, first_try}
-use Rattle.mn_world.proofs.Examples.FullAndWorn.{full_bytes}
+use Rattle.mn_world.proofs.Examples.FullAndWorn.{full_bytes, snapshot, snapshot_first}
 
 -- no seen bytes of a list stand where these do
 none_shows : (x y z : Seen) (seens : List Seen) (n : NodeNo) (start : ℕ) (bytes : List ℕ) → ((s : Seen) → Contains seens s → Contains (x ∷ y ∷ z ∷ []) s)
@@ -82,3 +85,32 @@ no_last_number s (inr (inr is)) here low are = nodes_differ (ap (λ (x : Seen). 
 lesser_shows_no_worn : (es : List Entry) → Shows es lesser_try put (Gives.Worn (node 1) 21504) → ⊥
 lesser_shows_no_worn es (given_up, try, place, last, on, from, writes, shown) =
     none_shows lesser_seen catalog_seen catalog_seen (seen_in try) (node 1) 21504 (big_bytes 8 (2 ^ 64 - 1)) (λ s has. seen_in_part lesser_try last.rest try last.earlier s last.split has) no_last_number shown
+
+-- A first try shows no Worn
+
+peek_is_no_decide : (es : List Entry) → IsTrue (list_all (λ c. is_any_decide c.request) (calls_of (called 1 (Ask.Peek 16 8) (Say.Peeked (big_bytes 8 7)) ∷ es))) → ⊥
+peek_is_no_decide es over = absurd cc
+
+peek_is_not_anew : (es : List Entry) → (reads_anew (called 1 (Ask.Peek 16 8) (Say.Peeked (big_bytes 8 7)) ∷ es) && none_refused (called 1 (Ask.Peek 16 8) (Say.Peeked (big_bytes 8 7)) ∷ es)) ≡ true → ⊥
+peek_is_not_anew es anew = by _ _ anew
+  where
+    by : (a b : Bool) → ((a && false) && b) ≡ true → ⊥
+    by true b e = absurd cc
+    by false b e = absurd cc
+
+first_is_no_last : (nodes : ℕ) (try : List Entry) → LastTry nodes snapshot snapshot_first try → ⊥
+first_is_no_last nodes try last = by last.rest try last.earlier last.split last.over last.is_try
+  where
+    by : (rest t earlier : List Entry) → snapshot_first ≡ rest ++ t ++ earlier → IsTrue (list_all (λ c. is_any_decide c.request) (calls_of rest)) → (reads_anew t && none_refused t) ≡ true → ⊥
+    by [] [] earlier split over anew = absurd cc
+    by [] (a ∷ t) earlier split over anew = peek_is_not_anew t (subst (λ (x : Entry). (reads_anew (x ∷ t) && none_refused (x ∷ t)) ≡ true) (sym same) anew)
+      where
+        same : called 1 (Ask.Peek 16 8) (Say.Peeked (big_bytes 8 7)) ≡ a
+        same = cc
+    by (a ∷ rest) t earlier split over anew = peek_is_no_decide rest (subst (λ (x : Entry). IsTrue (list_all (λ c. is_any_decide c.request) (calls_of (x ∷ rest)))) (sym same) over)
+      where
+        same : called 1 (Ask.Peek 16 8) (Say.Peeked (big_bytes 8 7)) ≡ a
+        same = cc
+
+first_shows_no_worn : (es : List Entry) (n : NodeNo) (start : ℕ) → Shows es snapshot_first snapshot (Gives.Worn n start) → ⊥
+first_shows_no_worn es n start (given_up, try, place, last, on, from, writes, shown) = first_is_no_last _ try last

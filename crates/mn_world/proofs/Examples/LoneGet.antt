@@ -21,7 +21,7 @@ use Rattle.mn_world.specs.Shown.{Seen, ShowsCatalog, LeafShows}
 use Rattle.mn_world.specs.Answers.{Shows, SomeReadShows}
 use Rattle.mn_world.specs.Calls.{since_begin}
 use Rattle.mn_world.specs.Run.{IsLegalBy}
-use Rattle.mn_world.proofs.Examples.Entries.{begin, answered, called, read, seen, catalog_of, version, main, sees_main, key, pair, only, one_of_two, read_is_no_plan, values_refuse_nothing, page_is_no_catalog}
+use Rattle.mn_world.proofs.Examples.Entries.{AreLegal, begin, answered, called, read, seen, catalog_of, version, main, sees_main, key, pair, only, one_of_two, read_is_no_plan, values_refuse_nothing, page_is_no_catalog}
 
 -- main's one leaf has k1 and k3
 abbrev leaf : Page
@@ -46,6 +46,24 @@ get n = Tx main (Get (key n) ∷ [])
 -- the catalog is read, then the leaf
 abbrev reads : ℕ → List Entry
 reads n = read 2 (page_place (at 0 0)) (page_bytes leaf) ++ read 1 catalog_place (catalog_of (main_entry ∷ [])) ++ begin (get n) ∷ []
+
+legal_reads : AreLegal (reads 1)
+legal_reads = (
+  (
+    (
+      (
+        (
+          tt,
+          record { actor = lit≤ tt; node = tt; step = ((refl, refl), tt) },
+        ),
+        record { actor = lit≤ tt; node = tt; step = (record { under_way = refl; client = refl; serial = refl; kind = refl; sound = record { some = lit≤ tt; few = lit≤ tt; inside = (((lit< tt, lit< tt), (lit≤ tt, lit≤ tt, lit≤ tt)), tt) }; after = refl }, (refl, inl refl)) },
+      ),
+      record { actor = lit≤ tt; node = tt; step = (record { mini = _; issued = refl; alone = refl; own_part = refl; once = refl; open_still = refl }, tt) },
+    ),
+    record { actor = lit≤ tt; node = tt; step = (record { under_way = refl; client = refl; serial = refl; kind = refl; sound = record { some = lit≤ tt; few = lit≤ tt; inside = (((lit< tt, lit< tt), (lit≤ tt, lit≤ tt, lit≤ tt)), tt) }; after = refl }, (refl, inl refl)) },
+  ),
+  record { actor = lit≤ tt; node = tt; step = (record { mini = _; issued = refl; alone = refl; own_part = refl; once = refl; open_still = refl }, tt) },
+)
 
 abbrev leaf_seen : Seen
 leaf_seen = seen (page_place (at 0 0)) (page_bytes leaf)

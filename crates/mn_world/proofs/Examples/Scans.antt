@@ -14,7 +14,7 @@ use Rattle.mn_world.specs.declared.entry.Entry.{Entry}
 use Rattle.mn_world.specs.Planned.{page_place, catalog_place}
 use Rattle.mn_world.specs.Shown.{Seen, seen_in, SeesCatalog, ShowsPairs, FirstCatalog}
 use Rattle.mn_world.specs.Run.{IsLegalBy}
-use Rattle.mn_world.proofs.Examples.Entries.{begin, answered, read, seen, catalog_of, version, main, key, pair}
+use Rattle.mn_world.proofs.Examples.Entries.{AreLegal, begin, answered, read, seen, catalog_of, version, main, key, pair}
 
 -- main was frozen by a Snapshot, which made m2
 abbrev pub frozen_main : CatEntry
@@ -105,6 +105,36 @@ scan = Scan main (Some (key 4)) (Some (key 7)) 10
 
 abbrev reads : List Entry
 reads = read_seen 4 right_seen ++ read_seen 3 left_seen ++ read_seen 2 root_seen ++ read_seen 1 catalog_seen ++ begin scan ∷ []
+
+legal_reads : AreLegal reads
+legal_reads = (
+  (
+    (
+      (
+        (
+          (
+            (
+              (
+                (
+                  tt,
+                  record { actor = lit≤ tt; node = tt; step = ((refl, refl), tt) },
+                ),
+                record { actor = lit≤ tt; node = tt; step = (record { under_way = refl; client = refl; serial = refl; kind = refl; sound = record { some = lit≤ tt; few = lit≤ tt; inside = (((lit< tt, lit< tt), (lit≤ tt, lit≤ tt, lit≤ tt)), tt) }; after = refl }, (refl, inl refl)) },
+              ),
+              record { actor = lit≤ tt; node = tt; step = (record { mini = _; issued = refl; alone = refl; own_part = refl; once = refl; open_still = refl }, tt) },
+            ),
+            record { actor = lit≤ tt; node = tt; step = (record { under_way = refl; client = refl; serial = refl; kind = refl; sound = record { some = lit≤ tt; few = lit≤ tt; inside = (((lit< tt, lit< tt), (lit≤ tt, lit≤ tt, lit≤ tt)), tt) }; after = refl }, (refl, inl refl)) },
+          ),
+          record { actor = lit≤ tt; node = tt; step = (record { mini = _; issued = refl; alone = refl; own_part = refl; once = refl; open_still = refl }, tt) },
+        ),
+        record { actor = lit≤ tt; node = tt; step = (record { under_way = refl; client = refl; serial = refl; kind = refl; sound = record { some = lit≤ tt; few = lit≤ tt; inside = (((lit< tt, lit< tt), (lit≤ tt, lit≤ tt, lit≤ tt)), tt) }; after = refl }, (refl, inl refl)) },
+      ),
+      record { actor = lit≤ tt; node = tt; step = (record { mini = _; issued = refl; alone = refl; own_part = refl; once = refl; open_still = refl }, tt) },
+    ),
+    record { actor = lit≤ tt; node = tt; step = (record { under_way = refl; client = refl; serial = refl; kind = refl; sound = record { some = lit≤ tt; few = lit≤ tt; inside = (((lit< tt, lit< tt), (lit≤ tt, lit≤ tt, lit≤ tt)), tt) }; after = refl }, (refl, inl refl)) },
+  ),
+  record { actor = lit≤ tt; node = tt; step = (record { mini = _; issued = refl; alone = refl; own_part = refl; once = refl; open_still = refl }, tt) },
+)
 
 first_catalog : FirstCatalog (seen_in reads) catalog_seen (right_seen ∷ left_seen ∷ root_seen ∷ [])
 first_catalog = record { earlier = []; split = refl; catalog = refl; none_before = tt }

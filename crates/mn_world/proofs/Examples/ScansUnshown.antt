@@ -1,8 +1,8 @@
 -- Lists that show no reply of a scan: one that stops before the end, one that read a leaf before the catalog, one whose catalog shows the version as writable.
-use Rattle.std.proofs.Common.{◌≡◌, ℕ, ◌-◌, ◌⊎◌, inl, inr, Bool, true, false, List, [], ◌∷◌, ◌++◌, length, replicate, Option, Some, None, if◌then◌else◌, refl, subst, sym, ap, ◌∙◌, arith, lit<, Contains}
+use Rattle.std.proofs.Common.{◌≡◌, ℕ, ◌⊎◌, inl, inr, Bool, true, false, List, [], ◌∷◌, ◌++◌, length, Option, Some, None, if◌then◌else◌, refl, subst, sym, ap, ◌∙◌, arith, lit<, Contains}
 use Rattle.std.specs.Prelude.{◌≤◌}
-use Rattle.std.specs.List.{flat_map, AllByRecursion}
-use Rattle.std.proofs.lemmas.List.{append_assoc, length-append}
+use Rattle.std.specs.List.{AllByRecursion}
+use Rattle.std.proofs.lemmas.List.{length-append}
 use Rattle.std.proofs.lemmas.List.Elements.{Contains-append_left, Contains-append_right}
 use Rattle.mn_base.specs.Store.{Head, head_named, pairs_within, refusal, refusal_at}
 use Rattle.mn_base.specs.declared.ids.Addr.{Addr}
@@ -12,18 +12,19 @@ use Rattle.mn_base.specs.declared.reply.Reply.TheVariants.{Pairs, NotFrozen}
 use Rattle.mn_base.specs.declared.answer.Answer.TheVariants.{Replied}
 use Rattle.mn_page.specs.declared.page.Page.{Page}
 use Rattle.mn_page.specs.declared.entry.CatEntry.{CatEntry}
-use Rattle.mn_page.specs.Grammar.{entry_bytes, IsEntry, height_of}
+use Rattle.mn_page.specs.Grammar.{height_of}
 use Rattle.mn_page.specs.Forest.{main_entry, entry_head, heads_in}
 use Rattle.mn_page.specs.Holds.{page_covers}
 use Rattle.mn_page.proofs.Examples.Spelling.{at}
-use Rattle.mn_page.proofs.Spelled.{page_spelled_once, entry_spelled_once, entry_length, cut}
+use Rattle.mn_page.proofs.Spelled.{page_spelled_once}
 use Rattle.mn_world.specs.declared.entry.Entry.{Entry}
 use Rattle.mn_world.specs.Planned.{catalog_place}
-use Rattle.mn_world.specs.Shown.{Seen, seen_in, SeesPage, ServesNamed, IsChain, BeginsAt, ReachesEnd, leaf_pairs, IsCatalogRead, ScanShows}
+use Rattle.mn_world.specs.Shown.{Seen, SeesCatalog, seen_in, SeesPage, ServesNamed, IsChain, BeginsAt, ReachesEnd, leaf_pairs, IsCatalogRead, ScanShows}
 use Rattle.mn_world.specs.Answers.{Shows}
 use Rattle.mn_world.specs.Calls.{Issued, issues_of, since_begin}
 use Rattle.mn_world.specs.Clients.{is_plan}
-use Rattle.mn_world.proofs.Examples.Entries.{begin, seen, catalog_of, main_is_entry, read_is_no_plan, page_is_no_catalog, only, one_of_three, main, key}
+use Rattle.mn_world.proofs.Examples.Entries.{begin, seen, catalog_of, sees_main, read_is_no_plan, page_is_no_catalog, only, one_of_three, main, key}
+use Rattle.mn_world.proofs.Examples.OneCatalog.{one_catalog}
 use Rattle.mn_world.proofs.Examples.Scans.{root, left, right, left_is_page, right_is_page, root_is_page, catalog_seen, root_seen, left_seen, right_seen, read_seen, scan}
 
 -- no catalog refuses a scan with pairs
@@ -143,18 +144,6 @@ of_writable = read_seen 3 right_seen ++ read_seen 2 left_seen ++ read_seen 1 (se
 main_head_writable : (head : Head) → Some (entry_head main_entry) ≡ Some head → head.frozen ≡ true → ⊥
 main_head_writable head e frozen = cc
 
-none_is_some : (head : Head) → None ≡ Some head → ⊥
-none_is_some head e = cc
-
-main_is_writable : (entries : List CatEntry) → AllByRecursion IsEntry entries → catalog_of (main_entry ∷ []) ≡ catalog_of entries → (head : Head) → head_named (heads_in entries) main ≡ Some head → head.frozen ≡ true → ⊥
-main_is_writable [] all same head named frozen = none_is_some head named
-main_is_writable (e ∷ es) all same head named frozen =
-    let padding : List ℕ = replicate (4096 - length (flat_map entry_bytes (e ∷ es))) 0 in
-    let parts : entry_bytes main_entry ++ replicate 4032 0 ≡ entry_bytes e ++ (flat_map entry_bytes es ++ padding) = same ∙ append_assoc (entry_bytes e) (flat_map entry_bytes es) padding in
-    let bytes = cut (entry_bytes main_entry) (entry_bytes e) (replicate 4032 0) (flat_map entry_bytes es ++ padding) (sym (entry_length e all.0)) parts in
-    let is = entry_spelled_once main_entry e main_is_entry all.0 bytes.0 in
-    main_head_writable head (subst (λ (x : CatEntry). head_named (heads_in (x ∷ es)) main ≡ Some head) (sym is) named) frozen
-
 -- the one catalog read of the list
 the_catalog : (later earlier : List Seen) (s : Seen) → right_seen ∷ left_seen ∷ seen catalog_place (catalog_of (main_entry ∷ [])) ∷ [] ≡ later ++ s ∷ [] ++ earlier → IsCatalogRead s → seen catalog_place (catalog_of (main_entry ∷ [])) ≡ s
 the_catalog later earlier s split catalog =
@@ -167,7 +156,10 @@ the_catalog later earlier s split catalog =
 
 of_writable_scan : (pairs : List Pair) → ScanShows (seen_in (since_begin of_writable)) scan (Pairs pairs) → ⊥
 of_writable_scan pairs (s, later, entries, head, first, sees, named, frozen, shown) =
-    main_is_writable entries sees.2 (ap (λ (x : Seen). x.bytes) (the_catalog later first.earlier s first.split first.catalog) ∙ sees.3) head named frozen
+    let writable : Seen = seen catalog_place (catalog_of (main_entry ∷ [])) in
+    let is = the_catalog later first.earlier s first.split first.catalog in
+    let same = one_catalog writable (main_entry ∷ []) entries sees_main (subst (λ (x : Seen). SeesCatalog x entries) (sym is) sees) in
+    main_head_writable head (subst (λ (l : List CatEntry). head_named (heads_in l) main ≡ Some head) (sym same) named) frozen
 
 of_writable_shows_nothing : (pairs : List Pair) → Shows of_writable (since_begin of_writable) scan (Replied (Pairs pairs)) → ⊥
 of_writable_shows_nothing pairs shown = leaves_alone of_writable _ _ pairs refl refl (of_writable_scan pairs) shown

@@ -18,13 +18,13 @@ use Rattle.mn_world.proofs.Examples.Tries.{leaf_bytes, put, plan, locked, six_tr
 
 -- How often a list asks for the catalog
 
-abbrev asks : Call → Bool
+abbrev pub asks : Call → Bool
 asks c = nat_eq c.node.0 0 && asks_catalog c.request
 
-abbrev times_asked : List Entry → ℕ
+abbrev pub times_asked : List Entry → ℕ
 times_asked es = length (filter asks (calls_of es))
 
-asked_append : (xs ys : List Entry) → times_asked (xs ++ ys) ≡ times_asked xs + times_asked ys
+pub asked_append : (xs ys : List Entry) → times_asked (xs ++ ys) ≡ times_asked xs + times_asked ys
 asked_append xs ys =
     ap (λ (l : List Call). length (filter asks l)) (calls_append xs ys)
     ∙ (ap (λ (l : List Call). length l) (filter-append asks (calls_of xs) (calls_of ys)) ∙ length-append (filter asks (calls_of xs)) (filter asks (calls_of ys)))
@@ -37,18 +37,18 @@ asked_once (c ∷ cs) e = by (asked_once cs) (asks c) e
     by more true f = omega arith
     by more false f = more f
 
-both_left : (a b : Bool) → (a && b) ≡ true → a ≡ true
+pub both_left : (a b : Bool) → (a && b) ≡ true → a ≡ true
 both_left true b e = refl
 both_left false b e = absurd cc
 
-both_right : (a b : Bool) → (a && b) ≡ true → b ≡ true
+pub both_right : (a b : Bool) → (a && b) ≡ true → b ≡ true
 both_right true b e = e
 both_right false b e = absurd cc
 
-anew_asks : (try : List Entry) → reads_anew try ≡ true → 1 ≤ times_asked try
+pub anew_asks : (try : List Entry) → reads_anew try ≡ true → 1 ≤ times_asked try
 anew_asks try e = asked_once (calls_of try) (both_left (list_any asks (calls_of try)) _ e)
 
-all_ask : (tries : List (List Entry)) → list_all reads_anew tries ≡ true → length tries ≤ times_asked (flat_map (λ try. try) tries)
+pub all_ask : (tries : List (List Entry)) → list_all reads_anew tries ≡ true → length tries ≤ times_asked (flat_map (λ try. try) tries)
 all_ask [] e = omega arith
 all_ask (try ∷ tries) e =
     let here = anew_asks try (both_left (reads_anew try) _ e) in

@@ -1,5 +1,5 @@
 -- Tries of one Put, for worked examples: how a later try may end, and eight tries one after another. The catalog and the pages stand behind names.
-use Rattle.std.proofs.Common.{◌≡◌, ℕ, ◌+◌, ◌-◌, false, List, [], ◌∷◌, ◌++◌, length, None, refl, lit<, lit≤}
+use Rattle.std.proofs.Common.{◌≡◌, ℕ, ◌+◌, ◌-◌, false, List, [], ◌∷◌, ◌++◌, length, None, refl, lit<, lit≤, subst, sym}
 use Rattle.std.specs.List.{flat_map}
 use Rattle.mn_base.specs.declared.op.Step.TheVariants.{Put}
 use Rattle.mn_base.specs.declared.op.Op.{Op}
@@ -7,7 +7,12 @@ use Rattle.mn_base.specs.declared.op.Op.TheVariants.{Tx}
 use Rattle.mn_mini.specs.declared.item.Item.TheVariants.{Compare, Write}
 use Rattle.mn_mini.specs.declared.request.Request.TheVariants as Ask
 use Rattle.mn_mini.specs.declared.reply.NodeReply.TheVariants as Say
-use Rattle.mn_mini.specs.Mini.{Mini}
+use Rattle.mn_base.specs.declared.reply.Reply.TheVariants.{Values}
+use Rattle.mn_mini.specs.Mini.{Mini, IsSound}
+use Rattle.mn_page.specs.Forest.{heads_in}
+use Rattle.mn_world.specs.Planned.{IsPlanned}
+use Rattle.mn_world.specs.Plans.{put_in_place}
+use Rattle.mn_world.proofs.Plans.PutInPlace.{put_is_planned}
 use Rattle.mn_mini.specs.Flat.{bytes_in}
 use Rattle.mn_page.specs.declared.page.Page.{Page}
 use Rattle.mn_page.specs.declared.page.Body.TheVariants.{Leaf, Inner}
@@ -138,6 +143,36 @@ put = Tx m2.name (Put (key 7) (119 ∷ []) ∷ [])
 abbrev pub plan : Mini
 plan = record { nodes = 2; items = Compare (node 1) 21504 leaf_bytes ∷ Compare (node 0) 128 (entry_bytes m2) ∷ Write (node 1) 21504 next_bytes ∷ [] }
 
+plan_is : plan ≡ put_in_place 2 (key 7) (119 ∷ []) 1 m2 (at 1 1) leaf (pair 3 ∷ pair 7 ∷ [])
+unfolding leaf_bytes next_bytes
+plan_is = refl
+
+pub plan_is_planned : IsPlanned (heads_in entries) put plan (Values [])
+plan_is_planned = subst (λ (m : Mini). IsPlanned (heads_in entries) put m (Values [])) (sym plan_is)
+    (put_is_planned (heads_in entries) 2 m2.name (key 7) (119 ∷ []) 1 m2 (at 1 1) leaf (pair 3 ∷ pair 7 ∷ []) (record {
+      named = refl;
+      few = lit< tt;
+      entry = entry_rules.1.0;
+      writable = refl;
+      node = lit< tt;
+      page = leaf_spelled.0;
+      leaf = refl;
+      made = refl;
+      covers = refl;
+      is_key = (lit≤ tt, lit≤ tt, refl);
+      is_value = (lit≤ tt, refl);
+      room = lit≤ tt;
+      number = lit< tt;
+    }))
+
+pub plan_is_sound : IsSound plan
+unfolding leaf_bytes next_bytes
+plan_is_sound = record {
+  some = lit≤ tt;
+  few = lit≤ tt;
+  inside = (((lit< tt, lit< tt), (lit≤ tt, lit≤ tt, lit≤ tt)), (((lit< tt, lit< tt), (lit≤ tt, lit≤ tt, lit≤ tt)), (((lit< tt, lit< tt), (lit≤ tt, lit≤ tt, lit≤ tt)), tt)));
+}
+
 -- Kinds of tries
 
 -- the entries of a later try by its first serial, and those that follow its failure
@@ -179,6 +214,10 @@ forced = record { made = λ s. called 1 (prepare 0 (s + 2) plan 1) Say.BadForced
 abbrev pub strayed : Kind
 strayed = record { made = λ s. read (s + 2) (page_place (at 0 1)) child_bytes ++ read (s + 1) (page_place (at 1 1)) inner_bytes ++ read s catalog_place catalog_bytes; after = λ s. [] }
 
+-- the path meets a page that was kept at fault: nothing is sent
+abbrev pub kept_astray : Kind
+kept_astray = record { made = λ s. []; after = λ s. [] }
+
 -- Eight tries
 
 -- the first looks at the leaf, and is refused by a lock
@@ -191,11 +230,14 @@ first_try =
 abbrev pub later_try : Kind → Kind → ℕ → List Entry
 later_try kind before s = kind.made s ++ before.after (s - 3)
 
--- the second to the seventh, the newest first
-abbrev pub six_tries : List (List Entry)
-six_tries =
+-- the second to the seventh, the newest first, after a first of this kind
+abbrev pub six_after : Kind → List (List Entry)
+six_after first =
     later_try locked strayed 18 ∷ later_try strayed forced 15 ∷ later_try forced (entry_moved (97 ∷ [])) 12 ∷ later_try (entry_moved (97 ∷ [])) (moved (98 ∷ [])) 9
-    ∷ later_try (moved (98 ∷ [])) locked 6 ∷ later_try locked locked 3 ∷ []
+    ∷ later_try (moved (98 ∷ [])) locked 6 ∷ later_try locked first 3 ∷ []
+
+abbrev pub six_tries : List (List Entry)
+six_tries = six_after locked
 
 -- the eighth is of this kind
 abbrev pub eight_tries : Kind → List Entry
