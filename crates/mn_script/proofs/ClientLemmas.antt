@@ -1,0 +1,103 @@
+-- Clients by name and by number.
+use Rattle.std.proofs.Common.{◌≡◌, ◌<◌, ◌≤◌, ℕ, zero, suc, ◌+◌, ◌-◌, Bool, true, false, ◌&&◌, List, [], ◌∷◌, ◌++◌, Some, None, refl, ap, sym, ◌∙◌, bytes_eq, length, get_or, set, add-one, subst, length-append, arith}
+use Rattle.std.specs.Prelude.{option_map, nat_lt, nat_le}
+use Rattle.std.proofs.lemmas.Bool.Decides.{nat_tests}
+use Rattle.mn_script.specs.declared.elements.ScriptClient.{ScriptClient}
+use Rattle.mn_base.specs.declared.op.Op.{Op}
+use Rattle.mn_script.specs.declared.draft.Phase.{Phase}
+use Rattle.mn_script.specs.declared.draft.Phase.TheVariants.{Start, Head, Begun, Section, Points, Schedule}
+use Rattle.mn_script.specs.Lines.{client_named, ops_of, AreFew}
+use Rattle.mn_script.specs.Reading.{Draft, with_op, HasClient, fits_op, steps_in, limit_in}
+
+-- the clients so far have other names
+abbrev pub Passes : List ScriptClient → List ℕ → ℕ → Type 0
+Passes cs name zero = Unit {0}
+Passes [] name (suc at) = ⊥
+Passes (c ∷ cs) name (suc at) = (bytes_eq c.name name ≡ false) × Passes cs name at
+
+pub passes_more : (cs : List ScriptClient) (name : List ℕ) (at : ℕ) (c : ScriptClient) → Passes cs name at → at < length cs → c ≡ get_or cs at c → bytes_eq c.name name ≡ false → Passes cs name (suc at)
+passes_more [] name at c passed within is other = absurd (omega arith)
+passes_more (x ∷ cs) name zero c passed within is other = (ap (λ (y : ScriptClient). bytes_eq y.name name) (sym is) ∙ other, tt)
+passes_more (x ∷ cs) name (suc at) c passed within is other = (passed.0, passes_more cs name at c passed.1 (omega arith) is other)
+
+pub client_here : (cs : List ScriptClient) (name : List ℕ) (at : ℕ) (c : ScriptClient) → Passes cs name at → at < length cs → c ≡ get_or cs at c → bytes_eq c.name name ≡ true → client_named cs name ≡ Some at
+client_here [] name at c passed within is same = absurd (omega arith)
+client_here (x ∷ cs) name zero c passed within is same = let t : bytes_eq x.name name ≡ true = ap (λ (y : ScriptClient). bytes_eq y.name name) (sym is) ∙ same in rw t refl
+client_here (x ∷ cs) name (suc at) c passed within is same =
+    let t = passed.0 in
+    let rest = client_here cs name at c passed.1 (omega arith) is same in
+    rw (t, rest) (ap (λ (n : ℕ). Some n) (add-one at))
+
+pub client_nowhere : (cs : List ScriptClient) (name : List ℕ) → Passes cs name (length cs) → client_named cs name ≡ None
+client_nowhere [] name passed = refl
+client_nowhere (x ∷ cs) name passed = let t = passed.0 in rw t (ap (option_map (λ n. n + 1)) (client_nowhere cs name passed.1))
+
+pub ops_of-at : (cs : List ScriptClient) (n : ℕ) (c : ScriptClient) → n < length cs → c ≡ get_or cs n c → ops_of cs n ≡ length c.ops
+ops_of-at [] n c within is = absurd (omega arith)
+ops_of-at (x ∷ cs) zero c within is = ap (λ (y : ScriptClient). length y.ops) (sym is)
+ops_of-at (x ∷ cs) (suc n) c within is = ops_of-at cs n c (omega arith) is
+
+pub ops_of-past : (cs : List ScriptClient) (n : ℕ) → length cs ≤ n → ops_of cs n ≡ 0
+ops_of-past [] n past = refl
+ops_of-past (x ∷ cs) zero past = absurd (omega arith)
+ops_of-past (x ∷ cs) (suc n) past = ops_of-past cs n (omega arith)
+
+pub length-with_op : (cs : List ScriptClient) (op : Op) → length (with_op cs op) ≡ length cs
+length-with_op [] op = refl
+length-with_op (c ∷ []) op = refl
+length-with_op (c ∷ d ∷ cs) op = ap (λ (n : ℕ). suc n) (length-with_op (d ∷ cs) op)
+
+-- the last client takes the operation
+pub with_op-set : (cs : List ScriptClient) (at : ℕ) (c : ScriptClient) (op : Op) → at + 1 ≡ length cs → c ≡ get_or cs at c → set cs at (record c { ops = c.ops ++ op ∷ [] }) ≡ with_op cs op
+with_op-set [] at c op last is = absurd (omega arith)
+with_op-set (x ∷ []) zero c op last is = ap (λ (y : ScriptClient). record y { ops = y.ops ++ op ∷ [] } ∷ []) is
+with_op-set (x ∷ []) (suc at) c op last is = absurd (omega arith)
+with_op-set (x ∷ y ∷ cs) zero c op last is = absurd (omega arith)
+with_op-set (x ∷ y ∷ cs) (suc at) c op last is = ap (λ (l : List ScriptClient). x ∷ l) (with_op-set (y ∷ cs) at c op (omega arith) is)
+
+ops_of-with_op : (cs : List ScriptClient) (op : Op) (n : ℕ) → ((k : ℕ) → ops_of cs k ≤ 2000) → ops_of cs (length cs - 1) < 2000 → ops_of (with_op cs op) n ≤ 2000
+ops_of-with_op [] op n few room = omega arith
+ops_of-with_op (c ∷ []) op zero few room = omega (arith, length-append c.ops (op ∷ []))
+ops_of-with_op (c ∷ []) op (suc n) few room = omega arith
+ops_of-with_op (c ∷ d ∷ cs) op zero few room = few 0
+ops_of-with_op (c ∷ d ∷ cs) op (suc n) few room =
+    let last : length (c ∷ d ∷ cs) - 1 ≡ suc (length (d ∷ cs) - 1) = omega arith in
+    ops_of-with_op (d ∷ cs) op n (λ k. few (suc k)) (subst (λ (m : ℕ). ops_of (c ∷ d ∷ cs) m < 2000) last room)
+
+pub few_with_op : (cs : List ScriptClient) (op : Op) → AreFew cs → ops_of cs (length cs - 1) < 2000 → AreFew (with_op cs op)
+few_with_op cs op few room = record { count = (let same = length-with_op cs op in let count = few.count in omega arith); ops = λ n. ops_of-with_op cs op n few.ops room }
+
+ops_of-push : (cs : List ScriptClient) (c : ScriptClient) (n : ℕ) → ((k : ℕ) → ops_of cs k ≤ 2000) → length c.ops ≤ 2000 → ops_of (cs ++ c ∷ []) n ≤ 2000
+ops_of-push [] c zero few room = room
+ops_of-push [] c (suc n) few room = omega arith
+ops_of-push (x ∷ cs) c zero few room = few 0
+ops_of-push (x ∷ cs) c (suc n) few room = ops_of-push cs c n (λ k. few (suc k)) room
+
+pub few_push : (cs : List ScriptClient) (c : ScriptClient) → AreFew cs → length cs < 16 → length c.ops ≤ 2000 → AreFew (cs ++ c ∷ [])
+few_push cs c few room short = record { count = omega (arith, length-append cs (c ∷ [])); ops = λ n. ops_of-push cs c n few.ops short }
+
+pub has_client_with_op : (phase : Phase) (cs : List ScriptClient) (op : Op) → HasClient phase cs → HasClient phase (with_op cs op)
+has_client_with_op Start cs op has = tt
+has_client_with_op Head cs op has = tt
+has_client_with_op Begun cs op has = tt
+has_client_with_op Section cs op has = let same = length-with_op cs op in omega arith
+has_client_with_op Points cs op has = tt
+has_client_with_op Schedule cs op has = tt
+
+both : (a b : Bool) → (a && b) ≡ true → (a ≡ true) × (b ≡ true)
+both true b e = (refl, e)
+both false b e = absurd cc
+
+less : (m n : ℕ) → nat_lt m n ≡ true → m < n
+less m n e = grind (arith, nat_tests)
+
+at_most : (m n : ℕ) → nat_le m n ≡ true → m ≤ n
+at_most m n e = grind (arith, nat_tests)
+
+-- what room for an operation means
+pub room_for : (d : Draft) (op : Op) → fits_op d op ≡ true → (ops_of d.clients (length d.clients - 1) < 2000) × (d.ops < 8000) × (d.steps + steps_in op ≤ 20000) × (d.limits + limit_in op ≤ 100000)
+room_for d op e =
+    let one = both (nat_lt (ops_of d.clients (length d.clients - 1)) 2000) (nat_lt d.ops 8000 && (nat_le (d.steps + steps_in op) 20000 && nat_le (d.limits + limit_in op) 100000)) e in
+    let two = both (nat_lt d.ops 8000) (nat_le (d.steps + steps_in op) 20000 && nat_le (d.limits + limit_in op) 100000) one.1 in
+    let three = both (nat_le (d.steps + steps_in op) 20000) (nat_le (d.limits + limit_in op) 100000) two.1 in
+    (less _ _ one.0, less _ _ two.0, at_most _ _ three.0, at_most _ _ three.1)

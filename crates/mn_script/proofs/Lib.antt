@@ -1,0 +1,4 @@
+pub mod LineLemmas
+pub mod ClientLemmas
+pub mod StringLemmas
+pub mod StepLemmas

@@ -1,0 +1,4 @@
+pub mod Words
+pub mod Strings
+pub mod Lines
+pub mod Reading

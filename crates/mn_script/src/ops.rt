@@ -1,0 +1,171 @@
+ghost use Rattle.std.specs.Prelude.{◌≡◌, ◌≤◌, ◌+◌, [], ◌∷◌, length, IfOk};
+ghost use Rattle.mn_script.specs.Words.{Gives, end_at};
+ghost use Rattle.mn_script.specs.Lines.{few_steps, tx_op, put_op, get_op, del_op, snapshot_op, branch_op, scan_op, op_at};
+
+use crate::error::LineError;
+use crate::steps::{del, get, put, steps};
+use crate::words::{bound, end, name, next, number, word, wrong};
+use mn_base::{BaseError, Name, NoMemory, Op, Step, Steps};
+use std::alloc::Global;
+
+/// A transaction of one step.
+fn one_step(alloc: Global, version: Name, step: Step) -> Result<Op, NoMemory>
+    ensures { IfOk result (λ op. op ≡ Op.Tx version (step ∷ [])) }
+{
+    let mut steps = Vec::new(alloc);
+    steps.push(step)?;
+    match Steps::new(steps) {
+        Ok(steps) => Ok(Op::Tx { version, steps }),
+        Err(BaseError::BadSteps { .. }) => unreachable!(),
+        Err(BaseError::Empty) => unreachable!(),
+        Err(BaseError::TooLong { .. }) => unreachable!(),
+        Err(BaseError::BadName { .. }) => unreachable!(),
+        Err(BaseError::NoMemory) => Err(NoMemory),
+    }
+}
+
+/// A transaction of these steps, of which there is at least one.
+fn transaction(version: Name, steps: Vec<Step>) -> Result<Op, LineError>
+    ensures { Gives result (few_steps version steps.items) }
+{
+    match Steps::new(steps) {
+        Ok(steps) => Ok(Op::Tx { version, steps }),
+        Err(BaseError::BadSteps { .. }) => Err(LineError::Wrong { column: 1 }),
+        Err(BaseError::Empty) => unreachable!(),
+        Err(BaseError::TooLong { .. }) => unreachable!(),
+        Err(BaseError::BadName { .. }) => unreachable!(),
+        Err(BaseError::NoMemory) => Err(LineError::NoMemory),
+    }
+}
+
+#[tactic(auto, unfolding(crate::specs::Lines::tx_op))]
+fn tx_of(alloc: Global, line: &[u8], at: usize) -> Result<Op, LineError>
+    requires { at ≤ length line.now + 1 }
+    ensures { Gives result (tx_op line.now at) }
+{
+    let mut at = at;
+    let version = name(alloc, line, &mut at)?;
+    let steps = steps(alloc, line, at)?;
+    transaction(version, steps)
+}
+
+#[tactic(auto, unfolding(crate::specs::Lines::put_op))]
+fn put_of(alloc: Global, line: &[u8], at: usize) -> Result<Op, LineError>
+    requires { at ≤ length line.now + 1 }
+    ensures { Gives result (put_op line.now at) }
+{
+    let mut at = at;
+    let version = name(alloc, line, &mut at)?;
+    let step = put(alloc, line, &mut at)?;
+    end(line, at)?;
+    Ok(one_step(alloc, version, step)?)
+}
+
+#[tactic(auto, unfolding(crate::specs::Lines::get_op))]
+fn get_of(alloc: Global, line: &[u8], at: usize) -> Result<Op, LineError>
+    requires { at ≤ length line.now + 1 }
+    ensures { Gives result (get_op line.now at) }
+{
+    let mut at = at;
+    let version = name(alloc, line, &mut at)?;
+    let step = get(alloc, line, &mut at)?;
+    end(line, at)?;
+    Ok(one_step(alloc, version, step)?)
+}
+
+#[tactic(auto, unfolding(crate::specs::Lines::del_op))]
+fn del_of(alloc: Global, line: &[u8], at: usize) -> Result<Op, LineError>
+    requires { at ≤ length line.now + 1 }
+    ensures { Gives result (del_op line.now at) }
+{
+    let mut at = at;
+    let version = name(alloc, line, &mut at)?;
+    let step = del(alloc, line, &mut at)?;
+    end(line, at)?;
+    Ok(one_step(alloc, version, step)?)
+}
+
+#[tactic(auto, unfolding(crate::specs::Lines::snapshot_op))]
+fn snapshot_of(alloc: Global, line: &[u8], at: usize) -> Result<Op, LineError>
+    requires { at ≤ length line.now + 1 }
+    ensures { Gives result (snapshot_op line.now at) }
+{
+    let mut at = at;
+    let version = name(alloc, line, &mut at)?;
+    let child = name(alloc, line, &mut at)?;
+    end(line, at)?;
+    Ok(Op::Snapshot { version, child })
+}
+
+#[tactic(auto, unfolding(crate::specs::Lines::branch_op))]
+fn branch_of(alloc: Global, line: &[u8], at: usize) -> Result<Op, LineError>
+    requires { at ≤ length line.now + 1 }
+    ensures { Gives result (branch_op line.now at) }
+{
+    let mut at = at;
+    let version = name(alloc, line, &mut at)?;
+    let child = name(alloc, line, &mut at)?;
+    end(line, at)?;
+    Ok(Op::Branch { version, child })
+}
+
+#[tactic(auto, unfolding(crate::specs::Lines::scan_op))]
+fn scan_of(alloc: Global, line: &[u8], at: usize) -> Result<Op, LineError>
+    requires { at ≤ length line.now + 1 }
+    ensures { Gives result (scan_op line.now at) }
+{
+    let mut at = at;
+    let version = name(alloc, line, &mut at)?;
+    let low = bound(alloc, line, &mut at)?;
+    let high = bound(alloc, line, &mut at)?;
+    let limit = number(line, &mut at, 1, 1000)?;
+    end(line, at)?;
+    Ok(Op::Scan {
+        version,
+        low,
+        high,
+        limit,
+    })
+}
+
+fn versions_of(line: &[u8], at: usize) -> Result<Op, LineError>
+    requires { at ≤ length line.now + 1 }
+    ensures { Gives result (end_at line.now at Op.Versions) }
+{
+    end(line, at)?;
+    Ok(Op::Versions)
+}
+
+/// The operation of a line.
+#[tactic(auto, unfolding(crate::specs::Lines::op_at))]
+pub fn op_of(alloc: Global, line: &[u8]) -> Result<Op, LineError>
+    ensures { Gives result (op_at line.now) }
+{
+    let word = word(line, 0);
+    let at = next(line, 0);
+    if word == b"put".as_slice() {
+        return put_of(alloc, line, at);
+    }
+    if word == b"get".as_slice() {
+        return get_of(alloc, line, at);
+    }
+    if word == b"del".as_slice() {
+        return del_of(alloc, line, at);
+    }
+    if word == b"tx".as_slice() {
+        return tx_of(alloc, line, at);
+    }
+    if word == b"snapshot".as_slice() {
+        return snapshot_of(alloc, line, at);
+    }
+    if word == b"branch".as_slice() {
+        return branch_of(alloc, line, at);
+    }
+    if word == b"scan".as_slice() {
+        return scan_of(alloc, line, at);
+    }
+    if word == b"versions".as_slice() {
+        return versions_of(line, at);
+    }
+    Err(wrong(line, 0))
+}
