@@ -16,9 +16,11 @@ mod strings;
 #[cfg(test)]
 mod tests;
 mod words;
+mod write;
 
 pub use elements::{Act, Mark, Point, ScriptClient};
 pub use error::ScriptError;
 pub use lists::{Acts, Clients, Ops, Points};
 pub use read::read_script;
 pub use script::Script;
+pub use write::write_script;
