@@ -1,0 +1,4 @@
+pub mod Space
+pub mod Tids
+pub mod Decided
+pub mod Ties

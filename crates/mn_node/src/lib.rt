@@ -1,0 +1,5 @@
+//! A memory node: a list of records on a disk, the space and the locks that they make, and its answers (Sinfonia, SOSP 2007).
+#![tactic(auto)]
+
+mod held;
+mod part;
