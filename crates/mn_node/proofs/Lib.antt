@@ -2,3 +2,4 @@ pub mod Space
 pub mod Tids
 pub mod Decided
 pub mod Ties
+pub mod Tests

@@ -2,4 +2,5 @@
 #![tactic(auto)]
 
 mod held;
+mod memory;
 mod part;
