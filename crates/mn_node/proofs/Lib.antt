@@ -3,3 +3,4 @@ pub mod Tids
 pub mod Decided
 pub mod Ties
 pub mod Tests
+pub mod Built

@@ -1,12 +1,14 @@
 -- What the test of a part tells.
-use Rattle.std.proofs.Common.{◌≡◌, ℕ, List, Option, Some, None, refl, ap, sym, subst, ◌∙◌}
+use Rattle.std.proofs.Common.{◌≡◌, ℕ, List, Option, Some, None, Result, Ok, Err, IsOk, IsSome, MatchResult, refl, ap, sym, subst, ◌∙◌}
+use Rattle.std.proofs.lemmas.Bool.{false≢true}
+use Rattle.mn_node.specs.Held.{IsPartOf}
 use Rattle.mn_base.specs.declared.ids.Tid.{Tid}
 use Rattle.mn_base.specs.declared.ids.Range.{Range}
 use Rattle.mn_mini.specs.declared.part.PartItem.{PartItem}
 use Rattle.mn_mini.specs.declared.record.Record.{Record}
 use Rattle.mn_mini.specs.declared.reply.NodeReply.TheVariants as Say
 use Rattle.mn_mini.specs.Flat.{Mismatched, part_reads}
-use Rattle.mn_mini.specs.Node.{HeldPart, clash_of, only_reply, after_compares, Response}
+use Rattle.mn_mini.specs.Node.{HeldPart, Clash, clash_of, only_reply, after_compares, Response}
 use Rattle.mn_mini.specs.RecordGrammar.{IsPart}
 use Rattle.mn_locks.specs.declared.hold.Hold.{Hold}
 use Rattle.mn_locks.specs.declared.hold.Held.{Held}
@@ -38,3 +40,22 @@ done_is space part added m found reads is e same = of m (let P : Option Mismatch
     of : (m : Option Mismatched) → IsMismatch m None → after_compares space part added m ≡ record { reply = Say.Done reads; added = added }
     of None is = ap (λ (l : List (List ℕ)). let r : Response = record { reply = Say.Done l; added = added } in r) (sym same)
     of (Some at) is = absurd is
+
+none_is_some : (clash : Clash) → Some clash ≡ None → ⊥
+none_is_some clash e = cc
+
+-- a part that conflicts with none that is held is not refused
+pub not_held : (hs : List HeldPart) (holds : List Hold) (tid : Tid) (part : List PartItem) (reads writes : List Range) (held : Held)
+    → IsPart part → reads ≡ shared_of part → writes ≡ alone_of part → holds ≡ holds_by hs → clash_of hs tid part ≡ None → held_of holds tid reads writes ≡ Some held → ⊥
+not_held hs holds tid part reads writes held is e f h free told =
+    let clash = clash_is hs holds tid part reads writes (Some held) is e f told h in
+    none_is_some (record { range = held.range; holder = held.holder }) (sym clash ∙ free)
+
+pub is_ok_of : (r : Result (Unit {0}) Held) (P : Type 0) (Q : Held → Type 0) → MatchResult r (λ _. P) Q → ((held : Held) → Q held → ⊥) → IsOk r
+is_ok_of (Ok x) P Q told never = refl
+is_ok_of (Err held) P Q told never = absurd (never held told)
+
+-- a held part has items
+pub some_part : (o : Option HeldPart) → IsSome o → (part : List PartItem) × IsPartOf o part
+some_part None is = absurd (false≢true is)
+some_part (Some h) is = (h.part, refl)

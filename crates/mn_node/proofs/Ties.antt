@@ -159,7 +159,7 @@ least_cons : (c : Bool) (t : Tid) (ts : List Tid) → least_with (least_tid ts) 
 least_cons true t ts = least_with-turned (least_tid ts) (Some t)
 least_cons false t ts = least_with-turned (least_tid ts) None
 
-holds_by-cons : (h : HeldPart) (hs : List HeldPart) → holds_by (h ∷ hs) ≡ holds_by hs ++ part_holds h
+pub holds_by-cons : (h : HeldPart) (hs : List HeldPart) → holds_by (h ∷ hs) ≡ holds_by hs ++ part_holds h
 holds_by-cons h hs =
     ap (flat_map part_holds) (reverse-append (h ∷ []) hs) ∙ flat_map-append part_holds (reverse hs) (h ∷ []) ∙ ap (λ (l : List Hold). holds_by hs ++ l) (append-nil (part_holds h))
 

@@ -1,4 +1,9 @@
 ghost use Rattle.std.specs.Prelude.{◌≡◌, ◌≢◌, ◌≤◌, ◌<◌, ◌+◌, ◌-◌, ◌++◌, ◌∷◌, [], Bool, length, reverse, IfOk, Some, None, vec_len, vec_capacity, IsSome};
+ghost use Rattle.std.specs.Prelude.{◌^◌, List, if◌then◌else◌};
+ghost use Rattle.std.specs.List.{AllByRecursion};
+ghost use Rattle.mn_mini.specs.declared.part.PartItem.{PartItem};
+ghost use Rattle.mn_mini.specs.Flat.{space_after_part};
+ghost use Rattle.mn_node.specs.Held.{IsPartOf};
 ghost use Rattle.mn_base.specs.Ids.{tid_same};
 ghost use Rattle.mn_mini.specs.Mini.{space_size};
 ghost use Rattle.mn_mini.specs.Node.{held_parts, held_part_of, has_voted, has_forced, clash_of};
@@ -8,7 +13,7 @@ ghost use Rattle.mn_node.specs.Memory.{IsMemory, HasRoom, IsTested, is_among};
 
 use crate::held::{held_part, is_same};
 use crate::part::{Ranges, first_mismatch, reads_of, write_items};
-use mn_base::{NoMemory, Tid};
+use mn_base::{NoMemory, Nodes, Tid};
 use mn_locks::LockTable;
 use mn_mini::{NodeReply, Part, PartItem, Reads, Record};
 use std::alloc::Global;
@@ -82,4 +87,105 @@ pub fn test_part(
     }
     let reads = Reads::from_vec(reads_of(alloc, space, part)?);
     Ok(Tested::Yes { reads })
+}
+
+/// Makes the writes of the part that is held for an id, where the decision is yes.
+fn write_decided(records: &[Record], space: &mut [u8], tid: Tid, yes: bool)
+    requires size { length space.old ≡ space_size }
+    requires sound { AllByRecursion IsRecord records.now }
+    ensures { (part : List PartItem) → IsPartOf (held_part_of tid (held_parts (reverse records.now))) part → space.new ≡ (if yes then space_after_part space.old part else space.old) }
+{
+    if !yes {
+        return;
+    }
+    if let Some(part) = held_part(records, tid) {
+        write_items(space, part.as_slice());
+    }
+}
+
+impl Memory {
+    /// Adds a vote whose part conflicts with none that is held.
+    pub fn add_vote(&mut self, tid: Tid, participants: Nodes, part: Part, ranges: &Ranges)
+        requires memory { IsMemory self.old }
+        requires vote { IsRecord (Record.Voted tid participants part) }
+        requires shared { ranges.now.shared.items ≡ shared_of part }
+        requires alone { ranges.now.alone.items ≡ alone_of part }
+        requires free { clash_of (held_parts (reverse self.old.records.items)) tid part ≡ None }
+        requires room { HasRoom self.old }
+        requires more { vec_len self.old.records + self.old.held + 2 ≤ vec_capacity self.old.records }
+        requires few { self.old.held < 2 ^ 32 - 1 }
+        requires locks { length ranges.now.shared.items + length ranges.now.alone.items ≤ self.old.locks.spare }
+        ensures memory { IsMemory self.new }
+        ensures room { HasRoom self.new }
+        ensures records { self.new.records.items ≡ self.old.records.items ++ Record.Voted tid participants part ∷ [] }
+        ensures held { self.new.held ≡ self.old.held + 1 }
+        ensures node { self.new.node ≡ self.old.node }
+        ensures nodes { self.new.nodes ≡ self.old.nodes }
+    {
+        self.locks
+            .try_lock(tid, &ranges.shared, &ranges.alone)
+            .unwrap();
+        self.records
+            .push(Record::Voted {
+                tid,
+                participants,
+                part,
+            })
+            .unwrap();
+        self.held += 1;
+    }
+
+    /// Adds an execution, whose writes are made.
+    pub fn add_execution(&mut self, tid: Tid, part: Part)
+        requires memory { IsMemory self.old }
+        requires execution { IsRecord (Record.Executed tid part) }
+        requires room { HasRoom self.old }
+        requires more { vec_len self.old.records + self.old.held + 1 ≤ vec_capacity self.old.records }
+        ensures memory { IsMemory self.new }
+        ensures room { HasRoom self.new }
+        ensures records { self.new.records.items ≡ self.old.records.items ++ Record.Executed tid part ∷ [] }
+        ensures held { self.new.held ≡ self.old.held }
+        ensures node { self.new.node ≡ self.old.node }
+        ensures nodes { self.new.nodes ≡ self.old.nodes }
+    {
+        write_items(&mut self.space, part.as_slice());
+        self.records.push(Record::Executed { tid, part }).unwrap();
+    }
+
+    /// Adds that the node will not vote for an id.
+    pub fn add_force(&mut self, tid: Tid)
+        requires memory { IsMemory self.old }
+        requires force { IsRecord (Record.Forced tid) }
+        requires room { HasRoom self.old }
+        requires more { vec_len self.old.records + self.old.held + 1 ≤ vec_capacity self.old.records }
+        requires forced { vec_len self.old.forced < vec_capacity self.old.forced }
+        ensures memory { IsMemory self.new }
+        ensures room { HasRoom self.new }
+        ensures records { self.new.records.items ≡ self.old.records.items ++ Record.Forced tid ∷ [] }
+        ensures held { self.new.held ≡ self.old.held }
+        ensures node { self.new.node ≡ self.old.node }
+        ensures nodes { self.new.nodes ≡ self.old.nodes }
+    {
+        self.forced.push(tid).unwrap();
+        self.records.push(Record::Forced { tid }).unwrap();
+    }
+
+    /// Adds the decision of a held part: with yes its writes are made. Its ranges are free then. It takes no memory.
+    pub fn add_decision(&mut self, tid: Tid, yes: bool)
+        requires memory { IsMemory self.old }
+        requires decision { IsRecord (Record.Decided tid yes) }
+        requires held { IsSome (held_part_of tid (held_parts (reverse self.old.records.items))) }
+        requires room { HasRoom self.old }
+        ensures memory { IsMemory self.new }
+        ensures room { HasRoom self.new }
+        ensures records { self.new.records.items ≡ self.old.records.items ++ Record.Decided tid yes ∷ [] }
+        ensures held { self.new.held + 1 ≡ self.old.held }
+        ensures node { self.new.node ≡ self.old.node }
+        ensures nodes { self.new.nodes ≡ self.old.nodes }
+    {
+        write_decided(&self.records, &mut self.space, tid, yes);
+        self.locks.release(tid);
+        self.records.push(Record::Decided { tid, yes }).unwrap();
+        self.held -= 1;
+    }
 }
