@@ -4,3 +4,4 @@ pub mod Decided
 pub mod Ties
 pub mod Tests
 pub mod Built
+pub mod Steps

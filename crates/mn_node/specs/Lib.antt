@@ -1,3 +1,4 @@
 pub mod Part
 pub mod Held
 pub mod Memory
+pub mod Node

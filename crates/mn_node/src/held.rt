@@ -1,6 +1,6 @@
 ghost use Rattle.std.specs.Prelude.{◌≡◌, Bool, Some, None, reverse, MatchOption};
 ghost use Rattle.mn_base.specs.Ids.{tid_same};
-ghost use Rattle.mn_mini.specs.Node.{held_parts, held_part_of, has_voted};
+ghost use Rattle.mn_mini.specs.Node.{held_parts, held_part_of, has_voted, is_held};
 ghost use Rattle.mn_node.specs.Held.{IsPartOf};
 
 use mn_base::Tid;
@@ -51,4 +51,11 @@ pub fn voted(records: &[Record], tid: Tid) -> bool
         }
     }
     false
+}
+
+/// A part is held for the id.
+pub fn holds(records: &[Record], tid: Tid) -> bool
+    ensures { result ≡ is_held (reverse records.now) tid }
+{
+    held_part(records, tid).is_some()
 }

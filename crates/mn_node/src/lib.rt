@@ -4,3 +4,4 @@
 mod held;
 mod memory;
 mod part;
+mod step;

@@ -1,5 +1,5 @@
 ghost use Rattle.std.specs.Prelude.{◌≡◌, ◌≢◌, ◌≤◌, ◌<◌, ◌+◌, ◌-◌, ◌++◌, ◌∷◌, [], Bool, length, reverse, IfOk, Some, None, vec_len, vec_capacity, IsSome};
-ghost use Rattle.std.specs.Prelude.{◌^◌, List, if◌then◌else◌};
+ghost use Rattle.std.specs.Prelude.{◌^◌, List, OnOk, if◌then◌else◌};
 ghost use Rattle.std.specs.List.{AllByRecursion};
 ghost use Rattle.mn_mini.specs.declared.part.PartItem.{PartItem};
 ghost use Rattle.mn_mini.specs.Flat.{space_after_part};
@@ -187,5 +187,31 @@ impl Memory {
         self.locks.release(tid);
         self.records.push(Record::Decided { tid, yes }).unwrap();
         self.held -= 1;
+    }
+}
+
+impl Memory {
+    /// Makes room for one record more and so many ranges, beside what there is room for.
+    pub fn reserve(&mut self, ranges: usize) -> Result<(), NoMemory>
+        requires memory { IsMemory self.old }
+        requires room { HasRoom self.old }
+        ensures memory { IsMemory self.new }
+        ensures room { HasRoom self.new }
+        ensures held_few { OnOk result (self.new.held < 2 ^ 32 - 2) }
+        ensures more { OnOk result (vec_len self.new.records + self.new.held + 2 ≤ vec_capacity self.new.records) }
+        ensures forced { OnOk result (vec_len self.new.forced < vec_capacity self.new.forced) }
+        ensures ranges { OnOk result (ranges ≤ self.new.locks.spare) }
+        ensures records { self.new.records.items ≡ self.old.records.items }
+        ensures held { self.new.held ≡ self.old.held }
+        ensures node { self.new.node ≡ self.old.node }
+        ensures nodes { self.new.nodes ≡ self.old.nodes }
+    {
+        if self.held >= 4_294_967_294 {
+            return Err(NoMemory);
+        }
+        self.records.reserve(self.held as usize + 2)?;
+        self.forced.reserve(1)?;
+        self.locks.reserve(ranges)?;
+        Ok(())
     }
 }
