@@ -1,7 +1,6 @@
 -- What a record adds to what a node keeps in memory.
 use Rattle.std.proofs.Common.{◌≡◌, ◌≤◌, ◌+◌, ℕ, suc, Bool, true, false, not, ◌||◌, List, [], ◌∷◌, ◌++◌, length, map, reverse, Option, Some, None, refl, ap, sym, ◌∙◌, subst, arith, append-nil, if◌then◌else◌}
-use Rattle.std.specs.Prelude.{filter}
-use Rattle.std.specs.List.{list_any, AllByRecursion}
+use Rattle.std.specs.List.{AllByRecursion}
 use Rattle.std.proofs.lemmas.List.{reverse-append}
 use Rattle.mn_base.specs.Ids.{tid_same}
 use Rattle.mn_base.specs.declared.ids.NodeNo.{NodeNo}
@@ -12,14 +11,13 @@ use Rattle.mn_mini.specs.declared.record.Record.{Record}
 use Rattle.mn_mini.specs.declared.record.Record.TheVariants.{Voted, Executed, Decided, Forced}
 use Rattle.mn_mini.specs.Flat.{space_after_part}
 use Rattle.mn_mini.specs.Mini.{space_size}
-use Rattle.mn_mini.specs.Node.{HeldPart, held_parts, held_part_of, without_tid, has_forced, is_force_of, space_of, space_after_held}
+use Rattle.mn_mini.specs.Node.{HeldPart, held_parts, held_part_of, without_tid, has_forced, space_of, space_after_held}
 use Rattle.mn_mini.specs.RecordGrammar.{IsRecord, IsPart}
 use Rattle.mn_locks.specs.declared.hold.Hold.{Hold}
 use Rattle.mn_locks.specs.Locks.{hold_of, holds_of, without}
 use Rattle.mn_node.specs.Held.{IsPartOf}
 use Rattle.mn_node.specs.Part.{shared_of, alone_of, part_holds, holds_by}
 use Rattle.mn_node.specs.Memory.{IsBuilt, is_among}
-use Rattle.mn_node.proofs.Tids.{tid_same-is, tid_same-refl}
 use Rattle.mn_node.proofs.Ties.{holds_by-cons}
 
 -- Lists
@@ -196,6 +194,7 @@ built_decided base records space new holds forced tid verdict part b is held e s
     spaces : (v : Bool) → (if v then space_after_part space part else space) ≡ space_of base (Decided tid v ∷ reverse records)
     spaces true = sym (after_held space (held_part_of tid (held_parts (reverse records))) part held) ∙ ap (λ (l : List ℕ). space_after_held l (held_part_of tid (held_parts (reverse records)))) b.space_is
     spaces false = b.space_is
+
     not_force : (t : Tid) (v : Bool) → has_forced (Decided tid v ∷ reverse records) t ≡ has_forced (reverse records) t
     not_force t true = refl
     not_force t false = refl

@@ -8,12 +8,14 @@ use Rattle.mn_mini.specs.declared.part.PartItem.{PartItem}
 use Rattle.mn_mini.specs.declared.record.Record.{Record}
 use Rattle.mn_mini.specs.declared.reply.NodeReply.TheVariants as Say
 use Rattle.mn_mini.specs.Flat.{Mismatched, part_reads}
-use Rattle.mn_mini.specs.Node.{HeldPart, Clash, clash_of, only_reply, after_compares, Response}
+use Rattle.mn_mini.specs.Node.{HeldPart, Clash, clash_of, only_reply, after_locks, after_compares, Response}
 use Rattle.mn_mini.specs.RecordGrammar.{IsPart}
 use Rattle.mn_locks.specs.declared.hold.Hold.{Hold}
 use Rattle.mn_locks.specs.declared.hold.Held.{Held}
 use Rattle.mn_locks.specs.Locks.{held_of}
 use Rattle.mn_node.specs.declared.part.Mismatch.{Mismatch}
+use Rattle.mn_node.specs.declared.memory.Tested.TheVariants.{Yes}
+use Rattle.mn_node.specs.Memory.{IsTested}
 use Rattle.mn_node.specs.Part.{shared_of, alone_of, holds_by, as_clash, IsMismatch}
 use Rattle.mn_node.proofs.Ties.{tie}
 
@@ -23,7 +25,7 @@ pub clash_is : (hs : List HeldPart) (holds : List Hold) (tid : Tid) (part : List
 clash_is hs holds tid part reads writes x is e f told h =
     sym (tie hs tid 1 part is.order)
     ∙ ap as_clash
-      (sym (ap (λ (l : List Hold). held_of l tid reads writes) h ∙ ap (λ (l : List Range). held_of (holds_by hs) tid l writes) e ∙ ap (λ (l : List Range). held_of (holds_by hs) tid (shared_of part) l) f) ∙ told)
+    (sym (ap (λ (l : List Hold). held_of l tid reads writes) h ∙ ap (λ (l : List Range). held_of (holds_by hs) tid l writes) e ∙ ap (λ (l : List Range). held_of (holds_by hs) tid (shared_of part) l) f) ∙ told)
 
 pub differs_is : (space : List ℕ) (part : List PartItem) (added : Option Record) (m : Option Mismatched) (found : Option Mismatch) (d : Mismatch) → IsMismatch m found → found ≡ Some d
     → after_compares space part added m ≡ only_reply (Say.BadCompare d.item d.found)
@@ -59,3 +61,11 @@ is_ok_of (Err held) P Q told never = absurd (never held told)
 pub some_part : (o : Option HeldPart) → IsSome o → (part : List PartItem) × IsPartOf o part
 some_part None is = absurd (false≢true is)
 some_part (Some h) is = (h.part, refl)
+
+-- a part that was tested with yes conflicts with none that is held
+pub free_of : (space : List ℕ) (holds : List Hold) (tid : Tid) (part : List PartItem) (reads : List (List ℕ)) (hs : List HeldPart) → IsTested space holds tid part (Yes reads) → holds ≡ holds_by hs → clash_of hs tid part ≡ None
+free_of space holds tid part reads hs tested h = of (clash_of hs tid part) (tested hs h None)
+  where
+    of : (x : Option Clash) → after_locks space part None x ≡ record { reply = Say.Done reads; added = None } → x ≡ None
+    of None e = refl
+    of (Some clash) e = let never = ap (λ (r : Response). r.reply) e in cc

@@ -1,11 +1,10 @@
 -- Ids: sameness is equality, and their order is total.
-use Rattle.std.proofs.Common.{◌≡◌, ◌<◌, ◌≤◌, ℕ, Bool, true, false, ◌&&◌, ◌||◌, List, [], ◌∷◌, Option, Some, None, refl, ap, sym, ◌∙◌, subst, arith, if◌then◌else◌}
-use Rattle.std.specs.Prelude.{nat_lt, nat_eq}
-use Rattle.std.proofs.lemmas.Bool.{and_parts, and_from, eqb-true, false≢true}
+use Rattle.std.proofs.Common.{◌≡◌, ℕ, true, false, ◌&&◌, ap, ◌∙◌, arith}
+use Rattle.std.specs.Prelude.{nat_eq}
+use Rattle.std.proofs.lemmas.Bool.{and_parts, eqb-true}
 use Rattle.std.proofs.lemmas.Bool.Decides.{nat_tests}
 use Rattle.mn_base.specs.Ids.{tid_same, tid_lt, client_same}
 use Rattle.mn_base.specs.declared.ids.Tid.{Tid}
-use Rattle.mn_mini.specs.Node.{HeldPart, without_tid, held_part_of}
 
 pub same_tid : (t u : Tid) → t.run ≡ u.run → t.client.0 ≡ u.client.0 → t.serial ≡ u.serial → t ≡ u
 same_tid t u e f g =

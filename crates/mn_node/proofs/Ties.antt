@@ -1,7 +1,7 @@
 -- What the lock table refuses is what the held parts refuse.
-use Rattle.std.proofs.Common.{◌≡◌, ◌≤◌, ℕ, Bool, true, false, not, ◌&&◌, ◌||◌, List, [], ◌∷◌, ◌++◌, map, reverse, Option, Some, None, refl, ap, sym, ◌∙◌, arith, append-nil, append_assoc, if◌then◌else◌}
+use Rattle.std.proofs.Common.{◌≡◌, ℕ, Bool, true, false, not, ◌&&◌, ◌||◌, List, [], ◌∷◌, ◌++◌, map, reverse, Option, Some, None, refl, ap, sym, ◌∙◌, append-nil, if◌then◌else◌}
 use Rattle.std.specs.List.{list_any, flat_map}
-use Rattle.std.proofs.lemmas.Bool.{and_parts, leb-true, false≢true}
+use Rattle.std.proofs.lemmas.Bool.{and_parts, false≢true}
 use Rattle.std.proofs.lemmas.List.{reverse-append}
 use Rattle.std.proofs.lemmas.Grind.{flat_map-append}
 use Rattle.mn_base.specs.Ids.{tid_same, tid_lt}
@@ -11,7 +11,7 @@ use Rattle.mn_mini.specs.declared.part.PartItem.{PartItem}
 use Rattle.mn_mini.specs.declared.part.PartItem.TheVariants.{Compare, Read, Write}
 use Rattle.mn_mini.specs.Mini.{range_of, is_write, items_conflict, item_conflicts_with}
 use Rattle.mn_mini.specs.Node.{HeldPart, lesser_tid, least_tid, Clash, clash_or, clash_of, holders}
-use Rattle.mn_mini.specs.RecordGrammar.{kind_of, are_in_order}
+use Rattle.mn_mini.specs.RecordGrammar.{are_in_order}
 use Rattle.mn_locks.specs.declared.hold.Hold.{Hold}
 use Rattle.mn_locks.specs.declared.hold.Held.{Held}
 use Rattle.mn_locks.specs.Locks as Table

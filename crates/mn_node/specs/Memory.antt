@@ -1,11 +1,10 @@
 -- What a node keeps in memory.
-use Rattle.std.specs.Prelude.{◌≡◌, ◌≤◌, ℕ, ◌+◌, Bool, List, [], ◌∷◌, ◌++◌, length, reverse, Option, Some, None, vec_len, vec_capacity}
+use Rattle.std.specs.Prelude.{◌≡◌, ◌≤◌, ℕ, ◌+◌, Bool, List, length, reverse, Option, vec_len, vec_capacity}
 use Rattle.std.specs.List.{list_any, AllByRecursion}
 use Rattle.mn_base.specs.Ids.{tid_same}
 use Rattle.mn_base.specs.declared.ids.Tid.{Tid}
 use Rattle.mn_mini.specs.declared.part.PartItem.{PartItem}
 use Rattle.mn_mini.specs.declared.record.Record.{Record}
-use Rattle.mn_mini.specs.declared.reply.NodeReply.{NodeReply}
 use Rattle.mn_mini.specs.declared.reply.NodeReply.TheVariants as Say
 use Rattle.mn_mini.specs.Mini.{space_size}
 use Rattle.mn_mini.specs.Node.{HeldPart, held_parts, has_forced, space_of, Response, only_reply, after_locks, clash_of}
@@ -44,7 +43,8 @@ pub record HasRoom (m : Memory) : Type 0 where
 -- what the test of a part tells, with the record that a yes adds
 abbrev pub response_of : Tested → Option Record → Response
 response_of (Result.Yes reads) added = record { reply = Say.Done reads; added = added }
-response_of (Result.No reply) added = only_reply reply
+response_of (Result.Locked held) added = only_reply (Say.BadLock held.range.start held.range.length held.holder)
+response_of (Result.Differs differs) added = only_reply (Say.BadCompare differs.item differs.found)
 
 -- the test tells what the locks and then the compares say of the part
 abbrev pub IsTested : List ℕ → List Hold → Tid → List PartItem → Tested → Type 0

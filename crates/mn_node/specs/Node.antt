@@ -1,5 +1,5 @@
 -- A node: its log, its memory, and what it does with a request.
-use Rattle.std.specs.Prelude.{◌≡◌, ◌≤◌, ◌<◌, ◌⊎◌, ◌+◌, ◌-◌, ◌*◌, ◌^◌, ℕ, List, [], ◌∷◌, ◌++◌, length, map, reverse, Option, Some, None, vec_len, vec_capacity}
+use Rattle.std.specs.Prelude.{◌≡◌, ◌≤◌, ◌<◌, ◌⊎◌, ◌+◌, ◌-◌, ◌*◌, ◌^◌, ℕ, List, [], ◌∷◌, ◌++◌, map, reverse, Option, Some, None, vec_len, vec_capacity}
 use Rattle.mn_io.specs.DiskModel.{DiskState}
 use Rattle.mn_io.specs.Faults.{Rose}
 use Rattle.mn_redo.specs.Grammar.{Stands}
@@ -7,12 +7,13 @@ use Rattle.mn_redo.specs.Redo.{RedoState, StandsFor}
 use Rattle.mn_redo.specs.declared.redo.Phase.TheVariants.{Started}
 use Rattle.mn_mini.specs.declared.record.Record.{Record}
 use Rattle.mn_mini.specs.declared.request.Request.{Request}
-use Rattle.mn_mini.specs.declared.request.Request.TheVariants.{Decide}
 use Rattle.mn_mini.specs.declared.reply.NodeReply.{NodeReply}
 use Rattle.mn_mini.specs.declared.reply.NodeReply.TheVariants as Say
 use Rattle.mn_mini.specs.Node.{Response, answer}
 use Rattle.mn_mini.specs.RecordGrammar.{record_bytes}
 use Rattle.mn_node.specs.declared.memory.Memory.{Memory}
+use Rattle.mn_node.specs.declared.step.Kept.{Kept}
+use Rattle.mn_node.specs.declared.step.Kept.TheVariants.{NoRoom, Stopped, Logged}
 use Rattle.mn_node.specs.Memory.{IsMemory, HasRoom, base_of}
 
 -- the bodies of records
@@ -72,3 +73,25 @@ Handled state faults redo m request Say.Stopped new after =
 Handled state faults redo m request Say.Down new after = ⊥
 Handled state faults redo m request reply new after =
     IsUp state new after × ((node_answer m request).reply ≡ reply) × (after.records.items ≡ added_to m.records.items (node_answer m request).added)
+
+-- the log has the record, stable on an honest disk, and the memory has the room for it
+pub record IsLogged {D : Type 0} (state : D → DiskState) (redo : RedoState D) (m : Memory) (r : Record) (count : ℕ) : Type 0 where
+  pub memory : IsMemory m
+  pub room : HasRoom m
+  pub held : m.held < 2 ^ 32 - 2
+  pub records : vec_len m.records + m.held + 2 ≤ vec_capacity m.records
+  pub forced : vec_len m.forced < vec_capacity m.forced
+  pub ranges : count ≤ m.locks.spare
+  pub started : redo.phase ≡ Started
+  pub bodies : redo.bodies ≡ bodies_of (m.records.items ++ r ∷ [])
+  pub spare_bodies : m.held + 1 ≤ redo.spare_bodies
+  pub spare_bytes : 11 * (m.held + 1) ≤ redo.spare_bytes
+  pub stands : (state redo.disk).honest → StandsFor (state redo.disk) redo.node redo.nodes redo.bodies
+
+-- what the attempt to log a record leaves
+abbrev pub IsKept : {D : Type 0} → (D → DiskState) → (D → ℕ) → RedoState D → Memory → Record → ℕ → Kept → RedoState D → Memory → Type 0
+IsKept state faults redo m r count NoRoom new after = IsUp state new after × (after.records.items ≡ m.records.items)
+IsKept state faults redo m r count Stopped new after =
+    Rose (faults redo.disk) (faults new.disk) × (after.records.items ≡ m.records.items)
+    × ((state redo.disk).honest → StandsWithOrWithout (state new.disk) redo.node redo.nodes m.records.items (Some r))
+IsKept state faults redo m r count Logged new after = IsLogged state new after r count × (after.records.items ≡ m.records.items) × (after.held ≡ m.held)

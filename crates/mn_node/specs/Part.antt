@@ -1,5 +1,5 @@
 -- The ranges of a part, as locks take them, and what a part finds in the space.
-use Rattle.std.specs.Prelude.{◌≡◌, ℕ, List, [], ◌∷◌, ◌++◌, reverse, map, Option, Some, None, ⊤}
+use Rattle.std.specs.Prelude.{◌≡◌, List, [], ◌∷◌, reverse, Option, Some, None, ⊤}
 use Rattle.std.specs.List.{flat_map, AllByRecursion}
 use Rattle.mn_base.specs.declared.ids.Range.{Range}
 use Rattle.mn_mini.specs.declared.part.PartItem.{PartItem}

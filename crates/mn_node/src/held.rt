@@ -21,7 +21,11 @@ pub fn held_part(records: &[Record], tid: Tid) -> Option<&Part>
     while left > 0 {
         left -= 1;
         match &records[left] {
-            Record::Voted { tid: voter, part, .. } => {
+            Record::Voted {
+                tid: voter,
+                part,
+                ..
+            } => {
                 if is_same(*voter, tid) {
                     return Some(part);
                 }

@@ -12,10 +12,10 @@ ghost use Rattle.mn_node.specs.Part.{shared_of, alone_of};
 ghost use Rattle.mn_node.specs.Memory.{IsMemory, HasRoom, IsTested, is_among};
 
 use crate::held::{held_part, is_same};
-use crate::part::{Ranges, first_mismatch, reads_of, write_items};
+use crate::part::{Mismatch, Ranges, first_mismatch, ranges_of, reads_of, write_items};
 use mn_base::{NoMemory, Nodes, Tid};
-use mn_locks::LockTable;
-use mn_mini::{NodeReply, Part, PartItem, Reads, Record};
+use mn_locks::{Held, LockTable};
+use mn_mini::{Part, PartItem, Reads, Record};
 use std::alloc::Global;
 
 /// What a node keeps in memory: its records, and what they make of its space, its locks and the ids that may not vote. It has
@@ -35,12 +35,9 @@ pub struct Memory {
 /// What the test of a part told: what its read items read, or why not.
 #[derive(Drop)]
 pub enum Tested {
-    Yes {
-        reads: Reads,
-    },
-    No {
-        reply: NodeReply,
-    },
+    Yes { reads: Reads },
+    Locked { held: Held },
+    Differs { differs: Mismatch },
 }
 
 /// The id is among these.
@@ -71,22 +68,29 @@ pub fn test_part(
     ensures { IfOk result (IsTested space.now locks.now.holds tid part.now) }
 {
     if let Err(held) = locks.test(tid, &ranges.shared, &ranges.alone) {
-        let reply = NodeReply::BadLock {
-            start: held.range.start,
-            length: held.range.length,
-            holder: held.holder,
-        };
-        return Ok(Tested::No { reply });
+        return Ok(Tested::Locked { held });
     }
     if let Some(differs) = first_mismatch(alloc, space, part)? {
-        let reply = NodeReply::BadCompare {
-            item: differs.item,
-            found: differs.found,
-        };
-        return Ok(Tested::No { reply });
+        return Ok(Tested::Differs { differs });
     }
     let reads = Reads::from_vec(reads_of(alloc, space, part)?);
     Ok(Tested::Yes { reads })
+}
+
+/// Tests a part for an id, with its ranges made for it.
+pub fn test_alone(
+    alloc: Global,
+    space: &[u8],
+    locks: &LockTable,
+    tid: Tid,
+    part: &[PartItem],
+) -> Result<Tested, NoMemory>
+    requires size { length space.now ≡ space_size }
+    requires part { IsPart part.now }
+    ensures { IfOk result (IsTested space.now locks.now.holds tid part.now) }
+{
+    let ranges = ranges_of(alloc, part)?;
+    test_part(alloc, space, locks, tid, part, &ranges)
 }
 
 /// Makes the writes of the part that is held for an id, where the decision is yes.
@@ -105,19 +109,27 @@ fn write_decided(records: &[Record], space: &mut [u8], tid: Tid, yes: bool)
 
 impl Memory {
     /// Adds a vote whose part conflicts with none that is held.
-    pub fn add_vote(&mut self, tid: Tid, participants: Nodes, part: Part, ranges: &Ranges)
+    pub fn add_vote(
+        &mut self,
+        vote: Record,
+        tid: Tid,
+        participants: &Nodes,
+        part: &Part,
+        ranges: &Ranges,
+    )
         requires memory { IsMemory self.old }
-        requires vote { IsRecord (Record.Voted tid participants part) }
-        requires shared { ranges.now.shared.items ≡ shared_of part }
-        requires alone { ranges.now.alone.items ≡ alone_of part }
-        requires free { clash_of (held_parts (reverse self.old.records.items)) tid part ≡ None }
+        requires vote { IsRecord vote }
+        requires same { vote ≡ Record.Voted tid participants.now part.now }
+        requires shared { ranges.now.shared.items ≡ shared_of part.now }
+        requires alone { ranges.now.alone.items ≡ alone_of part.now }
+        requires free { clash_of (held_parts (reverse self.old.records.items)) tid part.now ≡ None }
         requires room { HasRoom self.old }
         requires more { vec_len self.old.records + self.old.held + 2 ≤ vec_capacity self.old.records }
         requires few { self.old.held < 2 ^ 32 - 1 }
         requires locks { length ranges.now.shared.items + length ranges.now.alone.items ≤ self.old.locks.spare }
         ensures memory { IsMemory self.new }
         ensures room { HasRoom self.new }
-        ensures records { self.new.records.items ≡ self.old.records.items ++ Record.Voted tid participants part ∷ [] }
+        ensures records { self.new.records.items ≡ self.old.records.items ++ vote ∷ [] }
         ensures held { self.new.held ≡ self.old.held + 1 }
         ensures node { self.new.node ≡ self.old.node }
         ensures nodes { self.new.nodes ≡ self.old.nodes }
@@ -125,31 +137,26 @@ impl Memory {
         self.locks
             .try_lock(tid, &ranges.shared, &ranges.alone)
             .unwrap();
-        self.records
-            .push(Record::Voted {
-                tid,
-                participants,
-                part,
-            })
-            .unwrap();
+        self.records.push(vote).unwrap();
         self.held += 1;
     }
 
     /// Adds an execution, whose writes are made.
-    pub fn add_execution(&mut self, tid: Tid, part: Part)
+    pub fn add_execution(&mut self, executed: Record, tid: Tid, part: &Part)
         requires memory { IsMemory self.old }
-        requires execution { IsRecord (Record.Executed tid part) }
+        requires execution { IsRecord executed }
+        requires same { executed ≡ Record.Executed tid part.now }
         requires room { HasRoom self.old }
         requires more { vec_len self.old.records + self.old.held + 1 ≤ vec_capacity self.old.records }
         ensures memory { IsMemory self.new }
         ensures room { HasRoom self.new }
-        ensures records { self.new.records.items ≡ self.old.records.items ++ Record.Executed tid part ∷ [] }
+        ensures records { self.new.records.items ≡ self.old.records.items ++ executed ∷ [] }
         ensures held { self.new.held ≡ self.old.held }
         ensures node { self.new.node ≡ self.old.node }
         ensures nodes { self.new.nodes ≡ self.old.nodes }
     {
         write_items(&mut self.space, part.as_slice());
-        self.records.push(Record::Executed { tid, part }).unwrap();
+        self.records.push(executed).unwrap();
     }
 
     /// Adds that the node will not vote for an id.

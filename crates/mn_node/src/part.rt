@@ -49,7 +49,11 @@ pub fn copy_of(alloc: Global, space: &[u8], start: u32, length: usize) -> Result
 }
 
 /// The first compare item that differs.
-pub fn first_mismatch(alloc: Global, space: &[u8], items: &[PartItem]) -> Result<Option<Mismatch>, NoMemory>
+pub fn first_mismatch(
+    alloc: Global,
+    space: &[u8],
+    items: &[PartItem],
+) -> Result<Option<Mismatch>, NoMemory>
     requires inside { AreInside items.now }
     requires whole { length space.now ≡ space_size }
     requires few { length items.now ≤ MAX_ITEMS }

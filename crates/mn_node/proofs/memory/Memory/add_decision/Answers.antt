@@ -1,4 +1,4 @@
-use Rattle.std.proofs.Common.{◌≡◌, ◌≤◌, ◌+◌, ◌-◌, ◌++◌, ◌∷◌, [], ℕ, List, length, reverse, take, drop, ap, subst, sym, ◌∙◌, arith, vec_len, vec_capacity, if◌then◌else◌}
+use Rattle.std.proofs.Common.{◌≡◌, ◌+◌, ◌++◌, ◌∷◌, [], ℕ, List, length, reverse, take, drop, ap, subst, sym, ◌∙◌, arith, vec_len, if◌then◌else◌}
 use Rattle.mn_mini.specs.Flat.{space_after_part}
 use Rattle.std.proofs.lemmas.List.{take_at}
 use Rattle.mn_mini.specs.declared.record.Record.{Record}
@@ -20,8 +20,8 @@ returns-clause-memory c =
     let same : length c.write_decided.new.space ≡ m.space.len = grind arith in
     let whole : take m.space.len (c.write_decided.new.space ++ drop (length c.write_decided.new.space) m.space.items) ≡ c.write_decided.new.space = take_at c.write_decided.new.space (drop (length c.write_decided.new.space) m.space.items) m.space.len same in
     let written : c.write_decided.new.space ≡ (if c.args.yes then space_after_part m.space.items part.0 else m.space.items) =
-        c.write_decided.ensures part.0 (subst (λ (l : List Record). IsPartOf (held_part_of c.args.tid (held_parts (reverse l))) part.0) (sym c.deref.ensures.value) part.1)
-        ∙ ap (λ (l : List ℕ). if c.args.yes then space_after_part l part.0 else l) c.deref_mut.ensures.value in
+    c.write_decided.ensures part.0 (subst (λ (l : List Record). IsPartOf (held_part_of c.args.tid (held_parts (reverse l))) part.0) (sym c.deref.ensures.value) part.1)
+    ∙ ap (λ (l : List ℕ). if c.args.yes then space_after_part l part.0 else l) c.deref_mut.ensures.value in
     let built = built_decided (base_of m.nodes m.node) m.records.items m.space.items c.write_decided.new.space m.locks.holds m.forced.items c.args.tid c.args.yes part.0 c.requires.memory c.requires.decision part.1 written (grind arith) in
     let with_records = subst (λ (l : List Record). IsBuilt (base_of m.nodes m.node) l c.write_decided.new.space (without c.args.tid m.locks.holds) m.forced.items) (sym items) built in
     let with_holds = subst (λ (l : List Hold). IsBuilt (base_of m.nodes m.node) c.push.new.self.items c.write_decided.new.space l m.forced.items) (sym c.release.ensures.left) with_records in
@@ -36,5 +36,5 @@ returns-clause-room c =
     let count : vec_len c.push.new.self ≡ vec_len m.records + 1 = rw c.unwrap.ensures at c.push.ensures.len in
     let turned = newest m.records.items (Decided c.args.tid c.args.yes) in
     let parts : length (held_parts (reverse c.push.new.self.items)) ≡ length (without_tid c.args.tid (held_parts (reverse m.records.items))) =
-        ap (λ (l : List Record). length (held_parts (reverse l))) items ∙ ap (λ (l : List Record). length (held_parts l)) turned in
+    ap (λ (l : List Record). length (held_parts (reverse l))) items ∙ ap (λ (l : List Record). length (held_parts l)) turned in
     record { held = omega (arith, parts, less, c.requires.room.held); records = omega (arith, parts, less, count, c.requires.room.held, c.requires.room.records, c.push.ensures.capacity) }
