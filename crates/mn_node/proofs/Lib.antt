@@ -5,3 +5,4 @@ pub mod Ties
 pub mod Tests
 pub mod Built
 pub mod Steps
+pub mod Listing

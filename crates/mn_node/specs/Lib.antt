@@ -2,3 +2,4 @@ pub mod Part
 pub mod Held
 pub mod Memory
 pub mod Node
+pub mod Doubts

@@ -2,6 +2,7 @@
 #![tactic(auto)]
 
 mod held;
+mod list;
 mod memory;
 mod part;
 mod step;

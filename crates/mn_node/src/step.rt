@@ -2,7 +2,8 @@ ghost use Rattle.mn_mini.specs.declared.request.Request.{Request};
 ghost use Rattle.mn_mini.specs.declared.reply.NodeReply.{NodeReply};
 ghost use Rattle.std.specs.Prelude.{◌≡◌, ◌≢◌, ◌≤◌, ◌<◌, ◌+◌, ◌*◌, ◌^◌, ◌++◌, ◌∷◌, [], ℕ, List, length, reverse, OnOk, OnErr};
 ghost use Rattle.std.specs.Prelude.{Some, None, if◌then◌else◌};
-ghost use Rattle.mn_mini.specs.Mini.{has_write, IsInSpace};
+ghost use Rattle.mn_mini.specs.Mini.{has_write};
+ghost use Rattle.mn_mini.specs.Sound.{IsSoundRequest};
 ghost use Rattle.mn_mini.specs.Node.{clash_of, held_parts};
 ghost use Rattle.mn_io.specs.Faults.{Rose};
 ghost use Rattle.mn_mini.specs.declared.record.Record.{Record};
@@ -11,12 +12,13 @@ ghost use Rattle.mn_node.specs.Memory.{IsMemory, HasRoom};
 ghost use Rattle.mn_node.specs.Node.{IsUp, HasMore, Continues, SameNode, Handled, IsKept, bodies_of, node_answer};
 
 use crate::held::{holds, voted};
+use crate::list::doubts;
 use crate::memory::{Memory, Tested, is_in, test_alone};
 use crate::part::{copy_of, ranges_of, writes};
 use byteorder::{BigEndian, ByteOrder};
 use mn_base::{NoMemory, Nodes, Tid, TryCopy};
 use mn_io::Disk;
-use mn_mini::{NodeReply, Part, Reads, Record};
+use mn_mini::{NodeReply, Part, Reads, Record, Request};
 use mn_redo::Redo;
 use std::alloc::Global;
 
@@ -301,14 +303,40 @@ pub fn prepare<D: Disk>(
     }
 }
 
-/// A Peek: the bytes of a range, whatever is held.
-pub fn peek(alloc: Global, memory: &Memory, start: u32, length: u32) -> NodeReply
-    requires memory { IsMemory memory.now }
-    requires range { IsInSpace start length }
-    ensures { result ≢ NodeReply.NoMemory → (node_answer memory.now (Request.Peek start length)) ≡ record { reply = result; added = None } }
+/// What a node that is up does with a request.
+pub fn serve<D: Disk>(
+    alloc: Global,
+    redo: &mut Redo<D>,
+    memory: &mut Memory,
+    request: &Request,
+) -> NodeReply
+    requires up { IsUp D.state redo.old memory.old }
+    requires sound { IsSoundRequest request.now }
+    ensures handled { Handled D.state D.faults redo.old memory.old request.now result redo.new memory.new }
+    ensures continues { Continues D.state D.faults redo.old redo.new }
+    ensures same { SameNode memory.old memory.new }
 {
-    match copy_of(alloc, &memory.space, start, length as usize) {
-        Ok(bytes) => NodeReply::Peeked { bytes },
-        Err(_) => NodeReply::NoMemory,
+    match request {
+        Request::Prepare {
+            tid,
+            participants,
+            part,
+        } => prepare(alloc, redo, memory, *tid, participants, part),
+        Request::Exec { tid, part } => exec(alloc, redo, memory, *tid, part),
+        Request::Decide { tid, yes } => decide(redo, memory, *tid, *yes),
+        Request::Force { tid } => force(redo, memory, *tid),
+        Request::List => match doubts(alloc, &memory.records) {
+            Ok(doubts) => NodeReply::Listed { doubts },
+            Err(_) => NodeReply::NoMemory,
+        },
+        Request::Peek { start, length } => match copy_of(
+            alloc,
+            &memory.space,
+            *start,
+            *length as usize,
+        ) {
+            Ok(bytes) => NodeReply::Peeked { bytes },
+            Err(_) => NodeReply::NoMemory,
+        },
     }
 }
