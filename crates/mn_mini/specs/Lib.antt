@@ -4,3 +4,4 @@ pub mod Flat
 pub mod Node
 pub mod Laws
 pub mod RecordGrammar
+pub mod Sound

@@ -1,0 +1,200 @@
+-- What a record adds to what a node keeps in memory.
+use Rattle.std.proofs.Common.{◌≡◌, ◌≤◌, ◌+◌, ℕ, suc, Bool, true, false, not, ◌||◌, List, [], ◌∷◌, ◌++◌, length, map, reverse, Option, Some, None, refl, ap, sym, ◌∙◌, subst, arith, append-nil, if◌then◌else◌}
+use Rattle.std.specs.List.{AllByRecursion}
+use Rattle.std.proofs.lemmas.List.{reverse-append}
+use Rattle.mn_base.specs.Ids.{tid_same}
+use Rattle.mn_base.specs.declared.ids.NodeNo.{NodeNo}
+use Rattle.mn_base.specs.declared.ids.Tid.{Tid}
+use Rattle.mn_base.specs.declared.ids.Range.{Range}
+use Rattle.mn_mini.specs.declared.part.PartItem.{PartItem}
+use Rattle.mn_mini.specs.declared.record.Record.{Record}
+use Rattle.mn_mini.specs.declared.record.Record.TheVariants.{Voted, Executed, Decided, Forced}
+use Rattle.mn_mini.specs.Flat.{space_after_part}
+use Rattle.mn_mini.specs.Mini.{space_size}
+use Rattle.mn_mini.specs.Node.{HeldPart, held_parts, held_part_of, without_tid, has_forced, space_of, space_after_held}
+use Rattle.mn_mini.specs.RecordGrammar.{IsRecord, IsPart}
+use Rattle.mn_locks.specs.declared.hold.Hold.{Hold}
+use Rattle.mn_locks.specs.Locks.{hold_of, holds_of, without}
+use Rattle.mn_node.specs.Held.{IsPartOf}
+use Rattle.mn_node.specs.Part.{shared_of, alone_of, part_holds, holds_by}
+use Rattle.mn_node.specs.Memory.{IsBuilt, is_among}
+use Rattle.mn_node.proofs.Ties.{holds_by-cons}
+
+-- Lists
+
+pub all-append : {X : Type 0} (P : X → Type 0) (xs ys : List X) → AllByRecursion P xs → AllByRecursion P ys → AllByRecursion P (xs ++ ys)
+all-append P [] ys p q = q
+all-append P (x ∷ xs) ys p q = (p.0, all-append P xs ys p.1 q)
+
+pub all-reverse : {X : Type 0} (P : X → Type 0) (xs : List X) → AllByRecursion P xs → AllByRecursion P (reverse xs)
+all-reverse P [] p = tt
+all-reverse {X = X} P (x ∷ xs) p = subst (λ (l : List X). AllByRecursion P l) (sym (reverse-append (x ∷ []) xs)) (all-append P (reverse xs) (x ∷ []) (all-reverse P xs p.1) (p.0, tt))
+
+pub newest : (records : List Record) (r : Record) → reverse (records ++ r ∷ []) ≡ r ∷ reverse records
+newest records r = reverse-append records (r ∷ [])
+
+-- Held parts
+
+sound_without : (tid : Tid) (h : HeldPart) (hs : List HeldPart) (b : Bool) → IsPart h.part → AllByRecursion (λ g. IsPart g.part) (without_tid tid hs) → AllByRecursion (λ g. IsPart g.part) (if b then without_tid tid hs else h ∷ without_tid tid hs)
+sound_without tid h hs true p q = q
+sound_without tid h hs false p q = (p, q)
+
+still_sound : (tid : Tid) (hs : List HeldPart) → AllByRecursion (λ h. IsPart h.part) hs → AllByRecursion (λ h. IsPart h.part) (without_tid tid hs)
+still_sound tid [] p = tt
+still_sound tid (h ∷ hs) p = sound_without tid h hs (tid_same h.tid tid) p.0 (still_sound tid hs p.1)
+
+held_sound : (rs : List Record) → AllByRecursion IsRecord rs → AllByRecursion (λ h. IsPart h.part) (held_parts rs)
+held_sound [] p = tt
+held_sound (Voted tid ps part ∷ rs) p = (p.0.follows.1, held_sound rs p.1)
+held_sound (Executed tid part ∷ rs) p = held_sound rs p.1
+held_sound (Decided tid v ∷ rs) p = still_sound tid (held_parts rs) (held_sound rs p.1)
+held_sound (Forced tid ∷ rs) p = held_sound rs p.1
+
+part_sound : (hs : List HeldPart) (tid : Tid) (part : List PartItem) → AllByRecursion (λ h. IsPart h.part) hs → IsPartOf (held_part_of tid hs) part → IsPart part
+part_sound [] tid part p is = absurd is
+part_sound (h ∷ hs) tid part p is = of (tid_same h.tid tid) (part_sound hs tid part p.1) is
+  where
+    of : (b : Bool) → (IsPartOf (held_part_of tid hs) part → IsPart part) → IsPartOf (if b then Some h else held_part_of tid hs) part → IsPart part
+    of true ih is = subst IsPart is p.0
+    of false ih is = ih is
+
+-- a held part may stand in a record
+pub held_part_sound : (records : List Record) (tid : Tid) (part : List PartItem) → AllByRecursion IsRecord records → IsPartOf (held_part_of tid (held_parts (reverse records))) part → IsPart part
+held_part_sound records tid part p is = part_sound (held_parts (reverse records)) tid part (held_sound (reverse records) (all-reverse IsRecord records p)) is
+
+no_more : (tid : Tid) (hs : List HeldPart) → length (without_tid tid hs) ≤ length hs
+no_more tid [] = omega arith
+no_more tid (h ∷ hs) = of (tid_same h.tid tid) (no_more tid hs)
+  where
+    of : (b : Bool) → length (without_tid tid hs) ≤ length hs → length (if b then without_tid tid hs else h ∷ without_tid tid hs) ≤ suc (length hs)
+    of true ih = omega arith
+    of false ih = omega arith
+
+-- a decision of a held part leaves fewer
+pub fewer : (tid : Tid) (hs : List HeldPart) (part : List PartItem) → IsPartOf (held_part_of tid hs) part → length (without_tid tid hs) + 1 ≤ length hs
+fewer tid [] part is = absurd is
+fewer tid (h ∷ hs) part is = of (tid_same h.tid tid) (fewer tid hs part) is
+  where
+    of : (b : Bool) → (IsPartOf (held_part_of tid hs) part → length (without_tid tid hs) + 1 ≤ length hs) → IsPartOf (if b then Some h else held_part_of tid hs) part
+        → length (if b then without_tid tid hs else h ∷ without_tid tid hs) + 1 ≤ suc (length hs)
+    of true ih is = let most = no_more tid hs in omega arith
+    of false ih is = let less = ih is in omega arith
+
+-- Locks that a decision frees
+
+without-append : (tid : Tid) (xs ys : List Hold) → without tid (xs ++ ys) ≡ without tid xs ++ without tid ys
+without-append tid [] ys = refl
+without-append tid (x ∷ xs) ys = of (not (tid_same x.tid tid)) (without-append tid xs ys)
+  where
+    of : (b : Bool) → without tid (xs ++ ys) ≡ without tid xs ++ without tid ys → (if b then x ∷ without tid (xs ++ ys) else without tid (xs ++ ys)) ≡ (if b then x ∷ without tid xs else without tid xs) ++ without tid ys
+    of true ih = ap (λ (l : List Hold). x ∷ l) ih
+    of false ih = ih
+
+freed : (tid t : Tid) (kind : Bool) (ranges : List Range) → tid_same t tid ≡ true → without tid (map (hold_of t kind) ranges) ≡ []
+freed tid t kind [] e = refl
+freed tid t kind (r ∷ ranges) e =
+    ap (λ (b : Bool). if not b then hold_of t kind r ∷ without tid (map (hold_of t kind) ranges) else without tid (map (hold_of t kind) ranges)) e ∙ freed tid t kind ranges e
+
+kept : (tid t : Tid) (kind : Bool) (ranges : List Range) → tid_same t tid ≡ false → without tid (map (hold_of t kind) ranges) ≡ map (hold_of t kind) ranges
+kept tid t kind [] e = refl
+kept tid t kind (r ∷ ranges) e =
+    ap (λ (b : Bool). if not b then hold_of t kind r ∷ without tid (map (hold_of t kind) ranges) else without tid (map (hold_of t kind) ranges)) e ∙ ap (λ (l : List Hold). hold_of t kind r ∷ l) (kept tid t kind ranges e)
+
+part_freed : (tid : Tid) (h : HeldPart) → tid_same h.tid tid ≡ true → without tid (part_holds h) ≡ []
+part_freed tid h e =
+    without-append tid (map (hold_of h.tid false) (shared_of h.part)) (map (hold_of h.tid true) (alone_of h.part))
+    ∙ ap (λ (l : List Hold). l ++ without tid (map (hold_of h.tid true) (alone_of h.part))) (freed tid h.tid false (shared_of h.part) e) ∙ freed tid h.tid true (alone_of h.part) e
+
+part_kept : (tid : Tid) (h : HeldPart) → tid_same h.tid tid ≡ false → without tid (part_holds h) ≡ part_holds h
+part_kept tid h e =
+    without-append tid (map (hold_of h.tid false) (shared_of h.part)) (map (hold_of h.tid true) (alone_of h.part))
+    ∙ ap (λ (l : List Hold). l ++ without tid (map (hold_of h.tid true) (alone_of h.part))) (kept tid h.tid false (shared_of h.part) e)
+    ∙ ap (λ (l : List Hold). map (hold_of h.tid false) (shared_of h.part) ++ l) (kept tid h.tid true (alone_of h.part) e)
+
+pub holds_without : (tid : Tid) (hs : List HeldPart) → without tid (holds_by hs) ≡ holds_by (without_tid tid hs)
+holds_without tid [] = refl
+holds_without tid (h ∷ hs) =
+    ap (λ (l : List Hold). without tid l) (holds_by-cons h hs) ∙ without-append tid (holds_by hs) (part_holds h) ∙ ap (λ (l : List Hold). l ++ without tid (part_holds h)) (holds_without tid hs) ∙ of (tid_same h.tid tid) refl
+  where
+    of : (b : Bool) → tid_same h.tid tid ≡ b → holds_by (without_tid tid hs) ++ without tid (part_holds h) ≡ holds_by (if b then without_tid tid hs else h ∷ without_tid tid hs)
+    of true e = ap (λ (l : List Hold). holds_by (without_tid tid hs) ++ l) (part_freed tid h e) ∙ append-nil (holds_by (without_tid tid hs))
+    of false e = ap (λ (l : List Hold). holds_by (without_tid tid hs) ++ l) (part_kept tid h e) ∙ sym (holds_by-cons h (without_tid tid hs))
+
+-- What each record adds
+
+pub built_voted : (base : List ℕ) (records : List Record) (space : List ℕ) (holds : List Hold) (forced : List Tid) (tid : Tid) (ps : List NodeNo) (part : List PartItem)
+    → IsBuilt base records space holds forced → IsRecord (Voted tid ps part) → IsBuilt base (records ++ Voted tid ps part ∷ []) space (holds ++ holds_of tid (shared_of part) (alone_of part)) forced
+built_voted base records space holds forced tid ps part b is =
+    let turned = newest records (Voted tid ps part) in
+    let h : HeldPart = record { tid = tid; participants = ps; part = part } in
+    record {
+      space_is = b.space_is ∙ sym (ap (λ (l : List Record). space_of base l) turned);
+      size = b.size;
+      holds_are = ap (λ (l : List Hold). l ++ part_holds h) b.holds_are ∙ sym (holds_by-cons h (held_parts (reverse records))) ∙ sym (ap (λ (l : List Record). holds_by (held_parts l)) turned);
+      forced_are = λ t. b.forced_are t ∙ sym (ap (λ (l : List Record). has_forced l t) turned);
+      sound = all-append IsRecord records (Voted tid ps part ∷ []) b.sound (is, tt);
+    }
+
+pub built_executed : (base : List ℕ) (records : List Record) (space new : List ℕ) (holds : List Hold) (forced : List Tid) (tid : Tid) (part : List PartItem)
+    → IsBuilt base records space holds forced → IsRecord (Executed tid part) → new ≡ space_after_part space part → length new ≡ space_size → IsBuilt base (records ++ Executed tid part ∷ []) new holds forced
+built_executed base records space new holds forced tid part b is e size =
+    let turned = newest records (Executed tid part) in
+    record {
+      space_is = e ∙ ap (λ (l : List ℕ). space_after_part l part) b.space_is ∙ sym (ap (λ (l : List Record). space_of base l) turned);
+      size = size;
+      holds_are = b.holds_are ∙ sym (ap (λ (l : List Record). holds_by (held_parts l)) turned);
+      forced_are = λ t. b.forced_are t ∙ sym (ap (λ (l : List Record). has_forced l t) turned);
+      sound = all-append IsRecord records (Executed tid part ∷ []) b.sound (is, tt);
+    }
+
+or_turned : (a b : Bool) → (a || (b || false)) ≡ (b || a)
+or_turned true true = refl
+or_turned true false = refl
+or_turned false true = refl
+or_turned false false = refl
+
+among-append : (tids : List Tid) (t tid : Tid) → is_among (tids ++ t ∷ []) tid ≡ (tid_same t tid || is_among tids tid)
+among-append [] t tid = or_turned false (tid_same t tid)
+among-append (u ∷ tids) t tid = ap (λ (b : Bool). tid_same u tid || b) (among-append tids t tid) ∙ past (tid_same u tid) (tid_same t tid) (is_among tids tid)
+  where
+    past : (a b c : Bool) → (a || (b || c)) ≡ (b || (a || c))
+    past true true c = refl
+    past true false c = refl
+    past false b c = refl
+
+pub built_forced : (base : List ℕ) (records : List Record) (space : List ℕ) (holds : List Hold) (forced : List Tid) (tid : Tid)
+    → IsBuilt base records space holds forced → IsRecord (Forced tid) → IsBuilt base (records ++ Forced tid ∷ []) space holds (forced ++ tid ∷ [])
+built_forced base records space holds forced tid b is =
+    let turned = newest records (Forced tid) in
+    record {
+      space_is = b.space_is ∙ sym (ap (λ (l : List Record). space_of base l) turned);
+      size = b.size;
+      holds_are = b.holds_are ∙ sym (ap (λ (l : List Record). holds_by (held_parts l)) turned);
+      forced_are = λ t. among-append forced tid t ∙ ap (λ (x : Bool). tid_same tid t || x) (b.forced_are t) ∙ sym (ap (λ (l : List Record). has_forced l t) turned);
+      sound = all-append IsRecord records (Forced tid ∷ []) b.sound (is, tt);
+    }
+
+after_held : (space : List ℕ) (h : Option HeldPart) (part : List PartItem) → IsPartOf h part → space_after_held space h ≡ space_after_part space part
+after_held space None part is = absurd is
+after_held space (Some h) part is = ap (λ (p : List PartItem). space_after_part space p) is
+
+pub built_decided : (base : List ℕ) (records : List Record) (space new : List ℕ) (holds : List Hold) (forced : List Tid) (tid : Tid) (verdict : Bool) (part : List PartItem)
+    → IsBuilt base records space holds forced → IsRecord (Decided tid verdict) → IsPartOf (held_part_of tid (held_parts (reverse records))) part
+    → new ≡ (if verdict then space_after_part space part else space) → length new ≡ space_size → IsBuilt base (records ++ Decided tid verdict ∷ []) new (without tid holds) forced
+built_decided base records space new holds forced tid verdict part b is held e size =
+    let turned = newest records (Decided tid verdict) in
+    record {
+      space_is = e ∙ spaces verdict ∙ sym (ap (λ (l : List Record). space_of base l) turned);
+      size = size;
+      holds_are = ap (λ (l : List Hold). without tid l) b.holds_are ∙ holds_without tid (held_parts (reverse records)) ∙ sym (ap (λ (l : List Record). holds_by (held_parts l)) turned);
+      forced_are = λ t. b.forced_are t ∙ sym (ap (λ (l : List Record). has_forced l t) turned ∙ not_force t verdict);
+      sound = all-append IsRecord records (Decided tid verdict ∷ []) b.sound (is, tt);
+    }
+  where
+    spaces : (v : Bool) → (if v then space_after_part space part else space) ≡ space_of base (Decided tid v ∷ reverse records)
+    spaces true = sym (after_held space (held_part_of tid (held_parts (reverse records))) part held) ∙ ap (λ (l : List ℕ). space_after_held l (held_part_of tid (held_parts (reverse records)))) b.space_is
+    spaces false = b.space_is
+
+    not_force : (t : Tid) (v : Bool) → has_forced (Decided tid v ∷ reverse records) t ≡ has_forced (reverse records) t
+    not_force t true = refl
+    not_force t false = refl

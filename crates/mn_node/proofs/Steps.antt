@@ -1,0 +1,112 @@
+-- A node that is up, after a record was added.
+use Rattle.std.proofs.Common.{◌≡◌, ◌≤◌, ◌+◌, ◌*◌, ℕ, Bool, true, false, List, [], ◌∷◌, ◌++◌, Option, Some, None, Result, Ok, Err, OnOk, MatchOption, inl, inr, refl, ap, sym, ◌∙◌, subst, arith}
+use Rattle.std.specs.Prelude.{is_some, ◌⊎◌}
+use Rattle.std.specs.Result.{is_err}
+use Rattle.std.proofs.lemmas.Bool.{false≢true}
+use Rattle.mn_io.specs.Faults.{HasCause, Rose}
+use Rattle.mn_redo.specs.Grammar.{IsBeforeOrAfter}
+use Rattle.mn_mini.specs.declared.part.PartItem.{PartItem}
+use Rattle.mn_base.specs.declared.ids.Tid.{Tid}
+use Rattle.std.specs.Prelude.{if◌then◌else◌}
+use Rattle.mn_mini.specs.declared.record.Record.TheVariants.{Forced}
+use Rattle.mn_mini.specs.declared.request.Request.TheVariants as Ask
+use Rattle.mn_mini.specs.declared.reply.NodeReply.TheVariants as Say
+use Rattle.mn_mini.specs.Node.{HeldPart, Response, only_reply, answer, has_voted, has_forced}
+use Rattle.mn_node.specs.Held.{IsPartOf}
+use Rattle.mn_node.specs.Node.{StandsWithOrWithout, IsLogged, added_to}
+use Rattle.std.proofs.lemmas.List.{map-append}
+use Rattle.mn_io.specs.DiskModel.{DiskState}
+use Rattle.mn_redo.specs.Grammar.{Stands}
+use Rattle.mn_redo.specs.Redo.{RedoState, StandsFor}
+use Rattle.mn_redo.specs.declared.redo.Phase.TheVariants.{Started}
+use Rattle.mn_mini.specs.declared.record.Record.{Record}
+use Rattle.mn_mini.specs.RecordGrammar.{record_bytes}
+use Rattle.mn_node.specs.declared.memory.Memory.{Memory}
+use Rattle.mn_node.specs.Memory.{IsMemory, HasRoom}
+use Rattle.mn_node.specs.Node.{IsUp, bodies_of}
+
+pub one_body_more : (records : List Record) (r : Record) → bodies_of records ++ record_bytes r ∷ [] ≡ bodies_of (records ++ r ∷ [])
+one_body_more records r = sym (map-append record_bytes records (r ∷ []))
+
+pub up_added : {D : Type 0} (state : D → DiskState) (old new : RedoState D) (before after : Memory) (r : Record)
+    → IsUp state old before → new.phase ≡ Started → new.bodies ≡ old.bodies ++ record_bytes r ∷ [] → new.node ≡ old.node → new.nodes ≡ old.nodes
+    → ((state old.disk).honest → StandsFor (state new.disk) old.node old.nodes (old.bodies ++ record_bytes r ∷ []))
+    → ((state new.disk).honest → (state old.disk).honest)
+    → IsMemory after → HasRoom after → after.records.items ≡ before.records.items ++ r ∷ []
+    → after.held ≤ new.spare_bodies → 11 * after.held ≤ new.spare_bytes → IsUp state new after
+up_added state old new before after r up started bodies node nodes stands better memory room records spare_bodies spare_bytes = record {
+  memory = memory;
+  room = room;
+  started = started;
+  bodies = bodies ∙ ap (λ (l : List (List ℕ)). l ++ record_bytes r ∷ []) up.bodies ∙ one_body_more before.records.items r ∙ ap bodies_of (sym records);
+  spare_bodies = spare_bodies;
+  spare_bytes = spare_bytes;
+  stands = λ h c image.
+      let told : Stands old.node old.nodes c (old.bodies ++ record_bytes r ∷ []) = stands (better h) c image in
+      let with_node = subst (λ (n : ℕ). Stands n old.nodes c (old.bodies ++ record_bytes r ∷ [])) (sym node) told in
+      let with_nodes = subst (λ (n : ℕ). Stands new.node n c (old.bodies ++ record_bytes r ∷ [])) (sym nodes) with_node in
+      subst (λ (l : List (List ℕ)). Stands new.node new.nodes c l) (sym bodies) with_nodes;
+}
+
+pub held_told : {X : Type 0} (o : Option X) (items : X → List PartItem) (h : Option HeldPart) → MatchOption o (h ≡ None) (λ x. IsPartOf h (items x)) → is_some o ≡ is_some h
+held_told None items h told = sym (ap (λ (x : Option HeldPart). is_some x) told)
+held_told (Some x) items None told = absurd told
+held_told (Some x) items (Some h) told = refl
+
+-- What a call told, by its result
+
+pub on_ok : {T E : Type 0} (r : Result T E) (P : Type 0) → is_err r ≡ false → OnOk r P → P
+on_ok (Ok x) P e p = p
+on_ok (Err x) P e p = absurd (false≢true (sym e))
+
+pub rose_of : {T E : Type 0} (r : Result T E) (before now : ℕ) → is_err r ≡ true → HasCause before now r → Rose before now
+rose_of (Ok x) before now e h = absurd (false≢true e)
+rose_of (Err x) before now e h = h.failed
+
+-- a node that stopped while its record was written
+pub stopped : {D : Type 0} (state : D → DiskState) (old new : RedoState D) (records : List Record) (r : Record) (added : Option Record) (body : List ℕ)
+    → old.bodies ≡ bodies_of records → body ≡ record_bytes r → added ≡ Some r
+    → ((c : List ℕ) → (state new.disk).images c → IsBeforeOrAfter old.node old.nodes old.bodies body c) → StandsWithOrWithout (state new.disk) old.node old.nodes records added
+stopped state old new records r added body bodies spelled one images c image = of (images c image)
+  where
+    of : IsBeforeOrAfter old.node old.nodes old.bodies body c → Stands old.node old.nodes c (bodies_of records) ⊎ Stands old.node old.nodes c (bodies_of (added_to records added))
+    of (inl before) = inl (subst (λ (l : List (List ℕ)). Stands old.node old.nodes c l) bodies before)
+    of (inr after) =
+        let same : old.bodies ++ body ∷ [] ≡ bodies_of (added_to records added) =
+        ap (λ (l : List (List ℕ)). l ++ body ∷ []) bodies ∙ ap (λ (b : List ℕ). bodies_of records ++ b ∷ []) spelled ∙ one_body_more records r ∙ sym (ap (λ (o : Option Record). bodies_of (added_to records o)) one) in
+        inr (subst (λ (l : List (List ℕ)). Stands old.node old.nodes c l) same after)
+
+-- a logged record that the memory then takes leaves the node up
+pub up_logged : {D : Type 0} (state : D → DiskState) (redo : RedoState D) (m after : Memory) (r : Record) (count : ℕ) → IsLogged state redo m r count → IsMemory after → HasRoom after
+    → after.records.items ≡ m.records.items ++ r ∷ [] → after.held ≤ m.held + 1 → IsUp state redo after
+up_logged state redo m after r count logged memory room records held = record {
+  memory = memory;
+  room = room;
+  started = logged.started;
+  bodies = logged.bodies ∙ ap bodies_of (sym records);
+  spare_bodies = omega (arith, held, logged.spare_bodies);
+  spare_bytes = omega (arith, held, logged.spare_bytes);
+  stands = logged.stands;
+}
+
+pub rose_later : (a b n : ℕ) → a ≤ b → Rose b n → Rose a n
+rose_later a b n e r = omega (arith, r)
+
+pub same_stands : (disk : DiskState) (n n2 ns ns2 : ℕ) (rs rs2 : List Record) (added : Option Record) → n ≡ n2 → ns ≡ ns2 → rs ≡ rs2 → StandsWithOrWithout disk n ns rs added → StandsWithOrWithout disk n2 ns2 rs2 added
+same_stands disk n n2 ns ns2 rs rs2 added e f g told =
+    let with_node = subst (λ (k : ℕ). StandsWithOrWithout disk k ns rs added) e told in
+    let with_nodes = subst (λ (k : ℕ). StandsWithOrWithout disk n2 k rs added) f with_node in
+    subst (λ (l : List Record). StandsWithOrWithout disk n2 ns2 l added) g with_nodes
+
+pub stands_moved : (disk : DiskState) (n n2 ns ns2 : ℕ) (bs bs2 : List (List ℕ)) → n ≡ n2 → ns ≡ ns2 → bs ≡ bs2 → StandsFor disk n ns bs → StandsFor disk n2 ns2 bs2
+stands_moved disk n n2 ns ns2 bs bs2 e f g told = λ c image.
+    let with_node = subst (λ (k : ℕ). Stands k ns c bs) e (told c image) in
+    let with_nodes = subst (λ (k : ℕ). Stands n2 k c bs) f with_node in
+    subst (λ (l : List (List ℕ)). Stands n2 ns2 c l) g with_nodes
+
+-- a Force of an id that has not voted and is not forced
+pub force_answer : (base : List ℕ) (records : List Record) (tid : Tid) → has_voted records tid ≡ false → has_forced records tid ≡ false
+    → answer base records (Ask.Force tid) ≡ record { reply = Say.Vote false; added = Some (Forced tid) }
+force_answer base records tid voted forced =
+    ap (λ (b : Bool). if b then only_reply (Say.Vote true) else (let made : Response = record { reply = Say.Vote false; added = if has_forced records tid then None else Some (Forced tid) } in made)) voted
+    ∙ ap (λ (b : Bool). let made : Response = record { reply = Say.Vote false; added = if b then None else Some (Forced tid) } in made) forced

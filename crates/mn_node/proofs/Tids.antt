@@ -1,0 +1,31 @@
+-- Ids: sameness is equality, and their order is total.
+use Rattle.std.proofs.Common.{◌≡◌, ℕ, true, false, ◌&&◌, ap, ◌∙◌, arith}
+use Rattle.std.specs.Prelude.{nat_eq}
+use Rattle.std.proofs.lemmas.Bool.{and_parts, eqb-true}
+use Rattle.std.proofs.lemmas.Bool.Decides.{nat_tests}
+use Rattle.mn_base.specs.Ids.{tid_same, tid_lt, client_same}
+use Rattle.mn_base.specs.declared.ids.Tid.{Tid}
+
+pub same_tid : (t u : Tid) → t.run ≡ u.run → t.client.0 ≡ u.client.0 → t.serial ≡ u.serial → t ≡ u
+same_tid t u e f g =
+    let run : t ≡ record { run = u.run; client = t.client; serial = t.serial } = ap (λ (n : ℕ). let made : Tid = record { run = n; client = t.client; serial = t.serial } in made) e in
+    let client : record { run = u.run; client = t.client; serial = t.serial } ≡ (let made : Tid = record { run = u.run; client = u.client; serial = t.serial } in made) = ap (λ (n : ℕ). let made : Tid = record { run = u.run; client = record { 0 = n }; serial = t.serial } in made) f in
+    run ∙ client ∙ ap (λ (n : ℕ). let made : Tid = record { run = u.run; client = u.client; serial = n } in made) g
+
+pub tid_same-is : (a b : Tid) → tid_same a b ≡ true → a ≡ b
+tid_same-is a b e =
+    let outer = and_parts (nat_eq a.run b.run) (client_same a.client b.client && nat_eq a.serial b.serial) e in
+    let inner = and_parts (client_same a.client b.client) (nat_eq a.serial b.serial) outer.1 in
+    same_tid a b (eqb-true a.run b.run outer.0) (eqb-true a.client.0 b.client.0 inner.0) (eqb-true a.serial b.serial inner.1)
+
+pub tid_same-refl : (a : Tid) → tid_same a a ≡ true
+tid_same-refl a = grind (arith, nat_tests)
+
+pub tid_lt-asym : (a b : Tid) → tid_lt a b ≡ true → tid_lt b a ≡ false
+tid_lt-asym a b e = grind (arith, nat_tests, e)
+
+pub tid_lt-trans : (a b c : Tid) → tid_lt a b ≡ true → tid_lt b c ≡ true → tid_lt a c ≡ true
+tid_lt-trans a b c e f = grind (arith, nat_tests, e, f)
+
+pub tid_lt-total : (a b : Tid) → tid_lt a b ≡ false → tid_lt b a ≡ false → a ≡ b
+tid_lt-total a b e f = same_tid a b (grind (arith, nat_tests, e, f)) (grind (arith, nat_tests, e, f)) (grind (arith, nat_tests, e, f))

@@ -1,0 +1,5 @@
+pub mod Part
+pub mod Held
+pub mod Memory
+pub mod Node
+pub mod Doubts

@@ -1,0 +1,224 @@
+ghost use Rattle.std.specs.Prelude.{◌≡◌, ◌≢◌, ◌≤◌, ◌<◌, ◌+◌, ◌-◌, ◌++◌, ◌∷◌, [], Bool, length, reverse, IfOk, Some, None, vec_len, vec_capacity, IsSome};
+ghost use Rattle.std.specs.Prelude.{◌^◌, List, OnOk, if◌then◌else◌};
+ghost use Rattle.std.specs.List.{AllByRecursion};
+ghost use Rattle.mn_mini.specs.declared.part.PartItem.{PartItem};
+ghost use Rattle.mn_mini.specs.Flat.{space_after_part};
+ghost use Rattle.mn_node.specs.Held.{IsPartOf};
+ghost use Rattle.mn_base.specs.Ids.{tid_same};
+ghost use Rattle.mn_mini.specs.Mini.{space_size};
+ghost use Rattle.mn_mini.specs.Node.{held_parts, held_part_of, has_voted, has_forced, clash_of};
+ghost use Rattle.mn_mini.specs.RecordGrammar.{IsPart, IsRecord};
+ghost use Rattle.mn_node.specs.Part.{shared_of, alone_of};
+ghost use Rattle.mn_node.specs.Memory.{IsMemory, HasRoom, IsTested, is_among};
+
+use crate::held::{held_part, is_same};
+use crate::part::{Mismatch, Ranges, first_mismatch, ranges_of, reads_of, write_items};
+use mn_base::{NoMemory, Nodes, Tid};
+use mn_locks::{Held, LockTable};
+use mn_mini::{Part, PartItem, Reads, Record};
+use std::alloc::Global;
+
+/// What a node keeps in memory: its records, and what they make of its space, its locks and the ids that may not vote. It has
+/// room for a decision of each held part.
+#[derive(Drop)]
+pub struct Memory {
+    pub node: u8,
+    pub nodes: u8,
+    pub records: Vec<Record>,
+    pub space: Vec<u8>,
+    pub locks: LockTable,
+    pub forced: Vec<Tid>,
+    /// At least as many as there are held parts.
+    pub held: u32,
+}
+
+/// What the test of a part told: what its read items read, or why not.
+#[derive(Drop)]
+pub enum Tested {
+    Yes { reads: Reads },
+    Locked { held: Held },
+    Differs { differs: Mismatch },
+}
+
+/// The id is among these.
+pub fn is_in(tids: &[Tid], tid: Tid) -> bool
+    ensures { result ≡ is_among tids.now tid }
+{
+    for other in tids {
+        if is_same(*other, tid) {
+            return true;
+        }
+    }
+    false
+}
+
+/// Tests a part for an id: first its locks, then its compares.
+pub fn test_part(
+    alloc: Global,
+    space: &[u8],
+    locks: &LockTable,
+    tid: Tid,
+    part: &[PartItem],
+    ranges: &Ranges,
+) -> Result<Tested, NoMemory>
+    requires size { length space.now ≡ space_size }
+    requires part { IsPart part.now }
+    requires shared { ranges.now.shared.items ≡ shared_of part.now }
+    requires alone { ranges.now.alone.items ≡ alone_of part.now }
+    ensures { IfOk result (IsTested space.now locks.now.holds tid part.now) }
+{
+    if let Err(held) = locks.test(tid, &ranges.shared, &ranges.alone) {
+        return Ok(Tested::Locked { held });
+    }
+    if let Some(differs) = first_mismatch(alloc, space, part)? {
+        return Ok(Tested::Differs { differs });
+    }
+    let reads = Reads::from_vec(reads_of(alloc, space, part)?);
+    Ok(Tested::Yes { reads })
+}
+
+/// Tests a part for an id, with its ranges made for it.
+pub fn test_alone(
+    alloc: Global,
+    space: &[u8],
+    locks: &LockTable,
+    tid: Tid,
+    part: &[PartItem],
+) -> Result<Tested, NoMemory>
+    requires size { length space.now ≡ space_size }
+    requires part { IsPart part.now }
+    ensures { IfOk result (IsTested space.now locks.now.holds tid part.now) }
+{
+    let ranges = ranges_of(alloc, part)?;
+    test_part(alloc, space, locks, tid, part, &ranges)
+}
+
+/// Makes the writes of the part that is held for an id, where the decision is yes.
+fn write_decided(records: &[Record], space: &mut [u8], tid: Tid, yes: bool)
+    requires size { length space.old ≡ space_size }
+    requires sound { AllByRecursion IsRecord records.now }
+    ensures { (part : List PartItem) → IsPartOf (held_part_of tid (held_parts (reverse records.now))) part → space.new ≡ (if yes then space_after_part space.old part else space.old) }
+{
+    if !yes {
+        return;
+    }
+    if let Some(part) = held_part(records, tid) {
+        write_items(space, part.as_slice());
+    }
+}
+
+impl Memory {
+    /// Adds a vote whose part conflicts with none that is held.
+    pub fn add_vote(
+        &mut self,
+        vote: Record,
+        tid: Tid,
+        participants: &Nodes,
+        part: &Part,
+        ranges: &Ranges,
+    )
+        requires memory { IsMemory self.old }
+        requires vote { IsRecord vote }
+        requires same { vote ≡ Record.Voted tid participants.now part.now }
+        requires shared { ranges.now.shared.items ≡ shared_of part.now }
+        requires alone { ranges.now.alone.items ≡ alone_of part.now }
+        requires free { clash_of (held_parts (reverse self.old.records.items)) tid part.now ≡ None }
+        requires room { HasRoom self.old }
+        requires more { vec_len self.old.records + self.old.held + 2 ≤ vec_capacity self.old.records }
+        requires few { self.old.held < 2 ^ 32 - 1 }
+        requires locks { length ranges.now.shared.items + length ranges.now.alone.items ≤ self.old.locks.spare }
+        ensures memory { IsMemory self.new }
+        ensures room { HasRoom self.new }
+        ensures records { self.new.records.items ≡ self.old.records.items ++ vote ∷ [] }
+        ensures held { self.new.held ≡ self.old.held + 1 }
+        ensures node { self.new.node ≡ self.old.node }
+        ensures nodes { self.new.nodes ≡ self.old.nodes }
+    {
+        self.locks
+            .try_lock(tid, &ranges.shared, &ranges.alone)
+            .unwrap();
+        self.records.push(vote).unwrap();
+        self.held += 1;
+    }
+
+    /// Adds an execution, whose writes are made.
+    pub fn add_execution(&mut self, executed: Record, tid: Tid, part: &Part)
+        requires memory { IsMemory self.old }
+        requires execution { IsRecord executed }
+        requires same { executed ≡ Record.Executed tid part.now }
+        requires room { HasRoom self.old }
+        requires more { vec_len self.old.records + self.old.held + 1 ≤ vec_capacity self.old.records }
+        ensures memory { IsMemory self.new }
+        ensures room { HasRoom self.new }
+        ensures records { self.new.records.items ≡ self.old.records.items ++ executed ∷ [] }
+        ensures held { self.new.held ≡ self.old.held }
+        ensures node { self.new.node ≡ self.old.node }
+        ensures nodes { self.new.nodes ≡ self.old.nodes }
+    {
+        write_items(&mut self.space, part.as_slice());
+        self.records.push(executed).unwrap();
+    }
+
+    /// Adds that the node will not vote for an id.
+    pub fn add_force(&mut self, tid: Tid)
+        requires memory { IsMemory self.old }
+        requires force { IsRecord (Record.Forced tid) }
+        requires room { HasRoom self.old }
+        requires more { vec_len self.old.records + self.old.held + 1 ≤ vec_capacity self.old.records }
+        requires forced { vec_len self.old.forced < vec_capacity self.old.forced }
+        ensures memory { IsMemory self.new }
+        ensures room { HasRoom self.new }
+        ensures records { self.new.records.items ≡ self.old.records.items ++ Record.Forced tid ∷ [] }
+        ensures held { self.new.held ≡ self.old.held }
+        ensures node { self.new.node ≡ self.old.node }
+        ensures nodes { self.new.nodes ≡ self.old.nodes }
+    {
+        self.forced.push(tid).unwrap();
+        self.records.push(Record::Forced { tid }).unwrap();
+    }
+
+    /// Adds the decision of a held part: with yes its writes are made. Its ranges are free then. It takes no memory.
+    pub fn add_decision(&mut self, tid: Tid, yes: bool)
+        requires memory { IsMemory self.old }
+        requires decision { IsRecord (Record.Decided tid yes) }
+        requires held { IsSome (held_part_of tid (held_parts (reverse self.old.records.items))) }
+        requires room { HasRoom self.old }
+        ensures memory { IsMemory self.new }
+        ensures room { HasRoom self.new }
+        ensures records { self.new.records.items ≡ self.old.records.items ++ Record.Decided tid yes ∷ [] }
+        ensures held { self.new.held + 1 ≡ self.old.held }
+        ensures node { self.new.node ≡ self.old.node }
+        ensures nodes { self.new.nodes ≡ self.old.nodes }
+    {
+        write_decided(&self.records, &mut self.space, tid, yes);
+        self.locks.release(tid);
+        self.records.push(Record::Decided { tid, yes }).unwrap();
+        self.held -= 1;
+    }
+}
+
+impl Memory {
+    /// Makes room for one record more and so many ranges, beside what there is room for.
+    pub fn reserve(&mut self, ranges: usize) -> Result<(), NoMemory>
+        requires memory { IsMemory self.old }
+        requires room { HasRoom self.old }
+        ensures memory { IsMemory self.new }
+        ensures room { HasRoom self.new }
+        ensures held_few { OnOk result (self.new.held < 2 ^ 32 - 2) }
+        ensures more { OnOk result (vec_len self.new.records + self.new.held + 2 ≤ vec_capacity self.new.records) }
+        ensures forced { OnOk result (vec_len self.new.forced < vec_capacity self.new.forced) }
+        ensures ranges { OnOk result (ranges ≤ self.new.locks.spare) }
+        ensures records { self.new.records.items ≡ self.old.records.items }
+        ensures held { self.new.held ≡ self.old.held }
+        ensures node { self.new.node ≡ self.old.node }
+        ensures nodes { self.new.nodes ≡ self.old.nodes }
+    {
+        if self.held >= 4_294_967_294 {
+            return Err(NoMemory);
+        }
+        self.records.reserve(self.held as usize + 2)?;
+        self.forced.reserve(1)?;
+        self.locks.reserve(ranges)?;
+        Ok(())
+    }
+}

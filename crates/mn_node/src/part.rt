@@ -1,0 +1,141 @@
+ghost use Rattle.std.specs.Prelude.{◌≡◌, ◌≤◌, ◌+◌, length, IfOk, IfSome};
+ghost use Rattle.mn_mini.specs.Mini.{has_write, space_size};
+ghost use Rattle.mn_mini.specs.Flat.{bytes_in, overwritten, part_mismatch_from, part_reads, space_after_part};
+ghost use Rattle.mn_node.specs.Part.{AreInside, IsMismatch, shared_of, alone_of};
+
+use mn_base::{Bytes, NoMemory, Range};
+use mn_mini::{MAX_ITEMS, PartItem};
+use std::alloc::Global;
+
+/// A compare item that differs: its number among the compares, and the bytes in place.
+#[derive(Debug, Drop)]
+pub struct Mismatch {
+    pub item: u16,
+    pub found: Bytes,
+}
+
+/// The ranges of a part: those to be held shared, and those to be held alone.
+#[derive(Debug, Drop)]
+pub struct Ranges {
+    pub shared: Vec<Range>,
+    pub alone: Vec<Range>,
+}
+
+/// The bytes of a range.
+fn range(space: &[u8], start: u32, length: usize) -> &[u8]
+    requires { start + length ≤ Rattle.std.specs.Prelude.length space.now }
+    ensures { result.now ≡ bytes_in space.now start length }
+{
+    let start = start as usize;
+    &space[start..start + length]
+}
+
+/// Puts bytes over a range.
+fn overwrite(space: &mut [u8], start: u32, bytes: &[u8])
+    requires { start + length bytes.now ≤ length space.old }
+    ensures { space.new ≡ overwritten space.old start bytes.now }
+{
+    let start = start as usize;
+    space[start..start + bytes.len()].copy_from_slice(bytes);
+}
+
+/// A copy of the bytes of a range.
+pub fn copy_of(alloc: Global, space: &[u8], start: u32, length: usize) -> Result<Bytes, NoMemory>
+    requires { start + length ≤ Rattle.std.specs.Prelude.length space.now }
+    ensures { IfOk result (λ bytes. bytes ≡ bytes_in space.now start length) }
+{
+    let bytes = range(space, start, length).to_vec(alloc)?;
+    Ok(Bytes::from_vec(bytes))
+}
+
+/// The first compare item that differs.
+pub fn first_mismatch(
+    alloc: Global,
+    space: &[u8],
+    items: &[PartItem],
+) -> Result<Option<Mismatch>, NoMemory>
+    requires inside { AreInside items.now }
+    requires whole { length space.now ≡ space_size }
+    requires few { length items.now ≤ MAX_ITEMS }
+    ensures { IfOk result (IsMismatch (part_mismatch_from space.now 0 items.now)) }
+{
+    let mut item = 0;
+    for compare in items {
+        if let PartItem::Compare { start, bytes } = compare {
+            let bytes = bytes.as_slice();
+            if range(space, *start, bytes.len()) != bytes {
+                let found = copy_of(alloc, space, *start, bytes.len())?;
+                return Ok(Some(Mismatch { item, found }));
+            }
+            item += 1;
+        }
+    }
+    Ok(None)
+}
+
+/// The bytes of the read items.
+pub fn reads_of(alloc: Global, space: &[u8], items: &[PartItem]) -> Result<Vec<Bytes>, NoMemory>
+    requires inside { AreInside items.now }
+    requires whole { length space.now ≡ space_size }
+    ensures { IfOk result (λ reads. reads.items ≡ part_reads space.now items.now) }
+{
+    let mut reads = Vec::new(alloc);
+    for item in items {
+        if let PartItem::Read { start, length } = item {
+            reads.push(copy_of(alloc, space, *start, *length as usize)?)?;
+        }
+    }
+    Ok(reads)
+}
+
+/// Puts the write items in place.
+pub fn write_items(space: &mut [u8], items: &[PartItem])
+    requires inside { AreInside items.now }
+    requires whole { length space.old ≡ space_size }
+    ensures { space.new ≡ space_after_part space.old items.now }
+{
+    for item in items {
+        if let PartItem::Write { start, bytes } = item {
+            overwrite(space, *start, bytes.as_slice());
+        }
+    }
+}
+
+/// The ranges of a part's items, in order.
+pub fn ranges_of(alloc: Global, items: &[PartItem]) -> Result<Ranges, NoMemory>
+    requires { AreInside items.now }
+    ensures shared { IfOk result (λ ranges. ranges.shared.items ≡ shared_of items.now) }
+    ensures alone { IfOk result (λ ranges. ranges.alone.items ≡ alone_of items.now) }
+{
+    let mut shared = Vec::new(alloc);
+    let mut alone = Vec::new(alloc);
+    for item in items {
+        match item {
+            PartItem::Compare { start, bytes } => shared.push(Range {
+                start: *start,
+                length: bytes.as_slice().len() as u32,
+            })?,
+            PartItem::Read { start, length } => shared.push(Range {
+                start: *start,
+                length: *length,
+            })?,
+            PartItem::Write { start, bytes } => alone.push(Range {
+                start: *start,
+                length: bytes.as_slice().len() as u32,
+            })?,
+        }
+    }
+    Ok(Ranges { shared, alone })
+}
+
+/// Some item writes.
+pub fn writes(items: &[PartItem]) -> bool
+    ensures { result ≡ has_write items.now }
+{
+    for item in items {
+        if let PartItem::Write { .. } = item {
+            return true;
+        }
+    }
+    false
+}
