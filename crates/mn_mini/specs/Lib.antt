@@ -4,4 +4,3 @@ pub mod Flat
 pub mod Node
 pub mod Laws
 pub mod RecordGrammar
-pub mod Sound

@@ -3,3 +3,4 @@ pub mod Held
 pub mod Memory
 pub mod Node
 pub mod Doubts
+pub mod Sound

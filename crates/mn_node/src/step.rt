@@ -3,7 +3,7 @@ ghost use Rattle.mn_mini.specs.declared.reply.NodeReply.{NodeReply};
 ghost use Rattle.std.specs.Prelude.{◌≡◌, ◌≢◌, ◌≤◌, ◌<◌, ◌+◌, ◌*◌, ◌^◌, ◌++◌, ◌∷◌, [], ℕ, List, length, reverse, OnOk, OnErr};
 ghost use Rattle.std.specs.Prelude.{Some, None, if◌then◌else◌};
 ghost use Rattle.mn_mini.specs.Mini.{has_write};
-ghost use Rattle.mn_mini.specs.Sound.{IsSoundRequest};
+ghost use Rattle.mn_node.specs.Sound.{IsSoundRequest};
 ghost use Rattle.mn_mini.specs.Node.{clash_of, held_parts};
 ghost use Rattle.mn_io.specs.Faults.{Rose};
 ghost use Rattle.mn_mini.specs.declared.record.Record.{Record};
