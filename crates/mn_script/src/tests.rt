@@ -1,4 +1,4 @@
-use crate::{ScriptError, read_script};
+use crate::{ScriptError, read_script, write_script};
 use mn_base::NoMemory;
 use std::alloc::Global;
 use std::test::Fail;
@@ -219,5 +219,27 @@ fn limits_are_met_at_both_sides(rt: HostRuntime) -> Result<(), Fail> {
     assert_eq!(rt; place(rt.alloc(), &longest)?, None);
     let longer = joined(rt.alloc(), &longest, b"#")?;
     assert_eq!(rt; place(rt.alloc(), &longer)?, Some((0, 0)));
+    Ok(())
+}
+
+/// A text, and how the script that it spells is written.
+const SPELLINGS: &[(&[u8], &[u8])] = &[
+    (b"# x\nnodes 1", b"nodes 1\nrecoverers 0\nschedule\n"),
+    (
+        b"nodes 2\nclient a last\nput main %20%25 %\ntx m get k ; check k is v ; check k absent ; del k\nscan m % h 7\nsnapshot m n\nbranch m o\nversions\nkill a 1 votes 8\nstop 1 a 2 half\nschedule\nrestart 1\ngo a",
+        b"nodes 2\nrecoverers 0\nclient a last\ntx main put %20%25 %\ntx m get k ; check k is v ; check k absent ; del k\nscan m % h 7\nsnapshot m n\nbranch m o\nversions\nkill a 1 votes 8\nstop 1 a 2 half\nschedule\nrestart 1\ngo a\n",
+    ),
+];
+
+#[test]
+fn what_is_written_is_read_again(rt: HostRuntime) -> Result<(), Fail> {
+    for (text, written) in SPELLINGS {
+        let script = read_script(rt.alloc(), text)?;
+        let once = write_script(rt.alloc(), &script)?;
+        assert_eq!(rt; once.as_slice(), *written);
+        let again = read_script(rt.alloc(), once.as_slice())?;
+        let twice = write_script(rt.alloc(), &again)?;
+        assert_eq!(rt; twice.as_slice(), *written);
+    }
     Ok(())
 }
