@@ -1,7 +1,7 @@
 #!/usr/bin/env python3
-"""Times the program on scripts of N operations: every second one a put, over eight keys.
+"""Times the program on scripts of N operations: every second one a put, over eight keys, at most 2,000 a client.
 
-bench/replay.py [N ..]     default 500 1000 2000; build first with scripts/minuet
+bench/replay.py [N ..]     default 2000 4000 8000; build first with scripts/minuet
 """
 import subprocess
 import sys
@@ -9,18 +9,21 @@ import time
 from pathlib import Path
 
 PROGRAM = Path(__file__).resolve().parent.parent / "crates/minuet/out/minuet"
+MOST_OPERATIONS = 2000
 
 
 def script(operations: int) -> bytes:
-    lines = ["nodes 1", "client a"]
+    lines = ["nodes 1"]
     for number in range(operations):
+        if number % MOST_OPERATIONS == 0:
+            lines.append(f"client c{number // MOST_OPERATIONS}")
         key = f"key{number % 8}"
         lines.append(f"put main {key} {number}" if number % 2 == 0 else f"get main {key}")
     return ("\n".join(lines) + "\n").encode()
 
 
 def main() -> None:
-    for operations in [int(word) for word in sys.argv[1:]] or [500, 1000, 2000]:
+    for operations in [int(word) for word in sys.argv[1:]] or [2000, 4000, 8000]:
         text = script(operations)
         began = time.perf_counter()
         run = subprocess.run([PROGRAM, "replay", "1"], input=text, capture_output=True, check=True)

@@ -2,12 +2,12 @@
 #![tactic(auto)]
 
 mod ends;
-mod no_disk;
 
 use ends::{StdSink, StdSource};
 use mn_base::{NoMemory, OpenGate};
+use mn_io::{Bytes, Calls};
+use mn_memdisk::MemoryDisk;
 use mn_top::{Words, run_program, wanted};
-use no_disk::NoDisk;
 use std::alloc::Global;
 use std::env;
 use std::process::ExitCode;
@@ -24,12 +24,13 @@ fn words_of<T: Env + AllocGlobal>(rt: &T) -> Result<Words, NoMemory> {
     Ok(words)
 }
 
-/// One disk for each node that is wanted.
-fn disks_of(alloc: Global, words: &Words) -> Result<Vec<NoDisk>, NoMemory> {
+/// A fresh disk in memory for each node that is wanted.
+fn disks_of(alloc: Global, words: &Words) -> Result<Vec<MemoryDisk>, NoMemory> {
     let mut disks = Vec::new(alloc);
     if let Some(wanted) = wanted(words) {
         for _ in 0..wanted.nodes {
-            disks.push(NoDisk::new())?;
+            let content = Bytes::from_vec(Vec::new(alloc));
+            disks.push(MemoryDisk::new(content, Calls::from_vec(Vec::new(alloc))))?;
         }
     }
     Ok(disks)

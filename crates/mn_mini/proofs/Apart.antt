@@ -26,7 +26,7 @@ All-both P Q R f (x ∷ xs) p q = (f x p.0 q.0, All-both P Q R f xs p.1 q.1)
 
 -- what a release leaves
 
-All-without : (P : HeldPart → Type 0) (t : Tid) (hs : List HeldPart) → AllByRecursion P hs → AllByRecursion P (without_tid t hs)
+pub All-without : (P : HeldPart → Type 0) (t : Tid) (hs : List HeldPart) → AllByRecursion P hs → AllByRecursion P (without_tid t hs)
 All-without P t [] a = tt
 All-without P t (h ∷ hs) a =
     elim (tid_same h.tid t) as (λ b. AllByRecursion P (if b then without_tid t hs else h ∷ without_tid t hs)) [

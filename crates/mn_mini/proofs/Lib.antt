@@ -7,3 +7,4 @@ pub mod Answers
 pub mod RecordGrammar
 pub mod ItemLists
 pub mod RecordBytes
+pub mod Fits

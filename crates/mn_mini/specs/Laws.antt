@@ -1,11 +1,13 @@
 -- Laws of a single node.
-use Rattle.std.specs.Prelude.{ℕ, ◌≡◌, false, List, [], ◌∷◌, ⊤}
+use Rattle.std.specs.Prelude.{ℕ, ◌≡◌, false, List, [], ◌∷◌, length, ⊤}
 use Rattle.std.specs.List.{AllByRecursion}
 use Rattle.mn_base.specs.Ids.{tid_same}
 use Rattle.mn_mini.specs.declared.record.Record.{Record}
 use Rattle.mn_mini.specs.declared.request.Request.{Request}
-use Rattle.mn_mini.specs.Mini.{parts_conflict}
+use Rattle.mn_mini.specs.Mini.{parts_conflict, space_size}
 use Rattle.mn_mini.specs.Node.{HeldPart, held_parts, answer, with_added}
+use Rattle.mn_mini.specs.RecordGrammar.{IsRecord}
+use Rattle.mn_mini.specs.Sound.{Fits, IsSoundRequest}
 
 -- the records after these requests, the newest first, in a node that began with these records
 abbrev pub records_after : List ℕ → List Record → List Request → List Record
@@ -21,3 +23,8 @@ AreApart (h ∷ hs) = AllByRecursion (λ g. tid_same g.tid h.tid ≡ false → p
 abbrev pub HeldPartsStayApart : Type 0
 HeldPartsStayApart =
     (base : List ℕ) (start : List Record) (requests : List Request) → AreApart (held_parts start) → AreApart (held_parts (records_after base start requests))
+
+-- what the records answer to a sound request fits it
+abbrev pub AnswersFit : Type 0
+AnswersFit =
+    (base : List ℕ) (records : List Record) (request : Request) → length base ≡ space_size → AllByRecursion IsRecord records → IsSoundRequest request → Fits request (answer base records request).reply

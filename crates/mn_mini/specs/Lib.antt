@@ -2,5 +2,6 @@ pub mod Mini
 pub mod Refusal
 pub mod Flat
 pub mod Node
+pub mod Sound
 pub mod Laws
 pub mod RecordGrammar

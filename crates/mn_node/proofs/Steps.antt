@@ -1,5 +1,5 @@
 -- A node that is up, after a record was added.
-use Rattle.std.proofs.Common.{◌≡◌, ◌≤◌, ◌+◌, ◌*◌, ℕ, Bool, true, false, List, [], ◌∷◌, ◌++◌, Option, Some, None, Result, Ok, Err, OnOk, MatchOption, inl, inr, refl, ap, sym, ◌∙◌, subst, arith}
+use Rattle.std.proofs.Common.{◌≡◌, ◌≤◌, ◌+◌, ◌*◌, ℕ, Bool, true, false, List, [], ◌∷◌, ◌++◌, Option, Some, None, Result, Ok, Err, OnOk, OnErr, MatchOption, inl, inr, refl, ap, sym, ◌∙◌, subst, arith}
 use Rattle.std.specs.Prelude.{is_some, ◌⊎◌}
 use Rattle.std.specs.Result.{is_err}
 use Rattle.std.proofs.lemmas.Bool.{false≢true}
@@ -13,7 +13,9 @@ use Rattle.mn_mini.specs.declared.request.Request.TheVariants as Ask
 use Rattle.mn_mini.specs.declared.reply.NodeReply.TheVariants as Say
 use Rattle.mn_mini.specs.Node.{HeldPart, Response, only_reply, answer, has_voted, has_forced}
 use Rattle.mn_node.specs.Held.{IsPartOf}
-use Rattle.mn_node.specs.Node.{StandsWithOrWithout, IsLogged, added_to}
+use Rattle.mn_base.specs.declared.gate.StopAt.{StopAt}
+use Rattle.mn_base.specs.declared.gate.StopAt.TheVariants.{Before, Half, After}
+use Rattle.mn_node.specs.Node.{StandsWithOrWithout, StopsAt, HasStopped, Continues, IsUnasked, IsLogged, added_to}
 use Rattle.std.proofs.lemmas.List.{map-append}
 use Rattle.mn_io.specs.DiskModel.{DiskState}
 use Rattle.mn_redo.specs.Grammar.{Stands}
@@ -76,19 +78,6 @@ stopped state old new records r added body bodies spelled one images c image = o
         ap (λ (l : List (List ℕ)). l ++ body ∷ []) bodies ∙ ap (λ (b : List ℕ). bodies_of records ++ b ∷ []) spelled ∙ one_body_more records r ∙ sym (ap (λ (o : Option Record). bodies_of (added_to records o)) one) in
         inr (subst (λ (l : List (List ℕ)). Stands old.node old.nodes c l) same after)
 
--- a logged record that the memory then takes leaves the node up
-pub up_logged : {D : Type 0} (state : D → DiskState) (redo : RedoState D) (m after : Memory) (r : Record) (count : ℕ) → IsLogged state redo m r count → IsMemory after → HasRoom after
-    → after.records.items ≡ m.records.items ++ r ∷ [] → after.held ≤ m.held + 1 → IsUp state redo after
-up_logged state redo m after r count logged memory room records held = record {
-  memory = memory;
-  room = room;
-  started = logged.started;
-  bodies = logged.bodies ∙ ap bodies_of (sym records);
-  spare_bodies = omega (arith, held, logged.spare_bodies);
-  spare_bytes = omega (arith, held, logged.spare_bytes);
-  stands = logged.stands;
-}
-
 pub rose_later : (a b n : ℕ) → a ≤ b → Rose b n → Rose a n
 rose_later a b n e r = omega (arith, r)
 
@@ -103,6 +92,59 @@ stands_moved disk n n2 ns ns2 bs bs2 e f g told = λ c image.
     let with_node = subst (λ (k : ℕ). Stands k ns c bs) e (told c image) in
     let with_nodes = subst (λ (k : ℕ). Stands n2 k c bs) f with_node in
     subst (λ (l : List (List ℕ)). Stands n2 ns2 c l) g with_nodes
+
+-- A stop
+
+pub stopped_after : {T E : Type 0} (r : Result T E) (Failed Honest Told : Type 0) → OnErr r Failed → (Honest → OnOk r Told) → Failed ⊎ (Honest → Told)
+stopped_after (Ok x) Failed Honest Told e o = inr o
+stopped_after (Err x) Failed Honest Told e o = inl e
+
+pub unasked : (stop : Option StopAt) (added : Option Record) → stop ≡ None → IsUnasked stop added
+unasked stop added e = subst (λ (o : Option StopAt). IsUnasked o added) (sym e) tt
+
+pub stops_here : {D : Type 0} (state : D → DiskState) (faults : D → ℕ) (old new : RedoState D) (records : List Record) (r : Record) (body : List ℕ) (stop : Option StopAt)
+    → old.bodies ≡ bodies_of records → body ≡ record_bytes r
+    → ((state old.disk).honest → (c : List ℕ) → (state new.disk).images c → IsBeforeOrAfter old.node old.nodes old.bodies body c)
+    → StopsAt state faults old.disk new.disk old.node old.nodes old.bodies body stop → HasStopped state faults old.disk new.disk old.node old.nodes records r stop
+stops_here state faults old new records r body stop bodies spelled images told = record {
+  stands = λ h. stopped state old new records r (Some r) body bodies spelled refl (images h);
+  at =
+      let with_bodies = subst (λ (l : List (List ℕ)). StopsAt state faults old.disk new.disk old.node old.nodes l body stop) bodies told in
+      subst (λ (b : List ℕ). StopsAt state faults old.disk new.disk old.node old.nodes (bodies_of records) b stop) spelled with_bodies;
+}
+
+-- the same, since an earlier time
+stops_since : {D : Type 0} (state : D → DiskState) (faults : D → ℕ) (old mid new : D) (node nodes : ℕ) (bodies : List (List ℕ)) (body : List ℕ) (stop : Option StopAt)
+    → faults old ≤ faults mid → ((state old).honest → (state mid).honest) → StopsAt state faults mid new node nodes bodies body stop → StopsAt state faults old new node nodes bodies body stop
+stops_since state faults old mid new node nodes bodies body None later honest told = rose_later (faults old) (faults mid) (faults new) later told
+stops_since state faults old mid new node nodes bodies body (Some Before) later honest told = λ h. told (honest h)
+stops_since state faults old mid new node nodes bodies body (Some Half) later honest told = λ h. told (honest h)
+stops_since state faults old mid new node nodes bodies body (Some After) later honest (inl rose) = inl (rose_later (faults old) (faults mid) (faults new) later rose)
+stops_since state faults old mid new node nodes bodies body (Some After) later honest (inr told) = inr (λ h. told (honest h))
+
+pub stops_earlier : {D : Type 0} (state : D → DiskState) (faults : D → ℕ) (old mid : RedoState D) (new : D) (records before : List Record) (r : Record) (stop : Option StopAt)
+    → Continues state faults old mid → records ≡ before → HasStopped state faults mid.disk new mid.node mid.nodes records r stop → HasStopped state faults old.disk new old.node old.nodes before r stop
+stops_earlier state faults old mid new records before r stop goes same told = record {
+  stands = λ h. same_stands (state new) mid.node old.node mid.nodes old.nodes records before (Some r) goes.node goes.nodes same (told.stands (goes.honest h));
+  at =
+      let since = stops_since state faults old.disk mid.disk new mid.node mid.nodes (bodies_of records) (record_bytes r) stop goes.later goes.honest told.at in
+      let with_node = subst (λ (n : ℕ). StopsAt state faults old.disk new n mid.nodes (bodies_of records) (record_bytes r) stop) goes.node since in
+      let with_nodes = subst (λ (n : ℕ). StopsAt state faults old.disk new old.node n (bodies_of records) (record_bytes r) stop) goes.nodes with_node in
+      subst (λ (l : List Record). StopsAt state faults old.disk new old.node old.nodes (bodies_of l) (record_bytes r) stop) same with_nodes;
+}
+
+-- a logged record that the memory then takes leaves the node up
+pub up_logged : {D : Type 0} (state : D → DiskState) (redo : RedoState D) (m after : Memory) (r : Record) (count : ℕ) → IsLogged state redo m r count → IsMemory after → HasRoom after
+    → after.records.items ≡ m.records.items ++ r ∷ [] → after.held ≤ m.held + 1 → IsUp state redo after
+up_logged state redo m after r count logged memory room records held = record {
+  memory = memory;
+  room = room;
+  started = logged.started;
+  bodies = logged.bodies ∙ ap bodies_of (sym records);
+  spare_bodies = omega (arith, held, logged.spare_bodies);
+  spare_bytes = omega (arith, held, logged.spare_bytes);
+  stands = logged.stands;
+}
 
 -- a Force of an id that has not voted and is not forced
 pub force_answer : (base : List ℕ) (records : List Record) (tid : Tid) → has_voted records tid ≡ false → has_forced records tid ≡ false

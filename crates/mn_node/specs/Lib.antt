@@ -3,4 +3,6 @@ pub mod Held
 pub mod Memory
 pub mod Node
 pub mod Doubts
-pub mod Sound
+pub mod Base
+pub mod State
+pub mod Restart

@@ -1,6 +1,6 @@
 -- A node: its log, its memory, and what it does with a request.
-use Rattle.std.specs.Prelude.{◌≡◌, ◌≤◌, ◌<◌, ◌⊎◌, ◌+◌, ◌-◌, ◌*◌, ◌^◌, ℕ, List, [], ◌∷◌, ◌++◌, map, reverse, Option, Some, None, vec_len, vec_capacity}
-use Rattle.mn_io.specs.DiskModel.{DiskState}
+use Rattle.std.specs.Prelude.{◌≡◌, ◌≤◌, ◌<◌, ◌⊎◌, ◌+◌, ◌-◌, ◌*◌, ◌^◌, ℕ, List, [], ◌∷◌, ◌++◌, length, map, reverse, Option, Some, None, ⊤, vec_len, vec_capacity}
+use Rattle.mn_io.specs.DiskModel.{DiskState, LeavesOnly, Stays}
 use Rattle.mn_io.specs.Faults.{Rose}
 use Rattle.mn_redo.specs.Grammar.{Stands}
 use Rattle.mn_redo.specs.Redo.{RedoState, StandsFor}
@@ -12,8 +12,12 @@ use Rattle.mn_mini.specs.declared.reply.NodeReply.TheVariants as Say
 use Rattle.mn_mini.specs.Node.{Response, answer}
 use Rattle.mn_mini.specs.RecordGrammar.{record_bytes}
 use Rattle.mn_node.specs.declared.memory.Memory.{Memory}
+use Rattle.mn_base.specs.declared.gate.StopAt.{StopAt}
+use Rattle.mn_base.specs.declared.gate.StopAt.TheVariants.{Before, Half, After}
 use Rattle.mn_node.specs.declared.step.Kept.{Kept}
 use Rattle.mn_node.specs.declared.step.Kept.TheVariants.{NoRoom, Stopped, Logged}
+use Rattle.mn_node.specs.declared.step.Served.{Served}
+use Rattle.mn_node.specs.declared.step.Served.TheVariants as Serve
 use Rattle.mn_node.specs.Memory.{IsMemory, HasRoom, base_of}
 
 -- the bodies of records
@@ -63,16 +67,59 @@ node_answer m request = answer (base_of m.nodes m.node) (reverse m.records.items
 abbrev pub StandsWithOrWithout : DiskState → ℕ → ℕ → List Record → Option Record → Type 0
 StandsWithOrWithout disk node nodes records added = (c : List ℕ) → disk.images c → Stands node nodes c (bodies_of records) ⊎ Stands node nodes c (bodies_of (added_to records added))
 
--- what a request does to a node that is up, by its reply: nothing for want of memory; at a stop its record may stand on the disk or not, and
--- the disk has failed; else the reply is the answer, and its record is added
-abbrev pub Handled : {D : Type 0} → (D → DiskState) → (D → ℕ) → RedoState D → Memory → Request → NodeReply → RedoState D → Memory → Type 0
-Handled state faults redo m request Say.NoMemory new after = IsUp state new after × (after.records.items ≡ m.records.items)
-Handled state faults redo m request Say.Stopped new after =
-    Rose (faults redo.disk) (faults new.disk) × (after.records.items ≡ m.records.items)
-    × ((state redo.disk).honest → StandsWithOrWithout (state new.disk) redo.node redo.nodes m.records.items (node_answer m request).added)
-Handled state faults redo m request Say.Down new after = ⊥
-Handled state faults redo m request reply new after =
-    IsUp state new after × ((node_answer m request).reply ≡ reply) × (after.records.items ≡ added_to m.records.items (node_answer m request).added)
+-- the bytes stand for these records, or for these and the one
+abbrev pub IsWithOrWithout : ℕ → ℕ → List Record → Option Record → List ℕ → Type 0
+IsWithOrWithout node nodes records added c = Stands node nodes c (bodies_of records) ⊎ Stands node nodes c (bodies_of (added_to records added))
+
+-- what a crash at any moment of a call leaves: the disk wasn't touched, or it leaves only bytes that have P, where the disk is honest
+abbrev pub LeavesAt : {D : Type 0} → (D → DiskState) → D → D → (List ℕ → Type 0) → Type 0
+LeavesAt state old new P = (new ≡ old) ⊎ ((state old).honest → LeavesOnly (state old) (state new) P)
+
+-- the disk wasn't touched, or nothing of it has changed but its room, where it is honest
+abbrev pub RestsAt : {D : Type 0} → (D → DiskState) → D → D → Type 0
+RestsAt state old new = (new ≡ old) ⊎ ((state old).honest → Stays (state old) (state new))
+
+-- where a record was to be put into the log and wasn't: the disk failed, or a stop was asked for. Then an honest disk stands for the list from
+-- before where the stop was before the log or at half of the record, and, unless the disk failed, for the list with the record where it was
+-- after it
+abbrev pub StopsAt : {D : Type 0} → (D → DiskState) → (D → ℕ) → D → D → ℕ → ℕ → List (List ℕ) → List ℕ → Option StopAt → Type 0
+StopsAt state faults old new node nodes bodies body None = Rose (faults old) (faults new)
+StopsAt state faults old new node nodes bodies body (Some Before) = (state old).honest → StandsFor (state new) node nodes bodies
+StopsAt state faults old new node nodes bodies body (Some Half) = (state old).honest → StandsFor (state new) node nodes bodies
+StopsAt state faults old new node nodes bodies body (Some After) = Rose (faults old) (faults new) ⊎ ((state old).honest → StandsFor (state new) node nodes (bodies ++ body ∷ []))
+
+-- the log has one body more, stable on an honest disk
+pub record IsPut {D : Type 0} (state : D → DiskState) (old new : RedoState D) (body : List ℕ) : Type 0 where
+  pub started : new.phase ≡ Started
+  pub bodies : new.bodies ≡ old.bodies ++ body ∷ []
+  pub spare_bodies : old.spare_bodies ≤ new.spare_bodies + 1
+  pub spare_bytes : old.spare_bytes ≤ new.spare_bytes + length body
+  pub stands : (state old.disk).honest → StandsFor (state new.disk) old.node old.nodes (old.bodies ++ body ∷ [])
+
+-- a node that stopped inside a request which adds this record: its disk stands for its records, with the record or without, as far as the
+-- stop says
+pub record HasStopped {D : Type 0} (state : D → DiskState) (faults : D → ℕ) (old new : D) (node nodes : ℕ) (records : List Record) (r : Record) (stop : Option StopAt) : Type 0 where
+  pub stands : (state old).honest → StandsWithOrWithout (state new) node nodes records (Some r)
+  pub at : StopsAt state faults old new node nodes (bodies_of records) (record_bytes r) stop
+
+-- no stop was asked for, or there is nothing to stop at
+abbrev pub IsUnasked : Option StopAt → Option Record → Type 0
+IsUnasked None added = ⊤
+IsUnasked (Some stop) added = added ≡ None
+
+-- what a reply says of a node that is up: nothing has changed for want of memory; else the reply is the answer, and its record is added
+abbrev pub Replies : {D : Type 0} → (D → DiskState) → Memory → Request → Option StopAt → NodeReply → RedoState D → Memory → Type 0
+Replies state m request stop Say.NoMemory new after = IsUp state new after × (after.records.items ≡ m.records.items)
+Replies state m request stop Say.Stopped new after = ⊥
+Replies state m request stop Say.Down new after = ⊥
+Replies state m request stop reply new after =
+    IsUp state new after × ((node_answer m request).reply ≡ reply) × (after.records.items ≡ added_to m.records.items (node_answer m request).added) × IsUnasked stop (node_answer m request).added
+
+-- what a request does to a node that is up: it replies, or it stops, and then its record may stand on the disk or not
+abbrev pub Handled : {D : Type 0} → (D → DiskState) → (D → ℕ) → RedoState D → Memory → Request → Option StopAt → Served → RedoState D → Memory → Type 0
+Handled state faults redo m request stop (Serve.Replied reply) new after = Replies state m request stop reply new after
+Handled state faults redo m request stop (Serve.Stopped left) new after =
+    (after.records.items ≡ m.records.items) × ((node_answer m request).added ≡ Some left) × HasStopped state faults redo.disk new.disk redo.node redo.nodes m.records.items left stop
 
 -- the log has the record, stable on an honest disk, and the memory has the room for it
 pub record IsLogged {D : Type 0} (state : D → DiskState) (redo : RedoState D) (m : Memory) (r : Record) (count : ℕ) : Type 0 where
@@ -89,9 +136,9 @@ pub record IsLogged {D : Type 0} (state : D → DiskState) (redo : RedoState D) 
   pub stands : (state redo.disk).honest → StandsFor (state redo.disk) redo.node redo.nodes redo.bodies
 
 -- what the attempt to log a record leaves
-abbrev pub IsKept : {D : Type 0} → (D → DiskState) → (D → ℕ) → RedoState D → Memory → Record → ℕ → Kept → RedoState D → Memory → Type 0
-IsKept state faults redo m r count NoRoom new after = IsUp state new after × (after.records.items ≡ m.records.items)
-IsKept state faults redo m r count Stopped new after =
-    Rose (faults redo.disk) (faults new.disk) × (after.records.items ≡ m.records.items)
-    × ((state redo.disk).honest → StandsWithOrWithout (state new.disk) redo.node redo.nodes m.records.items (Some r))
-IsKept state faults redo m r count Logged new after = IsLogged state new after r count × (after.records.items ≡ m.records.items) × (after.held ≡ m.held)
+abbrev pub IsKept : {D : Type 0} → (D → DiskState) → (D → ℕ) → RedoState D → Memory → Record → ℕ → Option StopAt → Kept → RedoState D → Memory → Type 0
+IsKept state faults redo m r count stop NoRoom new after = IsUp state new after × (after.records.items ≡ m.records.items)
+IsKept state faults redo m r count stop Stopped new after =
+    (after.records.items ≡ m.records.items) × HasStopped state faults redo.disk new.disk redo.node redo.nodes m.records.items r stop
+IsKept state faults redo m r count stop Logged new after =
+    IsLogged state new after r count × (after.records.items ≡ m.records.items) × (after.held ≡ m.held) × (stop ≡ None)

@@ -1,8 +1,21 @@
 //! A memory node: a list of records on a disk, the space and the locks that they make, and its answers (Sinfonia, SOSP 2007).
 #![tactic(auto)]
 
+mod base;
 mod held;
 mod list;
 mod memory;
+mod node;
 mod part;
+mod replay;
+mod restart;
+mod start;
 mod step;
+
+pub use node::{Node, StartFailed};
+pub use replay::space_after;
+pub use restart::RestartError;
+pub use start::{StartCause, records_of};
+
+#[cfg(test)]
+mod tests;

@@ -94,10 +94,11 @@ pub fn test_alone(
 }
 
 /// Makes the writes of the part that is held for an id, where the decision is yes.
-fn write_decided(records: &[Record], space: &mut [u8], tid: Tid, yes: bool)
+pub fn write_decided(records: &[Record], space: &mut [u8], tid: Tid, yes: bool)
     requires size { length space.old ≡ space_size }
     requires sound { AllByRecursion IsRecord records.now }
-    ensures { (part : List PartItem) → IsPartOf (held_part_of tid (held_parts (reverse records.now))) part → space.new ≡ (if yes then space_after_part space.old part else space.old) }
+    ensures held { (part : List PartItem) → IsPartOf (held_part_of tid (held_parts (reverse records.now))) part → space.new ≡ (if yes then space_after_part space.old part else space.old) }
+    ensures none { held_part_of tid (held_parts (reverse records.now)) ≡ None → space.new ≡ space.old }
 {
     if !yes {
         return;

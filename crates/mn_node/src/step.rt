@@ -1,22 +1,26 @@
 ghost use Rattle.mn_mini.specs.declared.request.Request.{Request};
 ghost use Rattle.mn_mini.specs.declared.reply.NodeReply.{NodeReply};
 ghost use Rattle.std.specs.Prelude.{◌≡◌, ◌≢◌, ◌≤◌, ◌<◌, ◌+◌, ◌*◌, ◌^◌, ◌++◌, ◌∷◌, [], ℕ, List, length, reverse, OnOk, OnErr};
-ghost use Rattle.std.specs.Prelude.{Some, None, if◌then◌else◌};
+ghost use Rattle.std.specs.Prelude.{Some, None, true, false, if◌then◌else◌};
 ghost use Rattle.mn_mini.specs.Mini.{has_write};
-ghost use Rattle.mn_node.specs.Sound.{IsSoundRequest};
+ghost use Rattle.mn_mini.specs.Sound.{IsDecide, IsSoundRequest};
 ghost use Rattle.mn_mini.specs.Node.{clash_of, held_parts};
 ghost use Rattle.mn_io.specs.Faults.{Rose};
 ghost use Rattle.mn_mini.specs.declared.record.Record.{Record};
 ghost use Rattle.mn_mini.specs.RecordGrammar.{record_bytes, IsRecord, IsTid, IsPart, AreParticipants};
 ghost use Rattle.mn_node.specs.Memory.{IsMemory, HasRoom};
-ghost use Rattle.mn_node.specs.Node.{IsUp, HasMore, Continues, SameNode, Handled, IsKept, bodies_of, node_answer};
+ghost use Rattle.mn_redo.specs.Grammar.{IsBeforeOrAfter};
+ghost use Rattle.mn_redo.specs.Redo.{StandsFor};
+ghost use Rattle.mn_redo.specs.declared.redo.Phase.TheVariants.{Started};
+ghost use Rattle.mn_node.specs.Node.{IsUp, IsPut, IsWithOrWithout, LeavesAt, RestsAt, StopsAt, HasMore, Continues, SameNode, Handled, IsKept, bodies_of, node_answer};
+ghost use Rattle.mn_node.specs.declared.step.Served.TheVariants.{Replied};
 
 use crate::held::{holds, voted};
 use crate::list::doubts;
 use crate::memory::{Memory, Tested, is_in, test_alone};
 use crate::part::{copy_of, ranges_of, writes};
 use byteorder::{BigEndian, ByteOrder};
-use mn_base::{NoMemory, Nodes, Tid, TryCopy};
+use mn_base::{NoMemory, Nodes, StopAt, Tid, TryCopy};
 use mn_io::Disk;
 use mn_mini::{NodeReply, Part, Reads, Record, Request};
 use mn_redo::Redo;
@@ -56,6 +60,7 @@ pub fn make_room<D: Disk>(
     ensures records { memory.new.records.items ≡ memory.old.records.items }
     ensures held { memory.new.held ≡ memory.old.held }
     ensures continues { Continues D.state D.faults redo.old redo.new }
+    ensures rests { RestsAt D.state redo.old.disk redo.new.disk }
     ensures same { SameNode memory.old memory.new }
 {
     memory.reserve(ranges)?;
@@ -69,74 +74,148 @@ pub fn make_room<D: Disk>(
     }
 }
 
+/// What became of a request.
+#[derive(Debug, Drop)]
+pub enum Served {
+    /// The answer, or want of memory.
+    Replied { reply: NodeReply },
+    /// The node stops. The record of the request may stand on the disk or not.
+    Stopped { left: Record },
+}
+
+/// Puts a record of these bytes into the log, for which there is room, or stops where that is asked. Whether it is in the log: if not, the
+/// node stops.
+fn put<D: Disk>(redo: &mut Redo<D>, body: &[u8], stop: Option<StopAt>) -> bool
+    requires started { redo.old.phase ≡ Started }
+    requires size { length body.now < 2 ^ 32 }
+    requires spare_body { 0 < redo.old.spare_bodies }
+    requires spare_bytes { length body.now ≤ redo.old.spare_bytes }
+    requires stands { (D.state redo.old.disk).honest → StandsFor (D.state redo.old.disk) redo.old.node redo.old.nodes redo.old.bodies }
+    ensures put { result ≡ true → IsPut D.state redo.old redo.new body.now }
+    ensures unasked { result ≡ true → stop ≡ None }
+    ensures stopped { result ≡ false → StopsAt D.state D.faults redo.old.disk redo.new.disk redo.old.node redo.old.nodes redo.old.bodies body.now stop }
+    ensures images { (D.state redo.old.disk).honest → (c : List ℕ) → (D.state redo.new.disk).images c → IsBeforeOrAfter redo.old.node redo.old.nodes redo.old.bodies body.now c }
+    ensures continues { Continues D.state D.faults redo.old redo.new }
+    ensures moments { LeavesAt D.state redo.old.disk redo.new.disk (IsBeforeOrAfter redo.old.node redo.old.nodes redo.old.bodies body.now) }
+{
+    match stop {
+        None => redo.append(body).is_ok(),
+        Some(StopAt::Before) => false,
+        Some(StopAt::Half) => {
+            let _half = redo.write_half(body);
+            false
+        }
+        Some(StopAt::After) => {
+            let _whole = redo.append(body);
+            false
+        }
+    }
+}
+
 /// What became of a record that was to be logged.
 #[derive(Clone, Copy, Debug, PartialEq, Eq)]
 pub enum Kept {
     /// There was no memory for it, and nothing was done.
     NoRoom,
-    /// The disk failed.
+    /// The disk failed, or a stop was asked for.
     Stopped,
     /// It is in the log.
     Logged,
 }
 
-/// Makes room for a record of these bytes and for so many ranges, and puts it into the log.
-pub fn keep<D: Disk>(redo: &mut Redo<D>, memory: &mut Memory, body: &[u8], ranges: usize) -> Kept
+/// Makes room for a record of these bytes and for so many ranges, and puts it into the log, or stops where that is asked.
+pub fn keep<D: Disk>(
+    redo: &mut Redo<D>,
+    memory: &mut Memory,
+    body: &[u8],
+    ranges: usize,
+    stop: Option<StopAt>,
+) -> Kept
     requires up { IsUp D.state redo.old memory.old }
-    ensures kept { (r : Record) → body.now ≡ record_bytes r → IsKept D.state D.faults redo.old memory.old r ranges result redo.new memory.new }
+    ensures kept { (r : Record) → body.now ≡ record_bytes r → IsKept D.state D.faults redo.old memory.old r ranges stop result redo.new memory.new }
     ensures continues { Continues D.state D.faults redo.old redo.new }
+    ensures moments { (r : Record) → body.now ≡ record_bytes r → LeavesAt D.state redo.old.disk redo.new.disk (IsWithOrWithout redo.old.node redo.old.nodes memory.old.records.items (Some r)) }
     ensures same { SameNode memory.old memory.new }
 {
     if make_room(redo, memory, body.len(), ranges).is_err() {
         return Kept::NoRoom;
     }
-    if redo.append(body).is_err() {
+    if !put(redo, body, stop) {
         return Kept::Stopped;
     }
     Kept::Logged
 }
 
 /// A Force: the vote of the node, which votes no from now on if it hasn't voted.
-pub fn force<D: Disk>(redo: &mut Redo<D>, memory: &mut Memory, tid: Tid) -> NodeReply
+pub fn force<D: Disk>(
+    redo: &mut Redo<D>,
+    memory: &mut Memory,
+    tid: Tid,
+    stop: Option<StopAt>,
+) -> Served
     requires up { IsUp D.state redo.old memory.old }
     requires tid { IsTid tid }
-    ensures handled { Handled D.state D.faults redo.old memory.old (Request.Force tid) result redo.new memory.new }
+    ensures handled { Handled D.state D.faults redo.old memory.old (Request.Force tid) stop result redo.new memory.new }
     ensures continues { Continues D.state D.faults redo.old redo.new }
+    ensures moments { LeavesAt D.state redo.old.disk redo.new.disk (IsWithOrWithout redo.old.node redo.old.nodes memory.old.records.items (node_answer memory.old (Request.Force tid)).added) }
     ensures same { SameNode memory.old memory.new }
 {
     if voted(&memory.records, tid) {
-        return NodeReply::Vote { yes: true };
+        return Served::Replied {
+            reply: NodeReply::Vote { yes: true },
+        };
     }
     if is_in(&memory.forced, tid) {
-        return NodeReply::Vote { yes: false };
+        return Served::Replied {
+            reply: NodeReply::Vote { yes: false },
+        };
     }
-    match keep(redo, memory, &forced_body(tid), 0) {
-        Kept::NoRoom => NodeReply::NoMemory,
-        Kept::Stopped => NodeReply::Stopped,
+    match keep(redo, memory, &forced_body(tid), 0, stop) {
+        Kept::NoRoom => Served::Replied {
+            reply: NodeReply::NoMemory,
+        },
+        Kept::Stopped => Served::Stopped {
+            left: Record::Forced { tid },
+        },
         Kept::Logged => {
             memory.add_force(tid);
-            NodeReply::Vote { yes: false }
+            Served::Replied {
+                reply: NodeReply::Vote { yes: false },
+            }
         }
     }
 }
 
 /// A Decide: ends the part that is held for the id, if one is. It takes no memory.
-pub fn decide<D: Disk>(redo: &mut Redo<D>, memory: &mut Memory, tid: Tid, yes: bool) -> NodeReply
+pub fn decide<D: Disk>(
+    redo: &mut Redo<D>,
+    memory: &mut Memory,
+    tid: Tid,
+    yes: bool,
+    stop: Option<StopAt>,
+) -> Served
     requires up { IsUp D.state redo.old memory.old }
     requires tid { IsTid tid }
-    ensures handled { Handled D.state D.faults redo.old memory.old (Request.Decide tid yes) result redo.new memory.new }
-    ensures memory { result ≢ NodeReply.NoMemory }
+    ensures handled { Handled D.state D.faults redo.old memory.old (Request.Decide tid yes) stop result redo.new memory.new }
+    ensures memory { result ≢ Replied NodeReply.NoMemory }
     ensures continues { Continues D.state D.faults redo.old redo.new }
+    ensures moments { LeavesAt D.state redo.old.disk redo.new.disk (IsWithOrWithout redo.old.node redo.old.nodes memory.old.records.items (node_answer memory.old (Request.Decide tid yes)).added) }
     ensures same { SameNode memory.old memory.new }
 {
     if !holds(&memory.records, tid) {
-        return NodeReply::Decided;
+        return Served::Replied {
+            reply: NodeReply::Decided,
+        };
     }
-    if redo.append(&decided_body(tid, yes)).is_err() {
-        return NodeReply::Stopped;
+    if !put(redo, &decided_body(tid, yes), stop) {
+        return Served::Stopped {
+            left: Record::Decided { tid, yes },
+        };
     }
     memory.add_decision(tid, yes);
-    NodeReply::Decided
+    Served::Replied {
+        reply: NodeReply::Decided,
+    }
 }
 
 /// Makes room for a record and so many ranges, and puts it into the log.
@@ -146,17 +225,19 @@ pub fn log<D: Disk>(
     memory: &mut Memory,
     kept: &Record,
     ranges: usize,
+    stop: Option<StopAt>,
 ) -> Kept
     requires up { IsUp D.state redo.old memory.old }
     requires record { IsRecord kept.now }
-    ensures kept { IsKept D.state D.faults redo.old memory.old kept.now ranges result redo.new memory.new }
+    ensures kept { IsKept D.state D.faults redo.old memory.old kept.now ranges stop result redo.new memory.new }
     ensures continues { Continues D.state D.faults redo.old redo.new }
+    ensures moments { LeavesAt D.state redo.old.disk redo.new.disk (IsWithOrWithout redo.old.node redo.old.nodes memory.old.records.items (Some kept.now)) }
     ensures same { SameNode memory.old memory.new }
 {
     let Ok(body) = kept.write(alloc) else {
         return Kept::NoRoom;
     };
-    keep(redo, memory, body.as_slice(), ranges)
+    keep(redo, memory, body.as_slice(), ranges, stop)
 }
 
 /// Runs a part that was tested.
@@ -167,28 +248,38 @@ fn run<D: Disk>(
     tid: Tid,
     part: &Part,
     reads: Reads,
-) -> NodeReply
+    stop: Option<StopAt>,
+) -> Served
     requires up { IsUp D.state redo.old memory.old }
     requires tid { IsTid tid }
     requires part { IsPart part.now }
     requires yes { node_answer memory.old (Request.Exec tid part.now) ≡ record { reply = NodeReply.Done reads; added = if has_write part.now then Some (Record.Executed tid part.now) else None } }
-    ensures handled { Handled D.state D.faults redo.old memory.old (Request.Exec tid part.now) result redo.new memory.new }
+    ensures handled { Handled D.state D.faults redo.old memory.old (Request.Exec tid part.now) stop result redo.new memory.new }
     ensures continues { Continues D.state D.faults redo.old redo.new }
+    ensures moments { LeavesAt D.state redo.old.disk redo.new.disk (IsWithOrWithout redo.old.node redo.old.nodes memory.old.records.items (node_answer memory.old (Request.Exec tid part.now)).added) }
     ensures same { SameNode memory.old memory.new }
 {
     if !writes(part.as_slice()) {
-        return NodeReply::Done { reads };
+        return Served::Replied {
+            reply: NodeReply::Done { reads },
+        };
     }
     let Ok(copy) = part.try_copy(alloc) else {
-        return NodeReply::NoMemory;
+        return Served::Replied {
+            reply: NodeReply::NoMemory,
+        };
     };
     let executed = Record::Executed { tid, part: copy };
-    match log(alloc, redo, memory, &executed, 0) {
-        Kept::NoRoom => NodeReply::NoMemory,
-        Kept::Stopped => NodeReply::Stopped,
+    match log(alloc, redo, memory, &executed, 0, stop) {
+        Kept::NoRoom => Served::Replied {
+            reply: NodeReply::NoMemory,
+        },
+        Kept::Stopped => Served::Stopped { left: executed },
         Kept::Logged => {
             memory.add_execution(executed, tid, part);
-            NodeReply::Done { reads }
+            Served::Replied {
+                reply: NodeReply::Done { reads },
+            }
         }
     }
 }
@@ -200,26 +291,34 @@ pub fn exec<D: Disk>(
     memory: &mut Memory,
     tid: Tid,
     part: &Part,
-) -> NodeReply
+    stop: Option<StopAt>,
+) -> Served
     requires up { IsUp D.state redo.old memory.old }
     requires tid { IsTid tid }
     requires part { IsPart part.now }
-    ensures handled { Handled D.state D.faults redo.old memory.old (Request.Exec tid part.now) result redo.new memory.new }
+    ensures handled { Handled D.state D.faults redo.old memory.old (Request.Exec tid part.now) stop result redo.new memory.new }
     ensures continues { Continues D.state D.faults redo.old redo.new }
+    ensures moments { LeavesAt D.state redo.old.disk redo.new.disk (IsWithOrWithout redo.old.node redo.old.nodes memory.old.records.items (node_answer memory.old (Request.Exec tid part.now)).added) }
     ensures same { SameNode memory.old memory.new }
 {
     match test_alone(alloc, &memory.space, &memory.locks, tid, part.as_slice()) {
-        Err(_) => NodeReply::NoMemory,
-        Ok(Tested::Locked { held }) => NodeReply::BadLock {
-            start: held.range.start,
-            length: held.range.length,
-            holder: held.holder,
+        Err(_) => Served::Replied {
+            reply: NodeReply::NoMemory,
         },
-        Ok(Tested::Differs { differs }) => NodeReply::BadCompare {
-            item: differs.item,
-            found: differs.found,
+        Ok(Tested::Locked { held }) => Served::Replied {
+            reply: NodeReply::BadLock {
+                start: held.range.start,
+                length: held.range.length,
+                holder: held.holder,
+            },
         },
-        Ok(Tested::Yes { reads }) => run(alloc, redo, memory, tid, part, reads),
+        Ok(Tested::Differs { differs }) => Served::Replied {
+            reply: NodeReply::BadCompare {
+                item: differs.item,
+                found: differs.found,
+            },
+        },
+        Ok(Tested::Yes { reads }) => run(alloc, redo, memory, tid, part, reads, stop),
     }
 }
 
@@ -232,25 +331,33 @@ fn vote<D: Disk>(
     participants: &Nodes,
     part: &Part,
     reads: Reads,
-) -> NodeReply
+    stop: Option<StopAt>,
+) -> Served
     requires up { IsUp D.state redo.old memory.old }
     requires tid { IsTid tid }
     requires participants { AreParticipants participants.now }
     requires part { IsPart part.now }
     requires free { clash_of (held_parts (reverse memory.old.records.items)) tid part.now ≡ None }
     requires yes { node_answer memory.old (Request.Prepare tid participants.now part.now) ≡ record { reply = NodeReply.Done reads; added = Some (Record.Voted tid participants.now part.now) } }
-    ensures handled { Handled D.state D.faults redo.old memory.old (Request.Prepare tid participants.now part.now) result redo.new memory.new }
+    ensures handled { Handled D.state D.faults redo.old memory.old (Request.Prepare tid participants.now part.now) stop result redo.new memory.new }
     ensures continues { Continues D.state D.faults redo.old redo.new }
+    ensures moments { LeavesAt D.state redo.old.disk redo.new.disk (IsWithOrWithout redo.old.node redo.old.nodes memory.old.records.items (node_answer memory.old (Request.Prepare tid participants.now part.now)).added) }
     ensures same { SameNode memory.old memory.new }
 {
     let Ok(ranges) = ranges_of(alloc, part.as_slice()) else {
-        return NodeReply::NoMemory;
+        return Served::Replied {
+            reply: NodeReply::NoMemory,
+        };
     };
     let Ok(nodes) = participants.try_copy(alloc) else {
-        return NodeReply::NoMemory;
+        return Served::Replied {
+            reply: NodeReply::NoMemory,
+        };
     };
     let Ok(copy) = part.try_copy(alloc) else {
-        return NodeReply::NoMemory;
+        return Served::Replied {
+            reply: NodeReply::NoMemory,
+        };
     };
     let count = ranges.shared.len() + ranges.alone.len();
     let vote = Record::Voted {
@@ -258,12 +365,16 @@ fn vote<D: Disk>(
         participants: nodes,
         part: copy,
     };
-    match log(alloc, redo, memory, &vote, count) {
-        Kept::NoRoom => NodeReply::NoMemory,
-        Kept::Stopped => NodeReply::Stopped,
+    match log(alloc, redo, memory, &vote, count, stop) {
+        Kept::NoRoom => Served::Replied {
+            reply: NodeReply::NoMemory,
+        },
+        Kept::Stopped => Served::Stopped { left: vote },
         Kept::Logged => {
             memory.add_vote(vote, tid, participants, part, &ranges);
-            NodeReply::Done { reads }
+            Served::Replied {
+                reply: NodeReply::Done { reads },
+            }
         }
     }
 }
@@ -276,30 +387,42 @@ pub fn prepare<D: Disk>(
     tid: Tid,
     participants: &Nodes,
     part: &Part,
-) -> NodeReply
+    stop: Option<StopAt>,
+) -> Served
     requires up { IsUp D.state redo.old memory.old }
     requires tid { IsTid tid }
     requires participants { AreParticipants participants.now }
     requires part { IsPart part.now }
-    ensures handled { Handled D.state D.faults redo.old memory.old (Request.Prepare tid participants.now part.now) result redo.new memory.new }
+    ensures handled { Handled D.state D.faults redo.old memory.old (Request.Prepare tid participants.now part.now) stop result redo.new memory.new }
     ensures continues { Continues D.state D.faults redo.old redo.new }
+    ensures moments { LeavesAt D.state redo.old.disk redo.new.disk (IsWithOrWithout redo.old.node redo.old.nodes memory.old.records.items (node_answer memory.old (Request.Prepare tid participants.now part.now)).added) }
     ensures same { SameNode memory.old memory.new }
 {
     if is_in(&memory.forced, tid) {
-        return NodeReply::BadForced;
+        return Served::Replied {
+            reply: NodeReply::BadForced,
+        };
     }
     match test_alone(alloc, &memory.space, &memory.locks, tid, part.as_slice()) {
-        Err(_) => NodeReply::NoMemory,
-        Ok(Tested::Locked { held }) => NodeReply::BadLock {
-            start: held.range.start,
-            length: held.range.length,
-            holder: held.holder,
+        Err(_) => Served::Replied {
+            reply: NodeReply::NoMemory,
         },
-        Ok(Tested::Differs { differs }) => NodeReply::BadCompare {
-            item: differs.item,
-            found: differs.found,
+        Ok(Tested::Locked { held }) => Served::Replied {
+            reply: NodeReply::BadLock {
+                start: held.range.start,
+                length: held.range.length,
+                holder: held.holder,
+            },
         },
-        Ok(Tested::Yes { reads }) => { vote(alloc, redo, memory, tid, participants, part, reads) }
+        Ok(Tested::Differs { differs }) => Served::Replied {
+            reply: NodeReply::BadCompare {
+                item: differs.item,
+                found: differs.found,
+            },
+        },
+        Ok(Tested::Yes { reads }) => {
+            vote(alloc, redo, memory, tid, participants, part, reads, stop)
+        }
     }
 }
 
@@ -309,11 +432,14 @@ pub fn serve<D: Disk>(
     redo: &mut Redo<D>,
     memory: &mut Memory,
     request: &Request,
-) -> NodeReply
+    stop: Option<StopAt>,
+) -> Served
     requires up { IsUp D.state redo.old memory.old }
     requires sound { IsSoundRequest request.now }
-    ensures handled { Handled D.state D.faults redo.old memory.old request.now result redo.new memory.new }
+    ensures handled { Handled D.state D.faults redo.old memory.old request.now stop result redo.new memory.new }
+    ensures decides { IsDecide request.now → result ≢ Replied NodeReply.NoMemory }
     ensures continues { Continues D.state D.faults redo.old redo.new }
+    ensures moments { LeavesAt D.state redo.old.disk redo.new.disk (IsWithOrWithout redo.old.node redo.old.nodes memory.old.records.items (node_answer memory.old (request.now)).added) }
     ensures same { SameNode memory.old memory.new }
 {
     match request {
@@ -321,13 +447,17 @@ pub fn serve<D: Disk>(
             tid,
             participants,
             part,
-        } => prepare(alloc, redo, memory, *tid, participants, part),
-        Request::Exec { tid, part } => exec(alloc, redo, memory, *tid, part),
-        Request::Decide { tid, yes } => decide(redo, memory, *tid, *yes),
-        Request::Force { tid } => force(redo, memory, *tid),
+        } => prepare(alloc, redo, memory, *tid, participants, part, stop),
+        Request::Exec { tid, part } => exec(alloc, redo, memory, *tid, part, stop),
+        Request::Decide { tid, yes } => decide(redo, memory, *tid, *yes, stop),
+        Request::Force { tid } => force(redo, memory, *tid, stop),
         Request::List => match doubts(alloc, &memory.records) {
-            Ok(doubts) => NodeReply::Listed { doubts },
-            Err(_) => NodeReply::NoMemory,
+            Ok(doubts) => Served::Replied {
+                reply: NodeReply::Listed { doubts },
+            },
+            Err(_) => Served::Replied {
+                reply: NodeReply::NoMemory,
+            },
         },
         Request::Peek { start, length } => match copy_of(
             alloc,
@@ -335,8 +465,12 @@ pub fn serve<D: Disk>(
             *start,
             *length as usize,
         ) {
-            Ok(bytes) => NodeReply::Peeked { bytes },
-            Err(_) => NodeReply::NoMemory,
+            Ok(bytes) => Served::Replied {
+                reply: NodeReply::Peeked { bytes },
+            },
+            Err(_) => Served::Replied {
+                reply: NodeReply::NoMemory,
+            },
         },
     }
 }

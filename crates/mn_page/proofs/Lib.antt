@@ -11,3 +11,7 @@ pub mod Split
 pub mod Copy
 pub mod Base
 pub mod Examples
+pub mod Scanned
+pub mod PageText
+pub mod Lent
+pub mod EntryText

@@ -243,7 +243,7 @@ same_parent None (Some v) is iq e = absurd (omega arith)
 same_parent (Some v) None is iq e = absurd (omega arith)
 same_parent (Some v) (Some w) is iq e = ap (λ k. let x : VersionNo = record { 0 = k } in Some x) e
 
-same_catentry : (p q : CatEntry) → p.seq ≡ q.seq → p.frozen ≡ q.frozen → p.parent ≡ q.parent → p.root ≡ q.root → p.name ≡ q.name → p ≡ q
+pub same_catentry : (p q : CatEntry) → p.seq ≡ q.seq → p.frozen ≡ q.frozen → p.parent ≡ q.parent → p.root ≡ q.root → p.name ≡ q.name → p ≡ q
 same_catentry p q e0 e1 e2 e3 e4 =
     ap (λ (x : ℕ). let r : CatEntry = record { seq = x; frozen = p.frozen; parent = p.parent; root = p.root; name = p.name } in r) e0
     ∙ (ap (λ (x : Bool). let r : CatEntry = record { seq = q.seq; frozen = x; parent = p.parent; root = p.root; name = p.name } in r) e1

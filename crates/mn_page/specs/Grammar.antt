@@ -110,6 +110,14 @@ pub record IsPage (p : Page) : Type 0 where
 abbrev pub SpellsPage : List ℕ → Page → Type 0
 SpellsPage bytes p = IsPage p × (bytes ≡ page_bytes p)
 
+-- a free slot is zeros
+abbrev pub IsFree : List ℕ → Type 0
+IsFree bytes = bytes ≡ replicate slot_size 0
+
+-- the bytes of a slot are neither those of a free one nor a page's
+abbrev pub SpellsNoPage : List ℕ → Type 0
+SpellsNoPage bytes = (IsFree bytes → ⊥) × ((p : Page) → SpellsPage bytes p → ⊥)
+
 -- Entries
 
 -- 1 writable, 2 frozen
@@ -138,3 +146,11 @@ pub record IsEntry (e : CatEntry) : Type 0 where
 -- the bytes of a place of the catalog spell this entry
 abbrev pub SpellsEntry : List ℕ → CatEntry → Type 0
 SpellsEntry bytes e = IsEntry e × (bytes ≡ entry_bytes e)
+
+-- an unused place is zeros
+abbrev pub IsUnused : List ℕ → Type 0
+IsUnused bytes = bytes ≡ replicate entry_size 0
+
+-- the bytes of a place are neither those of an unused one nor an entry's
+abbrev pub SpellsNoEntry : List ℕ → Type 0
+SpellsNoEntry bytes = (IsUnused bytes → ⊥) × ((e : CatEntry) → SpellsEntry bytes e → ⊥)

@@ -4,3 +4,5 @@ pub mod Forest
 pub mod Holds
 pub mod Laws
 pub mod Overlay
+pub mod Written
+pub mod Reading

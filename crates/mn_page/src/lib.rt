@@ -1,12 +1,29 @@
 //! Pages of the version trees and entries of the catalog, and when the spaces of the memory nodes hold a store.
 #![tactic(auto)]
 
+mod body_scan;
 mod entry;
+mod entry_read;
+mod entry_write;
+mod error;
+mod fault;
+mod key_room;
 mod laws;
 mod page;
+mod page_read;
+mod page_ref;
+mod page_scan;
+mod page_write;
 mod pages;
+mod scan;
+mod write;
 
 pub use entry::{CatEntry, Entries};
+pub use error::{BadPage, PageError};
 pub use laws::{base_holds_empty_store, leaf_tells, leaf_tells_get};
 pub use page::{Body, Branches, Child, Page};
+pub use page_ref::PageRef;
 pub use pages::Pages;
+
+#[cfg(test)]
+mod tests;

@@ -1,5 +1,5 @@
 ghost use Rattle.std.specs.Prelude.{◌≡◌, ◌<◌, ◌&&◌, not, length, IfOk, IfNone, OnOk, OnErr, IsSomeAnd, slice_get, option_map, option_and_then};
-ghost use Rattle.mn_base.specs.Store.{applied, empty_store, heads_of, listed, listing_of, child_refusal, max_versions};
+ghost use Rattle.mn_base.specs.Store.{applied, empty_store, main_store, heads_of, listed, listing_of, child_refusal, max_versions};
 ghost use Rattle.mn_plain.specs.Run.{Does, is_unmet_reply, pairs_after};
 ghost use Rattle.mn_plain.specs.Digest.{pairs_digest};
 ghost use Rattle.mn_plain.specs.Kept.{version_of, store_of, IsPlace, SetsPairs, Freezes, AddsChild};
@@ -114,6 +114,14 @@ impl Store {
     pub fn new(alloc: Global) -> Result<Self, NoMemory>
         ensures { IfOk result (λ store. store ≡ empty_store) }
     {
+        Store::with_main(alloc, Pairs::from_vec(Vec::new(alloc)))
+    }
+
+    /// The store whose one version is the writable `main` with these pairs, which stand in order of key.
+    /// NoMemory: there was no memory for it.
+    pub fn with_main(alloc: Global, pairs: Pairs) -> Result<Self, NoMemory>
+        ensures { IfOk result (λ store. store ≡ main_store pairs) }
+    {
         let Ok(name) = Name::new(alloc, b"main") else {
             return Err(NoMemory);
         };
@@ -122,7 +130,7 @@ impl Store {
             name,
             parent: None,
             frozen: false,
-            pairs: Pairs::from_vec(Vec::new(alloc)),
+            pairs,
         })?;
         Ok(Store { versions })
     }

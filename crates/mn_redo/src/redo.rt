@@ -1,4 +1,4 @@
-ghost use Rattle.std.specs.Prelude.{◌≡◌, ◌≢◌, ◌≤◌, ◌<◌, ◌^◌, ◌+◌, ◌++◌, ◌∷◌, [], ℕ, List, length, get_or, IfOk, IfErr, OnOk, OnErr, IsOk, IsTrue, ◌↔◌};
+ghost use Rattle.std.specs.Prelude.{◌≡◌, ◌≢◌, ◌≤◌, ◌<◌, ◌^◌, ◌+◌, ◌++◌, ◌∷◌, [], ℕ, List, length, get_or, IfOk, IfErr, IsErrOf, OnOk, OnErr, IsOk, IsTrue, ◌↔◌};
 ghost use Rattle.mn_io.specs.DiskModel.{IsStable, LeavesOnly, NoneNew, Stays, WritesNothing};
 ghost use Rattle.mn_io.specs.Faults.{HasCause, Rose};
 ghost use Rattle.mn_redo.specs.Grammar.{header, IsBeforeOrAfter, IsDamaged, IsFresh, IsLog, IsStaged, Stands, places};
@@ -101,6 +101,42 @@ impl<D: Disk> Redo<D> {
             }),
             Err(cause) => Err(OpenFailed { disk, cause }),
         }
+    }
+
+    /// Reads the log again from its disk, as `open` does, whatever the last call left. It writes nothing.
+    ///
+    /// The causes are those of `open`. After an error only `reopen` and `close` may be called.
+    pub fn reopen(&mut self, alloc: Global) -> Result<(), OpenCause>
+        // The list is that of the bytes that the disk had; a fresh disk has none.
+        ensures read { (D.state self.old.disk).honest → OnOk result (Stands self.old.node self.old.nodes (D.state self.old.disk).content self.new.bodies) }
+        ensures stands { (D.state self.old.disk).honest → OnOk result (StandsFor (D.state self.new.disk) self.old.node self.old.nodes self.new.bodies) }
+        ensures none { OnOk result (self.new.phase ≡ Phase.Fresh → self.new.bodies ≡ []) }
+        ensures going { OnOk result (self.new.phase ≢ Phase.Closing) }
+        ensures closing { OnErr result (self.new.phase ≡ Phase.Closing) }
+        ensures node { self.new.node ≡ self.old.node }
+        ensures nodes { self.new.nodes ≡ self.old.nodes }
+        ensures damaged { (D.state self.old.disk).honest → (at : ℕ) → IsErrOf result (causes.Damaged at) → IsDamaged self.old.node self.old.nodes (D.state self.old.disk).content at }
+        ensures fault { IsErrOf result causes.Fault → Rose (D.faults self.old.disk) (D.faults self.new.disk) }
+        ensures later { D.faults self.old.disk ≤ D.faults self.new.disk }
+
+        // Nothing was written.
+        ensures unwritten { (D.state self.old.disk).honest → WritesNothing (D.state self.old.disk) (D.state self.new.disk) }
+        ensures images { (D.state self.old.disk).honest → NoneNew (D.state self.old.disk) (D.state self.new.disk) }
+        ensures honest { (D.state self.old.disk).honest → (D.state self.new.disk).honest }
+        ensures no_better { (D.state self.new.disk).honest → (D.state self.old.disk).honest }
+    {
+        self.phase = Phase::Closing;
+        let found = prepare(alloc, &mut self.log.disk, self.log.node, self.log.nodes)?;
+        self.log.bytes = found.bytes;
+        self.log.gates = found.gates;
+        self.log.spare_bodies = 0;
+        self.log.spare_bytes = 0;
+        self.phase = if found.is_fresh {
+            Phase::Fresh
+        } else {
+            Phase::Started
+        };
+        Ok(())
     }
 
     /// Gives a fresh disk its header; of a disk that has one it calls nothing. `Fault` comes only where the disk's count of faults rose; after
@@ -220,6 +256,20 @@ impl<D: Disk> Redo<D> {
             body,
         )?;
         Ok(())
+    }
+
+    /// The number of the node whose log it is.
+    pub fn node(&self) -> u8
+        ensures { result ≡ self.now.node }
+    {
+        self.log.node
+    }
+
+    /// How many nodes there are.
+    pub fn nodes(&self) -> u8
+        ensures { result ≡ self.now.nodes }
+    {
+        self.log.nodes
     }
 
     /// How many bodies there are.

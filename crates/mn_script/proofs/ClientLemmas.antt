@@ -1,13 +1,14 @@
 -- Clients by name and by number.
-use Rattle.std.proofs.Common.{◌≡◌, ◌<◌, ◌≤◌, ℕ, zero, suc, ◌+◌, ◌-◌, Bool, true, false, ◌&&◌, List, [], ◌∷◌, ◌++◌, Some, None, refl, ap, sym, ◌∙◌, bytes_eq, length, get_or, set, add-one, subst, length-append, arith}
+use Rattle.std.proofs.Common.{◌≡◌, ◌<◌, ◌≤◌, ℕ, zero, suc, ◌+◌, ◌-◌, true, false, ◌&&◌, List, [], ◌∷◌, ◌++◌, Some, None, refl, ap, sym, ◌∙◌, bytes_eq, length, get_or, set, add-one, subst, length-append, arith}
 use Rattle.std.specs.Prelude.{option_map, nat_lt, nat_le}
-use Rattle.std.proofs.lemmas.Bool.Decides.{nat_tests}
 use Rattle.mn_script.specs.declared.elements.ScriptClient.{ScriptClient}
 use Rattle.mn_base.specs.declared.op.Op.{Op}
 use Rattle.mn_script.specs.declared.draft.Phase.{Phase}
 use Rattle.mn_script.specs.declared.draft.Phase.TheVariants.{Start, Head, Begun, Section, Points, Schedule}
 use Rattle.mn_script.specs.Lines.{client_named, ops_of, AreFew}
-use Rattle.mn_script.specs.Reading.{Draft, with_op, HasClient, fits_op, steps_in, limit_in}
+use Rattle.mn_script.specs.Reading.{Draft, with_op, HasClient, fits_op}
+use Rattle.mn_script.specs.Script.{steps_in, limit_in}
+use Rattle.mn_script.proofs.Parts.{both, less, at_most}
 
 -- the clients so far have other names
 abbrev pub Passes : List ScriptClient → List ℕ → ℕ → Type 0
@@ -83,16 +84,6 @@ has_client_with_op Begun cs op has = tt
 has_client_with_op Section cs op has = let same = length-with_op cs op in omega arith
 has_client_with_op Points cs op has = tt
 has_client_with_op Schedule cs op has = tt
-
-both : (a b : Bool) → (a && b) ≡ true → (a ≡ true) × (b ≡ true)
-both true b e = (refl, e)
-both false b e = absurd cc
-
-less : (m n : ℕ) → nat_lt m n ≡ true → m < n
-less m n e = grind (arith, nat_tests)
-
-at_most : (m n : ℕ) → nat_le m n ≡ true → m ≤ n
-at_most m n e = grind (arith, nat_tests)
 
 -- what room for an operation means
 pub room_for : (d : Draft) (op : Op) → fits_op d op ≡ true → (ops_of d.clients (length d.clients - 1) < 2000) × (d.ops < 8000) × (d.steps + steps_in op ≤ 20000) × (d.limits + limit_in op ≤ 100000)

@@ -1,4 +1,12 @@
 pub mod LineLemmas
+pub mod Parts
+pub mod Kept
+pub mod Drafts
+pub mod Texts
+pub mod Spelled
+pub mod OpLines
+pub mod TargetLines
+pub mod Written
 pub mod ClientLemmas
 pub mod StringLemmas
 pub mod StepLemmas

@@ -14,8 +14,8 @@ use Rattle.mn_script.specs.declared.elements.Point.{Point}
 use Rattle.mn_script.specs.declared.elements.Point.TheVariants.{Kill, Stop}
 use Rattle.mn_script.specs.declared.elements.Act.{Act}
 use Rattle.mn_script.specs.declared.elements.Act.TheVariants as acts
-use Rattle.mn_script.specs.declared.script.Script.{Script}
 use Rattle.mn_script.specs.Words.{Text}
+use Rattle.mn_script.specs.Script.{Script}
 
 -- a text and the end of its line
 abbrev pub line : Text → Text
@@ -87,12 +87,19 @@ act_text clients (acts.Restart node) = codes "restart" ++ spaced_number node.0
 act_text clients (acts.Rstep recoverer client) = codes "rstep" ++ (spaced_number recoverer ++ spaced (name_of clients client.0))
 act_text clients (acts.Recover recoverer client) = codes "recover" ++ (spaced_number recoverer ++ spaced (name_of clients client.0))
 
+-- how many recovery coordinators there are, unless there are none
+abbrev pub recoverers_text : ℕ → Text
+recoverers_text zero = []
+recoverers_text (suc n) = line (codes "recoverers" ++ spaced_number (suc n))
+
 -- how many nodes and recovery coordinators there are
 abbrev pub head_text : ℕ → ℕ → Text
-head_text nodes recoverers = line (codes "nodes" ++ spaced_number nodes) ++ line (codes "recoverers" ++ spaced_number recoverers)
+head_text nodes recoverers = line (codes "nodes" ++ spaced_number nodes) ++ recoverers_text recoverers
 
+-- the acts behind their line, unless there are none
 abbrev pub schedule_text : List ScriptClient → List Act → Text
-schedule_text clients schedule = line (codes "schedule") ++ flat_map (λ a. line (act_text clients a)) schedule
+schedule_text clients [] = []
+schedule_text clients (act ∷ acts) = line (codes "schedule") ++ flat_map (λ a. line (act_text clients a)) (act ∷ acts)
 
 -- one spelling of a script
 abbrev pub script_text : Script → Text

@@ -1,12 +1,10 @@
 -- Reading a script: line after line, up to the first at which the text can't go on to be one.
 use Rattle.std.specs.Prelude.{◌≡◌, ◌≤◌, ℕ, ◌+◌, ◌-◌, Bool, true, false, ◌&&◌, not, List, [], ◌∷◌, ◌++◌, ◌==◌, nat_le, nat_lt, length, min, codes, Option, None, is_some, Result, Ok, Err, bytes_eq, if◌then◌else◌}
 use Rattle.mn_base.specs.declared.op.Op.{Op}
-use Rattle.mn_base.specs.declared.op.Op.TheVariants.{Tx, Scan}
 use Rattle.mn_script.specs.declared.elements.ScriptClient.{ScriptClient}
 use Rattle.mn_script.specs.declared.elements.Mark.{Mark}
 use Rattle.mn_script.specs.declared.elements.Point.{Point}
 use Rattle.mn_script.specs.declared.elements.Act.{Act}
-use Rattle.mn_script.specs.declared.script.Script.{Script}
 use Rattle.mn_script.specs.declared.draft.Phase.{Phase}
 use Rattle.mn_script.specs.declared.draft.Phase.TheVariants.{Start, Head, Begun, Section, Points, Schedule}
 use Rattle.mn_script.specs.declared.error.ScriptError.{ScriptError}
@@ -14,6 +12,7 @@ use Rattle.mn_script.specs.declared.error.ScriptError.TheVariants.{Refused, NoMe
 use Rattle.mn_script.specs.declared.error.LineError.{LineError}
 use Rattle.mn_script.specs.declared.error.LineError.TheVariants as line_error
 use Rattle.mn_script.specs.Words.{Text, word_at, next_at, column_at, ◌>>=◌, told_at, end_at, name_word}
+use Rattle.mn_script.specs.Script.{Script, IsScript, steps_in, limit_in, all_ops, all_steps, all_limits}
 use Rattle.mn_script.specs.Lines.{number_at, op_at, mark_at, client_named, ops_of, kill_point, stop_point, act_at}
 
 -- what the lines so far say, and how many operations, steps and pairs of scans that makes
@@ -30,14 +29,6 @@ pub record Draft : Type 0 where
 
 abbrev pub empty_draft : Draft
 empty_draft = record { phase = Start; nodes = 0; recoverers = 0; clients = []; points = []; schedule = []; ops = 0; steps = 0; limits = 0 }
-
-abbrev pub steps_in : Op → ℕ
-steps_in (Tx version steps) = length steps
-steps_in op = 0
-
-abbrev pub limit_in : Op → ℕ
-limit_in (Scan version low high limit) = limit
-limit_in op = 0
 
 -- the clients with one more operation of the last
 abbrev pub with_op : List ScriptClient → Op → List ScriptClient
@@ -117,6 +108,25 @@ abbrev pub HasClient : Phase → List ScriptClient → Type 0
 HasClient Section clients = 1 ≤ length clients
 HasClient phase clients = Unit {0}
 
+-- the script that a draft makes
+abbrev pub script_in : Draft → Script
+script_in d = record { nodes = d.nodes; recoverers = d.recoverers; clients = d.clients; points = d.points; schedule = d.schedule }
+
+-- behind the nodes a draft meets the rules of a script, and what can't have come yet is empty
+abbrev pub AreParts : Phase → Draft → Type 0
+AreParts Start d = d ≡ empty_draft
+AreParts Points d = IsScript (script_in d) × (d.schedule ≡ [])
+AreParts Schedule d = IsScript (script_in d)
+AreParts phase d = IsScript (script_in d) × (d.points ≡ []) × (d.schedule ≡ [])
+
+-- what the lines so far say meets the rules, and the counts are the clients'
+pub record IsDraft (d : Draft) : Type 0 where
+  pub parts : AreParts d.phase d
+  pub section : HasClient d.phase d.clients
+  pub ops : d.ops ≡ all_ops d.clients
+  pub steps : d.steps ≡ all_steps d.clients
+  pub limits : d.limits ≡ all_limits d.clients
+
 -- a line between the nodes and the schedule
 unfoldable pub middle_line : Draft → Text → Result Draft ℕ
 middle_line d line =
@@ -157,7 +167,7 @@ lines_of (b ∷ bs) = if b == 10 then [] ∷ lines_of bs else lengthened b (line
 -- the end of a script, behind so many lines: the nodes have been told
 abbrev pub ended : Phase → Draft → ℕ → Result Script ScriptError
 ended Start d lines = Err (Refused (lines + 1) 1)
-ended phase d lines = Ok (record { nodes = d.nodes; recoverers = d.recoverers; clients = d.clients; points = d.points; schedule = d.schedule })
+ended phase d lines = Ok (script_in d)
 
 -- the lines from the one behind so many on, after this draft; a column is at most the line's length plus 1
 abbrev pub read_from : Draft → ℕ → List Text → Result Script ScriptError

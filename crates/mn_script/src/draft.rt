@@ -1,6 +1,7 @@
 ghost use Rattle.std.specs.Prelude.{◌≡◌, ◌≤◌, ◌<◌, ◌+◌, ◌-◌, ◌^◌, length, Option, Some, option_map, IfSome, OnOk, OnErr, IfOk, IsOkUnless, not, is_some, bytes_eq, codes};
 ghost use Rattle.mn_script.specs.Words.{word_at, told_at, Gives, GivesPart};
-ghost use Rattle.mn_script.specs.Reading.{empty_draft, steps_in, limit_in, with_op, fits_op, add_op, op_line, add_client, new_name, client_line, add_point, add_act, act_line, kill_line, stop_line, nodes_line, recoverers_line, schedule_line, is_head, is_section, is_points, middle_line, line_in, is_passed, line_at, ended, GivesDraft, IsRead};
+ghost use Rattle.mn_script.specs.Script.{steps_in, limit_in};
+ghost use Rattle.mn_script.specs.Reading.{empty_draft, with_op, fits_op, add_op, op_line, add_client, new_name, client_line, add_point, add_act, act_line, kill_line, stop_line, nodes_line, recoverers_line, schedule_line, is_head, is_section, is_points, middle_line, line_in, is_passed, line_at, ended, IsDraft, GivesDraft, IsRead};
 
 use crate::acts::act_of;
 use crate::clients::{count_of, mark, place_of};
@@ -302,7 +303,8 @@ impl Draft {
 
     /// The end of a text of so many lines.
     pub fn finish(self, lines: u32) -> Result<Script, ScriptError>
-        requires { lines < 2 ^ 32 - 1 }
+        requires few { lines < 2 ^ 32 - 1 }
+        requires right { IsDraft self }
         ensures { IsRead result (ended self.phase self lines) }
     {
         if self.phase == Phase::Start {
@@ -311,12 +313,12 @@ impl Draft {
                 column: 1,
             });
         }
-        Ok(Script {
-            nodes: self.nodes,
-            recoverers: self.recoverers,
-            clients: Clients::from_vec(self.clients),
-            points: Points::from_vec(self.points),
-            schedule: Acts::from_vec(self.schedule),
-        })
+        Ok(Script::of(
+            self.nodes,
+            self.recoverers,
+            Clients::from_vec(self.clients),
+            Points::from_vec(self.points),
+            Acts::from_vec(self.schedule),
+        ))
     }
 }

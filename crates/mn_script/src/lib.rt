@@ -6,6 +6,7 @@ mod clients;
 mod draft;
 mod elements;
 mod error;
+mod laws;
 mod lists;
 mod ops;
 mod points;
@@ -20,7 +21,8 @@ mod write;
 
 pub use elements::{Act, Mark, Point, ScriptClient};
 pub use error::ScriptError;
+pub use laws::{read_is_right, written_is_read};
 pub use lists::{Acts, Clients, Ops, Points};
-pub use read::read_script;
+pub use read::{read_script, split_line};
 pub use script::Script;
 pub use write::write_script;

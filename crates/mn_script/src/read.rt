@@ -11,7 +11,7 @@ use std::alloc::Global;
 pub const MAX_TEXT: usize = 4_194_304;
 
 /// The first line of a text, and what is behind its LF.
-fn split_line(text: &[u8]) -> (&[u8], &[u8])
+pub fn split_line(text: &[u8]) -> (&[u8], &[u8])
     requires { 0 < length text.now }
     ensures lines { lines_of text.now ≡ result.0.now ∷ lines_of result.1.now }
     ensures less { length result.1.now < length text.now }

@@ -222,12 +222,38 @@ fn limits_are_met_at_both_sides(rt: HostRuntime) -> Result<(), Fail> {
     Ok(())
 }
 
+/// Sections with all the operations that they may have.
+const FULL: &[&[u8]] = &[b"client a\n", b"client b\n", b"client c\n", b"client d\n"];
+
+/// A text of these sections, each of 2,000 operations.
+fn full(alloc: Global) -> Result<Vec<u8>, NoMemory> {
+    let mut text = b"nodes 1\n".to_vec(alloc)?;
+    for section in FULL {
+        text.extend_from_slice(section)?;
+        text = repeated(alloc, &text, b"versions\n", 2000)?;
+    }
+    Ok(text)
+}
+
+#[test]
+fn operations_of_all_clients_are_counted(rt: HostRuntime) -> Result<(), Fail> {
+    let within = joined(rt.alloc(), &full(rt.alloc())?, b"client e\n")?;
+    assert_eq!(rt; place(rt.alloc(), &within)?, None);
+    let beyond = joined(rt.alloc(), &within, b"versions\n")?;
+    assert_eq!(rt; place(rt.alloc(), &beyond)?, Some((8007, 1)));
+    Ok(())
+}
+
 /// A text, and how the script that it spells is written.
 const SPELLINGS: &[(&[u8], &[u8])] = &[
-    (b"# x\nnodes 1", b"nodes 1\nrecoverers 0\nschedule\n"),
+    (b"# x\nnodes 1\nrecoverers 0\nschedule", b"nodes 1\n"),
+    (
+        b"nodes 1\nrecoverers 2\nclient a\nschedule\nrstep 2 a",
+        b"nodes 1\nrecoverers 2\nclient a\nschedule\nrstep 2 a\n",
+    ),
     (
         b"nodes 2\nclient a last\nput main %20%25 %\ntx m get k ; check k is v ; check k absent ; del k\nscan m % h 7\nsnapshot m n\nbranch m o\nversions\nkill a 1 votes 8\nstop 1 a 2 half\nschedule\nrestart 1\ngo a",
-        b"nodes 2\nrecoverers 0\nclient a last\ntx main put %20%25 %\ntx m get k ; check k is v ; check k absent ; del k\nscan m % h 7\nsnapshot m n\nbranch m o\nversions\nkill a 1 votes 8\nstop 1 a 2 half\nschedule\nrestart 1\ngo a\n",
+        b"nodes 2\nclient a last\ntx main put %20%25 %\ntx m get k ; check k is v ; check k absent ; del k\nscan m % h 7\nsnapshot m n\nbranch m o\nversions\nkill a 1 votes 8\nstop 1 a 2 half\nschedule\nrestart 1\ngo a\n",
     ),
 ];
 

@@ -1,6 +1,8 @@
-ghost use Rattle.std.specs.Prelude.{◌≡◌, ◌++◌, flat_map, codes, IfOk, OnOk};
+ghost use Rattle.std.specs.Prelude.{◌≡◌, ◌≤◌, ◌++◌, length, flat_map, codes, Ok, IfOk, OnOk};
 ghost use Rattle.mn_report.specs.Spelling.{word_of, spaced, spaced_number};
-ghost use Rattle.mn_script.specs.Grammar.{line, want_text, step_text, more_text, steps_text, bound_text, op_text, mark_text, client_text, name_of, stop_text, point_text, act_text, head_text, schedule_text, script_text};
+ghost use Rattle.mn_script.specs.Script.{IsScript};
+ghost use Rattle.mn_script.specs.Reading.{script_of};
+ghost use Rattle.mn_script.specs.Grammar.{line, want_text, step_text, more_text, steps_text, bound_text, op_text, mark_text, client_text, name_of, stop_text, point_text, act_text, recoverers_text, head_text, schedule_text, script_text};
 
 use crate::elements::{Act, Mark, Point, ScriptClient};
 use crate::script::Script;
@@ -327,11 +329,20 @@ fn push_number_line(
     Ok(())
 }
 
+fn push_recoverers(alloc: Global, out: &mut Vec<u8>, recoverers: u8) -> Result<(), AllocError>
+    ensures { OnOk result (out.new.items ≡ out.old.items ++ recoverers_text recoverers) }
+{
+    if recoverers == 0 {
+        return Ok(());
+    }
+    push_number_line(alloc, out, b"recoverers", recoverers)
+}
+
 fn push_head(alloc: Global, out: &mut Vec<u8>, nodes: u8, recoverers: u8) -> Result<(), AllocError>
     ensures { OnOk result (out.new.items ≡ out.old.items ++ head_text nodes recoverers) }
 {
     push_number_line(alloc, out, b"nodes", nodes)?;
-    push_number_line(alloc, out, b"recoverers", recoverers)
+    push_recoverers(alloc, out, recoverers)
 }
 
 fn push_schedule(
@@ -342,24 +353,29 @@ fn push_schedule(
 ) -> Result<(), AllocError>
     ensures { OnOk result (out.new.items ≡ out.old.items ++ schedule_text clients.now schedule.now) }
 {
+    if schedule.is_empty() {
+        return Ok(());
+    }
     out.extend_from_slice(b"schedule\n")?;
     push_acts(alloc, out, clients, schedule)
 }
 
 fn push_script(alloc: Global, out: &mut Vec<u8>, script: &Script) -> Result<(), AllocError>
-    ensures { OnOk result (out.new.items ≡ out.old.items ++ script_text script.now) }
+    ensures text { OnOk result (out.new.items ≡ out.old.items ++ script_text script.now) }
+    ensures right { IsScript script.now }
 {
-    let clients = script.clients.as_slice();
-    push_head(alloc, out, script.nodes, script.recoverers)?;
+    let clients = script.clients();
+    push_head(alloc, out, script.nodes(), script.recoverers())?;
     push_clients(alloc, out, clients)?;
-    push_points(alloc, out, clients, script.points.as_slice())?;
-    push_schedule(alloc, out, clients, script.schedule.as_slice())
+    push_points(alloc, out, clients, script.points())?;
+    push_schedule(alloc, out, clients, script.schedule())
 }
 
-/// Writes one spelling of a script, with a line `recoverers` and a line `schedule` also where they could be left out and
-/// each transaction as `tx`. NoMemory: there was no memory for the text.
+/// Writes one spelling of a script, without the lines `recoverers` and `schedule` where they can be left out, and with each
+/// transaction as `tx`. A text of at most 4,194,304 bytes reads as that script. NoMemory: there was no memory for the text.
 pub fn write_script(alloc: Global, script: &Script) -> Result<Bytes, NoMemory>
-    ensures { IfOk result (λ text. text ≡ script_text script.now) }
+    ensures text { IfOk result (λ text. text ≡ script_text script.now) }
+    ensures reads_back { IfOk result (λ text. length text ≤ 4194304 → script_of text ≡ Ok script.now) }
 {
     let mut out = Vec::new(alloc);
     push_script(alloc, &mut out, script)?;

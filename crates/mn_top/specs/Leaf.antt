@@ -1,14 +1,14 @@
--- The one leaf of `main`, and the space of the one node that it stands in.
-use Rattle.std.specs.Prelude.{◌≡◌, ◌≤◌, ◌<◌, ℕ, ◌+◌, ◌^◌, length, List, [], ◌∷◌, ◌++◌, None}
-use Rattle.std.specs.List.{AllByRecursion}
+-- The one leaf of `main`, the space of the one node that it stands in, and the records that make it.
+use Rattle.std.specs.Prelude.{◌≡◌, ℕ, Bool, true, false, List, [], ◌∷◌, ◌++◌, None, IsTrue, reverse}
+use Rattle.std.specs.List.{AllByRecursion, list_all}
 use Rattle.mn_base.specs.declared.reply.Pair.{Pair}
-use Rattle.mn_base.specs.Store.{pairs_with}
-use Rattle.mn_top.specs.Form.{IsCommand}
-use Rattle.mn_top.specs.declared.command.Command.{Command}
-use Rattle.mn_top.specs.declared.command.Command.TheVariants.{Put, Get}
+use Rattle.mn_mini.specs.declared.record.Record.{Record}
+use Rattle.mn_mini.specs.declared.record.Record.TheVariants.{Executed}
+use Rattle.mn_mini.specs.Node.{space_of}
+use Rattle.mn_node.specs.Memory.{base_of}
 use Rattle.mn_page.specs.declared.page.Page.{Page}
 use Rattle.mn_page.specs.declared.page.Body.TheVariants as body
-use Rattle.mn_page.specs.Grammar.{IsPage, IsKey, IsValue, page_bytes, entry_bytes}
+use Rattle.mn_page.specs.Grammar.{IsPage, IsKey, IsValue, entry_bytes}
 use Rattle.mn_page.specs.Forest.{Forest, front_of, laid_of, space_laid, main_entry}
 
 -- the leaf with open fences, made in version 0 and copied for none
@@ -35,30 +35,11 @@ pub record HoldsLeaf (bytes : List ℕ) (seq : ℕ) (pairs : List Pair) : Type 0
   pub page : IsPage (leaf_page seq pairs)
   pub space : bytes ≡ leaf_space seq pairs
 
--- what a command makes of the leaf's pairs, and of the number of times that it was written
+abbrev pub is_executed : Record → Bool
+is_executed (Executed tid part) = true
+is_executed _ = false
 
-abbrev pub pairs_after : List Pair → Command → List Pair
-pairs_after pairs (Put key value) = pairs_with pairs key value
-pairs_after pairs (Get key) = pairs
-
-abbrev pub seq_after : ℕ → Command → ℕ
-seq_after seq (Put key value) = seq + 1
-seq_after seq (Get key) = seq
-
--- a slot holds a leaf that takes a put: it stays small enough, and it wasn't written too often
-pub record TakesPut (bytes key value : List ℕ) : Type 0 where
-  pub seq : ℕ
-  pub pairs : List Pair
-  pub page : IsPage (leaf_page seq pairs)
-  pub spelled : bytes ≡ page_bytes (leaf_page seq pairs)
-  pub fits : length (pairs_with pairs key value) ≤ 8
-  pub writable : seq < 2 ^ 32
-
--- the space holds a leaf that takes the command
-pub record TakesCommand (space : List ℕ) (asked : Command) : Type 0 where
-  pub seq : ℕ
-  pub pairs : List Pair
-  pub holds : HoldsLeaf space seq pairs
-  pub command : IsCommand asked
-  pub fits : length (pairs_after pairs asked) ≤ 8
-  pub writable : seq < 2 ^ 32
+-- the records, the oldest first, are executions, and the space that they make of the one node's holds these pairs in its leaf and is else as it began
+pub record MakesLeaf (records : List Record) (seq : ℕ) (pairs : List Pair) : Type 0 where
+  pub executed : IsTrue (list_all is_executed records)
+  pub holds : HoldsLeaf (space_of (base_of 1 0) (reverse records)) seq pairs

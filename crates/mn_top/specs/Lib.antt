@@ -1,8 +1,11 @@
 pub mod Words
-pub mod Text
-pub mod Form
-pub mod Report
-pub mod Program
-pub mod Flat
 pub mod Leaf
+pub mod Served
+pub mod Report
+pub mod Disk
+pub mod Program
+pub mod Open
 pub mod Serve
+pub mod Run
+pub mod Opening
+pub mod CommandLine

@@ -1,17 +1,26 @@
-ghost use Rattle.std.specs.Prelude.{◌≡◌, ◌≤◌, ◌<◌, ◌+◌, ◌*◌, ◌++◌, ℕ, List, length, IfOk, IfSome, OnOk, IsSomeAnd};
-ghost use Rattle.std.specs.List.{flat_map};
-ghost use Rattle.mn_page.specs.Grammar.{IsPage, IsKey, IsValue, page_bytes, pair_bytes, counted, padded};
+ghost use Rattle.std.specs.Prelude.{◌≡◌, ◌≤◌, ◌<◌, ◌+◌, ◌*◌, ◌++◌, ℕ, List, length, nat_lt, IfOk, IfSome, IsTrue, OnOk, IsSomeAnd, MatchOption};
+ghost use Rattle.std.specs.List.{flat_map, list_all};
+ghost use Rattle.mn_base.specs.Store.{is_ascending};
+ghost use Rattle.mn_mini.specs.Flat.{overwritten};
+ghost use Rattle.mn_mini.specs.Mini.{space_size};
+ghost use Rattle.mn_page.specs.Forest.{main_entry};
+ghost use Rattle.mn_page.specs.Grammar.{IsPage, IsKey, IsValue, page_bytes, pair_bytes, entry_bytes, counted, padded};
 ghost use Rattle.byteorder.specs.Endian.{big_bytes};
 ghost use Rattle.mn_base.specs.declared.reply.Pair.{Pair};
 ghost use Rattle.mn_top.specs.declared.leaf.TheConstants.{SLOT};
-ghost use Rattle.mn_top.specs.Leaf.{leaf_page, ArePairs};
+ghost use Rattle.mn_top.specs.Leaf.{leaf_page, leaf_space, ArePairs, HoldsLeaf};
 
 use byteorder::{BigEndian, ByteOrder};
 use mn_base::{BaseError, Key, NoMemory, Pair, Value};
+use mn_node::space_after;
 use std::alloc::{AllocError, Global};
+use std::cmp::Ordering;
 
 /// The bytes of a slot.
 pub const SLOT: usize = 1_024;
+
+/// Where the leaf begins: the first slot.
+pub const LEAF_START: u32 = 20_480;
 
 /// The one leaf: how often it was written, and its pairs in order of key.
 #[derive(Debug, Drop)]
@@ -153,4 +162,101 @@ pub fn read_leaf(alloc: Global, page: &[u8]) -> Result<Option<Leaf>, NoMemory>
         return Ok(None);
     };
     Ok(Some(Leaf { seq, pairs }))
+}
+
+/// The bytes of the catalog entry of `main`.
+pub fn main_entry_bytes(alloc: Global) -> Result<Vec<u8>, AllocError>
+    ensures bytes { IfOk result (λ bytes. bytes.items ≡ entry_bytes main_entry) }
+    ensures whole { IfOk result (λ bytes. length bytes.items ≡ 64) }
+{
+    let mut bytes = Vec::new(alloc);
+    push_number(&mut bytes, 1)?;
+    bytes.extend_from_slice(&[1, 255, 0, 0, 0, 4, b'm', b'a', b'i', b'n'])?;
+    pad(&mut bytes, 64)?;
+    Ok(bytes)
+}
+
+/// Each element of a slice of bytes is one. It does nothing.
+fn are_bytes(bytes: &[u8])
+    ensures { IsTrue (list_all (λ b. nat_lt b 256) bytes.now) }
+{
+    for _ in bytes {}
+}
+
+/// Each pair is such as a page may hold. It does nothing.
+pub fn are_pairs(pairs: &[Pair])
+    ensures { ArePairs pairs.now }
+{
+    for pair in pairs {
+        are_bytes(pair.key.as_slice());
+        are_bytes(pair.value.as_slice());
+    }
+}
+
+/// Whether the keys ascend.
+fn ascends(pairs: &[Pair]) -> bool
+    ensures { result ≡ is_ascending pairs.now }
+{
+    let mut rest = pairs;
+    while let [first, second, ..] = rest {
+        if first.key.as_slice().cmp(second.key.as_slice()) != Ordering::Less {
+            return false;
+        }
+        rest = &rest[1..];
+    }
+    true
+}
+
+/// Whether a page holds the leaf.
+fn is_page(leaf: &Leaf) -> bool
+    ensures right { IsTrue result → IsPage (leaf_page leaf.now.seq leaf.now.pairs.items) }
+    ensures only { IsPage (leaf_page leaf.now.seq leaf.now.pairs.items) → IsTrue result }
+{
+    are_pairs(&leaf.pairs);
+    if leaf.seq == 0 {
+        return false;
+    }
+    if leaf.pairs.len() > 8 {
+        return false;
+    }
+    ascends(&leaf.pairs)
+}
+
+/// Puts bytes over a range.
+fn overwrite(space: &mut [u8], start: u32, bytes: &[u8])
+    requires { start + length bytes.now ≤ length space.old }
+    ensures { space.new ≡ overwritten space.old start bytes.now }
+{
+    let start = start as usize;
+    space[start..start + bytes.len()].copy_from_slice(bytes);
+}
+
+/// The space of the one node with this leaf.
+fn space_with(alloc: Global, leaf: &Leaf) -> Result<Vec<u8>, NoMemory>
+    requires { IsPage (leaf_page leaf.now.seq leaf.now.pairs.items) }
+    ensures { IfOk result (λ space. space.items ≡ leaf_space leaf.now.seq leaf.now.pairs.items) }
+{
+    let mut space = space_after(alloc, 0, 1, &[])?;
+    let page = leaf_bytes(alloc, leaf.seq, &leaf.pairs)?;
+    overwrite(&mut space, LEAF_START, &page);
+    Ok(space)
+}
+
+/// The leaf that a space holds, if it holds one in the first slot and is else as it begins.
+pub fn leaf_in(alloc: Global, space: &[u8]) -> Result<Option<Leaf>, NoMemory>
+    requires { length space.now ≡ space_size }
+    ensures { IfOk result (λ found. MatchOption found ((seq : ℕ) (pairs : List Pair) → HoldsLeaf space.now seq pairs → ⊥) (λ leaf. HoldsLeaf space.now leaf.seq leaf.pairs.items)) }
+{
+    let start = LEAF_START as usize;
+    let Some(leaf) = read_leaf(alloc, &space[start..start + SLOT])? else {
+        return Ok(None);
+    };
+    if !is_page(&leaf) {
+        return Ok(None);
+    }
+    let whole = space_with(alloc, &leaf)?;
+    if whole.as_slice() != space {
+        return Ok(None);
+    }
+    Ok(Some(leaf))
 }

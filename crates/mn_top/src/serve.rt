@@ -1,30 +1,47 @@
-ghost use Rattle.std.specs.Prelude.{◌≡◌, ◌≤◌, ◌<◌, ◌+◌, ◌^◌, List, ℕ, [], ◌∷◌, map, length, IfOk, OnOk, OnErr};
-ghost use Rattle.mn_base.specs.Store.{applied, value_at, pairs_with, main_store, empty_store};
-ghost use Rattle.mn_base.specs.History.{replies_of, store_after_ops};
+ghost use Rattle.std.specs.Prelude.{◌≡◌, ◌≤◌, ◌<◌, ◌+◌, ◌^◌, ◌++◌, ℕ, List, length, false, None, IfOk, IsTrue, MatchOption, option_map};
+ghost use Rattle.std.specs.List.{list_any};
 ghost use Rattle.mn_base.specs.declared.reply.Pair.{Pair};
-ghost use Rattle.mn_base.specs.declared.reply.Reply.TheVariants as reply;
-ghost use Rattle.mn_mini.specs.Mini.{IsSound, IsInSpace, space_size};
-ghost use Rattle.mn_mini.specs.Flat.{Committed, outcome_on, bytes_in, overwritten};
+ghost use Rattle.mn_base.specs.Store.{is_change, main_name, main_store};
+ghost use Rattle.mn_mini.specs.Flat.{bytes_in, part_mismatch_from};
+ghost use Rattle.mn_mini.specs.Mini.{IsInSpace, IsSound};
+ghost use Rattle.mn_mini.specs.RecordGrammar.{IsPart};
+ghost use Rattle.mn_mini.specs.Sound.{IsSoundRequest};
+ghost use Rattle.mn_node.specs.State.{GoesOn};
 ghost use Rattle.mn_page.specs.Grammar.{IsPage, page_bytes};
-ghost use Rattle.mn_top.specs.Form.{op_of, AreServed};
-ghost use Rattle.mn_top.specs.Leaf.{HoldsLeaf, TakesCommand, TakesPut, leaf_page, pairs_after, seq_after};
-ghost use Rattle.mn_top.specs.declared.command.Command.{Command};
-ghost use Rattle.mn_top.specs.Serve.{on_one_node, get_items, put_items, HasRead};
+ghost use Rattle.mn_top.specs.Leaf.{ArePairs, leaf_page};
+ghost use Rattle.mn_top.specs.Serve.{AsksCatalog, DoesOn, Executes, IsAlone, IsAnswered, IsGet, IsOneGet, IsRead, IsTaken, IsWritten, SameCaller, Serves, Tells, compare_items, is_put, leaf_written, on_one_node, part_on, space_on};
 
-use crate::command::Command;
-use crate::flat::{Flat, copy_of, range, run_flat};
-use crate::leaf::{SLOT, leaf_bytes, read_leaf};
-use crate::pairs::{found, set_pair};
-use crate::space::{fresh_space, main_entry_bytes};
-use mn_base::{Bytes, Founds, Key, NoMemory, NodeNo, Pair, Reply, TryCopy, Value};
-use mn_mini::{Item, Items, MiniError, Minitransaction};
+use crate::caller::{Caller, Stop};
+use crate::leaf::{LEAF_START, Leaf, SLOT, are_pairs, leaf_bytes, main_entry_bytes, read_leaf};
+use mn_base::{Bytes, NoMemory, NodeNo, Op, Pair, Pairs, Reply, Step, VersionNo};
+use mn_io::Disk;
+use mn_mini::{Item, Items, MiniError, Minitransaction, NodeReply, Reads, Request};
+use mn_node::Node;
+use mn_plain::Store;
 use std::alloc::Global;
 
-/// Where the leaf begins: the first slot.
-const LEAF_START: u32 = 20_480;
+/// Where the catalog begins, and the entry of `main` in it.
+const CATALOG_START: u32 = 64;
 
-/// Where the catalog entry of `main` begins.
-const ENTRY_START: u32 = 64;
+/// The bytes of the catalog.
+const CATALOG: u32 = 4_096;
+
+/// The one node.
+const NODE: NodeNo = NodeNo(0);
+
+/// Asks the node, which is up.
+fn ask<D: Disk>(alloc: Global, node: &mut Node<D>, request: &Request) -> Result<NodeReply, Stop>
+    requires up { node.old.down ≡ false }
+    requires sound { IsSoundRequest request.now }
+    ensures answered { IsAnswered D.state D.faults node.old request.now result node.new }
+    ensures goes_on { GoesOn D.state D.faults node.old node.new }
+{
+    match node.handle(alloc, request, None) {
+        NodeReply::NoMemory => Err(Stop::NoMemory),
+        NodeReply::Stopped => Err(Stop::Fault),
+        reply => Ok(reply),
+    }
+}
 
 /// The minitransaction of these items over the one node.
 fn over_one_node(alloc: Global, items: Vec<Item>) -> Result<Minitransaction, NoMemory>
@@ -40,204 +57,335 @@ fn over_one_node(alloc: Global, items: Vec<Item>) -> Result<Minitransaction, NoM
     }
 }
 
-/// Does a minitransaction whose compare items are known to hold, and gives the bytes that it read.
-fn commit(alloc: Global, space: &mut [u8], mini: &Minitransaction) -> Result<Vec<Bytes>, NoMemory>
-    requires one_node { mini.now.nodes ≡ 1 }
-    requires whole { length space.old ≡ space_size }
-    requires holds { (reads : List (List ℕ)) × (after : List ℕ) × (outcome_on (space.old ∷ []) mini.now ≡ Committed reads (after ∷ [])) }
-    ensures done { IfOk result (λ bytes. (reads : List (List ℕ)) (after : List ℕ) → outcome_on (space.old ∷ []) mini.now ≡ Committed reads (after ∷ [])
-        → (bytes.items ≡ reads) × (space.new ≡ after)) }
-    ensures err { OnErr result (space.new ≡ space.old) }
+/// Does a minitransaction of these items, whose compares hold, and gives the bytes that it read.
+fn execute<D: Disk>(
+    alloc: Global,
+    node: &mut Node<D>,
+    caller: &mut Caller,
+    items: Vec<Item>,
+) -> Result<Reads, Stop>
+    requires alone { IsAlone D.state node.old }
+    requires run { 1 ≤ caller.old.run }
+    requires client { caller.old.client ≤ 20 }
+    requires sound { IsSound (on_one_node items.items) }
+    requires part { IsPart (part_on items.items) }
+    requires holds { part_mismatch_from (space_on node.old) 0 (part_on items.items) ≡ None }
+    ensures done { Executes D.state D.faults caller.old.run items.items node.old result node.new }
+    ensures goes_on { GoesOn D.state D.faults node.old node.new }
+    ensures caller { SameCaller caller.old caller.new }
+    ensures catalog { caller.new.knows_catalog ≡ caller.old.knows_catalog }
 {
-    match run_flat(alloc, space, mini)? {
-        Flat::Committed { reads } => Ok(reads),
-        Flat::Mismatch { .. } => unreachable!(),
+    let mini = over_one_node(alloc, items)?;
+    let request = Request::Exec {
+        tid: caller.next_tid()?,
+        part: mini.part(alloc, NODE)?,
+    };
+    match ask(alloc, node, &request)? {
+        NodeReply::Done { reads } => Ok(reads),
+        _ => unreachable!(),
     }
 }
 
-/// The minitransaction of a get: it reads the leaf.
-fn get_of(alloc: Global) -> Result<Minitransaction, NoMemory>
-    ensures { IfOk result (λ mini. mini ≡ on_one_node get_items) }
+/// Reads a range in one minitransaction.
+fn read<D: Disk>(
+    alloc: Global,
+    node: &mut Node<D>,
+    caller: &mut Caller,
+    start: u32,
+    length: u32,
+) -> Result<Bytes, Stop>
+    requires alone { IsAlone D.state node.old }
+    requires run { 1 ≤ caller.old.run }
+    requires client { caller.old.client ≤ 20 }
+    requires inside { IsInSpace start length }
+    ensures told { Tells D.state D.faults node.old (bytes_in (space_on node.old) start length) result node.new }
+    ensures goes_on { GoesOn D.state D.faults node.old node.new }
+    ensures caller { SameCaller caller.old caller.new }
 {
     let items = vec![in alloc;
         Item::Read {
-            node: NodeNo(0),
-            start: LEAF_START,
-            length: SLOT as u32
+            node: NODE,
+            start,
+            length
         },
     ]?;
-    over_one_node(alloc, items)
-}
-
-/// Reads the leaf.
-fn read_page(alloc: Global, space: &mut [u8]) -> Result<Bytes, NoMemory>
-    requires { length space.old ≡ space_size }
-    ensures page { IfOk result (λ page. page ≡ bytes_in space.old 20480 1024) }
-    ensures same { space.new ≡ space.old }
-{
-    let mini = get_of(alloc)?;
-    let mut reads = commit(alloc, space, &mini)?;
+    let mut reads = execute(alloc, node, caller, items)?.into_vec();
     match reads.pop() {
-        Some(page) => Ok(page),
+        Some(bytes) => Ok(bytes),
         None => unreachable!(),
     }
 }
 
-/// The minitransaction of a put: it compares the leaf and the entry of `main` with what was read, and writes the leaf.
-fn put_of(alloc: Global, old: Vec<u8>, new: Vec<u8>) -> Result<Minitransaction, NoMemory>
-    requires old { length old.items ≡ 1024 }
-    requires new { length new.items ≡ 1024 }
-    ensures { IfOk result (λ mini. mini ≡ on_one_node (put_items old.items new.items)) }
+/// The leaf as it stands, read without a minitransaction.
+fn peek_leaf<D: Disk>(alloc: Global, node: &mut Node<D>) -> Result<Bytes, Stop>
+    requires alone { IsAlone D.state node.old }
+    ensures told { Tells D.state D.faults node.old (bytes_in (space_on node.old) 20480 1024) result node.new }
+    ensures goes_on { GoesOn D.state D.faults node.old node.new }
 {
-    let entry = main_entry_bytes(alloc)?;
-    let node = NodeNo(0);
-    let items = vec![in alloc;
+    let request = Request::Peek {
+        start: LEAF_START,
+        length: SLOT as u32,
+    };
+    match ask(alloc, node, &request)? {
+        NodeReply::Peeked { bytes } => Ok(bytes),
+        _ => unreachable!(),
+    }
+}
+
+/// The store whose `main` has the pairs of a leaf that was read.
+fn store_of(alloc: Global, leaf: Leaf) -> Result<Store, NoMemory>
+    ensures { IfOk result (λ store. store ≡ main_store leaf.pairs.items) }
+{
+    Store::with_main(alloc, Pairs::from_vec(leaf.pairs))
+}
+
+/// The leaf in bytes that are known to spell one.
+fn leaf_of(alloc: Global, page: &[u8]) -> Result<Leaf, NoMemory>
+    requires { (seq : ℕ) × (pairs : List Pair) × IsPage (leaf_page seq pairs) × (page.now ≡ page_bytes (leaf_page seq pairs)) }
+    ensures { IfOk result (λ leaf. (seq : ℕ) (pairs : List Pair) → IsPage (leaf_page seq pairs) → page.now ≡ page_bytes (leaf_page seq pairs) → (leaf.seq ≡ seq) × (leaf.pairs.items ≡ pairs)) }
+{
+    match read_leaf(alloc, page)? {
+        Some(leaf) => Ok(leaf),
+        None => unreachable!(),
+    }
+}
+
+/// Reads the catalog, if the client hasn't yet.
+fn know_catalog<D: Disk>(alloc: Global, node: &mut Node<D>, caller: &mut Caller) -> Result<(), Stop>
+    requires alone { IsAlone D.state node.old }
+    requires run { 1 ≤ caller.old.run }
+    requires client { caller.old.client ≤ 20 }
+    ensures stays { IsRead D.state D.faults node.old result node.new }
+    ensures goes_on { GoesOn D.state D.faults node.old node.new }
+    ensures caller { SameCaller caller.old caller.new }
+{
+    if caller.knows_catalog {
+        return Ok(());
+    }
+    read(alloc, node, caller, CATALOG_START, CATALOG)?;
+    caller.knows_catalog = true;
+    Ok(())
+}
+
+/// Replies to an operation by the catalog alone: a listing, or a transaction on a version that there is not.
+fn look<D: Disk>(
+    alloc: Global,
+    node: &mut Node<D>,
+    caller: &mut Caller,
+    op: &Op,
+) -> Result<Reply, Stop>
+    requires alone { IsAlone D.state node.old }
+    requires run { 1 ≤ caller.old.run }
+    requires client { caller.old.client ≤ 20 }
+    requires catalog { AsksCatalog op.now }
+    ensures done { (seq : ℕ) (pairs : List Pair) → Serves D.state node.old seq pairs → DoesOn D.state D.faults caller.old.run seq pairs op.now node.old result node.new }
+    ensures goes_on { GoesOn D.state D.faults node.old node.new }
+    ensures caller { SameCaller caller.old caller.new }
+{
+    read(alloc, node, caller, CATALOG_START, CATALOG)?;
+    caller.knows_catalog = true;
+    let mut store = Store::new(alloc)?;
+    Ok(store.apply(alloc, op)?)
+}
+
+/// Replies to a transaction that is one Get: it reads the leaf.
+fn get<D: Disk>(
+    alloc: Global,
+    node: &mut Node<D>,
+    caller: &mut Caller,
+    op: &Op,
+) -> Result<Reply, Stop>
+    requires serves { (seq : ℕ) × (pairs : List Pair) × Serves D.state node.old seq pairs }
+    requires run { 1 ≤ caller.old.run }
+    requires client { caller.old.client ≤ 20 }
+    requires get { IsGet op.now }
+    ensures done { (seq : ℕ) (pairs : List Pair) → Serves D.state node.old seq pairs → DoesOn D.state D.faults caller.old.run seq pairs op.now node.old result node.new }
+    ensures goes_on { GoesOn D.state D.faults node.old node.new }
+    ensures caller { SameCaller caller.old caller.new }
+{
+    let page = read(alloc, node, caller, LEAF_START, SLOT as u32)?;
+    let leaf = leaf_of(alloc, page.as_slice())?;
+    let mut store = store_of(alloc, leaf)?;
+    Ok(store.apply(alloc, op)?)
+}
+
+/// Whether some step is a Put or a Del.
+fn has_change(steps: &[Step]) -> bool
+    ensures { result ≡ list_any is_change steps.now }
+{
+    for step in steps {
+        match step {
+            Step::Put { .. } | Step::Del { .. } => return true,
+            _ => {}
+        }
+    }
+    false
+}
+
+/// Whether some step is a Put.
+fn has_put(steps: &[Step]) -> bool
+    ensures { result ≡ list_any is_put steps.now }
+{
+    for step in steps {
+        if let Step::Put { .. } = step {
+            return true;
+        }
+    }
+    false
+}
+
+/// Whether a transaction with this reply wrote a pair: it has a Put, and all its checks were met.
+fn puts(steps: &[Step], reply: &Reply) -> bool {
+    match reply {
+        Reply::Values { .. } => has_put(steps),
+        _ => false,
+    }
+}
+
+/// The page of the leaf as it is to be, where the pairs were changed or one of them was put.
+fn written(
+    alloc: Global,
+    old: &[u8],
+    seq: u64,
+    pairs: &[Pair],
+    puts: bool,
+) -> Result<Option<Vec<u8>>, NoMemory>
+    requires few { length pairs.now ≤ 8 }
+    ensures new { IfOk result (λ new. IsWritten old.now seq pairs.now (option_map (λ page. page.items) new)) }
+    ensures pairs { ArePairs pairs.now }
+{
+    are_pairs(pairs);
+    let same = leaf_bytes(alloc, seq, pairs)?;
+    if !puts && same.as_slice() == old {
+        return Ok(None);
+    }
+    let Some(next) = seq.checked_add(1) else {
+        return Err(NoMemory);
+    };
+    Ok(Some(leaf_bytes(alloc, next, pairs)?))
+}
+
+/// The compares of a transaction: the leaf as it was read, and the entry of `main` where something may change.
+fn compares(alloc: Global, old: Bytes, change: bool) -> Result<Vec<Item>, NoMemory>
+    ensures { IfOk result (λ items. items.items ≡ compare_items old change) }
+{
+    let mut items = vec![in alloc;
         Item::Compare {
-            node,
+            node: NODE,
             start: LEAF_START,
-            bytes: Bytes::from_vec(old)
-        },
-        Item::Compare {
-            node,
-            start: ENTRY_START,
-            bytes: Bytes::from_vec(entry)
-        },
-        Item::Write {
-            node,
-            start: LEAF_START,
-            bytes: Bytes::from_vec(new)
+            bytes: old
         },
     ]?;
-    over_one_node(alloc, items)
-}
-
-/// Writes the leaf, where what was read still stands.
-fn write_page(alloc: Global, space: &mut [u8], old: Vec<u8>, new: Vec<u8>) -> Result<(), NoMemory>
-    requires read { HasRead space.old old.items }
-    requires old { length old.items ≡ 1024 }
-    requires new { length new.items ≡ 1024 }
-    ensures written { OnOk result (space.new ≡ overwritten space.old 20480 new.items) }
-    ensures err { OnErr result (space.new ≡ space.old) }
-{
-    let mini = put_of(alloc, old, new)?;
-    commit(alloc, space, &mini)?;
-    Ok(())
-}
-
-/// The bytes of the leaf after a put.
-fn changed_page(alloc: Global, old: &[u8], key: &Key, value: &Value) -> Result<Vec<u8>, NoMemory>
-    requires slot { length old.now ≡ 1024 }
-    requires takes { TakesPut old.now key.now value.now }
-    ensures bytes { IfOk result (λ new. (seq : ℕ) (pairs : List Pair) → IsPage (leaf_page seq pairs) → old.now ≡ page_bytes (leaf_page seq pairs)
-        → new.items ≡ page_bytes (leaf_page (seq + 1) (pairs_with pairs key.now value.now))) }
-    ensures whole { IfOk result (λ new. length new.items ≡ 1024) }
-{
-    let mut leaf = match read_leaf(alloc, old)? {
-        Some(leaf) => leaf,
-        None => unreachable!(),
-    };
-    let pair = Pair {
-        key: key.try_copy(alloc)?,
-        value: value.try_copy(alloc)?,
-    };
-    set_pair(&mut leaf.pairs, pair)?;
-    Ok(leaf_bytes(alloc, leaf.seq + 1, &leaf.pairs)?)
-}
-
-/// Sets the value of a key: reads the leaf, and writes it with the pair.
-fn put(alloc: Global, space: &mut [u8], key: &Key, value: &Value) -> Result<(), NoMemory>
-    requires { TakesCommand space.old (Command.Put key.now value.now) }
-    ensures { OnOk result ((seq : ℕ) (pairs : List Pair) → HoldsLeaf space.old seq pairs → length (pairs_with pairs key.now value.now) ≤ 8 → seq < 2 ^ 32
-        → HoldsLeaf space.new (seq + 1) (pairs_with pairs key.now value.now)) }
-{
-    let old = copy_of(alloc, space, LEAF_START, SLOT)?.into_vec();
-    let new = changed_page(alloc, &old, key, value)?;
-    write_page(alloc, space, old, new)?;
-    Ok(())
-}
-
-/// What the leaf has at a key.
-fn get(alloc: Global, space: &mut [u8], key: &Key) -> Result<Option<Value>, NoMemory>
-    requires { TakesCommand space.old (Command.Get key.now) }
-    ensures found { IfOk result (λ value. (seq : ℕ) (pairs : List Pair) → HoldsLeaf space.old seq pairs → value ≡ value_at pairs key.now) }
-    ensures same { space.new ≡ space.old }
-{
-    let page = read_page(alloc, space)?;
-    let leaf = match read_leaf(alloc, page.as_slice())? {
-        Some(leaf) => leaf,
-        None => unreachable!(),
-    };
-    Ok(found(alloc, &leaf.pairs, key)?)
-}
-
-/// Does a command, and gives the store's reply to it.
-fn step(alloc: Global, space: &mut [u8], command: &Command) -> Result<Reply, NoMemory>
-    requires { TakesCommand space.old command.now }
-    ensures reply { IfOk result (λ reply. (seq : ℕ) (pairs : List Pair) → HoldsLeaf space.old seq pairs → reply ≡ (applied (main_store pairs) (op_of command.now)).reply) }
-    ensures space { OnOk result ((seq : ℕ) (pairs : List Pair) → HoldsLeaf space.old seq pairs → length (pairs_after pairs command.now) ≤ 8 → seq < 2 ^ 32
-        → HoldsLeaf space.new (seq_after seq command.now) (pairs_after pairs command.now)) }
-{
-    let mut values = Vec::new(alloc);
-    match command {
-        Command::Put { key, value } => {
-            put(alloc, space, key, value)?;
-            Ok(Reply::Values {
-                found: Founds::from_vec(values),
-            })
-        }
-        Command::Get { key } => {
-            values.push(get(alloc, space, key)?)?;
-            Ok(Reply::Values {
-                found: Founds::from_vec(values),
-            })
-        }
+    if change {
+        let entry = main_entry_bytes(alloc)?;
+        items.push(Item::Compare {
+            node: NODE,
+            start: CATALOG_START,
+            bytes: Bytes::from_vec(entry),
+        })?;
     }
+    Ok(items)
+}
+
+/// The items of a transaction: its compares, and the leaf as it is to be.
+fn plan(
+    alloc: Global,
+    old: Bytes,
+    change: bool,
+    new: Option<Vec<u8>>,
+) -> Result<Vec<Item>, NoMemory>
+    ensures { IfOk result (λ items. items.items ≡ compare_items old change ++ leaf_written (option_map (λ page. page.items) new)) }
+{
+    let mut items = compares(alloc, old, change)?;
+    if let Some(page) = new {
+        items.push(Item::Write {
+            node: NODE,
+            start: LEAF_START,
+            bytes: Bytes::from_vec(page),
+        })?;
+    }
+    Ok(items)
+}
+
+/// Does a transaction on `main`: it runs on the pairs of the leaf as it stands, and one minitransaction compares what was read and writes what is
+/// changed.
+fn transact<D: Disk>(
+    alloc: Global,
+    node: &mut Node<D>,
+    caller: &mut Caller,
+    op: &Op,
+    steps: &[Step],
+) -> Result<Reply, Stop>
+    requires serves { (seq : ℕ) × (pairs : List Pair) × Serves D.state node.old seq pairs × IsTaken pairs op.now }
+    requires run { 1 ≤ caller.old.run }
+    requires client { caller.old.client ≤ 20 }
+    requires on_main { op.now ≡ Op.Tx main_name steps.now }
+    ensures done { (seq : ℕ) (pairs : List Pair) → Serves D.state node.old seq pairs → IsTaken pairs op.now → DoesOn D.state D.faults caller.old.run seq pairs op.now node.old result node.new }
+    ensures goes_on { GoesOn D.state D.faults node.old node.new }
+    ensures caller { SameCaller caller.old caller.new }
+{
+    let page = peek_leaf(alloc, node)?;
+    let leaf = leaf_of(alloc, page.as_slice())?;
+    let seq = leaf.seq;
+    let mut store = store_of(alloc, leaf)?;
+    let reply = store.apply(alloc, op)?;
+    let new = written(
+        alloc,
+        page.as_slice(),
+        seq,
+        store.pairs(VersionNo(0)).as_slice(),
+        puts(steps, &reply),
+    )?;
+    let items = plan(alloc, page, has_change(steps), new)?;
+    execute(alloc, node, caller, items)?;
+    Ok(reply)
+}
+
+/// Whether the steps are one Get.
+fn is_get(steps: &[Step]) -> bool
+    ensures { IsTrue result → IsOneGet steps.now }
+{
+    match steps {
+        [Step::Get { .. }] => true,
+        _ => false,
+    }
+}
+
+/// Does an operation of a client on the one leaf, in as many minitransactions as it needs, and gives the store's reply to it.
+pub fn step<D: Disk>(
+    alloc: Global,
+    node: &mut Node<D>,
+    caller: &mut Caller,
+    op: &Op,
+) -> Result<Reply, Stop>
+    requires serves { (seq : ℕ) × (pairs : List Pair) × Serves D.state node.old seq pairs × IsTaken pairs op.now }
+    requires run { 1 ≤ caller.old.run }
+    requires client { caller.old.client ≤ 20 }
+    ensures done { (seq : ℕ) (pairs : List Pair) → Serves D.state node.old seq pairs → IsTaken pairs op.now → DoesOn D.state D.faults caller.old.run seq pairs op.now node.old result node.new }
+    ensures goes_on { GoesOn D.state D.faults node.old node.new }
+    ensures caller { SameCaller caller.old caller.new }
+{
+    let Op::Tx { version, steps } = op else {
+        return look(alloc, node, caller, op);
+    };
+    if version.as_slice() != b"main".as_slice() {
+        return look(alloc, node, caller, op);
+    }
+    know_catalog(alloc, node, caller)?;
+    let steps = steps.as_slice();
+    if is_get(steps) {
+        return get(alloc, node, caller, op);
+    }
+    transact(alloc, node, caller, op, steps)
 }
 
 /// The pairs of the leaf.
-fn pairs_in(alloc: Global, space: &[u8]) -> Result<Vec<Pair>, NoMemory>
-    requires { (seq : ℕ) × (pairs : List Pair) × HoldsLeaf space.now seq pairs }
-    ensures { IfOk result (λ found. (seq : ℕ) (pairs : List Pair) → HoldsLeaf space.now seq pairs → found.items ≡ pairs) }
+pub fn pairs_on<D: Disk>(alloc: Global, node: &mut Node<D>) -> Result<Vec<Pair>, Stop>
+    requires serves { (seq : ℕ) × (pairs : List Pair) × Serves D.state node.old seq pairs }
+    ensures stays { IsRead D.state D.faults node.old result node.new }
+    ensures pairs { IfOk result (λ found. (seq : ℕ) (pairs : List Pair) → Serves D.state node.old seq pairs → found.items ≡ pairs) }
+    ensures goes_on { GoesOn D.state D.faults node.old node.new }
 {
-    let page = range(space, LEAF_START, SLOT);
-    match read_leaf(alloc, page)? {
-        Some(leaf) => Ok(leaf.pairs),
-        None => unreachable!(),
-    }
-}
-
-/// What one client's commands made: the replies in order, and the pairs of `main` after them.
-#[derive(Debug, Drop)]
-pub struct Ran {
-    pub replies: Vec<Reply>,
-    pub pairs: Vec<Pair>,
-}
-
-/// Runs the commands in order on an empty leaf.
-fn run_on(alloc: Global, space: &mut [u8], commands: &[Command]) -> Result<Ran, NoMemory>
-    requires served { AreServed commands.now }
-    requires fresh { HoldsLeaf space.old 1 [] }
-    ensures replies { IfOk result (λ ran. ran.replies.items ≡ replies_of empty_store (map op_of commands.now)) }
-    ensures count { IfOk result (λ ran. length ran.replies.items ≡ length commands.now) }
-    ensures pairs { IfOk result (λ ran. main_store ran.pairs.items ≡ store_after_ops empty_store (map op_of commands.now)) }
-    ensures few { IfOk result (λ ran. length ran.pairs.items ≤ 8) }
-{
-    let mut replies = Vec::new(alloc);
-    for command in commands {
-        replies.push(step(alloc, space, command)?)?;
-    }
-    let pairs = pairs_in(alloc, space)?;
-    Ok(Ran { replies, pairs })
-}
-
-/// Runs the commands in order on the store as it begins.
-pub fn run(alloc: Global, commands: &[Command]) -> Result<Ran, NoMemory>
-    requires { AreServed commands.now }
-    ensures replies { IfOk result (λ ran. ran.replies.items ≡ replies_of empty_store (map op_of commands.now)) }
-    ensures count { IfOk result (λ ran. length ran.replies.items ≡ length commands.now) }
-    ensures pairs { IfOk result (λ ran. main_store ran.pairs.items ≡ store_after_ops empty_store (map op_of commands.now)) }
-    ensures few { IfOk result (λ ran. length ran.pairs.items ≤ 8) }
-{
-    let mut space = fresh_space(alloc)?;
-    run_on(alloc, &mut space, commands)
+    let page = peek_leaf(alloc, node)?;
+    Ok(leaf_of(alloc, page.as_slice())?.pairs)
 }

@@ -1,10 +1,8 @@
 -- What the program that computes the flat memory keeps of the entries so far, and what that tells of them.
-use Rattle.std.specs.Prelude.{◌≡◌, ℕ, ◌<◌, Bool, true, List, length, Option, Some, None, slice_index_or, bytes_eq, if◌then◌else◌}
+use Rattle.std.specs.Prelude.{◌≡◌, ℕ, ◌<◌, Bool, true, ◌&&◌, nat_eq, List, length, Option, Some, None, slice_index_or, bytes_eq, if◌then◌else◌}
 use Rattle.std.specs.Option.{option_map}
-use Rattle.std.specs.declared.cmp.Ordering.{Ordering}
-use Rattle.std.specs.Ordering.{nat_cmp, ordering_then}
-use Rattle.std.specs.BTreeMap.{get}
-use Rattle.std.specs.BTreeSet.{contains}
+use Rattle.std.specs.HashMap.{get}
+use Rattle.std.specs.HashSet.{contains}
 use Rattle.mn_base.specs.declared.ids.NodeNo.{NodeNo}
 use Rattle.mn_base.specs.declared.ids.Tid.{Tid}
 use Rattle.mn_mini.specs.declared.request.Request.{Request}
@@ -16,25 +14,32 @@ use Rattle.mn_base.specs.Ids.{tid_same}
 use Rattle.mn_world.specs.declared.entry.Entry.{Entry}
 use Rattle.mn_world.specs.declared.entry.What.{What}
 use Rattle.mn_world.specs.declared.entry.What.TheVariants.{Issue}
+use Rattle.mn_world.specs.declared.flat.IdKey.{IdKey}
+use Rattle.mn_world.specs.declared.flat.VoteKey.{VoteKey}
 use Rattle.mn_world.specs.declared.flat.Standing.{Standing}
 use Rattle.mn_world.specs.Calls.{node_entries, issues_of, issue_named}
 use Rattle.mn_world.specs.Nodes.{stopped_request}
 use Rattle.mn_world.specs.Commits.{effect_of, has_vote}
 
--- ids by run, then by client, then by serial
-abbrev pub tid_cmp : Tid → Tid → Ordering
-tid_cmp a b = ordering_then (nat_cmp a.run b.run) (ordering_then (nat_cmp a.client.0 b.client.0) (nat_cmp a.serial b.serial))
+-- ids and votes as they are looked up
+abbrev pub id_key : Tid → IdKey
+id_key tid = record { run = tid.run; client = tid.client.0; serial = tid.serial }
 
--- votes by id, then by node
-abbrev pub vote_cmp : Tid × NodeNo → Tid × NodeNo → Ordering
-vote_cmp a b = ordering_then (tid_cmp a.0 b.0) (nat_cmp a.1.0 b.1.0)
+abbrev pub vote_key : Tid → NodeNo → VoteKey
+vote_key tid n = record { id = id_key tid; node = n.0 }
+
+abbrev pub keys_same : IdKey → IdKey → Bool
+keys_same a b = nat_eq a.run b.run && (nat_eq a.client b.client && nat_eq a.serial b.serial)
+
+abbrev pub votes_same : VoteKey → VoteKey → Bool
+votes_same a b = keys_same a.id b.id && nat_eq a.node b.node
 
 -- the minitransaction that is kept for an id
 abbrev pub kept_mini : Standing → Tid → Option Mini
-kept_mini s tid = option_map (λ m. m.now) (get tid_cmp s.issued tid)
+kept_mini s tid = option_map (λ m. m.now) (get keys_same s.issued (id_key tid))
 
 abbrev pub keeps_vote : Standing → Tid → NodeNo → Bool
-keeps_vote s tid n = contains vote_cmp s.voted (tid, n)
+keeps_vote s tid n = contains votes_same s.voted (vote_key tid n)
 
 -- the request that is kept for a node
 abbrev pub kept_request : Standing → NodeNo → Option Request

@@ -12,22 +12,37 @@ ghost use Rattle.mn_world.specs.Commits.{is_vote_effect, effect_of, committed_wi
 ghost use Rattle.mn_world.specs.Run.{entries_of};
 ghost use Rattle.mn_world.specs.Protocol.{Start};
 ghost use Rattle.mn_world.specs.Laws.{IsRunFrom, IsFlatRun};
-ghost use Rattle.mn_world.specs.Standing.{kept_mini, keeps_vote, kept_request, issue_after, effect_of_entry, Tells, item_holds};
+ghost use Rattle.mn_world.specs.Standing.{id_key, vote_key, kept_mini, keeps_vote, kept_request, issue_after, effect_of_entry, Tells, item_holds};
 
 use crate::{Entry, Log, What};
 use mn_base::{Bytes, NoMemory, NodeNo, Tid, TryCopy};
 use mn_mini::{Item, Minitransaction, NodeReply, Request, Spaces};
 use std::alloc::Global;
-use std::collections::{BTreeMap, BTreeSet};
+use std::collections::{HashMap, HashSet};
 use std::mem;
+
+/// An id as what is kept of it is looked up.
+#[derive(Clone, Copy, PartialEq, Eq, Hash)]
+struct IdKey {
+    run: u32,
+    client: u8,
+    serial: u32,
+}
+
+/// A vote as it is looked up.
+#[derive(Clone, Copy, PartialEq, Eq, Hash)]
+struct VoteKey {
+    id: IdKey,
+    node: u8,
+}
 
 /// What the entries so far tell of ids and nodes.
 #[derive(Drop)]
 struct Standing<'a> {
     /// The last minitransaction that was issued under each id.
-    issued: BTreeMap<Tid, &'a Minitransaction>,
+    issued: HashMap<IdKey, &'a Minitransaction>,
     /// The ids for which a node has voted yes, with the node.
-    voted: BTreeSet<(Tid, NodeNo)>,
+    voted: HashSet<VoteKey>,
     /// By node, the request inside which it last stopped.
     stopped: Vec<Option<&'a Request>>,
 }
@@ -41,22 +56,41 @@ fn nothing<'a>(alloc: Global) -> Result<Standing<'a>, NoMemory>
     ensures tells { IfOk result (λ s. Tells s []) }
 {
     Ok(Standing {
-        issued: BTreeMap::new(alloc),
-        voted: BTreeSet::new(alloc),
+        issued: HashMap::new(alloc),
+        voted: HashSet::new(alloc),
         stopped: vec![in alloc; None; NODE_NUMBERS]?,
     })
+}
+
+fn id_key(tid: Tid) -> IdKey
+    ensures { result ≡ id_key tid }
+{
+    IdKey {
+        run: tid.run,
+        client: tid.client.0,
+        serial: tid.serial,
+    }
+}
+
+fn vote_key(tid: Tid, node: NodeNo) -> VoteKey
+    ensures { result ≡ vote_key tid node }
+{
+    VoteKey {
+        id: id_key(tid),
+        node: node.0,
+    }
 }
 
 fn issued_as<'a>(standing: &Standing<'a>, tid: Tid) -> Option<&'a Minitransaction>
     ensures { option_map (λ m. m.now) result ≡ kept_mini standing.now tid }
 {
-    standing.issued.get(&tid).copied()
+    standing.issued.get(&id_key(tid)).copied()
 }
 
 fn has_voted(standing: &Standing<'_>, tid: Tid, node: NodeNo) -> bool
     ensures { result ≡ keeps_vote standing.now tid node }
 {
-    standing.voted.contains(&(tid, node))
+    standing.voted.contains(&vote_key(tid, node))
 }
 
 fn stopped_in<'a>(standing: &Standing<'a>, node: NodeNo) -> Option<&'a Request>
@@ -74,7 +108,7 @@ fn note_issue<'a>(
     ensures issued { OnOk result ((q : Tid) → kept_mini standing.new q ≡ (if tid_same tid q then Some mini.now else kept_mini standing.old q)) }
     ensures others { OnOk result ((standing.new.voted ≡ standing.old.voted) × (standing.new.stopped ≡ standing.old.stopped)) }
 {
-    standing.issued.insert(tid, mini)?;
+    standing.issued.insert(id_key(tid), mini)?;
     Ok(())
 }
 
@@ -82,7 +116,7 @@ fn note_vote(standing: &mut Standing<'_>, tid: Tid, node: NodeNo) -> Result<(), 
     ensures voted { OnOk result ((q : Tid) (n : NodeNo) → keeps_vote standing.new q n ≡ ((tid_same tid q && node_same n node) || keeps_vote standing.old q n)) }
     ensures others { OnOk result ((standing.new.issued ≡ standing.old.issued) × (standing.new.stopped ≡ standing.old.stopped)) }
 {
-    standing.voted.insert((tid, node))?;
+    standing.voted.insert(vote_key(tid, node))?;
     Ok(())
 }
 

@@ -2,7 +2,7 @@ use Rattle.std.proofs.Common.{◌≡◌, Option, Some, None, ap, ◌∙◌}
 use Rattle.mn_mini.specs.Flat.{part_mismatch_from}
 use Rattle.mn_mini.specs.Node.{Clash, after_locks}
 use Rattle.mn_node.specs.Part.{shared_of, alone_of}
-use Rattle.mn_node.proofs.Tests.{clash_is, differs_is, done_is}
+use Rattle.mn_node.proofs.TestedParts.{clash_is, differs_is, done_is}
 use Rattle.mn_node.proofs.memory.test_part.Goals as goal
 
 pub returns-in-Err : goal.returns-in-Err

@@ -1,11 +1,11 @@
-use Rattle.std.proofs.Common.{◌≡◌, ◌++◌, ◌∷◌, [], false, List, Option, Some, reverse, ap, sym, ◌∙◌, subst, arith, rules}
+use Rattle.std.proofs.Common.{subst, ◌≡◌, ◌++◌, ◌∷◌, [], false, List, Option, Some, reverse, ap, sym, ◌∙◌, arith, rules}
 use Rattle.mn_mini.specs.declared.record.Record.{Record}
 use Rattle.mn_mini.specs.declared.record.Record.TheVariants.{Forced}
 use Rattle.mn_mini.specs.declared.request.Request.TheVariants as Ask
 use Rattle.mn_mini.specs.Node.{has_voted, has_forced, Response}
 use Rattle.mn_node.specs.Memory.{base_of}
-use Rattle.mn_node.specs.Node.{StandsWithOrWithout, added_to, node_answer}
-use Rattle.mn_node.proofs.Steps.{up_logged, force_answer}
+use Rattle.mn_node.specs.Node.{IsWithOrWithout, LeavesAt, added_to, node_answer}
+use Rattle.mn_node.proofs.Steps.{up_logged, force_answer, unasked}
 use Rattle.mn_node.proofs.step.force.Goals as goal
 
 pub add_force-requires-clause-memory : goal.add_force-requires-clause-memory
@@ -30,7 +30,7 @@ returns-in-Stopped-clause-handled g c =
     let voted : has_voted (reverse m.records.items) c.args.tid ≡ false = ap (λ (l : List Record). has_voted (reverse l) c.args.tid) (sym c.deref.ensures.value) ∙ sym c.if-voted.ensures in
     let forced : has_forced (reverse m.records.items) c.args.tid ≡ false = sym (c.requires.up.memory.forced_are c.args.tid) ∙ search rules in
     let one : (node_answer m (Ask.Force c.args.tid)).added ≡ Some (Forced c.args.tid) = ap (λ (a : Response). a.added) (force_answer (base_of m.nodes m.node) (reverse m.records.items) c.args.tid voted forced) in
-    (kept.0, kept.1, λ h. subst (λ (o : Option Record). StandsWithOrWithout (g.D.Disk.state c.keep.new.redo.disk) c.args.redo.now.node c.args.redo.now.nodes m.records.items o) (sym one) (kept.2 h))
+    (kept.0, one, kept.1)
 
 pub returns-in-Logged-clause-handled : goal.returns-in-Logged-clause-handled
 returns-in-Logged-clause-handled g c =
@@ -42,4 +42,32 @@ returns-in-Logged-clause-handled g c =
       up_logged g.D.Disk.state c.keep.new.redo c.keep.new.memory c.add_force.new.self (Forced c.args.tid) 0 kept.0 c.add_force.ensures.memory c.add_force.ensures.room c.add_force.ensures.records (omega (arith, c.add_force.ensures.held)),
       ap (λ (a : Response). a.reply) told,
       c.add_force.ensures.records ∙ ap (λ (l : List Record). l ++ Forced c.args.tid ∷ []) kept.1 ∙ sym (ap (λ (a : Response). added_to m.records.items a.added) told),
+      unasked c.args.stop _ kept.3,
     )
+
+pub returns-in-NoRoom-clause-moments : goal.returns-in-NoRoom-clause-moments
+returns-in-NoRoom-clause-moments g c =
+    let m = c.args.memory.now in
+    let old = c.args.redo.now in
+    let voted : has_voted (reverse m.records.items) c.args.tid ≡ false = ap (λ (l : List Record). has_voted (reverse l) c.args.tid) (sym c.deref.ensures.value) ∙ sym c.if-voted.ensures in
+    let forced : has_forced (reverse m.records.items) c.args.tid ≡ false = sym (c.requires.up.memory.forced_are c.args.tid) ∙ search rules in
+    let one : (node_answer m (Ask.Force c.args.tid)).added ≡ Some (Forced c.args.tid) = ap (λ (a : Response). a.added) (force_answer (base_of m.nodes m.node) (reverse m.records.items) c.args.tid voted forced) in
+    subst (λ (o : Option Record). LeavesAt g.D.Disk.state old.disk c.keep.new.redo.disk (IsWithOrWithout old.node old.nodes m.records.items o)) (sym one) (c.keep.ensures.moments (Forced c.args.tid) c.forced_body.ensures)
+
+pub returns-in-Stopped-clause-moments : goal.returns-in-Stopped-clause-moments
+returns-in-Stopped-clause-moments g c =
+    let m = c.args.memory.now in
+    let old = c.args.redo.now in
+    let voted : has_voted (reverse m.records.items) c.args.tid ≡ false = ap (λ (l : List Record). has_voted (reverse l) c.args.tid) (sym c.deref.ensures.value) ∙ sym c.if-voted.ensures in
+    let forced : has_forced (reverse m.records.items) c.args.tid ≡ false = sym (c.requires.up.memory.forced_are c.args.tid) ∙ search rules in
+    let one : (node_answer m (Ask.Force c.args.tid)).added ≡ Some (Forced c.args.tid) = ap (λ (a : Response). a.added) (force_answer (base_of m.nodes m.node) (reverse m.records.items) c.args.tid voted forced) in
+    subst (λ (o : Option Record). LeavesAt g.D.Disk.state old.disk c.keep.new.redo.disk (IsWithOrWithout old.node old.nodes m.records.items o)) (sym one) (c.keep.ensures.moments (Forced c.args.tid) c.forced_body.ensures)
+
+pub returns-in-Logged-clause-moments : goal.returns-in-Logged-clause-moments
+returns-in-Logged-clause-moments g c =
+    let m = c.args.memory.now in
+    let old = c.args.redo.now in
+    let voted : has_voted (reverse m.records.items) c.args.tid ≡ false = ap (λ (l : List Record). has_voted (reverse l) c.args.tid) (sym c.deref.ensures.value) ∙ sym c.if-voted.ensures in
+    let forced : has_forced (reverse m.records.items) c.args.tid ≡ false = sym (c.requires.up.memory.forced_are c.args.tid) ∙ search rules in
+    let one : (node_answer m (Ask.Force c.args.tid)).added ≡ Some (Forced c.args.tid) = ap (λ (a : Response). a.added) (force_answer (base_of m.nodes m.node) (reverse m.records.items) c.args.tid voted forced) in
+    subst (λ (o : Option Record). LeavesAt g.D.Disk.state old.disk c.keep.new.redo.disk (IsWithOrWithout old.node old.nodes m.records.items o)) (sym one) (c.keep.ensures.moments (Forced c.args.tid) c.forced_body.ensures)

@@ -1,7 +1,7 @@
 use Rattle.std.proofs.Common.{List, reverse, ap, sym, ◌∙◌}
 use Rattle.mn_mini.specs.declared.part.PartItem.{PartItem}
 use Rattle.mn_mini.specs.Node.{held_parts, clash_of}
-use Rattle.mn_node.proofs.Tests.{free_of}
+use Rattle.mn_node.proofs.TestedParts.{free_of}
 use Rattle.mn_node.proofs.step.prepare.Goals as goal
 
 pub vote-requires-clause-free : goal.vote-requires-clause-free

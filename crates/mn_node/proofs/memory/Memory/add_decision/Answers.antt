@@ -9,7 +9,7 @@ use Rattle.mn_locks.specs.Locks.{without}
 use Rattle.mn_node.specs.Held.{IsPartOf}
 use Rattle.mn_node.specs.Memory.{IsBuilt, base_of}
 use Rattle.mn_node.proofs.Built.{built_decided, fewer, newest}
-use Rattle.mn_node.proofs.Tests.{some_part}
+use Rattle.mn_node.proofs.TestedParts.{some_part}
 use Rattle.mn_node.proofs.memory.Memory.add_decision.Goals as goal
 
 pub returns-clause-memory : goal.returns-clause-memory
@@ -20,7 +20,7 @@ returns-clause-memory c =
     let same : length c.write_decided.new.space ≡ m.space.len = grind arith in
     let whole : take m.space.len (c.write_decided.new.space ++ drop (length c.write_decided.new.space) m.space.items) ≡ c.write_decided.new.space = take_at c.write_decided.new.space (drop (length c.write_decided.new.space) m.space.items) m.space.len same in
     let written : c.write_decided.new.space ≡ (if c.args.yes then space_after_part m.space.items part.0 else m.space.items) =
-    c.write_decided.ensures part.0 (subst (λ (l : List Record). IsPartOf (held_part_of c.args.tid (held_parts (reverse l))) part.0) (sym c.deref.ensures.value) part.1)
+    c.write_decided.ensures.held part.0 (subst (λ (l : List Record). IsPartOf (held_part_of c.args.tid (held_parts (reverse l))) part.0) (sym c.deref.ensures.value) part.1)
     ∙ ap (λ (l : List ℕ). if c.args.yes then space_after_part l part.0 else l) c.deref_mut.ensures.value in
     let built = built_decided (base_of m.nodes m.node) m.records.items m.space.items c.write_decided.new.space m.locks.holds m.forced.items c.args.tid c.args.yes part.0 c.requires.memory c.requires.decision part.1 written (grind arith) in
     let with_records = subst (λ (l : List Record). IsBuilt (base_of m.nodes m.node) l c.write_decided.new.space (without c.args.tid m.locks.holds) m.forced.items) (sym items) built in

@@ -3,7 +3,7 @@ use Rattle.mn_mini.specs.RecordGrammar.{IsRecord}
 use Rattle.mn_locks.specs.Locks.{held_of}
 use Rattle.mn_mini.specs.Node.{held_parts}
 use Rattle.mn_node.specs.Part.{shared_of, alone_of}
-use Rattle.mn_node.proofs.Tests.{not_held, is_ok_of}
+use Rattle.mn_node.proofs.TestedParts.{not_held, is_ok_of}
 use Rattle.mn_node.proofs.memory.Memory.add_vote.Goals as goal
 
 pub unwrap-requires : goal.unwrap-requires

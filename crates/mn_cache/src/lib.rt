@@ -1,0 +1,9 @@
+//! The pages that a proxy keeps, the most recently used first.
+#![tactic(auto)]
+
+mod cache;
+
+pub use cache::{CAPACITY, Cache};
+
+#[cfg(test)]
+mod tests;

@@ -1,0 +1,130 @@
+-- What a crash leaves at the moments of a call.
+use Rattle.std.proofs.Common.{◌≡◌, ◌++◌, ◌∷◌, [], ◌∙◌, inl, inr, ⊎_elim, ℕ, Bool, List, Option, Some, None, true, false, refl, ap, sym, subst, arith}
+use Rattle.mn_io.specs.DiskModel.{DiskState, IsDisk, LeavesOnly, Stays}
+use Rattle.mn_redo.specs.Grammar.{IsBeforeOrAfter, Stands}
+use Rattle.mn_redo.specs.Redo.{RedoState, StandsFor}
+use Rattle.mn_mini.specs.declared.record.Record.{Record}
+use Rattle.mn_mini.specs.RecordGrammar.{record_bytes}
+use Rattle.mn_node.specs.declared.memory.Memory.{Memory}
+use Rattle.mn_mini.specs.declared.request.Request.{Request}
+use Rattle.mn_mini.specs.Node.{Response}
+use Rattle.mn_node.specs.Node.{Continues, IsUp, IsWithOrWithout, LeavesAt, RestsAt, StandsWithOrWithout, bodies_of, node_answer}
+use Rattle.mn_node.specs.Restart.{IsListed}
+use Rattle.mn_node.specs.State.{response_to}
+use Rattle.mn_node.proofs.Replies.{same_answer, seen, up_stands}
+use Rattle.mn_node.proofs.Steps.{one_body_more}
+
+pub only_weaker : (old new : DiskState) (P Q : List ℕ → Type 0) → ((c : List ℕ) → P c → Q c) → LeavesOnly old new P → LeavesOnly old new Q
+only_weaker old new P Q f h = record {
+  later = h.later;
+  each = λ c left. f c (h.each c left);
+  before = λ t c le left. ⊎_elim (λ was. inl was) (λ now. inr (f c now)) (h.before t c le left);
+}
+
+pub only_trans : (old mid new : DiskState) (P : List ℕ → Type 0) → LeavesOnly old mid P → LeavesOnly mid new P → LeavesOnly old new P
+only_trans old mid new P first second = record {
+  later = omega (arith, first.later, second.later);
+  each = λ c left. ⊎_elim (λ was. first.each c was) (λ now. now) (second.before old.moment c first.later left);
+  before = λ t c le left. ⊎_elim (λ was. first.before t c le was) (λ now. inr now) (second.before t c (omega (arith, le, first.later)) left);
+}
+
+pub only_rests : (old new : DiskState) (P : List ℕ → Type 0) → IsDisk old → ((c : List ℕ) → old.images c → P c) → Stays old new → LeavesOnly old new P
+only_rests old new P is_disk all stays = record {
+  later = stays.time.later;
+  each = λ c left. ⊎_elim (λ was. all c (is_disk.only_now c was)) (λ now. all c (stays.images c now)) (stays.time.nothing_else old.moment c (omega arith) left);
+  before = λ t c le left. ⊎_elim (λ was. inl was) (λ now. inr (all c (stays.images c now))) (stays.time.nothing_else t c le left);
+}
+
+-- nothing is done
+pub only_same : (old : DiskState) (P : List ℕ → Type 0) → IsDisk old → ((c : List ℕ) → old.images c → P c) → LeavesOnly old old P
+only_same old P is_disk all = record {
+  later = omega arith;
+  each = λ c left. all c (is_disk.only_now c left);
+  before = λ t c le left. inl left;
+}
+
+pub at_weaker : {D : Type 0} (state : D → DiskState) (old new : D) (P Q : List ℕ → Type 0) → ((c : List ℕ) → P c → Q c) → LeavesAt state old new P → LeavesAt state old new Q
+at_weaker state old new P Q f (inl same) = inl same
+at_weaker state old new P Q f (inr told) = inr (λ h. only_weaker (state old) (state new) P Q f (told h))
+
+pub at_rests : {D : Type 0} (state : D → DiskState) (old new : D) (P : List ℕ → Type 0) → ((state old).honest → IsDisk (state old)) → ((state old).honest → (c : List ℕ) → (state old).images c → P c) → RestsAt state old new → LeavesAt state old new P
+at_rests state old new P is_disk all (inl same) = inl same
+at_rests state old new P is_disk all (inr stays) = inr (λ h. only_rests (state old) (state new) P (is_disk h) (all h) (stays h))
+
+pub at_then : {D : Type 0} (state : D → DiskState) (old mid new : D) (P : List ℕ → Type 0) → ((state old).honest → (state mid).honest) → LeavesAt state old mid P → LeavesAt state mid new P → LeavesAt state old new P
+at_then state old mid new P goes (inl e) second = subst (λ (d : _). LeavesAt state d new P) e second
+at_then state old mid new P goes (inr first) (inl e) = inr (λ h. subst (λ (d : _). LeavesOnly (state old) (state d) P) (sym e) (first h))
+at_then state old mid new P goes (inr first) (inr second) = inr (λ h. only_trans (state old) (state mid) (state new) P (first h) (second (goes h)))
+
+pub up_images : {D : Type 0} (state : D → DiskState) (redo : RedoState D) (m : Memory) (added : Option Record) → IsUp state redo m → (state redo.disk).honest → (c : List ℕ) → (state redo.disk).images c → IsWithOrWithout redo.node redo.nodes m.records.items added c
+up_images state redo m added up h c image = inl (up_stands state redo m up h c image)
+
+pub with_record : (node nodes : ℕ) (bodies : List (List ℕ)) (body : List ℕ) (records : List Record) (r : Record) → bodies ≡ bodies_of records → body ≡ record_bytes r → (c : List ℕ) → IsBeforeOrAfter node nodes bodies body c
+    → IsWithOrWithout node nodes records (Some r) c
+with_record node nodes bodies body records r e f c (inl before) = inl (subst (λ (l : List (List ℕ)). Stands node nodes c l) e before)
+with_record node nodes bodies body records r e f c (inr after) =
+    let same : bodies ++ body ∷ [] ≡ bodies_of (records ++ r ∷ []) = ap (λ (l : List (List ℕ)). l ++ body ∷ []) e ∙ ap (λ (b : List ℕ). bodies_of records ++ b ∷ []) f ∙ one_body_more records r in
+    inr (subst (λ (l : List (List ℕ)). Stands node nodes c l) same after)
+
+-- the same of a log that goes on another
+pub moved : (node node2 nodes nodes2 : ℕ) (records records2 : List Record) (added : Option Record) → node ≡ node2 → nodes ≡ nodes2 → records ≡ records2 → (c : List ℕ) → IsWithOrWithout node nodes records added c → IsWithOrWithout node2 nodes2 records2 added c
+moved node node2 nodes nodes2 records records2 added e f g c told =
+    let with_node = subst (λ (n : ℕ). IsWithOrWithout n nodes records added c) e told in
+    let with_nodes = subst (λ (n : ℕ). IsWithOrWithout node2 n records added c) f with_node in
+    subst (λ (l : List Record). IsWithOrWithout node2 nodes2 l added c) g with_nodes
+
+-- a record is put into the log, after room was made
+pub kept_moments : {D : Type 0} (state : D → DiskState) (faults : D → ℕ) (old mid : RedoState D) (new : D) (m middle : Memory) (r : Record) (body : List ℕ) → ((state old.disk).honest → IsDisk (state old.disk)) → IsUp state old m → IsUp state mid middle
+    → Continues state faults old mid → middle.records.items ≡ m.records.items → body ≡ record_bytes r → RestsAt state old.disk mid.disk → LeavesAt state mid.disk new (IsBeforeOrAfter mid.node mid.nodes mid.bodies body)
+    → LeavesAt state old.disk new (IsWithOrWithout old.node old.nodes m.records.items (Some r))
+kept_moments state faults old mid new m middle r body is_disk up still goes same spelled rests put =
+    let P = IsWithOrWithout old.node old.nodes m.records.items (Some r) in
+    let first = at_rests state old.disk mid.disk P is_disk (up_images state old m (Some r) up) rests in
+    let second = at_weaker state mid.disk new (IsBeforeOrAfter mid.node mid.nodes mid.bodies body) P
+    (λ c told. moved mid.node old.node mid.nodes old.nodes middle.records.items m.records.items (Some r) goes.node goes.nodes same c (with_record mid.node mid.nodes mid.bodies body middle.records.items r still.bodies spelled c told)) put in
+    at_then state old.disk mid.disk new P goes.honest first second
+
+pub at_only : {D : Type 0} (state : D → DiskState) (old new : D) (P : List ℕ → Type 0) → (state old).honest → IsDisk (state old) → ((c : List ℕ) → (state old).images c → P c) → LeavesAt state old new P → LeavesOnly (state old) (state new) P
+at_only state old new P h is_disk all (inl e) = subst (λ (d : _). LeavesOnly (state old) (state d) P) (sym e) (only_same (state old) P is_disk all)
+at_only state old new P h is_disk all (inr told) = told h
+
+-- a request to a node that is up
+pub request_moments : {D : Type 0} (state : D → DiskState) (redo new : RedoState D) (m : Memory) (down : Bool) (pending : Option Record) (request : Request) → IsUp state redo m → m.node ≡ redo.node → m.nodes ≡ redo.nodes
+    → ((state redo.disk).honest → IsDisk (state redo.disk)) → LeavesAt state redo.disk new.disk (IsWithOrWithout redo.node redo.nodes m.records.items (node_answer m request).added)
+    → (state redo.disk).honest → LeavesOnly (state redo.disk) (state new.disk) (IsWithOrWithout redo.node redo.nodes m.records.items (response_to (seen redo m down pending) request).added)
+request_moments state redo new m down pending request up e f is_disk told h =
+    let same = same_answer redo m down pending request e f in
+    subst (λ (r : Response). LeavesOnly (state redo.disk) (state new.disk) (IsWithOrWithout redo.node redo.nodes m.records.items r.added)) same
+    (at_only state redo.disk new.disk (IsWithOrWithout redo.node redo.nodes m.records.items (node_answer m request).added) h (is_disk h) (up_images state redo m (node_answer m request).added up h) told)
+
+-- Starts and restarts
+
+pub stands_moved : (node node2 nodes nodes2 : ℕ) (bodies bodies2 : List (List ℕ)) → node ≡ node2 → nodes ≡ nodes2 → bodies ≡ bodies2 → (c : List ℕ) → Stands node nodes c bodies → Stands node2 nodes2 c bodies2
+stands_moved node node2 nodes nodes2 bodies bodies2 e f g c told =
+    let with_node = subst (λ (n : ℕ). Stands n nodes c bodies) e told in
+    let with_nodes = subst (λ (n : ℕ). Stands node2 n c bodies) f with_node in
+    subst (λ (l : List (List ℕ)). Stands node2 nodes2 c l) g with_nodes
+
+pub start_moments : {D : Type 0} (state : D → DiskState) (old mid : RedoState D) (new : D) → IsDisk (state old.disk) → mid.node ≡ old.node → mid.nodes ≡ old.nodes → mid.bodies ≡ old.bodies → Stays (state old.disk) (state mid.disk)
+    → StandsFor (state old.disk) old.node old.nodes old.bodies → LeavesOnly (state mid.disk) (state new) (λ c. Stands mid.node mid.nodes c mid.bodies) → LeavesOnly (state old.disk) (state new) (λ c. Stands old.node old.nodes c old.bodies)
+start_moments state old mid new is_disk e f g stays stands told =
+    only_trans (state old.disk) (state mid.disk) (state new) (λ c. Stands old.node old.nodes c old.bodies) (only_rests (state old.disk) (state mid.disk) (λ c. Stands old.node old.nodes c old.bodies) is_disk stands stays)
+    (only_weaker (state mid.disk) (state new) (λ c. Stands mid.node mid.nodes c mid.bodies) (λ c. Stands old.node old.nodes c old.bodies) (stands_moved mid.node old.node mid.nodes old.nodes mid.bodies old.bodies e f g) told)
+
+pub listed_stands : (node nodes : ℕ) (bodies : List (List ℕ)) (records : List Record) (pending : Option Record) (there : Bool) → IsListed bodies records pending there → (c : List ℕ) → Stands node nodes c bodies → IsWithOrWithout node nodes records pending c
+listed_stands node nodes bodies records pending false e c told = inl (subst (λ (l : List (List ℕ)). Stands node nodes c l) e told)
+listed_stands node nodes bodies records None true e c told = absurd e
+listed_stands node nodes bodies records (Some r) true e c told = inr (subst (λ (l : List (List ℕ)). Stands node nodes c l) e told)
+
+pub reopened : {D : Type 0} (state : D → DiskState) (old : RedoState D) (mid : D) (records : List Record) (pending : Option Record) → StandsWithOrWithout (state old.disk) old.node old.nodes records pending → LeavesOnly (state old.disk) (state mid) (state old.disk).images
+    → LeavesOnly (state old.disk) (state mid) (IsWithOrWithout old.node old.nodes records pending)
+reopened state old mid records pending stands told = only_weaker (state old.disk) (state mid) (state old.disk).images (IsWithOrWithout old.node old.nodes records pending) stands told
+
+pub woken : {D : Type 0} (state : D → DiskState) (old mid : RedoState D) (new : D) (records : List Record) (pending : Option Record) (there : Bool) → mid.node ≡ old.node → mid.nodes ≡ old.nodes → IsListed mid.bodies records pending there
+    → StandsWithOrWithout (state old.disk) old.node old.nodes records pending → LeavesOnly (state old.disk) (state mid.disk) (state old.disk).images → LeavesOnly (state mid.disk) (state new) (λ c. Stands mid.node mid.nodes c mid.bodies)
+    → LeavesOnly (state old.disk) (state new) (IsWithOrWithout old.node old.nodes records pending)
+woken state old mid new records pending there e f listed stands first second =
+    let P = IsWithOrWithout old.node old.nodes records pending in
+    only_trans (state old.disk) (state mid.disk) (state new) P (reopened state old mid.disk records pending stands first)
+    (only_weaker (state mid.disk) (state new) (λ c. Stands mid.node mid.nodes c mid.bodies) P
+    (λ c told. moved mid.node old.node mid.nodes old.nodes records records pending e f refl c (listed_stands mid.node mid.nodes mid.bodies records pending there listed c told)) second)

@@ -1,0 +1,58 @@
+use Rattle.std.proofs.Common.{List, refl, Err, ap, sym, subst}
+use Rattle.mn_mini.specs.declared.record.Record.{Record}
+use Rattle.mn_node.specs.declared.restart.RestartError.{RestartError}
+use Rattle.mn_node.specs.Node.{added_to, bodies_of}
+use Rattle.mn_node.specs.Restart.{Compares, FailsRestart, IsListed}
+use Rattle.mn_node.proofs.Moments.{listed_stands, moved, woken}
+use Rattle.mn_node.proofs.Restarts.{no_damage, not_opened, neither, not_listed}
+use Rattle.mn_node.proofs.restart.back.Goals as goal
+
+pub returns-in-Err-clause-cause : goal.returns-in-Err-clause-cause
+returns-in-Err-clause-cause g c =
+    let old = c.args.redo.now in
+    let records = c.args.memory.now.records.items in
+    let content = (g.D.Disk.state old.disk).content in
+    let told = not_opened g.D.Disk.state g.D.Disk.faults old.disk c.reopen.new.self.disk records c.args.pending.now c.in-Err.cause (λ e. c.in-Err.ensures.fault (ap Err e))
+    (λ at is honest. no_damage old.node old.nodes content at (bodies_of records) (bodies_of (added_to records c.args.pending.now)) c.damaged_or_not.ensures (c.in-Err.ensures.damaged honest at (ap Err is))
+    (c.requires.stands honest content (g.D.Disk.is_disk old.disk honest).read)) in
+    subst (λ (e : RestartError). FailsRestart g.D.Disk.state g.D.Disk.faults old.disk c.reopen.new.self.disk records c.args.pending.now e) (sym c.error_of.ensures) told
+
+pub returns-in-Err-compare-clause-cause : goal.returns-in-Err-compare-clause-cause
+returns-in-Err-compare-clause-cause g c =
+    let old = c.args.redo.now in
+    let new = c.reopen.new.self in
+    let records = c.args.memory.now.records.items in
+    let content = (g.D.Disk.state old.disk).content in
+    let told = subst (λ (l : List Record). Compares new.bodies l c.args.pending.now c.in-Err-compare.error) c.deref.ensures.value c.in-Err-compare.ensures.differs in
+    not_listed g.D.Disk.state g.D.Disk.faults old.disk new.disk new.bodies records c.args.pending.now c.in-Err-compare.error
+    (λ other honest. neither old.node old.nodes content new.bodies records c.args.pending.now c.one_list.ensures other (c.in_default.ensures.read honest) (c.requires.stands honest content (g.D.Disk.is_disk old.disk honest).read)) told
+
+pub returns-in_err-wake_found-clause-moments : goal.returns-in_err-wake_found-clause-moments
+returns-in_err-wake_found-clause-moments g c =
+    let old = c.args.redo.now in
+    let mid = c.reopen.new.self in
+    let records = c.args.memory.now.records.items in
+    let pending = c.args.pending.now in
+    let there = c.in-Ok.there in
+    let listed = subst (λ (l : List Record). IsListed mid.bodies l pending there) c.deref.ensures.value c.in-Ok.ensures.listed in
+    λ honest. woken g.D.Disk.state old mid c.wake_found.new.redo.disk records pending there c.reopen.ensures.node c.reopen.ensures.nodes listed (c.requires.stands honest) (c.reopen.ensures.unwritten honest) (c.wake_found.ensures.moments (c.reopen.ensures.honest honest))
+
+pub returns-clause-moments : goal.returns-clause-moments
+returns-clause-moments g c =
+    let old = c.args.redo.now in
+    let mid = c.reopen.new.self in
+    let records = c.args.memory.now.records.items in
+    let pending = c.args.pending.now in
+    let there = c.in-Ok.there in
+    let listed = subst (λ (l : List Record). IsListed mid.bodies l pending there) c.deref.ensures.value c.in-Ok.ensures.listed in
+    λ honest. woken g.D.Disk.state old mid c.wake_found.new.redo.disk records pending there c.reopen.ensures.node c.reopen.ensures.nodes listed (c.requires.stands honest) (c.reopen.ensures.unwritten honest) (c.wake_found.ensures.moments (c.reopen.ensures.honest honest))
+
+pub returns-clause-stands : goal.returns-clause-stands
+returns-clause-stands g c =
+    let old = c.args.redo.now in
+    let mid = c.reopen.new.self in
+    let records = c.args.memory.now.records.items in
+    let pending = c.args.pending.now in
+    let there = c.in-Ok.there in
+    let listed = subst (λ (l : List Record). IsListed mid.bodies l pending there) c.deref.ensures.value c.in-Ok.ensures.listed in
+    λ honest l image. moved mid.node old.node mid.nodes old.nodes records records pending c.reopen.ensures.node c.reopen.ensures.nodes refl l (listed_stands mid.node mid.nodes mid.bodies records pending there listed l (c.wake_found.ensures.stands honest l image))

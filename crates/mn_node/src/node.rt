@@ -1,0 +1,205 @@
+ghost use Rattle.std.specs.Prelude.{◌≡◌, ◌≢◌, ◌≤◌, ◌<◌, ℕ, List, None, true, false, IfOk, IfErr, OnOk, OnErr};
+ghost use Rattle.std.specs.List.{AllByRecursion};
+ghost use Rattle.mn_io.specs.Faults.{Rose};
+ghost use Rattle.mn_mini.specs.declared.reply.NodeReply.{NodeReply};
+ghost use Rattle.mn_redo.specs.Grammar.{Stands};
+ghost use Rattle.mn_redo.specs.Redo.{StandsFor};
+ghost use Rattle.mn_redo.specs.declared.redo.Phase.TheVariants.{Closing};
+ghost use Rattle.mn_mini.specs.RecordGrammar.{IsRecord};
+ghost use Rattle.mn_mini.specs.Sound.{Fits, IsDecide, IsSoundRequest};
+ghost use Rattle.mn_io.specs.DiskModel.{LeavesOnly};
+ghost use Rattle.mn_node.specs.Node.{IsWithOrWithout, StandsWithOrWithout};
+ghost use Rattle.mn_node.specs.Restart.{FailsRestart, Restarts};
+ghost use Rattle.mn_node.specs.State.{Answers, GoesOn, IsFirstBad, IsStarted, MayStart, StandsForRecords, response_to};
+ghost use Rattle.mn_node.specs.declared.start.StartCause.TheVariants as causes;
+
+use crate::memory::Memory;
+use crate::restart::{RestartError, back};
+use crate::start::{StartCause, ready};
+use crate::step::{Served, serve};
+use mn_base::StopAt;
+use mn_io::Disk;
+use mn_mini::{NodeReply, Record, Request, answers_fit, held_parts_apart};
+use mn_redo::Redo;
+use std::alloc::Global;
+use std::marker::Model;
+
+/// A memory node: its records, on a disk, and what they make of its space, its locks and the ids that may not vote.
+///
+/// While its disk is honest, each image of it stands for the node's records; while the node is down, for these, or for these and the record
+/// of the request inside which it stopped.
+#[derive(Drop)]
+pub struct Node<D: Disk> {
+    redo: Box<Redo<D>>,
+    memory: Memory,
+    is_down: bool,
+    /// While it is down: the record of the request inside which it stopped.
+    pending: Option<Record>,
+}
+
+impl<D: Disk> Model for Node<D> {
+    ghost use Rattle.mn_node.specs.State.{IsNode, NodeState};
+
+    ghost Value = { NodeState D };
+
+    ghost view = { λ n. record { disk = n.redo.value.disk; node = n.redo.value.node; nodes = n.redo.value.nodes; records = n.memory.records.items; down = n.is_down; pending = n.pending } };
+
+    ghost invariant = { λ n. IsNode D.state n.redo.value n.memory n.is_down n.pending };
+}
+
+/// A disk whose node wasn't started, and why.
+#[derive(Drop)]
+pub struct StartFailed<D: Disk> {
+    pub disk: D,
+    pub cause: StartCause,
+}
+
+impl<D: Disk> Node<D> {
+    /// Starts the node of a log: its records are those that the log's bodies spell, and it holds what they hold. It makes room for a decision
+    /// of each held part, writes the header of a fresh disk, and nothing else.
+    ///
+    /// `Damaged` comes exactly where a body is no record, with the place of the gate of the first, `Fault` only where the disk's count of
+    /// faults rose, and `NoMemory` where there is no room. The disk comes back with the cause, and stands for the same bodies.
+    pub fn start(alloc: Global, redo: Redo<D>) -> Result<Node<D>, StartFailed<D>>
+        requires going { redo.phase ≢ Closing }
+        requires nodes { 0 < redo.nodes }
+
+        // As far as its bodies are records, no two parts of different ids that they hold conflict.
+        requires apart { MayStart redo.bodies }
+        ensures started { IfOk result (IsStarted D.state redo) }
+        ensures fault { IfErr result (λ failed. failed.cause ≡ causes.Fault → Rose (D.faults redo.disk) (D.faults failed.disk)) }
+        ensures damaged { (at : ℕ) → IfErr result (λ failed. failed.cause ≡ causes.Damaged at → IsFirstBad redo.bodies at) }
+        ensures stands_err { IfErr result (λ failed. (D.state failed.disk).honest → StandsFor (D.state failed.disk) redo.node redo.nodes redo.bodies) }
+
+        // Where each image stands for the bodies, as `Redo::open` says, a crash at any moment of the call leaves the same bodies.
+        ensures moments_ok { (D.state redo.disk).honest → StandsFor (D.state redo.disk) redo.node redo.nodes redo.bodies → IfOk result (λ node. LeavesOnly (D.state redo.disk) (D.state node.disk) (λ c. Stands redo.node redo.nodes c redo.bodies)) }
+        ensures moments_err { (D.state redo.disk).honest → StandsFor (D.state redo.disk) redo.node redo.nodes redo.bodies → IfErr result (λ failed. LeavesOnly (D.state redo.disk) (D.state failed.disk) (λ c. Stands redo.node redo.nodes c redo.bodies)) }
+        ensures later_ok { IfOk result (λ node. D.faults redo.disk ≤ D.faults node.disk) }
+        ensures later_err { IfErr result (λ failed. D.faults redo.disk ≤ D.faults failed.disk) }
+        ensures honest_ok { (D.state redo.disk).honest → IfOk result (λ node. (D.state node.disk).honest) }
+        ensures honest_err { (D.state redo.disk).honest → IfErr result (λ failed. (D.state failed.disk).honest) }
+        ensures no_better_ok { IfOk result (λ node. (D.state node.disk).honest → (D.state redo.disk).honest) }
+        ensures no_better_err { IfErr result (λ failed. (D.state failed.disk).honest → (D.state redo.disk).honest) }
+    {
+        let mut redo = match Box::new(alloc, redo) {
+            Ok(redo) => redo,
+            Err(failed) => {
+                return Err(StartFailed {
+                    disk: failed.value.close(),
+                    cause: StartCause::NoMemory,
+                });
+            }
+        };
+        match ready(alloc, &mut redo) {
+            Ok(memory) => Ok(Node {
+                redo,
+                memory,
+                is_down: false,
+                pending: None,
+            }),
+            Err(cause) => Err(StartFailed {
+                disk: Box::into_inner(redo).close(),
+                cause,
+            }),
+        }
+    }
+
+    /// What the node replies to a request, by its records alone. A record that the answer adds is stable on the disk before the reply.
+    ///
+    /// `Stopped`, where the disk failed or a stop was asked for and there was a record to stop at: the node is down, and the record may stand
+    /// on the disk or not. `Down` exactly where the node was down, and `NoMemory` where there was no memory: nothing has changed. A Decide
+    /// takes no memory. What is replied fits the request.
+    pub fn handle(&mut self, alloc: Global, request: &Request, stop: Option<StopAt>) -> NodeReply
+        requires sound { IsSoundRequest request.now }
+        ensures answers { Answers D.state D.faults self.old request.now stop result self.new }
+        ensures fits { Fits request.now result }
+        ensures decides { IsDecide request.now → result ≢ NodeReply.NoMemory }
+
+        // A crash at any moment of the call leaves the records from before it, with the answer's one record or without.
+        ensures moments { self.old.down ≡ false → (D.state self.old.disk).honest → LeavesOnly (D.state self.old.disk) (D.state self.new.disk) (IsWithOrWithout self.old.node self.old.nodes self.old.records (response_to self.old request.now).added) }
+        ensures goes_on { GoesOn D.state D.faults self.old self.new }
+    {
+        held_parts_apart();
+        answers_fit();
+        if self.is_down {
+            return NodeReply::Down;
+        }
+        match serve(alloc, &mut self.redo, &mut self.memory, request, stop) {
+            Served::Replied { reply } => reply,
+            Served::Stopped { left } => {
+                self.is_down = true;
+                self.pending = Some(left);
+                NodeReply::Stopped
+            }
+        }
+    }
+
+    /// Stops the node. It takes no memory.
+    pub fn halt(&mut self)
+        ensures down { self.new.down ≡ true }
+        ensures records { self.new.records ≡ self.old.records }
+        ensures up { self.old.down ≡ false → self.new.pending ≡ None }
+        ensures same { self.old.down ≡ true → self.new ≡ self.old }
+        ensures stands { self.old.down ≡ false → StandsForRecords (D.state self.new.disk) self.new.node self.new.nodes self.new.records }
+        ensures disk { self.new.disk ≡ self.old.disk }
+        ensures node { self.new.node ≡ self.old.node }
+        ensures nodes { self.new.nodes ≡ self.old.nodes }
+    {
+        self.is_down = true;
+    }
+
+    /// Starts the node again that is down, with its records, and with the record of the request inside which it stopped where the disk has it:
+    /// which is told. It holds again what these hold, shared ranges too. It writes nothing, but the header of a disk that reads as fresh where
+    /// there are no records.
+    ///
+    /// After an error it is still down, and may be restarted again. `Fault` comes only where the disk's count of faults rose; `Damaged`, where
+    /// the disk has other records, never comes where the disk is honest. It names the first record that differs, as the node has it and as the
+    /// disk gave it, or a place and no record.
+    pub fn restart(&mut self, alloc: Global) -> Result<bool, RestartError>
+        requires down { self.old.down ≡ true }
+        ensures up { OnOk result (self.new.down ≡ false) }
+        ensures records { IfOk result (Restarts self.old.records self.old.pending self.new.records) }
+        ensures stands { OnOk result (StandsForRecords (D.state self.new.disk) self.new.node self.new.nodes self.new.records) }
+        ensures down { OnErr result (self.new.down ≡ true) }
+        ensures before { OnErr result (self.new.records ≡ self.old.records) }
+        ensures pending { OnErr result (self.new.pending ≡ self.old.pending) }
+
+        // A crash at any moment of the call leaves the records, with the one that may have been there or without.
+        ensures moments { (D.state self.old.disk).honest → LeavesOnly (D.state self.old.disk) (D.state self.new.disk) (IsWithOrWithout self.old.node self.old.nodes self.old.records self.old.pending) }
+        ensures cause { IfErr result (FailsRestart D.state D.faults self.old.disk self.new.disk self.old.records self.old.pending) }
+        ensures goes_on { GoesOn D.state D.faults self.old self.new }
+    {
+        match back(alloc, &mut self.redo, &mut self.memory, &self.pending) {
+            Ok(there) => {
+                self.is_down = false;
+                self.pending = None;
+                Ok(there)
+            }
+            Err(error) => Err(error),
+        }
+    }
+
+    /// Its records, the oldest first.
+    pub fn records(&self) -> &[Record]
+        ensures records { result.now ≡ self.now.records }
+        ensures sound { AllByRecursion IsRecord result.now }
+    {
+        &self.memory.records
+    }
+
+    /// Whether it is down.
+    pub fn is_down(&self) -> bool
+        ensures down { result ≡ self.now.down }
+    {
+        self.is_down
+    }
+
+    /// Its disk, as the last call left it.
+    pub fn close(self) -> D
+        ensures disk { result ≡ self.disk }
+        ensures up { self.down ≡ false → StandsForRecords (D.state result) self.node self.nodes self.records }
+        ensures stands { (D.state result).honest → StandsWithOrWithout (D.state result) self.node self.nodes self.records self.pending }
+    {
+        Box::into_inner(self.redo).close()
+    }
+}

@@ -1,0 +1,350 @@
+ghost use Rattle.std.specs.Prelude.{◌≡◌, ◌≢◌, ◌≤◌, ◌<◌, ◌++◌, ◌∷◌, [], ℕ, Option, List, length, reverse, get_or, take, Some, None, true, false, IfOk, IfErr, OnOk, OnErr, IfSome, IfNone, IsErrOf, MatchOption};
+ghost use Rattle.std.specs.List.{AllByRecursion};
+ghost use Rattle.mn_io.specs.Faults.{Rose};
+ghost use Rattle.mn_io.specs.DiskModel.{LeavesOnly};
+ghost use Rattle.mn_redo.specs.Grammar.{Stands};
+ghost use Rattle.mn_redo.specs.Redo.{StandsFor};
+ghost use Rattle.mn_redo.specs.declared.redo.Phase.TheVariants.{Fresh, Closing};
+ghost use Rattle.mn_mini.specs.Laws.{AreApart};
+ghost use Rattle.mn_mini.specs.Node.{held_parts};
+ghost use Rattle.mn_mini.specs.RecordGrammar.{IsRecord, record_bytes};
+ghost use Rattle.mn_mini.specs.declared.record.Record.{Record};
+ghost use Rattle.mn_node.specs.declared.restart.RestartError.TheVariants as errors;
+ghost use Rattle.mn_node.specs.Node.{Continues, IsUp, IsWithOrWithout, SameNode, StandsWithOrWithout, added_to, bodies_of};
+ghost use Rattle.mn_node.specs.Restart.{Compares, Differs, FailsRestart, HasLeft, IsCause, IsFound, IsFront, IsListed, IsOtherAt, IsUnread, Restarts};
+
+use crate::memory::Memory;
+use crate::start::{StartCause, start_log};
+use mn_base::{NoMemory, TryCopy};
+use mn_io::Disk;
+use mn_mini::{Record, RecordError};
+use mn_redo::{OpenCause, Redo, damaged_or_not, one_list};
+use std::alloc::{AllocFailed, Global};
+
+/// Why a node wasn't restarted. It is still down.
+#[derive(Debug, Drop)]
+pub enum RestartError {
+    /// The disk failed.
+    Fault,
+    /// The disk has other records than the node: record `at`, from 0, is the first that differs, with the node's and the disk's, as far as
+    /// they have one. Or, with both absent, it is no log of records: `at` is the place of the fault, 0 for a disk that reads as fresh. An
+    /// honest disk never shows it.
+    Damaged {
+        at: u64,
+        kept: Option<Record>,
+        found: Option<Record>,
+    },
+    NoMemory,
+}
+
+impl From<NoMemory> for RestartError {
+    ghost use Rattle.std.specs.Prelude.{◌≡◌};
+    ghost use Rattle.mn_node.specs.declared.restart.RestartError.TheVariants as errors;
+
+    ghost from_gives = { λ _ e. e ≡ errors.NoMemory };
+
+    fn from(_error: NoMemory) -> Self {
+        RestartError::NoMemory
+    }
+}
+
+impl<T: Drop> From<AllocFailed<T>> for RestartError {
+    ghost use Rattle.std.specs.Prelude.{◌≡◌};
+    ghost use Rattle.mn_node.specs.declared.restart.RestartError.TheVariants as errors;
+
+    ghost from_gives = { λ _ e. e ≡ errors.NoMemory };
+
+    fn from(_error: AllocFailed<T>) -> Self {
+        RestartError::NoMemory
+    }
+}
+
+/// What a log that can't be read again makes of a restart.
+fn error_of(cause: OpenCause) -> RestartError
+    ensures { result ≡ Rattle.mn_node.specs.Restart.error_of cause }
+{
+    match cause {
+        OpenCause::Fault => RestartError::Fault,
+        OpenCause::Damaged { at } => RestartError::Damaged {
+            at,
+            kept: None,
+            found: None,
+        },
+        OpenCause::NoMemory => RestartError::NoMemory,
+    }
+}
+
+/// Whether a body of the log is the record's.
+fn spells<D: Disk>(
+    alloc: Global,
+    redo: &Redo<D>,
+    number: u32,
+    kept: &Record,
+) -> Result<bool, NoMemory>
+    requires going { redo.now.phase ≢ Closing }
+    requires number { number < length redo.now.bodies }
+    requires sound { IsRecord kept.now }
+    ensures yes { IfOk result (λ same. same ≡ true → get_or redo.now.bodies number [] ≡ record_bytes kept.now) }
+    ensures no { IfOk result (λ same. same ≡ false → get_or redo.now.bodies number [] ≢ record_bytes kept.now) }
+{
+    let bytes = kept.write(alloc)?;
+    Ok(bytes.as_slice() == redo.body(number))
+}
+
+/// The number of the first of these records that the log has not.
+fn first_difference<D: Disk>(
+    alloc: Global,
+    redo: &Redo<D>,
+    records: &[Record],
+) -> Result<Option<usize>, NoMemory>
+    requires going { redo.now.phase ≢ Closing }
+    requires sound { AllByRecursion IsRecord records.now }
+    ensures { IfOk result (λ found. MatchOption found (IsFront redo.now.bodies records.now) (λ at. (at < length records.now) × IsOtherAt redo.now.bodies records.now at)) }
+{
+    let count = redo.count() as usize;
+    for number in 0..records.len() {
+        if number >= count {
+            return Ok(Some(number));
+        }
+        if !spells(alloc, redo, number as u32, &records[number])? {
+            return Ok(Some(number));
+        }
+    }
+    Ok(None)
+}
+
+/// The record that a body of the log spells, if there is that body.
+fn found_at<D: Disk>(
+    alloc: Global,
+    redo: &Redo<D>,
+    at: usize,
+) -> Result<Option<Record>, RestartError>
+    requires going { redo.now.phase ≢ Closing }
+    ensures found { IfOk result (IsFound redo.now.bodies at) }
+    ensures unread { IfErr result IsUnread }
+{
+    if at >= redo.count() as usize {
+        return Ok(None);
+    }
+    match Record::read(alloc, redo.body(at as u32)) {
+        Ok(record) => Ok(Some(record)),
+        Err(RecordError::BadRecord) => Err(RestartError::Damaged {
+            at: redo.gate(at as u32),
+            kept: None,
+            found: None,
+        }),
+        Err(RecordError::NoMemory) => Err(RestartError::NoMemory),
+    }
+}
+
+/// What a log says that differs at this number from the node's record, if it has one.
+fn differs<D: Disk>(alloc: Global, redo: &Redo<D>, at: usize, kept: Option<Record>) -> RestartError
+    requires going { redo.now.phase ≢ Closing }
+    ensures { Differs redo.now.bodies at kept result }
+{
+    match found_at(alloc, redo, at) {
+        Ok(found) => RestartError::Damaged {
+            at: at as u64,
+            kept,
+            found,
+        },
+        Err(error) => error,
+    }
+}
+
+/// Compares what the log has behind a node's records with the record that may be there. It has something.
+fn compare_rest<D: Disk>(
+    alloc: Global,
+    redo: &Redo<D>,
+    records: &[Record],
+    pending: &Option<Record>,
+) -> Result<bool, RestartError>
+    requires going { redo.now.phase ≢ Closing }
+    requires sound { AllByRecursion IsRecord (added_to records.now pending.now) }
+    requires front { IsFront redo.now.bodies records.now }
+    requires more { length records.now < length redo.now.bodies }
+    ensures more { IfOk result (λ there. there ≡ true) }
+    ensures listed { OnOk result (HasLeft redo.now.bodies records.now pending.now) }
+    ensures differs { IfErr result (Compares redo.now.bodies records.now pending.now) }
+{
+    let total = redo.count();
+    let count = records.len();
+    let Some(left) = pending else {
+        return Err(differs(alloc, redo, count, None));
+    };
+    if !spells(alloc, redo, count as u32, left)? {
+        return Err(differs(alloc, redo, count, None));
+    }
+    if total as usize > count + 1 {
+        return Err(differs(alloc, redo, count + 1, None));
+    }
+    Ok(true)
+}
+
+/// Compares the log of a disk that reads as fresh with a node's records.
+fn compare_fresh(records: &[Record]) -> Result<bool, RestartError>
+    ensures none { IfOk result (λ there. (there ≡ false) × (records.now ≡ [])) }
+    ensures some { IfErr result (λ e. (e ≡ errors.Damaged 0 None None) × (0 < length records.now)) }
+{
+    if records.is_empty() {
+        return Ok(false);
+    }
+    Err(RestartError::Damaged {
+        at: 0,
+        kept: None,
+        found: None,
+    })
+}
+
+/// Compares the log with a node's records and the record that may be behind them. Whether that is there.
+fn compare<D: Disk>(
+    alloc: Global,
+    redo: &Redo<D>,
+    records: &[Record],
+    pending: &Option<Record>,
+) -> Result<bool, RestartError>
+    requires going { redo.now.phase ≢ Closing }
+    requires fresh { redo.now.phase ≡ Fresh → redo.now.bodies ≡ [] }
+    requires sound { AllByRecursion IsRecord (added_to records.now pending.now) }
+    ensures listed { IfOk result (IsListed redo.now.bodies records.now pending.now) }
+    ensures differs { IfErr result (Compares redo.now.bodies records.now pending.now) }
+{
+    if redo.is_fresh() {
+        return compare_fresh(records);
+    }
+    if let Some(at) = first_difference(alloc, redo, records)? {
+        let kept = records[at].try_copy(alloc)?;
+        return Err(differs(alloc, redo, at, Some(kept)));
+    }
+    if redo.count() as usize == records.len() {
+        return Ok(false);
+    }
+    compare_rest(alloc, redo, records, pending)
+}
+
+/// Makes a node's memory anew from its records, which the log has, and makes the log ready for more.
+fn wake<D: Disk>(alloc: Global, redo: &mut Redo<D>, memory: &mut Memory) -> Result<(), RestartError>
+    requires going { redo.old.phase ≢ Closing }
+    requires nodes { 0 < memory.old.nodes }
+    requires bodies { redo.old.bodies ≡ bodies_of memory.old.records.items }
+    requires sound { AllByRecursion IsRecord memory.old.records.items }
+    requires apart { AreApart (held_parts (reverse memory.old.records.items)) }
+    requires stands { (D.state redo.old.disk).honest → StandsFor (D.state redo.old.disk) redo.old.node redo.old.nodes redo.old.bodies }
+    ensures up { OnOk result (IsUp D.state redo.new memory.new) }
+    ensures records { memory.new.records.items ≡ memory.old.records.items }
+    ensures stands { (D.state redo.new.disk).honest → StandsFor (D.state redo.new.disk) redo.old.node redo.old.nodes redo.old.bodies }
+    ensures moments { (D.state redo.old.disk).honest → LeavesOnly (D.state redo.old.disk) (D.state redo.new.disk) (λ c. Stands redo.old.node redo.old.nodes c redo.old.bodies) }
+    ensures continues { Continues D.state D.faults redo.old redo.new }
+    ensures same { SameNode memory.old memory.new }
+    ensures cause { IfErr result (IsCause D.faults redo.old.disk redo.new.disk) }
+{
+    memory.rebuild(alloc)?;
+    match start_log(redo, memory.held) {
+        Ok(()) => Ok(()),
+        Err(StartCause::Fault) => Err(RestartError::Fault),
+        Err(_) => Err(RestartError::NoMemory),
+    }
+}
+
+/// The same with one record more, which the log has too.
+fn wake_with<D: Disk>(
+    alloc: Global,
+    redo: &mut Redo<D>,
+    memory: &mut Memory,
+    left: &Record,
+) -> Result<(), RestartError>
+    requires going { redo.old.phase ≢ Closing }
+    requires nodes { 0 < memory.old.nodes }
+    requires bodies { redo.old.bodies ≡ bodies_of (memory.old.records.items ++ left.now ∷ []) }
+    requires sound { AllByRecursion IsRecord (memory.old.records.items ++ left.now ∷ []) }
+    requires apart { AreApart (held_parts (reverse (memory.old.records.items ++ left.now ∷ []))) }
+    requires stands { (D.state redo.old.disk).honest → StandsFor (D.state redo.old.disk) redo.old.node redo.old.nodes redo.old.bodies }
+    ensures up { OnOk result (IsUp D.state redo.new memory.new) }
+    ensures records { OnOk result (memory.new.records.items ≡ memory.old.records.items ++ left.now ∷ []) }
+    ensures before { OnErr result (memory.new.records.items ≡ memory.old.records.items) }
+    ensures stands { (D.state redo.new.disk).honest → StandsFor (D.state redo.new.disk) redo.old.node redo.old.nodes redo.old.bodies }
+    ensures moments { (D.state redo.old.disk).honest → LeavesOnly (D.state redo.old.disk) (D.state redo.new.disk) (λ c. Stands redo.old.node redo.old.nodes c redo.old.bodies) }
+    ensures continues { Continues D.state D.faults redo.old redo.new }
+    ensures same { SameNode memory.old memory.new }
+    ensures cause { IfErr result (IsCause D.faults redo.old.disk redo.new.disk) }
+{
+    let copy = left.try_copy(alloc)?;
+    memory.records.push(copy)?;
+    match wake(alloc, redo, memory) {
+        Ok(()) => Ok(()),
+        Err(error) => {
+            let _copy = memory.records.pop();
+            Err(error)
+        }
+    }
+}
+
+/// Makes a node's memory anew from its records and, where the log has it, the record that may be behind them.
+fn wake_found<D: Disk>(
+    alloc: Global,
+    redo: &mut Redo<D>,
+    memory: &mut Memory,
+    pending: &Option<Record>,
+    there: bool,
+) -> Result<(), RestartError>
+    requires going { redo.old.phase ≢ Closing }
+    requires nodes { 0 < memory.old.nodes }
+    requires listed { IsListed redo.old.bodies memory.old.records.items pending.now there }
+    requires sound { AllByRecursion IsRecord (added_to memory.old.records.items pending.now) }
+    requires apart { AreApart (held_parts (reverse memory.old.records.items)) }
+    requires apart_left { AreApart (held_parts (reverse (added_to memory.old.records.items pending.now))) }
+    requires stands { (D.state redo.old.disk).honest → StandsFor (D.state redo.old.disk) redo.old.node redo.old.nodes redo.old.bodies }
+    ensures up { OnOk result (IsUp D.state redo.new memory.new) }
+    ensures records { OnOk result (Restarts memory.old.records.items pending.now memory.new.records.items there) }
+    ensures before { OnErr result (memory.new.records.items ≡ memory.old.records.items) }
+    ensures stands { (D.state redo.new.disk).honest → StandsFor (D.state redo.new.disk) redo.old.node redo.old.nodes redo.old.bodies }
+    ensures moments { (D.state redo.old.disk).honest → LeavesOnly (D.state redo.old.disk) (D.state redo.new.disk) (λ c. Stands redo.old.node redo.old.nodes c redo.old.bodies) }
+    ensures continues { Continues D.state D.faults redo.old redo.new }
+    ensures same { SameNode memory.old memory.new }
+    ensures cause { IfErr result (IsCause D.faults redo.old.disk redo.new.disk) }
+{
+    match pending {
+        None => wake(alloc, redo, memory),
+        Some(left) => {
+            if there {
+                wake_with(alloc, redo, memory, left)
+            } else {
+                wake(alloc, redo, memory)
+            }
+        }
+    }
+}
+
+/// Reads the log of a node that is down again, and makes its memory anew. Whether the record that may have been behind the others is there.
+pub fn back<D: Disk>(
+    alloc: Global,
+    redo: &mut Redo<D>,
+    memory: &mut Memory,
+    pending: &Option<Record>,
+) -> Result<bool, RestartError>
+    requires nodes { 0 < memory.old.nodes }
+    requires sound { AllByRecursion IsRecord (added_to memory.old.records.items pending.now) }
+    requires apart { AreApart (held_parts (reverse memory.old.records.items)) }
+    requires apart_left { AreApart (held_parts (reverse (added_to memory.old.records.items pending.now))) }
+    requires stands { (D.state redo.old.disk).honest → StandsWithOrWithout (D.state redo.old.disk) redo.old.node redo.old.nodes memory.old.records.items pending.now }
+    ensures up { OnOk result (IsUp D.state redo.new memory.new) }
+    ensures records { IfOk result (Restarts memory.old.records.items pending.now memory.new.records.items) }
+    ensures before { OnErr result (memory.new.records.items ≡ memory.old.records.items) }
+    ensures stands { (D.state redo.new.disk).honest → StandsWithOrWithout (D.state redo.new.disk) redo.old.node redo.old.nodes memory.old.records.items pending.now }
+    ensures moments { (D.state redo.old.disk).honest → LeavesOnly (D.state redo.old.disk) (D.state redo.new.disk) (IsWithOrWithout redo.old.node redo.old.nodes memory.old.records.items pending.now) }
+    ensures continues { Continues D.state D.faults redo.old redo.new }
+    ensures same { SameNode memory.old memory.new }
+    ensures cause { IfErr result (FailsRestart D.state D.faults redo.old.disk redo.new.disk memory.old.records.items pending.now) }
+{
+    one_list();
+    damaged_or_not();
+    if let Err(cause) = redo.reopen(alloc) {
+        return Err(error_of(cause));
+    }
+    let there = match compare(alloc, redo, &memory.records, pending) {
+        Ok(there) => there,
+        Err(error) => return Err(error),
+    };
+    wake_found(alloc, redo, memory, pending, there)?;
+    Ok(there)
+}

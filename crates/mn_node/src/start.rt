@@ -1,0 +1,127 @@
+ghost use Rattle.std.specs.Prelude.{◌≡◌, ◌≢◌, ◌≤◌, ◌<◌, ◌+◌, ◌*◌, ℕ, IfOk, OnOk, IsErrOf};
+ghost use Rattle.mn_io.specs.Faults.{Rose};
+ghost use Rattle.mn_io.specs.DiskModel.{LeavesOnly};
+ghost use Rattle.mn_redo.specs.Grammar.{Stands};
+ghost use Rattle.mn_redo.specs.Redo.{StandsFor};
+ghost use Rattle.mn_redo.specs.declared.redo.Phase.TheVariants.{Started, Closing};
+ghost use Rattle.mn_node.specs.declared.start.StartCause.TheVariants as causes;
+ghost use Rattle.mn_node.specs.Memory.{IsMemory, HasRoom};
+ghost use Rattle.mn_node.specs.Node.{Continues, IsUp, bodies_of};
+ghost use Rattle.mn_node.specs.State.{AreRecords, IsFirstBad, MayStart};
+
+use crate::memory::Memory;
+use crate::replay::memory_of;
+use mn_base::NoMemory;
+use mn_io::{Disk, Fault};
+use mn_mini::{Record, RecordError};
+use mn_redo::Redo;
+use std::alloc::{AllocFailed, Global};
+
+/// Why a node wasn't started.
+#[derive(Clone, Copy, Debug, PartialEq, Eq)]
+pub enum StartCause {
+    /// The disk failed.
+    Fault,
+    /// A body of the log is no record; the place of its gate on the disk.
+    Damaged { at: u64 },
+    NoMemory,
+}
+
+impl From<NoMemory> for StartCause {
+    ghost use Rattle.std.specs.Prelude.{◌≡◌};
+    ghost use Rattle.mn_node.specs.declared.start.StartCause.TheVariants as causes;
+
+    ghost from_gives = { λ _ e. e ≡ causes.NoMemory };
+
+    fn from(_error: NoMemory) -> Self {
+        StartCause::NoMemory
+    }
+}
+
+impl<T: Drop> From<AllocFailed<T>> for StartCause {
+    ghost use Rattle.std.specs.Prelude.{◌≡◌};
+    ghost use Rattle.mn_node.specs.declared.start.StartCause.TheVariants as causes;
+
+    ghost from_gives = { λ _ e. e ≡ causes.NoMemory };
+
+    fn from(_error: AllocFailed<T>) -> Self {
+        StartCause::NoMemory
+    }
+}
+
+impl From<Fault> for StartCause {
+    ghost use Rattle.std.specs.Prelude.{◌≡◌};
+    ghost use Rattle.mn_node.specs.declared.start.StartCause.TheVariants as causes;
+
+    ghost from_gives = { λ _ e. e ≡ causes.Fault };
+
+    fn from(_error: Fault) -> Self {
+        StartCause::Fault
+    }
+}
+
+/// The records that the bodies of a log spell.
+pub fn records_of<D: Disk>(alloc: Global, redo: &Redo<D>) -> Result<Vec<Record>, StartCause>
+    requires going { redo.now.phase ≢ Closing }
+    ensures records { IfOk result (λ records. AreRecords redo.now.bodies records.items) }
+    ensures damaged { (at : ℕ) → IsErrOf result (causes.Damaged at) → IsFirstBad redo.now.bodies at }
+    ensures no_fault { IsErrOf result causes.Fault → ⊥ }
+{
+    let mut records = Vec::new(alloc);
+    for number in 0..redo.count() {
+        match Record::read(alloc, redo.body(number)) {
+            Ok(record) => records.push(record)?,
+            Err(RecordError::BadRecord) => {
+                return Err(StartCause::Damaged {
+                    at: redo.gate(number),
+                });
+            }
+            Err(RecordError::NoMemory) => return Err(StartCause::NoMemory),
+        }
+    }
+    Ok(records)
+}
+
+/// Makes room for a decision of each held part in the log, and starts it.
+pub fn start_log<D: Disk>(redo: &mut Redo<D>, held: u32) -> Result<(), StartCause>
+    requires going { redo.old.phase ≢ Closing }
+    ensures started { OnOk result (redo.new.phase ≡ Started) }
+    ensures bodies { redo.new.bodies ≡ redo.old.bodies }
+    ensures spare_bodies { OnOk result (held ≤ redo.new.spare_bodies) }
+    ensures spare_bytes { OnOk result (11 * held ≤ redo.new.spare_bytes) }
+    ensures stands { OnOk result ((D.state redo.new.disk).honest → StandsFor (D.state redo.new.disk) redo.old.node redo.old.nodes redo.old.bodies) }
+    ensures keeps { ((D.state redo.old.disk).honest → StandsFor (D.state redo.old.disk) redo.old.node redo.old.nodes redo.old.bodies) → (D.state redo.new.disk).honest → StandsFor (D.state redo.new.disk) redo.old.node redo.old.nodes redo.old.bodies }
+    ensures moments { (D.state redo.old.disk).honest → StandsFor (D.state redo.old.disk) redo.old.node redo.old.nodes redo.old.bodies → LeavesOnly (D.state redo.old.disk) (D.state redo.new.disk) (λ c. Stands redo.old.node redo.old.nodes c redo.old.bodies) }
+    ensures stands_closing { redo.new.phase ≡ Closing → (D.state redo.new.disk).honest → StandsFor (D.state redo.new.disk) redo.old.node redo.old.nodes redo.old.bodies }
+    ensures continues { Continues D.state D.faults redo.old redo.new }
+    ensures fault { IsErrOf result causes.Fault → Rose (D.faults redo.old.disk) (D.faults redo.new.disk) }
+    ensures not_damaged { (at : ℕ) → IsErrOf result (causes.Damaged at) → ⊥ }
+{
+    if redo.reserve(held, 11 * held as usize).is_err() {
+        return Err(StartCause::NoMemory);
+    }
+    redo.start()?;
+    Ok(())
+}
+
+/// Reads what a node keeps in memory from its log, and makes the log ready for more.
+pub fn ready<D: Disk>(alloc: Global, redo: &mut Redo<D>) -> Result<Memory, StartCause>
+    requires going { redo.old.phase ≢ Closing }
+    requires nodes { 0 < redo.old.nodes }
+    requires apart { MayStart redo.old.bodies }
+    ensures up { IfOk result (λ memory. IsUp D.state redo.new memory) }
+    ensures records { IfOk result (λ memory. AreRecords redo.old.bodies memory.records.items) }
+    ensures node { IfOk result (λ memory. memory.node ≡ redo.old.node) }
+    ensures nodes { IfOk result (λ memory. memory.nodes ≡ redo.old.nodes) }
+    ensures bodies { redo.new.bodies ≡ redo.old.bodies }
+    ensures stands { redo.new.phase ≡ Closing → (D.state redo.new.disk).honest → StandsFor (D.state redo.new.disk) redo.old.node redo.old.nodes redo.old.bodies }
+    ensures moments { (D.state redo.old.disk).honest → StandsFor (D.state redo.old.disk) redo.old.node redo.old.nodes redo.old.bodies → LeavesOnly (D.state redo.old.disk) (D.state redo.new.disk) (λ c. Stands redo.old.node redo.old.nodes c redo.old.bodies) }
+    ensures continues { Continues D.state D.faults redo.old redo.new }
+    ensures fault { IsErrOf result causes.Fault → Rose (D.faults redo.old.disk) (D.faults redo.new.disk) }
+    ensures damaged { (at : ℕ) → IsErrOf result (causes.Damaged at) → IsFirstBad redo.old.bodies at }
+{
+    let records = records_of(alloc, redo)?;
+    let memory = memory_of(alloc, redo.node(), redo.nodes(), records)?;
+    start_log(redo, memory.held)?;
+    Ok(memory)
+}

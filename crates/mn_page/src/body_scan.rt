@@ -1,0 +1,163 @@
+ghost use Rattle.std.specs.Prelude.{◌≡◌, ◌≤◌, ◌++◌, ℕ, List, length, map, IfSome, IsSomeAnd};
+ghost use Rattle.std.specs.List.{flat_map};
+ghost use Rattle.std.specs.Option.{option_map};
+ghost use Rattle.mn_base.specs.Store.{is_ascending};
+ghost use Rattle.mn_base.specs.declared.ids.Addr.{Addr};
+ghost use Rattle.mn_base.specs.declared.reply.Pair.{Pair};
+ghost use Rattle.mn_page.specs.declared.page.Body.{Body};
+ghost use Rattle.mn_page.specs.declared.page.Body.TheVariants.{Leaf, Inner};
+ghost use Rattle.mn_page.specs.declared.page.Child.{Child};
+ghost use Rattle.mn_page.specs.Grammar.{are_ascending, pair_bytes};
+ghost use Rattle.mn_page.specs.Reading.{Begins, pair_seen, child_seen, pairs_seen, children_seen, body_seen, ArePairsOf, AreChildrenOf, children_text, IsBodyAt, body_text, HasCounted};
+
+use crate::page_ref::{BodyRef, ChildRef, PairRef};
+use crate::scan::{
+    NO_ADDR, first_addr, first_byte, first_children, first_pairs, no_children, no_pairs,
+};
+use mn_base::Addr;
+
+/// Whether each key is below the next.
+fn pairs_ascend(pairs: &[PairRef<'_>]) -> bool
+    ensures { result ≡ is_ascending (map pair_seen pairs.now) }
+{
+    let mut rest = pairs;
+    while let [a, behind @ ..] = rest {
+        if let [b, ..] = behind {
+            if !a.key.cmp(b.key).is_lt() {
+                return false;
+            }
+        }
+        rest = behind;
+    }
+    true
+}
+
+/// Whether each separator is below the next.
+fn children_ascend(children: &[ChildRef<'_>]) -> bool
+    ensures { result ≡ are_ascending (map child_seen children.now) }
+{
+    let mut rest = children;
+    while let [a, behind @ ..] = rest {
+        if let [b, ..] = behind {
+            if !a.separator.cmp(b.separator).is_lt() {
+                return false;
+            }
+        }
+        rest = behind;
+    }
+    true
+}
+
+/// The pairs of a leaf, so many, and what follows them.
+fn leaf_pairs<'a>(
+    low: &[u8],
+    high: Option<&[u8]>,
+    bytes: &'a [u8],
+    count: usize,
+) -> Option<([PairRef<'a>; 8], &'a [u8])>
+    ensures found { IfSome result (λ x. Begins (ArePairsOf low.now (option_map (λ h. h.now) high.entry) count) (flat_map pair_bytes) bytes.now (pairs_seen count x.0) x.1.now) }
+    ensures only { (pairs : List Pair) (more : List ℕ) → ArePairsOf low.now (option_map (λ h. h.now) high.entry) count pairs → bytes.now ≡ flat_map pair_bytes pairs ++ more → IsSomeAnd result (λ x. (pairs_seen count x.0 ≡ pairs) × (x.1.now ≡ more)) }
+{
+    if count > 8 {
+        return None;
+    }
+    let (pairs, rest) = first_pairs(low, high, bytes, count)?;
+    if !pairs_ascend(&pairs[..count]) {
+        return None;
+    }
+    Some((pairs, rest))
+}
+
+/// The children of an inner page, so many after the first, and what follows them.
+fn inner_children<'a>(
+    low: &[u8],
+    high: Option<&[u8]>,
+    bytes: &'a [u8],
+    count: usize,
+) -> Option<(Addr, [ChildRef<'a>; 7], &'a [u8])>
+    ensures found { IfSome result (λ x. Begins (AreChildrenOf low.now (option_map (λ h. h.now) high.entry) count) children_text bytes.now (x.0, children_seen count x.1) x.2.now) }
+    ensures only { (children : Addr × List Child) (more : List ℕ) → AreChildrenOf low.now (option_map (λ h. h.now) high.entry) count children → bytes.now ≡ children_text children ++ more → IsSomeAnd result (λ x. (x.0 ≡ children.0) × (children_seen count x.1 ≡ children.1) × (x.2.now ≡ more)) }
+{
+    if count < 1 || count > 7 {
+        return None;
+    }
+    let (first, behind) = first_addr(bytes)?;
+    let (rest, behind) = first_children(low, high, behind, count)?;
+    if !children_ascend(&rest[..count]) {
+        return None;
+    }
+    Some((first, rest, behind))
+}
+
+/// A leaf of so many pairs, and what follows it.
+fn leaf_body<'a>(
+    low: &[u8],
+    high: Option<&[u8]>,
+    bytes: &'a [u8],
+    count: usize,
+) -> Option<(BodyRef<'a>, &'a [u8])>
+    ensures found { IfSome result (λ x. (pairs : List Pair) × (body_seen x.0 ≡ Leaf pairs) × Begins (ArePairsOf low.now (option_map (λ h. h.now) high.entry) count) (flat_map pair_bytes) bytes.now pairs x.1.now) }
+    ensures room { IfSome result (λ x. HasCounted x.0) }
+    ensures only { (pairs : List Pair) (more : List ℕ) → ArePairsOf low.now (option_map (λ h. h.now) high.entry) count pairs → bytes.now ≡ flat_map pair_bytes pairs ++ more → IsSomeAnd result (λ x. (body_seen x.0 ≡ Leaf pairs) × (x.1.now ≡ more)) }
+{
+    let (pairs, behind) = leaf_pairs(low, high, bytes, count)?;
+    let first = NO_ADDR;
+    Some((
+        BodyRef {
+            height: 0,
+            count,
+            pairs,
+            first,
+            rest: no_children(),
+        },
+        behind,
+    ))
+}
+
+/// An inner page of the first child and so many more, and what follows it.
+fn inner_body<'a>(
+    height: u16,
+    low: &[u8],
+    high: Option<&[u8]>,
+    bytes: &'a [u8],
+    count: usize,
+) -> Option<(BodyRef<'a>, &'a [u8])>
+    requires { 1 ≤ height }
+    ensures found { IfSome result (λ x. (children : Addr × List Child) × (body_seen x.0 ≡ Inner height children.0 children.1) × Begins (AreChildrenOf low.now (option_map (λ h. h.now) high.entry) count) children_text bytes.now children x.1.now) }
+    ensures room { IfSome result (λ x. HasCounted x.0) }
+    ensures only { (children : Addr × List Child) (more : List ℕ) → AreChildrenOf low.now (option_map (λ h. h.now) high.entry) count children → bytes.now ≡ children_text children ++ more → IsSomeAnd result (λ x. (body_seen x.0 ≡ Inner height children.0 children.1) × (x.1.now ≡ more)) }
+{
+    let (first, rest, behind) = inner_children(low, high, bytes, count)?;
+    Some((
+        BodyRef {
+            height,
+            count,
+            pairs: no_pairs(),
+            first,
+            rest,
+        },
+        behind,
+    ))
+}
+
+/// The body of a page of this height and with these fences, behind its count, and what follows it.
+pub fn first_body<'a>(
+    height: u16,
+    low: &[u8],
+    high: Option<&[u8]>,
+    bytes: &'a [u8],
+) -> Option<(BodyRef<'a>, &'a [u8])>
+    ensures found { IfSome result (λ x. Begins (IsBodyAt height low.now (option_map (λ h. h.now) high.entry)) body_text bytes.now (body_seen x.0) x.1.now) }
+    ensures room { IfSome result (λ x. HasCounted x.0) }
+    ensures only { (body : Body) (more : List ℕ) → IsBodyAt height low.now (option_map (λ h. h.now) high.entry) body → bytes.now ≡ body_text body ++ more → IsSomeAnd result (λ x. (body_seen x.0 ≡ body) × (x.1.now ≡ more)) }
+{
+    let (count, behind) = first_byte(bytes)?;
+    let count = count as usize;
+    if height == 0 {
+        return leaf_body(low, high, behind, count);
+    }
+    if count == 0 {
+        return None;
+    }
+    inner_body(height, low, high, behind, count - 1)
+}

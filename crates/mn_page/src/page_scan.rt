@@ -1,0 +1,64 @@
+ghost use Rattle.std.specs.Prelude.{◌≡◌, ◌++◌, ℕ, List, Option, Some, None, length, nat_eq, replicate, IfOk, OnErr, IfSome, IsOkAnd, IsSomeAnd, MatchOption, IsTrue, ◌↔◌};
+ghost use Rattle.std.specs.List.{list_all};
+ghost use Rattle.std.specs.Option.{option_map};
+ghost use Rattle.mn_page.specs.declared.page.Page.{Page};
+ghost use Rattle.mn_page.specs.Grammar.{IsPage, IsFree, SpellsPage, SpellsNoPage};
+ghost use Rattle.mn_page.specs.Reading.{Begins, AreFences, fences_text, page_text};
+
+use crate::body_scan::first_body;
+use crate::fault::SLOT;
+use crate::page_ref::PageRef;
+use crate::scan::{first_counted, first_head, first_high, is_below};
+
+/// The fences, and what follows them.
+fn first_fences(bytes: &[u8]) -> Option<((&[u8], Option<&[u8]>), &[u8])>
+    ensures found { IfSome result (λ x. Begins AreFences fences_text bytes.now (x.0.0.now, option_map (λ h. h.now) x.0.1) x.1.now) }
+    ensures only { (fences : List ℕ × Option (List ℕ)) (more : List ℕ) → AreFences fences → bytes.now ≡ fences_text fences ++ more → IsSomeAnd result (λ x. (x.0.0.now ≡ fences.0) × (option_map (λ h. h.now) x.0.1 ≡ fences.1) × (x.1.now ≡ more)) }
+{
+    let (low, behind) = first_counted(bytes, 0, 32)?;
+    let (high, rest) = first_high(behind)?;
+    if !is_below(low, high) {
+        return None;
+    }
+    Some(((low, high), rest))
+}
+
+/// The page that the bytes begin with, and what follows it.
+fn first_page(bytes: &[u8]) -> Option<(PageRef<'_>, &[u8])>
+    ensures found { IfSome result (λ x. Begins IsPage page_text bytes.now x.0 x.1.now) }
+    ensures only { (p : Page) (more : List ℕ) → IsPage p → bytes.now ≡ page_text p ++ more → IsSomeAnd result (λ x. (x.0 ≡ p) × (x.1.now ≡ more)) }
+{
+    let (head, behind) = first_head(bytes)?;
+    let ((low, high), behind) = first_fences(behind)?;
+    let (body, rest) = first_body(head.height, low, high, behind)?;
+    Some((PageRef::of_parts(head, low, high, body), rest))
+}
+
+/// Whether each byte is zero.
+pub fn are_zeros(bytes: &[u8]) -> bool
+    ensures { result ≡ list_all (λ b. nat_eq b 0) bytes.now }
+{
+    bytes.iter().all(|byte| *byte == 0)
+}
+
+/// The page that the bytes are, all of them.
+pub fn whole_page(bytes: &[u8]) -> Option<PageRef<'_>>
+    ensures found { IfSome result (SpellsPage bytes.now) }
+    ensures only { (p : Page) → SpellsPage bytes.now p → IsSomeAnd result (λ x. x ≡ p) }
+{
+    if bytes.len() != SLOT {
+        return None;
+    }
+    let (page, rest) = first_page(bytes)?;
+    if !are_zeros(rest) {
+        return None;
+    }
+    Some(page)
+}
+
+/// Whether the bytes are those of a free slot.
+pub fn is_free(bytes: &[u8]) -> bool
+    ensures { IsTrue result ↔ IsFree bytes.now }
+{
+    bytes.len() == SLOT && are_zeros(bytes)
+}
