@@ -99,6 +99,7 @@ cut_at_start state faults old new redo ops run ready opened honest stands = reco
   seq = ready.seq;
   pairs = ready.pairs;
   shown = shown_by state faults old redo ops run ready opened;
+  numbered = ready.numbered;
   served = ready.served;
   honest = λ h. honest (opened.unwritten.honest h);
   between = λ h. keeps_first (state new) redo.bodies ops run ready
@@ -139,6 +140,7 @@ run_comes_to state faults clients old redo node new run (Ok text) ready opened s
       seq = ready.seq;
       pairs = ready.pairs;
       shown = shown_by state faults old redo (ops_of clients) run ready opened;
+      numbered = ready.numbered;
       served = ready.served;
       report_is = reports.1;
       after = new.records;
@@ -155,6 +157,7 @@ run_comes_to state faults clients old redo node new run (Err NoMemory) ready ope
   seq = ready.seq;
   pairs = ready.pairs;
   shown = shown_by state faults old redo (ops_of clients) run ready opened;
+  numbered = ready.numbered;
   served = ready.served;
   honest = λ h. goes.honest (honest (opened.unwritten.honest h));
   between = λ h. reports (honest (opened.unwritten.honest h));
@@ -167,6 +170,7 @@ run_comes_to state faults clients old redo node new run (Err Fault) ready opened
     seq = ready.seq;
     pairs = ready.pairs;
     shown = shown_by state faults old redo (ops_of clients) run ready opened;
+    numbered = ready.numbered;
     served = ready.served;
     honest = λ h. goes.honest (honest (opened.unwritten.honest h));
     between = λ h. reports.1 (honest (opened.unwritten.honest h));
@@ -196,7 +200,7 @@ judged state faults clients old redo (dues.Damaged node place Log) why opened = 
 judged state faults clients old redo (dues.Damaged node place Runs) why opened =
     (why.0, why.1, record { records = (why.2).0; shown = record { bodies = redo.bodies; are = (why.2).1; stands = opened.shown }; last = (why.2).2; unwritten = opened.unwritten })
 judged state faults clients old redo dues.Unbuilt why opened =
-    record { records = why.0; shown = record { bodies = redo.bodies; are = why.1; stands = opened.shown }; unserved = why.2; unwritten = opened.unwritten }
+    record { records = why.0; shown = record { bodies = redo.bodies; are = why.1; stands = opened.shown }; numbered = (why.2).0; unserved = (why.2).1; unwritten = opened.unwritten }
 judged state faults clients old redo dues.NoMemory why opened = inl opened.unwritten
 judged state faults clients old redo (dues.Report text) why opened = absurd why
 judged state faults clients old redo dues.Usage why opened = absurd why

@@ -1,5 +1,5 @@
 -- What the disk of the one node holds before a run and behind it.
-use Rattle.std.specs.Prelude.{◌≡◌, ◌⊎◌, ◌+◌, ℕ, List, [], ◌∷◌, ◌++◌, max, take}
+use Rattle.std.specs.Prelude.{◌≡◌, ◌⊎◌, ◌<◌, ◌+◌, ℕ, List, [], ◌∷◌, ◌++◌, max, take}
 use Rattle.std.specs.List.{AllByRecursion}
 use Rattle.mn_base.specs.declared.op.Op.{Op}
 use Rattle.mn_base.specs.declared.reply.Pair.{Pair}
@@ -25,6 +25,10 @@ run_of r = (record_tid r).run
 abbrev pub greatest_run : List Record → ℕ
 greatest_run [] = 0
 greatest_run (r ∷ records) = max (run_of r) (greatest_run records)
+
+-- there is a number for a further run, which is one above the greatest: 4,294,967,294 is the last one that a run may have
+abbrev pub HasNext : List Record → Type 0
+HasNext records = greatest_run records < 4294967294
 
 -- an honest disk reads as these records
 pub record Shows (disk : DiskState) (records : List Record) : Type 0 where
@@ -70,6 +74,7 @@ pub record IsCutShort (old new : DiskState) (ops : List Op) : Type 0 where
   pub seq : ℕ
   pub pairs : List Pair
   pub shown : Shows old before
+  pub numbered : HasNext before
   pub served : IsServed before seq pairs ops
   pub honest : old.honest → new.honest
   pub between : old.honest → IsBetween new (main_store pairs) ops
@@ -81,6 +86,7 @@ pub record IsDone (old new : DiskState) (clients : List ScriptClient) (report : 
   pub seq : ℕ
   pub pairs : List Pair
   pub shown : Shows old before
+  pub numbered : HasNext before
   pub served : IsServed before seq pairs (ops_of clients)
   pub report_is : report ≡ report_text (report_on (main_store pairs) clients)
   pub after : List Record

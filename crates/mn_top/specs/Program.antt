@@ -13,7 +13,7 @@ use Rattle.mn_top.specs.declared.due.DamageRule.{DamageRule}
 use Rattle.mn_top.specs.declared.due.DamageRule.TheVariants.{Log, Runs}
 use Rattle.mn_top.specs.declared.due.Due.{Due}
 use Rattle.mn_top.specs.declared.due.Due.TheVariants.{Report, Usage, Refused, ReadFault, DiskFault, Damaged, NoMemory, Disks, Unbuilt}
-use Rattle.mn_top.specs.Disk.{Shows, IsBadLog, IsUnwritten, IsCutShort, IsDone, greatest_run}
+use Rattle.mn_top.specs.Disk.{Shows, IsBadLog, IsUnwritten, IsCutShort, IsDone, HasNext}
 use Rattle.mn_top.specs.Served.{IsUnservedDisk, is_unserved, ops_of}
 use Rattle.mn_top.specs.Words.{Asked, Asks, AskNothing, AskReplay, is_there}
 
@@ -91,13 +91,14 @@ pub record IsCalled (words : List (List ℕ)) (known : Option (List ℕ)) (ended
 pub record HasLastRun (old new : DiskState) : Type 0 where
   pub records : List Record
   pub shown : Shows old records
-  pub last : 4294967294 ≤ greatest_run records
+  pub last : HasNext records → ⊥
   pub unwritten : IsUnwritten old new
 
 -- the operations aren't served on what the disk shows
 pub record IsRefusedBy (old new : DiskState) (clients : List ScriptClient) : Type 0 where
   pub records : List Record
   pub shown : Shows old records
+  pub numbered : HasNext records
   pub unserved : IsUnservedDisk records (ops_of clients)
   pub unwritten : IsUnwritten old new
 

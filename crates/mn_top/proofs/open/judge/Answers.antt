@@ -14,6 +14,7 @@ returns-then-branch-clause-err g c =
     let known = subst (λ (l : List Record). MakesLeaf l c.in-Some.leaf.seq c.in-Some.leaf.pairs.items) c.deref-2.ensures.value own in (
       c.in-Ok.records.items,
       c.in-Ok.ensures.records,
+      omega arith,
       λ seq pairs served.
           let same = (leaf_once _ _ _ _ _ served.makes.holds known.holds).1 in
           let over = ap (λ (l : List Pair). ops_overfill (main_store l) (ops_of c.args.clients.now)) (same ∙ sym c.from_vec.ensures) ∙ sym c.in_ok-clients_overfill.ensures ∙ c.if-branch.true in
