@@ -6,6 +6,12 @@ use Rattle.mn_redo.specs.Grammar.{behind_gate, records, places}
 use Rattle.mn_redo.specs.Log.{AreKept, listed_in}
 use Rattle.mn_redo.proofs.Parse.{length-behind_gate, length-places}
 
+-- where there is an element, it is the same whatever stands for a missing one
+pub any_default : (xs : List ℕ) (k d e : ℕ) → k < length xs → get_or xs k d ≡ get_or xs k e
+any_default [] k d e h = absurd (omega arith)
+any_default (x ∷ xs) zero d e h = refl
+any_default (x ∷ xs) (suc k) d e h = any_default xs k d e (omega arith)
+
 pub record IsPlaced (at : ℕ) (bodies : List (List ℕ)) (k : ℕ) : Type 0 where
   pub front : List (List ℕ)
   pub back : List (List ℕ)

@@ -1,9 +1,9 @@
 -- Bytes stand for one list at most, damaged ones for none, and damage has one place at most.
-use Rattle.std.proofs.Common.{◌≡◌, ◌≢◌, ◌<◌, ◌≤◌, ◌^◌, inl, inr, ℕ, ◌+◌, List, [], ◌∷◌, ◌++◌, length, take, drop, get_or, refl, sym, ◌∙◌, ap, arith, append_assoc, length-append}
+use Rattle.std.proofs.Common.{◌≡◌, ◌≢◌, ◌<◌, ◌≤◌, ◌^◌, inl, inr, ℕ, ◌+◌, List, [], ◌∷◌, ◌++◌, length, take, drop, get_or, refl, sym, ◌∙◌, ap, subst, arith, append_assoc, length-append}
 use Rattle.std.proofs.lemmas.List.{take_at, drop_at}
 use Rattle.std.proofs.lemmas.Nat.{from_be_bytes-to_be_bytes_4}
 use Rattle.std.specs.Int.{w32, to_be_bytes, from_be_bytes}
-use Rattle.mn_redo.specs.Grammar.{header, behind_gate, records, HaveSizes, IsFresh, IsLog, IsShort, IsDamagedAt, IsDamaged, Stands, bodies_in}
+use Rattle.mn_redo.specs.Grammar.{header, behind_gate, records, HaveSizes, AreInFront, IsFresh, IsLog, IsShort, IsDamagedAt, IsDamaged, Stands, bodies_in}
 use Rattle.mn_redo.proofs.Parse.{bodies_of_records, first_record, at_least, length-behind_gate}
 
 -- what stands behind the bytes before
@@ -18,7 +18,7 @@ log_list before content bodies log =
     ap (bodies_in (length content)) (behind before content (log.gate ∷ log.tail) bodies log.bytes)
     ∙ bodies_of_records (length content) log.gate bodies log.tail log.sizes (omega (arith, log_long before content bodies log)) log.closed
 
-log_not_fresh : (node nodes : ℕ) (content : List ℕ) (bodies : List (List ℕ)) → IsLog (header node nodes) content bodies → IsFresh content → ⊥
+pub log_not_fresh : (node nodes : ℕ) (content : List ℕ) (bodies : List (List ℕ)) → IsLog (header node nodes) content bodies → IsFresh content → ⊥
 log_not_fresh node nodes content bodies log (inl short) = omega (arith, short, log_long (header node nodes) content bodies log)
 log_not_fresh node nodes content bodies log (inr other) = other (ap (λ (l : List ℕ). get_or l 0 0) log.bytes)
 
@@ -111,3 +111,35 @@ once node nodes content at other (inl one) (inl two) = one.2 ∙ sym two.2
 once node nodes content at other (inl one) (inr two) = absurd (one.1 (ap (λ (l : List ℕ). take 16 l) two.bytes))
 once node nodes content at other (inr one) (inl two) = absurd (two.1 (ap (λ (l : List ℕ). take 16 l) one.bytes))
 once node nodes content at other (inr one) (inr two) = damaged_once (header node nodes) content at other one two
+
+-- What stands in front of damage
+
+front_is : (before content : List ℕ) (at : ℕ) (damaged : IsDamagedAt before content at) → take at content ≡ before ++ records damaged.bodies
+front_is before content at damaged =
+    ap (λ (l : List ℕ). take at l) damaged.bytes ∙ take_at (before ++ records damaged.bodies) (1 ∷ damaged.rest) at (omega (arith, damaged.at_is, length-append before (records damaged.bodies)))
+
+-- the bytes up to the damage, with a closed gate behind them
+up_to : (before content kept : List ℕ) (at : ℕ) (damaged : IsDamagedAt before content at) → kept ≡ take at content ++ 0 ∷ [] → IsLog before kept damaged.bodies
+up_to before content kept at damaged is = record {
+  gate = 0;
+  tail = [];
+  closed = omega arith;
+  sizes = damaged.sizes;
+  bytes = is ∙ ap (λ (l : List ℕ). l ++ 0 ∷ []) (front_is before content at damaged);
+}
+
+pub in_front : (node nodes : ℕ) (content kept : List ℕ) (at : ℕ) (bodies : List (List ℕ)) → IsDamaged node nodes content at → kept ≡ take at content ++ 0 ∷ [] → Stands node nodes kept bodies → AreInFront node nodes content at bodies
+in_front node nodes content kept at bodies (inl wrong) is (inl fresh) = inl (wrong.2, fresh.1)
+in_front node nodes content kept at bodies (inl wrong) is (inr log) =
+    absurd (omega (arith, ap length is, wrong.2, ap (λ (n : ℕ). length (take n content)) wrong.2, length-append (take at content) (0 ∷ []), log_long (header node nodes) kept bodies log))
+in_front node nodes content kept at bodies (inr damaged) is stands =
+    let same = one_of node nodes kept damaged.bodies bodies (inr (up_to (header node nodes) content kept at damaged is)) stands in
+    inr (record {
+      sizes = subst HaveSizes same damaged.sizes;
+      bytes = front_is (header node nodes) content at damaged ∙ ap (λ (l : List (List ℕ)). header node nodes ++ records l) same;
+    })
+
+pub whole_in_front : (node nodes : ℕ) (content kept : List ℕ) (at other : ℕ) → IsDamaged node nodes content at → kept ≡ take at content ++ 0 ∷ [] → IsDamaged node nodes kept other → ⊥
+whole_in_front node nodes content kept at other (inl wrong) is again =
+    none_of node nodes kept other [] again (inl (inl (omega (arith, ap length is, ap (λ (n : ℕ). length (take n content)) wrong.2, length-append (take at content) (0 ∷ []))), refl))
+whole_in_front node nodes content kept at other (inr damaged) is again = none_of node nodes kept other damaged.bodies again (inr (up_to (header node nodes) content kept at damaged is))

@@ -62,6 +62,19 @@ IsDamaged node nodes content at = ((IsFresh content → ⊥) × (take 16 content
 abbrev pub IsBeforeOrAfter : ℕ → ℕ → List (List ℕ) → List ℕ → List ℕ → Type 0
 IsBeforeOrAfter node nodes bodies body content = Stands node nodes content bodies ⊎ Stands node nodes content (bodies ++ body ∷ [])
 
+-- the same of bytes that have a header
+abbrev pub IsLogBeforeOrAfter : ℕ → ℕ → List (List ℕ) → List ℕ → List ℕ → Type 0
+IsLogBeforeOrAfter node nodes bodies body content = IsLog (header node nodes) content bodies ⊎ IsLog (header node nodes) content (bodies ++ body ∷ [])
+
+-- behind other bytes: the open records of these bodies, up to this place
+pub record EndAt (before content : List ℕ) (at : ℕ) (bodies : List (List ℕ)) : Type 0 where
+  pub sizes : HaveSizes bodies
+  pub bytes : take at content ≡ before ++ records bodies
+
+-- the bodies of the whole records in front of the place of damage: a header that is none has none
+abbrev pub AreInFront : ℕ → ℕ → List ℕ → ℕ → List (List ℕ) → Type 0
+AreInFront node nodes content at bodies = ((at ≡ 0) × (bodies ≡ [])) ⊎ EndAt (header node nodes) content at bodies
+
 -- the bodies of the open records at the front of these bytes, at most so many
 abbrev pub bodies_in : ℕ → List ℕ → List (List ℕ)
 bodies_in zero bytes = []

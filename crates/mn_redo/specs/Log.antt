@@ -37,6 +37,12 @@ pub record IsOnDisk {D : Type 0} (state : D → DiskState) (log : Log D) : Type 
   pub stands : (state log.disk).honest → IsLog (before_of log) (state log.disk).content (listed log)
   pub stable : (state log.disk).honest → IsStable (state log.disk)
 
+-- the front of a log that was read up to its damage, and where its gates are
+pub record IsFrontKept (node nodes : ℕ) (bytes gates : List ℕ) : Type 0 where
+  pub kept : AreKept (header node nodes) bytes
+  pub gates_are : gates ≡ places 16 (listed_in 16 bytes)
+  pub count : length gates < 2 ^ 32
+
 -- a log that has a header, to which more can be appended
 pub record IsReady {D : Type 0} (state : D → DiskState) (spare_changes spare_bytes : D → ℕ) (log : Log D) : Type 0 where
   pub kept : IsKept log

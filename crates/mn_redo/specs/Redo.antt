@@ -21,6 +21,10 @@ pub record RedoState (D : Type 0) : Type 0 where
 abbrev pub StandsFor : DiskState → ℕ → ℕ → List (List ℕ) → Type 0
 StandsFor disk node nodes bodies = (c : List ℕ) → disk.images c → Stands node nodes c bodies
 
+-- no image of the disk is fresh
+abbrev pub HasHeader : DiskState → Type 0
+HasHeader disk = (c : List ℕ) → disk.images c → IsFresh c → ⊥
+
 -- a log that has no header on its disk yet, with room for it
 pub record IsBlank {D : Type 0} (state : D → DiskState) (spare_changes spare_bytes : D → ℕ) (log : Log D) : Type 0 where
   pub none : listed log ≡ []

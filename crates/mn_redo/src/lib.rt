@@ -4,12 +4,14 @@
 
 mod body;
 mod change;
+mod front;
 mod header;
 mod laws;
 mod log;
 mod open;
 mod redo;
 
+pub use front::Front;
 pub use laws::{damaged_or_not, one_list, one_place};
 pub use open::OpenCause;
 pub use redo::{OpenFailed, Phase, Redo};

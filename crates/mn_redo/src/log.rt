@@ -1,7 +1,7 @@
 ghost use Rattle.std.specs.Prelude.{◌≡◌, ◌≤◌, ◌*◌, ◌<◌, ◌^◌, ◌+◌, ◌++◌, ◌∷◌, [], length, OnOk, vec_len, vec_capacity};
 ghost use Rattle.mn_io.specs.Faults.{HasCause};
 ghost use Rattle.mn_io.specs.DiskModel.{LeavesOnly, IsStable, Stays};
-ghost use Rattle.mn_redo.specs.Grammar.{header, behind_gate, IsBeforeOrAfter, IsLog, IsStaged, Stands};
+ghost use Rattle.mn_redo.specs.Grammar.{header, behind_gate, IsLog, IsLogBeforeOrAfter, IsStaged};
 ghost use Rattle.mn_redo.specs.Log.{IsReady, HasRoom, AreKept, listed, listed_in};
 
 use crate::change::{change, stage};
@@ -29,7 +29,7 @@ pub fn half<D: Disk>(
     requires disk_room { 5 + length body.now ≤ D.spare_bytes disk.old }
     ensures staged { (D.state disk.old).honest → OnOk result (IsStaged (header node nodes) (listed_in 16 bytes.old.items) body.now (D.state disk.new).content) }
     ensures stable { (D.state disk.old).honest → OnOk result (IsStable (D.state disk.new)) }
-    ensures any_moment { (D.state disk.old).honest → LeavesOnly (D.state disk.old) (D.state disk.new) (λ c. Stands node nodes c (listed_in 16 bytes.old.items)) }
+    ensures any_moment { (D.state disk.old).honest → LeavesOnly (D.state disk.old) (D.state disk.new) (λ c. IsLog (header node nodes) c (listed_in 16 bytes.old.items)) }
     ensures bytes { bytes.new.items ≡ bytes.old.items ++ (behind_gate body.now ++ 0 ∷ []) }
     ensures room { vec_capacity bytes.old ≤ vec_capacity bytes.new }
     ensures honest { (D.state disk.old).honest → (D.state disk.new).honest }
@@ -69,7 +69,7 @@ impl<D: Disk> Log<D> {
 
         // A crash at any moment of the call leaves the list from before it, with the body or without.
         ensures any_moment { (D.state self.old.disk).honest → LeavesOnly (D.state self.old.disk) (D.state self.new.disk)
-            (IsBeforeOrAfter self.old.node self.old.nodes (listed self.old) body.now) }
+            (IsLogBeforeOrAfter self.old.node self.old.nodes (listed self.old) body.now) }
         ensures node { self.new.node ≡ self.old.node }
         ensures nodes { self.new.nodes ≡ self.old.nodes }
         ensures honest { (D.state self.old.disk).honest → (D.state self.new.disk).honest }

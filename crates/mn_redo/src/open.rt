@@ -1,4 +1,4 @@
-ghost use Rattle.std.specs.Prelude.{◌≡◌, [], ◌≢◌, ◌≤◌, ◌<◌, ◌^◌, ◌+◌, ℕ, length, take, get_or, IfOk, OnOk, IfSome, IsNone, IsErrOf, true, false};
+ghost use Rattle.std.specs.Prelude.{◌≡◌, [], ◌≢◌, ◌≤◌, ◌<◌, ◌^◌, ◌+◌, ℕ, List, length, take, get_or, IfOk, OnOk, IfSome, IsNone, IsErrOf, true, false};
 ghost use Rattle.std.specs.Int.{w32, from_be_bytes};
 ghost use Rattle.mn_io.specs.Faults.{Rose};
 ghost use Rattle.mn_io.specs.DiskModel.{IsStable, NoneNew, Stays, WritesNothing};
@@ -190,6 +190,7 @@ pub fn prepare<D: Disk>(
     ensures changes { OnOk result (8 ≤ D.spare_changes disk.new) }
     ensures room { OnOk result (18 ≤ D.spare_bytes disk.new) }
     ensures damaged { (D.state disk.old).honest → (at : ℕ) → IsErrOf result (causes.Damaged at) → IsDamaged node nodes (D.state disk.old).content at }
+    ensures told { (at : ℕ) → IsErrOf result (causes.Damaged at) → (content : List ℕ) × IsDamaged node nodes content at }
     ensures fault { IsErrOf result causes.Fault → Rose (D.faults disk.old) (D.faults disk.new) }
     ensures later { D.faults disk.old ≤ D.faults disk.new }
     ensures unwritten { (D.state disk.old).honest → WritesNothing (D.state disk.old) (D.state disk.new) }

@@ -2,7 +2,7 @@ ghost use Rattle.std.specs.Prelude.{◌≡◌, ◌≢◌, ◌≤◌, ◌<◌, �
 ghost use Rattle.mn_io.specs.DiskModel.{IsStable, LeavesOnly, NoneNew, Stays, WritesNothing};
 ghost use Rattle.mn_io.specs.Faults.{HasCause, Rose};
 ghost use Rattle.mn_redo.specs.Grammar.{header, IsBeforeOrAfter, IsDamaged, IsFresh, IsLog, IsStaged, Stands, places};
-ghost use Rattle.mn_redo.specs.Redo.{StandsFor};
+ghost use Rattle.mn_redo.specs.Redo.{HasHeader, StandsFor};
 ghost use Rattle.mn_redo.specs.declared.open.OpenCause.TheVariants as causes;
 
 use crate::body::body_of;
@@ -111,17 +111,22 @@ impl<D: Disk> Redo<D> {
         ensures read { (D.state self.old.disk).honest → OnOk result (Stands self.old.node self.old.nodes (D.state self.old.disk).content self.new.bodies) }
         ensures stands { (D.state self.old.disk).honest → OnOk result (StandsFor (D.state self.new.disk) self.old.node self.old.nodes self.new.bodies) }
         ensures none { OnOk result (self.new.phase ≡ Phase.Fresh → self.new.bodies ≡ []) }
+        ensures fresh { (D.state self.old.disk).honest → OnOk result (self.new.phase ≡ Phase.Fresh → IsFresh (D.state self.old.disk).content) }
         ensures going { OnOk result (self.new.phase ≢ Phase.Closing) }
         ensures closing { OnErr result (self.new.phase ≡ Phase.Closing) }
         ensures node { self.new.node ≡ self.old.node }
         ensures nodes { self.new.nodes ≡ self.old.nodes }
         ensures damaged { (D.state self.old.disk).honest → (at : ℕ) → IsErrOf result (causes.Damaged at) → IsDamaged self.old.node self.old.nodes (D.state self.old.disk).content at }
+
+        // Whatever bytes the disk gave, they are damaged there.
+        ensures told { (at : ℕ) → IsErrOf result (causes.Damaged at) → (content : List ℕ) × IsDamaged self.old.node self.old.nodes content at }
         ensures fault { IsErrOf result causes.Fault → Rose (D.faults self.old.disk) (D.faults self.new.disk) }
         ensures later { D.faults self.old.disk ≤ D.faults self.new.disk }
 
         // Nothing was written.
         ensures unwritten { (D.state self.old.disk).honest → WritesNothing (D.state self.old.disk) (D.state self.new.disk) }
         ensures images { (D.state self.old.disk).honest → NoneNew (D.state self.old.disk) (D.state self.new.disk) }
+        ensures header_stays { ((D.state self.old.disk).honest → HasHeader (D.state self.old.disk)) → (D.state self.new.disk).honest → HasHeader (D.state self.new.disk) }
         ensures honest { (D.state self.old.disk).honest → (D.state self.new.disk).honest }
         ensures no_better { (D.state self.new.disk).honest → (D.state self.old.disk).honest }
     {
@@ -151,6 +156,10 @@ impl<D: Disk> Redo<D> {
         ensures stands { (D.state self.old.disk).honest → StandsFor (D.state self.new.disk) self.old.node self.old.nodes self.old.bodies }
         ensures used { self.old.phase ≡ Phase.Started → self.new ≡ self.old }
         ensures used_ok { self.old.phase ≡ Phase.Started → IsOk result }
+
+        // At Ok no image of the disk is fresh.
+        ensures header { (D.state self.old.disk).honest → OnOk result (HasHeader (D.state self.new.disk)) }
+        ensures header_stays { ((D.state self.old.disk).honest → HasHeader (D.state self.old.disk)) → (D.state self.new.disk).honest → HasHeader (D.state self.new.disk) }
 
         // A crash at any moment of the call leaves a disk that stands for the same list.
         ensures any_moment { (D.state self.old.disk).honest → LeavesOnly (D.state self.old.disk) (D.state self.new.disk)
@@ -188,6 +197,7 @@ impl<D: Disk> Redo<D> {
         ensures node { self.new.node ≡ self.old.node }
         ensures nodes { self.new.nodes ≡ self.old.nodes }
         ensures stays { (D.state self.old.disk).honest → Stays (D.state self.old.disk) (D.state self.new.disk) }
+        ensures header_stays { ((D.state self.old.disk).honest → HasHeader (D.state self.old.disk)) → (D.state self.new.disk).honest → HasHeader (D.state self.new.disk) }
         ensures no_better { (D.state self.new.disk).honest → (D.state self.old.disk).honest }
         ensures faults { D.faults self.new.disk ≡ D.faults self.old.disk }
     {
@@ -214,6 +224,7 @@ impl<D: Disk> Redo<D> {
         ensures any_moment { (D.state self.old.disk).honest → LeavesOnly (D.state self.old.disk) (D.state self.new.disk)
             (IsBeforeOrAfter self.old.node self.old.nodes self.old.bodies body.now) }
         ensures images { (D.state self.old.disk).honest → (c : List ℕ) → (D.state self.new.disk).images c → IsBeforeOrAfter self.old.node self.old.nodes self.old.bodies body.now c }
+        ensures header { (D.state self.old.disk).honest → HasHeader (D.state self.new.disk) }
         ensures node { self.new.node ≡ self.old.node }
         ensures nodes { self.new.nodes ≡ self.old.nodes }
         ensures honest { (D.state self.old.disk).honest → (D.state self.new.disk).honest }
@@ -237,6 +248,8 @@ impl<D: Disk> Redo<D> {
         ensures stands { (D.state self.old.disk).honest → StandsFor (D.state self.new.disk) self.old.node self.old.nodes self.old.bodies }
         ensures any_moment { (D.state self.old.disk).honest → LeavesOnly (D.state self.old.disk) (D.state self.new.disk)
             (λ c. Stands self.old.node self.old.nodes c self.old.bodies) }
+
+        ensures header { (D.state self.old.disk).honest → HasHeader (D.state self.new.disk) }
 
         // At Ok the record stands on the disk behind a closed gate.
         ensures half { (D.state self.old.disk).honest → OnOk result (IsStaged (header self.old.node self.old.nodes) self.old.bodies body.now (D.state self.new.disk).content) }

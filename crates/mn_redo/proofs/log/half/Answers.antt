@@ -33,7 +33,7 @@ returns-clause-any_moment g c h =
     let kept = c.requires.kept in
     let at : c.len-gate.result ≡ length (front (header c.args.node c.args.nodes) (listed_in 16 bytes)) + 1 =
     omega (arith, c.len-gate.ensures, ap length kept.bytes_are, length-append (front (header c.args.node c.args.nodes) (listed_in 16 bytes)) (0 ∷ [])) in
-    LeavesOnly-weaker _ _ _ _ (λ f torn. inr (stage_torn _ _ body _ _ f _ (c.requires.log h) (omega (arith, at)) torn)) (c.change.ensures.any_moment h)
+    LeavesOnly-weaker _ _ _ _ (λ f torn. stage_torn _ _ body _ _ f _ (c.requires.log h) (omega (arith, at)) torn) (c.change.ensures.any_moment h)
 
 pub returns-clause-staged : goal.returns-clause-staged
 returns-clause-staged g c h =

@@ -1,10 +1,10 @@
 use Rattle.std.proofs.Common.{◌≡◌, ℕ, List, ◌+◌, ◌-◌, ◌++◌, ◌∷◌, [], length, inl, arith, sym, ◌∙◌, ap, subst, length-append}
 use Rattle.mn_io.proofs.Moments.{LeavesOnly-weaker, LeavesOnly-trans}
 use Rattle.mn_io.specs.DiskModel.{LeavesOnly}
-use Rattle.mn_redo.specs.Grammar.{records, behind_gate, places, HaveSizes, IsBeforeOrAfter, IsLog}
+use Rattle.mn_redo.specs.Grammar.{records, behind_gate, places, HaveSizes, IsLog, IsLogBeforeOrAfter}
 use Rattle.mn_redo.specs.Log.{before_of, listed}
 use Rattle.mn_redo.proofs.Parse.{listed_is, places_push, sizes_push, length-behind_gate}
-use Rattle.mn_redo.proofs.Append.{front, before_or_after, staged_length, gate_torn, gate_done, opened_in_memory}
+use Rattle.mn_redo.proofs.Append.{front, staged_length, gate_torn, gate_done, opened_in_memory}
 use Rattle.mn_redo.proofs.log.Log.append.Goals as goal
 
 pub returns-in_err-half-clause-any_moment : goal.returns-in_err-half-clause-any_moment
@@ -27,9 +27,9 @@ returns-in_err-change-clause-any_moment g c h =
     let s = c.requires.ready in
     let at : c.len-gate.result ≡ length (front (before_of log) (listed log)) + 1 =
     omega (arith, c.len-gate.ensures, ap length s.kept.bytes.bytes_are, length-append (front (before_of log) (listed log)) (0 ∷ [])) in
-    let first : LeavesOnly (g.D.Disk.state log.disk) (g.D.Disk.state c.half.new.disk) (IsBeforeOrAfter log.node log.nodes (listed log) c.args.body.now) =
+    let first : LeavesOnly (g.D.Disk.state log.disk) (g.D.Disk.state c.half.new.disk) (IsLogBeforeOrAfter log.node log.nodes (listed log) c.args.body.now) =
     LeavesOnly-weaker _ _ _ _ (λ f old. inl old) (c.half.ensures.any_moment h) in
-    let second = LeavesOnly-weaker _ _ _ _ (λ f torn. before_or_after _ _ _ _ f (gate_torn _ _ c.args.body.now _ _ f (c.in_ok-half.ensures.staged h) c.requires.size (omega (arith, at)) torn)) (c.change.ensures.any_moment (c.half.ensures.honest h)) in
+    let second = LeavesOnly-weaker _ _ _ _ (λ f torn. gate_torn _ _ c.args.body.now _ _ f (c.in_ok-half.ensures.staged h) c.requires.size (omega (arith, at)) torn) (c.change.ensures.any_moment (c.half.ensures.honest h)) in
     LeavesOnly-trans _ _ _ _ first second
 
 pub returns-clause-any_moment : goal.returns-clause-any_moment
@@ -38,9 +38,9 @@ returns-clause-any_moment g c h =
     let s = c.requires.ready in
     let at : c.len-gate.result ≡ length (front (before_of log) (listed log)) + 1 =
     omega (arith, c.len-gate.ensures, ap length s.kept.bytes.bytes_are, length-append (front (before_of log) (listed log)) (0 ∷ [])) in
-    let first : LeavesOnly (g.D.Disk.state log.disk) (g.D.Disk.state c.half.new.disk) (IsBeforeOrAfter log.node log.nodes (listed log) c.args.body.now) =
+    let first : LeavesOnly (g.D.Disk.state log.disk) (g.D.Disk.state c.half.new.disk) (IsLogBeforeOrAfter log.node log.nodes (listed log) c.args.body.now) =
     LeavesOnly-weaker _ _ _ _ (λ f old. inl old) (c.half.ensures.any_moment h) in
-    let second = LeavesOnly-weaker _ _ _ _ (λ f torn. before_or_after _ _ _ _ f (gate_torn _ _ c.args.body.now _ _ f (c.in_ok-half.ensures.staged h) c.requires.size (omega (arith, at)) torn)) (c.change.ensures.any_moment (c.half.ensures.honest h)) in
+    let second = LeavesOnly-weaker _ _ _ _ (λ f torn. gate_torn _ _ c.args.body.now _ _ f (c.in_ok-half.ensures.staged h) c.requires.size (omega (arith, at)) torn) (c.change.ensures.any_moment (c.half.ensures.honest h)) in
     LeavesOnly-trans _ _ _ _ first second
 
 pub returns-clause-list : goal.returns-clause-list

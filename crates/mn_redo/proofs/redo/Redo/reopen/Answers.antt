@@ -1,0 +1,12 @@
+use Rattle.std.proofs.Common.{◌≡◌, Err, sym, ◌∙◌, ap}
+use Rattle.std.proofs.lemmas.Result.{err_from_is_err_and}
+use Rattle.mn_redo.specs.declared.open.OpenCause.TheVariants.{Damaged}
+use Rattle.mn_redo.proofs.Causes.{cause_in}
+use Rattle.mn_redo.proofs.redo.Redo.reopen.Goals as goal
+
+pub returns-in_err-found-clause-told : goal.returns-in_err-found-clause-told
+returns-in_err-found-clause-told g c at is =
+    let r = err_from_is_err_and c.from_residual.result c.from_residual.ensures.1 in
+    let same : r.0 ≡ Damaged at = ap cause_in (sym r.1 ∙ is) in
+    let told = c.prepare.ensures.told at (c.in_err-found.was ∙ ap Err (sym r.2 ∙ same)) in
+    rw (← c.self.view_is) told
