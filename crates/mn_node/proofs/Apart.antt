@@ -91,6 +91,7 @@ is_node state faults redo new m after down pending was up goes same is apart =
       apart = apart;
       apart_left = subst (λ (o : Option Record). AreApart (held_parts (reverse (added_to after.records.items o)))) (sym none) apart;
       stands = λ h c image. inl (up_stands state new after is h c image);
+      header = goes.header was.header;
       node = same.0 ∙ was.node ∙ sym goes.node;
       nodes = same.1 ∙ was.nodes ∙ sym goes.nodes;
       some = subst (λ (n : ℕ). 0 < n) (sym goes.nodes) was.some;
@@ -134,6 +135,7 @@ node_stopped state faults redo new m after down pending request stop left law so
       apart = subst (λ (l : List Record). AreApart (held_parts (reverse l))) (sym told.0) was.apart;
       apart_left = subst (λ (l : List Record). AreApart (held_parts (reverse (added_to l (Some left))))) (sym told.0) apart;
       stands = λ h. same_stands (state new.disk) redo.node new.node redo.nodes new.nodes m.records.items after.records.items (Some left) (sym goes.node) (sym goes.nodes) (sym told.0) (told.2.stands (goes.no_better h));
+      header = goes.header was.header;
       node = same.0 ∙ was.node ∙ sym goes.node;
       nodes = same.1 ∙ was.nodes ∙ sym goes.nodes;
       some = subst (λ (n : ℕ). 0 < n) (sym goes.nodes) was.some;

@@ -8,7 +8,7 @@ use Rattle.mn_node.specs.Node.{bodies_of, added_to}
 use Rattle.mn_node.specs.declared.restart.RestartError.{RestartError}
 use Rattle.mn_node.specs.declared.restart.RestartError.TheVariants.{Fault, Damaged, NoMemory}
 use Rattle.std.specs.Prelude.{◌⊎◌}
-use Rattle.mn_node.specs.Restart.{AreAbsent, Compares, Differs, IsDamage, IsFirstOther, IsFound, IsFront, HasLeft, IsOther, IsOtherAt, IsUnread, record_at}
+use Rattle.mn_node.specs.Restart.{AreAbsent, Compares, Differs, IsBadBody, IsDamage, IsFirstOther, IsFound, IsFront, HasLeft, IsOther, IsOtherAt, IsUnread, record_at}
 
 -- the first bodies are those of the first records
 pub record IsFrontOf (n : ℕ) (bodies : List (List ℕ)) (records : List Record) : Type 0 where
@@ -169,7 +169,7 @@ some_record bodies at None is less e = let none : ⊥ = omega (arith, is, less) 
 some_record bodies at (Some q) is less e = cc
 
 damage : {bodies : List (List ℕ)} {records : List Record} {pending : Option Record} {at : ℕ} (place : ℕ) (named found kept : Option Record)
-    → AreAbsent named found ⊎ ((place ≡ at) × (named ≡ kept) × IsFound bodies at found)
+    → (AreAbsent named found × IsBadBody bodies place) ⊎ ((place ≡ at) × (named ≡ kept) × IsFound bodies at found)
     → (IsFound bodies at found → IsFirstOther bodies records pending at kept found) → IsDamage bodies records pending place named found
 damage place named found kept (inl none) first = inl none
 damage {bodies = bodies} {records = records} {pending = pending} place named found kept (inr told) first =
@@ -232,7 +232,7 @@ differs_past bodies records r (Damaged place named found) front more same told =
     )
 
 -- a body that spells no record differs from any
-pub unread_differs : (bodies : List (List ℕ)) (at : ℕ) (kept : Option Record) (e : RestartError) → IsUnread e → Differs bodies at kept e
+pub unread_differs : (bodies : List (List ℕ)) (at : ℕ) (kept : Option Record) (e : RestartError) → IsUnread bodies e → Differs bodies at kept e
 unread_differs bodies at kept Fault told = absurd told
 unread_differs bodies at kept (Damaged place named found) told = inl told
 unread_differs bodies at kept NoMemory told = tt

@@ -1,5 +1,5 @@
 -- Why a restart fails.
-use Rattle.std.proofs.Common.{◌≡◌, ℕ, List, [], Option, Some, None, inl, inr, refl}
+use Rattle.std.proofs.Common.{◌≡◌, ℕ, List, Option, Some, None, inl, inr, refl}
 use Rattle.std.specs.Prelude.{◌⊎◌}
 use Rattle.mn_io.specs.DiskModel.{DiskState}
 use Rattle.mn_io.specs.Faults.{Rose}
@@ -10,7 +10,7 @@ use Rattle.mn_mini.specs.declared.record.Record.{Record}
 use Rattle.mn_node.specs.declared.restart.RestartError.{RestartError}
 use Rattle.mn_node.specs.declared.restart.RestartError.TheVariants.{Fault, Damaged, NoMemory}
 use Rattle.mn_node.specs.Node.{added_to, bodies_of}
-use Rattle.mn_node.specs.Restart.{Compares, FailsRestart, IsOther, error_of}
+use Rattle.mn_node.specs.Restart.{Compares, FailsRestart, IsNoLog, IsOther, error_of}
 
 -- laws of the log
 abbrev pub OneList : Type 0
@@ -24,10 +24,10 @@ no_damage node nodes content at bodies others law damaged (inl stands) = law nod
 no_damage node nodes content at bodies others law damaged (inr stands) = law node nodes content at others damaged stands
 
 pub not_opened : {D : Type 0} (state : D → DiskState) (faults : D → ℕ) (old new : D) (records : List Record) (pending : Option Record) (cause : OpenCause) → (cause ≡ Cause.Fault → Rose (faults old) (faults new))
-    → ((at : ℕ) → cause ≡ Cause.Damaged at → (state old).honest → ⊥) → FailsRestart state faults old new records pending (error_of cause)
-not_opened state faults old new records pending Cause.Fault rose never = rose refl
-not_opened state faults old new records pending (Cause.Damaged at) rose never = (never at refl, [], inl (refl, refl))
-not_opened state faults old new records pending Cause.NoMemory rose never = tt
+    → ((at : ℕ) → cause ≡ Cause.Damaged at → (state old).honest → ⊥) → ((at : ℕ) → cause ≡ Cause.Damaged at → IsNoLog at) → FailsRestart state faults old new records pending (error_of cause)
+not_opened state faults old new records pending Cause.Fault rose never place = rose refl
+not_opened state faults old new records pending (Cause.Damaged at) rose never place = (never at refl, inl ((refl, refl), place at refl))
+not_opened state faults old new records pending Cause.NoMemory rose never place = tt
 
 other : (bodies : List (List ℕ)) (records : List Record) (pending : Option Record) → IsOther bodies records pending → bodies ≡ bodies_of (added_to records pending) → ⊥
 other bodies records None told e = told.0 e
@@ -41,5 +41,5 @@ neither node nodes content bodies records pending law told stands (inr after) = 
 pub not_listed : {D : Type 0} (state : D → DiskState) (faults : D → ℕ) (old new : D) (bodies : List (List ℕ)) (records : List Record) (pending : Option Record) (e : RestartError)
     → (IsOther bodies records pending → (state old).honest → ⊥) → Compares bodies records pending e → FailsRestart state faults old new records pending e
 not_listed state faults old new bodies records pending Fault never told = absurd told
-not_listed state faults old new bodies records pending (Damaged at kept found) never told = (never told.0, bodies, told.1)
+not_listed state faults old new bodies records pending (Damaged at kept found) never told = (never told.0, inr (bodies, told.1))
 not_listed state faults old new bodies records pending NoMemory never told = tt

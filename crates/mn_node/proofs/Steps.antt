@@ -15,7 +15,7 @@ use Rattle.mn_mini.specs.Node.{HeldPart, Response, only_reply, answer, has_voted
 use Rattle.mn_node.specs.Held.{IsPartOf}
 use Rattle.mn_base.specs.declared.gate.StopAt.{StopAt}
 use Rattle.mn_base.specs.declared.gate.StopAt.TheVariants.{Before, Half, After}
-use Rattle.mn_node.specs.Node.{StandsWithOrWithout, StopsAt, HasStopped, Continues, IsUnasked, IsLogged, added_to}
+use Rattle.mn_node.specs.Node.{StandsWithOrWithout, StopsAt, HasStopped, Continues, IsUnasked, IsLogged, IsPut, added_to}
 use Rattle.std.proofs.lemmas.List.{map-append}
 use Rattle.mn_io.specs.DiskModel.{DiskState}
 use Rattle.mn_redo.specs.Grammar.{Stands}
@@ -49,6 +49,15 @@ up_added state old new before after r up started bodies node nodes stands better
       let with_nodes = subst (λ (n : ℕ). Stands new.node n c (old.bodies ++ record_bytes r ∷ [])) (sym nodes) with_node in
       subst (λ (l : List (List ℕ)). Stands new.node new.nodes c l) (sym bodies) with_nodes;
 }
+
+-- a log that has one more body stands for its bodies
+pub put_stands : {D : Type 0} (state : D → DiskState) (old new : RedoState D) (body : List ℕ) → IsPut state old new body → new.node ≡ old.node → new.nodes ≡ old.nodes → ((state new.disk).honest → (state old.disk).honest)
+    → (state new.disk).honest → StandsFor (state new.disk) new.node new.nodes new.bodies
+put_stands state old new body put node nodes better h c image =
+    let told : Stands old.node old.nodes c (old.bodies ++ body ∷ []) = put.stands (better h) c image in
+    let with_node = subst (λ (n : ℕ). Stands n old.nodes c (old.bodies ++ body ∷ [])) (sym node) told in
+    let with_nodes = subst (λ (n : ℕ). Stands new.node n c (old.bodies ++ body ∷ [])) (sym nodes) with_node in
+    subst (λ (l : List (List ℕ)). Stands new.node new.nodes c l) (sym put.bodies) with_nodes
 
 pub held_told : {X : Type 0} (o : Option X) (items : X → List PartItem) (h : Option HeldPart) → MatchOption o (h ≡ None) (λ x. IsPartOf h (items x)) → is_some o ≡ is_some h
 held_told None items h told = sym (ap (λ (x : Option HeldPart). is_some x) told)

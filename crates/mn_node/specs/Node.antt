@@ -3,7 +3,7 @@ use Rattle.std.specs.Prelude.{◌≡◌, ◌≤◌, ◌<◌, ◌⊎◌, ◌+◌,
 use Rattle.mn_io.specs.DiskModel.{DiskState, LeavesOnly, Stays}
 use Rattle.mn_io.specs.Faults.{Rose}
 use Rattle.mn_redo.specs.Grammar.{Stands}
-use Rattle.mn_redo.specs.Redo.{RedoState, StandsFor}
+use Rattle.mn_redo.specs.Redo.{HasHeader, RedoState, StandsFor}
 use Rattle.mn_redo.specs.declared.redo.Phase.TheVariants.{Started}
 use Rattle.mn_mini.specs.declared.record.Record.{Record}
 use Rattle.mn_mini.specs.declared.request.Request.{Request}
@@ -51,6 +51,8 @@ pub record Continues {D : Type 0} (state : D → DiskState) (faults : D → ℕ)
   pub honest : (state old.disk).honest → (state new.disk).honest
   pub no_better : (state new.disk).honest → (state old.disk).honest
   pub later : faults old.disk ≤ faults new.disk
+  -- a header that was there is still there
+  pub header : ((state old.disk).honest → HasHeader (state old.disk)) → (state new.disk).honest → HasHeader (state new.disk)
 
 abbrev pub SameNode : Memory → Memory → Type 0
 SameNode old new = (new.node ≡ old.node) × (new.nodes ≡ old.nodes)

@@ -2,12 +2,13 @@
 use Rattle.std.specs.Prelude.{◌≡◌, ◌≢◌, ◌≤◌, ◌<◌, ◌⊎◌, ℕ, zero, suc, Bool, true, false, List, [], ◌∷◌, ◌++◌, length, take, get_or, Option, Some, None, ⊤}
 use Rattle.mn_io.specs.DiskModel.{DiskState}
 use Rattle.mn_io.specs.Faults.{Rose}
+use Rattle.mn_redo.specs.Grammar.{IsDamaged, places}
 use Rattle.mn_redo.specs.declared.open.OpenCause.{OpenCause}
 use Rattle.mn_redo.specs.declared.open.OpenCause.TheVariants as Cause
 use Rattle.mn_mini.specs.declared.record.Record.{Record}
 use Rattle.mn_node.specs.declared.restart.RestartError.{RestartError}
 use Rattle.mn_node.specs.declared.restart.RestartError.TheVariants.{Fault, Damaged, NoMemory}
-use Rattle.mn_mini.specs.RecordGrammar.{Spells, record_bytes}
+use Rattle.mn_mini.specs.RecordGrammar.{Spells, SpellsNone, record_bytes}
 use Rattle.mn_node.specs.Node.{added_to, bodies_of}
 
 -- what a log that can't be read again makes of a restart
@@ -60,24 +61,31 @@ pub record IsFirstOther (bodies : List (List ℕ)) (records : List Record) (pend
   pub before : take at bodies ≡ bodies_of (take at (added_to records pending))
   pub differs : found ≢ record_at (added_to records pending) at
 
--- both are absent: no more is said of the place
+-- both are absent
 abbrev pub AreAbsent : Option Record → Option Record → Type 0
 AreAbsent kept found = (kept ≡ None) × (found ≡ None)
 
--- what damage names: the first record that differs; or a place on the disk, and no record
+-- a body spells no record, and its gate is at this place
+pub record IsBadBody (bodies : List (List ℕ)) (place : ℕ) : Type 0 where
+  pub number : ℕ
+  pub within : number < length bodies
+  pub bad : SpellsNone (get_or bodies number [])
+  pub place_is : place ≡ get_or (places 16 bodies) number 0
+
+-- what damage names: the first record that differs; or the place of the gate of a body that is no record, and no record
 abbrev pub IsDamage : List (List ℕ) → List Record → Option Record → ℕ → Option Record → Option Record → Type 0
-IsDamage bodies records pending at kept found = AreAbsent kept found ⊎ IsFirstOther bodies records pending at kept found
+IsDamage bodies records pending at kept found = (AreAbsent kept found × IsBadBody bodies at) ⊎ IsFirstOther bodies records pending at kept found
 
 -- a body that spells no record, which is told by its place alone
-abbrev pub IsUnread : RestartError → Type 0
-IsUnread Fault = ⊥
-IsUnread (Damaged place kept found) = AreAbsent kept found
-IsUnread NoMemory = ⊤
+abbrev pub IsUnread : List (List ℕ) → RestartError → Type 0
+IsUnread bodies Fault = ⊥
+IsUnread bodies (Damaged place kept found) = AreAbsent kept found × IsBadBody bodies place
+IsUnread bodies NoMemory = ⊤
 
--- what the damage at a number names: it, the node's record and the disk's; or a place on the disk, and no record
+-- what the damage at a number names: it, the node's record and the disk's; or the place of a body, and no record
 abbrev pub Differs : List (List ℕ) → ℕ → Option Record → RestartError → Type 0
 Differs bodies at kept Fault = ⊥
-Differs bodies at kept (Damaged place named found) = AreAbsent named found ⊎ ((place ≡ at) × (named ≡ kept) × IsFound bodies at found)
+Differs bodies at kept (Damaged place named found) = (AreAbsent named found × IsBadBody bodies place) ⊎ ((place ≡ at) × (named ≡ kept) × IsFound bodies at found)
 Differs bodies at kept NoMemory = ⊤
 
 -- what a comparison with a log says
@@ -85,6 +93,10 @@ abbrev pub Compares : List (List ℕ) → List Record → Option Record → Rest
 Compares bodies records pending Fault = ⊥
 Compares bodies records pending (Damaged at kept found) = IsOther bodies records pending × IsDamage bodies records pending at kept found
 Compares bodies records pending NoMemory = ⊤
+
+-- a place where bytes are no log: 0 for a disk that reads as fresh, or that of the damage of some bytes that the disk gave
+abbrev pub IsNoLog : ℕ → Type 0
+IsNoLog at = (at ≡ 0) ⊎ ((node : ℕ) × (nodes : ℕ) × (content : List ℕ) × IsDamaged node nodes content at)
 
 -- no damage; and a fault only where the count rose
 abbrev pub IsCause : {D : Type 0} → (D → ℕ) → D → D → RestartError → Type 0
@@ -103,8 +115,8 @@ Restarts records pending new false = new ≡ records
 Restarts records pending new true = IsWithLeft records pending new
 
 -- why a restart failed: a fault only where the count rose; damage never where the disk is honest, and it names the first record in which the
--- bodies that the disk gave differ from the node's records, or a place and no record
+-- bodies that the disk gave differ from the node's records, or no record and the place of what is no log or no record
 abbrev pub FailsRestart : {D : Type 0} → (D → DiskState) → (D → ℕ) → D → D → List Record → Option Record → RestartError → Type 0
 FailsRestart state faults old new records pending Fault = Rose (faults old) (faults new)
-FailsRestart state faults old new records pending (Damaged at kept found) = ((state old).honest → ⊥) × (bodies : List (List ℕ)) × IsDamage bodies records pending at kept found
+FailsRestart state faults old new records pending (Damaged at kept found) = ((state old).honest → ⊥) × ((AreAbsent kept found × IsNoLog at) ⊎ ((bodies : List (List ℕ)) × IsDamage bodies records pending at kept found))
 FailsRestart state faults old new records pending NoMemory = ⊤

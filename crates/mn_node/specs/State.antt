@@ -4,7 +4,7 @@ use Rattle.std.specs.List.{AllByRecursion}
 use Rattle.mn_base.specs.declared.gate.StopAt.{StopAt}
 use Rattle.mn_io.specs.DiskModel.{DiskState}
 use Rattle.mn_redo.specs.Grammar.{places}
-use Rattle.mn_redo.specs.Redo.{RedoState, StandsFor}
+use Rattle.mn_redo.specs.Redo.{HasHeader, RedoState, StandsFor}
 use Rattle.mn_mini.specs.declared.record.Record.{Record}
 use Rattle.mn_mini.specs.declared.request.Request.{Request}
 use Rattle.mn_mini.specs.declared.reply.NodeReply.{NodeReply}
@@ -34,6 +34,7 @@ pub record IsNode {D : Type 0} (state : D → DiskState) (redo : RedoState D) (m
   pub apart : AreApart (held_parts (reverse m.records.items))
   pub apart_left : AreApart (held_parts (reverse (added_to m.records.items pending)))
   pub stands : (state redo.disk).honest → StandsWithOrWithout (state redo.disk) redo.node redo.nodes m.records.items pending
+  pub header : (state redo.disk).honest → HasHeader (state redo.disk)
   pub node : m.node ≡ redo.node
   pub nodes : m.nodes ≡ redo.nodes
   pub some : 0 < redo.nodes

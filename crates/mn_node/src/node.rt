@@ -149,12 +149,12 @@ impl<D: Disk> Node<D> {
     }
 
     /// Starts the node again that is down, with its records, and with the record of the request inside which it stopped where the disk has it:
-    /// which is told. It holds again what these hold, shared ranges too. It writes nothing, but the header of a disk that reads as fresh where
-    /// there are no records.
+    /// which is told. It holds again what these hold, shared ranges too. It writes nothing.
     ///
     /// After an error it is still down, and may be restarted again. `Fault` comes only where the disk's count of faults rose; `Damaged`, where
     /// the disk has other records, never comes where the disk is honest. It names the first record that differs, as the node has it and as the
-    /// disk gave it, or a place and no record.
+    /// disk gave it; or no record and a place: 0 where the disk reads as fresh, or that of the damage, or that of the gate of a body that is no
+    /// record.
     pub fn restart(&mut self, alloc: Global) -> Result<bool, RestartError>
         requires down { self.old.down ≡ true }
         ensures up { OnOk result (self.new.down ≡ false) }

@@ -3,8 +3,8 @@ ghost use Rattle.std.specs.List.{AllByRecursion};
 ghost use Rattle.mn_io.specs.Faults.{Rose};
 ghost use Rattle.mn_io.specs.DiskModel.{LeavesOnly};
 ghost use Rattle.mn_redo.specs.Grammar.{Stands};
-ghost use Rattle.mn_redo.specs.Redo.{StandsFor};
-ghost use Rattle.mn_redo.specs.declared.redo.Phase.TheVariants.{Fresh, Closing};
+ghost use Rattle.mn_redo.specs.Redo.{HasHeader, StandsFor};
+ghost use Rattle.mn_redo.specs.declared.redo.Phase.TheVariants.{Closing};
 ghost use Rattle.mn_mini.specs.Laws.{AreApart};
 ghost use Rattle.mn_mini.specs.Node.{held_parts};
 ghost use Rattle.mn_mini.specs.RecordGrammar.{IsRecord, record_bytes};
@@ -74,6 +74,17 @@ fn error_of(cause: OpenCause) -> RestartError
     }
 }
 
+/// A started node's disk that reads as fresh has lost its header.
+fn no_log() -> RestartError
+    ensures { result ≡ errors.Damaged 0 None None }
+{
+    RestartError::Damaged {
+        at: 0,
+        kept: None,
+        found: None,
+    }
+}
+
 /// Whether a body of the log is the record's.
 fn spells<D: Disk>(
     alloc: Global,
@@ -121,7 +132,7 @@ fn found_at<D: Disk>(
 ) -> Result<Option<Record>, RestartError>
     requires going { redo.now.phase ≢ Closing }
     ensures found { IfOk result (IsFound redo.now.bodies at) }
-    ensures unread { IfErr result IsUnread }
+    ensures unread { IfErr result (IsUnread redo.now.bodies) }
 {
     if at >= redo.count() as usize {
         return Ok(None);
@@ -181,21 +192,6 @@ fn compare_rest<D: Disk>(
     Ok(true)
 }
 
-/// Compares the log of a disk that reads as fresh with a node's records.
-fn compare_fresh(records: &[Record]) -> Result<bool, RestartError>
-    ensures none { IfOk result (λ there. (there ≡ false) × (records.now ≡ [])) }
-    ensures some { IfErr result (λ e. (e ≡ errors.Damaged 0 None None) × (0 < length records.now)) }
-{
-    if records.is_empty() {
-        return Ok(false);
-    }
-    Err(RestartError::Damaged {
-        at: 0,
-        kept: None,
-        found: None,
-    })
-}
-
 /// Compares the log with a node's records and the record that may be behind them. Whether that is there.
 fn compare<D: Disk>(
     alloc: Global,
@@ -204,14 +200,10 @@ fn compare<D: Disk>(
     pending: &Option<Record>,
 ) -> Result<bool, RestartError>
     requires going { redo.now.phase ≢ Closing }
-    requires fresh { redo.now.phase ≡ Fresh → redo.now.bodies ≡ [] }
     requires sound { AllByRecursion IsRecord (added_to records.now pending.now) }
     ensures listed { IfOk result (IsListed redo.now.bodies records.now pending.now) }
     ensures differs { IfErr result (Compares redo.now.bodies records.now pending.now) }
 {
-    if redo.is_fresh() {
-        return compare_fresh(records);
-    }
     if let Some(at) = first_difference(alloc, redo, records)? {
         let kept = records[at].try_copy(alloc)?;
         return Err(differs(alloc, redo, at, Some(kept)));
@@ -327,6 +319,7 @@ pub fn back<D: Disk>(
     requires apart { AreApart (held_parts (reverse memory.old.records.items)) }
     requires apart_left { AreApart (held_parts (reverse (added_to memory.old.records.items pending.now))) }
     requires stands { (D.state redo.old.disk).honest → StandsWithOrWithout (D.state redo.old.disk) redo.old.node redo.old.nodes memory.old.records.items pending.now }
+    requires header { (D.state redo.old.disk).honest → HasHeader (D.state redo.old.disk) }
     ensures up { OnOk result (IsUp D.state redo.new memory.new) }
     ensures records { IfOk result (Restarts memory.old.records.items pending.now memory.new.records.items) }
     ensures before { OnErr result (memory.new.records.items ≡ memory.old.records.items) }
@@ -340,6 +333,9 @@ pub fn back<D: Disk>(
     damaged_or_not();
     if let Err(cause) = redo.reopen(alloc) {
         return Err(error_of(cause));
+    }
+    if redo.is_fresh() {
+        return Err(no_log());
     }
     let there = match compare(alloc, redo, &memory.records, pending) {
         Ok(there) => there,

@@ -2,7 +2,7 @@ ghost use Rattle.std.specs.Prelude.{◌≡◌, ◌≢◌, ◌≤◌, ◌<◌, �
 ghost use Rattle.mn_io.specs.Faults.{Rose};
 ghost use Rattle.mn_io.specs.DiskModel.{LeavesOnly};
 ghost use Rattle.mn_redo.specs.Grammar.{Stands};
-ghost use Rattle.mn_redo.specs.Redo.{StandsFor};
+ghost use Rattle.mn_redo.specs.Redo.{HasHeader, StandsFor};
 ghost use Rattle.mn_redo.specs.declared.redo.Phase.TheVariants.{Started, Closing};
 ghost use Rattle.mn_node.specs.declared.start.StartCause.TheVariants as causes;
 ghost use Rattle.mn_node.specs.Memory.{IsMemory, HasRoom};
@@ -89,6 +89,7 @@ pub fn start_log<D: Disk>(redo: &mut Redo<D>, held: u32) -> Result<(), StartCaus
     ensures bodies { redo.new.bodies ≡ redo.old.bodies }
     ensures spare_bodies { OnOk result (held ≤ redo.new.spare_bodies) }
     ensures spare_bytes { OnOk result (11 * held ≤ redo.new.spare_bytes) }
+    ensures header { OnOk result ((D.state redo.new.disk).honest → HasHeader (D.state redo.new.disk)) }
     ensures stands { OnOk result ((D.state redo.new.disk).honest → StandsFor (D.state redo.new.disk) redo.old.node redo.old.nodes redo.old.bodies) }
     ensures keeps { ((D.state redo.old.disk).honest → StandsFor (D.state redo.old.disk) redo.old.node redo.old.nodes redo.old.bodies) → (D.state redo.new.disk).honest → StandsFor (D.state redo.new.disk) redo.old.node redo.old.nodes redo.old.bodies }
     ensures moments { (D.state redo.old.disk).honest → StandsFor (D.state redo.old.disk) redo.old.node redo.old.nodes redo.old.bodies → LeavesOnly (D.state redo.old.disk) (D.state redo.new.disk) (λ c. Stands redo.old.node redo.old.nodes c redo.old.bodies) }
@@ -110,6 +111,7 @@ pub fn ready<D: Disk>(alloc: Global, redo: &mut Redo<D>) -> Result<Memory, Start
     requires nodes { 0 < redo.old.nodes }
     requires apart { MayStart redo.old.bodies }
     ensures up { IfOk result (λ memory. IsUp D.state redo.new memory) }
+    ensures header { OnOk result ((D.state redo.new.disk).honest → HasHeader (D.state redo.new.disk)) }
     ensures records { IfOk result (λ memory. AreRecords redo.old.bodies memory.records.items) }
     ensures node { IfOk result (λ memory. memory.node ≡ redo.old.node) }
     ensures nodes { IfOk result (λ memory. memory.nodes ≡ redo.old.nodes) }

@@ -186,6 +186,7 @@ pub fn prepare<D: Disk>(
     ensures fresh { (D.state disk.old).honest → IfOk result (λ found. found.is_fresh ≡ true → IsFresh (D.state disk.new).content) }
     ensures log { (D.state disk.old).honest → IfOk result (λ found. found.is_fresh ≡ false → IsLog (header node nodes) (D.state disk.new).content (listed_in 16 found.bytes.items)) }
     ensures content { (D.state disk.old).honest → OnOk result ((D.state disk.new).content ≡ (D.state disk.old).content) }
+    ensures content_damaged { (D.state disk.old).honest → (at : ℕ) → IsErrOf result (causes.Damaged at) → (D.state disk.new).content ≡ (D.state disk.old).content }
     ensures stable { (D.state disk.old).honest → OnOk result (IsStable (D.state disk.new)) }
     ensures changes { OnOk result (8 ≤ D.spare_changes disk.new) }
     ensures room { OnOk result (18 ≤ D.spare_bytes disk.new) }

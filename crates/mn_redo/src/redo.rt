@@ -72,6 +72,7 @@ impl<D: Disk> Redo<D> {
 
         // Nothing was written.
         ensures content { (D.state disk).honest → IfOk result (λ redo. (D.state redo.disk).content ≡ (D.state disk).content) }
+        ensures content_damaged { (D.state disk).honest → (at : ℕ) → IfErr result (λ failed. failed.cause ≡ causes.Damaged at → (D.state failed.disk).content ≡ (D.state disk).content) }
         ensures unwritten_ok { (D.state disk).honest → IfOk result (λ redo. WritesNothing (D.state disk) (D.state redo.disk)) }
         ensures unwritten_err { (D.state disk).honest → IfErr result (λ failed. WritesNothing (D.state disk) (D.state failed.disk)) }
         ensures images_ok { (D.state disk).honest → IfOk result (λ redo. NoneNew (D.state disk) (D.state redo.disk)) }

@@ -1,10 +1,10 @@
 -- Logs, the nodes that are started on them, and what is due of them.
 use Rattle.std.proofs.Common.{◌≡◌, ◌≤◌, ◌<◌, ℕ, zero, suc, List, [], ◌∷◌, length, get_or, reverse, refl, ap, sym, subst, ◌∙◌, arith, inl, inr, Result, Ok, Err}
 use Rattle.std.specs.List.{AllByRecursion, list_all, list_any}
-use Rattle.std.specs.Prelude.{false}
+use Rattle.std.specs.Prelude.{◌⊎◌, false}
 use Rattle.mn_base.specs.declared.op.Op.{Op}
 use Rattle.mn_base.specs.Store.{main_store}
-use Rattle.mn_io.specs.DiskModel.{DiskState}
+use Rattle.mn_io.specs.DiskModel.{DiskState, NoneNew, Stays, WritesNothing}
 use Rattle.mn_io.specs.Faults.{Rose}
 use Rattle.mn_mini.specs.declared.record.Record.{Record}
 use Rattle.mn_mini.specs.Node.{held_parts}
@@ -13,22 +13,21 @@ use Rattle.mn_mini.specs.RecordGrammar.{IsRecord, record_bytes}
 use Rattle.mn_mini.proofs.RecordBytes.{record_once}
 use Rattle.mn_node.specs.Node.{bodies_of}
 use Rattle.mn_node.specs.State.{AreRecords, GoesOn, IsFirstBad, IsStarted, NodeState, StandsForRecords}
-use Rattle.mn_redo.specs.Grammar.{Stands, IsDamaged}
+use Rattle.mn_redo.specs.Grammar.{AreInFront, IsDamaged, Stands}
 use Rattle.mn_redo.specs.Redo.{RedoState, StandsFor}
 use Rattle.mn_script.specs.declared.elements.ScriptClient.{ScriptClient}
 use Rattle.mn_top.specs.declared.caller.Stop.{Stop}
 use Rattle.mn_top.specs.declared.caller.Stop.TheVariants.{Fault, NoMemory}
-use Rattle.mn_top.specs.Disk.{Grew, IsBetween, IsCutShort, IsUnwritten, Shows}
+use Rattle.mn_top.specs.Disk.{Grew, IsBetween, IsCutShort, IsDamagedBehind, IsUnwritten, Shows}
 use Rattle.mn_top.specs.Leaf.{MakesLeaf, is_executed}
 use Rattle.mn_node.specs.declared.start.StartCause.{StartCause}
 use Rattle.mn_node.specs.declared.start.StartCause.TheVariants as starting
-use Rattle.mn_redo.specs.declared.open.OpenCause.{OpenCause}
 use Rattle.mn_redo.specs.declared.open.OpenCause.TheVariants as opening
 use Rattle.mn_top.specs.declared.due.DamageRule.TheVariants.{Log, Runs}
 use Rattle.mn_top.specs.declared.due.Due.{Due}
 use Rattle.mn_top.specs.declared.due.Due.TheVariants as dues
 use Rattle.mn_top.specs.Open.{IsJudged, IsOpen}
-use Rattle.mn_top.specs.Opening.{WasOpened, due_of_opening, due_of_running, due_of_starting}
+use Rattle.mn_top.specs.Opening.{WasOpened, WasntOpened, due_of_opening, due_of_running, due_of_starting}
 use Rattle.mn_top.specs.Program.{ComesTo}
 use Rattle.mn_top.specs.Run.{AreTaken, Reports}
 use Rattle.mn_top.specs.Serve.{Serves}
@@ -186,21 +185,65 @@ start_failed state faults clients old new redo run starting.Fault ready opened l
 start_failed state faults clients old new redo run (starting.Damaged at) ready opened later fault damaged honest stands = absurd (none_bad redo.bodies ready.records at ready.are (damaged at refl))
 start_failed state faults clients old new redo run starting.NoMemory ready opened later fault damaged honest stands = inr (cut_at_start state faults old new redo (ops_of clients) run ready opened honest stands)
 
--- what is due where the log wasn't opened
-pub open_failed : {D : Type 0} (state : D → DiskState) (faults : D → ℕ) (clients : List ScriptClient) (old new : D) (cause : OpenCause) → IsUnwritten (state old) (state new)
-    → (cause ≡ opening.Fault → Rose (faults old) (faults new)) → ((state old).honest → (at : ℕ) → cause ≡ opening.Damaged at → IsDamaged 0 1 (state old).content at) → ComesTo state faults clients old (due_of_opening cause) new
-open_failed state faults clients old new opening.Fault unwritten fault damaged = (refl, fault refl, inl unwritten)
-open_failed state faults clients old new (opening.Damaged at) unwritten fault damaged = (refl, record { bad = λ h. inl (damaged h at refl); unwritten = unwritten })
-open_failed state faults clients old new opening.NoMemory unwritten fault damaged = inl unwritten
+-- Logs that weren't opened
+
+still_nothing : (old mid new : DiskState) → WritesNothing old mid → NoneNew old mid → Stays mid new → WritesNothing old new
+still_nothing old mid new writes none stays = record {
+  later = omega (arith, writes.later, stays.time.later);
+  each = λ c since. one_of (old.images c) (stays.time.nothing_else old.moment c writes.later since) (writes.each c) (λ image. none c (stays.images c image));
+  before = λ t c early since. two_of (old.since t c) (old.images c) (stays.time.nothing_else t c (omega (arith, early, writes.later)) since) (writes.before t c early) (λ image. none c (stays.images c image));
+}
+  where
+    one_of : (P : Type 0) {A B : Type 0} → A ⊎ B → (A → P) → (B → P) → P
+    one_of P (inl a) f g = f a
+    one_of P (inr b) f g = g b
+
+    two_of : (P Q : Type 0) {A B : Type 0} → A ⊎ B → (A → P ⊎ Q) → (B → Q) → P ⊎ Q
+    two_of P Q (inl a) f g = f a
+    two_of P Q (inr b) f g = inr (g b)
+
+pub still_unwritten : (old mid new : DiskState) → IsUnwritten old mid → (mid.honest → Stays mid new) → IsUnwritten old new
+still_unwritten old mid new was same = record {
+  honest = λ h. (same (was.honest h)).time.honest;
+  writes_nothing = λ h. still_nothing old mid new (was.writes_nothing h) (was.none_new h) (same (was.honest h));
+  none_new = λ h c image. was.none_new h c ((same (was.honest h)).images c image);
+}
+
+-- the disk of a log that is damaged at a place was read again up to there, for these bodies
+pub record WasRead {D : Type 0} (state : D → DiskState) (old : D) (at : ℕ) (new : D) (bodies : List (List ℕ)) : Type 0 where
+  pub unwritten : IsUnwritten (state old) (state new)
+  pub behind : (state old).honest → IsDamagedBehind (state old).content at bodies
+
+pub was_read : {D : Type 0} (state : D → DiskState) (faults : D → ℕ) (old disk new : D) (at : ℕ) (bodies : List (List ℕ)) → WasntOpened state faults old (opening.Damaged at) disk → ((state disk).honest → Stays (state disk) (state new))
+    → ((state disk).honest → IsDamaged 0 1 (state disk).content at → AreInFront 0 1 (state disk).content at bodies) → WasRead state old at new bodies
+was_read state faults old disk new at bodies was same front = record {
+  unwritten = still_unwritten (state old) (state disk) (state new) was.unwritten same;
+  behind = λ h.
+      let damaged = was.damaged h at refl in
+      let content = was.content h at refl in (
+        damaged,
+        subst (λ (l : List ℕ). AreInFront 0 1 l at bodies) content (front (was.unwritten.honest h) (subst (λ (l : List ℕ). IsDamaged 0 1 l at) (sym content) damaged)),
+      );
+}
+
+-- all bodies in front of the damage are records
+pub damaged_first : {D : Type 0} (state : D → DiskState) (faults : D → ℕ) (clients : List ScriptClient) (old new : D) (at : ℕ) (bodies : List (List ℕ)) → WasRead state old at new bodies → (records : List Record) × AreRecords bodies records
+    → ComesTo state faults clients old (due_of_opening (opening.Damaged at)) new
+damaged_first state faults clients old new at bodies read are = (refl, record { bad = λ h. inl (bodies, read.behind h, are); unwritten = read.unwritten })
+
+-- one of them is not
+pub bad_first : {D : Type 0} (state : D → DiskState) (faults : D → ℕ) (clients : List ScriptClient) (old new : D) (at place : ℕ) (bodies : List (List ℕ)) → WasRead state old at new bodies → IsFirstBad bodies place
+    → ComesTo state faults clients old (due_of_opening (opening.Damaged place)) new
+bad_first state faults clients old new at place bodies read bad = (refl, record { bad = λ h. inr (bodies, inr (at, read.behind h), bad); unwritten = read.unwritten })
 
 -- what is due of a log on which there is no run
 pub judged : {D : Type 0} (state : D → DiskState) (faults : D → ℕ) (clients : List ScriptClient) (old : D) (redo : RedoState D) (due : Due) → IsJudged redo.bodies (ops_of clients) due → WasOpened state faults old redo
     → ComesTo state faults clients old due redo.disk
-judged state faults clients old redo (dues.Damaged node place Log) why opened = (why.0, record { bad = λ h. inr (redo.bodies, opened.shown h, why.1); unwritten = opened.unwritten })
+judged state faults clients old redo (dues.Damaged node place Log) why opened = (why.0, record { bad = λ h. inr (redo.bodies, inl (opened.shown h), why.1); unwritten = opened.unwritten })
 judged state faults clients old redo (dues.Damaged node place Runs) why opened =
     (why.0, why.1, record { records = (why.2).0; shown = record { bodies = redo.bodies; are = (why.2).1; stands = opened.shown }; last = (why.2).2; unwritten = opened.unwritten })
 judged state faults clients old redo dues.Unbuilt why opened =
-    record { records = why.0; shown = record { bodies = redo.bodies; are = why.1; stands = opened.shown }; numbered = (why.2).0; unserved = (why.2).1; unwritten = opened.unwritten }
+    record { records = why.0; shown = record { bodies = redo.bodies; are = why.1; stands = opened.shown }; numbered = why.2; unserved = why.3; unwritten = opened.unwritten }
 judged state faults clients old redo dues.NoMemory why opened = inl opened.unwritten
 judged state faults clients old redo (dues.Report text) why opened = absurd why
 judged state faults clients old redo dues.Usage why opened = absurd why

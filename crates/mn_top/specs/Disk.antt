@@ -10,7 +10,7 @@ use Rattle.mn_mini.specs.declared.record.Record.{Record}
 use Rattle.mn_mini.specs.RecordGrammar.{record_tid}
 use Rattle.mn_node.specs.Node.{bodies_of}
 use Rattle.mn_node.specs.State.{AreRecords, IsFirstBad}
-use Rattle.mn_redo.specs.Grammar.{Stands, IsDamaged}
+use Rattle.mn_redo.specs.Grammar.{AreInFront, IsDamaged, Stands}
 use Rattle.mn_redo.specs.Redo.{StandsFor}
 use Rattle.mn_report.specs.Report.{report_text}
 use Rattle.mn_script.specs.declared.elements.ScriptClient.{ScriptClient}
@@ -36,9 +36,21 @@ pub record Shows (disk : DiskState) (records : List Record) : Type 0 where
   pub are : AreRecords bodies records
   pub stands : disk.honest → Stands 0 1 disk.content bodies
 
--- where the log of an honest disk is outside its grammar: at this place of the log, or at the gate of the first body that is no record
+-- the bytes are damaged at this place, and these bodies stand in front of it
+abbrev pub IsDamagedBehind : List ℕ → ℕ → List (List ℕ) → Type 0
+IsDamagedBehind content at bodies = IsDamaged 0 1 content at × AreInFront 0 1 content at bodies
+
+-- the whole log is these bodies, or they stand in front of its damage
+abbrev pub Begins : List ℕ → List (List ℕ) → Type 0
+Begins content bodies = Stands 0 1 content bodies ⊎ ((at : ℕ) × IsDamagedBehind content at bodies)
+
+-- the bytes are damaged at this place, behind bodies that are all records
+abbrev pub IsDamagedFirst : List ℕ → ℕ → Type 0
+IsDamagedFirst content at = (bodies : List (List ℕ)) × IsDamagedBehind content at bodies × ((records : List Record) × AreRecords bodies records)
+
+-- where the log of an honest disk is first outside its grammar: at the place of its damage, or at the gate of the first body that is no record
 abbrev pub IsBadLog : DiskState → ℕ → Type 0
-IsBadLog disk at = disk.honest → IsDamaged 0 1 disk.content at ⊎ ((bodies : List (List ℕ)) × Stands 0 1 disk.content bodies × IsFirstBad bodies at)
+IsBadLog disk at = disk.honest → IsDamagedFirst disk.content at ⊎ ((bodies : List (List ℕ)) × Begins disk.content bodies × IsFirstBad bodies at)
 
 -- nothing was written to an honest disk
 pub record IsUnwritten (old new : DiskState) : Type 0 where

@@ -1,12 +1,13 @@
 -- A disk that was opened, and what came of it.
 use Rattle.std.specs.Prelude.{◌≡◌, ◌≢◌, ◌≤◌, ℕ, List, Result, Ok, Err}
 use Rattle.mn_io.specs.DiskModel.{DiskState}
+use Rattle.mn_io.specs.Faults.{Rose}
 use Rattle.mn_node.specs.declared.start.StartCause.{StartCause}
 use Rattle.mn_node.specs.declared.start.StartCause.TheVariants as starting
 use Rattle.mn_redo.specs.declared.open.OpenCause.{OpenCause}
 use Rattle.mn_redo.specs.declared.open.OpenCause.TheVariants as opening
 use Rattle.mn_redo.specs.declared.redo.Phase.TheVariants.{Closing}
-use Rattle.mn_redo.specs.Grammar.{Stands}
+use Rattle.mn_redo.specs.Grammar.{IsDamaged, Stands}
 use Rattle.mn_redo.specs.Redo.{RedoState, StandsFor}
 use Rattle.mn_top.specs.Disk.{IsUnwritten}
 use Rattle.mn_top.specs.declared.due.DamageRule.TheVariants.{Log}
@@ -26,6 +27,14 @@ pub record WasOpened {D : Type 0} (state : D → DiskState) (faults : D → ℕ)
   pub unwritten : IsUnwritten (state old) (state redo.disk)
   pub no_better : (state redo.disk).honest → (state old).honest
   pub later : faults old ≤ faults redo.disk
+
+-- the log of this disk wasn't opened, for this cause, and nothing was written
+pub record WasntOpened {D : Type 0} (state : D → DiskState) (faults : D → ℕ) (old : D) (cause : OpenCause) (disk : D) : Type 0 where
+  pub unwritten : IsUnwritten (state old) (state disk)
+  pub later : faults old ≤ faults disk
+  pub fault : cause ≡ opening.Fault → Rose (faults old) (faults disk)
+  pub damaged : (state old).honest → (at : ℕ) → cause ≡ opening.Damaged at → IsDamaged 0 1 (state old).content at
+  pub content : (state old).honest → (at : ℕ) → cause ≡ opening.Damaged at → (state disk).content ≡ (state old).content
 
 -- what is due where a log wasn't opened
 abbrev pub due_of_opening : OpenCause → Due

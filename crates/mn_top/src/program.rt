@@ -6,11 +6,12 @@ ghost use Rattle.mn_base.specs.Store.{main_store};
 ghost use Rattle.mn_io.specs.Faults.{Rose};
 ghost use Rattle.mn_node.specs.State.{GoesOn};
 ghost use Rattle.mn_redo.specs.declared.redo.Phase.TheVariants.{Closing};
+ghost use Rattle.mn_script.specs.declared.elements.ScriptClient.{ScriptClient};
 ghost use Rattle.mn_script.specs.Reading.{script_of as read_as};
 ghost use Rattle.mn_top.specs.declared.due.Due.{Due};
 ghost use Rattle.mn_top.specs.Words.{AskReplay};
 ghost use Rattle.mn_top.specs.Open.{IsOpen};
-ghost use Rattle.mn_top.specs.Opening.{WasOpened, due_of_opening, due_of_running, due_of_starting};
+ghost use Rattle.mn_top.specs.Opening.{WasOpened, WasntOpened, due_of_running, due_of_starting};
 ghost use Rattle.mn_top.specs.Program.{ComesTo, Finishes, IsCalled, IsDue, IsDueBefore, IsTextOf};
 ghost use Rattle.mn_top.specs.Run.{AreTaken, HasFewOps, Reports};
 ghost use Rattle.mn_top.specs.Serve.{Serves};
@@ -18,6 +19,7 @@ ghost use Rattle.mn_top.specs.Served.{ops_of, is_of_versions, is_unserved};
 
 use crate::caller::Stop;
 use crate::clap_words::read_words;
+use crate::damage::due_of_open;
 use crate::due::{DamageRule, Due};
 use crate::finish::finish;
 use crate::open::judge;
@@ -30,7 +32,7 @@ use crate::words::Words;
 use mn_base::{Bytes, Gate, NodeNo};
 use mn_io::{Disk, ReadError, Sink, Source, read_all};
 use mn_node::{Node, StartCause, StartFailed};
-use mn_redo::{OpenCause, OpenFailed, Redo};
+use mn_redo::{OpenFailed, Redo};
 use mn_script::{Script, ScriptClient, ScriptError, read_script};
 use std::alloc::Global;
 use std::sync::Wait;
@@ -104,21 +106,6 @@ fn on_judged<D: Disk>(alloc: Global, redo: Redo<D>, run: u32, clients: &[ScriptC
     }
 }
 
-/// What is due where a log wasn't opened.
-fn due_of_open(cause: OpenCause) -> Due
-    ensures { result ≡ due_of_opening cause }
-{
-    match cause {
-        OpenCause::Fault => Due::DiskFault { node: 0 },
-        OpenCause::Damaged { at } => Due::Damaged {
-            node: 0,
-            place: at,
-            rule: DamageRule::Log,
-        },
-        OpenCause::NoMemory => Due::NoMemory,
-    }
-}
-
 /// What is due where a node wasn't started, whose records were read before.
 fn due_of_start(cause: StartCause) -> Due
     ensures { result ≡ due_of_starting cause }
@@ -153,6 +140,16 @@ fn on_log<D: Disk>(alloc: Global, redo: Redo<D>, clients: &[ScriptClient]) -> En
     }
 }
 
+/// Tells why a log wasn't opened.
+fn not_opened<D: Disk>(alloc: Global, failed: OpenFailed<D>) -> Ended<D>
+    ensures { (old : D) (clients : List ScriptClient) → WasntOpened D.state D.faults old failed.cause failed.disk → ComesTo D.state D.faults clients old result.due result.disk }
+{
+    let OpenFailed { disk, cause } = failed;
+    let mut disk = disk;
+    let due = due_of_open(alloc, &mut disk, cause);
+    Ended { due, disk }
+}
+
 /// Opens a disk, and runs the clients on it.
 fn on_disk<D: Disk>(alloc: Global, disk: D, clients: &[ScriptClient]) -> Ended<D>
     requires plain { list_any is_of_versions (ops_of clients.now) ≡ false }
@@ -162,10 +159,7 @@ fn on_disk<D: Disk>(alloc: Global, disk: D, clients: &[ScriptClient]) -> Ended<D
 {
     match Redo::open(alloc, disk, NodeNo(0), 1) {
         Ok(redo) => on_log(alloc, redo, clients),
-        Err(OpenFailed { disk, cause }) => Ended {
-            due: due_of_open(cause),
-            disk,
-        },
+        Err(failed) => not_opened(alloc, failed),
     }
 }
 

@@ -1,4 +1,4 @@
-use Rattle.std.proofs.Common.{List, refl, Err, ap, sym, subst}
+use Rattle.std.proofs.Common.{List, inl, inr, refl, Err, ap, sym, subst}
 use Rattle.mn_mini.specs.declared.record.Record.{Record}
 use Rattle.mn_node.specs.declared.restart.RestartError.{RestartError}
 use Rattle.mn_node.specs.Node.{added_to, bodies_of}
@@ -14,7 +14,7 @@ returns-in-Err-clause-cause g c =
     let content = (g.D.Disk.state old.disk).content in
     let told = not_opened g.D.Disk.state g.D.Disk.faults old.disk c.reopen.new.self.disk records c.args.pending.now c.in-Err.cause (λ e. c.in-Err.ensures.fault (ap Err e))
     (λ at is honest. no_damage old.node old.nodes content at (bodies_of records) (bodies_of (added_to records c.args.pending.now)) c.damaged_or_not.ensures (c.in-Err.ensures.damaged honest at (ap Err is))
-    (c.requires.stands honest content (g.D.Disk.is_disk old.disk honest).read)) in
+    (c.requires.stands honest content (g.D.Disk.is_disk old.disk honest).read)) (λ at is. let told = c.in-Err.ensures.told at (ap Err is) in inr (old.node, old.nodes, told.0, told.1)) in
     subst (λ (e : RestartError). FailsRestart g.D.Disk.state g.D.Disk.faults old.disk c.reopen.new.self.disk records c.args.pending.now e) (sym c.error_of.ensures) told
 
 pub returns-in-Err-compare-clause-cause : goal.returns-in-Err-compare-clause-cause

@@ -1,6 +1,7 @@
-use Rattle.mn_node.proofs.Steps.{stops_here, stops_earlier}
-use Rattle.std.proofs.Common.{Some}
-use Rattle.mn_node.specs.Node.{IsWithOrWithout}
+use Rattle.mn_node.proofs.Steps.{on_ok, one_body_more, put_stands, stops_here, stops_earlier}
+use Rattle.std.proofs.Common.{◌++◌, ◌∷◌, [], ℕ, List, Some, ap, arith, length, sym, ◌∙◌}
+use Rattle.mn_node.specs.Node.{HasMore, IsWithOrWithout}
+use Rattle.mn_mini.specs.RecordGrammar.{record_bytes}
 use Rattle.mn_node.proofs.Moments.{at_rests, kept_moments, up_images}
 use Rattle.mn_node.proofs.step.keep.Goals as goal
 
@@ -27,3 +28,29 @@ pub returns-clause-moments : goal.returns-clause-moments
 returns-clause-moments g c = λ r spelled.
     let old = c.args.redo.now in
     kept_moments g.D.Disk.state g.D.Disk.faults old c.make_room.new.redo c.put.new.redo.disk c.args.memory.now c.make_room.new.memory r c.args.body.now (g.D.Disk.is_disk old.disk) c.requires.up c.make_room.ensures.up c.make_room.ensures.continues c.make_room.ensures.records spelled c.make_room.ensures.rests c.put.ensures.moments
+
+pub returns-clause-kept : goal.returns-clause-kept
+returns-clause-kept g c = λ r spelled.
+    let mid = c.make_room.new.redo in
+    let m = c.make_room.new.memory in
+    let up = c.make_room.ensures.up in
+    let put = c.put.ensures.put c.if-not-put.false in
+    let goes = c.put.ensures.continues in
+    let more = on_ok c.make_room.result (HasMore mid m (length c.args.body.now) c.args.ranges) (sym c.is_err.ensures.value ∙ c.if-is_err.false) c.make_room.ensures.more in (
+      record {
+        memory = up.memory;
+        room = up.room;
+        held = more.held;
+        records = more.records;
+        forced = more.forced;
+        ranges = more.ranges;
+        started = put.started;
+        bodies = put.bodies ∙ ap (λ (b : List ℕ). mid.bodies ++ b ∷ []) spelled ∙ ap (λ (l : List (List ℕ)). l ++ record_bytes r ∷ []) up.bodies ∙ one_body_more m.records.items r;
+        spare_bodies = omega (arith, more.bodies, put.spare_bodies);
+        spare_bytes = omega (arith, more.bytes, put.spare_bytes);
+        stands = put_stands g.D.Disk.state mid c.put.new.redo c.args.body.now put goes.node goes.nodes goes.no_better;
+      },
+      c.make_room.ensures.records,
+      c.make_room.ensures.held,
+      c.put.ensures.unasked c.if-not-put.false,
+    )

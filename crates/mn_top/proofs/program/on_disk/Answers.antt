@@ -1,4 +1,3 @@
-use Rattle.mn_top.proofs.Logs.{open_failed}
 use Rattle.mn_top.proofs.program.on_disk.Goals as goal
 
 pub returns-in-Ok : goal.returns-in-Ok
@@ -14,7 +13,10 @@ returns-in-Ok g c = c.on_log.ensures c.args.disk (record {
 })
 
 pub returns-in-Err : goal.returns-in-Err
-returns-in-Err g c =
-    rw c.due_of_open.ensures
-    (open_failed g.D.Disk.state g.D.Disk.faults c.args.clients.now c.args.disk c.in-Err.field-0.disk c.in-Err.field-0.cause
-    (record { honest = c.in-Err.ensures.honest_err; writes_nothing = c.in-Err.ensures.unwritten_err; none_new = c.in-Err.ensures.images_err }) c.in-Err.ensures.fault (λ h at. c.in-Err.ensures.damaged h at))
+returns-in-Err g c = c.not_opened.ensures c.args.disk c.args.clients.now (record {
+  unwritten = record { honest = c.in-Err.ensures.honest_err; writes_nothing = c.in-Err.ensures.unwritten_err; none_new = c.in-Err.ensures.images_err };
+  later = c.in-Err.ensures.later_err;
+  fault = c.in-Err.ensures.fault;
+  damaged = λ h at. c.in-Err.ensures.damaged h at;
+  content = λ h at. c.in-Err.ensures.content_damaged h at;
+})

@@ -1,0 +1,12 @@
+use Rattle.mn_node.proofs.restart.wake.Goals as goal
+
+pub returns-in-Err : goal.returns-in-Err
+returns-in-Err g c = record {
+  up = tt;
+  records = c.rebuild.ensures.records;
+  stands = c.start_log.ensures.keeps c.requires.stands;
+  moments = λ honest. c.start_log.ensures.moments honest (c.requires.stands honest);
+  continues = c.start_log.ensures.continues;
+  same = (c.rebuild.ensures.node, c.rebuild.ensures.nodes);
+  cause = tt;
+}
