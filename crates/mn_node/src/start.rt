@@ -1,12 +1,11 @@
-ghost use Rattle.std.specs.Prelude.{◌≡◌, ◌≢◌, ◌≤◌, ◌<◌, ◌+◌, ◌*◌, ℕ, IfOk, OnOk, IsErrOf};
+ghost use Rattle.std.specs.Prelude.{◌≡◌, ◌≢◌, ◌≤◌, ◌<◌, ◌*◌, ℕ, IfOk, OnOk, IsErrOf};
 ghost use Rattle.mn_io.specs.Faults.{Rose};
 ghost use Rattle.mn_io.specs.DiskModel.{LeavesOnly};
 ghost use Rattle.mn_redo.specs.Grammar.{Stands};
 ghost use Rattle.mn_redo.specs.Redo.{HasHeader, StandsFor};
 ghost use Rattle.mn_redo.specs.declared.redo.Phase.TheVariants.{Started, Closing};
 ghost use Rattle.mn_node.specs.declared.start.StartCause.TheVariants as causes;
-ghost use Rattle.mn_node.specs.Memory.{IsMemory, HasRoom};
-ghost use Rattle.mn_node.specs.Node.{Continues, IsUp, bodies_of};
+ghost use Rattle.mn_node.specs.Node.{Continues, IsUp};
 ghost use Rattle.mn_node.specs.State.{AreRecords, IsFirstBad, MayStart};
 
 use crate::memory::Memory;

@@ -12,7 +12,7 @@ ghost use Rattle.mn_top.specs.declared.due.Due.{Due};
 ghost use Rattle.mn_top.specs.Words.{AskReplay};
 ghost use Rattle.mn_top.specs.Open.{IsOpen};
 ghost use Rattle.mn_top.specs.Opening.{WasOpened, WasntOpened, due_of_running, due_of_starting};
-ghost use Rattle.mn_top.specs.Program.{ComesTo, Finishes, IsCalled, IsDue, IsDueBefore, IsTextOf};
+ghost use Rattle.mn_top.specs.Program.{ComesTo, Finishes, IsCalled, IsDue, IsDueBefore};
 ghost use Rattle.mn_top.specs.Run.{AreTaken, HasFewOps, Reports};
 ghost use Rattle.mn_top.specs.Serve.{Serves};
 ghost use Rattle.mn_top.specs.Served.{ops_of, is_of_versions, is_unserved};

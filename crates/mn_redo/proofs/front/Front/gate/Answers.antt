@@ -1,4 +1,4 @@
-use Rattle.std.proofs.Common.{◌≡◌, ◌<◌, ℕ, List, [], length, get_or, arith, ◌∙◌, ap}
+use Rattle.std.proofs.Common.{◌<◌, ℕ, List, length, get_or, arith, ◌∙◌, ap}
 use Rattle.mn_redo.proofs.Parse.{length-places}
 use Rattle.mn_redo.proofs.Placed.{any_default}
 use Rattle.mn_redo.specs.Grammar.{places}
