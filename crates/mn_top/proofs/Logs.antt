@@ -236,6 +236,17 @@ pub bad_first : {D : Type 0} (state : D → DiskState) (faults : D → ℕ) (cli
     → ComesTo state faults clients old (due_of_opening (opening.Damaged place)) new
 bad_first state faults clients old new at place bodies read bad = (refl, record { bad = λ h. inr (bodies, inr (at, read.behind h), bad); unwritten = read.unwritten })
 
+-- the disk gave other bytes than before, which an honest one doesn't
+pub misread : {D : Type 0} (state : D → DiskState) (faults : D → ℕ) (clients : List ScriptClient) (old disk new : D) (at place : ℕ) → WasntOpened state faults old (opening.Damaged at) disk → ((state disk).honest → Stays (state disk) (state new))
+    → ((state disk).honest → IsDamaged 0 1 (state disk).content at → ⊥) → ComesTo state faults clients old (due_of_opening (opening.Damaged place)) new
+misread state faults clients old disk new at place was same never = (
+  refl,
+  record {
+    bad = λ h. absurd (never (was.unwritten.honest h) (subst (λ (l : List ℕ). IsDamaged 0 1 l at) (sym (was.content h at refl)) (was.damaged h at refl)));
+    unwritten = still_unwritten (state old) (state disk) (state new) was.unwritten same;
+  },
+)
+
 -- what is due of a log on which there is no run
 pub judged : {D : Type 0} (state : D → DiskState) (faults : D → ℕ) (clients : List ScriptClient) (old : D) (redo : RedoState D) (due : Due) → IsJudged redo.bodies (ops_of clients) due → WasOpened state faults old redo
     → ComesTo state faults clients old due redo.disk

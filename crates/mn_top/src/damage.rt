@@ -54,7 +54,7 @@ pub fn due_of_open<D: Disk>(alloc: Global, disk: &mut D, cause: OpenCause) -> Du
             },
             Err(OpenCause::Fault) => Due::DiskFault { node: 0 },
             Err(OpenCause::NoMemory) => Due::NoMemory,
-            Err(OpenCause::Damaged { at: other }) => bad_log(other),
+            Err(OpenCause::Damaged { .. }) => bad_log(at),
         },
     }
 }
