@@ -19,3 +19,6 @@ pub use error::AddError;
 pub use laws::walks_are_paths;
 pub use overlay::Overlay;
 pub use stepped::Stepped;
+
+#[cfg(test)]
+mod tests;
