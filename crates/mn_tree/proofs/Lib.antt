@@ -1,0 +1,7 @@
+mod Places
+mod Ways
+mod Changes
+mod Children
+mod Runs
+mod Paths
+mod Numbers

@@ -1,0 +1,67 @@
+-- How a walk goes on at an inner page.
+use Rattle.std.specs.Prelude.{if◌then◌else◌}
+use Rattle.std.proofs.Common.{◌≡◌, ℕ, zero, suc, ◌+◌, Bool, true, false, cond, ◌&&◌, not, List, [], ◌∷◌, Option, Some, None, refl, sym, ap, ◌∙◌, add-one, nat_eq, eq-eqb, ne_eqb}
+use Rattle.std.specs.Option.{option_map_or}
+use Rattle.mn_base.specs.Order.{key_lt, key_le, below_bound, covers_key}
+use Rattle.mn_base.specs.declared.ids.Addr.{Addr}
+use Rattle.mn_page.specs.declared.page.Page.{Page}
+use Rattle.mn_page.specs.declared.page.Body.{Body}
+use Rattle.mn_page.specs.declared.page.Body.TheVariants.{Leaf, Inner}
+use Rattle.mn_page.specs.declared.page.Child.{Child}
+use Rattle.mn_page.specs.Grammar.{height_of}
+use Rattle.mn_page.specs.Forest.{ranges_from, children_of, body_children}
+use Rattle.mn_page.specs.Holds.{page_covers}
+use Rattle.mn_page.specs.Overlay.{Held, held_at, child_for}
+use Rattle.mn_tree.specs.Walk.{held, goes_on, Walk, Missing, Wrong, Reached, walk_down}
+use Rattle.mn_tree.specs.Found.{child_from}
+
+both : (x y : Bool) → (x && y) ≡ true → (x ≡ true) × (y ≡ true)
+both true y h = (refl, h)
+both false y h = cc
+
+pub child_is : (first : Addr) (rest : List Child) (low : List ℕ) (high : Option (List ℕ)) (key : List ℕ) → key_le low key ≡ true → below_bound key high ≡ true → child_for (ranges_from first low rest high) key ≡ Some (child_from first rest key)
+child_is first [] low high key above below = rw (above, below) refl
+child_is first (c ∷ cs) low high key above below = (elim (key_lt key c.separator) as (λ y. key_lt key c.separator ≡ y → child_for (ranges_from first low (c ∷ cs) high) key ≡ Some (child_from first (c ∷ cs) key)) [
+  | true ↦ λ t. rw (above, t) refl
+  | false ↦ λ t. rw (above, t) (child_is c.addr cs c.separator high key (ap not t) below)
+]) refl
+
+-- what follows a page that covers the key: the page at the child's address
+abbrev pub followed : ℕ → List Held → List ℕ → Held → List Held → Addr → Option Page → Walk
+followed left pages key h above addr found =
+    option_map_or (λ p. if goes_on left key p then walk_down left pages key (held addr p) (h ∷ above) else Wrong addr) found (Missing addr (Some (suc left)))
+
+pub follows : (left : ℕ) (pages : List Held) (key : List ℕ) (h : Held) (above : List Held) (height : ℕ) (first : Addr) (rest : List Child) (addr : Addr) → h.page.body ≡ Inner height first rest → page_covers key h.page ≡ true
+    → addr ≡ child_from first rest key → walk_down (left + 1) pages key h above ≡ followed left pages key h above addr (held_at pages addr)
+follows left pages key h above height first rest addr is covers child =
+    let two = both (key_le h.page.low key) (below_bound key h.page.high) covers in
+    let next : child_for (children_of h.page) key ≡ Some addr = ap (λ b. child_for (body_children h.page.low h.page.high b) key) is ∙ child_is first rest h.page.low h.page.high key two.0 two.1 ∙ ap (λ a. Some a) (sym child) in
+    ap (λ n. walk_down n pages key h above) (add-one left)
+    ∙ ap (λ o. option_map_or (λ a. followed left pages key h above a (held_at pages a)) o (Wrong h.addr)) next
+
+-- it goes down
+pub goes_down : (left : ℕ) (key : List ℕ) (p : Page) → height_of p.body ≡ left → page_covers key p ≡ true → goes_on left key p ≡ true
+goes_down left key p height covers = rw (eq-eqb (height_of p.body) left height, covers) refl
+
+pub ends_by_height : (left : ℕ) (key : List ℕ) (p : Page) → (height_of p.body ≡ left → ⊥) → goes_on left key p ≡ false
+ends_by_height left key p other = rw (ne_eqb (height_of p.body) left other) refl
+
+and_false : (x : Bool) → (x && false) ≡ false
+and_false true = refl
+and_false false = refl
+
+pub ends_by_fences : (left : ℕ) (key : List ℕ) (p : Page) → page_covers key p ≡ false → goes_on left key p ≡ false
+ends_by_fences left key p not_covered = ap (λ b. nat_eq (height_of p.body) left && b) not_covered ∙ and_false (nat_eq (height_of p.body) left)
+
+pub down_to : (left : ℕ) (pages : List Held) (key : List ℕ) (h : Held) (above : List Held) (addr : Addr) (found : Option Page) (next : Held) → Some next.page ≡ found → next.addr ≡ addr → goes_on left key next.page ≡ true
+    → followed left pages key h above addr found ≡ walk_down left pages key next (h ∷ above)
+down_to left pages key h above addr found next is there goes =
+    ap (followed left pages key h above addr) (sym is) ∙ (rw goes refl) ∙ ap (λ a. walk_down left pages key (held a next.page) (h ∷ above)) (sym there)
+
+pub wrong_at : (left : ℕ) (pages : List Held) (key : List ℕ) (h : Held) (above : List Held) (addr : Addr) (found : Option Page) (p : Page) → Some p ≡ found → goes_on left key p ≡ false
+    → followed left pages key h above addr found ≡ Wrong addr
+wrong_at left pages key h above addr found p is stops = ap (followed left pages key h above addr) (sym is) ∙ (rw stops refl)
+
+pub missing_at : (left : ℕ) (pages : List Held) (key : List ℕ) (h : Held) (above : List Held) (addr : Addr) (found : Option Page) → None ≡ found
+    → followed left pages key h above addr found ≡ Missing addr (Some (left + 1))
+missing_at left pages key h above addr found is = ap (followed left pages key h above addr) (sym is) ∙ ap (λ n. Missing addr (Some n)) (sym (add-one left))

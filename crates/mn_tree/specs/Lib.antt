@@ -1,0 +1,11 @@
+pub mod Walk
+pub mod Writes
+pub mod State
+pub mod Found
+pub mod Asks
+pub mod Parts
+pub mod Places
+pub mod Effects
+pub mod Room
+pub mod Order
+pub mod Laws

@@ -1,0 +1,95 @@
+ghost use Rattle.std.specs.Prelude.{◌≡◌, ◌≤◌, ◌<◌, ◌+◌, ◌^◌, length, OnOk, OnErr, vec_len, vec_capacity};
+
+use crate::held::{HeldPage, join, put_page};
+use crate::write::Write;
+use mn_base::{Addr, NoMemory};
+use mn_page::Page;
+use std::alloc::Global;
+
+/// The pages as the steps left them, the old ones that were changed, the old ones of the read set, and for each new page where the one
+/// was read that it was made of.
+#[derive(Debug, Drop)]
+pub struct Draft {
+    pub pages: Vec<HeldPage>,
+    pub changed: Vec<Addr>,
+    pub read: Vec<Addr>,
+    pub origins: Vec<Addr>,
+}
+
+impl Draft {
+    ghost use Rattle.std.specs.Prelude.{ℕ};
+    ghost use Rattle.mn_tree.specs.State.{drafted, no_pages, drafted_with, draft_written, all_drafted, touched};
+    ghost use Rattle.mn_tree.specs.Room.{HasRoom};
+
+    pub fn new(alloc: Global) -> Self
+        ensures { drafted result ≡ no_pages }
+    {
+        Draft {
+            pages: Vec::new(alloc),
+            changed: Vec::new(alloc),
+            read: Vec::new(alloc),
+            origins: Vec::new(alloc),
+        }
+    }
+
+    /// Makes room for so many writes, and for a leaf that joins the read set.
+    fn reserve(&mut self, writes: usize) -> Result<(), NoMemory>
+        requires { writes < 2 ^ 63 }
+        ensures room { OnOk result (HasRoom self.new writes) }
+        ensures leaf { OnOk result (vec_len self.new.read + (writes + 1) ≤ vec_capacity self.new.read) }
+        ensures same { drafted self.new ≡ drafted self.old }
+    {
+        self.pages.reserve(writes)?;
+        self.changed.reserve(writes)?;
+        self.read.reserve(writes + 1)?;
+        self.origins.reserve(writes)?;
+        Ok(())
+    }
+
+    /// Puts a page that was read at its address.
+    pub fn add(&mut self, addr: Addr, page: Page) -> Result<(), NoMemory>
+        ensures added { OnOk result (drafted self.new ≡ drafted_with (drafted self.old) addr page) }
+        ensures same { OnErr result (drafted self.new ≡ drafted self.old) }
+    {
+        self.pages.reserve(1)?;
+        put_page(&mut self.pages, HeldPage { addr, page });
+        Ok(())
+    }
+
+    /// Makes a write, for which there is room.
+    fn write(&mut self, write: Write)
+        requires { HasRoom self.old 1 }
+        ensures written { drafted self.new ≡ draft_written (drafted self.old) write }
+        ensures room { (n : ℕ) → HasRoom self.old (n + 1) → HasRoom self.new n }
+    {
+        let Write { addr, page, origin } = write;
+        join(&mut self.read, addr);
+        match origin {
+            Some(origin) => self.origins.push_reserved(origin),
+            None => join(&mut self.changed, addr),
+        }
+        put_page(&mut self.pages, HeldPage { addr, page });
+    }
+
+    /// Makes the writes in their turn. There is room for them.
+    fn write_all(&mut self, writes: Vec<Write>)
+        requires { HasRoom self.old (length writes.items) }
+        ensures { drafted self.new ≡ all_drafted (drafted self.old) writes.items }
+    {
+        for write in writes {
+            self.write(write);
+        }
+    }
+
+    /// Makes the writes in their turn, where the leaf there joins the read set first. NoMemory: there was no memory for all of it, and
+    /// nothing has changed.
+    pub fn commit(&mut self, leaf: Addr, writes: Vec<Write>) -> Result<(), NoMemory>
+        ensures written { OnOk result (drafted self.new ≡ all_drafted (touched (drafted self.old) leaf) writes.items) }
+        ensures same { OnErr result (drafted self.new ≡ drafted self.old) }
+    {
+        self.reserve(writes.len())?;
+        join(&mut self.read, leaf);
+        self.write_all(writes);
+        Ok(())
+    }
+}

@@ -1,0 +1,125 @@
+ghost use Rattle.std.specs.Prelude.{◌≡◌, ◌≤◌, ◌<◌, ◌^◌, [], length, IfOk};
+ghost use Rattle.mn_base.specs.Store.{step_key};
+ghost use Rattle.mn_tree.specs.Walk.{held_of, helds, walk};
+ghost use Rattle.mn_tree.specs.Found.{lents};
+ghost use Rattle.mn_tree.specs.Effects.{IsEffect, IsProgress};
+
+use crate::Stepped;
+use crate::body::{leaf_of, pairs_of};
+use crate::draft::Draft;
+use crate::held::HeldPage;
+use crate::pairs::{copy_of, is_found, value_of, with_pair, without_pair};
+use crate::walk::{Walked, walk_to};
+use crate::write::Write;
+use crate::writer::raise;
+use mn_base::{Addr, Key, NoMemory, Step, VersionNo};
+use std::alloc::Global;
+
+/// What a step does on the leaf of its key: its answer, and the pages that it writes.
+#[derive(Debug, Drop)]
+pub struct Effect {
+    pub answer: Stepped,
+    pub writes: Vec<Write>,
+}
+
+/// How far a step comes.
+#[derive(Debug, Drop)]
+pub enum Progress {
+    Missing { addr: Addr, above: Option<u16> },
+    Wrong { addr: Addr },
+    Runs { leaf: Addr, effect: Effect },
+}
+
+/// The key that a step names.
+pub fn key_of(step: &Step) -> &Key
+    ensures { result.now ≡ step_key step.now }
+{
+    match step {
+        Step::Get { key } | Step::Put { key, .. } | Step::Del { key } | Step::Check { key, .. } => {
+            key
+        }
+    }
+}
+
+/// A step that writes nothing.
+fn unwritten(alloc: Global, answer: Stepped) -> Effect
+    ensures answer { result.answer ≡ answer }
+    ensures writes { result.writes.items ≡ [] }
+{
+    Effect {
+        answer,
+        writes: Vec::new(alloc),
+    }
+}
+
+/// What a step does on the leaf of its key, where the pages above it lead up to the root.
+fn effect_on(
+    alloc: Global,
+    version: VersionNo,
+    origins: &[Addr],
+    leaf: &HeldPage,
+    above: &[&HeldPage],
+    step: &Step,
+) -> Result<Effect, NoMemory>
+    requires version { version.0 < 64 }
+    requires bound { length origins.now ≤ 2 ^ 16 }
+    ensures { IfOk result (IsEffect version origins.now (held_of leaf.now) (lents above.now) step.now) }
+{
+    let pairs = pairs_of(&leaf.page.body);
+    match step {
+        Step::Get { key } => {
+            let value = copy_of(alloc, value_of(pairs, key))?;
+            Ok(unwritten(alloc, Stepped::Found { value }))
+        }
+        Step::Put { key, value } => {
+            let body = leaf_of(with_pair(alloc, pairs, key, value)?);
+            Ok(Effect {
+                answer: Stepped::Changed,
+                writes: raise(alloc, version, origins, leaf, above, body)?,
+            })
+        }
+        Step::Del { key } => {
+            if value_of(pairs, key).is_none() {
+                return Ok(unwritten(alloc, Stepped::Same));
+            }
+            let body = leaf_of(without_pair(alloc, pairs, key)?);
+            Ok(Effect {
+                answer: Stepped::Changed,
+                writes: raise(alloc, version, origins, leaf, above, body)?,
+            })
+        }
+        Step::Check { key, want } => {
+            let found = value_of(pairs, key);
+            if is_found(found, want) {
+                return Ok(unwritten(alloc, Stepped::Same));
+            }
+            let found = copy_of(alloc, found)?;
+            Ok(unwritten(alloc, Stepped::Unmet { found }))
+        }
+    }
+}
+
+/// How far a step comes on these pages.
+pub fn come_down(
+    alloc: Global,
+    version: VersionNo,
+    root: Addr,
+    draft: &Draft,
+    step: &Step,
+) -> Result<Progress, NoMemory>
+    requires version { version.0 < 64 }
+    requires bound { length draft.now.origins.items ≤ 2 ^ 16 }
+    ensures { IfOk result (IsProgress version draft.now step.now (walk (helds draft.now.pages.items) root (step_key step.now))) }
+{
+    match walk_to(alloc, &draft.pages, root, key_of(step))? {
+        Walked::Missing { addr, above } => Ok(Progress::Missing { addr, above }),
+        Walked::Wrong { addr } => Ok(Progress::Wrong { addr }),
+        Walked::Reached { leaf, above } => {
+            let effect = effect_on(alloc, version, &draft.origins, leaf, &above, step)?;
+            Ok(Progress::Runs {
+                leaf: leaf.addr,
+                effect,
+            })
+        }
+    }
+}

@@ -1,0 +1,24 @@
+//! The tree as a transaction changes it: its steps on the pages that were read, with splits and copies, before any node is changed.
+#![tactic(auto)]
+
+mod body;
+mod draft;
+mod effect;
+mod error;
+mod held;
+mod laws;
+mod order;
+mod overlay;
+mod pairs;
+mod stepped;
+mod walk;
+mod write;
+mod writer;
+
+pub use error::AddError;
+pub use laws::walks_are_paths;
+pub use overlay::Overlay;
+pub use stepped::Stepped;
+
+#[cfg(test)]
+mod tests;

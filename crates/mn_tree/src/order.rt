@@ -1,0 +1,242 @@
+ghost use Rattle.std.specs.Prelude.{◌≡◌, ◌≤◌, ◌^◌, ◌++◌, ◌∷◌, [], length, map, filter, insert, IfOk, OnOk};
+ghost use Rattle.mn_base.specs.Order.{key_lt};
+ghost use Rattle.std.specs.List.{range_with_len};
+ghost use Rattle.mn_page.specs.Overlay.{new_addr, next_number, child_at, placed_addr, placed_page, placed_body};
+ghost use Rattle.mn_tree.specs.Walk.{helds};
+ghost use Rattle.mn_tree.specs.Order.{stands_first, precedes, with_number, with_numbers, place_in, slot_of, slots_by_number, is_changed, old_pages, new_pages};
+
+use crate::held::{HeldPage, UNPLACED, is_among, page_at, resolved};
+use crate::walk::height;
+use mn_base::{Addr, Bytes, NoMemory, NodeNo, TryCopy};
+use mn_page::{Body, Branches, Child, Page};
+use std::alloc::Global;
+
+/// The place of the new page of this number.
+fn place_of(number: u16) -> Addr
+    ensures { result ≡ new_addr number }
+{
+    Addr {
+        node: NodeNo(UNPLACED),
+        slot: number,
+    }
+}
+
+/// Lower pages stand first, at one height those to the left.
+fn is_first(page: &Page, other: &Page) -> bool
+    ensures { result ≡ stands_first page.now other.now }
+{
+    let at = height(&page.body);
+    let other_at = height(&other.body);
+    at < other_at || at == other_at && is_left(&page.low, &other.low)
+}
+
+fn is_left(low: &Bytes, other: &Bytes) -> bool
+    ensures { result ≡ key_lt low.now other.now }
+{
+    low.as_slice().cmp(other.as_slice()).is_lt()
+}
+
+/// Whether the new page of the first number stands before that of the second.
+fn is_before(pages: &[HeldPage], number: u16, other: u16) -> bool
+    ensures { result ≡ precedes (helds pages.now) number other }
+{
+    let Some(page) = page_at(pages, place_of(number)) else {
+        return false;
+    };
+    let Some(other) = page_at(pages, place_of(other)) else {
+        return false;
+    };
+    is_first(&page.page, &other.page)
+}
+
+/// Where a further number goes: before the first one that it precedes.
+fn place_before(pages: &[HeldPage], order: &[u16], number: u16) -> usize
+    ensures within { result ≤ length order.now }
+    ensures place { insert order.now result number ≡ with_number (helds pages.now) number order.now }
+{
+    for (at, other) in order.iter().enumerate() {
+        if is_before(pages, number, *other) {
+            return at;
+        }
+    }
+    order.len()
+}
+
+/// The numbers of so many new pages in the order in which slots are asked for.
+pub fn order_of(alloc: Global, pages: &[HeldPage], count: usize) -> Result<Vec<u16>, NoMemory>
+    requires { count ≤ 2 ^ 16 }
+    ensures { IfOk result (λ order. order.items ≡ with_numbers (helds pages.now) [] (range_with_len 0 count)) }
+{
+    let mut order = Vec::new(alloc);
+    for number in 0..count {
+        let number = number as u16;
+        let at = place_before(pages, &order, number);
+        order.insert(at, number)?;
+    }
+    Ok(order)
+}
+
+/// How many stand before a number.
+fn position(order: &[u16], number: u16) -> usize
+    ensures { result ≡ place_in order.now number }
+{
+    for (at, other) in order.iter().enumerate() {
+        if *other == number {
+            return at;
+        }
+    }
+    order.len()
+}
+
+/// The slot of a new page.
+fn slot_for(order: &[u16], slots: &[Addr], number: u16) -> Addr
+    ensures { result ≡ slot_of order.now slots.now number }
+{
+    let at = position(order, number);
+    if at < slots.len() {
+        slots[at]
+    } else {
+        place_of(number)
+    }
+}
+
+/// The slots by the number of the new page.
+pub fn by_number(
+    alloc: Global,
+    order: &[u16],
+    slots: &[Addr],
+    count: usize,
+) -> Result<Vec<Addr>, NoMemory>
+    requires { count ≤ 2 ^ 16 }
+    ensures { IfOk result (λ by. by.items ≡ slots_by_number order.now slots.now count) }
+{
+    let mut by = Vec::new(alloc);
+    for number in 0..count {
+        by.push(slot_for(order, slots, number as u16))?;
+    }
+    Ok(by)
+}
+
+/// The children with the new ones in their slots.
+fn placed_children(alloc: Global, by: &[Addr], rest: &[Child]) -> Result<Vec<Child>, NoMemory>
+    ensures { IfOk result (λ children. children.items ≡ map (λ c. child_at c.separator (placed_addr by.now c.addr)) rest.now) }
+{
+    let mut children = Vec::new(alloc);
+    for child in rest {
+        children.push(Child {
+            separator: child.separator.try_copy(alloc)?,
+            addr: resolved(by, child.addr),
+        })?;
+    }
+    Ok(children)
+}
+
+fn body_in(alloc: Global, by: &[Addr], body: &Body) -> Result<Body, NoMemory>
+    ensures { IfOk result (λ made. made ≡ placed_body by.now body.now) }
+{
+    match body {
+        Body::Leaf { .. } => Ok(body.try_copy(alloc)?),
+        Body::Inner {
+            height,
+            first,
+            rest,
+        } => Ok(Body::Inner {
+            height: *height,
+            first: resolved(by, *first),
+            rest: Branches::from_vec(placed_children(alloc, by, rest.as_slice())?),
+        }),
+    }
+}
+
+/// A page of this number with the new pages in their slots.
+fn page_in(alloc: Global, by: &[Addr], seq: u64, page: &Page) -> Result<Page, NoMemory>
+    ensures { IfOk result (λ made. made ≡ placed_page by.now seq page.now) }
+{
+    Ok(Page {
+        seq,
+        made: page.made,
+        copied: page.copied,
+        low: page.low.try_copy(alloc)?,
+        high: page.high.try_copy(alloc)?,
+        body: body_in(alloc, by, &page.body)?,
+    })
+}
+
+/// The number of the next write; the last number stays.
+fn number_after(seq: u64) -> u64
+    ensures { result ≡ next_number seq }
+{
+    if seq == u64::MAX { seq } else { seq + 1 }
+}
+
+/// Adds an old page, if it was changed.
+fn push_old(
+    alloc: Global,
+    by: &[Addr],
+    pages: &[HeldPage],
+    changed: &[Addr],
+    addr: Addr,
+    placed: &mut Vec<(Addr, Page)>,
+) -> Result<(), NoMemory>
+    ensures { OnOk result (placed.new.items ≡ placed.old.items ++ old_pages by.now (helds pages.now) (filter (is_changed changed.now) (addr ∷ []))) }
+{
+    if !is_among(changed, addr) {
+        return Ok(());
+    }
+    if let Some(held) = page_at(pages, addr) {
+        let seq = number_after(held.page.seq);
+        placed.push((addr, page_in(alloc, by, seq, &held.page)?))?;
+    }
+    Ok(())
+}
+
+/// Adds the changed pages in the order of the read set.
+pub fn push_changed(
+    alloc: Global,
+    by: &[Addr],
+    pages: &[HeldPage],
+    changed: &[Addr],
+    read: &[Addr],
+    placed: &mut Vec<(Addr, Page)>,
+) -> Result<(), NoMemory>
+    ensures { OnOk result (placed.new.items ≡ placed.old.items ++ old_pages by.now (helds pages.now) (filter (is_changed changed.now) read.now)) }
+{
+    for addr in read {
+        push_old(alloc, by, pages, changed, *addr, placed)?;
+    }
+    Ok(())
+}
+
+/// Adds a new page.
+fn push_created(
+    alloc: Global,
+    by: &[Addr],
+    pages: &[HeldPage],
+    number: u16,
+    placed: &mut Vec<(Addr, Page)>,
+) -> Result<(), NoMemory>
+    ensures { OnOk result (placed.new.items ≡ placed.old.items ++ new_pages by.now (helds pages.now) (number ∷ [])) }
+{
+    let addr = place_of(number);
+    if let Some(held) = page_at(pages, addr) {
+        let page = page_in(alloc, by, held.page.seq, &held.page)?;
+        placed.push((resolved(by, addr), page))?;
+    }
+    Ok(())
+}
+
+/// Adds the new pages in their order.
+pub fn push_new(
+    alloc: Global,
+    by: &[Addr],
+    pages: &[HeldPage],
+    order: &[u16],
+    placed: &mut Vec<(Addr, Page)>,
+) -> Result<(), NoMemory>
+    ensures { OnOk result (placed.new.items ≡ placed.old.items ++ new_pages by.now (helds pages.now) order.now) }
+{
+    for number in order {
+        push_created(alloc, by, pages, *number, placed)?;
+    }
+    Ok(())
+}

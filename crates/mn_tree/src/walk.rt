@@ -1,0 +1,137 @@
+ghost use Rattle.std.specs.Prelude.{◌≡◌, ◌+◌, true, List, IfOk};
+ghost use Rattle.mn_page.specs.Grammar.{height_of};
+ghost use Rattle.mn_page.specs.Holds.{page_covers};
+ghost use Rattle.mn_page.specs.Overlay.{Held};
+ghost use Rattle.mn_tree.specs.Walk.{held_of, helds, walk, walk_down};
+ghost use Rattle.mn_tree.specs.Found.{child_from, walk_after, IsOnTheWay, seen_walk};
+
+use crate::held::{HeldPage, page_at};
+use mn_base::{Addr, Key, NoMemory};
+use mn_fence::covers;
+use mn_page::{Body, Child, Page};
+use std::alloc::Global;
+
+/// Where a walk ended.
+#[derive(Drop)]
+pub enum Walked<'a> {
+    /// Before a page that isn't there; `above` is the height of the page that names it, if one does.
+    Missing {
+        addr: Addr,
+        above: Option<u16>,
+    },
+    /// At a page that doesn't cover the key or isn't one height below.
+    Wrong {
+        addr: Addr,
+    },
+    /// At the leaf. The pages above it lead up to the root.
+    Reached {
+        leaf: &'a HeldPage,
+        above: Vec<&'a HeldPage>,
+    },
+}
+
+/// What follows a page on a walk.
+#[derive(Drop)]
+pub enum Next<'a> {
+    Missing { addr: Addr },
+    Wrong { addr: Addr },
+    Down { held: &'a HeldPage },
+}
+
+/// The height of a page with this body; that of a leaf is 0.
+pub fn height(body: &Body) -> u16
+    ensures { result ≡ height_of body.now }
+{
+    match body {
+        Body::Leaf { .. } => 0,
+        Body::Inner { height, .. } => *height,
+    }
+}
+
+/// Whether the key lies within the fences of the page.
+pub fn is_within(page: &Page, key: &Key) -> bool
+    ensures { result ≡ page_covers key.now page.now }
+{
+    let high = match &page.high {
+        Some(high) => Some(high.as_slice()),
+        None => None,
+    };
+    covers(page.low.as_slice(), high, key.as_slice())
+}
+
+/// Among the children from the first one on, the one that a key goes to.
+fn child_among(first: Addr, rest: &[Child], key: &Key) -> Addr
+    ensures { result ≡ child_from first rest.now key.now }
+{
+    let mut found = first;
+    for child in rest {
+        if key.as_slice().cmp(child.separator.as_slice()).is_lt() {
+            return found;
+        }
+        found = child.addr;
+    }
+    found
+}
+
+/// What follows an inner page, which is one higher than `left` and covers the key.
+fn follow<'a>(pages: &'a [HeldPage], at: &HeldPage, left: u16, key: &Key) -> Next<'a>
+    requires covers { page_covers key.now at.now.page ≡ true }
+    requires height { height_of at.now.page.body ≡ left + 1 }
+    ensures walk { (above : List Held) → walk_down (left + 1) (helds pages.now) key.now (held_of at.now) above ≡ walk_after (helds pages.now) key.now left (held_of at.now) above result }
+    ensures down { IsOnTheWay left key.now result }
+{
+    let Body::Inner { first, rest, .. } = &at.page.body else {
+        unreachable!();
+    };
+    let addr = child_among(*first, rest.as_slice(), key);
+    match page_at(pages, addr) {
+        Some(held) => {
+            if height(&held.page.body) == left && is_within(&held.page, key) {
+                Next::Down { held }
+            } else {
+                Next::Wrong { addr }
+            }
+        }
+        None => Next::Missing { addr },
+    }
+}
+
+/// The walk from the root to the leaf of a key.
+pub fn walk_to<'a>(
+    alloc: Global,
+    pages: &'a [HeldPage],
+    root: Addr,
+    key: &Key,
+) -> Result<Walked<'a>, NoMemory>
+    ensures { IfOk result (λ walked. seen_walk walked ≡ walk (helds pages.now) root key.now) }
+{
+    let Some(held) = page_at(pages, root) else {
+        return Ok(Walked::Missing {
+            addr: root,
+            above: None,
+        });
+    };
+    if !is_within(&held.page, key) {
+        return Ok(Walked::Wrong { addr: root });
+    }
+    let mut at = held;
+    let mut left = height(&held.page.body);
+    let mut above = Vec::new(alloc);
+    while left > 0 {
+        left -= 1;
+        match follow(pages, at, left, key) {
+            Next::Down { held } => {
+                above.insert(0, at)?;
+                at = held;
+            }
+            Next::Wrong { addr } => return Ok(Walked::Wrong { addr }),
+            Next::Missing { addr } => {
+                return Ok(Walked::Missing {
+                    addr,
+                    above: Some(left + 1),
+                });
+            }
+        }
+    }
+    Ok(Walked::Reached { leaf: at, above })
+}
