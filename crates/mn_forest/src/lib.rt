@@ -12,3 +12,6 @@ mod write;
 pub use base::base_spaces;
 pub use error::VoteError;
 pub use flat::flat_of;
+
+#[cfg(test)]
+mod flat_tests;
