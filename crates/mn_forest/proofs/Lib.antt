@@ -1,0 +1,9 @@
+pub mod BaseSpace
+pub mod Tables
+pub mod HeldParts
+pub mod Lists
+pub mod Telling
+pub mod BaseStore
+pub mod Placing
+pub mod Fitting
+pub mod Opening
