@@ -1,6 +1,6 @@
-ghost use Rattle.std.specs.Prelude.{◌≡◌, ◌<◌, length, IfOk, IfErr, OnOk, OnErr, IsTrue};
+ghost use Rattle.std.specs.Prelude.{◌≡◌, nat_le, ◌<◌, length, IfOk, IfErr, OnOk, OnErr, IsTrue};
 ghost use Rattle.mn_tree.specs.Order.{placed};
-ghost use Rattle.mn_tree.specs.State.{new_state, fits, IsWanted, with_page, RefusesPage, stepped, AsksFor, is_below};
+ghost use Rattle.mn_tree.specs.State.{new_state, fits, IsWanted, with_page, RefusesPage, stepped, AsksFor, is_below, max_height};
 
 use crate::draft::Draft;
 use crate::effect::{Progress, come_down, key_of};
@@ -49,6 +49,13 @@ fn is_one_below(above: Option<u16>, height: u16) -> bool
     }
 }
 
+/// Whether a page of this height may come in.
+fn is_low(height: u16) -> bool
+    ensures { result ≡ nat_le height max_height }
+{
+    height <= MAX_HEIGHT
+}
+
 impl Overlay {
     /// The tree of a version with this root, of which no page was read yet.
     pub fn new(
@@ -80,7 +87,7 @@ impl Overlay {
                 self.tree.serves(page.made, page.copied, self.version)
                     && is_within(page, &wanted.key)
                     && is_one_below(wanted.above, height)
-                    && height <= MAX_HEIGHT
+                    && is_low(height)
             }
             None => false,
         }

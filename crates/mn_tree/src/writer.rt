@@ -52,6 +52,14 @@ fn changed(alloc: Global, page: &Page, high: Option<Key>, body: Body) -> Result<
     })
 }
 
+/// An old page that ends at the separator now, with the left half of its body.
+fn left_half(alloc: Global, page: &Page, separator: &Key, left: Body) -> Result<Page, NoMemory>
+    ensures { IfOk result (λ made. made ≡ page_with page.now page.now.low (Some separator.now) left) }
+{
+    let high = Some(separator.try_copy(alloc)?);
+    changed(alloc, page, high, left)
+}
+
 /// A page of the first number, made for a version.
 fn fresh_page(version: VersionNo, low: Bytes, high: Option<Key>, body: Body) -> Page
     ensures { result ≡ new_page version low high body }
@@ -139,8 +147,7 @@ impl Writer {
                 let low = fence_of(alloc, &separator)?;
                 let right = fresh_page(self.version, low, page.high.try_copy(alloc)?, right);
                 let addr = self.create(right, origin)?;
-                let high = Some(separator.try_copy(alloc)?);
-                self.put(held.addr, changed(alloc, page, high, left)?)?;
+                self.put(held.addr, left_half(alloc, page, &separator, left)?)?;
                 Ok(Ask::Child {
                     now: held.addr,
                     more: Some(Child { separator, addr }),
