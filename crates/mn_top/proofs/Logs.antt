@@ -200,7 +200,7 @@ judged state faults clients old redo (dues.Damaged node place Log) why opened = 
 judged state faults clients old redo (dues.Damaged node place Runs) why opened =
     (why.0, why.1, record { records = (why.2).0; shown = record { bodies = redo.bodies; are = (why.2).1; stands = opened.shown }; last = (why.2).2; unwritten = opened.unwritten })
 judged state faults clients old redo dues.Unbuilt why opened =
-    record { records = why.0; shown = record { bodies = redo.bodies; are = why.1; stands = opened.shown }; numbered = (why.2).0; unserved = (why.2).1; unwritten = opened.unwritten }
+    record { records = why.0; shown = record { bodies = redo.bodies; are = why.1; stands = opened.shown }; numbered = why.2; unserved = why.3; unwritten = opened.unwritten }
 judged state faults clients old redo dues.NoMemory why opened = inl opened.unwritten
 judged state faults clients old redo (dues.Report text) why opened = absurd why
 judged state faults clients old redo dues.Usage why opened = absurd why
