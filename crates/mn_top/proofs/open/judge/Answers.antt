@@ -3,6 +3,7 @@ use Rattle.std.proofs.lemmas.Bool.{false≢true}
 use Rattle.mn_base.specs.declared.reply.Pair.{Pair}
 use Rattle.mn_base.specs.Store.{main_store}
 use Rattle.mn_mini.specs.declared.record.Record.{Record}
+use Rattle.mn_top.specs.Disk.{greatest_run}
 use Rattle.mn_top.specs.Leaf.{MakesLeaf}
 use Rattle.mn_top.specs.Served.{ops_of, ops_overfill}
 use Rattle.mn_top.proofs.Leaves.{leaf_once}
@@ -14,7 +15,7 @@ returns-then-branch-clause-err g c =
     let known = subst (λ (l : List Record). MakesLeaf l c.in-Some.leaf.seq c.in-Some.leaf.pairs.items) c.deref-2.ensures.value own in (
       c.in-Ok.records.items,
       c.in-Ok.ensures.records,
-      omega arith,
+      omega (arith, c.if-greatest-gt-LAST_RUN.false, c.last_run-greatest.ensures, ap greatest_run c.deref.ensures.value),
       λ seq pairs served.
           let same = (leaf_once _ _ _ _ _ served.makes.holds known.holds).1 in
           let over = ap (λ (l : List Pair). ops_overfill (main_store l) (ops_of c.args.clients.now)) (same ∙ sym c.from_vec.ensures) ∙ sym c.in_ok-clients_overfill.ensures ∙ c.if-branch.true in
