@@ -306,24 +306,24 @@ fn a_log_is_read_again(rt: HostRuntime) -> Result<(), Fail> {
     Ok(())
 }
 
-/// The header of the one node's log, one whole record of a body, and an open gate with nothing behind it.
-fn damaged_behind(alloc: Global, body: &[u8]) -> Result<Vec<u8>, Fail> {
-    let mut content = [
-        1, 0x4d, 0x4e, 0x4c, 0x4f, 0x47, 1, 0, 1, 0, 0, 0, 0, 0, 0, 0, 1, 0, 0, 0,
-    ]
-    .to_vec(alloc)?;
-    content.push(body.len() as u8)?;
-    content.extend_from_slice(body)?;
-    content.push(1)?;
+/// The header of the one node's log.
+const HEADER: [u8; 16] = [
+    1, 0x4d, 0x4e, 0x4c, 0x4f, 0x47, 1, 0, 1, 0, 0, 0, 0, 0, 0, 0,
+];
+
+/// Behind a header, the whole record of an id of client 0's serial 1 in run 1, of this kind, and an open gate with nothing behind it.
+fn damaged_behind(alloc: Global, kind: u8) -> Result<Vec<u8>, Fail> {
+    let mut content = HEADER.to_vec(alloc)?;
+    content.extend_from_slice(&[1, 0, 0, 0, 10, kind, 0, 0, 0, 1, 0, 0, 0, 0, 1, 1])?;
     Ok(content)
 }
 
 #[test]
 fn the_lower_one_of_two_faults_is_told(rt: HostRuntime) -> Result<(), Fail> {
     let alloc = rt.alloc();
-    // A Forced record of client 0's serial 1 in run 1, and one of a kind that there is not.
+    // A Forced record, and one of a kind that there is not.
     for (kind, written) in [(4, "damaged 0 31 log\n"), (9, "damaged 0 16 log\n")] {
-        let content = damaged_behind(alloc, &[kind, 0, 0, 0, 1, 0, 0, 0, 0, 1])?;
+        let content = damaged_behind(alloc, kind)?;
         let ran = replay(&rt, GET, disk_of(alloc, &content, &[])?)?;
         assert_eq!(rt; ran.outcome.status, 6);
         assert_eq!(rt; ran.sink.written(), written.as_bytes());
@@ -336,8 +336,13 @@ fn the_lower_one_of_two_faults_is_told(rt: HostRuntime) -> Result<(), Fail> {
 fn a_log_of_two_thousand_records_is_read(rt: HostRuntime) -> Result<(), Fail> {
     let alloc = rt.alloc();
     let bytes = used(&rt)?;
-    let record = &bytes.as_slice()[16..2_172];
-    let mut content = bytes.as_slice()[..16].to_vec(alloc)?;
+    let whole = bytes.as_slice();
+    let record = if whole.len() > 2_172 {
+        &whole[16..2_172]
+    } else {
+        whole
+    };
+    let mut content = HEADER.to_vec(alloc)?;
     for _number in 0..2_000 {
         content.extend_from_slice(record)?;
     }
