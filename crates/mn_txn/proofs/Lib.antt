@@ -1,0 +1,4 @@
+pub mod Turns
+pub mod Images
+pub mod Sound
+pub mod Plans

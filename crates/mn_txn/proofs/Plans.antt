@@ -1,0 +1,133 @@
+-- The laws of plans.
+use Rattle.std.proofs.Common.{◌≡◌, ◌↔◌, ℕ, Bool, true, false, cond, ◌&&◌, ◌||◌, nat_eq, nat_lt, List, [], ◌∷◌, ◌++◌, map, Contains, refl, sym, ap, subst, ◌∙◌, arith}
+use Rattle.std.specs.List.{AllByRecursion, flat_map}
+use Rattle.std.specs.List.Sorted.{IsPermutation}
+use Rattle.std.specs.Ordering.{is_lt}
+use Rattle.std.proofs.lemmas.Bool.Decides.{nat_tests}
+use Rattle.std.proofs.lemmas.List.Elements.{All-from_recursion, recursion_from_All, All-contains, All-contains_itself}
+use Rattle.std.proofs.lemmas.List.Sorted.{IsPermutation-refl, IsPermutation-sym, IsPermutation-cons, IsPermutation-trans, IsPermutation-swap, IsPermutation-map, Contains-permutation}
+use Rattle.mn_mini.specs.declared.item.Item.{Item}
+use Rattle.mn_mini.specs.declared.item.Item.TheVariants.{Compare, Write}
+use Rattle.mn_world.specs.Planned.{Place, compare_place, write_place, compare_places, write_places, place_rank, may_precede, are_in_order}
+use Rattle.mn_txn.specs.declared.image.Image.{Image}
+use Rattle.mn_txn.specs.declared.image.Turn.{Turn}
+use Rattle.mn_txn.specs.State.{State, is_at, AreApart}
+use Rattle.mn_txn.specs.Order.{turn_cmp, stands_before, placed, in_item_order}
+use Rattle.mn_txn.specs.Plan.{plan_of, compare_of, write_of}
+use Rattle.mn_txn.specs.Laws as laws
+use Rattle.mn_txn.proofs.Turns.{IsUp, all_placed, up_in_order}
+use Rattle.mn_txn.proofs.Images.{turned}
+use Rattle.mn_txn.proofs.Sound.{all_in_order}
+
+-- The same images
+
+same_placed : (i : Image) (xs : List Image) → IsPermutation (i ∷ xs) (placed i xs)
+same_placed i [] = IsPermutation-refl (i ∷ [])
+same_placed i (x ∷ xs) = by (stands_before x i) (same_placed i xs)
+  where
+    by : (b : Bool) → IsPermutation (i ∷ xs) (placed i xs) → IsPermutation (i ∷ x ∷ xs) (cond b (x ∷ placed i xs) (i ∷ x ∷ xs))
+    by true later = IsPermutation-trans (i ∷ x ∷ xs) (x ∷ i ∷ xs) (x ∷ placed i xs) (IsPermutation-swap (i ∷ x ∷ xs) (x ∷ i ∷ xs) 0 1 (omega arith) (omega arith) refl) (IsPermutation-cons x (i ∷ xs) (placed i xs) later)
+    by false later = IsPermutation-refl (i ∷ x ∷ xs)
+
+pub same_images : (xs : List Image) → IsPermutation xs (in_item_order xs)
+same_images [] = IsPermutation-refl []
+same_images (x ∷ xs) = IsPermutation-trans (x ∷ xs) (x ∷ in_item_order xs) (in_item_order (x ∷ xs)) (IsPermutation-cons x xs (in_item_order xs) (same_images xs)) (same_placed x (in_item_order xs))
+
+apart_placed : (i : Image) (xs : List Image) → AreApart (i ∷ xs) → AreApart (placed i xs)
+apart_placed i [] a = (tt, tt)
+apart_placed i (x ∷ xs) a = by (stands_before x i) (apart_placed i xs (a.0.1, a.1.1))
+  where
+    by : (b : Bool) → AreApart (placed i xs) → AreApart (cond b (x ∷ placed i xs) (i ∷ x ∷ xs))
+    by true later = (all_placed (λ y. is_at x.node x.start y ≡ false) i xs (turned x i ∙ a.0.0) a.1.0, later)
+    by false later = a
+
+apart_in_order : (xs : List Image) → AreApart xs → AreApart (in_item_order xs)
+apart_in_order [] a = tt
+apart_in_order (x ∷ xs) a = apart_placed x (in_item_order xs) (all_in_order (λ y. is_at x.node x.start y ≡ false) xs a.0, apart_in_order xs a.1)
+
+-- Order
+
+abbrev turn : ℕ → ℕ → ℕ → Turn
+turn r s n = cond (nat_eq r 0) (record { rank = 0; start = 0; node = 0 }) (record { rank = r; start = s; node = n })
+
+by_turn : (r q s t n m : ℕ) → is_lt (turn_cmp (turn q t m) (turn r s n)) ≡ false → (nat_eq n m && nat_eq s t) ≡ false
+    → (nat_lt r q || (nat_eq r q && (nat_eq r 0 || (nat_lt s t || (nat_eq s t && nat_lt n m))))) ≡ true
+by_turn r q s t n m late apart = grind (arith, nat_tests)
+
+precedes : (a b : Image) → stands_before b a ≡ false → is_at a.node a.start b ≡ false → may_precede a.node a.start b.node b.start ≡ true
+precedes a b late apart = by_turn (place_rank a.start) (place_rank b.start) a.start b.start a.node.0 b.node.0 late apart
+
+and_true : (a b : Bool) → a ≡ true → b ≡ true → (a && b) ≡ true
+and_true true b h k = k
+and_true false b h k = absurd cc
+
+writes_in_order : (xs : List Image) → IsUp xs → AreApart xs → are_in_order (map write_of xs) ≡ true
+writes_in_order [] u a = refl
+writes_in_order (x ∷ []) u a = refl
+writes_in_order (x ∷ (y ∷ ys)) u a = and_true (may_precede x.node x.start y.node y.start) (are_in_order (map write_of (y ∷ ys))) (precedes x y u.0.0 a.0.0) (writes_in_order (y ∷ ys) u.1 a.1)
+
+behind : (x : Image) (ys : List Image) → IsUp ys → AreApart ys → are_in_order (compare_of x ∷ map write_of ys) ≡ true
+behind x [] u a = refl
+behind x (y ∷ ys) u a = writes_in_order (y ∷ ys) u a
+
+all_in_turn : (xs ys : List Image) → IsUp xs → AreApart xs → IsUp ys → AreApart ys → are_in_order (map compare_of xs ++ map write_of ys) ≡ true
+all_in_turn [] ys u a v b = writes_in_order ys v b
+all_in_turn (x ∷ []) ys u a v b = behind x ys v b
+all_in_turn (x ∷ (z ∷ zs)) ys u a v b =
+    and_true (may_precede x.node x.start z.node z.start) (are_in_order (map compare_of (z ∷ zs) ++ map write_of ys)) (precedes x z u.0.0 a.0.0) (all_in_turn (z ∷ zs) ys u.1 a.1 v b)
+
+pub in_order : laws.PlansAreInOrder
+in_order t a b = all_in_turn (in_item_order t.reads) (in_item_order t.writes) (up_in_order t.reads) (apart_in_order t.reads a) (up_in_order t.writes) (apart_in_order t.writes b)
+
+-- Places
+
+no_compares : (ys : List Image) → flat_map compare_place (map write_of ys) ≡ []
+no_compares [] = refl
+no_compares (y ∷ ys) = no_compares ys
+
+compared : (xs ys : List Image) → flat_map compare_place (map compare_of xs ++ map write_of ys) ≡ map laws.image_place xs
+compared [] ys = no_compares ys
+compared (x ∷ xs) ys = ap (λ l. laws.image_place x ∷ l) (compared xs ys)
+
+only_writes : (ys : List Image) → flat_map write_place (map write_of ys) ≡ map laws.image_place ys
+only_writes [] = refl
+only_writes (y ∷ ys) = ap (λ l. laws.image_place y ∷ l) (only_writes ys)
+
+written : (xs ys : List Image) → flat_map write_place (map compare_of xs ++ map write_of ys) ≡ map laws.image_place ys
+written [] ys = only_writes ys
+written (x ∷ xs) ys = written xs ys
+
+pub their_places : laws.PlansNameTheirPlaces
+their_places t = (compared (in_item_order t.reads) (in_item_order t.writes), written (in_item_order t.reads) (in_item_order t.writes))
+
+among : (xs : List Image) (ps : List Place) (place : Place) → ps ≡ map laws.image_place (in_item_order xs) → Contains ps place ↔ Contains (map laws.image_place xs) place
+among xs ps place e =
+    let p = IsPermutation-map laws.image_place xs (in_item_order xs) (same_images xs) in
+    let back = IsPermutation-sym (map laws.image_place xs) (map laws.image_place (in_item_order xs)) p in (
+      λ c. Contains-permutation (map laws.image_place (in_item_order xs)) (map laws.image_place xs) place back (subst (λ (l : List Place). Contains l place) e c),
+      λ c. subst (λ (l : List Place). Contains l place) (sym e) (Contains-permutation (map laws.image_place xs) (map laws.image_place (in_item_order xs)) place p c),
+    )
+
+pub no_other : laws.PlansNameNoOther
+no_other t place = (among t.reads (compare_places (plan_of t)) place (their_places t).0, among t.writes (write_places (plan_of t)) place (their_places t).1)
+
+-- Items
+
+all_compares : (t : State) (xs : List Image) (more : List Item) → AllByRecursion (Contains t.reads) xs → AllByRecursion (laws.IsItemOf t) more → AllByRecursion (laws.IsItemOf t) (map compare_of xs ++ more)
+all_compares t [] more a b = b
+all_compares t (x ∷ xs) more a b = (a.0, all_compares t xs more a.1 b)
+
+all_writes : (t : State) (xs : List Image) → AllByRecursion (Contains t.writes) xs → AllByRecursion (laws.IsItemOf t) (map write_of xs)
+all_writes t [] a = tt
+all_writes t (x ∷ xs) a = (a.0, all_writes t xs a.1)
+
+itself_in_order : (xs : List Image) → AllByRecursion (Contains xs) (in_item_order xs)
+itself_in_order xs = all_in_order (Contains xs) xs (recursion_from_All (Contains xs) xs (All-contains_itself xs))
+
+pub their_bytes : laws.PlansHoldTheirBytes
+their_bytes t = all_compares t (in_item_order t.reads) (map write_of (in_item_order t.writes)) (itself_in_order t.reads) (all_writes t (in_item_order t.writes) (itself_in_order t.writes))
+
+pub count_on : laws.PlansCountOn
+count_on t h node start old new c w other =
+    let all = All-from_recursion (laws.IsItemOf t) (plan_of t).items (their_bytes t) in
+    h node start old new (All-contains (laws.IsItemOf t) (plan_of t).items (Compare node start old) all c) (All-contains (laws.IsItemOf t) (plan_of t).items (Write node start new) all w) other

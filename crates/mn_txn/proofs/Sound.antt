@@ -1,0 +1,71 @@
+-- The items of a plan are sound.
+use Rattle.std.proofs.Common.{◌≡◌, ℕ, zero, suc, ◌+◌, ◌≤◌, Bool, true, false, cond, List, [], ◌∷◌, ◌++◌, length, map, refl, ap, arith, length-append}
+use Rattle.std.specs.List.{AllByRecursion}
+use Rattle.mn_mini.specs.declared.item.Item.{Item}
+use Rattle.mn_mini.specs.declared.error.MiniError.{MiniError}
+use Rattle.mn_mini.specs.declared.error.MiniError.TheVariants.{NoItems, TooMany, OutOfSpace, NoMemory}
+use Rattle.mn_mini.specs.Mini.{IsSound, IsSoundItem}
+use Rattle.mn_mini.specs.Refusal.{RefusesItems, IsFirstOutside}
+use Rattle.mn_txn.specs.declared.image.Image.{Image}
+use Rattle.mn_txn.specs.State.{State}
+use Rattle.mn_txn.specs.Order.{stands_before, placed, in_item_order}
+use Rattle.mn_txn.specs.Plan.{plan_of, compare_of, write_of, IsInside}
+use Rattle.mn_txn.proofs.Turns.{all_placed}
+
+length_placed : (i : Image) (xs : List Image) → length (placed i xs) ≡ length xs + 1
+length_placed i [] = refl
+length_placed i (x ∷ xs) = by (stands_before x i) (length_placed i xs)
+  where
+    by : (b : Bool) → length (placed i xs) ≡ length xs + 1 → length (cond b (x ∷ placed i xs) (i ∷ x ∷ xs)) ≡ length (x ∷ xs) + 1
+    by true h = omega (arith, h)
+    by false h = omega arith
+
+pub length_in_order : (xs : List Image) → length (in_item_order xs) ≡ length xs
+length_in_order [] = refl
+length_in_order (x ∷ xs) = omega (arith, length_placed x (in_item_order xs), length_in_order xs)
+
+pub all_in_order : (P : Image → Type 0) (xs : List Image) → AllByRecursion P xs → AllByRecursion P (in_item_order xs)
+all_in_order P [] a = tt
+all_in_order P (x ∷ xs) a = all_placed P x (in_item_order xs) a.0 (all_in_order P xs a.1)
+
+all_compares : (nodes : ℕ) (xs : List Image) (more : List Item) → AllByRecursion (IsInside nodes) xs → AllByRecursion (IsSoundItem nodes) more → AllByRecursion (IsSoundItem nodes) (map compare_of xs ++ more)
+all_compares nodes [] more a b = b
+all_compares nodes (x ∷ xs) more a b = (a.0, all_compares nodes xs more a.1 b)
+
+all_writes : (nodes : ℕ) (xs : List Image) → AllByRecursion (IsInside nodes) xs → AllByRecursion (IsSoundItem nodes) (map write_of xs)
+all_writes nodes [] a = tt
+all_writes nodes (x ∷ xs) a = (a.0, all_writes nodes xs a.1)
+
+length_mapped : (f : Image → Item) (xs : List Image) → length (map f xs) ≡ length xs
+length_mapped f [] = refl
+length_mapped f (x ∷ xs) = ap suc (length_mapped f xs)
+
+pub length_items : (t : State) → length (plan_of t).items ≡ length t.reads + length t.writes
+length_items t = omega (
+  arith,
+  length-append (map compare_of (in_item_order t.reads)) (map write_of (in_item_order t.writes)),
+  length_mapped compare_of (in_item_order t.reads),
+  length_mapped write_of (in_item_order t.writes),
+  length_in_order t.reads,
+  length_in_order t.writes,
+)
+
+pub sound : (t : State) → 1 ≤ length t.reads + length t.writes → length t.reads + length t.writes ≤ 1024 → AllByRecursion (IsInside t.nodes) t.reads → AllByRecursion (IsInside t.nodes) t.writes → IsSound (plan_of t)
+sound t some few reads writes = record {
+  some = omega (arith, some, length_items t);
+  few = omega (arith, few, length_items t);
+  inside = all_compares t.nodes (in_item_order t.reads) (map write_of (in_item_order t.writes)) (all_in_order (IsInside t.nodes) t.reads reads)
+      (all_writes t.nodes (in_item_order t.writes) (all_in_order (IsInside t.nodes) t.writes writes));
+}
+
+none_outside : (nodes : ℕ) (items : List Item) (at : ℕ) → AllByRecursion (IsSoundItem nodes) items → IsFirstOutside nodes items at → ⊥
+none_outside nodes [] at a f = f
+none_outside nodes (i ∷ is) zero a f = f a.0
+none_outside nodes (i ∷ is) (suc at) a f = none_outside nodes is at a.1 f.1
+
+-- want of memory alone refuses them
+pub only_memory : (t : State) (error : MiniError) → IsSound (plan_of t) → RefusesItems t.nodes (plan_of t).items error → error ≡ NoMemory
+only_memory t NoItems s r = absurd (omega (arith, s.some, ap (λ (l : List Item). length l) r))
+only_memory t (TooMany n) s r = absurd (omega (arith, s.few, r.1))
+only_memory t (OutOfSpace item) s r = absurd (none_outside t.nodes (plan_of t).items item s.inside r.1)
+only_memory t NoMemory s r = refl

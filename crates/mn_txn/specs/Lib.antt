@@ -1,0 +1,4 @@
+pub mod State
+pub mod Order
+pub mod Plan
+pub mod Laws

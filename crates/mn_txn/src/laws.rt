@@ -1,0 +1,29 @@
+ghost use Rattle.std.specs.Prelude.{◌≡◌};
+ghost use Rattle.mn_txn.specs.State.{State};
+ghost use Rattle.mn_txn.specs.Plan.{plan_of};
+ghost use Rattle.mn_txn.specs.Laws.{PlansAreInOrder, PlansNameTheirPlaces, PlansNameNoOther, PlansHoldTheirBytes, PlansCountOn};
+
+// Each law is the contract of a function that does nothing: what it says is proved, and may be used, by calling it.
+
+/// The items of a plan are in order: its compares before its writes, and among each pages before entries and entries before counts,
+/// entries by number and counts by node.
+pub fn plans_are_in_order()
+    ensures { PlansAreInOrder }
+{}
+
+/// A plan is over the transaction's nodes, compares exactly the places of the read set, and writes exactly the places of the writes.
+pub fn plans_name_their_places()
+    ensures nodes { (t : State) → (plan_of t).nodes ≡ t.nodes }
+    ensures places { PlansNameTheirPlaces }
+    ensures others { PlansNameNoOther }
+{}
+
+/// Each item of a plan is a compare of bytes that were read or a write of bytes that are to be written.
+pub fn plans_hold_their_bytes()
+    ensures { PlansHoldTheirBytes }
+{}
+
+/// Where each page or entry that was read and is to be written gets the next sequence number, it does in the plan.
+pub fn plans_count_on()
+    ensures { PlansCountOn }
+{}

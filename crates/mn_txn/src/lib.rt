@@ -1,0 +1,15 @@
+//! What a try of an operation read and is to write, and the minitransaction that it plans.
+#![tactic(auto)]
+
+mod error;
+mod image;
+mod laws;
+mod place;
+mod txn;
+
+pub use error::PlanError;
+pub use image::Image;
+pub use laws::{
+    plans_are_in_order, plans_count_on, plans_hold_their_bytes, plans_name_their_places,
+};
+pub use txn::Txn;
