@@ -1,4 +1,5 @@
 pub mod Turns
 pub mod Images
 pub mod Sound
+pub mod Inside
 pub mod Plans

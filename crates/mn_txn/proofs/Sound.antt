@@ -1,15 +1,15 @@
 -- The items of a plan are sound.
-use Rattle.std.proofs.Common.{◌≡◌, ℕ, zero, suc, ◌+◌, ◌≤◌, Bool, true, false, cond, List, [], ◌∷◌, ◌++◌, length, map, refl, ap, arith, length-append}
+use Rattle.std.proofs.Common.{◌≡◌, ℕ, zero, suc, ◌+◌, Bool, true, false, cond, ◌&&◌, nat_lt, nat_le, ltb-true, leb-true, List, [], ◌∷◌, ◌++◌, length, map, refl, ap, arith, length-append}
 use Rattle.std.specs.List.{AllByRecursion}
 use Rattle.mn_mini.specs.declared.item.Item.{Item}
 use Rattle.mn_mini.specs.declared.error.MiniError.{MiniError}
 use Rattle.mn_mini.specs.declared.error.MiniError.TheVariants.{NoItems, TooMany, OutOfSpace, NoMemory}
-use Rattle.mn_mini.specs.Mini.{IsSound, IsSoundItem}
+use Rattle.mn_mini.specs.Mini.{IsSound, IsSoundItem, IsNodeOf, IsInSpace}
 use Rattle.mn_mini.specs.Refusal.{RefusesItems, IsFirstOutside}
 use Rattle.mn_txn.specs.declared.image.Image.{Image}
 use Rattle.mn_txn.specs.State.{State}
 use Rattle.mn_txn.specs.Order.{stands_before, placed, in_item_order}
-use Rattle.mn_txn.specs.Plan.{plan_of, compare_of, write_of, IsInside}
+use Rattle.mn_txn.specs.Plan.{plan_of, compare_of, write_of, is_inside, are_inside, can_plan}
 use Rattle.mn_txn.proofs.Turns.{all_placed}
 
 length_placed : (i : Image) (xs : List Image) → length (placed i xs) ≡ length xs + 1
@@ -27,6 +27,26 @@ length_in_order (x ∷ xs) = omega (arith, length_placed x (in_item_order xs), l
 pub all_in_order : (P : Image → Type 0) (xs : List Image) → AllByRecursion P xs → AllByRecursion P (in_item_order xs)
 all_in_order P [] a = tt
 all_in_order P (x ∷ xs) a = all_placed P x (in_item_order xs) a.0 (all_in_order P xs a.1)
+
+both : (a b : Bool) → (a && b) ≡ true → (a ≡ true) × (b ≡ true)
+both true b h = (refl, h)
+both false b h = cc
+
+-- what the test of a plan says of an image
+abbrev IsInside : ℕ → Image → Type 0
+IsInside nodes i = IsNodeOf nodes i.node × IsInSpace i.start (length i.bytes)
+
+inside : (nodes : ℕ) (i : Image) → is_inside nodes i ≡ true → IsInside nodes i
+inside nodes i h =
+    let a = both (nat_lt i.node.0 nodes) _ h in
+    let b = both (nat_lt i.node.0 8) _ a.1 in
+    let c = both (nat_le 1 (length i.bytes)) _ b.1 in
+    let d = both (nat_le (length i.bytes) 4096) _ c.1 in
+    ((ltb-true _ _ a.0, ltb-true _ _ b.0), (leb-true _ _ c.0, leb-true _ _ d.0, leb-true _ _ d.1))
+
+all_inside : (nodes : ℕ) (xs : List Image) → are_inside nodes xs ≡ true → AllByRecursion (IsInside nodes) xs
+all_inside nodes [] h = tt
+all_inside nodes (x ∷ xs) h = let two = both (is_inside nodes x) (are_inside nodes xs) h in (inside nodes x two.0, all_inside nodes xs two.1)
 
 all_compares : (nodes : ℕ) (xs : List Image) (more : List Item) → AllByRecursion (IsInside nodes) xs → AllByRecursion (IsSoundItem nodes) more → AllByRecursion (IsSoundItem nodes) (map compare_of xs ++ more)
 all_compares nodes [] more a b = b
@@ -50,13 +70,17 @@ length_items t = omega (
   length_in_order t.writes,
 )
 
-pub sound : (t : State) → 1 ≤ length t.reads + length t.writes → length t.reads + length t.writes ≤ 1024 → AllByRecursion (IsInside t.nodes) t.reads → AllByRecursion (IsInside t.nodes) t.writes → IsSound (plan_of t)
-sound t some few reads writes = record {
-  some = omega (arith, some, length_items t);
-  few = omega (arith, few, length_items t);
-  inside = all_compares t.nodes (in_item_order t.reads) (map write_of (in_item_order t.writes)) (all_in_order (IsInside t.nodes) t.reads reads)
-      (all_writes t.nodes (in_item_order t.writes) (all_in_order (IsInside t.nodes) t.writes writes));
-}
+pub sound : (t : State) → can_plan t ≡ true → IsSound (plan_of t)
+sound t h =
+    let a = both (nat_le 1 (length t.reads + length t.writes)) _ h in
+    let b = both (nat_le (length t.reads + length t.writes) 1024) _ a.1 in
+    let c = both (are_inside t.nodes t.reads) (are_inside t.nodes t.writes) b.1 in
+    record {
+      some = omega (arith, leb-true _ _ a.0, length_items t);
+      few = omega (arith, leb-true _ _ b.0, length_items t);
+      inside = all_compares t.nodes (in_item_order t.reads) (map write_of (in_item_order t.writes)) (all_in_order (IsInside t.nodes) t.reads (all_inside t.nodes t.reads c.0))
+          (all_writes t.nodes (in_item_order t.writes) (all_in_order (IsInside t.nodes) t.writes (all_inside t.nodes t.writes c.1)));
+    }
 
 none_outside : (nodes : ℕ) (items : List Item) (at : ℕ) → AllByRecursion (IsSoundItem nodes) items → IsFirstOutside nodes items at → ⊥
 none_outside nodes [] at a f = f

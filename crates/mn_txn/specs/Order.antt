@@ -10,6 +10,7 @@ use Rattle.mn_txn.specs.declared.image.Turn.{Turn}
 abbrev pub turn_of : Image → Turn
 turn_of i = if nat_eq (place_rank i.start) 0 then record { rank = 0; start = 0; node = 0 } else record { rank = place_rank i.start; start = i.start; node = i.node.0 }
 
+-- by rank, then by start, then by node
 abbrev pub turn_cmp : Turn → Turn → Ordering
 turn_cmp a b = ordering_then (nat_cmp a.rank b.rank) (ordering_then (nat_cmp a.start b.start) (nat_cmp a.node b.node))
 

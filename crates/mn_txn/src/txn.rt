@@ -1,11 +1,10 @@
-ghost use Rattle.std.specs.Prelude.{◌≡◌, ◌+◌, ◌≤◌, ◌++◌, [], length, map, Some, None, IfOk, IfErr, OnOk, OnErr};
-ghost use Rattle.std.specs.List.{AllByRecursion};
+ghost use Rattle.std.specs.Prelude.{◌≡◌, ◌++◌, [], map, Some, None, IfOk, IfErr, OnOk, OnErr, IsTrue};
 ghost use Rattle.mn_mini.specs.declared.error.MiniError.TheVariants as mini;
 ghost use Rattle.mn_page.specs.Space.{slot_start};
 ghost use Rattle.mn_txn.specs.declared.error.PlanError.TheVariants as plan;
-ghost use Rattle.mn_txn.specs.State.{image, joined, images_of, AreApart};
+ghost use Rattle.mn_txn.specs.State.{image, joined, image_at, images_of, AreApart};
 ghost use Rattle.mn_txn.specs.Order.{in_item_order};
-ghost use Rattle.mn_txn.specs.Plan.{plan_of, compare_of, write_of, IsInside, is_last, is_worn, first_worn, RefusesPlan};
+ghost use Rattle.mn_txn.specs.Plan.{plan_of, compare_of, write_of, is_inside, are_inside, can_plan, is_last, is_worn, first_worn, RefusesPlan};
 
 use crate::image::{COUNT_START, SLOTS_START};
 use crate::place::Place;
@@ -13,7 +12,7 @@ use crate::{Image, PlanError};
 use byteorder::{BigEndian, ByteOrder};
 use indexmap::IndexMap;
 use mn_base::{Addr, Bytes, NoMemory, NodeNo, TryCopy};
-use mn_mini::{Item, Items, MiniError, Minitransaction};
+use mn_mini::{Item, Items, MAX_ITEM, MAX_ITEMS, MAX_NODES, MiniError, Minitransaction, SPACE};
 use std::alloc::Global;
 use std::marker::Model;
 
@@ -83,6 +82,29 @@ fn copied(alloc: Global, images: &IndexMap<Place, Bytes>) -> Result<Vec<Image>, 
         })?;
     }
     Ok(copies)
+}
+
+/// Whether the bytes at a place may be an item's, over so many nodes.
+fn is_inside(nodes: u8, place: &Place, bytes: &Bytes) -> bool
+    ensures { result ≡ is_inside nodes (image_at (place.now, bytes.now)) }
+{
+    let length = bytes.as_slice().len();
+    place.node < nodes
+        && place.node < MAX_NODES
+        && length >= 1
+        && length <= MAX_ITEM as usize
+        && place.start as usize + length <= SPACE as usize
+}
+
+/// Whether all images may be items.
+fn are_inside(nodes: u8, images: &IndexMap<Place, Bytes>) -> bool
+    ensures { result ≡ are_inside nodes (images_of images.now.entries) }
+{
+    let mut inside = true;
+    for (place, bytes) in images {
+        inside = inside && is_inside(nodes, place, bytes);
+    }
+    inside
 }
 
 /// Whether bytes begin with the last sequence number.
@@ -179,11 +201,16 @@ impl Txn {
         keep(&mut self.writes, node, start, bytes)
     }
 
-    /// How many items its plan has.
-    pub fn items(&self) -> usize
-        ensures { result ≡ length self.now.reads + length self.now.writes }
+    /// Whether there may be a plan: the read set and the writes give 1 to 1,024 items, each of 1 to 4,096 bytes inside the space of one
+    /// of the nodes.
+    pub fn can_plan(&self) -> bool
+        ensures { result ≡ can_plan self.now }
     {
-        self.reads.len() + self.writes.len()
+        let items = self.reads.len() + self.writes.len();
+        items >= 1
+            && items <= MAX_ITEMS
+            && are_inside(self.nodes, &self.reads)
+            && are_inside(self.nodes, &self.writes)
     }
 
     /// Whether a place was read with the last sequence number: by its bytes in the read set, or else by those that were read dirty.
@@ -220,10 +247,7 @@ impl Txn {
     /// (Sinfonia, SOSP 2007; Minuet, PVLDB 2012). Worn: the place is the first in this order at which a page or an entry is to be
     /// written and was read with the last sequence number. NoMemory: there was no memory for it.
     pub fn plan(&self, alloc: Global) -> Result<Minitransaction, PlanError>
-        requires some { 1 ≤ length self.now.reads + length self.now.writes }
-        requires few { length self.now.reads + length self.now.writes ≤ 1024 }
-        requires reads_inside { AllByRecursion (IsInside self.now.nodes) self.now.reads }
-        requires writes_inside { AllByRecursion (IsInside self.now.nodes) self.now.writes }
+        requires { IsTrue (can_plan self.now) }
         ensures planned { IfOk result (λ mini. mini ≡ plan_of self.now) }
         ensures unworn { OnOk result (first_worn self.now (in_item_order self.now.writes) ≡ None) }
         ensures refused { IfErr result (RefusesPlan self.now) }

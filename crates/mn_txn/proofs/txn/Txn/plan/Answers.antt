@@ -13,7 +13,7 @@ pub no_memory-requires : goal.no_memory-requires
 no_memory-requires c =
     let s = c.self.inside in
     let t : State = record { nodes = s.nodes; dirty = images_of s.dirty.entries; reads = images_of s.reads.entries; writes = images_of s.writes.entries } in
-    let fine = sound c.args.self.now c.requires.some c.requires.few c.requires.reads_inside c.requires.writes_inside in
+    let fine = sound c.args.self.now c.requires in
     let compares = c.in_ok-push_compares.ensures ∙ ap (λ (l : List Item). l ++ map compare_of c.deref-2.result.now) c.in_ok-items.ensures.items
     ∙ ap (λ (l : List Image). map compare_of l) (c.deref-2.ensures.value ∙ c.in_ok-reads.ensures) in
     let items = c.from_vec.ensures ∙ c.in_ok-push_writes.ensures ∙ ap (λ (l : List Item). l ++ map write_of c.deref-3.result.now) compares
