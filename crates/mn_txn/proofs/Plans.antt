@@ -1,5 +1,5 @@
 -- The laws of plans.
-use Rattle.std.proofs.Common.{◌≡◌, ◌↔◌, ℕ, Bool, true, false, cond, ◌&&◌, ◌||◌, nat_eq, nat_lt, List, [], ◌∷◌, ◌++◌, map, Contains, refl, sym, ap, subst, ◌∙◌, arith}
+use Rattle.std.proofs.Common.{◌≡◌, ◌↔◌, ℕ, Bool, true, false, cond, ◌&&◌, ◌||◌, nat_eq, nat_lt, List, [], ◌∷◌, ◌++◌, filter, map, Contains, refl, sym, ap, subst, ◌∙◌, arith}
 use Rattle.std.specs.List.{AllByRecursion, flat_map}
 use Rattle.std.specs.List.Sorted.{IsPermutation}
 use Rattle.std.specs.Ordering.{is_lt}
@@ -44,6 +44,29 @@ apart_placed i (x ∷ xs) a = by (stands_before x i) (apart_placed i xs (a.0.1, 
 apart_in_order : (xs : List Image) → AreApart xs → AreApart (in_item_order xs)
 apart_in_order [] a = tt
 apart_in_order (x ∷ xs) a = apart_placed x (in_item_order xs) (all_in_order (λ y. is_at x.node x.start y ≡ false) xs a.0, apart_in_order xs a.1)
+
+-- Pages
+
+no_page_first : (x i : Image) → laws.is_page x ≡ true → laws.is_page i ≡ true → stands_before x i ≡ false
+no_page_first x i h k = rw (h, k) refl
+
+pages_placed : (i : Image) (xs : List Image) → filter laws.is_page (placed i xs) ≡ filter laws.is_page (i ∷ xs)
+pages_placed i [] = refl
+pages_placed i (x ∷ xs) = by (stands_before x i) refl (pages_placed i xs)
+  where
+    swapped : (b c : Bool) (l : List Image) → laws.is_page x ≡ b → laws.is_page i ≡ c → stands_before x i ≡ true → cond b (x ∷ cond c (i ∷ l) l) (cond c (i ∷ l) l) ≡ cond c (i ∷ cond b (x ∷ l) l) (cond b (x ∷ l) l)
+    swapped true true l h k t = let never = no_page_first x i h k in absurd cc
+    swapped true false l h k t = refl
+    swapped false true l h k t = refl
+    swapped false false l h k t = refl
+
+    by : (b : Bool) → stands_before x i ≡ b → filter laws.is_page (placed i xs) ≡ filter laws.is_page (i ∷ xs) → filter laws.is_page (cond b (x ∷ placed i xs) (i ∷ x ∷ xs)) ≡ filter laws.is_page (i ∷ x ∷ xs)
+    by true t later = ap (λ l. cond (laws.is_page x) (x ∷ l) l) later ∙ swapped (laws.is_page x) (laws.is_page i) (filter laws.is_page xs) refl refl t
+    by false f later = refl
+
+pub pages_stay : laws.PagesStay
+pages_stay [] = refl
+pages_stay (x ∷ xs) = pages_placed x (in_item_order xs) ∙ ap (λ l. cond (laws.is_page x) (x ∷ l) l) (pages_stay xs)
 
 -- Order
 

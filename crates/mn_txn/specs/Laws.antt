@@ -1,11 +1,11 @@
 -- The laws of plans that follow from what a plan is. Each public law function has one of these as its contract.
-use Rattle.std.specs.Prelude.{ℕ, ◌≡◌, ◌↔◌, IsTrue, List, length, map, Contains}
+use Rattle.std.specs.Prelude.{Bool, nat_eq, filter, ℕ, ◌≡◌, ◌↔◌, IsTrue, List, length, map, Contains}
 use Rattle.std.specs.List.{AllByRecursion}
 use Rattle.mn_base.specs.declared.ids.NodeNo.{NodeNo}
 use Rattle.mn_mini.specs.declared.item.Item.{Item}
 use Rattle.mn_mini.specs.declared.item.Item.TheVariants.{Compare, Read, Write}
 use Rattle.mn_page.specs.Space.{count_start}
-use Rattle.mn_world.specs.Planned.{Place, compare_places, write_places, are_in_order, IsNextNumber}
+use Rattle.mn_world.specs.Planned.{Place, place_rank, compare_places, write_places, are_in_order, IsNextNumber}
 use Rattle.mn_txn.specs.declared.image.Image.{Image}
 use Rattle.mn_txn.specs.State.{State, image, AreApart}
 use Rattle.mn_txn.specs.Order.{in_item_order}
@@ -19,6 +19,14 @@ image_place i = record { node = i.node; start = i.start; length = length i.bytes
 
 abbrev pub PlansAreInOrder : Type 0
 PlansAreInOrder = (t : State) → AreApart t.reads → AreApart t.writes → IsTrue (are_in_order (plan_of t).items)
+
+-- it stands in a slot
+abbrev pub is_page : Image → Bool
+is_page i = nat_eq (place_rank i.start) 0
+
+-- the pages stand as they joined
+abbrev pub PagesStay : Type 0
+PagesStay = (images : List Image) → filter is_page (in_item_order images) ≡ filter is_page images
 
 -- Places
 

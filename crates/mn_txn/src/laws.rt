@@ -1,14 +1,15 @@
 ghost use Rattle.std.specs.Prelude.{◌≡◌};
 ghost use Rattle.mn_txn.specs.State.{State};
 ghost use Rattle.mn_txn.specs.Plan.{plan_of};
-ghost use Rattle.mn_txn.specs.Laws.{PlansAreInOrder, PlansNameTheirPlaces, PlansNameNoOther, PlansHoldTheirBytes, PlansCountOn};
+ghost use Rattle.mn_txn.specs.Laws.{PlansAreInOrder, PagesStay, PlansNameTheirPlaces, PlansNameNoOther, PlansHoldTheirBytes, PlansCountOn};
 
 // Each law is the contract of a function that does nothing: what it says is proved, and may be used, by calling it.
 
 /// The items of a plan are in order: its compares before its writes, and among each pages before entries and entries before counts,
-/// entries by number and counts by node.
+/// entries by number and counts by node. Pages stand as they joined.
 pub fn plans_are_in_order()
-    ensures { PlansAreInOrder }
+    ensures order { PlansAreInOrder }
+    ensures pages { PagesStay }
 {}
 
 /// A plan is over the transaction's nodes, compares exactly the places of the read set, and writes exactly the places of the writes.
