@@ -14,12 +14,17 @@ use Rattle.mn_actors.specs.Lines.{Line, stands_in, same_actor, IsActor}
 use Rattle.mn_actors.specs.Lists.{held, grow, Owns, OwnsAll, IsSplit, MayAppend}
 use Rattle.mn_actors.specs.Log.{Ascends, IsManned, IsPlace, IsOneLog}
 use Rattle.mn_actors.specs.Rule.{list_of, node_list, client_list, first_view, appended, without, alone, joined, spent, Fits, Kept, adds, hears}
+use Rattle.mn_actors.specs.Look.{knowing, looks}
 use Rattle.mn_actors.proofs.Growing.{held_appended, own_node_is, own_client_is, replicate_at, replicate_here, replicate_past, same_true, same_itself, room_of, actor_of, held_without, held_alone, held_joined}
 use Rattle.mn_actors.proofs.Counting.{log_bound}
 use Rattle.mn_actors.proofs.Ordered.{ordered, length_ordered, ordered_list, ordered_manned, ordered_legal}
 use Rattle.mn_actors.proofs.Places.{list_ascends, each_place}
 
 module _ {E : Type 0} (legal : List (ℕ × E) → List (ℕ × E) → Line E → Type 0) (nodes clients : ℕ) where
+  knowing_lists : (v : View E) (p : ℕ) (a : Actor) → held (knowing p v) a ≡ held v a
+  knowing_lists v p (Node n) = refl
+  knowing_lists v p (Client c) = refl
+
   first_owned : (a : Actor) (l : List (ℕ × E)) → held (first_view nodes clients) a ≡ Some l → (◌≡◌ {A = ℕ} 0 0) × (l ≡ list_of a []) × IsActor nodes clients a
   first_owned (Node n) l e = let r = replicate_at nodes n.0 l e in (refl, r.0, r.1)
   first_owned (Client c) l e = let r = replicate_at clients c.0 l e in (refl, r.0, r.1)
@@ -173,7 +178,7 @@ module _ {E : Type 0} (legal : List (ℕ × E) → List (ℕ × E) → Line E �
       let is : p ≡ n = ap (λ ws. get_or ws 0 0) r.clock_is in
       let fits = r.views id me.0 at in
       let w : View E = record { known = p; nodes = me.0.nodes; clients = me.0.clients } in
-      let same : (a : Actor) → held w a ≡ held me.0 a = same_lists me.0 p in (
+      let same : (a : Actor) → held w a ≡ held me.0 a = knowing_lists me.0 p in (
         w,
         keeps,
         tt,
@@ -190,10 +195,29 @@ module _ {E : Type 0} (legal : List (ℕ × E) → List (ℕ × E) → Line E �
         },
         (let k = fits.known in omega arith, refl),
       )
-    where
-      same_lists : (v : View E) (p : ℕ) (a : Actor) → held (record { known = p; nodes = v.nodes; clients = v.clients }) a ≡ held v a
-      same_lists v p (Node n) = refl
-      same_lists v p (Client c) = refl
+
+  -- a step that looks at the lists
+  pub looks_moves : {S : Type 0} (slots id : ℕ) (me : Me S (View E)) (p : ℕ) → p ≤ me.0.known → Allows (Kept legal nodes clients {S = S}) slots id me 0 (λ n. n) (looks legal p (step slots 0 0 0 none) me)
+  looks_moves slots id me p before s r wide at small =
+      let fits = r.views id me.0 at in
+      let w : View E = knowing p me.0 in
+      let same : (a : Actor) → held w a ≡ held me.0 a = knowing_lists me.0 p in (
+        w,
+        keeps,
+        tt,
+        record {
+          log = r.log;
+          owner = r.owner;
+          clock_is = set-get_or s.words 0 0 ∙ r.clock_is;
+          manned = r.manned;
+          legal_log = r.legal_log;
+          bounded = r.bounded;
+          views = views_set (Fits nodes clients r.log r.owner) s.views id w (λ j u apart e. r.views j u e)
+              record { known = let k = fits.known in omega (arith, before); owned = λ a l e. fits.owned a l (sym (same a) ∙ e) };
+          each_owned = λ a on. owned_set s.views id (r.owner a) me.0 w a at (λ o. (o.0, same a ∙ o.1)) (r.each_owned a on);
+        },
+        (record { log = r.log; legal_log = r.legal_log; lists = λ a l e. (fits.owned a l e).1 }, refl),
+      )
 
   at_snoc_end : (l : List (View E)) (a b : View E) (j : ℕ) → get_elem? (l ++ a ∷ []) j ≡ some b → (get_elem? l j ≡ some b) ⊎ ((j ≡ length l) × (a ≡ b))
   at_snoc_end [] a b zero e = inr (refl, some-injective a b e)

@@ -3,3 +3,4 @@ pub mod Lists
 pub mod Log
 pub mod Rule
 pub mod Sight
+pub mod Look

@@ -67,6 +67,29 @@ impl<E> Play<(), View<E>> for Hear {
     ghost then = { hears };
 }
 
+// The place that a look leaves known, for the proof alone. A call at `Brand` picks it.
+pub(crate) trait Placed {
+    ghost use Rattle.std.specs.Prelude.{ℕ};
+
+    ghost place: { ℕ };
+}
+
+impl Placed for Brand {
+    ghost place = { 0 };
+}
+
+/// The step that looks at the lists.
+pub(crate) struct Look<L, W> {
+    law: PhantomData<L>,
+    placed: PhantomData<W>,
+}
+
+impl<L: Law, W: Placed> Play<(), View<L::Entry>> for Look<L, W> {
+    ghost use Rattle.mn_actors.specs.Look.{looks};
+
+    ghost then = { looks L.legal W.place };
+}
+
 // The actor that a split gives away, for the proof alone. A call at `Brand` picks it.
 pub(crate) trait Named {
     ghost use Rattle.mn_actors.specs.declared.actor.Actor.{Actor};

@@ -3,12 +3,13 @@ ghost use Rattle.std.specs.Prelude.{◌≡◌, ◌≤◌, ◌↔◌, [], Some, N
 ghost use Rattle.mn_actors.specs.Lines.{line, IsActor};
 ghost use Rattle.mn_actors.specs.Lists.{held, MayAppend, IsAppended, IsJoined, IsSplit, IsSameLists, Owns, OwnsAll};
 ghost use Rattle.mn_actors.specs.Log.{IsOneLog};
+ghost use Rattle.mn_actors.specs.Look.{IsOfLog, knowing};
 ghost use Rattle.mn_actors.specs.Rule.{appended};
 ghost use Rattle.mn_actors.specs.Sight.{id_of, nodes_of, clients_of, board_of, view_of};
 
 use super::{Board, Pass};
 use crate::actor::Actor;
-use crate::clock::{Add, Both, Hear, Named, Part, Said, Size};
+use crate::clock::{Add, Both, Hear, Look, Named, Part, Placed, Said, Size};
 use crate::law::Law;
 use atomic_table::Table;
 use mn_base::{ClientNo, NoMemory, NodeNo};
@@ -144,6 +145,32 @@ impl<L: Law> Board<L> {
         let clock = self.table.shared.load::<Hear>(&mut pass.seat, 0);
         pass.known = clock;
         place <= clock
+    }
+
+    // `look` for a place that the proof names by `W`.
+    fn look_placed<W: Placed>(&self, pass: &mut Pass<L>, known: u64)
+        requires placed { W.place ≡ known }
+        requires board { board_of pass.old ≡ id_of self.now }
+        requires no_later { known ≤ (view_of pass.old).known }
+        ensures board { board_of pass.new ≡ board_of pass.old }
+        ensures view { view_of pass.new ≡ knowing known (view_of pass.old) }
+        ensures one_log { IsOfLog L.legal (view_of pass.old) }
+    {
+        let _clock = self.table.shared.load::<Look<L, W>>(&mut pass.seat, 0);
+        pass.known = known;
+    }
+
+    /// Looks at the clock, which tells that the pass's lists are those of one log. The place that the pass knows is then `known`, which it
+    /// had reached before.
+    pub fn look(&self, pass: &mut Pass<L>, known: u64)
+        requires board { board_of pass.old ≡ id_of self.now }
+        requires no_later { known ≤ (view_of pass.old).known }
+        ensures board { board_of pass.new ≡ board_of pass.old }
+        ensures known { (view_of pass.new).known ≡ known }
+        ensures lists { IsSameLists (view_of pass.old) (view_of pass.new) }
+        ensures one_log { IsOfLog L.legal (view_of pass.old) }
+    {
+        self.look_placed::<Brand>(pass, known);
     }
 
     /// Ends the log, and answers the clock, which is the number of entries. The pass owns all actors: their
