@@ -66,6 +66,11 @@ with_record node nodes bodies body records r e f c (inr after) =
     let same : bodies ++ body ∷ [] ≡ bodies_of (records ++ r ∷ []) = ap (λ (l : List (List ℕ)). l ++ body ∷ []) e ∙ ap (λ (b : List ℕ). bodies_of records ++ b ∷ []) f ∙ one_body_more records r in
     inr (subst (λ (l : List (List ℕ)). Stands node nodes c l) same after)
 
+-- of a node that is the same, the same list
+pub still_stands : (node node' nodes nodes' : ℕ) → node ≡ node' → nodes ≡ nodes' → (bodies bodies' : List (List ℕ)) → bodies ≡ bodies' → (c : List ℕ) → Stands node nodes c bodies → Stands node' nodes' c bodies'
+still_stands node node' nodes nodes' same same' bodies bodies' is c stands =
+    subst (λ (l : List (List ℕ)). Stands node' nodes' c l) is (subst (λ (n : ℕ). Stands node' n c bodies) same' (subst (λ (n : ℕ). Stands n nodes c bodies) same stands))
+
 -- the same of a log that goes on another
 pub moved : (node node2 nodes nodes2 : ℕ) (records records2 : List Record) (added : Option Record) → node ≡ node2 → nodes ≡ nodes2 → records ≡ records2 → (c : List ℕ) → IsWithOrWithout node nodes records added c → IsWithOrWithout node2 nodes2 records2 added c
 moved node node2 nodes nodes2 records records2 added e f g c told =

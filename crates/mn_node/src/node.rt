@@ -1,6 +1,7 @@
-ghost use Rattle.std.specs.Prelude.{◌≡◌, ◌≢◌, ◌≤◌, ◌<◌, ℕ, None, true, false, IfOk, IfErr, OnOk, OnErr};
+ghost use Rattle.std.specs.Prelude.{◌≡◌, ◌≢◌, ◌≤◌, ◌<◌, ℕ, List, None, true, false, IfOk, IfErr, OnOk, OnErr};
 ghost use Rattle.std.specs.List.{AllByRecursion};
 ghost use Rattle.mn_io.specs.Faults.{Rose};
+ghost use Rattle.mn_mini.specs.declared.record.Record.{Record};
 ghost use Rattle.mn_mini.specs.declared.reply.NodeReply.{NodeReply};
 ghost use Rattle.mn_redo.specs.Grammar.{Stands};
 ghost use Rattle.mn_redo.specs.Redo.{StandsFor};
@@ -8,7 +9,7 @@ ghost use Rattle.mn_redo.specs.declared.redo.Phase.TheVariants.{Closing};
 ghost use Rattle.mn_mini.specs.RecordGrammar.{IsRecord};
 ghost use Rattle.mn_mini.specs.Sound.{Fits, IsDecide, IsSoundRequest};
 ghost use Rattle.mn_io.specs.DiskModel.{LeavesOnly};
-ghost use Rattle.mn_node.specs.Node.{IsWithOrWithout, StandsWithOrWithout};
+ghost use Rattle.mn_node.specs.Node.{IsWithOrWithout, StandsWithOrWithout, bodies_of};
 ghost use Rattle.mn_node.specs.Restart.{FailsRestart, Restarts};
 ghost use Rattle.mn_node.specs.State.{Answers, GoesOn, IsFirstBad, IsStarted, MayStart, StandsForRecords, response_to};
 ghost use Rattle.mn_node.specs.declared.start.StartCause.TheVariants as causes;
@@ -20,7 +21,7 @@ use crate::step::{Served, serve};
 use mn_base::StopAt;
 use mn_io::Disk;
 use mn_mini::{NodeReply, Record, Request, answers_fit, held_parts_apart};
-use mn_redo::Redo;
+use mn_redo::{Redo, one_list};
 use std::alloc::Global;
 use std::marker::Model;
 
@@ -166,9 +167,14 @@ impl<D: Disk> Node<D> {
 
         // A crash at any moment of the call leaves the records, with the one that may have been there or without.
         ensures moments { (D.state self.old.disk).honest → LeavesOnly (D.state self.old.disk) (D.state self.new.disk) (IsWithOrWithout self.old.node self.old.nodes self.old.records self.old.pending) }
+
+        // What each image stood for before the call it stands for after it, and the records that come back are those.
+        ensures keeps { (records : List Record) → StandsForRecords (D.state self.old.disk) self.old.node self.old.nodes records → StandsForRecords (D.state self.new.disk) self.old.node self.old.nodes records }
+        ensures found { (D.state self.old.disk).honest → (records : List Record) → StandsForRecords (D.state self.old.disk) self.old.node self.old.nodes records → OnOk result (bodies_of self.new.records ≡ bodies_of records) }
         ensures cause { IfErr result (FailsRestart D.state D.faults self.old.disk self.new.disk self.old.records self.old.pending) }
         ensures goes_on { GoesOn D.state D.faults self.old self.new }
     {
+        one_list();
         match back(alloc, &mut self.redo, &mut self.memory, &self.pending) {
             Ok(there) => {
                 self.is_down = false;

@@ -1,4 +1,4 @@
-ghost use Rattle.std.specs.Prelude.{◌≡◌, ◌≢◌, ◌<◌, ◌++◌, ◌∷◌, [], Option, length, reverse, get_or, Some, None, true, false, IfOk, IfErr, OnOk, OnErr, MatchOption};
+ghost use Rattle.std.specs.Prelude.{◌≡◌, ◌≢◌, ◌<◌, ◌++◌, ◌∷◌, [], ℕ, List, Option, length, reverse, get_or, Some, None, true, false, IfOk, IfErr, OnOk, OnErr, MatchOption};
 ghost use Rattle.std.specs.List.{AllByRecursion};
 ghost use Rattle.mn_io.specs.DiskModel.{LeavesOnly};
 ghost use Rattle.mn_redo.specs.Grammar.{Stands};
@@ -324,6 +324,7 @@ pub fn back<D: Disk>(
     ensures before { OnErr result (memory.new.records.items ≡ memory.old.records.items) }
     ensures stands { (D.state redo.new.disk).honest → StandsWithOrWithout (D.state redo.new.disk) redo.old.node redo.old.nodes memory.old.records.items pending.now }
     ensures moments { (D.state redo.old.disk).honest → LeavesOnly (D.state redo.old.disk) (D.state redo.new.disk) (IsWithOrWithout redo.old.node redo.old.nodes memory.old.records.items pending.now) }
+    ensures keeps { (D.state redo.old.disk).honest → (bodies : List (List ℕ)) → StandsFor (D.state redo.old.disk) redo.old.node redo.old.nodes bodies → StandsFor (D.state redo.new.disk) redo.old.node redo.old.nodes bodies }
     ensures continues { Continues D.state D.faults redo.old redo.new }
     ensures same { SameNode memory.old memory.new }
     ensures cause { IfErr result (FailsRestart D.state D.faults redo.old.disk redo.new.disk memory.old.records.items pending.now) }

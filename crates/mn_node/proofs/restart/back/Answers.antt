@@ -1,9 +1,9 @@
-use Rattle.std.proofs.Common.{List, inr, refl, Err, ap, sym, subst}
+use Rattle.std.proofs.Common.{◌≡◌, ℕ, List, inr, refl, Err, ap, sym, subst}
 use Rattle.mn_mini.specs.declared.record.Record.{Record}
 use Rattle.mn_node.specs.declared.restart.RestartError.{RestartError}
 use Rattle.mn_node.specs.Node.{added_to, bodies_of}
 use Rattle.mn_node.specs.Restart.{Compares, FailsRestart, IsListed}
-use Rattle.mn_node.proofs.Moments.{listed_stands, moved, woken}
+use Rattle.mn_node.proofs.Moments.{listed_stands, moved, still_stands, woken}
 use Rattle.mn_node.proofs.Restarts.{no_damage, not_opened, neither, not_listed}
 use Rattle.mn_node.proofs.restart.back.Goals as goal
 
@@ -56,3 +56,21 @@ returns-clause-stands g c =
     let there = c.in-Ok.there in
     let listed = subst (λ (l : List Record). IsListed mid.bodies l pending there) c.deref.ensures.value c.in-Ok.ensures.listed in
     λ honest l image. moved mid.node old.node mid.nodes old.nodes records records pending c.reopen.ensures.node c.reopen.ensures.nodes refl l (listed_stands mid.node mid.nodes mid.bodies records pending there listed l (c.wake_found.ensures.stands honest l image))
+
+pub returns-in_err-wake_found-clause-keeps : goal.returns-in_err-wake_found-clause-keeps
+returns-in_err-wake_found-clause-keeps g c =
+    let old = c.args.redo.now in
+    let mid = c.reopen.new.self in
+    let content = (g.D.Disk.state old.disk).content in
+    λ honest bodies stands l image.
+    let same = c.one_list.ensures old.node old.nodes content mid.bodies bodies (c.in_default.ensures.read honest) (stands content (g.D.Disk.is_disk old.disk honest).read) in
+    still_stands mid.node old.node mid.nodes old.nodes c.reopen.ensures.node c.reopen.ensures.nodes mid.bodies bodies same l (c.wake_found.ensures.stands (c.wake_found.ensures.continues.honest (c.reopen.ensures.honest honest)) l image)
+
+pub returns-clause-keeps : goal.returns-clause-keeps
+returns-clause-keeps g c =
+    let old = c.args.redo.now in
+    let mid = c.reopen.new.self in
+    let content = (g.D.Disk.state old.disk).content in
+    λ honest bodies stands l image.
+    let same = c.one_list.ensures old.node old.nodes content mid.bodies bodies (c.in_default.ensures.read honest) (stands content (g.D.Disk.is_disk old.disk honest).read) in
+    still_stands mid.node old.node mid.nodes old.nodes c.reopen.ensures.node c.reopen.ensures.nodes mid.bodies bodies same l (c.wake_found.ensures.stands (c.wake_found.ensures.continues.honest (c.reopen.ensures.honest honest)) l image)
