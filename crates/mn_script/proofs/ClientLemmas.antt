@@ -1,37 +1,14 @@
 -- Clients by name and by number.
-use Rattle.std.proofs.Common.{◌≡◌, ◌<◌, ◌≤◌, ℕ, zero, suc, ◌+◌, ◌-◌, true, false, ◌&&◌, List, [], ◌∷◌, ◌++◌, Some, None, refl, ap, sym, ◌∙◌, bytes_eq, length, get_or, set, add-one, subst, length-append, arith}
-use Rattle.std.specs.Prelude.{option_map, nat_lt, nat_le}
+use Rattle.std.proofs.Common.{◌≡◌, ◌<◌, ◌≤◌, ℕ, zero, suc, ◌+◌, ◌-◌, true, ◌&&◌, List, [], ◌∷◌, ◌++◌, refl, ap, sym, length, get_or, set, subst, length-append, arith}
+use Rattle.std.specs.Prelude.{nat_lt, nat_le}
 use Rattle.mn_script.specs.declared.elements.ScriptClient.{ScriptClient}
 use Rattle.mn_base.specs.declared.op.Op.{Op}
 use Rattle.mn_script.specs.declared.draft.Phase.{Phase}
 use Rattle.mn_script.specs.declared.draft.Phase.TheVariants.{Start, Head, Begun, Section, Points, Schedule}
-use Rattle.mn_script.specs.Lines.{client_named, ops_of, AreFew}
+use Rattle.mn_script.specs.Lines.{ops_of, AreFew}
 use Rattle.mn_script.specs.Reading.{Draft, with_op, HasClient, fits_op}
 use Rattle.mn_script.specs.Script.{steps_in, limit_in}
 use Rattle.mn_script.proofs.Parts.{both, less, at_most}
-
--- the clients so far have other names
-abbrev pub Passes : List ScriptClient → List ℕ → ℕ → Type 0
-Passes cs name zero = Unit {0}
-Passes [] name (suc at) = ⊥
-Passes (c ∷ cs) name (suc at) = (bytes_eq c.name name ≡ false) × Passes cs name at
-
-pub passes_more : (cs : List ScriptClient) (name : List ℕ) (at : ℕ) (c : ScriptClient) → Passes cs name at → at < length cs → c ≡ get_or cs at c → bytes_eq c.name name ≡ false → Passes cs name (suc at)
-passes_more [] name at c passed within is other = absurd (omega arith)
-passes_more (x ∷ cs) name zero c passed within is other = (ap (λ (y : ScriptClient). bytes_eq y.name name) (sym is) ∙ other, tt)
-passes_more (x ∷ cs) name (suc at) c passed within is other = (passed.0, passes_more cs name at c passed.1 (omega arith) is other)
-
-pub client_here : (cs : List ScriptClient) (name : List ℕ) (at : ℕ) (c : ScriptClient) → Passes cs name at → at < length cs → c ≡ get_or cs at c → bytes_eq c.name name ≡ true → client_named cs name ≡ Some at
-client_here [] name at c passed within is same = absurd (omega arith)
-client_here (x ∷ cs) name zero c passed within is same = let t : bytes_eq x.name name ≡ true = ap (λ (y : ScriptClient). bytes_eq y.name name) (sym is) ∙ same in rw t refl
-client_here (x ∷ cs) name (suc at) c passed within is same =
-    let t = passed.0 in
-    let rest = client_here cs name at c passed.1 (omega arith) is same in
-    rw (t, rest) (ap (λ (n : ℕ). Some n) (add-one at))
-
-pub client_nowhere : (cs : List ScriptClient) (name : List ℕ) → Passes cs name (length cs) → client_named cs name ≡ None
-client_nowhere [] name passed = refl
-client_nowhere (x ∷ cs) name passed = let t = passed.0 in rw t (ap (option_map (λ n. n + 1)) (client_nowhere cs name passed.1))
 
 pub ops_of-at : (cs : List ScriptClient) (n : ℕ) (c : ScriptClient) → n < length cs → c ≡ get_or cs n c → ops_of cs n ≡ length c.ops
 ops_of-at [] n c within is = absurd (omega arith)

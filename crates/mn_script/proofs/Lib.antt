@@ -8,5 +8,6 @@ pub mod OpLines
 pub mod TargetLines
 pub mod Written
 pub mod ClientLemmas
+pub mod Rosters
 pub mod StringLemmas
 pub mod StepLemmas

@@ -5,3 +5,4 @@ pub mod Script
 pub mod Reading
 pub mod Grammar
 pub mod Laws
+pub mod Roster

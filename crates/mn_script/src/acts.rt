@@ -5,14 +5,15 @@ ghost use Rattle.mn_script.specs.Words.{Gives, GivesPart};
 ghost use Rattle.mn_script.specs.Lines.{number_at, client_at, by_client, by_node, by_recoverer, act_at, AreFew};
 
 use crate::clients::client;
-use crate::elements::{Act, ScriptClient};
+use crate::elements::Act;
 use crate::error::LineError;
+use crate::roster::Roster;
 use crate::words::{end, next, number, word, wrong};
 use mn_base::{ClientNo, NodeNo};
 
 /// The client that ends a line.
 #[tactic(auto, unfolding(crate::specs::Lines::by_client))]
-fn client_of(clients: &[ScriptClient], line: &[u8], at: usize) -> Result<ClientNo, LineError>
+fn client_of(clients: &Roster, line: &[u8], at: usize) -> Result<ClientNo, LineError>
     requires at { at ≤ length line.now + 1 }
     requires clients { AreFew clients.now }
     ensures { Gives result (by_client clients.now line.now at) }
@@ -39,7 +40,7 @@ fn node_of(last: u8, line: &[u8], at: usize) -> Result<NodeNo, LineError>
 #[tactic(auto, unfolding(crate::specs::Lines::by_recoverer))]
 fn recoverer_of(
     recoverers: u8,
-    clients: &[ScriptClient],
+    clients: &Roster,
     line: &[u8],
     at: usize,
 ) -> Result<(u8, ClientNo), LineError>
@@ -55,12 +56,7 @@ fn recoverer_of(
 
 /// The act of a line, where the nodes go up to the last and there are so many recovery coordinators.
 #[tactic(auto, unfolding(crate::specs::Lines::act_at))]
-pub fn act_of(
-    last: u8,
-    recoverers: u8,
-    clients: &[ScriptClient],
-    line: &[u8],
-) -> Result<Act, LineError>
+pub fn act_of(last: u8, recoverers: u8, clients: &Roster, line: &[u8]) -> Result<Act, LineError>
     requires { AreFew clients.now }
     ensures { Gives result (act_at last recoverers clients.now line.now) }
 {

@@ -1,33 +1,21 @@
-ghost use Rattle.std.specs.Prelude.{◌≡◌, ◌≤◌, ◌<◌, ◌+◌, length, OnOk, IfOk, IfSome};
+ghost use Rattle.std.specs.Prelude.{◌≡◌, ◌≤◌, ◌<◌, ◌+◌, length, OnOk, IfOk};
 ghost use Rattle.mn_script.specs.Words.{Gives, GivesPart};
-ghost use Rattle.mn_script.specs.Lines.{client_named, client_at, ops_of, target_at, mark_at, mark_word};
+ghost use Rattle.mn_script.specs.Lines.{client_at, ops_of, target_at, mark_at, mark_word};
 ghost use Rattle.mn_script.specs.Words.{word_at, told_at};
 
 use crate::elements::{Mark, ScriptClient};
 use crate::error::LineError;
+use crate::roster::Roster;
 use crate::words::{end, next, number, word, wrong};
 
-/// The number of the client of this name.
-pub fn place_of(clients: &[ScriptClient], name: &[u8]) -> Option<usize>
-    ensures number { result ≡ client_named clients.now name.now }
-    ensures within { IfSome result (λ n. n < length clients.now) }
-{
-    for (at, client) in clients.iter().enumerate() {
-        if client.name.as_slice() == name {
-            return Some(at);
-        }
-    }
-    None
-}
-
 /// The number of a client that is there.
-pub fn client(clients: &[ScriptClient], line: &[u8], at: &mut usize) -> Result<usize, LineError>
+pub fn client(clients: &Roster, line: &[u8], at: &mut usize) -> Result<usize, LineError>
     requires { at.old ≤ length line.now + 1 }
     ensures said { GivesPart result at.new (client_at clients.now line.now at.old) }
     ensures within { OnOk result (at.new ≤ length line.now + 1) }
     ensures number { IfOk result (λ n. n < length clients.now) }
 {
-    let Some(place) = place_of(clients, word(line, *at)) else {
+    let Some(place) = clients.place_of(word(line, *at)) else {
         return Err(wrong(line, *at));
     };
     *at = next(line, *at);

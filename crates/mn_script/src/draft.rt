@@ -1,15 +1,17 @@
-ghost use Rattle.std.specs.Prelude.{◌≡◌, ◌≤◌, ◌<◌, ◌+◌, ◌-◌, ◌^◌, length, Option, Some, option_map, IfSome, OnOk, OnErr, IfOk, IsOkUnless, not, is_some, bytes_eq, codes};
+ghost use Rattle.std.specs.Prelude.{◌≡◌, ◌≤◌, ◌<◌, ◌+◌, ◌-◌, ◌^◌, length, Option, Some, None, option_map, IfSome, OnOk, OnErr, IfOk, IsOkUnless, not, is_some, bytes_eq, codes};
 ghost use Rattle.mn_script.specs.Words.{word_at, told_at, Gives, GivesPart};
+ghost use Rattle.mn_script.specs.Lines.{client_named};
 ghost use Rattle.mn_script.specs.Script.{steps_in, limit_in};
-ghost use Rattle.mn_script.specs.Reading.{empty_draft, with_op, fits_op, add_op, op_line, add_client, new_name, client_line, add_point, add_act, act_line, kill_line, stop_line, nodes_line, recoverers_line, schedule_line, is_head, is_section, is_points, middle_line, line_in, is_passed, line_at, ended, IsDraft, GivesDraft, IsRead};
+ghost use Rattle.mn_script.specs.Reading.{empty_draft, fits_op, add_op, op_line, add_client, new_name, client_line, add_point, add_act, act_line, kill_line, stop_line, nodes_line, recoverers_line, schedule_line, is_head, is_section, is_points, middle_line, line_in, is_passed, line_at, ended, IsDraft, GivesDraft, IsRead};
 
 use crate::acts::act_of;
-use crate::clients::{count_of, mark, place_of};
-use crate::elements::{Act, Mark, Point, ScriptClient};
+use crate::clients::{count_of, mark};
+use crate::elements::{Act, Mark, Point};
 use crate::error::{LineError, ScriptError};
-use crate::lists::{Acts, Clients, Ops, Points};
+use crate::lists::{Acts, Clients, Points};
 use crate::ops::op_of;
 use crate::points::{kill_of, stop_of};
+use crate::roster::Roster;
 use crate::script::Script;
 use crate::words::{end, name, next, number, word, wrong};
 use mn_base::{Name, Op};
@@ -34,7 +36,7 @@ pub struct Draft {
     phase: Phase,
     nodes: u8,
     recoverers: u8,
-    clients: Vec<ScriptClient>,
+    clients: Roster,
     points: Vec<Point>,
     schedule: Vec<Act>,
     ops: u32,
@@ -49,9 +51,9 @@ impl Model for Draft {
 
     ghost Value = { reading.Draft };
 
-    ghost view = { λ d. record { phase = d.phase; nodes = d.nodes; recoverers = d.recoverers; clients = d.clients.items; points = d.points.items; schedule = d.schedule.items; ops = d.ops; steps = d.steps; limits = d.limits } };
+    ghost view = { λ d. record { phase = d.phase; nodes = d.nodes; recoverers = d.recoverers; clients = d.clients; points = d.points.items; schedule = d.schedule.items; ops = d.ops; steps = d.steps; limits = d.limits } };
 
-    ghost invariant = { λ d. (AreFew d.clients.items) × (reading.HasClient d.phase d.clients.items) × (d.ops ≤ 8000) × (d.steps ≤ 20000) × (d.limits ≤ 100000) };
+    ghost invariant = { λ d. (AreFew d.clients) × (reading.HasClient d.phase d.clients) × (d.ops ≤ 8000) × (d.steps ≤ 20000) × (d.limits ≤ 100000) };
 }
 
 /// How many steps an operation has.
@@ -75,18 +77,6 @@ fn limit_of(op: &Op) -> u32
     }
 }
 
-/// Adds an operation to the last client.
-fn push_op(clients: &mut Vec<ScriptClient>, op: Op) -> Result<(), LineError>
-    requires { 1 ≤ length clients.old.items }
-    ensures added { OnOk result (clients.new.items ≡ with_op clients.old.items op) }
-    ensures kept { OnErr result (clients.new.items ≡ clients.old.items) }
-    ensures memory { IsOkUnless result LineError.NoMemory }
-{
-    let last = clients.len() - 1;
-    clients[last].ops.push(op)?;
-    Ok(())
-}
-
 impl Draft {
     pub fn new(alloc: Global) -> Self
         ensures { result ≡ empty_draft }
@@ -95,7 +85,7 @@ impl Draft {
             phase: Phase::Start,
             nodes: 0,
             recoverers: 0,
-            clients: Vec::new(alloc),
+            clients: Roster::new(alloc),
             points: Vec::new(alloc),
             schedule: Vec::new(alloc),
             ops: 0,
@@ -108,8 +98,8 @@ impl Draft {
     fn has_room(&self, op: &Op) -> bool
         ensures { result ≡ fits_op self.now op.now }
     {
-        let last = self.clients.len().saturating_sub(1);
-        count_of(&self.clients, last) < 2000
+        let last = self.clients.as_slice().len().saturating_sub(1);
+        count_of(self.clients.as_slice(), last) < 2000
             && self.ops < 8000
             && self.steps as usize + steps_of(op) <= 20_000
             && u64::from(self.limits) + u64::from(limit_of(op)) <= 100_000
@@ -125,7 +115,7 @@ impl Draft {
         }
         let steps = steps_of(&op) as u32;
         let limit = limit_of(&op);
-        push_op(&mut self.clients, op)?;
+        self.clients.push_op(op)?;
         self.ops += 1;
         self.steps += steps;
         self.limits += limit;
@@ -146,24 +136,22 @@ impl Draft {
         requires { at.old ≤ length line.now + 1 }
         ensures said { GivesPart result at.new (told_at line.now at.old (new_name self.now.clients (word_at line.now at.old))) }
         ensures within { OnOk result (at.new ≤ length line.now + 1) }
+        ensures new { IfOk result (λ name. client_named self.now.clients name ≡ None) }
     {
-        if place_of(&self.clients, word(line, *at)).is_some() {
+        if self.clients.place_of(word(line, *at)).is_some() {
             return Err(wrong(line, *at));
         }
         name(alloc, line, at)
     }
 
     fn add_client(&mut self, alloc: Global, name: Name, mark: Mark) -> Result<(), LineError>
+        requires { client_named self.old.clients name ≡ None }
         ensures { GivesDraft result self.new (add_client self.old name mark) }
     {
-        if self.clients.len() >= 16 {
+        if self.clients.as_slice().len() >= 16 {
             return Err(LineError::Wrong { column: 1 });
         }
-        self.clients.push(ScriptClient {
-            name,
-            mark,
-            ops: Ops::from_vec(Vec::new(alloc)),
-        })?;
+        self.clients.push(alloc, name, mark)?;
         self.phase = Phase::Section;
         Ok(())
     }
@@ -316,7 +304,7 @@ impl Draft {
         Ok(Script::of(
             self.nodes,
             self.recoverers,
-            Clients::from_vec(self.clients),
+            Clients::from_vec(self.clients.into_vec()),
             Points::from_vec(self.points),
             Acts::from_vec(self.schedule),
         ))

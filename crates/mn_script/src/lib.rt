@@ -11,6 +11,7 @@ mod lists;
 mod ops;
 mod points;
 mod read;
+mod roster;
 mod script;
 mod steps;
 mod strings;

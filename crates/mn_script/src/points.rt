@@ -3,15 +3,16 @@ ghost use Rattle.mn_script.specs.Words.{word_at, told_at, Gives, GivesPart};
 ghost use Rattle.mn_script.specs.Lines.{number_at, stop_word, target_at, kill_point, stop_point, AreFew};
 
 use crate::clients::{client, count_of};
-use crate::elements::{Point, ScriptClient};
+use crate::elements::Point;
 use crate::error::LineError;
+use crate::roster::Roster;
 use crate::steps::literal;
 use crate::words::{end, next, number, word, wrong};
 use mn_base::{ClientNo, NodeNo, StopAt};
 
 /// An operation of a client: the client's number and the operation's. There are at most 16 clients, each with at most 2,000.
 #[tactic(auto, unfolding(crate::specs::Lines::target_at))]
-fn target(clients: &[ScriptClient], line: &[u8], at: &mut usize) -> Result<(usize, u32), LineError>
+fn target(clients: &Roster, line: &[u8], at: &mut usize) -> Result<(usize, u32), LineError>
     requires at { at.old ≤ length line.now + 1 }
     requires clients { AreFew clients.now }
     ensures said { GivesPart result at.new (target_at clients.now line.now at.old) }
@@ -19,7 +20,7 @@ fn target(clients: &[ScriptClient], line: &[u8], at: &mut usize) -> Result<(usiz
     ensures number { IfOk result (λ t. t.0 < 16) }
 {
     let client = client(clients, line, at)?;
-    let number = number(line, at, 1, count_of(clients, client) as u32)?;
+    let number = number(line, at, 1, count_of(clients.as_slice(), client) as u32)?;
     Ok((client, number))
 }
 
@@ -45,7 +46,7 @@ fn stop_at(line: &[u8], at: &mut usize) -> Result<StopAt, LineError>
 
 /// The death of a client.
 #[tactic(auto, unfolding(crate::specs::Lines::kill_point))]
-pub fn kill_of(clients: &[ScriptClient], line: &[u8], at: usize) -> Result<Point, LineError>
+pub fn kill_of(clients: &Roster, line: &[u8], at: usize) -> Result<Point, LineError>
     requires at { at ≤ length line.now + 1 }
     requires clients { AreFew clients.now }
     ensures { Gives result (kill_point clients.now line.now at) }
@@ -64,12 +65,7 @@ pub fn kill_of(clients: &[ScriptClient], line: &[u8], at: usize) -> Result<Point
 
 /// The stop of one of the nodes up to the last.
 #[tactic(auto, unfolding(crate::specs::Lines::stop_point))]
-pub fn stop_of(
-    last: u8,
-    clients: &[ScriptClient],
-    line: &[u8],
-    at: usize,
-) -> Result<Point, LineError>
+pub fn stop_of(last: u8, clients: &Roster, line: &[u8], at: usize) -> Result<Point, LineError>
     requires at { at ≤ length line.now + 1 }
     requires clients { AreFew clients.now }
     ensures { Gives result (stop_point last clients.now line.now at) }

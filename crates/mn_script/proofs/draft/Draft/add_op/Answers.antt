@@ -8,7 +8,7 @@ use Rattle.mn_script.proofs.draft.Draft.add_op.Goals as goal
 pub invariant_of-self-2 : goal.invariant_of-self-2
 invariant_of-self-2 c =
     let old = c.self.invariant in
-    let clients = c.self.inside.clients.items in
+    let clients = c.self.inside.clients in
     let op = c.args.op in
     let allowed : fits_op c.args.self.now op ≡ true = sym c.has_room.ensures ∙ c.if-not-has_room.false in
     let inside : Draft = record {

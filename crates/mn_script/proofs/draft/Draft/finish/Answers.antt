@@ -11,4 +11,4 @@ of-requires c =
     let start : c.self.inside.phase ≡ Start = ap (λ (d : Draft). d.phase) c.self.view_is ∙ e in
     let said : false ≡ true = sym c.if-eq.false ∙ (rw start at c.eq.ensures) in
     absurd cc) in
-    rw (c.from_vec.ensures, c.from_vec-2.ensures, c.from_vec-3.ensures) (subst (λ (d : Draft). IsScript (script_in d)) (sym c.self.view_is) script)
+    rw (c.from_vec.ensures, c.into_vec.ensures, c.from_vec-2.ensures, c.from_vec-3.ensures) (subst (λ (d : Draft). IsScript (script_in d)) (sym c.self.view_is) script)

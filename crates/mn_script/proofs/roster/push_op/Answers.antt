@@ -1,7 +1,7 @@
 use Rattle.std.proofs.Common.{◌≡◌, ◌+◌, ◌-◌, ap, ◌∙◌, List, length, set, arith}
 use Rattle.mn_base.specs.declared.op.Op.{Op}
 use Rattle.mn_script.proofs.ClientLemmas.{with_op-set}
-use Rattle.mn_script.proofs.draft.push_op.Goals as goal
+use Rattle.mn_script.proofs.roster.push_op.Goals as goal
 
 pub returns-clause-added : goal.returns-clause-added
 returns-clause-added c =
