@@ -1,0 +1,6 @@
+pub mod Calls
+pub mod Fills
+pub mod Owing
+pub mod OneLog
+pub mod Made
+pub mod Numbers

@@ -1,0 +1,421 @@
+-- What each kind of entry leaves of what is known of a node.
+use Rattle.std.proofs.Common.{◌≡◌, ◌≢◌, ℕ, zero, suc, ◌+◌, ◌<◌, ◌≤◌, ◌⊎◌, Bool, true, false, Option, Some, None, List, [], ◌∷◌, ◌++◌, length, reverse, slice_index_or, refl, sym, ap, ◌∙◌, subst, inl, inr, arith, if◌then◌else◌}
+use Rattle.std.proofs.lemmas.List.{length-append, reverse-append}
+use Rattle.mn_base.specs.declared.ids.NodeNo.{NodeNo}
+use Rattle.mn_base.specs.declared.ids.ClientNo.{ClientNo}
+use Rattle.mn_base.specs.declared.gate.StopAt.{StopAt}
+use Rattle.mn_base.specs.declared.gate.StopAt.TheVariants.{Before, Half, After}
+use Rattle.mn_io.specs.DiskModel.{DiskState}
+use Rattle.mn_io.specs.Faults.{Rose}
+use Rattle.mn_mini.specs.declared.part.PartItem.{PartItem}
+use Rattle.mn_mini.specs.declared.record.Record.{Record}
+use Rattle.mn_mini.specs.declared.request.Request.{Request}
+use Rattle.mn_mini.specs.declared.request.Request.TheVariants as Ask
+use Rattle.mn_mini.specs.declared.reply.NodeReply.{NodeReply}
+use Rattle.mn_mini.specs.declared.reply.NodeReply.TheVariants as Say
+use Rattle.mn_mini.specs.Mini.{has_write}
+use Rattle.mn_mini.specs.Flat.{Mismatched, part_mismatch_from}
+use Rattle.mn_mini.specs.Node.{Response, Clash, answer, after_compares, after_locks, clash_of, has_forced, has_voted, held_parts, space_of, with_added}
+use Rattle.mn_node.specs.Memory.{base_of}
+use Rattle.mn_node.specs.Node.{StopsAt, added_to, bodies_of}
+use Rattle.mn_mini.specs.RecordGrammar.{record_bytes}
+use Rattle.mn_redo.specs.Redo.{StandsFor}
+use Rattle.mn_node.specs.State.{Answers, GoesOn, NodeState, StandsForRecords, response_to}
+use Rattle.mn_node.specs.Restart.{FailsRestart, Restarts}
+use Rattle.mn_node.specs.declared.restart.RestartError.{RestartError}
+use Rattle.mn_node.specs.declared.restart.RestartError.TheVariants.{Fault, Damaged, NoMemory}
+use Rattle.mn_world.specs.declared.entry.Entry.{Entry}
+use Rattle.mn_world.specs.declared.entry.What.{What}
+use Rattle.mn_world.specs.declared.entry.What.TheVariants.{Begin, Issue, Called, Stopped, Restarted, Abandoned, Answered}
+use Rattle.mn_world.specs.Nodes.{NodeAllows, added_by, is_down, node_records, stopped_request}
+use Rattle.mn_world.specs.Protocol.{Start, base_at, start_nodes, start_records}
+use Rattle.mn_cell.specs.Calls.{AddsNone, IsLarge, IsUndamaged, KeepsStop, entry_at, what_said}
+use Rattle.mn_cell.specs.Station.{HasMade, IsFirst, IsKeptAs, KeepsAs, KeepsAsAsked, RoseBy, StandsAs, asked_or, bases_from, last_asked, start_of, unasked, unasked_in}
+
+-- The base space of a node
+
+base_from : (nodes k : ℕ) (records : List (List Record)) (n : ℕ) → n < length records → slice_index_or (bases_from nodes k records) n [] ≡ base_of nodes (k + n)
+base_from nodes k [] n lt = absurd (omega (arith, lt))
+base_from nodes k (r ∷ records) zero lt = let same : k + 0 ≡ k = omega arith in rw same refl
+base_from nodes k (r ∷ records) (suc n) lt = let same : k + suc n ≡ k + 1 + n = omega arith in rw same (base_from nodes (k + 1) records n (omega (arith, lt)))
+
+pub base_is : (records : List (List Record)) (n : NodeNo) → n.0 < length records → base_at (start_of records) n ≡ base_of (length records) n.0
+base_is records n lt = let same : 0 + n.0 ≡ n.0 = omega arith in base_from (length records) 0 records n.0 lt ∙ ap (λ (k : ℕ). base_of (length records) k) same
+
+-- Records with one more
+
+pub reverse_added : (records : List Record) (added : Option Record) → reverse (added_to records added) ≡ with_added added (reverse records)
+reverse_added records None = refl
+reverse_added records (Some r) = reverse-append records (r ∷ [])
+
+-- A large reply comes with no new record
+
+large_compares : (space : List ℕ) (part : List PartItem) (added : Option Record) (m : Option Mismatched) → IsLarge (after_compares space part added m).reply → (after_compares space part added m).added ≡ None
+large_compares space part added (Some at) large = refl
+large_compares space part added None large = absurd large
+
+large_locks : (space : List ℕ) (part : List PartItem) (added : Option Record) (clash : Option Clash) → IsLarge (after_locks space part added clash).reply → (after_locks space part added clash).added ≡ None
+large_locks space part added (Some clash) large = absurd large
+large_locks space part added None large = large_compares space part added (part_mismatch_from space 0 part) large
+
+large_if : (b : Bool) (r s : Response) → (IsLarge r.reply → r.added ≡ None) → (IsLarge s.reply → s.added ≡ None) → IsLarge (if b then r else s).reply → (if b then r else s).added ≡ None
+large_if true r s one two large = one large
+large_if false r s one two large = two large
+
+large_none : (base : List ℕ) (records : List Record) (request : Request) → IsLarge (answer base records request).reply → (answer base records request).added ≡ None
+large_none base records (Ask.Prepare tid participants part) large = large_if (has_forced records tid) _ _ (λ l. absurd l) (large_locks (space_of base records) part _ (clash_of (held_parts records) tid part)) large
+large_none base records (Ask.Exec tid part) large = large_locks (space_of base records) part _ (clash_of (held_parts records) tid part) large
+large_none base records (Ask.Decide tid verdict) large = absurd large
+large_none base records (Ask.Force tid) large = large_if (has_voted records tid) _ _ (λ l. absurd l) (λ l. absurd l) large
+large_none base records Ask.List large = refl
+large_none base records (Ask.Peek start size) large = refl
+
+-- Counts of faults
+
+more_faults : (by before old new : ℕ) → RoseBy by before old → old ≤ new → RoseBy by before new
+more_faults by before old new rose le = omega (arith, rose, le)
+
+rose_later : (before old new : ℕ) → Rose before old → old ≤ new → Rose before new
+rose_later before old new rose le = omega (arith, rose, le)
+
+rose_since : (by before old new : ℕ) → RoseBy by before old → Rose old new → Rose before new
+rose_since by before old new rose more = omega (arith, rose, more)
+
+one_fault : (by before old new : ℕ) → RoseBy by before old → Rose old new → RoseBy (by + 1) before new
+one_fault by before old new rose more = omega (arith, rose, more)
+
+-- What a stop asked for
+
+kept_on : (A B : Type 0) → (A → B) → (asked : Option StopAt) (kept : Bool) → IsKeptAs A asked kept → IsKeptAs B asked kept
+kept_on A B f None kept is = tt
+kept_on A B f (Some Before) kept is = is
+kept_on A B f (Some Half) kept is = is
+kept_on A B f (Some After) kept (inl a) = inl (f a)
+kept_on A B f (Some After) kept (inr is) = inr is
+
+keeps_on : (A B : Type 0) → (A → B) → (what : What) (asked : Option StopAt) → KeepsAs A what asked → KeepsAs B what asked
+keeps_on A B f (Restarted kept) asked is = kept_on A B f asked kept is
+keeps_on A B f (Called request reply) asked is = tt
+keeps_on A B f (Stopped request stop) asked is = tt
+keeps_on A B f (Begin n op) asked is = tt
+keeps_on A B f (Issue tid mini) asked is = tt
+keeps_on A B f (Abandoned tid) asked is = tt
+keeps_on A B f (Answered n answer) asked is = tt
+
+all_keep_on : (A B : Type 0) → (A → B) → (es : List Entry) → KeepsAsAsked A es → KeepsAsAsked B es
+all_keep_on A B f [] are = tt
+all_keep_on A B f (e ∷ es) are = (keeps_on A B f e.what (last_asked es) are.0, all_keep_on A B f es are.1)
+
+body_more : (records : List Record) (r : Record) → bodies_of records ++ record_bytes r ∷ [] ≡ bodies_of (records ++ r ∷ [])
+body_more [] r = refl
+body_more (x ∷ records) r = ap (λ (l : List (List ℕ)). record_bytes x ∷ l) (body_more records r)
+
+body_count : (records : List Record) → length (bodies_of records) ≡ length records
+body_count [] = refl
+body_count (x ∷ records) = ap suc (body_count records)
+
+-- records and those with one more have other bodies
+not_longer : (records : List Record) (r : Record) → bodies_of (records ++ r ∷ []) ≡ bodies_of records → ⊥
+not_longer records r is =
+    let same : length (records ++ r ∷ []) ≡ length records = sym (body_count (records ++ r ∷ [])) ∙ (ap (λ (l : List (List ℕ)). length l) is ∙ body_count records) in
+    omega (arith, same, length-append records (r ∷ []))
+
+same_stands : (disk : DiskState) (node node' nodes nodes' : ℕ) (records records' : List Record) → node' ≡ node → nodes' ≡ nodes → records' ≡ records → StandsForRecords disk node nodes records → StandsForRecords disk node' nodes' records'
+same_stands disk node node' nodes nodes' records records' same same' is stands =
+    subst (λ (l : List Record). StandsForRecords disk node' nodes' l) (sym is) (subst (λ (n : ℕ). StandsForRecords disk node' n records) (sym same') (subst (λ (n : ℕ). StandsForRecords disk n nodes records) (sym same) stands))
+
+module _ {D : Type 0} (state : D → DiskState) (faults : D → ℕ) (start : Start) (number : NodeNo) (before : ℕ) (honest : Type 0) where
+  -- a node that starts has made nothing
+  pub made_first : (n : NodeState D) → IsFirst state faults start number before honest n → HasMade state faults start number before honest [] n
+  made_first n first = record {
+    node = first.node;
+    nodes = first.nodes;
+    among = first.among;
+    allowed = tt;
+    records = ap (λ (l : List Record). reverse l) first.records;
+    down = first.up;
+    pending = λ down. let no : true ≡ false = sym down ∙ first.up in absurd (cc);
+    counted = let same : before + 0 ≡ before = omega arith in omega (arith, first.counted);
+    as_honest = first.as_honest;
+    kept = λ h. tt;
+    left = λ down. tt;
+  }
+
+  module _ (es : List Entry) (old new : NodeState D) (made : HasMade state faults start number before honest es old) (goes : GoesOn state faults old new) (base_same : base_at start number ≡ base_of (start_nodes start) number.0) where
+    responds : (request : Request) → response_to old request ≡ answer (base_at start number) (node_records (base_at start number) (start_records start number) es) request
+    responds request =
+        ap (λ (m : ℕ × ℕ). answer (base_of m.0 m.1) (reverse old.records) request) (λ i. (made.nodes i, made.node i))
+        ∙ (ap (λ (b : List ℕ). answer b (reverse old.records) request) (sym base_same) ∙ ap (λ (l : List Record). answer (base_at start number) l request) made.records)
+
+    -- the disk's count has risen since the start, before the call or in it
+    abbrev HadRisen : Type 0
+    HadRisen = Rose before (faults old.disk)
+
+    abbrev HasRisen : Type 0
+    HasRisen = Rose before (faults new.disk)
+
+    risen : HadRisen → HasRisen
+    risen rose = rose_later before (faults old.disk) (faults new.disk) rose goes.later
+
+    still_kept : (state new.disk).honest → KeepsAsAsked HasRisen es
+    still_kept h = all_keep_on HadRisen HasRisen risen es (made.kept (goes.no_better h))
+
+    -- what the stop left is still there
+    pub left_on : ((records : List Record) → StandsForRecords (state old.disk) old.node old.nodes records → StandsForRecords (state new.disk) old.node old.nodes records) → new.records ≡ old.records → new.pending ≡ old.pending
+        → (asked : Option StopAt) → StandsAs state HadRisen old asked → StandsAs state HasRisen new asked
+    left_on keeps records pending None stands = tt
+    left_on keeps records pending (Some Before) stands = same_stands (state new.disk) old.node new.node old.nodes new.nodes old.records new.records goes.node goes.nodes records (keeps old.records stands)
+    left_on keeps records pending (Some Half) stands = same_stands (state new.disk) old.node new.node old.nodes new.nodes old.records new.records goes.node goes.nodes records (keeps old.records stands)
+    left_on keeps records pending (Some After) (inl rose) = inl (risen rose)
+    left_on keeps records pending (Some After) (inr there) =
+        let r = there.0 in
+        inr (r, pending ∙ there.1, same_stands (state new.disk) old.node new.node old.nodes new.nodes (old.records ++ r ∷ []) (new.records ++ r ∷ []) goes.node goes.nodes (ap (λ (l : List Record). l ++ r ∷ []) records) (keeps (old.records ++ r ∷ []) there.2))
+
+    -- a node that goes on as it was
+    pub made_still : new.records ≡ old.records → new.down ≡ old.down → (new.down ≡ true → new.pending ≡ old.pending) → (new.down ≡ true → StandsAs state HasRisen new (last_asked es)) → HasMade state faults start number before honest es new
+    made_still records down pending left = record {
+      node = goes.node ∙ made.node;
+      nodes = goes.nodes ∙ made.nodes;
+      among = made.among;
+      allowed = made.allowed;
+      records = ap (λ (l : List Record). reverse l) records ∙ made.records;
+      down = down ∙ made.down;
+      pending = λ is. pending is ∙ made.pending (sym down ∙ is);
+      counted = more_faults (unasked es) before (faults old.disk) (faults new.disk) made.counted goes.later;
+      as_honest = λ h. goes.honest (made.as_honest h);
+      kept = still_kept;
+      left = left;
+    }
+
+    -- an entry that leaves the node's disk and numbers
+    entered : (c : ClientNo) (what : What) → NodeAllows (base_at start number) (start_records start number) es what
+        → reverse new.records ≡ node_records (base_at start number) (start_records start number) (entry_at number c what ∷ es) → new.down ≡ is_down (entry_at number c what ∷ es)
+        → (new.down ≡ true → new.pending ≡ added_by (base_at start number) (node_records (base_at start number) (start_records start number) (entry_at number c what ∷ es)) (stopped_request (entry_at number c what ∷ es)))
+        → RoseBy (unasked es + unasked_in what) before (faults new.disk) → ((state new.disk).honest → KeepsAs HasRisen what (last_asked es)) → (new.down ≡ true → StandsAs state HasRisen new (asked_or what (last_asked es)))
+        → HasMade state faults start number before honest (entry_at number c what ∷ es) new
+    entered c what allowed records down pending counted kept left = record {
+      node = goes.node ∙ made.node;
+      nodes = goes.nodes ∙ made.nodes;
+      among = made.among;
+      allowed = (made.allowed, allowed);
+      records = records;
+      down = down;
+      pending = pending;
+      counted = counted;
+      as_honest = λ h. goes.honest (made.as_honest h);
+      kept = λ h. (kept h, still_kept h);
+      left = left;
+    }
+
+    -- a node that is up has no stop
+    none_left : (asked : Option StopAt) → new.down ≡ false → new.down ≡ true → StandsAs state HasRisen new asked
+    none_left asked up is = let no : true ≡ false = sym is ∙ up in absurd (cc)
+
+    no_more : RoseBy (unasked es + 0) before (faults new.disk)
+    no_more = let same : unasked es + 0 ≡ unasked es = omega arith in rw same (more_faults (unasked es) before (faults old.disk) (faults new.disk) made.counted goes.later)
+
+    -- an answer
+    answered : (c : ClientNo) (request : Request) (reply : NodeReply) → old.down ≡ false → new.down ≡ false → (response_to old request).reply ≡ reply → new.records ≡ added_to old.records (response_to old request).added
+        → HasMade state faults start number before honest (entry_at number c (Called request reply) ∷ es) new
+    answered c request reply up still_up says records =
+        let up' : is_down es ≡ false = sym made.down ∙ up in
+        let r = responds request in
+        let added = ap (λ (l : List Record). reverse l) records ∙ reverse_added old.records (response_to old request).added
+        ∙ ap (λ (x : Response). with_added x.added (reverse old.records)) r ∙ ap (λ (l : List Record). with_added (answer (base_at start number) (node_records (base_at start number) (start_records start number) es) request).added l) made.records in
+        entered c (Called request reply)
+        (rw up' (sym says ∙ ap (λ (x : Response). x.reply) r))
+        (rw up' added)
+        (still_up ∙ sym up')
+        (λ is. let no : true ≡ false = sym is ∙ still_up in absurd (cc))
+        no_more
+        (λ h. tt)
+        (none_left (last_asked es) still_up)
+
+    -- a call that is answered Down
+    answered_down : (c : ClientNo) (request : Request) → old.down ≡ true → new ≡ old → HasMade state faults start number before honest (entry_at number c (Called request Say.Down) ∷ es) new
+    answered_down c request down same =
+        let down' : is_down es ≡ true = sym made.down ∙ down in
+        entered c (Called request Say.Down)
+        (rw down' refl)
+        (rw down' (ap (λ (n : NodeState D). reverse n.records) same ∙ made.records))
+        (ap (λ (n : NodeState D). n.down) same ∙ made.down)
+        (λ is. rw down' (ap (λ (n : NodeState D). n.pending) same ∙ made.pending down))
+        no_more
+        (λ h. tt)
+        (λ is. subst (λ (n : NodeState D). StandsAs state (Rose before (faults n.disk)) n (last_asked es)) (sym same) (made.left down))
+
+    stop_count : {fo fn : D} (node nodes : ℕ) (records : List (List ℕ)) (body : List ℕ) (request : Request) (stop : Option StopAt) → fo ≡ old.disk → fn ≡ new.disk → StopsAt state faults fo fn node nodes records body stop
+        → RoseBy (unasked es + unasked_in (Stopped (Some request) stop)) before (faults new.disk)
+    stop_count node nodes records body request None o n at = one_fault (unasked es) before (faults old.disk) (faults new.disk) made.counted (subst (λ (p : D × D). Rose (faults p.0) (faults p.1)) (λ i. (o i, n i)) at)
+    stop_count node nodes records body request (Some at) o n stops = no_more
+
+    -- what a stop that was asked for leaves
+    stop_left : (r : Record) (stop : Option StopAt) → new.records ≡ old.records → new.pending ≡ Some r → StopsAt state faults old.disk new.disk old.node old.nodes (bodies_of old.records) (record_bytes r) stop → StandsAs state HasRisen new stop
+    stop_left r None records pending at = tt
+    stop_left r (Some Before) records pending at = same_stands (state new.disk) old.node new.node old.nodes new.nodes old.records new.records goes.node goes.nodes records (λ h. at (goes.no_better h))
+    stop_left r (Some Half) records pending at = same_stands (state new.disk) old.node new.node old.nodes new.nodes old.records new.records goes.node goes.nodes records (λ h. at (goes.no_better h))
+    stop_left r (Some After) records pending (inl rose) = inl (rose_since (unasked es) before (faults old.disk) (faults new.disk) made.counted rose)
+    stop_left r (Some After) records pending (inr at) =
+        inr (
+          r,
+          pending,
+          same_stands (state new.disk) old.node new.node old.nodes new.nodes (old.records ++ r ∷ []) (new.records ++ r ∷ []) goes.node goes.nodes (ap (λ (l : List Record). l ++ r ∷ []) records)
+              (λ h. subst (λ (l : List (List ℕ)). StandsFor (state new.disk) old.node old.nodes l) (body_more old.records r) (at (goes.no_better h))),
+        )
+
+    -- a stop inside a request
+    stopped_inside : (c : ClientNo) (request : Request) (stop : Option StopAt) → Answers state faults old request stop Say.Stopped new → HasMade state faults start number before honest (entry_at number c (Stopped (Some request) stop) ∷ es) new
+    stopped_inside c request stop told =
+        let up' : is_down es ≡ false = sym made.down ∙ told.0 in
+        let records = ap (λ (l : List Record). reverse l) told.2 ∙ made.records in
+        let r = told.3 in
+        entered c (Stopped (Some request) stop) up' records told.1
+        (λ is. told.5 ∙ (sym told.4 ∙ ap (λ (x : Response). x.added) (responds request)))
+        (stop_count old.node old.nodes (bodies_of old.records) (record_bytes r) request stop refl refl told.6.at)
+        (λ h. tt)
+        (λ is. stop_left r stop told.2 told.5 told.6.at)
+
+    -- a call that isn't answered for want of memory
+    pub made_called : (c : ClientNo) (request : Request) (stop : Option StopAt) (reply : NodeReply) → Answers state faults old request stop reply new → reply ≢ Say.NoMemory
+        → HasMade state faults start number before honest (entry_at number c (what_said request stop reply) ∷ es) new
+    made_called c request stop Say.NoMemory told ne = absurd (ne refl)
+    made_called c request stop Say.Stopped told ne = stopped_inside c request stop told
+    made_called c request stop Say.Down told ne = answered_down c request told.0 told.1
+    made_called c request stop (Say.Done reads) told ne = answered c request (Say.Done reads) told.0 told.1 told.2 told.3
+    made_called c request stop (Say.BadLock start size holder) told ne = answered c request (Say.BadLock start size holder) told.0 told.1 told.2 told.3
+    made_called c request stop (Say.BadCompare item found) told ne = answered c request (Say.BadCompare item found) told.0 told.1 told.2 told.3
+    made_called c request stop Say.BadForced told ne = answered c request Say.BadForced told.0 told.1 told.2 told.3
+    made_called c request stop (Say.Vote verdict) told ne = answered c request (Say.Vote verdict) told.0 told.1 told.2 told.3
+    made_called c request stop Say.Decided told ne = answered c request Say.Decided told.0 told.1 told.2 told.3
+    made_called c request stop (Say.Listed doubts) told ne = answered c request (Say.Listed doubts) told.0 told.1 told.2 told.3
+    made_called c request stop (Say.Peeked bytes) told ne = answered c request (Say.Peeked bytes) told.0 told.1 told.2 told.3
+
+    -- it was up and is, with the same records
+    abbrev IsStill : Type 0
+    IsStill = (new.records ≡ old.records) × (new.down ≡ old.down) × (new.down ≡ false)
+
+    up_still : old.down ≡ false → new.down ≡ false → new.records ≡ old.records → IsStill
+    up_still up up' records = (records, up' ∙ sym up, up')
+
+    large_still : (request : Request) (reply : NodeReply) → IsLarge reply → old.down ≡ false → new.down ≡ false → (response_to old request).reply ≡ reply → new.records ≡ added_to old.records (response_to old request).added → IsStill
+    large_still request reply large up up' says records =
+        let none = large_none (base_of old.nodes old.node) (reverse old.records) request (subst IsLarge (sym says) large) in
+        up_still up up' (records ∙ ap (λ (a : Option Record). added_to old.records a) none)
+
+    -- a call that finds no memory leaves the node as it was
+    unchanged : (request : Request) (stop : Option StopAt) (reply : NodeReply) → Answers state faults old request stop reply new → (reply ≡ Say.NoMemory) ⊎ IsLarge reply → IsStill
+    unchanged request stop Say.NoMemory told why = up_still told.0 told.1 told.2
+    unchanged request stop (Say.BadCompare item found) told why = large_still request (Say.BadCompare item found) tt told.0 told.1 told.2 told.3
+    unchanged request stop (Say.Listed doubts) told why = large_still request (Say.Listed doubts) tt told.0 told.1 told.2 told.3
+    unchanged request stop (Say.Peeked bytes) told why = large_still request (Say.Peeked bytes) tt told.0 told.1 told.2 told.3
+    unchanged request stop Say.Stopped told (inl is) = absurd (cc)
+    unchanged request stop Say.Stopped told (inr is) = absurd is
+    unchanged request stop Say.Down told (inl is) = absurd (cc)
+    unchanged request stop Say.Down told (inr is) = absurd is
+    unchanged request stop (Say.Done reads) told (inl is) = absurd (cc)
+    unchanged request stop (Say.Done reads) told (inr is) = absurd is
+    unchanged request stop (Say.BadLock start size holder) told (inl is) = absurd (cc)
+    unchanged request stop (Say.BadLock start size holder) told (inr is) = absurd is
+    unchanged request stop Say.BadForced told (inl is) = absurd (cc)
+    unchanged request stop Say.BadForced told (inr is) = absurd is
+    unchanged request stop (Say.Vote verdict) told (inl is) = absurd (cc)
+    unchanged request stop (Say.Vote verdict) told (inr is) = absurd is
+    unchanged request stop Say.Decided told (inl is) = absurd (cc)
+    unchanged request stop Say.Decided told (inr is) = absurd is
+
+    pub made_unchanged : (request : Request) (stop : Option StopAt) (reply : NodeReply) → Answers state faults old request stop reply new → (reply ≡ Say.NoMemory) ⊎ IsLarge reply → HasMade state faults start number before honest es new
+    made_unchanged request stop reply told why =
+        let still = unchanged request stop reply told why in
+        made_still still.0 still.1 (λ is. let no : true ≡ false = sym is ∙ still.2 in absurd (cc)) (none_left (last_asked es) still.2)
+
+    -- a restart that failed leaves it down
+    pub made_failed : old.down ≡ true → new.down ≡ true → new.records ≡ old.records → new.pending ≡ old.pending
+        → ((records : List Record) → StandsForRecords (state old.disk) old.node old.nodes records → StandsForRecords (state new.disk) old.node old.nodes records) → HasMade state faults start number before honest es new
+    made_failed down down' records pending keeps = made_still records (down' ∙ sym down) (λ is. pending) (λ is. left_on keeps records pending (last_asked es) (made.left down))
+
+    -- a stop between two calls
+    pub made_halted : (c : ClientNo) → old.down ≡ false → new.down ≡ true → new.records ≡ old.records → new.pending ≡ None → HasMade state faults start number before honest (entry_at number c (Stopped None None) ∷ es) new
+    made_halted c up down records pending =
+        let up' : is_down es ≡ false = sym made.down ∙ up in
+        entered c (Stopped None None) up' (ap (λ (l : List Record). reverse l) records ∙ made.records) down (λ is. pending) no_more (λ h. tt) (λ is. tt)
+
+    -- the records that come back are those that each image stood for
+    abbrev Finds : Type 0
+    Finds = (state old.disk).honest → (records : List Record) → StandsForRecords (state old.disk) old.node old.nodes records → bodies_of new.records ≡ bodies_of records
+
+    -- a restart keeps what the stop asked for
+    restart_keeps : (asked : Option StopAt) (kept : Bool) (pending : Option Record) → Restarts old.records pending new.records kept → Finds → (state old.disk).honest → StandsAs state HadRisen old asked → IsKeptAs HasRisen asked kept
+    restart_keeps None kept pending restarts finds h stands = tt
+    restart_keeps (Some Before) false pending restarts finds h stands = refl
+    restart_keeps (Some Before) true None restarts finds h stands = absurd restarts
+    restart_keeps (Some Before) true (Some r) restarts finds h stands = absurd (not_longer old.records r (ap bodies_of (sym restarts) ∙ finds h old.records stands))
+    restart_keeps (Some Half) false pending restarts finds h stands = refl
+    restart_keeps (Some Half) true None restarts finds h stands = absurd restarts
+    restart_keeps (Some Half) true (Some r) restarts finds h stands = absurd (not_longer old.records r (ap bodies_of (sym restarts) ∙ finds h old.records stands))
+    restart_keeps (Some After) true pending restarts finds h stands = inr refl
+    restart_keeps (Some After) false pending restarts finds h (inl rose) = inl (risen rose)
+    restart_keeps (Some After) false pending restarts finds h (inr there) = absurd (not_longer old.records there.0 (sym (finds h (old.records ++ there.0 ∷ []) there.2) ∙ ap bodies_of restarts))
+
+    restarted : (c : ClientNo) (kept : Bool) (pending : Option Record) → old.down ≡ true → new.down ≡ false → added_by (base_at start number) (node_records (base_at start number) (start_records start number) es) (stopped_request es) ≡ pending
+        → Restarts old.records pending new.records kept → ((state new.disk).honest → IsKeptAs HasRisen (last_asked es) kept) → HasMade state faults start number before honest (entry_at number c (Restarted kept) ∷ es) new
+    restarted c false pending down up is restarts keeps =
+        entered c (Restarted false) (sym made.down ∙ down) (ap (λ (l : List Record). reverse l) restarts ∙ made.records) up (λ now. let no : true ≡ false = sym now ∙ up in absurd (cc)) no_more keeps (none_left (last_asked es) up)
+    restarted c true None down up is restarts keeps = absurd restarts
+    restarted c true (Some r) down up is restarts keeps =
+        let records = ap (λ (l : List Record). reverse l) restarts ∙ reverse-append old.records (r ∷ []) ∙ ap (λ (l : List Record). r ∷ l) made.records in
+        entered c (Restarted true) (sym made.down ∙ down, rw is refl) (rw is records) up (λ now. let no : true ≡ false = sym now ∙ up in absurd (cc)) no_more keeps (none_left (last_asked es) up)
+
+    -- a restart
+    pub made_restarted : (c : ClientNo) (kept : Bool) → old.down ≡ true → new.down ≡ false → Restarts old.records old.pending new.records kept → Finds → HasMade state faults start number before honest (entry_at number c (Restarted kept) ∷ es) new
+    made_restarted c kept down up restarts finds =
+        restarted c kept old.pending down up (sym (made.pending down)) restarts (λ h. restart_keeps (last_asked es) kept old.pending restarts finds (goes.no_better h) (made.left down))
+
+-- Stops that were asked for
+
+some_none : {A : Type 0} (x : A) → Some x ≡ None → ⊥
+some_none x is = absurd (cc)
+
+done_compares : (space : List ℕ) (part : List PartItem) (r : Record) (m : Option Mismatched) (reads : List (List ℕ)) → (after_compares space part (Some r) m).reply ≡ Say.Done reads → (after_compares space part (Some r) m).added ≡ None → ⊥
+done_compares space part r (Some at) reads says none = absurd (cc)
+done_compares space part r None reads says none = some_none r none
+
+done_locks : (space : List ℕ) (part : List PartItem) (r : Record) (clash : Option Clash) (reads : List (List ℕ)) → (after_locks space part (Some r) clash).reply ≡ Say.Done reads → (after_locks space part (Some r) clash).added ≡ None → ⊥
+done_locks space part r (Some clash) reads says none = absurd (cc)
+done_locks space part r None reads says none = done_compares space part r (part_mismatch_from space 0 part) reads says none
+
+done_if : (b : Bool) (s : Response) (reads : List (List ℕ)) → (s.reply ≡ Say.Done reads → s.added ≡ None → ⊥) → (if b then record { reply = Say.BadForced; added = None } else s).reply ≡ Say.Done reads → (if b then record { reply = Say.BadForced; added = None } else s).added ≡ None → ⊥
+done_if true s reads not says none = absurd (cc)
+done_if false s reads not says none = not says none
+
+done_write : (w : Bool) (space : List ℕ) (part : List PartItem) (r : Record) (clash : Option Clash) (reads : List (List ℕ)) → (after_locks space part (if w then Some r else None) clash).reply ≡ Say.Done reads → (after_locks space part (if w then Some r else None) clash).added ≡ None → w ≡ false
+done_write true space part r clash reads says none = absurd (done_locks space part r clash reads says none)
+done_write false space part r clash reads says none = refl
+
+done_none : (base : List ℕ) (records : List Record) (request : Request) (reads : List (List ℕ)) → (answer base records request).reply ≡ Say.Done reads → (answer base records request).added ≡ None → AddsNone request
+done_none base records (Ask.Prepare tid participants part) reads says none = done_if (has_forced records tid) _ reads (done_locks (space_of base records) part _ (clash_of (held_parts records) tid part) reads) says none
+done_none base records (Ask.Exec tid part) reads says none = done_write (has_write part) (space_of base records) part _ (clash_of (held_parts records) tid part) reads says none
+done_none base records (Ask.Decide tid verdict) reads says none = tt
+done_none base records (Ask.Force tid) reads says none = tt
+done_none base records Ask.List reads says none = tt
+done_none base records (Ask.Peek start size) reads says none = tt
+
+-- a stop that was asked for is kept
+pub keeps_stop : {D : Type 0} (state : D → DiskState) (faults : D → ℕ) (old new : NodeState D) (request : Request) (stop : Option StopAt) (reply : NodeReply) → Answers state faults old request stop reply new → KeepsStop stop request reply
+keeps_stop state faults old new request None reply told = tt
+keeps_stop state faults old new request (Some at) (Say.Done reads) told = done_none (base_of old.nodes old.node) (reverse old.records) request reads told.2 told.4
+keeps_stop state faults old new request (Some at) Say.NoMemory told = tt
+keeps_stop state faults old new request (Some at) Say.Stopped told = tt
+keeps_stop state faults old new request (Some at) Say.Down told = tt
+keeps_stop state faults old new request (Some at) (Say.BadLock start size holder) told = tt
+keeps_stop state faults old new request (Some at) (Say.BadCompare item found) told = tt
+keeps_stop state faults old new request (Some at) Say.BadForced told = tt
+keeps_stop state faults old new request (Some at) (Say.Vote verdict) told = tt
+keeps_stop state faults old new request (Some at) Say.Decided told = tt
+keeps_stop state faults old new request (Some at) (Say.Listed doubts) told = tt
+keeps_stop state faults old new request (Some at) (Say.Peeked bytes) told = tt
+
+-- a restart on an honest disk finds no damage
+pub no_damage : {D : Type 0} (state : D → DiskState) (faults : D → ℕ) (old new : D) (records : List Record) (pending : Option Record) (e : RestartError) → (state old).honest → FailsRestart state faults old new records pending e → IsUndamaged e
+no_damage state faults old new records pending Fault honest fails = tt
+no_damage state faults old new records pending (Damaged at kept found) honest fails = absurd (fails.0 honest)
+no_damage state faults old new records pending NoMemory honest fails = tt

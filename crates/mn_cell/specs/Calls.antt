@@ -1,0 +1,99 @@
+-- What a call of a node says, and what it takes before the node is asked.
+use Rattle.std.specs.Prelude.{ℕ, ◌≡◌, ◌≤◌, false, List, [], ◌∷◌, ◌++◌, length, map, Option, Some, ⊤}
+use Rattle.mn_base.specs.declared.ids.NodeNo.{NodeNo}
+use Rattle.mn_base.specs.declared.ids.ClientNo.{ClientNo}
+use Rattle.mn_base.specs.declared.gate.StopAt.{StopAt}
+use Rattle.mn_mini.specs.declared.part.PartItem.{PartItem}
+use Rattle.mn_mini.specs.declared.part.PartItem.TheVariants.{Compare, Read, Write}
+use Rattle.mn_mini.specs.declared.request.Request.{Request}
+use Rattle.mn_mini.specs.declared.request.Request.TheVariants as Ask
+use Rattle.mn_mini.specs.declared.reply.NodeReply.{NodeReply}
+use Rattle.mn_mini.specs.declared.reply.NodeReply.TheVariants as Say
+use Rattle.mn_mini.specs.Mini.{has_write}
+use Rattle.mn_node.specs.declared.restart.RestartError.{RestartError}
+use Rattle.mn_node.specs.declared.restart.RestartError.TheVariants.{Fault, Damaged, NoMemory}
+use Rattle.mn_actors.specs.Lines.{Line}
+use Rattle.mn_world.specs.declared.entry.Entry.{Entry}
+use Rattle.mn_world.specs.declared.entry.What.{What}
+use Rattle.mn_world.specs.declared.entry.What.TheVariants.{Called, Stopped}
+use Rattle.mn_world.specs.Run.{entries_of, IsLegalBy}
+
+-- the node of this number
+abbrev pub numbered : ℕ → NodeNo
+numbered n = record { 0 = n }
+
+-- an entry of a client at a node
+abbrev pub entry_at : NodeNo → ClientNo → What → Entry
+entry_at n c what = record { node = Some n; client = Some c; what = what }
+
+-- the step of a call: the reply, or, where the node stopped inside the request, that
+abbrev pub what_said : Request → Option StopAt → NodeReply → What
+what_said request stop Say.Stopped = Stopped (Some request) stop
+what_said request stop reply = Called request reply
+
+-- whatever the reply is, the client's list allows the entry
+abbrev pub MaySend : NodeNo → ClientNo → List (ℕ × Entry) → Request → Option StopAt → Type 0
+MaySend n c list request stop = (reply : NodeReply) → IsLegalBy (entries_of list) (entry_at n c (what_said request stop reply))
+
+-- what the law of the core asks of a line
+abbrev pub IsLegalLine : List (ℕ × Entry) → List (ℕ × Entry) → Line Entry → Type 0
+IsLegalLine node client line = (line.entry.node ≡ line.node) × (line.entry.client ≡ line.client) × IsLegalBy (entries_of client) line.entry
+
+-- an entry ends a list, at a place that is not below this one
+pub record EndsList (known : ℕ) (e : Entry) (old new : List (ℕ × Entry)) : Type 0 where
+  pub place : ℕ
+  pub later : known ≤ place
+  pub ends : new ≡ old ++ (place, e) ∷ []
+
+-- an entry ends the node's list and the client's, at one place that is not below this one
+pub record EndsBoth (known : ℕ) (e : Entry) (node node' client client' : List (ℕ × Entry)) : Type 0 where
+  pub place : ℕ
+  pub later : known ≤ place
+  pub ends_node : node' ≡ node ++ (place, e) ∷ []
+  pub ends_client : client' ≡ client ++ (place, e) ∷ []
+
+-- it adds no record where it is done
+abbrev pub AddsNone : Request → Type 0
+AddsNone (Ask.Prepare tid participants part) = ⊥
+AddsNone (Ask.Exec tid part) = has_write part ≡ false
+AddsNone request = ⊤
+
+-- where a stop was asked for, a request that adds a record isn't done
+abbrev pub KeepsStop : Option StopAt → Request → NodeReply → Type 0
+KeepsStop (Some at) request (Say.Done reads) = AddsNone request
+KeepsStop stop request reply = ⊤
+
+-- no damage: the disk has the node's records
+abbrev pub IsUndamaged : RestartError → Type 0
+IsUndamaged Fault = ⊤
+IsUndamaged (Damaged at kept found) = ⊥
+IsUndamaged NoMemory = ⊤
+
+-- Copies of replies
+
+-- a reply that may be large, and comes with no new record
+abbrev pub IsLarge : NodeReply → Type 0
+IsLarge (Say.BadCompare item found) = ⊤
+IsLarge (Say.Listed doubts) = ⊤
+IsLarge (Say.Peeked bytes) = ⊤
+IsLarge reply = ⊥
+
+-- the lengths of what the read items ask for, in order
+abbrev pub read_lengths : List PartItem → List ℕ
+read_lengths [] = []
+read_lengths (Compare start bytes ∷ part) = read_lengths part
+read_lengths (Read start size ∷ part) = size ∷ read_lengths part
+read_lengths (Write start bytes ∷ part) = read_lengths part
+
+abbrev pub lengths_by : Request → List ℕ
+lengths_by (Ask.Prepare tid participants part) = read_lengths part
+lengths_by (Ask.Exec tid part) = read_lengths part
+lengths_by request = []
+
+abbrev pub lengths_of : List (List ℕ) → List ℕ
+lengths_of reads = map (λ bytes. length bytes) reads
+
+-- where the reply has reads, they have these lengths
+abbrev pub HasLengths : List ℕ → NodeReply → Type 0
+HasLengths lengths (Say.Done reads) = lengths_of reads ≡ lengths
+HasLengths lengths reply = ⊤

@@ -1,0 +1,4 @@
+pub mod Passes
+pub mod Promises
+pub mod Calls
+pub mod Station

@@ -1,0 +1,132 @@
+-- What is known of a node with its list and its pass, whenever no call of it is under way.
+use Rattle.std.specs.Prelude.{ℕ, ◌+◌, ◌-◌, ◌^◌, ◌≡◌, ◌≤◌, ◌<◌, ◌⊎◌, min, Bool, true, false, List, [], ◌∷◌, ◌++◌, length, reverse, Option, Some, None, slice_index_or, ⊤}
+use Rattle.atomic_table.specs.Seated.{TableId}
+use Rattle.mn_base.specs.declared.gate.StopAt.{StopAt}
+use Rattle.mn_base.specs.declared.gate.StopAt.TheVariants.{Before, Half, After}
+use Rattle.mn_base.specs.declared.ids.NodeNo.{NodeNo}
+use Rattle.mn_mini.specs.declared.record.Record.{Record}
+use Rattle.mn_io.specs.DiskModel.{DiskState}
+use Rattle.mn_io.specs.Faults.{Rose}
+use Rattle.mn_node.specs.Memory.{base_of}
+use Rattle.mn_node.specs.State.{NodeState, StandsForRecords}
+use Rattle.mn_actors.specs.declared.board.Pass.{Pass}
+use Rattle.mn_actors.specs.declared.actor.Actor.TheVariants.{Node}
+use Rattle.mn_actors.specs.Lists.{held}
+use Rattle.mn_actors.specs.Sight.{board_of, view_of}
+use Rattle.mn_world.specs.declared.entry.Entry.{Entry}
+use Rattle.mn_world.specs.declared.entry.What.{What}
+use Rattle.mn_world.specs.declared.entry.What.TheVariants.{Restarted, Stopped}
+use Rattle.mn_world.specs.Nodes.{added_by, is_down, node_records, stopped_request}
+use Rattle.mn_world.specs.Protocol.{Start, base_at, start_nodes, start_records}
+use Rattle.mn_world.specs.Laws.{NodeListAllowed}
+use Rattle.mn_cell.specs.Passes.{OwnsJust}
+
+-- a board that is none
+abbrev pub no_board : TableId
+no_board = record { words = 0; slots = 0; views_name = 0; atom = 0; block = 0; offset = 0; slot_names = [] }
+
+-- What a run starts from
+
+-- the base spaces of so many nodes, from this number on, one for each of these lists
+abbrev pub bases_from : ℕ → ℕ → List (List Record) → List (List ℕ)
+bases_from nodes n [] = []
+bases_from nodes n (records ∷ rest) = base_of nodes n ∷ bases_from nodes (n + 1) rest
+
+-- the start of a run whose nodes have these records
+abbrev pub start_of : List (List Record) → Start
+start_of records = record { bases = bases_from (length records) 0 records; records = records }
+
+-- a node as it is when a run starts: up, with these records
+pub record IsFirst {D : Type 0} (state : D → DiskState) (faults : D → ℕ) (start : Start) (number : NodeNo) (before : ℕ) (honest : Type 0) (n : NodeState D) : Type 0 where
+  pub node : n.node ≡ number.0
+  pub nodes : n.nodes ≡ start_nodes start
+  pub among : number.0 < start_nodes start
+  pub up : n.down ≡ false
+  pub records : n.records ≡ slice_index_or start.records number.0 []
+  pub counted : faults n.disk ≡ before
+  pub as_honest : honest → (state n.disk).honest
+
+-- The list of a node
+
+-- a stop in a request that nobody asked for
+abbrev pub unasked_in : What → ℕ
+unasked_in (Stopped (Some request) None) = 1
+unasked_in what = 0
+
+abbrev pub unasked : List Entry → ℕ
+unasked [] = 0
+unasked (e ∷ es) = unasked es + unasked_in e.what
+
+-- a count has risen by so much since, or it stands at its last value
+abbrev pub RoseBy : ℕ → ℕ → ℕ → Type 0
+RoseBy by before now = min (before + by) (2 ^ 64 - 1) ≤ now
+
+-- Stops that were asked for
+
+abbrev pub asked_or : What → Option StopAt → Option StopAt
+asked_or (Stopped request asked) before = asked
+asked_or what before = before
+
+-- the stop that was asked for where the node stopped last
+abbrev pub last_asked : List Entry → Option StopAt
+last_asked [] = None
+last_asked (e ∷ es) = asked_or e.what (last_asked es)
+
+-- a restart kept the stopped request's record as the stop asked: never where that was before the log or at half of the record, and behind it
+-- always, unless the count of faults has risen
+abbrev pub IsKeptAs : Type 0 → Option StopAt → Bool → Type 0
+IsKeptAs rose None kept = ⊤
+IsKeptAs rose (Some Before) kept = kept ≡ false
+IsKeptAs rose (Some Half) kept = kept ≡ false
+IsKeptAs rose (Some After) kept = rose ⊎ (kept ≡ true)
+
+abbrev pub KeepsAs : Type 0 → What → Option StopAt → Type 0
+KeepsAs rose (Restarted kept) asked = IsKeptAs rose asked kept
+KeepsAs rose what asked = ⊤
+
+-- each restart did
+abbrev pub KeepsAsAsked : Type 0 → List Entry → Type 0
+KeepsAsAsked rose [] = ⊤
+KeepsAsAsked rose (e ∷ es) = KeepsAs rose e.what (last_asked es) × KeepsAsAsked rose es
+
+-- what a stop that was asked for has left on an honest disk, for the next restart to find
+abbrev pub StandsAs : {D : Type 0} → (D → DiskState) → Type 0 → NodeState D → Option StopAt → Type 0
+StandsAs state rose n None = ⊤
+StandsAs state rose n (Some Before) = StandsForRecords (state n.disk) n.node n.nodes n.records
+StandsAs state rose n (Some Half) = StandsForRecords (state n.disk) n.node n.nodes n.records
+StandsAs state rose n (Some After) = rose ⊎ ((r : Record) × (n.pending ≡ Some r) × StandsForRecords (state n.disk) n.node n.nodes (n.records ++ r ∷ []))
+
+-- The entries, newest first, are those of a node that started so: each is allowed by those before it, and the node has the records that they
+-- leave. It stopped unasked in requests at most as often as its disk's count of faults has risen. A disk that was honest is, and then each
+-- restart kept what the stop before it had asked for; while the node is down, the disk says so of the next one.
+pub record HasMade {D : Type 0} (state : D → DiskState) (faults : D → ℕ) (start : Start) (number : NodeNo) (before : ℕ) (honest : Type 0) (es : List Entry) (n : NodeState D) : Type 0 where
+  pub node : n.node ≡ number.0
+  pub nodes : n.nodes ≡ start_nodes start
+  pub among : number.0 < start_nodes start
+  pub allowed : NodeListAllowed start number es
+  pub records : reverse n.records ≡ node_records (base_at start number) (start_records start number) es
+  pub down : n.down ≡ is_down es
+  pub pending : n.down ≡ true → n.pending ≡ added_by (base_at start number) (node_records (base_at start number) (start_records start number) es) (stopped_request es)
+  pub counted : RoseBy (unasked es) before (faults n.disk)
+  pub as_honest : honest → (state n.disk).honest
+  pub kept : (state n.disk).honest → KeepsAsAsked (Rose before (faults n.disk)) es
+  pub left : n.down ≡ true → StandsAs state (Rose before (faults n.disk)) n (last_asked es)
+
+-- Stations
+
+-- a node with its number and its list
+pub record StationState (D : Type 0) : Type 0 where
+  pub number : NodeNo
+  pub node : NodeState D
+  pub list : List (ℕ × Entry)
+
+-- the pass is there, of this board, owns just the node, and has this list
+abbrev pub IsPassOf : {L E : Type 0} {g : _} → TableId → NodeNo → List (ℕ × E) → Option (Pass L E g) → Type 0
+IsPassOf board n list None = ⊥
+IsPassOf board n list (Some p) = (board_of p ≡ board) × OwnsJust (view_of p) (Node n) × (held (view_of p) (Node n) ≡ Some list)
+
+-- the node is as its entries leave it, and its number, records, down or up are those from before
+pub record IsAsBefore {D : Type 0} (old new : StationState D) : Type 0 where
+  pub list : new.list ≡ old.list
+  pub records : new.node.records ≡ old.node.records
+  pub down : new.node.down ≡ old.node.down

@@ -1,0 +1,225 @@
+//! The cells of a run's nodes.
+ghost use Rattle.std.specs.Prelude.{◌≡◌, ◌≢◌, ◌≤◌, ◌<◌, ◌+◌, ◌∷◌, [], Some, None, true, false, is_some, IfOk, IfErr, IfSome, IfNone, OnErr, OnOk, slice_get};
+ghost use Rattle.mn_mini.specs.Sound.{Fits, IsSoundRequest};
+ghost use Rattle.mn_mini.specs.declared.reply.NodeReply.{NodeReply as Reply};
+ghost use Rattle.mn_actors.specs.declared.actor.Actor.TheVariants.{Client};
+ghost use Rattle.mn_actors.specs.Lists.{held};
+ghost use Rattle.mn_actors.specs.Sight.{board_of, id_of, view_of};
+ghost use Rattle.mn_world.specs.declared.entry.What.TheVariants.{Stopped, Restarted};
+ghost use Rattle.mn_world.specs.Run.{entries_of};
+ghost use Rattle.mn_cell.specs.Calls.{EndsList, IsUndamaged, KeepsStop, MaySend, entry_at, what_said};
+ghost use Rattle.mn_cell.specs.Passes.{IsSame, OwnsJust};
+ghost use Rattle.mn_cell.specs.Promises.{IsOwedAt, decided_by};
+
+use crate::cell::Cell;
+use crate::named::Named;
+use mn_actors::{Board, Pass};
+use mn_base::{NoMemory, NodeNo, StopAt};
+use mn_io::Disk;
+use mn_mini::{NodeReply, Request};
+use mn_node::RestartError;
+use mn_world::{ClientList, CoreLaw};
+use std::alloc::Global;
+use std::sync::Wait;
+
+/// The cells of a run. As many of them, from `c0` on, are filled as there are nodes.
+#[derive(Drop)]
+pub struct Cells<N: Named, D: Disk> {
+    pub c0: Option<Cell<N, D, 0>>,
+    pub c1: Option<Cell<N, D, 1>>,
+    pub c2: Option<Cell<N, D, 2>>,
+    pub c3: Option<Cell<N, D, 3>>,
+    pub c4: Option<Cell<N, D, 4>>,
+    pub c5: Option<Cell<N, D, 5>>,
+    pub c6: Option<Cell<N, D, 6>>,
+    pub c7: Option<Cell<N, D, 7>>,
+}
+
+impl<N: Named, D: Disk + Drop> Cells<N, D> {
+    /// Calls a node, whose cell is filled, as `Cell::call` does.
+    pub fn call<T: Wait>(
+        &self,
+        rt: &T,
+        alloc: Global,
+        node: NodeNo,
+        board: &Board<CoreLaw>,
+        pass: &mut Pass<CoreLaw>,
+        list: &mut ClientList,
+        request: Request,
+        stop: Option<StopAt>,
+    ) -> NodeReply
+        requires filled { slice_get (is_some self.now.c0 ∷ is_some self.now.c1 ∷ is_some self.now.c2 ∷ is_some self.now.c3 ∷ is_some self.now.c4 ∷ is_some self.now.c5 ∷ is_some self.now.c6 ∷ is_some self.now.c7 ∷ []) node.0 ≡ Some true }
+        requires board { (id_of board.now ≡ N.board) × (board_of pass.old ≡ N.board) }
+        requires owns { OwnsJust (view_of pass.old) (Client list.old.client) }
+        requires list { held (view_of pass.old) (Client list.old.client) ≡ Some list.old.entries }
+        requires sound { IsSoundRequest request }
+        requires legal { MaySend node list.old.client list.old.entries request stop }
+        ensures fits { Fits request result }
+        ensures client { list.new.client ≡ list.old.client }
+        ensures board { board_of pass.new ≡ N.board }
+        ensures owns { OwnsJust (view_of pass.new) (Client list.old.client) }
+        ensures list { held (view_of pass.new) (Client list.old.client) ≡ Some list.new.entries }
+        ensures said { result ≢ Reply.NoMemory → EndsList (view_of pass.old).known (entry_at node list.old.client (what_said request stop result)) list.old.entries list.new.entries }
+        ensures pass_before { result ≡ Reply.NoMemory → IsSame (view_of pass.old) (view_of pass.new) }
+        ensures list_before { result ≡ Reply.NoMemory → list.new.entries ≡ list.old.entries }
+        ensures room { list.old.room ≤ list.new.room + 1 }
+        ensures owed { IsOwedAt node (decided_by request) (entries_of list.old.entries) → 0 < list.old.room → result ≢ Reply.NoMemory }
+        ensures stop { KeepsStop stop request result }
+    {
+        match node.0 {
+            0 => match &self.c0 {
+                Some(cell) => cell.call(rt, alloc, board, pass, list, request, stop),
+                None => unreachable!(),
+            },
+            1 => match &self.c1 {
+                Some(cell) => cell.call(rt, alloc, board, pass, list, request, stop),
+                None => unreachable!(),
+            },
+            2 => match &self.c2 {
+                Some(cell) => cell.call(rt, alloc, board, pass, list, request, stop),
+                None => unreachable!(),
+            },
+            3 => match &self.c3 {
+                Some(cell) => cell.call(rt, alloc, board, pass, list, request, stop),
+                None => unreachable!(),
+            },
+            4 => match &self.c4 {
+                Some(cell) => cell.call(rt, alloc, board, pass, list, request, stop),
+                None => unreachable!(),
+            },
+            5 => match &self.c5 {
+                Some(cell) => cell.call(rt, alloc, board, pass, list, request, stop),
+                None => unreachable!(),
+            },
+            6 => match &self.c6 {
+                Some(cell) => cell.call(rt, alloc, board, pass, list, request, stop),
+                None => unreachable!(),
+            },
+            7 => match &self.c7 {
+                Some(cell) => cell.call(rt, alloc, board, pass, list, request, stop),
+                None => unreachable!(),
+            },
+            _ => unreachable!(),
+        }
+    }
+
+    /// Stops a node, whose cell is filled, as `Cell::halt` does.
+    pub fn halt<T: Wait>(
+        &self,
+        rt: &T,
+        node: NodeNo,
+        board: &Board<CoreLaw>,
+        pass: &mut Pass<CoreLaw>,
+        list: &mut ClientList,
+    ) -> Result<bool, NoMemory>
+        requires filled { slice_get (is_some self.now.c0 ∷ is_some self.now.c1 ∷ is_some self.now.c2 ∷ is_some self.now.c3 ∷ is_some self.now.c4 ∷ is_some self.now.c5 ∷ is_some self.now.c6 ∷ is_some self.now.c7 ∷ []) node.0 ≡ Some true }
+        requires board { (id_of board.now ≡ N.board) × (board_of pass.old ≡ N.board) }
+        requires owns { OwnsJust (view_of pass.old) (Client list.old.client) }
+        requires list { held (view_of pass.old) (Client list.old.client) ≡ Some list.old.entries }
+        ensures client { list.new.client ≡ list.old.client }
+        ensures board { board_of pass.new ≡ N.board }
+        ensures owns { OwnsJust (view_of pass.new) (Client list.old.client) }
+        ensures list { held (view_of pass.new) (Client list.old.client) ≡ Some list.new.entries }
+        ensures halted { IfOk result (λ halted. halted ≡ true → EndsList (view_of pass.old).known (entry_at node list.old.client (Stopped None None)) list.old.entries list.new.entries) }
+        ensures no_entry { IfOk result (λ halted. halted ≡ false → (pass.new ≡ pass.old) × (list.new ≡ list.old)) }
+        ensures failed { OnErr result ((pass.new ≡ pass.old) × (list.new.entries ≡ list.old.entries)) }
+        ensures room { list.old.room ≤ list.new.room + 1 }
+    {
+        match node.0 {
+            0 => match &self.c0 {
+                Some(cell) => cell.halt(rt, board, pass, list),
+                None => unreachable!(),
+            },
+            1 => match &self.c1 {
+                Some(cell) => cell.halt(rt, board, pass, list),
+                None => unreachable!(),
+            },
+            2 => match &self.c2 {
+                Some(cell) => cell.halt(rt, board, pass, list),
+                None => unreachable!(),
+            },
+            3 => match &self.c3 {
+                Some(cell) => cell.halt(rt, board, pass, list),
+                None => unreachable!(),
+            },
+            4 => match &self.c4 {
+                Some(cell) => cell.halt(rt, board, pass, list),
+                None => unreachable!(),
+            },
+            5 => match &self.c5 {
+                Some(cell) => cell.halt(rt, board, pass, list),
+                None => unreachable!(),
+            },
+            6 => match &self.c6 {
+                Some(cell) => cell.halt(rt, board, pass, list),
+                None => unreachable!(),
+            },
+            7 => match &self.c7 {
+                Some(cell) => cell.halt(rt, board, pass, list),
+                None => unreachable!(),
+            },
+            _ => unreachable!(),
+        }
+    }
+
+    /// Starts a node again, whose cell is filled, as `Cell::restart` does.
+    pub fn restart<T: Wait>(
+        &self,
+        rt: &T,
+        alloc: Global,
+        node: NodeNo,
+        board: &Board<CoreLaw>,
+        pass: &mut Pass<CoreLaw>,
+        list: &mut ClientList,
+    ) -> Result<Option<bool>, RestartError>
+        requires filled { slice_get (is_some self.now.c0 ∷ is_some self.now.c1 ∷ is_some self.now.c2 ∷ is_some self.now.c3 ∷ is_some self.now.c4 ∷ is_some self.now.c5 ∷ is_some self.now.c6 ∷ is_some self.now.c7 ∷ []) node.0 ≡ Some true }
+        requires board { (id_of board.now ≡ N.board) × (board_of pass.old ≡ N.board) }
+        requires owns { OwnsJust (view_of pass.old) (Client list.old.client) }
+        requires list { held (view_of pass.old) (Client list.old.client) ≡ Some list.old.entries }
+        ensures client { list.new.client ≡ list.old.client }
+        ensures board { board_of pass.new ≡ N.board }
+        ensures owns { OwnsJust (view_of pass.new) (Client list.old.client) }
+        ensures list { held (view_of pass.new) (Client list.old.client) ≡ Some list.new.entries }
+        ensures restarted { IfOk result (λ kept. IfSome kept (λ there. EndsList (view_of pass.old).known (entry_at node list.old.client (Restarted there)) list.old.entries list.new.entries)) }
+        ensures no_entry { IfOk result (λ kept. IfNone kept ((pass.new ≡ pass.old) × (list.new ≡ list.old))) }
+        ensures failed { OnErr result ((pass.new ≡ pass.old) × (list.new.entries ≡ list.old.entries)) }
+        ensures undamaged { N.honest node.0 → IfErr result IsUndamaged }
+        ensures room { list.old.room ≤ list.new.room + 1 }
+    {
+        match node.0 {
+            0 => match &self.c0 {
+                Some(cell) => cell.restart(rt, alloc, board, pass, list),
+                None => unreachable!(),
+            },
+            1 => match &self.c1 {
+                Some(cell) => cell.restart(rt, alloc, board, pass, list),
+                None => unreachable!(),
+            },
+            2 => match &self.c2 {
+                Some(cell) => cell.restart(rt, alloc, board, pass, list),
+                None => unreachable!(),
+            },
+            3 => match &self.c3 {
+                Some(cell) => cell.restart(rt, alloc, board, pass, list),
+                None => unreachable!(),
+            },
+            4 => match &self.c4 {
+                Some(cell) => cell.restart(rt, alloc, board, pass, list),
+                None => unreachable!(),
+            },
+            5 => match &self.c5 {
+                Some(cell) => cell.restart(rt, alloc, board, pass, list),
+                None => unreachable!(),
+            },
+            6 => match &self.c6 {
+                Some(cell) => cell.restart(rt, alloc, board, pass, list),
+                None => unreachable!(),
+            },
+            7 => match &self.c7 {
+                Some(cell) => cell.restart(rt, alloc, board, pass, list),
+                None => unreachable!(),
+            },
+            _ => unreachable!(),
+        }
+    }
+}

@@ -1,0 +1,18 @@
+//! A memory node behind a lock, with its list of entries and its pass. Each call of it is one entry, which ends the node's list and the
+//! caller's.
+#![tactic(auto)]
+
+mod add;
+mod cell;
+mod cells;
+mod copies;
+mod named;
+mod node_list;
+mod station;
+mod trace;
+
+pub use cell::Cell;
+pub use cells::Cells;
+pub use named::Named;
+pub use station::{Refused, Station};
+pub use trace::{RunCause, RunFailed, Trace};

@@ -1,0 +1,99 @@
+//! A node with its list and its pass.
+ghost use Rattle.std.specs.Prelude.{◌≡◌, [], Some, IfOk, IfErr};
+ghost use Rattle.mn_actors.specs.declared.actor.Actor.TheVariants.{Node as AtNode};
+ghost use Rattle.mn_actors.specs.Lists.{held};
+ghost use Rattle.mn_actors.specs.Sight.{board_of, view_of};
+ghost use Rattle.mn_world.specs.Run.{entries_of};
+ghost use Rattle.mn_cell.specs.Passes.{OwnsJust};
+ghost use Rattle.mn_cell.specs.Station.{HasMade, IsFirst, start_of};
+
+use crate::named::Named;
+use crate::node_list::NodeList;
+use mn_actors::Pass;
+use mn_base::NodeNo;
+use mn_io::Disk;
+use mn_node::Node;
+use mn_world::{CoreLaw, EntryList};
+use std::alloc::Global;
+use std::marker::{Model, PhantomData};
+
+mod calls;
+
+/// A memory node of the run that `N` names, with its list of entries and the pass that owns it. Contracts see its number, the node and the list.
+///
+/// The list is the pass's, which is of the run's board. Each entry is one that the records allow which the node started with, and the node
+/// has the records that they leave.
+#[derive(Drop)]
+pub struct Station<N: Named, D: Disk> {
+    pub(crate) number: NodeNo,
+    pub(crate) node: Node<D>,
+    pub(crate) list: NodeList,
+    pub(crate) pass: Option<Pass<CoreLaw>>,
+    named: PhantomData<N>,
+}
+
+impl<N: Named, D: Disk> Model for Station<N, D> {
+    ghost use Rattle.mn_world.specs.Run.{entries_of};
+    ghost use Rattle.mn_cell.specs.Station.{HasMade, IsPassOf, StationState, start_of};
+
+    ghost Value = { StationState D };
+
+    ghost view = { λ s. record { number = s.number; node = s.node; list = s.list.entries } };
+
+    ghost invariant = { λ s. IsPassOf N.board s.number s.list.entries s.pass × HasMade D.state D.faults (start_of N.records) s.number (N.faults s.number.0) (N.honest s.number.0) (entries_of s.list.entries) s.node };
+}
+
+/// A node and a pass of which no station was made: there was no memory.
+#[derive(Drop)]
+pub struct Refused<D: Disk> {
+    pub node: Node<D>,
+    pub pass: Pass<CoreLaw>,
+}
+
+impl<N: Named, D: Disk> Station<N, D> {
+    /// The station of a node with which the run starts, with an empty list. `Refused` comes for want of memory alone.
+    pub fn new(
+        alloc: Global,
+        node: Node<D>,
+        number: NodeNo,
+        pass: Pass<CoreLaw>,
+    ) -> Result<Station<N, D>, Refused<D>>
+        requires node { IsFirst D.state D.faults (start_of N.records) number (N.faults number.0) (N.honest number.0) node }
+        requires board { board_of pass ≡ N.board }
+        requires owns { OwnsJust (view_of pass) (AtNode number) }
+        requires list { held (view_of pass) (AtNode number) ≡ Some [] }
+        ensures made { IfOk result (λ station. station ≡ record { number = number; node = node; list = [] }) }
+        ensures refused { IfErr result (λ refused. (refused.node ≡ node) × (refused.pass ≡ pass)) }
+    {
+        match NodeList::new(alloc) {
+            Ok(list) => Ok(Station {
+                number,
+                node,
+                list,
+                pass: Some(pass),
+                named: PhantomData,
+            }),
+            Err(_) => Err(Refused { node, pass }),
+        }
+    }
+
+    /// The node, its list and its pass.
+    pub fn into_parts(self) -> (Node<D>, EntryList, Pass<CoreLaw>)
+        ensures node { result.0 ≡ self.node }
+        ensures list { result.1 ≡ self.list }
+        ensures made { HasMade D.state D.faults (start_of N.records) self.number (N.faults self.number.0) (N.honest self.number.0) (entries_of self.list) self.node }
+        ensures board { board_of result.2 ≡ N.board }
+        ensures owns { OwnsJust (view_of result.2) (AtNode self.number) }
+        ensures pass { held (view_of result.2) (AtNode self.number) ≡ Some self.list }
+    {
+        let Station {
+            number: _,
+            node,
+            list,
+            pass,
+            named: _,
+        } = self;
+        let Some(pass) = pass else { unreachable!() };
+        (node, list.into_list(), pass)
+    }
+}

@@ -1,0 +1,358 @@
+//! The calls of a station. Each is one entry of the node and the caller.
+ghost use Rattle.std.specs.Prelude.{◌≡◌, ◌≢◌, ◌≤◌, ◌<◌, ◌^◌, ◌+◌, ◌⊎◌, ℕ, List, Some, None, true, false, not, length, IfOk, IfErr, IfSome, IfNone, OnErr, OnOk, OnSome};
+ghost use Rattle.mn_mini.specs.Sound.{Fits, IsSoundRequest};
+ghost use Rattle.mn_mini.specs.declared.reply.NodeReply.{NodeReply as Reply};
+ghost use Rattle.mn_actors.specs.declared.actor.Actor.TheVariants.{Node as AtNode, Client};
+ghost use Rattle.mn_actors.specs.Lists.{held};
+ghost use Rattle.mn_actors.specs.Sight.{board_of, id_of, view_of};
+ghost use Rattle.mn_node.specs.Restart.{FailsRestart};
+ghost use Rattle.mn_world.specs.declared.entry.What.TheVariants.{Stopped, Restarted};
+ghost use Rattle.mn_world.specs.declared.entry.Entry.{Entry};
+ghost use Rattle.mn_world.specs.Run.{IsLegalBy, entries_of};
+ghost use Rattle.mn_cell.specs.Calls.{EndsBoth, HasLengths, IsLarge, IsLegalLine, IsUndamaged, KeepsStop, MaySend, entry_at, lengths_by, lengths_of, what_said};
+ghost use Rattle.mn_cell.specs.Passes.{AreOfOneLog, IsSame, OwnsJust};
+ghost use Rattle.mn_cell.specs.Promises.{HasPlace, IsOwed, IsOwedAt, decided_by, decided_in};
+ghost use Rattle.mn_cell.specs.Station.{IsAsBefore};
+
+use super::Station;
+use crate::add::{add, compare};
+use crate::copies::{blanks_for, copy_of, what_of};
+use crate::named::Named;
+use crate::node_list::{NodeList, decided_id};
+use mn_actors::{Board, Pass};
+use mn_base::{Bytes, ClientNo, NoMemory, NodeNo, StopAt, Tid, TryCopy};
+use mn_io::Disk;
+use mn_mini::{NodeReply, Request};
+use mn_node::RestartError;
+use mn_world::{ClientList, CoreLaw, Entry, What};
+use std::alloc::Global;
+
+/// What a call takes before the node is asked: a second request, and room for two copies of what is read.
+#[derive(Drop)]
+struct Spare {
+    request: Request,
+    first: Vec<Bytes>,
+    second: Vec<Bytes>,
+}
+
+/// A second request, and room for two copies of what it may read. NoMemory never comes for a Decide.
+fn spare_of(alloc: Global, request: &Request) -> Result<Spare, NoMemory>
+    ensures request { IfOk result (λ spare. spare.request ≡ request.now) }
+    ensures first { IfOk result (λ spare. lengths_of spare.first.items ≡ lengths_by request.now) }
+    ensures second { IfOk result (λ spare. lengths_of spare.second.items ≡ lengths_by request.now) }
+    ensures failed { OnErr result (decided_by request.now ≡ None) }
+{
+    match request {
+        Request::Decide { tid, yes } => Ok(Spare {
+            request: Request::Decide {
+                tid: *tid,
+                yes: *yes,
+            },
+            first: Vec::new(alloc),
+            second: Vec::new(alloc),
+        }),
+        _ => Ok(Spare {
+            request: request.try_copy(alloc)?,
+            first: blanks_for(alloc, request)?,
+            second: blanks_for(alloc, request)?,
+        }),
+    }
+}
+
+/// Makes room in both lists for a step of the client, which may decide an id. NoMemory: there is none. It never comes for a decision that is
+/// owed, where the client's list has room.
+fn make_room(
+    own: &mut NodeList,
+    list: &mut ClientList,
+    decided: Option<Tid>,
+) -> Result<(), NoMemory>
+    ensures place { OnOk result (HasPlace own.new (Some list.old.client) decided) }
+    ensures short { OnOk result ((length own.new.entries < 2 ^ 58) × (length list.new.entries < 2 ^ 58)) }
+    ensures room { OnOk result (0 < list.new.room) }
+    ensures owed { OnErr result (IsOwed (Some list.old.client) decided (entries_of own.old.entries) → 0 < list.old.room → ⊥) }
+    ensures own { own.new.entries ≡ own.old.entries }
+    ensures client { list.new.client ≡ list.old.client }
+    ensures entries { list.new.entries ≡ list.old.entries }
+    ensures no_less { list.old.room ≤ list.new.room }
+{
+    list.reserve(1)?;
+    own.make_place(list.client(), decided)
+}
+
+/// Takes all that a call needs: room in both lists, a second request, and room for what is read. NoMemory never comes for a decision that is
+/// owed, where the client's list has room.
+fn prepare(
+    alloc: Global,
+    own: &mut NodeList,
+    list: &mut ClientList,
+    request: &Request,
+) -> Result<Spare, NoMemory>
+    ensures request { IfOk result (λ spare. spare.request ≡ request.now) }
+    ensures first { IfOk result (λ spare. lengths_of spare.first.items ≡ lengths_by request.now) }
+    ensures second { IfOk result (λ spare. lengths_of spare.second.items ≡ lengths_by request.now) }
+    ensures place { OnOk result (HasPlace own.new (Some list.old.client) (decided_by request.now)) }
+    ensures short { OnOk result ((length own.new.entries < 2 ^ 58) × (length list.new.entries < 2 ^ 58)) }
+    ensures room { OnOk result (0 < list.new.room) }
+    ensures owed { OnErr result (IsOwed (Some list.old.client) (decided_by request.now) (entries_of own.old.entries) → 0 < list.old.room → ⊥) }
+    ensures own { own.new.entries ≡ own.old.entries }
+    ensures client { list.new.client ≡ list.old.client }
+    ensures entries { list.new.entries ≡ list.old.entries }
+    ensures no_less { list.old.room ≤ list.new.room }
+{
+    make_room(own, list, decided_id(request))?;
+    spare_of(alloc, request)
+}
+
+/// The entry of a call, twice. None: the reply is NoMemory, or there is no memory for a copy of a reply that comes with no new record.
+fn two_entries(
+    alloc: Global,
+    number: NodeNo,
+    client: ClientNo,
+    request: Request,
+    stop: Option<StopAt>,
+    reply: &NodeReply,
+    spare: Spare,
+) -> Option<(Entry, Entry)>
+    requires request { spare.request ≡ request }
+    requires first { lengths_of spare.first.items ≡ lengths_by request }
+    requires second { lengths_of spare.second.items ≡ lengths_by request }
+    requires lengths { HasLengths (lengths_by request) reply.now }
+    ensures one { IfSome result (λ made. made.0 ≡ entry_at number client (what_said request stop reply.now)) }
+    ensures two { IfSome result (λ made. made.1 ≡ entry_at number client (what_said request stop reply.now)) }
+    ensures some { OnSome result (reply.now ≢ Reply.NoMemory) }
+    ensures none { IfNone result ((reply.now ≡ Reply.NoMemory) ⊎ IsLarge reply.now) }
+{
+    if matches!(reply, NodeReply::NoMemory) {
+        return None;
+    }
+    let first = copy_of(alloc, reply, spare.first).ok()?;
+    let second = copy_of(alloc, reply, spare.second).ok()?;
+    Some((
+        Entry {
+            node: Some(number),
+            client: Some(client),
+            what: what_of(request, stop, first),
+        },
+        Entry {
+            node: Some(number),
+            client: Some(client),
+            what: what_of(spare.request, stop, second),
+        },
+    ))
+}
+
+/// The entry of a stop between two calls.
+fn stop_entry(number: NodeNo, client: ClientNo) -> Entry
+    ensures { result ≡ entry_at number client (Stopped None None) }
+{
+    Entry {
+        node: Some(number),
+        client: Some(client),
+        what: What::Stopped {
+            request: None,
+            asked: None,
+        },
+    }
+}
+
+/// The entry of a restart.
+fn restart_entry(number: NodeNo, client: ClientNo, kept: bool) -> Entry
+    ensures { result ≡ entry_at number client (Restarted kept) }
+{
+    Entry {
+        node: Some(number),
+        client: Some(client),
+        what: What::Restarted { kept },
+    }
+}
+
+/// Adds an entry, which is there twice, and puts it at the end of both lists. `own` is the node's pass, which comes back.
+fn enter(
+    board: &Board<CoreLaw>,
+    own: Pass<CoreLaw>,
+    node_list: &mut NodeList,
+    number: NodeNo,
+    pass: &mut Pass<CoreLaw>,
+    list: &mut ClientList,
+    entries: (Entry, Entry),
+) -> Pass<CoreLaw>
+    requires board { (board_of own ≡ id_of board.now) × (board_of pass.old ≡ id_of board.now) }
+    requires owns { OwnsJust (view_of own) (AtNode number) × OwnsJust (view_of pass.old) (Client list.old.client) }
+    requires lists { (held (view_of own) (AtNode number) ≡ Some node_list.old.entries) × (held (view_of pass.old) (Client list.old.client) ≡ Some list.old.entries) }
+    requires same { entries.1 ≡ entries.0 }
+    requires actors { (entries.0.node ≡ Some number) × (entries.0.client ≡ Some list.old.client) }
+    requires legal { IsLegalBy (entries_of list.old.entries) entries.0 }
+    requires place { HasPlace node_list.old (Some list.old.client) (decided_in entries.0.what) }
+    requires short { (length node_list.old.entries < 2 ^ 58) × (length list.old.entries < 2 ^ 58) }
+    requires room { 0 < list.old.room }
+    ensures board { (board_of result ≡ id_of board.now) × (board_of pass.new ≡ id_of board.now) }
+    ensures owns { OwnsJust (view_of result) (AtNode number) × OwnsJust (view_of pass.new) (Client list.old.client) }
+    ensures lists { (held (view_of result) (AtNode number) ≡ Some node_list.new.entries) × (held (view_of pass.new) (Client list.old.client) ≡ Some list.new.entries) }
+    ensures ends { EndsBoth (view_of pass.old).known entries.0 node_list.old.entries node_list.new.entries list.old.entries list.new.entries }
+    ensures client { list.new.client ≡ list.old.client }
+    ensures room { list.old.room ≤ list.new.room + 1 }
+{
+    let (first, second) = entries;
+    let (own, place) = add(board, own, pass, &first, number, list.client());
+    node_list.push(place, first);
+    list.push(place, second);
+    own
+}
+
+impl<N: Named, D: Disk> Station<N, D> {
+    /// Tells that the node's list and the client's are of one log: so a decision that the client's list owes has its room in the node's. All is
+    /// as before.
+    fn compare(&mut self, board: &Board<CoreLaw>, pass: &mut Pass<CoreLaw>, client: ClientNo)
+        requires board { (id_of board.now ≡ N.board) × (board_of pass.old ≡ N.board) }
+        requires owns { OwnsJust (view_of pass.old) (Client client) }
+        ensures same { self.new ≡ self.old }
+        ensures board { board_of pass.new ≡ N.board }
+        ensures pass { IsSame (view_of pass.old) (view_of pass.new) × OwnsJust (view_of pass.new) (Client client) }
+        ensures one_log { (list : List (ℕ × Entry)) → held (view_of pass.old) (Client client) ≡ Some list → AreOfOneLog IsLegalLine self.old.number client self.old.list list }
+    {
+        let Some(own) = self.pass.take() else {
+            unreachable!()
+        };
+        self.pass = Some(compare(board, own, pass, self.number, client));
+    }
+
+    /// Calls the node for the client, and adds the reply to both lists.
+    ///
+    /// NoMemory: there was none for the call; the node, the pass and both lists are as before. It never comes for the decision of an id whose
+    /// vote the client has got here and hasn't decided, where the client's list has room, whether the node is up or down. Any other reply is
+    /// the last entry of both lists, at a place that is not below the one that the client's pass knew. Where `stop` is given, a request that
+    /// adds a record isn't done.
+    pub fn call(
+        &mut self,
+        alloc: Global,
+        board: &Board<CoreLaw>,
+        pass: &mut Pass<CoreLaw>,
+        list: &mut ClientList,
+        request: Request,
+        stop: Option<StopAt>,
+    ) -> NodeReply
+        requires board { (id_of board.now ≡ N.board) × (board_of pass.old ≡ N.board) }
+        requires owns { OwnsJust (view_of pass.old) (Client list.old.client) }
+        requires list { held (view_of pass.old) (Client list.old.client) ≡ Some list.old.entries }
+        requires sound { IsSoundRequest request }
+        requires legal { MaySend self.old.number list.old.client list.old.entries request stop }
+        ensures fits { Fits request result }
+        ensures number { self.new.number ≡ self.old.number }
+        ensures client { list.new.client ≡ list.old.client }
+        ensures board { board_of pass.new ≡ N.board }
+        ensures owns { OwnsJust (view_of pass.new) (Client list.old.client) }
+        ensures list { held (view_of pass.new) (Client list.old.client) ≡ Some list.new.entries }
+        ensures said { result ≢ Reply.NoMemory → EndsBoth (view_of pass.old).known (entry_at self.old.number list.old.client (what_said request stop result)) self.old.list self.new.list list.old.entries list.new.entries }
+        ensures before { result ≡ Reply.NoMemory → IsAsBefore self.old self.new }
+        ensures pass_before { result ≡ Reply.NoMemory → IsSame (view_of pass.old) (view_of pass.new) }
+        ensures list_before { result ≡ Reply.NoMemory → list.new.entries ≡ list.old.entries }
+        ensures room { list.old.room ≤ list.new.room + 1 }
+        ensures owed { IsOwedAt self.old.number (decided_by request) (entries_of list.old.entries) → 0 < list.old.room → result ≢ Reply.NoMemory }
+        ensures stop { KeepsStop stop request result }
+    {
+        let client = list.client();
+        let Ok(spare) = prepare(alloc, &mut self.list, list, &request) else {
+            self.compare(board, pass, client);
+            return NodeReply::NoMemory;
+        };
+        let reply = self.node.handle(alloc, &request, stop);
+        let Some(entries) = two_entries(alloc, self.number, client, request, stop, &reply, spare)
+        else {
+            return NodeReply::NoMemory;
+        };
+        let Some(own) = self.pass.take() else {
+            unreachable!()
+        };
+        let own = enter(board, own, &mut self.list, self.number, pass, list, entries);
+        self.pass = Some(own);
+        reply
+    }
+
+    /// Stops the node between two calls, and adds that to both lists. The answer is false exactly where it is down already; then no entry is
+    /// made. NoMemory: there was none, and nothing has changed.
+    pub fn halt(
+        &mut self,
+        board: &Board<CoreLaw>,
+        pass: &mut Pass<CoreLaw>,
+        list: &mut ClientList,
+    ) -> Result<bool, NoMemory>
+        requires board { (id_of board.now ≡ N.board) × (board_of pass.old ≡ N.board) }
+        requires owns { OwnsJust (view_of pass.old) (Client list.old.client) }
+        requires list { held (view_of pass.old) (Client list.old.client) ≡ Some list.old.entries }
+        ensures number { self.new.number ≡ self.old.number }
+        ensures client { list.new.client ≡ list.old.client }
+        ensures board { board_of pass.new ≡ N.board }
+        ensures owns { OwnsJust (view_of pass.new) (Client list.old.client) }
+        ensures list { held (view_of pass.new) (Client list.old.client) ≡ Some list.new.entries }
+        ensures exactly { IfOk result (λ halted. halted ≡ not self.old.node.down) }
+        ensures down { OnOk result (self.new.node.down ≡ true) }
+        ensures halted { IfOk result (λ halted. halted ≡ true → EndsBoth (view_of pass.old).known (entry_at self.old.number list.old.client (Stopped None None)) self.old.list self.new.list list.old.entries list.new.entries) }
+        ensures no_entry { IfOk result (λ halted. halted ≡ false → (self.new ≡ self.old) × (pass.new ≡ pass.old) × (list.new ≡ list.old)) }
+        ensures failed { OnErr result ((self.new ≡ self.old) × (pass.new ≡ pass.old) × (list.new.entries ≡ list.old.entries)) }
+        ensures room { list.old.room ≤ list.new.room + 1 }
+    {
+        if self.node.is_down() {
+            return Ok(false);
+        }
+        make_room(&mut self.list, list, None)?;
+        self.node.halt();
+        let Some(own) = self.pass.take() else {
+            unreachable!()
+        };
+        let entries = (
+            stop_entry(self.number, list.client()),
+            stop_entry(self.number, list.client()),
+        );
+        let own = enter(board, own, &mut self.list, self.number, pass, list, entries);
+        self.pass = Some(own);
+        Ok(true)
+    }
+
+    /// Starts the node again, and adds that to both lists, with whether the record of the request inside which it had stopped is there. The
+    /// answer is None exactly where the node is up; then no entry is made. The causes are those of the node's own restart, or want of memory
+    /// for the entry; after an error no entry is made, and the node is still down.
+    pub fn restart(
+        &mut self,
+        alloc: Global,
+        board: &Board<CoreLaw>,
+        pass: &mut Pass<CoreLaw>,
+        list: &mut ClientList,
+    ) -> Result<Option<bool>, RestartError>
+        requires board { (id_of board.now ≡ N.board) × (board_of pass.old ≡ N.board) }
+        requires owns { OwnsJust (view_of pass.old) (Client list.old.client) }
+        requires list { held (view_of pass.old) (Client list.old.client) ≡ Some list.old.entries }
+        ensures number { self.new.number ≡ self.old.number }
+        ensures client { list.new.client ≡ list.old.client }
+        ensures board { board_of pass.new ≡ N.board }
+        ensures owns { OwnsJust (view_of pass.new) (Client list.old.client) }
+        ensures list { held (view_of pass.new) (Client list.old.client) ≡ Some list.new.entries }
+        ensures was_up { IfOk result (λ kept. IfNone kept (self.old.node.down ≡ false)) }
+        ensures was_down { IfOk result (λ kept. OnSome kept (self.old.node.down ≡ true)) }
+        ensures up { OnOk result (self.new.node.down ≡ false) }
+        ensures restarted { IfOk result (λ kept. IfSome kept (λ there. EndsBoth (view_of pass.old).known (entry_at self.old.number list.old.client (Restarted there)) self.old.list self.new.list list.old.entries list.new.entries)) }
+        ensures no_entry { IfOk result (λ kept. IfNone kept ((self.new ≡ self.old) × (pass.new ≡ pass.old) × (list.new ≡ list.old))) }
+        ensures cause { IfErr result (FailsRestart D.state D.faults self.old.node.disk self.new.node.disk self.old.node.records self.old.node.pending) }
+        ensures undamaged { N.honest self.old.number.0 → IfErr result IsUndamaged }
+        ensures failed { OnErr result (IsAsBefore self.old self.new × (self.old.node.down ≡ true) × (pass.new ≡ pass.old) × (list.new.entries ≡ list.old.entries)) }
+        ensures room { list.old.room ≤ list.new.room + 1 }
+    {
+        if !self.node.is_down() {
+            return Ok(None);
+        }
+        make_room(&mut self.list, list, None)?;
+        let kept = match self.node.restart(alloc) {
+            Ok(kept) => kept,
+            Err(error) => return Err(error),
+        };
+        let Some(own) = self.pass.take() else {
+            unreachable!()
+        };
+        let entries = (
+            restart_entry(self.number, list.client(), kept),
+            restart_entry(self.number, list.client(), kept),
+        );
+        let own = enter(board, own, &mut self.list, self.number, pass, list, entries);
+        self.pass = Some(own);
+        Ok(Some(kept))
+    }
+}

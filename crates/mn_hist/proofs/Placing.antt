@@ -1,0 +1,205 @@
+-- Entries in the slots of their places.
+use Rattle.std.proofs.Common.{◌≡◌, ℕ, zero, suc, ◌+◌, ◌<◌, ◌≤◌, ◌⊎◌, Bool, true, false, Option, Some, None, List, [], ◌∷◌, ◌++◌, length, map, refl, sym, ap, ◌∙◌, subst, inl, inr, arith, length-append, if◌then◌else◌}
+use Rattle.std.specs.Prelude.{slice_get, slice_set}
+use Rattle.std.proofs.lemmas.Option.{same_Some}
+use Rattle.mn_actors.specs.declared.actor.Actor.{Actor}
+use Rattle.mn_actors.specs.declared.actor.Actor.TheVariants.{Node, Client}
+use Rattle.mn_actors.specs.Lines.{Line, stands_in, IsActor}
+use Rattle.mn_actors.specs.Log.{entries_from}
+use Rattle.mn_world.specs.declared.entry.Entry.{Entry}
+use Rattle.mn_world.specs.Lists.{ClientState}
+use Rattle.mn_hist.specs.Merging.{AreOneLog, filled_from, placed_from, put_at, put_list, put_lists}
+
+-- Loops
+
+-- an empty slot more changes nothing
+pub put_empty : (at : ℕ) (e : Entry) (slots : List (Option Entry)) → length slots ≤ at → put_at at e (slots ++ None ∷ []) ≡ put_at at e slots
+put_empty zero e [] le = refl
+put_empty zero e (s ∷ slots) le = absurd (omega (arith, le))
+put_empty (suc at) e [] le = refl
+put_empty (suc at) e (s ∷ slots) le = ap (λ (l : List (Option Entry)). s ∷ l) (put_empty at e slots (omega (arith, le)))
+
+pub put_there : (at : ℕ) (e : Entry) (slots : List (Option Entry)) → at < length slots → slice_set slots at (Some e) ≡ put_at at e slots
+put_there at e [] lt = absurd (omega (arith, lt))
+put_there zero e (s ∷ slots) lt = refl
+put_there (suc at) e (s ∷ slots) lt = ap (λ (l : List (Option Entry)). s ∷ l) (put_there at e slots (omega (arith, lt)))
+
+pub put_last : (l : List (ℕ × Entry)) (p : ℕ) (e : Entry) (slots : List (Option Entry)) → put_list (l ++ (p, e) ∷ []) slots ≡ put_list l (put_at p e slots)
+put_last [] p e slots = refl
+put_last (x ∷ l) p e slots = ap (λ (s : List (Option Entry)). put_at x.0 x.1 s) (put_last l p e slots)
+
+pub put_last_list : (ls : List (List (ℕ × Entry))) (l : List (ℕ × Entry)) (slots : List (Option Entry)) → put_lists (ls ++ l ∷ []) slots ≡ put_lists ls (put_list l slots)
+put_last_list [] l slots = refl
+put_last_list (m ∷ ls) l slots = ap (λ (s : List (Option Entry)). put_list m s) (put_last_list ls l slots)
+
+-- What the slots hold
+
+-- each slot that is filled has the entry of its line
+abbrev pub Under : List (Line Entry) → List (Option Entry) → Type 0
+Under log [] = Unit {0}
+Under [] (s ∷ slots) = ⊥
+Under (x ∷ log) (None ∷ slots) = Under log slots
+Under (x ∷ log) (Some e ∷ slots) = (e ≡ x.entry) × Under log slots
+
+-- the line of this place has this entry
+abbrev pub IsLineAt : List (Line Entry) → ℕ → Entry → Type 0
+IsLineAt log p e = (x : Line Entry) × (slice_get log p ≡ Some x) × (e ≡ x.entry)
+
+put_under : (log : List (Line Entry)) (p : ℕ) (e : Entry) (slots : List (Option Entry)) → IsLineAt log p e → Under log slots → Under log (put_at p e slots)
+put_under [] p e slots is under = let no = is.1 in absurd (cc)
+put_under (x ∷ log) zero e [] is under = (is.2 ∙ ap (λ (y : Line Entry). y.entry) (sym (same_Some _ _ is.1)), under)
+put_under (x ∷ log) zero e (None ∷ slots) is under = (is.2 ∙ ap (λ (y : Line Entry). y.entry) (sym (same_Some _ _ is.1)), under)
+put_under (x ∷ log) zero e (Some f ∷ slots) is under = (is.2 ∙ ap (λ (y : Line Entry). y.entry) (sym (same_Some _ _ is.1)), under.1)
+put_under (x ∷ log) (suc p) e [] is under = put_under log p e [] is under
+put_under (x ∷ log) (suc p) e (None ∷ slots) is under = put_under log p e slots is under
+put_under (x ∷ log) (suc p) e (Some f ∷ slots) is under = (under.0, put_under log p e slots is under.1)
+
+-- each entry of the list is a line's
+abbrev pub AreLines : List (Line Entry) → List (ℕ × Entry) → Type 0
+AreLines log [] = Unit {0}
+AreLines log (x ∷ l) = IsLineAt log x.0 x.1 × AreLines log l
+
+list_under : (log : List (Line Entry)) (l : List (ℕ × Entry)) (slots : List (Option Entry)) → AreLines log l → Under log slots → Under log (put_list l slots)
+list_under log [] slots are under = under
+list_under log (x ∷ l) slots are under = put_under log x.0 x.1 (put_list l slots) are.0 (list_under log l slots are.1 under)
+
+abbrev pub AreListsOf : List (Line Entry) → List (List (ℕ × Entry)) → Type 0
+AreListsOf log [] = Unit {0}
+AreListsOf log (l ∷ ls) = AreLines log l × AreListsOf log ls
+
+lists_under : (log : List (Line Entry)) (ls : List (List (ℕ × Entry))) (slots : List (Option Entry)) → AreListsOf log ls → Under log slots → Under log (put_lists ls slots)
+lists_under log [] slots are under = under
+lists_under log (l ∷ ls) slots are under = list_under log l (put_lists ls slots) are.0 (lists_under log ls slots are.1 under)
+
+-- Which slots are filled
+
+abbrev pub is_full : ℕ → List (Option Entry) → Bool
+is_full p [] = false
+is_full zero (None ∷ slots) = false
+is_full zero (Some e ∷ slots) = true
+is_full (suc p) (s ∷ slots) = is_full p slots
+
+put_full : (p : ℕ) (e : Entry) (slots : List (Option Entry)) → is_full p (put_at p e slots) ≡ true
+put_full zero e [] = refl
+put_full zero e (s ∷ slots) = refl
+put_full (suc p) e [] = put_full p e []
+put_full (suc p) e (s ∷ slots) = put_full p e slots
+
+put_keeps : (q p : ℕ) (e : Entry) (slots : List (Option Entry)) → is_full q slots ≡ true → is_full q (put_at p e slots) ≡ true
+put_keeps q p e [] is = absurd (cc)
+put_keeps zero zero e (s ∷ slots) is = refl
+put_keeps zero (suc p) e (None ∷ slots) is = absurd (cc)
+put_keeps zero (suc p) e (Some f ∷ slots) is = refl
+put_keeps (suc q) zero e (s ∷ slots) is = is
+put_keeps (suc q) (suc p) e (s ∷ slots) is = put_keeps q p e slots is
+
+list_keeps : (q : ℕ) (l : List (ℕ × Entry)) (slots : List (Option Entry)) → is_full q slots ≡ true → is_full q (put_list l slots) ≡ true
+list_keeps q [] slots is = is
+list_keeps q (x ∷ l) slots is = put_keeps q x.0 x.1 (put_list l slots) (list_keeps q l slots is)
+
+lists_keep : (q : ℕ) (ls : List (List (ℕ × Entry))) (slots : List (Option Entry)) → is_full q slots ≡ true → is_full q (put_lists ls slots) ≡ true
+lists_keep q [] slots is = is
+lists_keep q (l ∷ ls) slots is = list_keeps q l (put_lists ls slots) (lists_keep q ls slots is)
+
+-- an entry of this place is in the list
+abbrev pub HasPlace : ℕ → List (ℕ × Entry) → Type 0
+HasPlace q [] = ⊥
+HasPlace q (x ∷ l) = (x.0 ≡ q) ⊎ HasPlace q l
+
+list_fills : (q : ℕ) (l : List (ℕ × Entry)) (slots : List (Option Entry)) → HasPlace q l → is_full q (put_list l slots) ≡ true
+list_fills q [] slots has = absurd has
+list_fills q (x ∷ l) slots (inl is) = subst (λ (p : ℕ). is_full p (put_at x.0 x.1 (put_list l slots)) ≡ true) is (put_full x.0 x.1 (put_list l slots))
+list_fills q (x ∷ l) slots (inr has) = put_keeps q x.0 x.1 (put_list l slots) (list_fills q l slots has)
+
+lists_fill : (q : ℕ) (ls : List (List (ℕ × Entry))) (slots : List (Option Entry)) (i : ℕ) (l : List (ℕ × Entry)) → slice_get ls i ≡ Some l → HasPlace q l → is_full q (put_lists ls slots) ≡ true
+lists_fill q [] slots i l is has = absurd (cc)
+lists_fill q (m ∷ ls) slots zero l is has = list_fills q m (put_lists ls slots) (subst (HasPlace q) (sym (same_Some _ _ is)) has)
+lists_fill q (m ∷ ls) slots (suc i) l is has = list_keeps q m (put_lists ls slots) (lists_fill q ls slots i l is has)
+
+-- The lists of a log
+
+get_middle : (front rest : List (Line Entry)) (x : Line Entry) → slice_get (front ++ x ∷ rest) (length front) ≡ Some x
+get_middle [] rest x = refl
+get_middle (y ∷ front) rest x = get_middle front rest x
+
+append_next : (front rest : List (Line Entry)) (x : Line Entry) → (front ++ x ∷ []) ++ rest ≡ front ++ x ∷ rest
+append_next [] rest x = refl
+append_next (y ∷ front) rest x = ap (λ (l : List (Line Entry)). y ∷ l) (append_next front rest x)
+
+with_line : (b : Bool) (log : List (Line Entry)) (x : ℕ × Entry) (l : List (ℕ × Entry)) → IsLineAt log x.0 x.1 → AreLines log l → AreLines log (if b then x ∷ l else l)
+with_line true log x l is are = (is, are)
+with_line false log x l is are = are
+
+entries_lines : (a : Actor) (front rest : List (Line Entry)) → AreLines (front ++ rest) (entries_from (length front) a rest)
+entries_lines a front [] = tt
+entries_lines a front (x ∷ rest) =
+    let next : length (front ++ x ∷ []) ≡ length front + 1 = omega (arith, length-append front (x ∷ [])) in
+    let are = subst (λ (t : List (Line Entry) × ℕ). AreLines t.0 (entries_from t.1 a rest)) (λ i. (append_next front rest x i, next i)) (entries_lines a (front ++ x ∷ []) rest) in
+    with_line (stands_in a x) (front ++ x ∷ rest) (length front, x.entry) (entries_from (length front + 1) a rest) (x, get_middle front rest x, refl) are
+
+still_has : (b : Bool) (q : ℕ) (x : ℕ × Entry) (l : List (ℕ × Entry)) → HasPlace q l → HasPlace q (if b then x ∷ l else l)
+still_has true q x l has = inr has
+still_has false q x l has = has
+
+has_entry : (a : Actor) (k : ℕ) (log : List (Line Entry)) (i : ℕ) (x : Line Entry) → slice_get log i ≡ Some x → stands_in a x ≡ true → HasPlace (k + i) (entries_from k a log)
+has_entry a k [] i x is stands = absurd (cc)
+has_entry a k (y ∷ log) zero x is stands =
+    let here : stands_in a y ≡ true = ap (λ (z : Line Entry). stands_in a z) (same_Some _ _ is) ∙ stands in
+    let place : k ≡ k + 0 = omega arith in
+    rw here (inl place)
+has_entry a k (y ∷ log) (suc i) x is stands =
+    let place : k + 1 + i ≡ k + suc i = omega arith in
+    still_has (stands_in a y) (k + suc i) (k, y.entry) (entries_from (k + 1) a log) (subst (λ (q : ℕ). HasPlace q (entries_from (k + 1) a log)) place (has_entry a (k + 1) log i x is stands))
+
+lists_are : (log : List (Line Entry)) (ls : List (List (ℕ × Entry))) (actor : ℕ → Actor) → ((i : ℕ) → i < length ls → slice_get ls i ≡ Some (entries_from 0 (actor i) log)) → AreListsOf log ls
+lists_are log [] actor each = tt
+lists_are log (l ∷ ls) actor each =
+    (subst (AreLines log) (sym (same_Some _ _ (each 0 (omega arith)))) (entries_lines (actor 0) [] log), lists_are log ls (λ i. actor (suc i)) (λ i lt. each (suc i) (omega (arith, lt))))
+
+-- All slots filled with the entries of the lines
+
+whole : (p : ℕ) (log : List (Line Entry)) (slots : List (Option Entry)) → Under log slots → ((q : ℕ) → q < length log → is_full q slots ≡ true) → filled_from p slots ≡ placed_from p log
+whole p [] [] under full = refl
+whole p [] (s ∷ slots) under full = absurd under
+whole p (x ∷ log) [] under full = let no = full 0 (omega arith) in absurd (cc)
+whole p (x ∷ log) (None ∷ slots) under full = let no = full 0 (omega arith) in absurd (cc)
+whole p (x ∷ log) (Some e ∷ slots) under full = ap (λ (f : Entry). (p, f) ∷ filled_from (p + 1) slots) under.0 ∙ ap (λ (l : List (ℕ × Entry)). (p, x.entry) ∷ l) (whole (p + 1) log slots under.1 (λ q lt. full (suc q) (omega (arith, lt))))
+
+as_many : (clients : List ClientState) → length (map (λ (l : ClientState). l.entries) clients) ≡ length clients
+as_many [] = refl
+as_many (c ∷ clients) = ap suc (as_many clients)
+
+pub put_last_client : (ls : List ClientState) (l : ClientState) (slots : List (Option Entry)) → put_lists (map (λ (x : ClientState). x.entries) (ls ++ l ∷ [])) slots ≡ put_lists (map (λ (x : ClientState). x.entries) ls) (put_list l.entries slots)
+put_last_client [] l slots = refl
+put_last_client (m ∷ ls) l slots = ap (λ (s : List (Option Entry)). put_list m.entries s) (put_last_client ls l slots)
+
+module _ (nodes : List (List (ℕ × Entry))) (clients : List ClientState) (clock : ℕ) (one : AreOneLog nodes clients clock) where
+  node_lists : AreListsOf one.log nodes
+  node_lists = lists_are one.log nodes (λ n. Node (record { 0 = n })) (λ n lt. one.lists (Node (record { 0 = n })) lt)
+
+  client_lists : AreListsOf one.log (map (λ (l : ClientState). l.entries) clients)
+  client_lists = lists_are one.log (map (λ (l : ClientState). l.entries) clients) (λ c. Client (record { 0 = c })) (λ c lt. one.lists (Client (record { 0 = c })) (omega (arith, lt, as_many clients)))
+
+  all_under : Under one.log (put_lists (map (λ (l : ClientState). l.entries) clients) (put_lists nodes []))
+  all_under = lists_under one.log (map (λ (l : ClientState). l.entries) clients) (put_lists nodes []) client_lists (lists_under one.log nodes [] node_lists tt)
+
+  full_by : (a : Actor) (q : ℕ) (x : Line Entry) → slice_get one.log q ≡ Some x → stands_in a x ≡ true → IsActor (length nodes) (length clients) a → is_full q (put_lists (map (λ (l : ClientState). l.entries) clients) (put_lists nodes [])) ≡ true
+  full_by (Node n) q x is stands on = lists_keep q (map (λ (l : ClientState). l.entries) clients) (put_lists nodes [])
+      (lists_fill q nodes [] n.0 (entries_from 0 (Node n) one.log) (one.lists (Node n) on) (subst (λ (p : ℕ). HasPlace p (entries_from 0 (Node n) one.log)) (zero_more q) (has_entry (Node n) 0 one.log q x is stands)))
+    where
+      zero_more : (q : ℕ) → 0 + q ≡ q
+      zero_more q = omega arith
+  full_by (Client c) q x is stands on = lists_fill q (map (λ (l : ClientState). l.entries) clients) (put_lists nodes []) c.0 (entries_from 0 (Client c) one.log) (one.lists (Client c) on) (subst (λ (p : ℕ). HasPlace p (entries_from 0 (Client c) one.log)) (zero_more q) (has_entry (Client c) 0 one.log q x is stands))
+    where
+      zero_more : (q : ℕ) → 0 + q ≡ q
+      zero_more q = omega arith
+
+  all_full : (q : ℕ) → q < length one.log → is_full q (put_lists (map (λ (l : ClientState). l.entries) clients) (put_lists nodes [])) ≡ true
+  all_full q lt =
+      let at = one.once q (omega (arith, lt, one.clock_is)) in
+      let manned = one.manned q at.0 at.1 in
+      full_by manned.some_actor.0 q at.0 at.1 manned.some_actor.1 (manned.on_board manned.some_actor.0 manned.some_actor.1)
+
+  -- the lists of one log, put together, are that log
+  pub merged_whole : filled_from 0 (put_lists (map (λ (l : ClientState). l.entries) clients) (put_lists nodes [])) ≡ placed_from 0 one.log
+  merged_whole = whole 0 one.log (put_lists (map (λ (l : ClientState). l.entries) clients) (put_lists nodes [])) all_under all_full

@@ -1,0 +1,46 @@
+-- The lists of a run's actors, and the log that they are.
+use Rattle.std.specs.Prelude.{ℕ, zero, suc, ◌+◌, List, [], ◌∷◌, length, map, Option, Some, None, slice_get}
+use Rattle.mn_actors.specs.declared.actor.Actor.{Actor}
+use Rattle.mn_actors.specs.declared.actor.Actor.TheVariants.{Node, Client}
+use Rattle.mn_actors.specs.Lines.{Line}
+use Rattle.mn_actors.specs.Log.{IsOneLog}
+use Rattle.mn_world.specs.declared.entry.Entry.{Entry}
+use Rattle.mn_world.specs.Lists.{ClientState}
+use Rattle.mn_cell.specs.Calls.{IsLegalLine}
+
+-- the list of an actor, if there is such an actor
+abbrev pub list_of : List (List (ℕ × Entry)) → List ClientState → Actor → Option (List (ℕ × Entry))
+list_of nodes clients (Node n) = slice_get nodes n.0
+list_of nodes clients (Client c) = slice_get (map (λ l. l.entries) clients) c.0
+
+-- the lists are one log of so many lines, each legal when it was added
+abbrev pub AreOneLog : List (List (ℕ × Entry)) → List ClientState → ℕ → Type 0
+AreOneLog nodes clients clock = IsOneLog IsLegalLine (length nodes) (length clients) (list_of nodes clients) clock
+
+-- the entries of the lines with their places, from this place on
+abbrev pub placed_from : ℕ → List (Line Entry) → List (ℕ × Entry)
+placed_from p [] = []
+placed_from p (x ∷ log) = (p, x.entry) ∷ placed_from (p + 1) log
+
+-- How it is put together: each entry into the slot of its place
+
+abbrev pub put_at : ℕ → Entry → List (Option Entry) → List (Option Entry)
+put_at zero e [] = Some e ∷ []
+put_at zero e (s ∷ slots) = Some e ∷ slots
+put_at (suc p) e [] = None ∷ put_at p e []
+put_at (suc p) e (s ∷ slots) = s ∷ put_at p e slots
+
+-- the last of the list first
+abbrev pub put_list : List (ℕ × Entry) → List (Option Entry) → List (Option Entry)
+put_list [] slots = slots
+put_list (x ∷ l) slots = put_at x.0 x.1 (put_list l slots)
+
+abbrev pub put_lists : List (List (ℕ × Entry)) → List (Option Entry) → List (Option Entry)
+put_lists [] slots = slots
+put_lists (l ∷ ls) slots = put_list l (put_lists ls slots)
+
+-- the slots that are filled, with their places
+abbrev pub filled_from : ℕ → List (Option Entry) → List (ℕ × Entry)
+filled_from p [] = []
+filled_from p (None ∷ slots) = filled_from (p + 1) slots
+filled_from p (Some e ∷ slots) = (p, e) ∷ filled_from (p + 1) slots
