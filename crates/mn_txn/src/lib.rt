@@ -13,3 +13,6 @@ pub use laws::{
     plans_are_in_order, plans_count_on, plans_hold_their_bytes, plans_name_their_places,
 };
 pub use txn::Txn;
+
+#[cfg(test)]
+mod tests;
