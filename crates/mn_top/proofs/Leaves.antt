@@ -1,28 +1,25 @@
 -- The leaf in its slot, and the space round it.
-use Rattle.std.proofs.Common.{◌≡◌, ◌≤◌, ◌<◌, ◌+◌, ◌-◌, ◌*◌, ◌^◌, ℕ, Bool, true, false, not, zero, suc, lit≤, lit<, append-nil, List, [], ◌∷◌, ◌++◌, length, take, drop, refl, ap, sym, ◌∙◌, arith, subst, IsTrue, None, length-append, length-drop, slice_index_or, Fits, w8}
-use Rattle.byteorder.specs.Endian.{big_bytes}
-use Rattle.std.specs.List.{flat_map, list_all, AllByRecursion}
+use Rattle.std.proofs.Common.{◌≡◌, ◌≤◌, ◌<◌, ◌+◌, ◌-◌, ◌^◌, ℕ, Bool, true, false, not, zero, suc, lit≤, lit<, append-nil, List, [], ◌∷◌, ◌++◌, length, take, drop, refl, ap, sym, ◌∙◌, arith, subst, IsTrue, None, length-append, length-drop, slice_index_or, Fits, w8}
+use Rattle.std.specs.List.{list_all, AllByRecursion}
 use Rattle.mn_base.specs.Order.{covers_key}
 use Rattle.mn_base.specs.Store.{is_ascending}
 use Rattle.std.proofs.Math.ListN.{drop_of_length-le}
-use Rattle.std.proofs.Math.Seq.{take-length}
+use Rattle.std.proofs.Math.Seq.{take-length, drop-append-add, drop-append_seam, take-append_seam}
 use Rattle.std.specs.Prelude.{nat_lt}
 use Rattle.std.proofs.lemmas.Bool.Decides.{nat_tests}
 use Rattle.std.proofs.lemmas.List.{take-append-le, drop-append-le}
-use Rattle.std.proofs.Math.Seq.{drop-append-add, drop-append_seam, take-append_seam}
-use Rattle.byteorder.specs.Numbers.{length-bytes_high_first}
 use Rattle.mn_base.specs.declared.reply.Pair.{Pair}
 use Rattle.mn_mini.specs.Mini.{space_size}
 use Rattle.mn_mini.specs.Flat.{bytes_in, overwritten}
-use Rattle.mn_page.proofs.Spelled.{page_spelled_once}
+use Rattle.mn_page.proofs.Spelled.{page_length, page_spelled_once}
 use Rattle.mn_page.specs.declared.page.Page.{Page}
 use Rattle.mn_page.specs.declared.page.Body.TheVariants as Body
-use Rattle.mn_page.specs.Grammar.{IsPage, IsKey, IsValue, page_bytes, pair_bytes, entry_bytes}
+use Rattle.mn_page.specs.Grammar.{IsPage, IsKey, IsValue, page_bytes, entry_bytes}
 use Rattle.mn_page.specs.Forest.{main_entry}
 use Rattle.mn_page.specs.Space.{space_length}
 use Rattle.mn_node.specs.Memory.{base_of}
 use Rattle.mn_top.specs.Leaf.{leaf_page, leaf_space, front, ArePairs, HoldsLeaf}
-use Rattle.mn_top.proofs.LeafLemmas.{behind, length-behind, leaf_space-is, are_pairs, length-padded, fields_of, empty_is_page}
+use Rattle.mn_top.proofs.LeafLemmas.{behind, length-behind, leaf_space-is, empty_is_page}
 use Rattle.mn_top.proofs.SpaceLemmas.{overwritten-inside}
 
 -- the elements of a slice of bytes are bytes
@@ -39,29 +36,9 @@ pub record HasRead (space page : List ℕ) : Type 0 where
   pub leaf : bytes_in space 20480 1024 ≡ page
   pub entry : bytes_in space 64 64 ≡ entry_bytes main_entry
 
-length-pairs : (ps : List Pair) → ArePairs ps → length (flat_map pair_bytes ps) ≤ 98 * length ps
-length-pairs [] fit = omega arith
-length-pairs (p ∷ ps) fit =
-    let rest = length-pairs ps fit.1 in
-    let own = fit.0 in
-    let key_short = own.0.1 in
-    let value_short = own.1.0 in
-    let one : length (pair_bytes p) ≡ suc (length p.key) + suc (length p.value) = length-append (length p.key ∷ p.key) (length p.value ∷ p.value) in
-    let all = length-append (pair_bytes p) (flat_map pair_bytes ps) in
-    grind arith
-
 -- a leaf fills its slot
 pub length-leaf : (seq : ℕ) (pairs : List Pair) → IsPage (leaf_page seq pairs) → length (page_bytes (leaf_page seq pairs)) ≡ 1024
-length-leaf seq pairs is =
-    let fields = fields_of seq pairs in
-    let eight = length-bytes_high_first 8 seq in
-    let long = length-pairs pairs (are_pairs seq pairs is) in
-    let few = is.body.0 in
-    length-padded 1024 (big_bytes 8 seq ++ 1 ∷ [] ++ 0 ∷ 0 ∷ [] ++ 0 ∷ [] ++ big_bytes 8 0 ++ 0 ∷ [] ++ 0 ∷ [] ++ length pairs ∷ [] ++ flat_map pair_bytes pairs) (short (big_bytes 8 seq) (length pairs) (flat_map pair_bytes pairs) eight long few)
-  where
-    short : (number : List ℕ) (count : ℕ) (body : List ℕ) → length number ≡ 8 → length body ≤ 98 * count → count ≤ 8
-        → length (number ++ 1 ∷ [] ++ 0 ∷ 0 ∷ [] ++ 0 ∷ [] ++ big_bytes 8 0 ++ 0 ∷ [] ++ 0 ∷ [] ++ count ∷ [] ++ body) ≤ 1024
-    short number count body n m few = simp length-append (omega arith)
+length-leaf seq pairs is = page_length (leaf_page seq pairs) is
 
 -- What a space that holds a leaf shows
 
@@ -159,11 +136,6 @@ leaf_is_page seq pairs some small few ascend are = record {
     each [] all = tt
     each (p ∷ ps) all = ((all.0.0, all.0.1, every_key p.key), each ps all.1)
 
-pub short_ascends : (ps : List Pair) → length ps < 2 → is_ascending ps ≡ true
-short_ascends [] short = refl
-short_ascends (p ∷ []) short = refl
-short_ascends (p ∷ q ∷ ps) short = absurd (omega arith)
-
 -- bytes written back into the place that they came from
 pub written_back : (n : ℕ) (new old : List ℕ) → length old ≡ n → length new ≡ n → take n (new ++ drop (length new) old) ≡ new
 written_back n new old long same =
@@ -176,13 +148,6 @@ length-overwritten (x ∷ space) zero [] = refl
 length-overwritten (x ∷ space) zero (b ∷ bytes) = ap suc (length-overwritten space zero bytes)
 length-overwritten (x ∷ space) (suc start) bytes = ap suc (length-overwritten space start bytes)
 
--- leaves of the same pairs, written as often, are the same page
-pub same_leaf : (seq n : ℕ) (pairs others : List Pair) → seq ≡ n → pairs ≡ others → leaf_page seq pairs ≡ leaf_page n others
-same_leaf seq n pairs others e f = ap (λ (k : ℕ). leaf_page k pairs) e ∙ ap (λ (l : List Pair). leaf_page n l) f
-
-pub same_space : (seq n : ℕ) (pairs others : List Pair) → seq ≡ n → pairs ≡ others → leaf_space seq pairs ≡ leaf_space n others
-same_space seq n pairs others e f = ap (λ (k : ℕ). leaf_space k pairs) e ∙ ap (λ (l : List Pair). leaf_space n l) f
-
 pub unnot : (b : Bool) → not b ≡ false → b ≡ true
 unnot true e = refl
 unnot false e = sym e
@@ -192,14 +157,17 @@ pub base_holds : HoldsLeaf (base_of 1 0) 1 []
 unfolding base_of leaf_space
 base_holds = record { page = empty_is_page; space = refl }
 
--- a space holds one leaf
-pub leaf_once : (space : List ℕ) (seq n : ℕ) (pairs others : List Pair) → HoldsLeaf space seq pairs → HoldsLeaf space n others → (seq ≡ n) × (pairs ≡ others)
-leaf_once space seq n pairs others holds other =
-    let same = sym (slot_is space seq pairs (bytes_in space 20480 1024) holds refl) ∙ slot_is space n others (bytes_in space 20480 1024) other refl in
-    parts_of (page_spelled_once (leaf_page seq pairs) (leaf_page n others) holds.page other.page same)
+-- a slot holds one leaf
+pub page_once : (seq n : ℕ) (pairs others : List Pair) → IsPage (leaf_page seq pairs) → IsPage (leaf_page n others) → page_bytes (leaf_page seq pairs) ≡ page_bytes (leaf_page n others) → (seq ≡ n) × (pairs ≡ others)
+page_once seq n pairs others is other same = parts_of (page_spelled_once (leaf_page seq pairs) (leaf_page n others) is other same)
   where
     of_body : Body.Leaf pairs ≡ Body.Leaf others → pairs ≡ others
     of_body e = cc
 
     parts_of : leaf_page seq pairs ≡ leaf_page n others → (seq ≡ n) × (pairs ≡ others)
     parts_of e = (ap (λ (p : Page). p.seq) e, of_body (ap (λ (p : Page). p.body) e))
+
+-- and a space one
+pub leaf_once : (space : List ℕ) (seq n : ℕ) (pairs others : List Pair) → HoldsLeaf space seq pairs → HoldsLeaf space n others → (seq ≡ n) × (pairs ≡ others)
+leaf_once space seq n pairs others holds other =
+    page_once seq n pairs others holds.page other.page (sym (slot_is space seq pairs (bytes_in space 20480 1024) holds refl) ∙ slot_is space n others (bytes_in space 20480 1024) other refl)

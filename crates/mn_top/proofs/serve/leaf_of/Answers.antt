@@ -1,12 +1,11 @@
-use Rattle.std.proofs.Common.{ap, ◌∙◌, length, ℕ, List}
-use Rattle.mn_top.proofs.Leaves.{length-leaf}
+use Rattle.std.proofs.Common.{sym, ◌∙◌}
+use Rattle.mn_top.proofs.Leaves.{page_once}
 use Rattle.mn_top.proofs.serve.leaf_of.Goals as goal
 
-pub read_leaf-requires : goal.read_leaf-requires
-read_leaf-requires c = let known = c.requires in ap (λ (l : List ℕ). length l) known.3 ∙ length-leaf known.0 known.1 known.2
-
 pub unreachable-requires : goal.unreachable-requires
-unreachable-requires c = let known = c.requires in rw c.in-None.is at (c.in_ok-leaf.ensures known.0 known.1 known.2 known.3)
+unreachable-requires c = let known = c.requires in let none = rw c.in-None.is at c.in_ok-leaf.ensures in none known.0 known.1 (known.2, known.3)
 
 pub returns : goal.returns
-returns c = λ seq pairs is e. rw c.in-Some.is at (c.in_ok-leaf.ensures seq pairs is e)
+returns c = λ seq pairs is e.
+    let told = rw c.in-Some.is at c.in_ok-leaf.ensures in
+    page_once c.in-Some.leaf.seq seq c.in-Some.leaf.pairs.items pairs told.0 is (sym told.1 ∙ e)
