@@ -5,3 +5,4 @@ mod Children
 mod Runs
 mod Paths
 mod Numbers
+pub mod Trees

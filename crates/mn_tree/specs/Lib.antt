@@ -8,4 +8,5 @@ pub mod Places
 pub mod Effects
 pub mod Room
 pub mod Order
+pub mod Trees
 pub mod Laws

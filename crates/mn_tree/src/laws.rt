@@ -1,6 +1,36 @@
-ghost use Rattle.mn_tree.specs.Laws.{WalksArePaths};
+ghost use Rattle.mn_tree.specs.Laws.{WalksArePaths, ReadsAreDraft, AddKeepsDraft, PathTells, StepKeepsTree, TransactionKeepsTree, TransactionTells};
 
 /// Where the root isn't too high, a walk that reaches a leaf goes the way of the plain model of the tree.
 pub fn walks_are_paths()
     ensures { WalksArePaths }
+{}
+
+/// Pages that were read from a memory that holds a store are a draft of this store.
+pub fn reads_are_draft()
+    ensures { ReadsAreDraft }
+{}
+
+/// A further page that is read leaves a draft what it is.
+pub fn add_keeps_draft()
+    ensures { AddKeepsDraft }
+{}
+
+/// The leaf at the end of a key's path has the version's value of the key.
+pub fn path_tells()
+    ensures { PathTells }
+{}
+
+/// A step leaves a draft of the store with the step done: copies and splits keep the tree.
+pub fn step_keeps_tree()
+    ensures { StepKeepsTree }
+{}
+
+/// The steps of a transaction leave a draft of the store after the transaction.
+pub fn transaction_keeps_tree()
+    ensures { TransactionKeepsTree }
+{}
+
+/// What the steps find on the leaves of their paths is the transaction's reply.
+pub fn transaction_tells()
+    ensures { TransactionTells }
 {}

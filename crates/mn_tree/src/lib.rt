@@ -16,7 +16,10 @@ mod write;
 mod writer;
 
 pub use error::AddError;
-pub use laws::walks_are_paths;
+pub use laws::{
+    add_keeps_draft, path_tells, reads_are_draft, step_keeps_tree, transaction_keeps_tree,
+    transaction_tells, walks_are_paths,
+};
 pub use overlay::Overlay;
 pub use stepped::Stepped;
 

@@ -1,0 +1,20 @@
+-- Trees that the steps of a transaction change: single changes of pages first, then changes up a path, then steps.
+pub mod Puts
+pub mod Twins
+pub mod Ranges
+pub mod Halved
+pub mod Fits
+pub mod LeafSet
+pub mod SplitBelow
+pub mod Grows
+pub mod Joined
+pub mod CopyBelow
+pub mod Among
+pub mod Final
+pub mod FinalSplit
+pub mod Raised
+pub mod Ready
+pub mod Found
+pub mod Pairs
+pub mod Steps
+pub mod Reads

@@ -1,0 +1,90 @@
+-- A page that was copied for one more version: which versions it serves.
+use Rattle.std.proofs.Common.{◌≡◌, ℕ, zero, suc, ◌+◌, ◌^◌, ◌<◌, ◌≤◌, Bool, true, false, cond, not, ◌&&◌, ◌||◌, List, [], ◌∷◌, Some, refl, subst, sym, ap, ◌∙◌, arith, slice_get}
+use Rattle.std.specs.Prelude.{filter, nat_eq, nat_lt, reverse}
+use Rattle.std.specs.Int.Bits.{bit_or}
+use Rattle.std.specs.List.{AllByRecursion, list_any, list_all, range_with_len}
+use Rattle.std.proofs.lemmas.Bool.{eqb-true, eq-eqb, lt-ltb, and_parts, and_from, and_right}
+use Rattle.mn_base.specs.Store.{Head, max_versions}
+use Rattle.mn_base.specs.Tree.{IsVersionTree, serves, parents_of, is_ancestor, has_version, versions_in}
+use Rattle.mn_page.proofs.Ancestors.{alone, is_own_ancestor, above_le}
+use Rattle.mn_page.proofs.Copy.{Joins, joined_bit}
+
+any_same : (t new old : ℕ → Bool) (v : ℕ) → Joins new old v → t v ≡ false → (ws : List ℕ) → list_any t (filter new ws) ≡ list_any t (filter old ws)
+any_same t new old v joins off [] = refl
+any_same t new old v joins off (w ∷ ws) = ap (λ b. list_any t (cond b (w ∷ filter new ws) (filter new ws))) (joins w) ∙ cases (old w) (nat_eq w v) refl (any_same t new old v joins off ws)
+  where
+    cases : (a b : Bool) → nat_eq w v ≡ b → list_any t (filter new ws) ≡ list_any t (filter old ws) → list_any t (cond (a || b) (w ∷ filter new ws) (filter new ws)) ≡ list_any t (cond a (w ∷ filter old ws) (filter old ws))
+    cases true b e rest = ap (λ c. t w || c) rest
+    cases false true e rest = ap (λ c. c || list_any t (filter new ws)) (ap t (eqb-true w v e) ∙ off) ∙ rest
+    cases false false e rest = rest
+
+any_joined : (t new : ℕ → Bool) (v : ℕ) → new v ≡ true → t v ≡ true → (ws : List ℕ) (i : ℕ) → slice_get ws i ≡ Some v → list_any t (filter new ws) ≡ true
+any_joined t new v is pass [] i at = absurd cc
+any_joined t new v is pass (w ∷ ws) zero at =
+    let here : w ≡ v = cc in
+    ap (λ b. list_any t (cond b (w ∷ filter new ws) (filter new ws))) (ap new here ∙ is) ∙ ap (λ b. b || list_any t (filter new ws)) (ap t here ∙ pass)
+any_joined t new v is pass (w ∷ ws) (suc i) at = over (new w) (any_joined t new v is pass ws i at)
+  where
+    or_right : (a b : Bool) → b ≡ true → (a || b) ≡ true
+    or_right true b e = refl
+    or_right false b e = e
+
+    over : (b : Bool) → list_any t (filter new ws) ≡ true → list_any t (cond b (w ∷ filter new ws) (filter new ws)) ≡ true
+    over true rest = or_right (t w) _ rest
+    over false rest = rest
+
+all_joined : (P : ℕ → Type 0) (new old : ℕ → Bool) (v : ℕ) → Joins new old v → P v → (ws : List ℕ) → AllByRecursion P (filter old ws) → AllByRecursion P (filter new ws)
+all_joined P new old v joins one [] all = tt
+all_joined P new old v joins one (w ∷ ws) all = subst (λ b. AllByRecursion P (cond b (w ∷ filter new ws) (filter new ws))) (sym (joins w)) (cases (old w) (nat_eq w v) refl all (λ rest. all_joined P new old v joins one ws rest))
+  where
+    cases : (a b : Bool) → nat_eq w v ≡ b → AllByRecursion P (cond a (w ∷ filter old ws) (filter old ws)) → (AllByRecursion P (filter old ws) → AllByRecursion P (filter new ws)) → AllByRecursion P (cond (a || b) (w ∷ filter new ws) (filter new ws))
+    cases true b e all more = (all.0, more all.1)
+    cases false true e all more = (subst P (sym (eqb-true w v e)) one, more all)
+    cases false false e all more = more all
+
+range_at : (a n i : ℕ) → i < n → slice_get (range_with_len a n) i ≡ Some (a + i)
+range_at a zero i in' = absurd (omega arith)
+range_at a (suc n) zero in' = let e : a ≡ a + 0 = omega arith in ap Some e
+range_at a (suc n) (suc i) in' = let e : a + 1 + i ≡ a + suc i = omega arith in range_at (a + 1) n i (omega arith) ∙ ap Some e
+
+all_as_list : (t : ℕ → Bool) (ws : List ℕ) → AllByRecursion (λ w. t w ≡ true) ws → list_all t ws ≡ true
+all_as_list t [] all = refl
+all_as_list t (w ∷ ws) all = and_from (t w) (list_all t ws) all.0 (all_as_list t ws all.1)
+
+list_as_all : (t : ℕ → Bool) (ws : List ℕ) → list_all t ws ≡ true → AllByRecursion (λ w. t w ≡ true) ws
+list_as_all t [] e = tt
+list_as_all t (w ∷ ws) e = let parts = and_parts (t w) (list_all t ws) e in (parts.0, list_as_all t ws parts.1)
+
+abbrev pub joined : ℕ → ℕ → ℕ
+joined copied v = bit_or copied (2 ^ v)
+
+module _ (heads : List Head) (tree : IsVersionTree heads) (v : ℕ) (h : Head) (there : slice_get heads v ≡ Some h) (writable : h.frozen ≡ false) where
+  -- it serves each other version that it served
+  pub serves_still : (made copied w : ℕ) → (w ≡ v → ⊥) → serves (parents_of heads) made (joined copied v) w ≡ serves (parents_of heads) made copied w
+  serves_still made copied w differ =
+      ap (λ b. is_ancestor (parents_of heads) made w && not b)
+      (any_same (λ x. is_ancestor (parents_of heads) x w) (has_version (joined copied v)) (has_version copied) v (joined_bit copied v) (off (is_ancestor (parents_of heads) v w) refl) (range_with_len 0 max_versions))
+    where
+      off : (b : Bool) → is_ancestor (parents_of heads) v w ≡ b → is_ancestor (parents_of heads) v w ≡ false
+      off true e = absurd (differ (sym (alone heads tree v w h there writable e)))
+      off false e = e
+
+  -- and that one no more
+  pub serves_no_more : (made copied : ℕ) → v < 64 → serves (parents_of heads) made (joined copied v) v ≡ false
+  serves_no_more made copied few =
+      ap (λ b. is_ancestor (parents_of heads) made v && not b)
+      (any_joined (λ x. is_ancestor (parents_of heads) x v) (has_version (joined copied v)) v (joined_bit copied v v ∙ (ap (λ b. has_version copied v || b) (eq-eqb v v refl) ∙ last (has_version copied v))) (is_own_ancestor heads v h there)
+      (range_with_len 0 max_versions) v (range_at 0 64 v few ∙ (let e : 0 + v ≡ v = omega arith in ap Some e)))
+      ∙ and_right (is_ancestor (parents_of heads) made v) false refl
+    where
+      last : (b : Bool) → (b || true) ≡ true
+      last true = refl
+      last false = refl
+
+  pub joined_all : (P : ℕ → Type 0) (copied : ℕ) → P v → AllByRecursion P (versions_in copied) → AllByRecursion P (versions_in (joined copied v))
+  joined_all P copied one all = all_joined P (has_version (joined copied v)) (has_version copied) v (joined_bit copied v) one (range_with_len 0 max_versions) all
+
+  pub joined_above : (made copied : ℕ) → (made ≡ v → ⊥) → is_ancestor (parents_of heads) made v ≡ true → list_all (nat_lt made) (versions_in copied) ≡ true → list_all (nat_lt made) (versions_in (joined copied v)) ≡ true
+  joined_above made copied differ above e =
+      let low : made ≤ v = above_le (reverse (parents_of heads)) tree.parents made v above in
+      all_as_list (nat_lt made) (versions_in (joined copied v)) (joined_all (λ w. nat_lt made w ≡ true) copied (lt-ltb made v (omega arith)) (list_as_all (nat_lt made) (versions_in copied) e))

@@ -1,0 +1,50 @@
+-- Trees whose pages a transaction changes in memory: the pages that it holds, over those of the memory.
+use Rattle.std.specs.Prelude.{◌≡◌, ℕ, ◌≤◌, nat_lt, false, IsTrue, List, [], ◌∷◌, Option, Some, None, slice_get}
+use Rattle.std.specs.List.{list_all}
+use Rattle.std.specs.Option.{option_or}
+use Rattle.mn_base.specs.Order.{key_lt, below_bound}
+use Rattle.mn_base.specs.Store.{Store}
+use Rattle.mn_base.specs.Tree.{versions_in}
+use Rattle.mn_base.specs.declared.ids.Addr.{Addr}
+use Rattle.mn_page.specs.declared.entry.CatEntry.{CatEntry}
+use Rattle.mn_page.specs.declared.page.Page.{Page}
+use Rattle.mn_page.specs.declared.page.Body.{Body}
+use Rattle.mn_page.specs.declared.page.Body.TheVariants.{Leaf, Inner}
+use Rattle.mn_page.specs.declared.page.Child.{Child}
+use Rattle.mn_page.specs.Holds.{PagesAt, IsTree, ShowsStore}
+use Rattle.mn_page.specs.Overlay.{Held, Overlay, held_at, new_addr}
+
+-- the pages that a transaction holds, and under them those of the memory
+abbrev pub laid_over : List Held → PagesAt → PagesAt
+laid_over pages at addr = option_or (held_at pages addr) (at addr)
+
+-- a low fence, the separators behind it and the high fence ascend
+abbrev pub AreRising : List ℕ → List Child → Option (List ℕ) → Type 0
+AreRising low [] high = IsTrue (below_bound low high)
+AreRising low (c ∷ cs) high = IsTrue (key_lt low c.separator) × AreRising c.separator cs high
+
+abbrev pub children_after : Body → List Child
+children_after (Leaf pairs) = []
+children_after (Inner height first rest) = rest
+
+-- what the grammar asks of a page's order: its fences and separators ascend, and it was copied for later versions alone
+pub record IsOrdered (p : Page) : Type 0 where
+  pub rising : AreRising p.low (children_after p.body) p.high
+  pub copied_above : IsTrue (list_all (nat_lt p.made.0) (versions_in p.copied))
+
+-- the pages are a tree, in order, and show the store
+pub record IsShown (entries : List CatEntry) (at : PagesAt) (store : Store) : Type 0 where
+  pub tree : IsTree entries at
+  pub ordered : (addr : Addr) (p : Page) → at addr ≡ Some p → IsOrdered p
+  pub shows : ShowsStore entries at store
+
+-- the version is one of the entries', and isn't frozen
+pub record IsWritable (entries : List CatEntry) (v : ℕ) : Type 0 where
+  pub entry : CatEntry
+  pub there : slice_get entries v ≡ Some entry
+  pub writable : entry.frozen ≡ false
+
+-- the pages of a transaction, with those of the memory under them, show the store; no page has the number of a new one to come
+pub record IsDraft (entries : List CatEntry) (at : PagesAt) (store : Store) (o : Overlay) : Type 0 where
+  pub shown : IsShown entries (laid_over o.pages at) store
+  pub fresh : (n : ℕ) → o.fresh ≤ n → laid_over o.pages at (new_addr n) ≡ None
