@@ -15,3 +15,4 @@ pub mod Scanned
 pub mod PageText
 pub mod Lent
 pub mod EntryText
+pub mod EntryFronts

@@ -6,3 +6,4 @@ pub mod Laws
 pub mod Overlay
 pub mod Written
 pub mod Reading
+pub mod Fronts

@@ -2,6 +2,7 @@ ghost use Rattle.std.specs.Prelude.{◌≡◌, ◌++◌, ◌∷◌, [], ℕ, Lis
 ghost use Rattle.mn_base.specs.declared.ids.VersionNo.{VersionNo};
 ghost use Rattle.mn_page.specs.declared.entry.CatEntry.{CatEntry};
 ghost use Rattle.mn_page.specs.Grammar.{IsEntry, IsParent, IsUnused, SpellsEntry, SpellsNoEntry, state_byte, parent_byte, entry_bytes};
+ghost use Rattle.mn_page.specs.Fronts.{BeginsEntry, NamesLongest};
 ghost use Rattle.mn_page.specs.Reading.{Begins, IsWantOfMemory, IsPlaceWithin, entry_seen, entry_text, IsNamed};
 
 use crate::fault::{ENTRY, entry_fault};
@@ -102,6 +103,7 @@ impl CatEntry {
         ensures unused { IsUnused bytes.now → IfOk result (λ found. found ≡ None) }
         ensures bad { IfErr result (λ e. (IsWantOfMemory e → ⊥) → SpellsNoEntry bytes.now) }
         ensures place { IfErr result (IsPlaceWithin (length bytes.now)) }
+        ensures longest { IfErr result (NamesLongest BeginsEntry bytes.now) }
     {
         let Some(entry) = whole_entry(bytes) else {
             if is_unused(bytes) {

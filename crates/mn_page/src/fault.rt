@@ -1,4 +1,5 @@
 ghost use Rattle.std.specs.Prelude.{◌≡◌, ◌<◌, ◌≤◌, ◌+◌, OnOk, IfOk, IfErr, length};
+ghost use Rattle.mn_page.specs.Fronts.{BeginsEntry, IsLongest, entry_goes_on};
 
 use crate::key_room::{Room, ShortKey, has_room, leaves_room, next_key};
 
@@ -316,52 +317,46 @@ pub fn page_fault(bytes: &[u8]) -> u16
     place.min(SLOT) as u16
 }
 
-/// The place behind an entry but for its name. Err: the number of first bytes that still begin some entry.
-fn behind_root(bytes: &[u8]) -> Result<usize, usize>
-    ensures place { IfErr result (λ place. place ≤ length bytes.now) }
-    ensures within { IfOk result (λ end. end ≤ length bytes.now) }
+/// Whether byte `at` of an entry may be this one: `some` says whether a byte before it isn't zero, `count` how long the name is.
+fn entry_goes_on(at: usize, some: bool, count: usize, byte: u8) -> bool
+    requires { count < 256 }
+    ensures { result ≡ entry_goes_on at some count byte }
 {
-    let at = behind_seq(bytes)?;
-    let at = behind_byte(bytes, at, 1, 2)?;
-    let parent = byte_at(bytes, at)?;
-    let at = behind_byte(bytes, at, 0, if parent == 255 { 255 } else { 63 })?;
-    behind_addr(bytes, at)
-}
-
-/// The place behind a name behind its length.
-fn behind_name(bytes: &[u8], at: usize) -> Result<usize, usize>
-    requires { at ≤ length bytes.now }
-    ensures place { IfErr result (λ place. place ≤ length bytes.now) }
-    ensures within { IfOk result (λ end. end ≤ length bytes.now) }
-{
-    let mut next = behind_byte(bytes, at, 1, 16)?;
-    let length = byte_at(bytes, at)?;
-    for _ in 0..length {
-        if !matches!(byte_at(bytes, next)?, b'a'..=b'z' | b'0'..=b'9') {
-            return Err(next);
+    match at {
+        0..7 => true,
+        7 => some || byte > 0,
+        8 => byte == 1 || byte == 2,
+        9 => byte < 64 || byte == 255,
+        10 => byte < 8,
+        11 => byte < 16,
+        12 => true,
+        13 => byte > 0 && byte < 17,
+        _ => {
+            if at < 14 + count {
+                matches!(byte, b'a'..=b'z' | b'0'..=b'9')
+            } else {
+                byte == 0
+            }
         }
-        next = behind_byte(bytes, next, 0, 255)?;
     }
-    Ok(next)
 }
 
-/// The place behind the entry that the bytes begin with. Err: the number of first bytes that still begin some entry.
-fn behind_entry(bytes: &[u8]) -> Result<usize, usize>
-    ensures place { IfErr result (λ place. place ≤ length bytes.now) }
-    ensures within { IfOk result (λ end. end ≤ length bytes.now) }
-{
-    let at = behind_root(bytes)?;
-    let at = behind_name(bytes, at)?;
-    behind_zeros(bytes, at, ENTRY)
-}
-
-/// How many of the first bytes still begin some entry, where the bytes are those of none.
+/// How many of the first bytes still begin some entry.
 pub fn entry_fault(bytes: &[u8]) -> u16
-    ensures { result ≤ length bytes.now }
+    ensures longest { IsLongest BeginsEntry bytes.now result }
+    ensures within { result ≤ length bytes.now }
 {
-    let place = match behind_entry(bytes) {
-        Ok(place) => place,
-        Err(place) => place,
-    };
-    place.min(ENTRY) as u16
+    let mut some = false;
+    let mut count = 0;
+    for at in 0..ENTRY {
+        let Some(byte) = bytes.get(at) else {
+            return at as u16;
+        };
+        if !entry_goes_on(at, some, count, *byte) {
+            return at as u16;
+        }
+        some = some || *byte > 0;
+        count = if at == 13 { *byte as usize } else { count };
+    }
+    ENTRY as u16
 }
