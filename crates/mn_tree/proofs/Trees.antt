@@ -18,3 +18,6 @@ pub mod Found
 pub mod Pairs
 pub mod Steps
 pub mod Reads
+pub mod Renamed
+pub mod Tidy
+pub mod Placing

@@ -1,5 +1,5 @@
 -- The laws of walks, and of the trees that steps leave.
-use Rattle.std.specs.Prelude.{ℕ, ◌≡◌, ◌≤◌, ◌+◌, ◌++◌, ◌&&◌, false, List, [], ◌∷◌, Option, Some, None, slice_get, slice_set, if◌then◌else◌}
+use Rattle.std.specs.Prelude.{ℕ, ◌≡◌, ◌≤◌, ◌+◌, ◌++◌, ◌&&◌, false, List, [], ◌∷◌, Option, Some, None, slice_get, slice_set, if◌then◌else◌, length, ⊤}
 use Rattle.std.specs.List.{AllByRecursion}
 use Rattle.std.specs.Option.{option_map_or, option_and_then}
 use Rattle.mn_base.specs.Store.{Store, StoreVersion, heads_of, number_named, value_at, is_unmet, is_change, step_key, pairs_after_step, noted_by, refusal, applied}
@@ -14,10 +14,10 @@ use Rattle.mn_page.specs.declared.page.Page.{Page}
 use Rattle.mn_page.specs.Grammar.{height_of}
 use Rattle.mn_page.specs.Forest.{page_at}
 use Rattle.mn_page.specs.Holds.{PagesAt, Holds}
-use Rattle.mn_page.specs.Overlay.{Held, Overlay, overlay_of, held_at, held_with, max_path, path_to, path_pairs, step_on, steps_on}
+use Rattle.mn_page.specs.Overlay.{Held, Overlay, overlay_of, held_at, held_with, max_path, path_to, path_pairs, step_on, steps_on, is_new, placed_pages}
 use Rattle.mn_tree.specs.Walk.{Reached, walk}
 use Rattle.mn_tree.specs.State.{max_height}
-use Rattle.mn_tree.specs.Trees.{laid_over, IsDraft}
+use Rattle.mn_tree.specs.Trees.{laid_over, IsShown, IsDraft}
 
 -- where a walk reaches a leaf under a root that isn't too high, its path is the one of the plain model
 abbrev pub WalksArePaths : Type 0
@@ -71,3 +71,16 @@ TransactionTells =
     (entries : List CatEntry) (at : PagesAt) (store : Store) (pages : List Held) (name : List ℕ) (v : VersionNo) (entry : CatEntry) (steps : List Step) (reply : Reply) → IsDraft entries at store (overlay_of pages)
     → number_named (heads_of store) name ≡ Some v.0 → slice_get entries v.0 ≡ Some entry → refusal (heads_of store) (Tx name steps) ≡ None → found_on v entry.root (overlay_of pages) 1 [] steps ≡ Some reply
     → reply ≡ (applied store (Tx name steps)).reply
+
+-- slots that the memory has free, each once, on nodes that there may be
+abbrev pub AreFreeSlots : List Addr → PagesAt → Type 0
+AreFreeSlots [] at = ⊤
+AreFreeSlots (s ∷ slots) at = (at s ≡ None) × (is_new s ≡ false) × AllByRecursion (λ a. a ≡ s → ⊥) slots × AreFreeSlots slots at
+
+-- once the changed pages are written back and the new ones have free slots, the memory's pages are a tree that shows the store after the transaction
+abbrev pub PlacingKeepsTree : Type 0
+PlacingKeepsTree =
+    (memory : List (List ℕ)) (store : Store) (holds : Holds memory store) (pages : List Held) (name : List ℕ) (v : VersionNo) (entry : CatEntry) (steps : List Step) (after : Overlay) (slots : List Addr)
+    → AllByRecursion (λ h. page_at holds.forest h.addr ≡ Some h.page) pages → number_named (heads_of store) name ≡ Some v.0 → slice_get holds.forest.entries v.0 ≡ Some entry → refusal (heads_of store) (Tx name steps) ≡ None
+    → steps_on v entry.root (overlay_of pages) (overlay_of pages) steps ≡ Some after → length slots ≡ after.fresh → AreFreeSlots slots (page_at holds.forest)
+    → IsShown holds.forest.entries (laid_over (placed_pages slots after) (page_at holds.forest)) (applied store (Tx name steps)).store

@@ -1,4 +1,4 @@
-ghost use Rattle.mn_tree.specs.Laws.{WalksArePaths, ReadsAreDraft, AddKeepsDraft, PathTells, StepKeepsTree, TransactionKeepsTree, TransactionTells};
+ghost use Rattle.mn_tree.specs.Laws.{WalksArePaths, ReadsAreDraft, AddKeepsDraft, PathTells, StepKeepsTree, TransactionKeepsTree, TransactionTells, PlacingKeepsTree};
 
 /// Where the root isn't too high, a walk that reaches a leaf goes the way of the plain model of the tree.
 pub fn walks_are_paths()
@@ -33,4 +33,9 @@ pub fn transaction_keeps_tree()
 /// What the steps find on the leaves of their paths is the transaction's reply.
 pub fn transaction_tells()
     ensures { TransactionTells }
+{}
+
+/// The pages of such a draft are still a tree that shows the store once the new ones have slots that the memory has free.
+pub fn placing_keeps_tree()
+    ensures { PlacingKeepsTree }
 {}

@@ -57,7 +57,7 @@ child_in : (entries : List CatEntry) (at : PagesAt) → IsTree entries at → (a
 child_in entries at tree a p there i r found = all_at_place (IsChild entries at p) (children_of p) i r (tree.children a p there) found
 
 -- each page that a page names is there
-settled : (entries : List CatEntry) (at : PagesAt) → IsTree entries at → (a : Addr) (p : Page) → at a ≡ Some p → (x : Addr) → Among x (body_addrs p.body) → at x ≡ None → ⊥
+pub settled : (entries : List CatEntry) (at : PagesAt) → IsTree entries at → (a : Addr) (p : Page) → at a ≡ Some p → (x : Addr) → Among x (body_addrs p.body) → at x ≡ None → ⊥
 settled entries at tree a p there x among none =
     let c = has_child p x among in
     let is = child_in entries at tree a p there c.place c.range c.there in

@@ -42,7 +42,7 @@ all_joined P new old v joins one (w ∷ ws) all = subst (λ b. AllByRecursion P 
     cases false true e all more = (subst P (sym (eqb-true w v e)) one, more all)
     cases false false e all more = more all
 
-range_at : (a n i : ℕ) → i < n → slice_get (range_with_len a n) i ≡ Some (a + i)
+pub range_at : (a n i : ℕ) → i < n → slice_get (range_with_len a n) i ≡ Some (a + i)
 range_at a zero i in' = absurd (omega arith)
 range_at a (suc n) zero in' = let e : a ≡ a + 0 = omega arith in ap Some e
 range_at a (suc n) (suc i) in' = let e : a + 1 + i ≡ a + suc i = omega arith in range_at (a + 1) n i (omega arith) ∙ ap Some e

@@ -20,7 +20,7 @@ use Rattle.mn_tree.specs.Laws.{ReadsAreDraft, AddKeepsDraft}
 use Rattle.mn_tree.proofs.Trees.Puts.{put_same, laid_with, addr_is}
 
 -- pages as they stand there change nothing
-read_over : (pages : List Held) (at : PagesAt) → AllByRecursion (λ h. at h.addr ≡ Some h.page) pages → laid_over pages at ≡ at
+pub read_over : (pages : List Held) (at : PagesAt) → AllByRecursion (λ h. at h.addr ≡ Some h.page) pages → laid_over pages at ≡ at
 read_over pages at all = λ i x. (pointwise x pages all) i
   where
     pointwise : (x : Addr) (hs : List Held) → AllByRecursion (λ h. at h.addr ≡ Some h.page) hs → option_or (held_at hs x) (at x) ≡ at x
