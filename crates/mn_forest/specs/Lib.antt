@@ -3,3 +3,7 @@ pub mod Known
 pub mod Votes
 pub mod Refusal
 pub mod Told
+pub mod Rules
+pub mod Trees
+pub mod Progress
+pub mod Shown

@@ -4,14 +4,22 @@
 mod base;
 mod error;
 mod flat;
+mod forest;
+mod front;
 mod held;
 mod known;
+mod pages;
+mod place;
+mod shown;
 mod votes;
 mod write;
 
 pub use base::base_spaces;
-pub use error::VoteError;
+pub use error::{ForestError, Rule, VoteError};
 pub use flat::flat_of;
+pub use forest::check;
 
+#[cfg(test)]
+mod check_tests;
 #[cfg(test)]
 mod flat_tests;

@@ -9,6 +9,7 @@ mod version;
 
 pub use digest::digest_of;
 pub use store::{MAX_VERSIONS, Store};
+pub use version::Kept;
 
 #[cfg(test)]
 mod tests;

@@ -1,4 +1,4 @@
-ghost use Rattle.std.specs.Prelude.{◌≡◌, ◌<◌, ◌&&◌, not, length, IfOk, IfNone, OnOk, OnErr, IsSomeAnd, slice_get, option_map, option_and_then};
+ghost use Rattle.std.specs.Prelude.{◌≡◌, ◌<◌, ◌≤◌, ◌&&◌, not, length, IfOk, IfNone, OnOk, OnErr, IsSomeAnd, slice_get, option_map, option_and_then};
 ghost use Rattle.mn_base.specs.Store.{applied, empty_store, main_store, heads_of, listed, listing_of, child_refusal, max_versions};
 ghost use Rattle.mn_plain.specs.Run.{Does, is_unmet_reply, pairs_after};
 ghost use Rattle.mn_plain.specs.Digest.{pairs_digest};
@@ -133,6 +133,14 @@ impl Store {
             pairs,
         })?;
         Ok(Store { versions })
+    }
+
+    /// The store of these versions, in order of number. It takes no memory.
+    pub fn of_versions(versions: Vec<Kept>) -> Self
+        requires { length versions.items ≤ max_versions }
+        ensures { result ≡ store_of versions.items }
+    {
+        Store { versions }
     }
 
     /// Does the operation and replies to it. After a refusing reply or an unmet Check the store is as it was. NoMemory: there
