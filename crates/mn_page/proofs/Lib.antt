@@ -16,3 +16,5 @@ pub mod PageText
 pub mod Lent
 pub mod EntryText
 pub mod EntryFronts
+pub mod KeyOrder
+pub mod KeyRoom

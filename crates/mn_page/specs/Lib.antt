@@ -7,3 +7,4 @@ pub mod Overlay
 pub mod Written
 pub mod Reading
 pub mod Fronts
+pub mod KeyRoom

@@ -1,3 +1,6 @@
+ghost use Rattle.std.specs.Prelude.{◌≡◌, ◌≤◌, ◌-◌, ◌++◌, [], ◌↔◌, IsTrue, length, replicate, MatchOption, option_map};
+ghost use Rattle.mn_page.specs.KeyRoom.{HasNoneFrom, HasRoom, IsLast, IsLeastFrom, IsNext, LeavesRoom, raised};
+
 use crate::scan::is_below;
 use arrayvec::ArrayVec;
 
@@ -5,7 +8,9 @@ use arrayvec::ArrayVec;
 pub type ShortKey = ArrayVec<u8, 32>;
 
 /// The least key above this one; there is none above 32 bytes of 255.
-pub fn next_key(key: &[u8]) -> Option<ShortKey> {
+pub fn next_key(key: &[u8]) -> Option<ShortKey>
+    ensures { length key.now ≤ 32 → MatchOption result (IsLast key.now) (λ next. IsNext key.now next.items) }
+{
     let mut next = ShortKey::new();
     if next.try_extend_from_slice(key).is_err() {
         return None;
@@ -17,9 +22,11 @@ pub fn next_key(key: &[u8]) -> Option<ShortKey> {
 }
 
 /// The key whose last byte that is not 255 is one higher, with nothing behind it.
-fn raised(key: ShortKey) -> Option<ShortKey> {
+fn raised(key: ShortKey) -> Option<ShortKey>
+    ensures { option_map (λ r. r.items) result ≡ raised key.items }
+{
     let mut raised = key;
-    for _ in 0..32 {
+    for _ in 0..32usize {
         let last = raised.pop()?;
         if last < 255 {
             raised.try_push(last + 1).ok()?;
@@ -29,33 +36,39 @@ fn raised(key: ShortKey) -> Option<ShortKey> {
     None
 }
 
-/// The bytes, as many zeros behind them as make up the length, if they are not too many.
-fn filled(bytes: &[u8], length: usize) -> Option<ShortKey> {
+/// The bytes, as many zeros behind them as make up the size, if they are not too many.
+fn filled(bytes: &[u8], size: usize) -> Option<ShortKey>
+    ensures { MatchOption result (length bytes.now ≤ 32 → size ≤ 32 → ⊥) (λ key. key.items ≡ bytes.now ++ replicate (size - length bytes.now) 0) }
+{
     let mut key = ShortKey::new();
     key.try_extend_from_slice(bytes).ok()?;
-    for _ in bytes.len()..length {
+    for _ in bytes.len()..size {
         key.try_push(0).ok()?;
     }
     Some(key)
 }
 
-/// The least key of this length at or above `least`.
-fn least_from(least: &[u8], length: usize) -> Option<ShortKey> {
-    if least.len() <= length {
-        return filled(least, length);
+/// The least key of this size at or above `least`.
+fn least_from(least: &[u8], size: usize) -> Option<ShortKey>
+    ensures { length least.now ≤ 32 → size ≤ 32 → MatchOption result (HasNoneFrom least.now [] size) (λ key. IsLeastFrom least.now [] size key.items) }
+{
+    if least.len() <= size {
+        return filled(least, size);
     }
     let mut front = ShortKey::new();
-    front.try_extend_from_slice(&least[..length]).ok()?;
-    filled(raised(front)?.as_slice(), length)
+    front.try_extend_from_slice(&least[..size]).ok()?;
+    filled(raised(front)?.as_slice(), size)
 }
 
-/// The least key of this length that begins with `front` and is at or above `least`.
-fn least_with(least: &[u8], front: &[u8], length: usize) -> Option<ShortKey> {
-    let with = filled(front, length)?;
+/// The least key of this size that begins with `front` and is at or above `least`.
+fn least_with(least: &[u8], front: &[u8], size: usize) -> Option<ShortKey>
+    ensures { length least.now ≤ 32 → size ≤ 32 → length front.now ≤ size → MatchOption result (HasNoneFrom least.now front.now size) (λ key. IsLeastFrom least.now front.now size key.items) }
+{
+    let with = filled(front, size)?;
     if !with.as_slice().cmp(least).is_lt() {
         return Some(with);
     }
-    let from = least_from(least, length)?;
+    let from = least_from(least, size)?;
     if from.as_slice().starts_with(front) {
         Some(from)
     } else {
@@ -64,7 +77,9 @@ fn least_with(least: &[u8], front: &[u8], length: usize) -> Option<ShortKey> {
 }
 
 /// Whether the key and so many more above it lie below the bound.
-pub fn has_room(key: &[u8], more: usize, high: Option<&[u8]>) -> bool {
+pub fn has_room(key: &[u8], more: usize, high: Option<&[u8]>) -> bool
+    ensures { length key.now ≤ 32 → (IsTrue result ↔ HasRoom key.now more (option_map (λ h. h.now) high.entry)) }
+{
     let mut last = ShortKey::new();
     if last.try_extend_from_slice(key).is_err() {
         return false;
@@ -87,9 +102,11 @@ pub struct Room<'a> {
     pub more: usize,
 }
 
-/// Whether a key of this length that begins with `front` leaves the room.
-pub fn leaves_room(room: &Room<'_>, front: &[u8], length: usize) -> bool {
-    match least_with(room.least, front, length) {
+/// Whether a key of this size that begins with `front` leaves the room.
+pub fn leaves_room(room: &Room<'_>, front: &[u8], size: usize) -> bool
+    ensures { length room.now.least.now ≤ 32 → size ≤ 32 → length front.now ≤ size → (IsTrue result ↔ LeavesRoom room.now.least.now front.now size room.now.more (option_map (λ h. h.now) room.now.high)) }
+{
+    match least_with(room.least, front, size) {
         Some(key) => has_room(key.as_slice(), room.more, room.high),
         None => false,
     }
