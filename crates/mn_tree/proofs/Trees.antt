@@ -1,4 +1,4 @@
--- Trees that the steps of a transaction change: single changes of pages first, then changes up a path, then steps.
+-- Trees that the steps of a transaction change: single changes of pages first, then changes up a path, then steps, then slots.
 pub mod Puts
 pub mod Twins
 pub mod Ranges
@@ -16,8 +16,8 @@ pub mod Raised
 pub mod Ready
 pub mod Found
 pub mod Pairs
-pub mod Steps
-pub mod Reads
-pub mod Renamed
 pub mod Tidy
+pub mod Reads
+pub mod Steps
+pub mod Renamed
 pub mod Placing

@@ -13,7 +13,7 @@ use Rattle.mn_page.specs.declared.entry.CatEntry.{CatEntry}
 use Rattle.mn_page.specs.declared.page.Page.{Page}
 use Rattle.mn_page.specs.Grammar.{height_of}
 use Rattle.mn_page.specs.Forest.{page_at}
-use Rattle.mn_page.specs.Holds.{PagesAt, Holds}
+use Rattle.mn_page.specs.Holds.{PagesAt, Holds, IsTree}
 use Rattle.mn_page.specs.Overlay.{Held, Overlay, overlay_of, held_at, held_with, max_path, path_to, path_pairs, step_on, steps_on, is_new, placed_pages}
 use Rattle.mn_tree.specs.Walk.{Reached, walk}
 use Rattle.mn_tree.specs.State.{max_height}
@@ -77,10 +77,8 @@ abbrev pub AreFreeSlots : List Addr → PagesAt → Type 0
 AreFreeSlots [] at = ⊤
 AreFreeSlots (s ∷ slots) at = (at s ≡ None) × (is_new s ≡ false) × AllByRecursion (λ a. a ≡ s → ⊥) slots × AreFreeSlots slots at
 
--- once the changed pages are written back and the new ones have free slots, the memory's pages are a tree that shows the store after the transaction
+-- once the changed pages of a draft are written back and the new ones have free slots, the memory's pages are a tree that shows the store
 abbrev pub PlacingKeepsTree : Type 0
 PlacingKeepsTree =
-    (memory : List (List ℕ)) (store : Store) (holds : Holds memory store) (pages : List Held) (name : List ℕ) (v : VersionNo) (entry : CatEntry) (steps : List Step) (after : Overlay) (slots : List Addr)
-    → AllByRecursion (λ h. page_at holds.forest h.addr ≡ Some h.page) pages → number_named (heads_of store) name ≡ Some v.0 → slice_get holds.forest.entries v.0 ≡ Some entry → refusal (heads_of store) (Tx name steps) ≡ None
-    → steps_on v entry.root (overlay_of pages) (overlay_of pages) steps ≡ Some after → length slots ≡ after.fresh → AreFreeSlots slots (page_at holds.forest)
-    → IsShown holds.forest.entries (laid_over (placed_pages slots after) (page_at holds.forest)) (applied store (Tx name steps)).store
+    (entries : List CatEntry) (at : PagesAt) (store : Store) (o : Overlay) (slots : List Addr) → IsTree entries at → IsDraft entries at store o → length slots ≡ o.fresh → AreFreeSlots slots at
+    → IsShown entries (laid_over (placed_pages slots o) at) store

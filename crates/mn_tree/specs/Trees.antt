@@ -1,7 +1,8 @@
 -- Trees whose pages a transaction changes in memory: the pages that it holds, over those of the memory.
-use Rattle.std.specs.Prelude.{◌≡◌, ℕ, ◌≤◌, nat_lt, false, IsTrue, List, [], ◌∷◌, Option, Some, None, slice_get}
-use Rattle.std.specs.List.{list_all}
+use Rattle.std.specs.Prelude.{◌≡◌, ℕ, ◌≤◌, nat_lt, false, IsTrue, List, [], ◌∷◌, Option, Some, None, slice_get, Bool, true}
+use Rattle.std.specs.List.{list_all, list_any}
 use Rattle.std.specs.Option.{option_or}
+use Rattle.mn_base.specs.Ids.{addr_same}
 use Rattle.mn_base.specs.Order.{key_lt, below_bound}
 use Rattle.mn_base.specs.Store.{Store}
 use Rattle.mn_base.specs.Tree.{versions_in}
@@ -12,7 +13,7 @@ use Rattle.mn_page.specs.declared.page.Body.{Body}
 use Rattle.mn_page.specs.declared.page.Body.TheVariants.{Leaf, Inner}
 use Rattle.mn_page.specs.declared.page.Child.{Child}
 use Rattle.mn_page.specs.Holds.{PagesAt, IsTree, ShowsStore}
-use Rattle.mn_page.specs.Overlay.{Held, Overlay, held_at, new_addr}
+use Rattle.mn_page.specs.Overlay.{Held, Overlay, held_at, is_new, new_addr}
 
 -- the pages that a transaction holds, and under them those of the memory
 abbrev pub laid_over : List Held → PagesAt → PagesAt
@@ -44,7 +45,24 @@ pub record IsWritable (entries : List CatEntry) (v : ℕ) : Type 0 where
   pub there : slice_get entries v ≡ Some entry
   pub writable : entry.frozen ≡ false
 
--- the pages of a transaction, with those of the memory under them, show the store; no page has the number of a new one to come
+-- the address is among these
+abbrev pub is_noted : List Addr → Addr → Bool
+is_noted addrs x = list_any (λ a. addr_same a x) addrs
+
+-- an old page that was changed: the memory has it, and the transaction holds it
+pub record IsChanged (at : PagesAt) (o : Overlay) (x : Addr) : Type 0 where
+  pub old : is_new x ≡ false
+  pub was : Page
+  pub there : at x ≡ Some was
+  pub now : Page
+  pub held : held_at o.pages x ≡ Some now
+
+-- the pages of a transaction, with those of the memory under them, show the store
 pub record IsDraft (entries : List CatEntry) (at : PagesAt) (store : Store) (o : Overlay) : Type 0 where
   pub shown : IsShown entries (laid_over o.pages at) store
+  -- the memory has no page at the address of a new one, and there is none yet at those to come
+  pub none_new : (n : ℕ) → at (new_addr n) ≡ None
   pub fresh : (n : ℕ) → o.fresh ≤ n → laid_over o.pages at (new_addr n) ≡ None
+  -- old pages are as they were, but for those noted as changed
+  pub same : (x : Addr) → is_new x ≡ false → is_noted o.changed x ≡ false → laid_over o.pages at x ≡ at x
+  pub changed : (x : Addr) → is_noted o.changed x ≡ true → IsChanged at o x

@@ -35,7 +35,7 @@ pub fn transaction_tells()
     ensures { TransactionTells }
 {}
 
-/// The pages of such a draft are still a tree that shows the store once the new ones have slots that the memory has free.
+/// The pages of a draft are still a tree that shows its store once the new ones have slots that the memory has free.
 pub fn placing_keeps_tree()
     ensures { PlacingKeepsTree }
 {}

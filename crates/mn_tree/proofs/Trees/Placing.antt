@@ -1,70 +1,28 @@
 -- Pages in their slots are the tree that they were before.
 use Rattle.std.proofs.Common.{◌≡◌, ℕ, zero, suc, ◌+◌, ◌<◌, ◌⊎◌, inl, inr, Bool, true, false, ◌||◌, List, [], ◌∷◌, ◌++◌, map, length, Option, Some, None, refl, subst, sym, ap, ◌∙◌, arith, if◌then◌else◌, slice_get, slice_index_or}
-use Rattle.std.specs.Prelude.{nat_eq, nat_le}
+use Rattle.std.specs.Prelude.{nat_le}
 use Rattle.std.specs.List.{AllByRecursion, flat_map, range_with_len}
 use Rattle.std.specs.Option.{option_or, option_map, option_to_list, option_and_then}
 use Rattle.std.proofs.lemmas.Bool.{eqb-true, cases_eq, leb-true, leb-false}
-use Rattle.std.proofs.lemmas.Option.{option_and_then_some, slice_get_within}
+use Rattle.std.proofs.lemmas.Option.{slice_get_within}
 use Rattle.mn_base.specs.Ids.{addr_same}
-use Rattle.mn_base.specs.Store.{Store, is_unmet, step_key, applied}
+use Rattle.mn_base.specs.Store.{Store}
 use Rattle.mn_base.specs.declared.ids.Addr.{Addr}
 use Rattle.mn_base.specs.declared.ids.NodeNo.{NodeNo}
-use Rattle.mn_base.specs.declared.ids.VersionNo.{VersionNo}
-use Rattle.mn_base.specs.declared.op.Step.{Step}
-use Rattle.mn_base.specs.declared.op.Op.TheVariants.{Tx}
 use Rattle.mn_page.specs.declared.entry.CatEntry.{CatEntry}
 use Rattle.mn_page.specs.declared.page.Page.{Page}
 use Rattle.mn_page.specs.declared.page.Body.{Body}
 use Rattle.mn_page.specs.declared.page.Body.TheVariants.{Leaf, Inner}
 use Rattle.mn_page.specs.declared.page.Child.{Child}
-use Rattle.mn_page.specs.Grammar.{height_of}
-use Rattle.mn_page.specs.Forest.{page_at, children_of}
 use Rattle.mn_page.specs.Holds.{PagesAt, IsTree}
-use Rattle.mn_page.specs.Overlay.{Held, Overlay, overlay_of, is_new, new_addr, held_at, child_at, child_for, max_path, path_to, path_pairs, step_on, steps_on, placed_addr, placed_body, placed_page, placed_old, placed_new, placed_pages, next_number}
-use Rattle.mn_tree.specs.Trees.{laid_over, IsShown, IsDraft}
+use Rattle.mn_page.specs.Overlay.{Held, Overlay, is_new, new_addr, held_at, child_at, placed_addr, placed_body, placed_page, placed_old, placed_new, placed_pages, next_number}
+use Rattle.mn_tree.specs.Trees.{laid_over, is_noted, IsShown, IsDraft}
 use Rattle.mn_tree.specs.Laws.{AreFreeSlots, PlacingKeepsTree}
 use Rattle.mn_tree.proofs.Trees.Puts.{addr_is, same_itself, differs, page_same, nothing}
 use Rattle.mn_tree.proofs.Trees.Among.{Among, rest_addrs, body_addrs}
 use Rattle.mn_tree.proofs.Trees.Joined.{range_at}
 use Rattle.mn_tree.proofs.Trees.Found.{settled}
 use Rattle.mn_tree.proofs.Trees.Renamed.{Moved, Came, renamed_body, renamed_shown}
-use Rattle.mn_tree.proofs.Trees.Tidy.{IsTidy, Exists, AllExist, is_noted, step_tidy}
-use Rattle.mn_tree.proofs.Trees.Reads.{read_over, reads_are_draft}
-use Rattle.mn_tree.proofs.Trees.Steps.{transaction_keeps_tree}
-
--- All steps note what they change
-
-path_exists : (at : PagesAt) (pages : List Held) (key : List ℕ) (fuel : ℕ) (addr : Addr) (above path : List Held) → AllExist (laid_over pages at) above → path_to fuel pages addr key above ≡ Some path → AllExist (laid_over pages at) path
-path_exists at pages key zero addr above path all e = absurd cc
-path_exists at pages key (suc fuel) addr above path all e =
-    option_and_then_some
-    (λ page. if nat_eq (height_of page.body) 0 then Some (held page ∷ above) else option_and_then (λ next. path_to fuel pages next key (held page ∷ above)) (child_for (children_of page) key)) (held_at pages addr) path e
-    (λ page there f. by_height page (page, ap (λ o. option_or o (at addr)) there) (nat_eq (height_of page.body) 0) f (λ next g. path_exists at pages key fuel next (held page ∷ above) path ((page, ap (λ o. option_or o (at addr)) there), all) g))
-  where
-    held : Page → Held
-    held page = record { addr = addr; page = page }
-
-    by_height : (page : Page) → Exists (laid_over pages at) addr → (t : Bool)
-        → (if t then Some (held page ∷ above) else option_and_then (λ next. path_to fuel pages next key (held page ∷ above)) (child_for (children_of page) key)) ≡ Some path
-        → ((next : Addr) → path_to fuel pages next key (held page ∷ above) ≡ Some path → AllExist (laid_over pages at) path) → AllExist (laid_over pages at) path
-    by_height page there true f rest = let same : held page ∷ above ≡ path = cc in subst (AllExist (laid_over pages at)) same (there, all)
-    by_height page there false f rest = option_and_then_some (λ next. path_to fuel pages next key (held page ∷ above)) (child_for (children_of page) key) path f (λ next chosen g. rest next g)
-
-overlay_same : (a b : Overlay) → Some a ≡ Some b → a ≡ b
-overlay_same a b e = cc
-
-steps_tidy : (at : PagesAt) (v : VersionNo) (root : Addr) (steps : List Step) (old o after : Overlay) → IsTidy at old → IsTidy at o → steps_on v root old o steps ≡ Some after → IsTidy at after
-steps_tidy at v root [] old o after first tidy e = subst (IsTidy at) (overlay_same o after e) tidy
-steps_tidy at v root (step ∷ steps) old o after first tidy e =
-    option_and_then_some (λ path. if is_unmet (path_pairs path) step then Some old else steps_on v root old (step_on v o step path) steps) (path_to max_path o.pages root (step_key step) []) after e (λ path way f.
-    by_check path (is_unmet (path_pairs path) step) f (λ g. steps_tidy at v root steps old (step_on v o step path) after first (step_tidy at v o step path tidy (path_exists at o.pages (step_key step) max_path root [] path tt way)) g))
-  where
-    by_check : (path : List Held) (t : Bool) → (if t then Some old else steps_on v root old (step_on v o step path) steps) ≡ Some after → (steps_on v root old (step_on v o step path) steps ≡ Some after → IsTidy at after) → IsTidy at after
-    by_check path true f rest = subst (IsTidy at) (overlay_same old after f) first
-    by_check path false f rest = rest f
-
-first_tidy : (at : PagesAt) (pages : List Held) → AllByRecursion (λ h. at h.addr ≡ Some h.page) pages → IsTidy at (overlay_of pages)
-first_tidy at pages read = record { same = λ x old off. ap (λ (t : PagesAt). t x) (read_over pages at read); old = λ x noted. absurd cc }
 
 -- Slots
 
@@ -216,7 +174,7 @@ pages_of : (o : Option Page) (under : Option Page) (p : Page) → under ≡ None
 pages_of (Some q) under p none e = e
 pages_of None under p none e = absurd (nothing p under none e)
 
-module _ (entries : List CatEntry) (at : PagesAt) (store : Store) (o : Overlay) (slots : List Addr) (first : IsTree entries at) (none_new : (n : ℕ) → at (new_addr n) ≡ None) (draft : IsDraft entries at store o) (tidy : IsTidy at o) (long : length slots ≡ o.fresh) (free : AreFreeSlots slots at) where
+module _ (entries : List CatEntry) (at : PagesAt) (store : Store) (o : Overlay) (slots : List Addr) (first : IsTree entries at) (draft : IsDraft entries at store o) (long : length slots ≡ o.fresh) (free : AreFreeSlots slots at) where
   abbrev tree : PagesAt
   tree = laid_over o.pages at
 
@@ -243,7 +201,7 @@ module _ (entries : List CatEntry) (at : PagesAt) (store : Store) (o : Overlay) 
   is_old x p there = cases (is_new x) refl
     where
       cases : (t : Bool) → is_new x ≡ t → is_new x ≡ false
-      cases true e = absurd (nothing p (at x) (ap at (new_is x e) ∙ none_new x.slot) there)
+      cases true e = absurd (nothing p (at x) (ap at (new_is x e) ∙ draft.none_new x.slot) there)
       cases false e = e
 
   old_stays : (x : Addr) → is_new x ≡ false → to x ≡ x
@@ -256,8 +214,8 @@ module _ (entries : List CatEntry) (at : PagesAt) (store : Store) (o : Overlay) 
       cases : (t : Bool) → is_noted o.changed (to (new_addr n)) ≡ t → is_noted o.changed (to (new_addr n)) ≡ false
       cases true e =
           let r = some_slot slots n low in
-          let was = (tidy.old (to (new_addr n)) e).1 in
-          absurd (nothing was.0 (at (to (new_addr n))) (ap at (r.2 (new_addr n)) ∙ (slot_free slots at n r.0 free r.1).0) was.1)
+          let was = draft.changed (to (new_addr n)) e in
+          absurd (nothing was.was (at (to (new_addr n))) (ap at (r.2 (new_addr n)) ∙ (slot_free slots at n r.0 free r.1).0) was.there)
       cases false e = e
 
   moved_as : (a : Addr) (p q : Page) → placed (to a) ≡ Some q → q.made ≡ p.made → q.copied ≡ p.copied → q.low ≡ p.low → q.high ≡ p.high → q.body ≡ renamed_body to p.body → Moved to placed a p
@@ -265,7 +223,7 @@ module _ (entries : List CatEntry) (at : PagesAt) (store : Store) (o : Overlay) 
 
   forth_new : (n : ℕ) (p : Page) → tree (new_addr n) ≡ Some p → Moved to placed (new_addr n) p
   forth_new n p there =
-      let held : held_at o.pages (new_addr n) ≡ Some p = pages_of (held_at o.pages (new_addr n)) (at (new_addr n)) p (none_new n) there in
+      let held : held_at o.pages (new_addr n) ≡ Some p = pages_of (held_at o.pages (new_addr n)) (at (new_addr n)) p (draft.none_new n) there in
       let low : n < length slots = below (nat_le o.fresh n) refl in
       moved_as (new_addr n) p (placed_page slots p.seq p)
       (placed_is (to (new_addr n)) ∙ (ap (λ x. option_or (option_or x (held_at news (to (new_addr n)))) (at (to (new_addr n)))) (olds_none slots o.pages o.changed (to (new_addr n)) (slot_not_noted n low))
@@ -278,18 +236,18 @@ module _ (entries : List CatEntry) (at : PagesAt) (store : Store) (o : Overlay) 
 
   forth_changed : (a : Addr) (p : Page) → tree a ≡ Some p → is_noted o.changed a ≡ true → Moved to placed a p
   forth_changed a p there noted =
-      let was = tidy.old a noted in
-      let same : (was.2).0 ≡ p = page_same (was.2).0 p (sym (ap (λ x. option_or x (at a)) (was.2).1) ∙ there) in
-      let held : held_at o.pages a ≡ Some p = (was.2).1 ∙ ap (λ (x : Page). Some x) same in
+      let was = draft.changed a noted in
+      let same : was.now ≡ p = page_same was.now p (sym (ap (λ x. option_or x (at a)) was.held) ∙ there) in
+      let held : held_at o.pages a ≡ Some p = was.held ∙ ap (λ (x : Page). Some x) same in
       moved_as a p (placed_page slots (next_number p.seq) p)
-      (ap placed (old_stays a was.0) ∙ (placed_is a ∙ ap (λ x. option_or (option_or x (held_at news a)) (at a)) (olds_some slots o.pages o.changed a p noted held))) refl refl refl refl (renamed_is slots p.body)
+      (ap placed (old_stays a was.old) ∙ (placed_is a ∙ ap (λ x. option_or (option_or x (held_at news a)) (at a)) (olds_some slots o.pages o.changed a p noted held))) refl refl refl refl (renamed_is slots p.body)
 
   -- a page of the memory whose children are old
   own_children : (a : Addr) (p : Page) → at a ≡ Some p → renamed_body to p.body ≡ p.body
   own_children a p there = same_children to p.body (λ x among. old_stays x (old_child x among (is_new x) refl))
     where
       old_child : (x : Addr) → Among x (body_addrs p.body) → (t : Bool) → is_new x ≡ t → is_new x ≡ false
-      old_child x among true e = absurd (settled entries at first a p there x among (ap at (new_is x e) ∙ none_new x.slot))
+      old_child x among true e = absurd (settled entries at first a p there x among (ap at (new_is x e) ∙ draft.none_new x.slot))
       old_child x among false e = e
 
   -- a page that isn't written
@@ -305,7 +263,7 @@ module _ (entries : List CatEntry) (at : PagesAt) (store : Store) (o : Overlay) 
 
   forth_kept : (a : Addr) (p : Page) → tree a ≡ Some p → is_new a ≡ false → is_noted o.changed a ≡ false → Moved to placed a p
   forth_kept a p there old off =
-      let was : at a ≡ Some p = sym (tidy.same a old off) ∙ there in
+      let was : at a ≡ Some p = sym (draft.same a old off) ∙ there in
       moved_as a p p (ap placed (old_stays a old) ∙ (not_placed a p was off ∙ was)) refl refl refl refl (sym (own_children a p was))
 
   forth : (a : Addr) (p : Page) → tree a ≡ Some p → Moved to placed a p
@@ -326,12 +284,12 @@ module _ (entries : List CatEntry) (at : PagesAt) (store : Store) (o : Overlay) 
       by_place off (Some r) e f =
           let from = news_back slots o.pages (length slots) (range_with_len 0 o.fresh) x r lows e in
           came_from (new_addr from.number) x from.page q (ap (λ y. option_or y (at (new_addr from.number))) from.there) from.is
-      by_place off None e f = came_from x x q q (tidy.same x (is_old x q f) off ∙ f) (old_stays x (is_old x q f))
+      by_place off None e f = came_from x x q q (draft.same x (is_old x q f) off ∙ f) (old_stays x (is_old x q f))
 
       by_note : (t : Bool) → is_noted o.changed x ≡ t → Came to tree placed x q
       by_note true noted =
-          let was = tidy.old x noted in
-          came_from x x (was.2).0 q (ap (λ y. option_or y (at x)) (was.2).1) (old_stays x was.0)
+          let was = draft.changed x noted in
+          came_from x x was.now q (ap (λ y. option_or y (at x)) was.held) (old_stays x was.old)
       by_note false off =
           by_place off (held_at news x) refl (sym (placed_is x ∙ ap (λ y. option_or (option_or y (held_at news x)) (at x)) (olds_none slots o.pages o.changed x off)) ∙ there)
 
@@ -346,11 +304,4 @@ module _ (entries : List CatEntry) (at : PagesAt) (store : Store) (o : Overlay) 
   })
 
 pub placing_keeps_tree : PlacingKeepsTree
-placing_keeps_tree memory store holds pages name v entry steps after slots read number there free_op e long free =
-    let entries = holds.forest.entries in
-    let at : PagesAt = page_at holds.forest in
-    let first = reads_are_draft memory store holds pages read in
-    let draft = transaction_keeps_tree entries at store pages name v entry steps after first number there free_op e in
-    let tidy = steps_tidy at v entry.root steps (overlay_of pages) (overlay_of pages) after (first_tidy at pages read) (first_tidy at pages read) e in
-    placed_shown entries at (applied store (Tx name steps)).store after slots holds.sound.tree
-    (λ n. sym (ap (λ (t : PagesAt). t (new_addr n)) (read_over pages at read)) ∙ first.fresh n (omega arith)) draft tidy long free
+placing_keeps_tree entries at store o slots first draft long free = placed_shown entries at store o slots first draft long free

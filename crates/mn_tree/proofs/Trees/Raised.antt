@@ -13,7 +13,7 @@ use Rattle.mn_page.specs.declared.page.Body.TheVariants.{Inner}
 use Rattle.mn_page.specs.Grammar.{height_of}
 use Rattle.mn_page.specs.Holds.{PagesAt}
 use Rattle.mn_page.specs.Overlay.{Held, Overlay, Halves, Changed, new_addr, with_changed, with_new, halves_of, page_with, new_page, copied_for, body_with, child_at, root_changed, own_changed, other_changed, when_asked, raised}
-use Rattle.mn_tree.specs.Trees.{laid_over, IsShown, IsWritable, IsDraft}
+use Rattle.mn_tree.specs.Trees.{laid_over, IsShown, IsWritable}
 use Rattle.mn_tree.proofs.Trees.Puts.{put, put_here, put_else, put_swap, put_twice, put_same, laid_with, same_itself, nothing, page_same}
 use Rattle.mn_tree.proofs.Trees.SplitBelow.{same_level}
 use Rattle.mn_tree.proofs.Trees.Grows.{grows, grown_child}
@@ -136,9 +136,14 @@ final_own v h (parent ∷ above) body [] at made = refl
 final_own v h (parent ∷ above) body (n ∷ ns) at made =
     ap (λ t. if t then put at h.addr (own_page h body) else final v parent above (body_with parent.page.body h.addr n None) ns (put (put at n (copy_page v h body)) h.addr (copied_for v h.page))) (eq-eqb h.page.made.0 v.0 made)
 
+-- what a raise leaves
+pub record Raises (entries : List CatEntry) (at : PagesAt) (store : Store) (o : Overlay) : Type 0 where
+  pub shown : IsShown entries (tree_of at o) store
+  pub fresh : IsFresh at o
+
 -- the root splits
 root_splits : (entries : List CatEntry) (at : PagesAt) (store : Store) (v : VersionNo) (o : Overlay) (h : Held) (body : Body) (hs : Halves) → (writes : IsWritable entries v.0) → IsFresh at o → tree_of at o h.addr ≡ Some h.page → h.page.made.0 ≡ v.0
-    → writes.entry.root ≡ h.addr → halves_of body ≡ Some hs → IsShown entries (put (tree_of at o) h.addr (own_page h body)) store → IsDraft entries at store (root_changed v o h body (Some hs))
+    → writes.entry.root ≡ h.addr → halves_of body ≡ Some hs → IsShown entries (put (tree_of at o) h.addr (own_page h body)) store → Raises entries at store (root_changed v o h body (Some hs))
 root_splits entries at store v o h body hs writes fresh there made root is shown = record {
   shown = subst (λ (t : PagesAt). IsShown entries t store) whole (own_cut entries store (put now new0 x) v new0 new1 x hs h top (record {
     writes = writes;
@@ -214,7 +219,7 @@ root_splits entries at store v o h body hs writes fresh there made root is shown
         ∙ ap (λ (t : PagesAt). put t h.addr last) (laid_with (with_new o l).pages at new1 r ∙ ap (λ (t : PagesAt). put t new1 r) (laid_with o.pages at new0 l)))))))
 
 -- a change that splits nothing
-plainly : (entries : List CatEntry) (at : PagesAt) (store : Store) (o : Overlay) (a : Addr) (was p : Page) → IsFresh at o → tree_of at o a ≡ Some was → IsShown entries (put (tree_of at o) a p) store → IsDraft entries at store (with_changed o a p)
+plainly : (entries : List CatEntry) (at : PagesAt) (store : Store) (o : Overlay) (a : Addr) (was p : Page) → IsFresh at o → tree_of at o a ≡ Some was → IsShown entries (put (tree_of at o) a p) store → Raises entries at store (with_changed o a p)
 plainly entries at store o a was p fresh there shown = record {
   shown = subst (λ (t : PagesAt). IsShown entries t store) (sym (laid_with o.pages at a p)) shown;
   fresh = fresh_changed at o a was p fresh there;
@@ -466,39 +471,39 @@ module _ (entries : List CatEntry) (at : PagesAt) (store : Store) (v : VersionNo
   -- the path goes on by what is given for the parent
   abbrev Up : Type 0
   Up = (next : Overlay) (b : Body) → IsFresh at next → OnPath entries (tree_of at next) v root parent above → height_of b ≡ height_of parent.page.body → IsReady entries (tree_of at next) store v parent above b
-      → IsDraft entries at store (raised v next parent above b)
+      → Raises entries at store (raised v next parent above b)
 
   abbrev after : Changed → Overlay
   after c = when_asked c.overlay c.asked (λ to more. raised v c.overlay parent above (body_with parent.page.body h.addr to more))
 
-  pub raises_one : Up → IsDraft entries at store (raised v o h (parent ∷ above) body)
+  pub raises_one : Up → Raises entries at store (raised v o h (parent ∷ above) body)
   raises_one up = by_version (nat_eq h.page.made.0 v.0) refl
     where
-      own : h.page.made.0 ≡ v.0 → (x : Option Halves) → halves_of body ≡ x → IsDraft entries at store (after (own_changed v o h body x))
+      own : h.page.made.0 ≡ v.0 → (x : Option Halves) → halves_of body ≡ x → Raises entries at store (after (own_changed v o h body x))
       own made None is = plainly entries at store o h.addr h.page (own_page h body) fresh path.0 (own_shown made)
       own made (Some hs) is =
           let on = own_goes_on hs in
           up (own_split v o h hs) (body_with parent.page.body h.addr h.addr (more_of hs new0)) on.fresh on.path (same_level parent.page.body h.addr h.addr (more_of hs new0)) (own_ready hs is made)
 
-      other : nat_eq h.page.made.0 v.0 ≡ false → (x : Option Halves) → halves_of body ≡ x → IsDraft entries at store (after (other_changed v o h body x))
+      other : nat_eq h.page.made.0 v.0 ≡ false → (x : Option Halves) → halves_of body ≡ x → Raises entries at store (after (other_changed v o h body x))
       other off None is =
           up (other_copied v o h body) (body_with parent.page.body h.addr new0 None) (copied_goes_on).fresh (copied_goes_on).path (same_level parent.page.body h.addr new0 None) (copied_ready off)
       other off (Some hs) is =
           let on = other_goes_on hs in
           up (other_split v o h hs) (body_with parent.page.body h.addr new0 (more_of hs new1)) on.fresh on.path (same_level parent.page.body h.addr new0 (more_of hs new1)) (other_ready hs is off)
 
-      by_version : (t : Bool) → nat_eq h.page.made.0 v.0 ≡ t → IsDraft entries at store (after (if t then own_changed v o h body (halves_of body) else other_changed v o h body (halves_of body)))
+      by_version : (t : Bool) → nat_eq h.page.made.0 v.0 ≡ t → Raises entries at store (after (if t then own_changed v o h body (halves_of body) else other_changed v o h body (halves_of body)))
       by_version true e = own (eqb-true _ _ e) (halves_of body) refl
       by_version false e = other e (halves_of body) refl
 
 pub raises : (entries : List CatEntry) (at : PagesAt) (store : Store) (v : VersionNo) (root : Addr) (writes : IsWritable entries v.0) → writes.entry.root ≡ root → (o : Overlay) (h : Held) (above : List Held) (body : Body) → IsFresh at o
-    → OnPath entries (tree_of at o) v root h above → height_of body ≡ height_of h.page.body → IsReady entries (tree_of at o) store v h above body → IsDraft entries at store (raised v o h above body)
+    → OnPath entries (tree_of at o) v root h above → height_of body ≡ height_of h.page.body → IsReady entries (tree_of at o) store v h above body → Raises entries at store (raised v o h above body)
 raises entries at store v root writes root_is o h [] body fresh path level ready = by_halves (halves_of body) refl
   where
     shown : IsShown entries (put (tree_of at o) h.addr (own_page h body)) store
     shown = ready [] refl tt
 
-    by_halves : (x : Option Halves) → halves_of body ≡ x → IsDraft entries at store (root_changed v o h body x)
+    by_halves : (x : Option Halves) → halves_of body ≡ x → Raises entries at store (root_changed v o h body x)
     by_halves None is = plainly entries at store o h.addr h.page (own_page h body) fresh path.0 shown
     by_halves (Some hs) is = root_splits entries at store v o h body hs writes fresh path.0 path.1 (root_is ∙ path.2) is shown
 raises entries at store v root writes root_is o h (parent ∷ above) body fresh path level ready =

@@ -1,5 +1,5 @@
 -- Pages that were read from a memory that holds a store.
-use Rattle.std.proofs.Common.{◌≡◌, ℕ, Bool, true, false, List, [], ◌∷◌, Option, Some, refl, subst, sym, ap, ◌∙◌, slice_get, if◌then◌else◌}
+use Rattle.std.proofs.Common.{◌≡◌, ℕ, Bool, true, false, List, [], ◌∷◌, Option, Some, refl, subst, sym, ap, ◌∙◌, slice_get, if◌then◌else◌, None}
 use Rattle.std.specs.List.{AllByRecursion}
 use Rattle.std.specs.Option.{option_and_then, option_or}
 use Rattle.std.proofs.lemmas.Bool.{and_parts}
@@ -17,6 +17,7 @@ use Rattle.mn_page.specs.Holds.{PagesAt}
 use Rattle.mn_page.specs.Overlay.{Held, held_at, held_with, new_addr}
 use Rattle.mn_tree.specs.Trees.{laid_over, AreRising, children_after, IsOrdered, IsShown}
 use Rattle.mn_tree.specs.Laws.{ReadsAreDraft, AddKeepsDraft}
+use Rattle.mn_tree.proofs.Trees.Tidy.{held_kept}
 use Rattle.mn_tree.proofs.Trees.Puts.{put_same, laid_with, addr_is}
 
 -- pages as they stand there change nothing
@@ -62,16 +63,25 @@ reads_are_draft memory store holds pages read = record {
     shows = holds.shown;
   });
   fresh = λ n low. ap (λ (t : PagesAt). t (new_addr n)) same
-      ∙ ap (option_and_then (λ (xs : List Page). slice_get xs n)) (slice_get_past holds.forest.pages 8 (holds.sound.laid.nodes).1);
+      ∙ none_new n;
+  none_new = none_new;
+  same = λ x old off. ap (λ (t : PagesAt). t x) same;
+  changed = λ x noted. absurd cc;
 }
   where
     same : laid_over pages (page_at holds.forest) ≡ page_at holds.forest
     same = read_over pages (page_at holds.forest) read
 
+    none_new : (n : ℕ) → page_at holds.forest (new_addr n) ≡ None
+    none_new n = ap (option_and_then (λ (xs : List Page). slice_get xs n)) (slice_get_past holds.forest.pages 8 (holds.sound.laid.nodes).1)
+
 pub add_keeps_draft : AddKeepsDraft
 add_keeps_draft entries at store o addr page draft there = record {
   shown = subst (λ (t : PagesAt). IsShown entries t store) (sym same) draft.shown;
   fresh = λ n low. ap (λ (t : PagesAt). t (new_addr n)) same ∙ draft.fresh n low;
+  none_new = draft.none_new;
+  same = λ x old off. ap (λ (t : PagesAt). t x) same ∙ draft.same x old off;
+  changed = λ x noted. let c = draft.changed x noted in let held = held_kept o.pages addr page x (c.now, c.held) in record { old = c.old; was = c.was; there = c.there; now = held.0; held = held.1 };
 }
   where
     same : laid_over (held_with o.pages addr page) at ≡ laid_over o.pages at

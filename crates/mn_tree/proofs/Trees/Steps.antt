@@ -27,7 +27,8 @@ use Rattle.mn_tree.specs.Trees.{laid_over, IsShown, IsWritable, IsDraft}
 use Rattle.mn_tree.specs.Laws.{PathTells, StepKeepsTree, TransactionKeepsTree, TransactionTells, found_on}
 use Rattle.mn_tree.proofs.Trees.Twins.{head_at}
 use Rattle.mn_tree.proofs.Trees.Fits.{ascending-filter}
-use Rattle.mn_tree.proofs.Trees.Raised.{raises, IsReady}
+use Rattle.mn_tree.proofs.Trees.Raised.{raises, IsReady, Raises}
+use Rattle.mn_tree.proofs.Trees.Tidy.{draft_tidy, tidy_changes, path_exists, step_tidy}
 use Rattle.mn_tree.proofs.Trees.Ready.{LeafChanges, copies_ready, leaf_ready}
 use Rattle.mn_tree.proofs.Trees.Found.{FoundPath, is_leaf, path_found}
 use Rattle.mn_tree.proofs.Trees.Pairs.{filter-without, without_outside, without_none}
@@ -57,7 +58,7 @@ version_ascends store v version all found = all_at_place (λ x. is_ascending x.p
 -- a new body of the leaf of a path
 leaf_raised : (entries : List CatEntry) (at : PagesAt) (store : Store) (o : Overlay) (v : VersionNo) (version : StoreVersion) (writes : IsWritable entries v.0) (ps pairs : List Pair) (key : List ℕ) (path : List Held) → IsDraft entries at store o
     → (f : FoundPath entries (laid_over o.pages at) v writes.entry.root key path) → LeafChanges store v f.leaf.page version ps pairs key
-    → IsDraft entries at (slice_set store v.0 (re_paired version ps)) (raised v o f.leaf f.above (Leaf pairs))
+    → Raises entries at (slice_set store v.0 (re_paired version ps)) (raised v o f.leaf f.above (Leaf pairs))
 leaf_raised entries at store o v version writes ps pairs key path draft f change =
     let leaf = is_leaf entries (laid_over o.pages at) draft.shown.tree f.leaf.addr f.leaf.page f.there f.level in
     raises entries at (slice_set store v.0 (re_paired version ps)) v writes.entry.root writes refl o f.leaf f.above (Leaf pairs) draft.fresh f.on (sym f.level)
@@ -94,6 +95,10 @@ set_itself (x ∷ store) zero version found = let is : x ≡ version = cc in ap 
 set_itself (x ∷ store) (suc v) version found = ap (λ (s : Store). x ∷ s) (set_itself store v version found)
 
 -- a step that leaves the pairs
+rests : (entries : List CatEntry) (at : PagesAt) (store : Store) (o : Overlay) (v : ℕ) (version : StoreVersion) → IsDraft entries at store o → slice_get store v ≡ Some version → Raises entries at (slice_set store v (re_paired version version.pairs)) o
+rests entries at store o v version draft found = subst (λ (s : Store). Raises entries at s o) (sym (set_itself store v version found)) (record { shown = draft.shown; fresh = draft.fresh })
+
+-- so does none
 stays : (entries : List CatEntry) (at : PagesAt) (store : Store) (o : Overlay) (v : ℕ) (version : StoreVersion) → IsDraft entries at store o → slice_get store v ≡ Some version → IsDraft entries at (slice_set store v (re_paired version version.pairs)) o
 stays entries at store o v version draft found = subst (λ (s : Store). IsDraft entries at s o) (sym (set_itself store v version found)) draft
 
@@ -102,39 +107,45 @@ may_write : (b : Bool) → (b && true) ≡ false → b ≡ false
 may_write true e = absurd cc
 may_write false e = refl
 
+abbrev Raised_to : List CatEntry → PagesAt → Store → VersionNo → StoreVersion → List Pair → Overlay → Type 0
+Raised_to entries at store v version ps o = Raises entries at (slice_set store v.0 (re_paired version ps)) o
+
 -- the overlay shows the store in which the version has these pairs
 abbrev Stands : List CatEntry → PagesAt → Store → VersionNo → StoreVersion → List Pair → Overlay → Type 0
 Stands entries at store v version ps o = IsDraft entries at (slice_set store v.0 (re_paired version ps)) o
 
 pub step_keeps_tree : StepKeepsTree
-step_keeps_tree entries at store o v version entry step path draft found there may way = by_step step may (path_found entries at o.pages store v entry (step_key step) max_path path draft.shown there way)
+step_keeps_tree entries at store o v version entry step path draft found there may way =
+    let r = by_step step may (path_found entries at o.pages store v entry (step_key step) max_path path draft.shown there way) in
+    let t = step_tidy at v o step path (draft_tidy at o draft) (path_exists at o.pages (step_key step) max_path entry.root [] path tt way) in
+    record { shown = r.shown; fresh = r.fresh; none_new = draft.none_new; same = t.same; changed = tidy_changes at (step_on v o step path) t }
   where
     writes : entry.frozen ≡ false → IsWritable entries v.0
     writes open_still = record { entry = entry; there = there; writable = open_still }
 
-    put : (key value : List ℕ) → entry.frozen ≡ false → (f : FoundPath entries (laid_over o.pages at) v entry.root key path) → Stands entries at store v version (pairs_with version.pairs key value) (step_on v o (Put key value) path)
+    put : (key value : List ℕ) → entry.frozen ≡ false → (f : FoundPath entries (laid_over o.pages at) v entry.root key path) → Raised_to entries at store v version (pairs_with version.pairs key value) (step_on v o (Put key value) path)
     put key value open_still f =
-        subst (λ (hs : List Held). Stands entries at store v version (pairs_with version.pairs key value) (step_on v o (Put key value) hs)) (sym f.is)
+        subst (λ (hs : List Held). Raised_to entries at store v version (pairs_with version.pairs key value) (step_on v o (Put key value) hs)) (sym f.is)
         (leaf_raised entries at store o v version (writes open_still) (pairs_with version.pairs key value) (pairs_with (pairs_in f.leaf.page.body) key value) key path draft f
         (put_changes entries (laid_over o.pages at) store v version entry.root key value path draft.shown found f))
 
-    del : (key : List ℕ) → entry.frozen ≡ false → (f : FoundPath entries (laid_over o.pages at) v entry.root key path) → Stands entries at store v version (pairs_without version.pairs key) (step_on v o (Del key) path)
-    del key open_still f = subst (λ (hs : List Held). Stands entries at store v version (pairs_without version.pairs key) (step_on v o (Del key) hs)) (sym f.is) (by_value (value_at (pairs_in f.leaf.page.body) key) refl)
+    del : (key : List ℕ) → entry.frozen ≡ false → (f : FoundPath entries (laid_over o.pages at) v entry.root key path) → Raised_to entries at store v version (pairs_without version.pairs key) (step_on v o (Del key) path)
+    del key open_still f = subst (λ (hs : List Held). Raised_to entries at store v version (pairs_without version.pairs key) (step_on v o (Del key) hs)) (sym f.is) (by_value (value_at (pairs_in f.leaf.page.body) key) refl)
       where
         by_value : (x : Option (List ℕ)) → value_at (pairs_in f.leaf.page.body) key ≡ x
-            → Stands entries at store v version (pairs_without version.pairs key) (if is_some x then raised v o f.leaf f.above (Leaf (pairs_without (pairs_in f.leaf.page.body) key)) else o)
+            → Raised_to entries at store v version (pairs_without version.pairs key) (if is_some x then raised v o f.leaf f.above (Leaf (pairs_without (pairs_in f.leaf.page.body) key)) else o)
         by_value (Some value) e =
             leaf_raised entries at store o v version (writes open_still) (pairs_without version.pairs key) (pairs_without (pairs_in f.leaf.page.body) key) key path draft f
             (del_changes entries (laid_over o.pages at) store v version entry.root key path draft.shown found f)
         by_value None e =
-            subst (λ (ps : List Pair). Stands entries at store v version ps o) (sym (without_none key version.pairs (sym (leaf_value entries (laid_over o.pages at) store v version entry.root key path draft.shown found f) ∙ e)))
-            (stays entries at store o v.0 version draft found)
+            subst (λ (ps : List Pair). Raised_to entries at store v version ps o) (sym (without_none key version.pairs (sym (leaf_value entries (laid_over o.pages at) store v version entry.root key path draft.shown found f) ∙ e)))
+            (rests entries at store o v.0 version draft found)
 
-    by_step : (s : Step) → (entry.frozen && is_change s) ≡ false → FoundPath entries (laid_over o.pages at) v entry.root (step_key s) path → Stands entries at store v version (pairs_after_step version.pairs s) (step_on v o s path)
+    by_step : (s : Step) → (entry.frozen && is_change s) ≡ false → FoundPath entries (laid_over o.pages at) v entry.root (step_key s) path → Raised_to entries at store v version (pairs_after_step version.pairs s) (step_on v o s path)
     by_step (Put key value) e f = put key value (may_write entry.frozen e) f
     by_step (Del key) e f = del key (may_write entry.frozen e) f
-    by_step (Get key) e f = subst (λ (hs : List Held). Stands entries at store v version version.pairs (step_on v o (Get key) hs)) (sym f.is) (stays entries at store o v.0 version draft found)
-    by_step (Check key want) e f = subst (λ (hs : List Held). Stands entries at store v version version.pairs (step_on v o (Check key want) hs)) (sym f.is) (stays entries at store o v.0 version draft found)
+    by_step (Get key) e f = subst (λ (hs : List Held). Raised_to entries at store v version version.pairs (step_on v o (Get key) hs)) (sym f.is) (rests entries at store o v.0 version draft found)
+    by_step (Check key want) e f = subst (λ (hs : List Held). Raised_to entries at store v version version.pairs (step_on v o (Check key want) hs)) (sym f.is) (rests entries at store o v.0 version draft found)
 
 -- All steps
 

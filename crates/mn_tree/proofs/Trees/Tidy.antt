@@ -1,24 +1,26 @@
 -- Steps note each old page that they change.
-use Rattle.std.proofs.Common.{◌≡◌, ◌⊎◌, inl, inr, Bool, true, false, ◌||◌, List, [], ◌∷◌, ◌++◌, Option, Some, None, refl, subst, sym, ap, ◌∙◌, if◌then◌else◌}
+use Rattle.std.proofs.Common.{◌≡◌, ◌⊎◌, inl, inr, Bool, true, false, ◌||◌, List, [], ◌∷◌, ◌++◌, Option, Some, None, refl, subst, sym, ap, ◌∙◌, if◌then◌else◌, ℕ, zero, suc}
 use Rattle.std.specs.Prelude.{nat_eq, is_some}
-use Rattle.std.specs.List.{AllByRecursion, list_any}
+use Rattle.std.specs.List.{AllByRecursion}
+use Rattle.std.specs.Option.{option_and_then, option_or}
+use Rattle.std.proofs.lemmas.Option.{option_and_then_some}
 use Rattle.mn_base.specs.Ids.{addr_same}
-use Rattle.mn_base.specs.Store.{value_at, pairs_with, pairs_without}
+use Rattle.mn_base.specs.Store.{Store, value_at, pairs_with, pairs_without}
 use Rattle.mn_base.specs.declared.ids.Addr.{Addr}
 use Rattle.mn_base.specs.declared.ids.VersionNo.{VersionNo}
 use Rattle.mn_base.specs.declared.op.Step.{Step}
 use Rattle.mn_base.specs.declared.op.Step.TheVariants.{Get, Put, Del, Check}
+use Rattle.mn_page.specs.declared.entry.CatEntry.{CatEntry}
 use Rattle.mn_page.specs.declared.page.Page.{Page}
 use Rattle.mn_page.specs.declared.page.Body.{Body}
 use Rattle.mn_page.specs.declared.page.Body.TheVariants.{Leaf}
 use Rattle.mn_page.specs.declared.page.Child.{Child}
+use Rattle.mn_page.specs.Grammar.{height_of}
+use Rattle.mn_page.specs.Forest.{children_of}
 use Rattle.mn_page.specs.Holds.{PagesAt, pairs_in}
-use Rattle.mn_page.specs.Overlay.{Held, Overlay, Halves, Asked, Nothing, Child_is, is_new, new_addr, held_at, held_with, with_changed, with_new, halves_of, page_with, body_with, root_changed, own_changed, other_changed, page_changed, when_asked, raised, step_on}
+use Rattle.mn_page.specs.Overlay.{Held, Overlay, Halves, Asked, Nothing, Child_is, is_new, new_addr, held_at, held_with, with_changed, with_new, halves_of, page_with, body_with, root_changed, own_changed, other_changed, page_changed, when_asked, raised, child_for, path_to, step_on}
 use Rattle.mn_tree.proofs.Trees.Puts.{put, put_here, put_else, clash, addr_is, addr_cases, same_itself, held_with_is, laid_with}
-use Rattle.mn_tree.specs.Trees.{laid_over}
-
-abbrev pub is_noted : List Addr → Addr → Bool
-is_noted changed x = list_any (λ a. addr_same a x) changed
+use Rattle.mn_tree.specs.Trees.{laid_over, is_noted, IsChanged, IsDraft}
 
 -- a page that the memory has
 abbrev pub Exists : PagesAt → Addr → Type 0
@@ -28,6 +30,13 @@ Exists at x = (y : Page) × (at x ≡ Some y)
 pub record IsTidy (at : PagesAt) (o : Overlay) : Type 0 where
   pub same : (x : Addr) → is_new x ≡ false → is_noted o.changed x ≡ false → laid_over o.pages at x ≡ at x
   pub old : (x : Addr) → is_noted o.changed x ≡ true → (is_new x ≡ false) × Exists at x × ((y : Page) × (held_at o.pages x ≡ Some y))
+
+-- a draft is tidy
+pub draft_tidy : {entries : List CatEntry} {store : Store} (at : PagesAt) (o : Overlay) → IsDraft entries at store o → IsTidy at o
+draft_tidy at o draft = record { same = draft.same; old = λ x noted. let c = draft.changed x noted in (c.old, (c.was, c.there), (c.now, c.held)) }
+
+pub tidy_changes : (at : PagesAt) (o : Overlay) → IsTidy at o → (x : Addr) → is_noted o.changed x ≡ true → IsChanged at o x
+tidy_changes at o tidy x noted = let c = tidy.old x noted in record { old = c.0; was = (c.1).0; there = (c.1).1; now = (c.2).0; held = (c.2).1 }
 
 noted_more : (changed : List Addr) (a x : Addr) → is_noted (changed ++ a ∷ []) x ≡ (is_noted changed x || addr_same a x)
 noted_more [] a x = last (addr_same a x)
@@ -44,7 +53,7 @@ noted_more (c ∷ cs) a x = ap (λ b. addr_same c x || b) (noted_more cs a x) �
 noted_if : List Addr → Addr → Bool → List Addr
 noted_if changed a b = if b then changed else changed ++ a ∷ []
 
-held_kept : (pages : List Held) (a : Addr) (p : Page) (x : Addr) → ((y : Page) × (held_at pages x ≡ Some y)) → (y : Page) × (held_at (held_with pages a p) x ≡ Some y)
+pub held_kept : (pages : List Held) (a : Addr) (p : Page) (x : Addr) → ((y : Page) × (held_at pages x ≡ Some y)) → (y : Page) × (held_at (held_with pages a p) x ≡ Some y)
 held_kept pages a p x was = cases (addr_same a x) refl
   where
     cases : (t : Bool) → addr_same a x ≡ t → (y : Page) × (held_at (held_with pages a p) x ≡ Some y)
@@ -174,3 +183,20 @@ step_tidy at v o (Del key) (h ∷ above) tidy there = cases (is_some (value_at (
     cases false = tidy
 step_tidy at v o (Get key) (h ∷ above) tidy there = tidy
 step_tidy at v o (Check key want) (h ∷ above) tidy there = tidy
+
+-- the pages of a key's path are there
+pub path_exists : (at : PagesAt) (pages : List Held) (key : List ℕ) (fuel : ℕ) (addr : Addr) (above path : List Held) → AllExist (laid_over pages at) above → path_to fuel pages addr key above ≡ Some path → AllExist (laid_over pages at) path
+path_exists at pages key zero addr above path all e = absurd cc
+path_exists at pages key (suc fuel) addr above path all e =
+    option_and_then_some
+    (λ page. if nat_eq (height_of page.body) 0 then Some (held page ∷ above) else option_and_then (λ next. path_to fuel pages next key (held page ∷ above)) (child_for (children_of page) key)) (held_at pages addr) path e
+    (λ page there f. by_height page (page, ap (λ o. option_or o (at addr)) there) (nat_eq (height_of page.body) 0) f (λ next g. path_exists at pages key fuel next (held page ∷ above) path ((page, ap (λ o. option_or o (at addr)) there), all) g))
+  where
+    held : Page → Held
+    held page = record { addr = addr; page = page }
+
+    by_height : (page : Page) → Exists (laid_over pages at) addr → (t : Bool)
+        → (if t then Some (held page ∷ above) else option_and_then (λ next. path_to fuel pages next key (held page ∷ above)) (child_for (children_of page) key)) ≡ Some path
+        → ((next : Addr) → path_to fuel pages next key (held page ∷ above) ≡ Some path → AllExist (laid_over pages at) path) → AllExist (laid_over pages at) path
+    by_height page there true f rest = let same : held page ∷ above ≡ path = cc in subst (AllExist (laid_over pages at)) same (there, all)
+    by_height page there false f rest = option_and_then_some (λ next. path_to fuel pages next key (held page ∷ above)) (child_for (children_of page) key) path f (λ next chosen g. rest next g)
