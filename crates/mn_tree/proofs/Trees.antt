@@ -21,3 +21,5 @@ pub mod Reads
 pub mod Steps
 pub mod Renamed
 pub mod Placing
+pub mod Ordered
+pub mod Placed

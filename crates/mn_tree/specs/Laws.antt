@@ -1,5 +1,5 @@
 -- The laws of walks, and of the trees that steps leave.
-use Rattle.std.specs.Prelude.{ℕ, ◌≡◌, ◌≤◌, ◌+◌, ◌++◌, ◌&&◌, false, List, [], ◌∷◌, Option, Some, None, slice_get, slice_set, if◌then◌else◌, length, ⊤}
+use Rattle.std.specs.Prelude.{ℕ, ◌≡◌, ◌≤◌, ◌+◌, ◌++◌, ◌&&◌, false, List, [], ◌∷◌, Option, Some, None, slice_get, slice_set, if◌then◌else◌, length, map, true, ⊤}
 use Rattle.std.specs.List.{AllByRecursion}
 use Rattle.std.specs.Option.{option_map_or, option_and_then}
 use Rattle.mn_base.specs.Store.{Store, StoreVersion, heads_of, number_named, value_at, is_unmet, is_change, step_key, pairs_after_step, noted_by, refusal, applied}
@@ -16,8 +16,9 @@ use Rattle.mn_page.specs.Forest.{page_at}
 use Rattle.mn_page.specs.Holds.{PagesAt, Holds, IsTree}
 use Rattle.mn_page.specs.Overlay.{Held, Overlay, overlay_of, held_at, held_with, max_path, path_to, path_pairs, step_on, steps_on, is_new, placed_pages}
 use Rattle.mn_tree.specs.Walk.{Reached, walk}
-use Rattle.mn_tree.specs.State.{max_height}
-use Rattle.mn_tree.specs.Trees.{laid_over, IsShown, IsDraft}
+use Rattle.mn_tree.specs.State.{max_height, Drafted, drafted_after}
+use Rattle.mn_tree.specs.Order.{placed}
+use Rattle.mn_tree.specs.Trees.{laid_over, is_noted, IsShown, IsDraft}
 
 -- where a walk reaches a leaf under a root that isn't too high, its path is the one of the plain model
 abbrev pub WalksArePaths : Type 0
@@ -82,3 +83,20 @@ abbrev pub PlacingKeepsTree : Type 0
 PlacingKeepsTree =
     (entries : List CatEntry) (at : PagesAt) (store : Store) (o : Overlay) (slots : List Addr) → IsTree entries at → IsDraft entries at store o → length slots ≡ o.fresh → AreFreeSlots slots at
     → IsShown entries (laid_over (placed_pages slots o) at) store
+
+-- the read set has each changed page
+abbrev pub ReadsChanged : Drafted → Type 0
+ReadsChanged d = (x : Addr) → is_noted d.overlay.changed x ≡ true → is_noted d.read x ≡ true
+
+-- it still does after a step
+abbrev pub StepReadsChanged : Type 0
+StepReadsChanged = (v : VersionNo) (d : Drafted) (step : Step) (path : List Held) → ReadsChanged d → ReadsChanged (drafted_after v d step path)
+
+abbrev pub held_pair : Addr × Page → Held
+held_pair h = record { addr = h.0; page = h.1 }
+
+-- and so the pages in the order of a plan are a tree that shows the store too
+abbrev pub PlacedKeepsTree : Type 0
+PlacedKeepsTree =
+    (entries : List CatEntry) (at : PagesAt) (store : Store) (d : Drafted) (slots : List Addr) → IsTree entries at → IsDraft entries at store d.overlay → ReadsChanged d → length slots ≡ d.overlay.fresh → AreFreeSlots slots at
+    → IsShown entries (laid_over (map held_pair (placed slots d)) at) store

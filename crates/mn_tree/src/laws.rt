@@ -1,4 +1,4 @@
-ghost use Rattle.mn_tree.specs.Laws.{WalksArePaths, ReadsAreDraft, AddKeepsDraft, PathTells, StepKeepsTree, TransactionKeepsTree, TransactionTells, PlacingKeepsTree};
+ghost use Rattle.mn_tree.specs.Laws.{WalksArePaths, ReadsAreDraft, AddKeepsDraft, PathTells, StepKeepsTree, TransactionKeepsTree, TransactionTells, PlacingKeepsTree, StepReadsChanged, PlacedKeepsTree};
 
 /// Where the root isn't too high, a walk that reaches a leaf goes the way of the plain model of the tree.
 pub fn walks_are_paths()
@@ -38,4 +38,14 @@ pub fn transaction_tells()
 /// The pages of a draft are still a tree that shows its store once the new ones have slots that the memory has free.
 pub fn placing_keeps_tree()
     ensures { PlacingKeepsTree }
+{}
+
+/// The read set has each changed page, also after a step.
+pub fn step_reads_changed()
+    ensures { StepReadsChanged }
+{}
+
+/// In the order in which they stand in a plan the placed pages are that tree too.
+pub fn placed_keeps_tree()
+    ensures { PlacedKeepsTree }
 {}

@@ -15,7 +15,7 @@ use Rattle.mn_page.specs.declared.page.Body.{Body}
 use Rattle.mn_page.specs.declared.page.Body.TheVariants.{Leaf, Inner}
 use Rattle.mn_page.specs.declared.page.Child.{Child}
 use Rattle.mn_page.specs.Holds.{PagesAt, IsTree}
-use Rattle.mn_page.specs.Overlay.{Held, Overlay, is_new, new_addr, held_at, child_at, placed_addr, placed_body, placed_page, placed_old, placed_new, placed_pages, next_number}
+use Rattle.mn_page.specs.Overlay.{Held, Overlay, is_new, new_addr, held_at, child_at, placed_addr, placed_body, placed_page, placed_old, placed_new, next_number}
 use Rattle.mn_tree.specs.Trees.{laid_over, is_noted, IsShown, IsDraft}
 use Rattle.mn_tree.specs.Laws.{AreFreeSlots, PlacingKeepsTree}
 use Rattle.mn_tree.proofs.Trees.Puts.{addr_is, same_itself, differs, page_same, nothing}
@@ -26,12 +26,12 @@ use Rattle.mn_tree.proofs.Trees.Renamed.{Moved, Came, renamed_body, renamed_show
 
 -- Slots
 
-some_slot : (slots : List Addr) (n : ℕ) → n < length slots → (s : Addr) × (slice_get slots n ≡ Some s) × ((d : Addr) → slice_index_or slots n d ≡ s)
+pub some_slot : (slots : List Addr) (n : ℕ) → n < length slots → (s : Addr) × (slice_get slots n ≡ Some s) × ((d : Addr) → slice_index_or slots n d ≡ s)
 some_slot [] n low = absurd (omega arith)
 some_slot (s ∷ slots) zero low = (s, refl, λ d. refl)
 some_slot (s ∷ slots) (suc n) low = some_slot slots n (omega arith)
 
-slot_free : (slots : List Addr) (at : PagesAt) (n : ℕ) (s : Addr) → AreFreeSlots slots at → slice_get slots n ≡ Some s → (at s ≡ None) × (is_new s ≡ false)
+pub slot_free : (slots : List Addr) (at : PagesAt) (n : ℕ) (s : Addr) → AreFreeSlots slots at → slice_get slots n ≡ Some s → (at s ≡ None) × (is_new s ≡ false)
 slot_free [] at n s free e = absurd cc
 slot_free (a ∷ slots) at zero s free e = let is : a ≡ s = cc in subst (λ (x : Addr). (at x ≡ None) × (is_new x ≡ false)) is (free.0, free.1)
 slot_free (a ∷ slots) at (suc n) s free e = slot_free slots at n s free.3 e
@@ -41,7 +41,7 @@ slot_apart a [] n s all e same = absurd cc
 slot_apart a (b ∷ slots) zero s all e same = let is : b ≡ s = cc in all.0 (is ∙ same)
 slot_apart a (b ∷ slots) (suc n) s all e same = slot_apart a slots n s all.1 e same
 
-slot_once : (slots : List Addr) (at : PagesAt) (n m : ℕ) (s : Addr) → AreFreeSlots slots at → slice_get slots n ≡ Some s → slice_get slots m ≡ Some s → n ≡ m
+pub slot_once : (slots : List Addr) (at : PagesAt) (n m : ℕ) (s : Addr) → AreFreeSlots slots at → slice_get slots n ≡ Some s → slice_get slots m ≡ Some s → n ≡ m
 slot_once [] at n m s free e f = absurd cc
 slot_once (a ∷ slots) at zero zero s free e f = refl
 slot_once (a ∷ slots) at zero (suc m) s free e f = let is : a ≡ s = cc in absurd (slot_apart a slots m s free.2 f (sym is))
@@ -151,7 +151,7 @@ module _ (slots : List Addr) (pages : List Held) where
       cases (inr off) (Some q) f rest (suc j) at_j = ap (λ t. if t then Some (placed_page slots q.seq q) else held_at (flat_map (placed_new slots pages) ns) s) (passed q off) ∙ rest j at_j
       cases (inr off) None f rest (suc j) at_j = rest j at_j
 
-range_low : (a n : ℕ) → AllByRecursion (λ k. k < a + n) (range_with_len a n)
+pub range_low : (a n : ℕ) → AllByRecursion (λ k. k < a + n) (range_with_len a n)
 range_low a zero = tt
 range_low a (suc n) = (omega arith, subst (λ m. AllByRecursion (λ k. k < m) (range_with_len (a + 1) n)) (let e : a + 1 + n ≡ a + suc n = omega arith in e) (range_low (a + 1) n))
 
@@ -174,7 +174,8 @@ pages_of : (o : Option Page) (under : Option Page) (p : Page) → under ≡ None
 pages_of (Some q) under p none e = e
 pages_of None under p none e = absurd (nothing p under none e)
 
-module _ (entries : List CatEntry) (at : PagesAt) (store : Store) (o : Overlay) (slots : List Addr) (first : IsTree entries at) (draft : IsDraft entries at store o) (long : length slots ≡ o.fresh) (free : AreFreeSlots slots at) where
+-- changed pages and new ones are written in any order
+module _ (entries : List CatEntry) (at : PagesAt) (store : Store) (o : Overlay) (slots : List Addr) (first : IsTree entries at) (draft : IsDraft entries at store o) (long : length slots ≡ o.fresh) (free : AreFreeSlots slots at) (cs : List Addr) (same_noted : (x : Addr) → is_noted cs x ≡ is_noted o.changed x) (ns : List ℕ) (lows : AllByRecursion (λ n. n < length slots) ns) (all_in : (n : ℕ) → n < length slots → (i : ℕ) × (slice_get ns i ≡ Some n)) where
   abbrev tree : PagesAt
   tree = laid_over o.pages at
 
@@ -182,16 +183,13 @@ module _ (entries : List CatEntry) (at : PagesAt) (store : Store) (o : Overlay) 
   to = placed_addr slots
 
   abbrev placed : PagesAt
-  placed = laid_over (placed_pages slots o) at
+  placed = laid_over (flat_map (placed_old slots o.pages) cs ++ flat_map (placed_new slots o.pages) ns) at
 
   abbrev olds : List Held
-  olds = flat_map (placed_old slots o.pages) o.changed
+  olds = flat_map (placed_old slots o.pages) cs
 
   abbrev news : List Held
-  news = flat_map (placed_new slots o.pages) (range_with_len 0 o.fresh)
-
-  lows : AllByRecursion (λ n. n < length slots) (range_with_len 0 o.fresh)
-  lows = subst (λ k. AllByRecursion (λ n. n < k) (range_with_len 0 o.fresh)) (let e : 0 + o.fresh ≡ length slots = omega arith in e) (range_low 0 o.fresh)
+  news = flat_map (placed_new slots o.pages) ns
 
   placed_is : (x : Addr) → placed x ≡ option_or (option_or (held_at olds x) (held_at news x)) (at x)
   placed_is x = ap (λ p. option_or p (at x)) (held_append olds news x)
@@ -226,8 +224,8 @@ module _ (entries : List CatEntry) (at : PagesAt) (store : Store) (o : Overlay) 
       let held : held_at o.pages (new_addr n) ≡ Some p = pages_of (held_at o.pages (new_addr n)) (at (new_addr n)) p (draft.none_new n) there in
       let low : n < length slots = below (nat_le o.fresh n) refl in
       moved_as (new_addr n) p (placed_page slots p.seq p)
-      (placed_is (to (new_addr n)) ∙ (ap (λ x. option_or (option_or x (held_at news (to (new_addr n)))) (at (to (new_addr n)))) (olds_none slots o.pages o.changed (to (new_addr n)) (slot_not_noted n low))
-      ∙ ap (λ x. option_or x (at (to (new_addr n)))) (news_find slots o.pages at free (range_with_len 0 o.fresh) n n p lows (range_at 0 o.fresh n (omega arith) ∙ (let e : 0 + n ≡ n = omega arith in ap (λ k. Some k) e)) low held))) refl refl refl refl
+      (placed_is (to (new_addr n)) ∙ (ap (λ x. option_or (option_or x (held_at news (to (new_addr n)))) (at (to (new_addr n)))) (olds_none slots o.pages cs (to (new_addr n)) (same_noted (to (new_addr n)) ∙ slot_not_noted n low))
+      ∙ ap (λ x. option_or x (at (to (new_addr n)))) (news_find slots o.pages at free ns (all_in n low).0 n p lows (all_in n low).1 low held))) refl refl refl refl
       (renamed_is slots p.body)
     where
       below : (t : Bool) → nat_le o.fresh n ≡ t → n < length slots
@@ -240,7 +238,7 @@ module _ (entries : List CatEntry) (at : PagesAt) (store : Store) (o : Overlay) 
       let same : was.now ≡ p = page_same was.now p (sym (ap (λ x. option_or x (at a)) was.held) ∙ there) in
       let held : held_at o.pages a ≡ Some p = was.held ∙ ap (λ (x : Page). Some x) same in
       moved_as a p (placed_page slots (next_number p.seq) p)
-      (ap placed (old_stays a was.old) ∙ (placed_is a ∙ ap (λ x. option_or (option_or x (held_at news a)) (at a)) (olds_some slots o.pages o.changed a p noted held))) refl refl refl refl (renamed_is slots p.body)
+      (ap placed (old_stays a was.old) ∙ (placed_is a ∙ ap (λ x. option_or (option_or x (held_at news a)) (at a)) (olds_some slots o.pages cs a p (same_noted a ∙ noted) held))) refl refl refl refl (renamed_is slots p.body)
 
   -- a page of the memory whose children are old
   own_children : (a : Addr) (p : Page) → at a ≡ Some p → renamed_body to p.body ≡ p.body
@@ -252,12 +250,12 @@ module _ (entries : List CatEntry) (at : PagesAt) (store : Store) (o : Overlay) 
 
   -- a page that isn't written
   not_placed : (a : Addr) (p : Page) → at a ≡ Some p → is_noted o.changed a ≡ false → placed a ≡ at a
-  not_placed a p there off = placed_is a ∙ (ap (λ x. option_or (option_or x (held_at news a)) (at a)) (olds_none slots o.pages o.changed a off) ∙ by_new (held_at news a) refl)
+  not_placed a p there off = placed_is a ∙ (ap (λ x. option_or (option_or x (held_at news a)) (at a)) (olds_none slots o.pages cs a (same_noted a ∙ off)) ∙ by_new (held_at news a) refl)
     where
       by_new : (x : Option Page) → held_at news a ≡ x → option_or (option_or None x) (at a) ≡ at a
       by_new None e = refl
       by_new (Some q) e =
-          let from = news_back slots o.pages (length slots) (range_with_len 0 o.fresh) a q lows e in
+          let from = news_back slots o.pages (length slots) ns a q lows e in
           let r = some_slot slots from.number from.low in
           absurd (nothing p (at a) (ap at (sym from.is ∙ r.2 (new_addr from.number)) ∙ (slot_free slots at from.number r.0 free r.1).0) there)
 
@@ -282,7 +280,7 @@ module _ (entries : List CatEntry) (at : PagesAt) (store : Store) (o : Overlay) 
     where
       by_place : is_noted o.changed x ≡ false → (y : Option Page) → held_at news x ≡ y → option_or (option_or None y) (at x) ≡ Some q → Came to tree placed x q
       by_place off (Some r) e f =
-          let from = news_back slots o.pages (length slots) (range_with_len 0 o.fresh) x r lows e in
+          let from = news_back slots o.pages (length slots) ns x r lows e in
           came_from (new_addr from.number) x from.page q (ap (λ y. option_or y (at (new_addr from.number))) from.there) from.is
       by_place off None e f = came_from x x q q (draft.same x (is_old x q f) off ∙ f) (old_stays x (is_old x q f))
 
@@ -291,7 +289,7 @@ module _ (entries : List CatEntry) (at : PagesAt) (store : Store) (o : Overlay) 
           let was = draft.changed x noted in
           came_from x x was.now q (ap (λ y. option_or y (at x)) was.held) (old_stays x was.old)
       by_note false off =
-          by_place off (held_at news x) refl (sym (placed_is x ∙ ap (λ y. option_or (option_or y (held_at news x)) (at x)) (olds_none slots o.pages o.changed x off)) ∙ there)
+          by_place off (held_at news x) refl (sym (placed_is x ∙ ap (λ y. option_or (option_or y (held_at news x)) (at x)) (olds_none slots o.pages cs x (same_noted x ∙ off))) ∙ there)
 
   pub placed_shown : IsShown entries placed store
   placed_shown = renamed_shown entries tree placed store to draft.shown (record {
@@ -303,5 +301,13 @@ module _ (entries : List CatEntry) (at : PagesAt) (store : Store) (o : Overlay) 
         old_stays e.root (is_old e.root root.page there);
   })
 
+-- the numbers below a bound
+pub range_lows : (n k : ℕ) → k ≡ n → AllByRecursion (λ m. m < k) (range_with_len 0 n)
+range_lows n k same = subst (λ j. AllByRecursion (λ m. m < j) (range_with_len 0 n)) (let e : 0 + n ≡ k = omega arith in e) (range_low 0 n)
+
+pub range_all : (n k m : ℕ) → k ≡ n → m < k → (i : ℕ) × (slice_get (range_with_len 0 n) i ≡ Some m)
+range_all n k m same low = (m, range_at 0 n m (omega arith) ∙ (let e : 0 + m ≡ m = omega arith in ap (λ j. Some j) e))
+
 pub placing_keeps_tree : PlacingKeepsTree
-placing_keeps_tree entries at store o slots first draft long free = placed_shown entries at store o slots first draft long free
+placing_keeps_tree entries at store o slots first draft long free =
+    placed_shown entries at store o slots first draft long free o.changed (λ x. refl) (range_with_len 0 o.fresh) (range_lows o.fresh (length slots) long) (λ n low. range_all o.fresh (length slots) n long low)

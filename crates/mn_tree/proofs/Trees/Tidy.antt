@@ -38,7 +38,7 @@ draft_tidy at o draft = record { same = draft.same; old = λ x noted. let c = dr
 pub tidy_changes : (at : PagesAt) (o : Overlay) → IsTidy at o → (x : Addr) → is_noted o.changed x ≡ true → IsChanged at o x
 tidy_changes at o tidy x noted = let c = tidy.old x noted in record { old = c.0; was = (c.1).0; there = (c.1).1; now = (c.2).0; held = (c.2).1 }
 
-noted_more : (changed : List Addr) (a x : Addr) → is_noted (changed ++ a ∷ []) x ≡ (is_noted changed x || addr_same a x)
+pub noted_more : (changed : List Addr) (a x : Addr) → is_noted (changed ++ a ∷ []) x ≡ (is_noted changed x || addr_same a x)
 noted_more [] a x = last (addr_same a x)
   where
     last : (b : Bool) → (b || false) ≡ b
@@ -67,7 +67,7 @@ or_false : (s t : Bool) → (s || t) ≡ false → (s ≡ false) × (t ≡ false
 or_false true t e = absurd cc
 or_false false t e = (refl, e)
 
-or_true : (s t : Bool) → (s || t) ≡ true → (s ≡ true) ⊎ (t ≡ true)
+pub or_true : (s t : Bool) → (s || t) ≡ true → (s ≡ true) ⊎ (t ≡ true)
 or_true true t e = inl refl
 or_true false t e = inr e
 
