@@ -23,3 +23,4 @@ pub mod Renamed
 pub mod Placing
 pub mod Ordered
 pub mod Placed
+pub mod Stepped

@@ -16,7 +16,7 @@ use Rattle.mn_page.specs.Forest.{page_at}
 use Rattle.mn_page.specs.Holds.{PagesAt, Holds, IsTree}
 use Rattle.mn_page.specs.Overlay.{Held, Overlay, overlay_of, held_at, held_with, max_path, path_to, path_pairs, step_on, steps_on, is_new, placed_pages}
 use Rattle.mn_tree.specs.Walk.{Reached, walk}
-use Rattle.mn_tree.specs.State.{max_height, Drafted, drafted_after}
+use Rattle.mn_tree.specs.State.{max_height, Drafted, drafted_after, TreeState, stepped}
 use Rattle.mn_tree.specs.Order.{placed}
 use Rattle.mn_tree.specs.Trees.{laid_over, is_noted, IsShown, IsDraft}
 
@@ -50,6 +50,14 @@ StepKeepsTree =
     (entries : List CatEntry) (at : PagesAt) (store : Store) (o : Overlay) (v : VersionNo) (version : StoreVersion) (entry : CatEntry) (step : Step) (path : List Held) → IsDraft entries at store o → slice_get store v.0 ≡ Some version
     → slice_get entries v.0 ≡ Some entry → (entry.frozen && is_change step) ≡ false → path_to max_path o.pages entry.root (step_key step) [] ≡ Some path
     → IsDraft entries at (slice_set store v.0 (record version { pairs = pairs_after_step version.pairs step })) (step_on v o step path)
+
+-- so does a step of the tree in memory that reaches its leaf, where the root isn't too high
+abbrev pub SteppedKeepsTree : Type 0
+SteppedKeepsTree =
+    (entries : List CatEntry) (at : PagesAt) (store : Store) (s : TreeState) (version : StoreVersion) (entry : CatEntry) (step : Step) (path : List Held) → IsDraft entries at store s.draft.overlay → slice_get store s.version.0 ≡ Some version
+    → slice_get entries s.version.0 ≡ Some entry → s.root ≡ entry.root → (entry.frozen && is_change step) ≡ false → walk s.draft.overlay.pages s.root (step_key step) ≡ Reached path
+    → option_map_or (λ p. height_of p.body) (held_at s.draft.overlay.pages s.root) 0 ≤ max_height
+    → IsDraft entries at (slice_set store s.version.0 (record version { pairs = pairs_after_step version.pairs step })) (stepped s step).state.draft.overlay
 
 -- all steps of a transaction that isn't refused leave a tree that shows the store after it
 abbrev pub TransactionKeepsTree : Type 0

@@ -1,4 +1,4 @@
-ghost use Rattle.mn_tree.specs.Laws.{WalksArePaths, ReadsAreDraft, AddKeepsDraft, PathTells, StepKeepsTree, TransactionKeepsTree, TransactionTells, PlacingKeepsTree, StepReadsChanged, PlacedKeepsTree};
+ghost use Rattle.mn_tree.specs.Laws.{WalksArePaths, ReadsAreDraft, AddKeepsDraft, PathTells, StepKeepsTree, TransactionKeepsTree, TransactionTells, PlacingKeepsTree, StepReadsChanged, PlacedKeepsTree, SteppedKeepsTree};
 
 /// Where the root isn't too high, a walk that reaches a leaf goes the way of the plain model of the tree.
 pub fn walks_are_paths()
@@ -48,4 +48,9 @@ pub fn step_reads_changed()
 /// In the order in which they stand in a plan the placed pages are that tree too.
 pub fn placed_keeps_tree()
     ensures { PlacedKeepsTree }
+{}
+
+/// A step of the tree in memory that reaches its leaf leaves a draft of the store with the step done, where the root isn't too high.
+pub fn stepped_keeps_tree()
+    ensures { SteppedKeepsTree }
 {}

@@ -18,8 +18,8 @@ mod writer;
 pub use error::AddError;
 pub use laws::{
     add_keeps_draft, path_tells, placed_keeps_tree, placing_keeps_tree, reads_are_draft,
-    step_keeps_tree, step_reads_changed, transaction_keeps_tree, transaction_tells,
-    walks_are_paths,
+    step_keeps_tree, step_reads_changed, stepped_keeps_tree, transaction_keeps_tree,
+    transaction_tells, walks_are_paths,
 };
 pub use overlay::Overlay;
 pub use stepped::Stepped;
