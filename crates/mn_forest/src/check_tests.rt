@@ -1,4 +1,9 @@
 //! A tree over two nodes, and what breaks each rule of the forest.
+ghost use Rattle.std.specs.Prelude.{◌≡◌, ◌≤◌, length, nat_eq};
+ghost use Rattle.std.specs.Bool.{OnTrue};
+ghost use Rattle.std.specs.List.{AllByRecursion, list_all};
+ghost use Rattle.mn_mini.specs.Mini.{space_size};
+
 use crate::{ForestError, Rule, base_spaces, check};
 use mn_base::{Bytes, Key, Name, NodeNo, Op, Reply, Step, Steps};
 use mn_mini::{SPACE, Spaces};
@@ -89,14 +94,24 @@ fn changed(alloc: Global, changes: &[Change]) -> Result<Spaces, Fail> {
     Ok(Spaces::from_vec(spaces))
 }
 
+/// Whether the spaces are of full size.
+fn are_whole(spaces: &[Bytes]) -> bool
+    ensures { result ≡ list_all (λ space. nat_eq (length space) space_size) spaces.now }
+{
+    spaces
+        .iter()
+        .all(|space| space.as_slice().len() == SPACE as usize)
+}
+
 /// Whether there are 1 to 8 spaces of full size.
-fn may_be_checked(spaces: &Spaces) -> bool {
+fn may_be_checked(spaces: &Spaces) -> bool
+    ensures { OnTrue result ((1 ≤ length spaces.now) × (length spaces.now ≤ 8) × AllByRecursion (λ space. length space ≡ space_size) spaces.now) }
+{
     let spaces = spaces.as_slice();
-    !spaces.is_empty()
-        && spaces.len() <= 8
-        && spaces
-            .iter()
-            .all(|space| space.as_slice().len() == SPACE as usize)
+    if spaces.is_empty() || spaces.len() > 8 {
+        return false;
+    }
+    are_whole(spaces)
 }
 
 /// What the check says of it.
