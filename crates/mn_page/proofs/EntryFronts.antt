@@ -282,7 +282,7 @@ sound t e s = (ap (λ (l : List ℕ). runs 0 false 0 l) s.1 ∙ entry_runs e s.0
 
 -- Bytes that go on spell an entry
 
-fit : (bs : List ℕ) → list_all (λ b. nat_lt b 256) bs ≡ true → (i : ℕ) → get_or bs i 0 < 256
+pub fit : (bs : List ℕ) → list_all (λ b. nat_lt b 256) bs ≡ true → (i : ℕ) → get_or bs i 0 < 256
 fit [] h i = omega arith
 fit (b ∷ bs) h zero = below b (left_true (nat_lt b 256) _ h)
   where
@@ -291,7 +291,7 @@ fit (b ∷ bs) h zero = below b (left_true (nat_lt b 256) _ h)
 fit (b ∷ bs) h (suc i) = fit bs (right_true (nat_lt b 256) _ h) i
 
 -- eight bytes are those of a number
-number_of : (c0 c1 c2 c3 c4 c5 c6 c7 : ℕ) → list_all (λ b. nat_lt b 256) (c0 ∷ c1 ∷ c2 ∷ c3 ∷ c4 ∷ c5 ∷ c6 ∷ c7 ∷ []) ≡ true
+pub number_of : (c0 c1 c2 c3 c4 c5 c6 c7 : ℕ) → list_all (λ b. nat_lt b 256) (c0 ∷ c1 ∷ c2 ∷ c3 ∷ c4 ∷ c5 ∷ c6 ∷ c7 ∷ []) ≡ true
     → (n : ℕ) × (n < 2 ^ 64) × (big_bytes 8 n ≡ c0 ∷ c1 ∷ c2 ∷ c3 ∷ c4 ∷ c5 ∷ c6 ∷ c7 ∷ [])
 number_of c0 c1 c2 c3 c4 c5 c6 c7 s =
     let bs : List ℕ = c0 ∷ c1 ∷ c2 ∷ c3 ∷ c4 ∷ c5 ∷ c6 ∷ c7 ∷ [] in
@@ -340,7 +340,7 @@ parent_is c h = elim (nat_lt c 64) as (λ t. nat_lt c 64 ≡ t → (t || nat_eq 
     is_none : (n : ℕ) → (false || nat_eq n 255) ≡ true → n ≡ 255
     is_none n e = grind (arith, nat_tests)
 
-addr_is : (c0 c1 c2 : ℕ) → nat_lt c0 8 ≡ true → nat_lt c1 16 ≡ true → c2 < 256 → (addr : Addr) × IsAddr addr × (addr_bytes addr ≡ c0 ∷ c1 ∷ c2 ∷ [])
+pub addr_is : (c0 c1 c2 : ℕ) → nat_lt c0 8 ≡ true → nat_lt c1 16 ≡ true → c2 < 256 → (addr : Addr) × IsAddr addr × (addr_bytes addr ≡ c0 ∷ c1 ∷ c2 ∷ [])
 addr_is c0 c1 c2 e f s =
     let node : c0 < 8 = below8 c0 e in
     let high : c1 < 16 = below16 c1 f in

@@ -136,14 +136,14 @@ cut_above (x ∷ least) (y ∷ r) (suc n) l h = elim h [ inl less ↦ inl less |
 
 -- The least key of a size that begins so
 
-le_at_most : (a b : List ℕ) → key_le a b ≡ true → AtMost a b
+pub le_at_most : (a b : List ℕ) → key_le a b ≡ true → AtMost a b
 le_at_most a b e = not_lt_at_most b a (not_true (key_lt b a) e)
   where
     not_true : (t : Bool) → not t ≡ true → t ≡ false
     not_true true e = absurd cc
     not_true false e = refl
 
-at_most_le : (a b : List ℕ) → AtMost a b → key_le a b ≡ true
+pub at_most_le : (a b : List ℕ) → AtMost a b → key_le a b ≡ true
 at_most_le a b h = ap not (at_most_not_lt a b h)
 
 pub least_long : (least : List ℕ) (size : ℕ) → length least ≤ size → list_all (λ x. nat_lt x 256) least ≡ true → IsLeastFrom least [] size (least ++ replicate (size - length least) 0)

@@ -18,3 +18,11 @@ pub mod EntryText
 pub mod EntryFronts
 pub mod KeyOrder
 pub mod KeyRoom
+pub mod PageFronts
+pub mod FrontFields
+pub mod FrontKeys
+pub mod FrontItems
+pub mod FrontVersions
+pub mod FrontPage
+pub mod FrontBodies
+pub mod FrontWhole

@@ -40,13 +40,13 @@ cut {X} (x ∷ a) (y ∷ b) c d l e =
     let tails : a ++ c ≡ b ++ d = cc in
     let rest = cut a b c d (omega arith) tails in (let r = rest.0 in cc, rest.1)
 
-counted_cut : (a b : List ℕ) (c d : List ℕ) → counted a ++ c ≡ counted b ++ d → (a ≡ b) × (c ≡ d)
+pub counted_cut : (a b : List ℕ) (c d : List ℕ) → counted a ++ c ≡ counted b ++ d → (a ≡ b) × (c ≡ d)
 counted_cut a b c d e = let l : length a ≡ length b = cc in let t : a ++ c ≡ b ++ d = cc in cut a b c d l t
 
 zero_one : zero ≡ suc zero → ⊥
 zero_one e = absurd (omega arith)
 
-high_cut : (a b : Option (List ℕ)) (c d : List ℕ) → high_bytes a ++ c ≡ high_bytes b ++ d → (a ≡ b) × (c ≡ d)
+pub high_cut : (a b : Option (List ℕ)) (c d : List ℕ) → high_bytes a ++ c ≡ high_bytes b ++ d → (a ≡ b) × (c ≡ d)
 high_cut None None c d e = (refl, cc)
 high_cut None (Some y) c d e = absurd (zero_one (ap (λ (x : List ℕ). get_or x 0 0) e))
 high_cut (Some x) None c d e = absurd (zero_one (sym (ap (λ (x : List ℕ). get_or x 0 0) e)))
@@ -74,7 +74,7 @@ same_addr a b e f =
     let nodes : a.node ≡ b.node = ap (λ k. let n : NodeNo = record { 0 = k } in n) e in
     ap (λ (n : NodeNo). let r : Addr = record { node = n; slot = a.slot } in r) nodes ∙ ap (λ s. let r : Addr = record { node = b.node; slot = s } in r) f
 
-addr_cut : (a b : Addr) (c d : List ℕ) → IsAddr a → IsAddr b → addr_bytes a ++ c ≡ addr_bytes b ++ d → (a ≡ b) × (c ≡ d)
+pub addr_cut : (a b : Addr) (c d : List ℕ) → IsAddr a → IsAddr b → addr_bytes a ++ c ≡ addr_bytes b ++ d → (a ≡ b) × (c ≡ d)
 addr_cut a b c d is iq e =
     let nodes : a.node.0 ≡ b.node.0 = ap (λ (l : List ℕ). get_or l 0 0) e in
     let slots : big_bytes 2 a.slot ≡ big_bytes 2 b.slot = ap (λ (l : List ℕ). take 2 (drop 1 l)) e in

@@ -4,11 +4,16 @@ use Rattle.mn_base.specs.Name.{is_name_byte}
 use Rattle.mn_page.specs.declared.entry.CatEntry.{CatEntry}
 use Rattle.mn_page.specs.declared.error.PageError.{PageError}
 use Rattle.mn_page.specs.declared.error.PageError.TheVariants.{BadPage, NoMemory}
-use Rattle.mn_page.specs.Grammar.{SpellsEntry}
+use Rattle.mn_page.specs.declared.page.Page.{Page}
+use Rattle.mn_page.specs.Grammar.{SpellsEntry, SpellsPage}
 
 -- some entry's bytes begin with these
 abbrev pub BeginsEntry : List ℕ → Type 0
 BeginsEntry front = (rest : List ℕ) × (e : CatEntry) × SpellsEntry (front ++ rest) e
+
+-- some page's bytes begin with these
+abbrev pub BeginsPage : List ℕ → Type 0
+BeginsPage front = (rest : List ℕ) × (p : Page) × SpellsPage (front ++ rest) p
 
 -- so many of the first bytes are such a front, and one more aren't
 pub record IsLongest (IsFront : List ℕ → Type 0) (bytes : List ℕ) (n : ℕ) : Type 0 where

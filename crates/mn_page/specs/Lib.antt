@@ -7,4 +7,5 @@ pub mod Overlay
 pub mod Written
 pub mod Reading
 pub mod Fronts
+pub mod PageFronts
 pub mod KeyRoom

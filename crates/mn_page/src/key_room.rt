@@ -37,7 +37,7 @@ fn raised(key: ShortKey) -> Option<ShortKey>
 }
 
 /// The bytes, as many zeros behind them as make up the size, if they are not too many.
-fn filled(bytes: &[u8], size: usize) -> Option<ShortKey>
+pub fn filled(bytes: &[u8], size: usize) -> Option<ShortKey>
     ensures { MatchOption result (length bytes.now ≤ 32 → size ≤ 32 → ⊥) (λ key. key.items ≡ bytes.now ++ replicate (size - length bytes.now) 0) }
 {
     let mut key = ShortKey::new();

@@ -10,6 +10,7 @@ mod fault;
 mod key_room;
 mod laws;
 mod page;
+mod page_front;
 mod page_read;
 mod page_ref;
 mod page_scan;

@@ -3,6 +3,7 @@ ghost use Rattle.std.specs.Option.{option_map};
 ghost use Rattle.mn_page.specs.declared.page.Page.{Page};
 ghost use Rattle.mn_page.specs.declared.page.Body.TheVariants.{Leaf, Inner};
 ghost use Rattle.mn_page.specs.declared.error.PageError.{PageError};
+ghost use Rattle.mn_page.specs.Fronts.{BeginsPage, IsLongest, NamesLongest};
 ghost use Rattle.mn_page.specs.Grammar.{IsFree, SpellsPage, SpellsNoPage};
 ghost use Rattle.mn_page.specs.Reading.{pair_seen, child_seen, body_seen, IsWantOfMemory, IsPlaceWithin};
 
@@ -92,6 +93,7 @@ impl<'a> PageRef<'a> {
         ensures free { IsFree bytes.now → IsOkAnd result (λ found. found ≡ None) }
         ensures bad { OnErr result (SpellsNoPage bytes.now) }
         ensures place { IfErr result (λ e. e.at ≤ length bytes.now) }
+        ensures longest { IfErr result (λ e. IsLongest BeginsPage bytes.now e.at) }
     {
         if let Some(page) = whole_page(bytes) {
             return Ok(Some(page));
@@ -128,6 +130,7 @@ impl Page {
         ensures free { IsFree bytes.now → IfOk result (λ found. found ≡ None) }
         ensures bad { IfErr result (λ e. (IsWantOfMemory e → ⊥) → SpellsNoPage bytes.now) }
         ensures place { IfErr result (IsPlaceWithin (length bytes.now)) }
+        ensures longest { IfErr result (NamesLongest BeginsPage bytes.now) }
     {
         match PageRef::new(bytes)? {
             Some(found) => Ok(Some(found.to_page(alloc)?)),

@@ -51,7 +51,7 @@ fn first_u64(bytes: &[u8]) -> Option<(u64, &[u8])>
 
 /// The first bytes, so many, and what follows them.
 #[tactic(auto, using(crate::proofs::Scanned::are_bytes))]
-fn first_text(bytes: &[u8], length: usize) -> Option<(&[u8], &[u8])>
+pub fn first_text(bytes: &[u8], length: usize) -> Option<(&[u8], &[u8])>
     ensures found { IfSome result (λ x. Begins (HasLength length length) as_they_stand bytes.now x.0.now x.1.now) }
     ensures only { (text more : List ℕ) → Rattle.std.specs.Prelude.length text ≡ length → bytes.now ≡ text ++ more → IsSomeAnd result (λ x. (x.0.now ≡ text) × (x.1.now ≡ more)) }
 {
@@ -128,7 +128,7 @@ pub fn first_seq(bytes: &[u8]) -> Option<(u64, &[u8])>
 }
 
 /// The height, behind its kind, and what follows.
-fn first_height(bytes: &[u8]) -> Option<(u16, &[u8])>
+pub fn first_height(bytes: &[u8]) -> Option<(u16, &[u8])>
     ensures found { IfSome result (λ x. bytes.now ≡ height_text x.0 ++ x.1.now) }
     ensures only { (height : ℕ) (more : List ℕ) → height < 2 ^ 16 → bytes.now ≡ height_text height ++ more → IsSomeAnd result (λ x. (x.0 ≡ height) × (x.1.now ≡ more)) }
 {
@@ -143,7 +143,7 @@ fn first_height(bytes: &[u8]) -> Option<(u16, &[u8])>
 }
 
 /// The made version and the versions that the page was copied for, and what follows.
-fn first_versions(bytes: &[u8]) -> Option<((u8, u64), &[u8])>
+pub fn first_versions(bytes: &[u8]) -> Option<((u8, u64), &[u8])>
     ensures found { IfSome result (λ x. Begins AreVersions versions_text bytes.now x.0 x.1.now) }
     ensures only { (v : ℕ × ℕ) (more : List ℕ) → AreVersions v → bytes.now ≡ versions_text v ++ more → IsSomeAnd result (λ x. (x.0 ≡ v) × (x.1.now ≡ more)) }
 {
