@@ -9,7 +9,8 @@ pub const SLOT: usize = 1_024;
 /// The bytes of an entry's place.
 pub const ENTRY: usize = 64;
 
-/// How many of the first bytes still begin some page.
+/// How many of the first bytes still begin some page. Bytes that begin none begin none with more behind them, so the place is
+/// found by halving.
 pub fn page_fault(bytes: &[u8]) -> u16
     ensures longest { IsLongest BeginsPage bytes.now result }
     ensures within { result ≤ length bytes.now }

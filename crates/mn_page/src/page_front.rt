@@ -12,8 +12,8 @@ use crate::key_room::{Room, ShortKey, filled, has_room, leaves_room, next_key};
 use crate::page_scan::are_zeros;
 use crate::scan::{first_addr, first_byte, first_height, first_seq, first_text, first_versions};
 
-// Each function gives what stands behind a field. Err: the bytes end inside it, or hold none; `true` where more bytes make it
-// one.
+// Each function gives what stands behind a field. Err: the bytes end inside the field, or can't begin it; `true` where more
+// bytes make it a field that some page goes on from.
 
 fn front_seq(bytes: &[u8]) -> Result<&[u8], bool>
     ensures { MatchResult result (λ rest. (seq : ℕ) × Begins IsSeq eight bytes.now seq rest.now) (λ goes. Judged IsSeq eight bytes.now goes) }
@@ -156,12 +156,12 @@ fn front_high<'a>(
     if some == 0 {
         return Ok((None, behind));
     }
-    let Some(least) = least_high(low, is_leaf) else {
-        return Err(false);
-    };
     if some > 1 {
         return Err(false);
     }
+    let Some(least) = least_high(low, is_leaf) else {
+        return Err(false);
+    };
     let room = Room {
         least: least.as_slice(),
         high: None,
