@@ -2,8 +2,13 @@
 pub mod Pieces
 pub mod Spaces
 pub mod Laying
+pub mod Sizes
 pub mod Compares
 pub mod Kept
 pub mod PutInPlace
 pub mod SplitRoot
 pub mod HoldsOne
+pub mod Told
+pub mod NextSlots
+pub mod Grown
+pub mod Written

@@ -14,3 +14,4 @@ pub mod Run
 pub mod History
 pub mod Laws
 pub mod Plans
+pub mod Growth

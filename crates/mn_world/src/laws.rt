@@ -4,6 +4,7 @@ ghost use Rattle.mn_world.specs.Laws.{CommitsAreFlat, SpacesAgree, MemoryIsFlat,
 ghost use Rattle.mn_world.specs.Laws.{AbandonedIsNever, RefusedIsNever, GivenUpIsNever, UnkeptIsNever, CommitsOnce, ForcedNeverVotes, AbandonedLacksVote};
 ghost use Rattle.mn_world.specs.Plans.{PutIsPlanned, SplitIsPlanned};
 ghost use Rattle.mn_world.specs.Run.{RunsFollowProtocol};
+ghost use Rattle.mn_world.specs.Growth.{NextSlotsAreFree, WritesLeaveStore, ComparesTell, NumbersGoOn};
 
 // Each law is the contract of a function that does nothing: what it says is proved, and may be used, by calling it.
 
@@ -130,4 +131,24 @@ pub fn holds_one()
 /// A Put that splits a root leaf is planned.
 pub fn split_is_planned()
     ensures { SplitIsPlanned }
+{}
+
+/// Slots that are each the first free one of their node are free in the memory.
+pub fn next_slots_are_free()
+    ensures { NextSlotsAreFree }
+{}
+
+/// Pages that are written again, new ones in next slots, and counts leave a memory that holds the store that they show.
+pub fn writes_leave_store()
+    ensures { WritesLeaveStore }
+{}
+
+/// Where compares of pages, entries and counts are met, the memory's forest has just these.
+pub fn compares_tell()
+    ensures { ComparesTell }
+{}
+
+/// A page with the next number goes on from the one that stands there, and a new one from a free slot.
+pub fn numbers_go_on()
+    ensures { NumbersGoOn }
 {}

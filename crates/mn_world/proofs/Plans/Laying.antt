@@ -21,7 +21,7 @@ pub record HasSlots (l : Laid) : Type 0 where
   pub fits : length (flat_map entry_bytes l.entries) ≤ 4096
   pub slots : (n : ℕ) → AreSlots (slice_index_or l.pages n [])
 
-index-lengths : (xss : List (List Page)) (n : ℕ) → slice_index_or (map (λ ps. length ps) xss) n 0 ≡ length (slice_index_or xss n [])
+pub index-lengths : (xss : List (List Page)) (n : ℕ) → slice_index_or (map (λ ps. length ps) xss) n 0 ≡ length (slice_index_or xss n [])
 index-lengths [] n = refl
 index-lengths (xs ∷ xss) zero = refl
 index-lengths (xs ∷ xss) (suc n) = index-lengths xss n
@@ -53,7 +53,7 @@ laid_set l k n in' nodes others bytes here =
     ap (slice_set (memory_laid l) n) (here ∙ ap (space_laid k) z) ∙ (set_map (space_laid l) (space_laid k) 0 (length l.pages) n in' (λ m e. others m (λ h. e (h ∙ z))) ∙ ap (λ j. map (space_laid k) (range_with_len 0 j)) (sym nodes))
 
 -- the same with other pages at one node
-abbrev with_pages : Laid → List (List Page) → Laid
+abbrev pub with_pages : Laid → List (List Page) → Laid
 with_pages l pages = record { entries = l.entries; counts = l.counts; pages = pages }
 
 pages_set : (l : Laid) (n : NodeNo) (ps : List Page) → n.0 < length l.pages → (bytes : List ℕ) → bytes ≡ padded 4214784 (front_laid l n.0 ++ flat_map page_bytes ps) → slice_set (memory_laid l) n.0 bytes ≡ memory_laid (with_pages l (slice_set l.pages n.0 ps))
@@ -94,7 +94,7 @@ page_new l is n slot q in' first room long =
 
 -- A count
 
-abbrev with_counts : Laid → List ℕ → Laid
+abbrev pub with_counts : Laid → List ℕ → Laid
 with_counts l counts = record { entries = l.entries; counts = counts; pages = l.pages }
 
 count_bytes_at : (nodes n old c : ℕ) (catalog behind : List ℕ) → length catalog ≤ 4096 → overwritten (padded 4214784 (front_of nodes n old catalog ++ behind)) 16 (big_bytes 8 c) ≡ padded 4214784 (front_of nodes n c catalog ++ behind)

@@ -1,5 +1,5 @@
 -- A Put that splits a root leaf is planned.
-use Rattle.std.proofs.Common.{◌≡◌, ℕ, zero, suc, ◌+◌, ◌-◌, ◌*◌, ◌^◌, ◌<◌, ◌≤◌, ◌⊎◌, inl, inr, Bool, true, false, not, ◌&&◌, ◌||◌, List, [], ◌∷◌, ◌++◌, length, map, take, replicate, Option, Some, None, refl, subst, sym, ap, ◌∙◌, arith, slice_get, slice_set, slice_index_or, get_or-set_same, Contains}
+use Rattle.std.proofs.Common.{◌≡◌, ℕ, zero, suc, ◌+◌, ◌-◌, ◌*◌, ◌^◌, ◌<◌, ◌≤◌, ◌⊎◌, inl, inr, Bool, true, false, not, ◌&&◌, ◌||◌, List, [], ◌∷◌, ◌++◌, length, take, replicate, Option, Some, None, refl, subst, sym, ap, ◌∙◌, arith, slice_get, slice_set, slice_index_or, Contains}
 use Rattle.std.specs.Prelude.{filter, nat_eq, nat_lt, IsTrue, ◌↔◌}
 use Rattle.std.specs.List.{AllByRecursion, list_any, list_all, flat_map}
 use Rattle.std.specs.Option.{option_map}
@@ -23,7 +23,7 @@ use Rattle.mn_page.specs.Grammar.{padded, page_bytes, entry_bytes, IsPage, IsEnt
 use Rattle.mn_page.specs.Forest.{Forest, Laid, memory_laid, laid_of, front_of, header_bytes, page_at, entry_head}
 use Rattle.mn_page.specs.Holds.{Holds, page_covers, pairs_in}
 use Rattle.mn_page.specs.Laws.{IsLeafFor, OneLeaf}
-use Rattle.mn_page.proofs.Grid.{set_in, add_in, all_at_place, all_append, all_split}
+use Rattle.mn_page.proofs.Grid.{all_at_place, all_append, all_split}
 use Rattle.mn_page.proofs.Named.{NamedVersion, named}
 use Rattle.mn_page.proofs.Leaves.{version_in, one_leaf}
 use Rattle.mn_page.proofs.Keys.{not_below, turned}
@@ -36,6 +36,7 @@ use Rattle.mn_world.specs.Plans.{write_page, slot_at, left_half, right_half, par
 use Rattle.mn_world.proofs.Plans.Pieces.{bytes_in-skip, bytes_in-within, bytes_in-padded}
 use Rattle.mn_world.proofs.Plans.Spaces.{memory_by_pages, catalog_bytes, page_there, page_read, entry_read, node_0, memory_length, space_in-memory_by_pages, head_length, front_length, catalog_length, AreSlots, node_slots, text_length, get_in-index}
 use Rattle.mn_world.proofs.Plans.Laying.{HasSlots, laid_is, forest_laid, page_over, page_new, count_over}
+use Rattle.mn_world.proofs.Plans.Sizes.{index-set_in, index-add_in, sizes_of, sizes-set_in, sizes-add_in, index_below, index-set-all}
 use Rattle.mn_world.proofs.Plans.Compares.{all_met, still_named, page_rank, entry_rank, element_at}
 use Rattle.mn_world.proofs.Plans.PutInPlace.{put_store, put_numbers, place_same}
 use Rattle.mn_page.proofs.Counted.{counted, forest, listed, shows, IsCounted, ListsStore, forest_heads, leaf_pairs_are}
@@ -166,43 +167,6 @@ root_spelled p lows first more l r is new low al ar =
       fences = refl;
       body = (omega arith, omega arith, omega arith, omega arith, al, refl, ((sep, ar, nil_lt first.key sep.0, refl), tt));
     }
-
--- Lengths of the nodes' lists
-
-index-set_in : (xss : List (List Page)) (m t : ℕ) (x : Page) (n : ℕ) → length (slice_index_or (set_in xss m t x) n []) ≡ length (slice_index_or xss n [])
-index-set_in [] m t x n = refl
-index-set_in (xs ∷ xss) zero t x zero = length-set xs t x
-index-set_in (xs ∷ xss) zero t x (suc n) = refl
-index-set_in (xs ∷ xss) (suc m) t x zero = refl
-index-set_in (xs ∷ xss) (suc m) t x (suc n) = index-set_in xss m t x n
-
-index-add_in : (xss : List (List Page)) (n : ℕ) (x : Page) → n < length xss → length (slice_index_or (add_in xss n x) n []) ≡ length (slice_index_or xss n []) + 1
-index-add_in xss n x in' = ap (λ (ps : List Page). length ps) (get_or-set_same xss n (slice_index_or xss n [] ++ x ∷ []) [] in') ∙ length-append (slice_index_or xss n []) (x ∷ [])
-
-abbrev sizes_of : List (List Page) → List ℕ
-sizes_of xss = map (λ ps. length ps) xss
-
-sizes-set_in : (xss : List (List Page)) (m t : ℕ) (x : Page) → sizes_of (set_in xss m t x) ≡ sizes_of xss
-sizes-set_in [] m t x = refl
-sizes-set_in (xs ∷ xss) zero t x = ap (λ k. k ∷ sizes_of xss) (length-set xs t x)
-sizes-set_in (xs ∷ xss) (suc m) t x = ap (λ (ks : List ℕ). length xs ∷ ks) (sizes-set_in xss m t x)
-
-sizes-add_in : (xss : List (List Page)) (n : ℕ) (x : Page) → sizes_of (add_in xss n x) ≡ slice_set (sizes_of xss) n (length (slice_index_or xss n []) + 1)
-sizes-add_in [] n x = refl
-sizes-add_in (xs ∷ xss) zero x = ap (λ k. k ∷ sizes_of xss) (length-append xs (x ∷ []))
-sizes-add_in (xs ∷ xss) (suc n) x = ap (λ (ks : List ℕ). length xs ∷ ks) (sizes-add_in xss n x)
-
-index_below : (xss : List (List Page)) (n : ℕ) → AllByRecursion (λ ps. length ps ≤ 4096) xss → length (slice_index_or xss n []) ≤ 4096
-index_below [] n all = omega arith
-index_below (xs ∷ xss) zero all = all.0
-index_below (xs ∷ xss) (suc n) all = index_below xss n all.1
-
-index-set-all : (Q : List Page → Type 0) (xss : List (List Page)) (m : ℕ) (ys : List Page) → ((n : ℕ) → Q (slice_index_or xss n [])) → Q ys → (n : ℕ) → Q (slice_index_or (slice_set xss m ys) n [])
-index-set-all Q [] m ys all new n = all n
-index-set-all Q (xs ∷ xss) zero ys all new zero = new
-index-set-all Q (xs ∷ xss) zero ys all new (suc n) = all (suc n)
-index-set-all Q (xs ∷ xss) (suc m) ys all new zero = all 0
-index-set-all Q (xs ∷ xss) (suc m) ys all new (suc n) = index-set-all Q xss m ys (λ k. all (suc k)) new n
 
 -- What a memory has where the compares hold
 
@@ -492,7 +456,7 @@ split_compares f store name key value v nodes e p pairs n count lows first more 
     back (inr (inr (inr count))) = count_case count.0.0 count.0.1 (written_case count.1)
 
 -- a new page has the number after that of a free slot
-new_number : (memory : List (List ℕ)) (n : NodeNo) (slot : ℕ) (q : Page) → bytes_in (space_in memory n) (20480 + 1024 * slot) 1024 ≡ replicate 1024 0 → length (page_bytes q) ≡ 1024 → q.seq ≡ 1 → HasNextNumber memory (write_page (slot_at n slot) q)
+pub new_number : (memory : List (List ℕ)) (n : NodeNo) (slot : ℕ) (q : Page) → bytes_in (space_in memory n) (20480 + 1024 * slot) 1024 ≡ replicate 1024 0 → length (page_bytes q) ≡ 1024 → q.seq ≡ 1 → HasNextNumber memory (write_page (slot_at n slot) q)
 new_number memory n slot q free long one =
     inr (0, omega arith, ap (λ k. take 8 (bytes_in (space_in memory n) (20480 + 1024 * slot) k)) long ∙ ap (take 8) free, ap (big_bytes 8) one)
 

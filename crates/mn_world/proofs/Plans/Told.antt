@@ -1,0 +1,83 @@
+-- What met compares tell of a forest, and which numbers writes have.
+use Rattle.std.proofs.Common.{◌≡◌, ℕ, zero, suc, ◌+◌, ◌*◌, ◌<◌, ◌≤◌, ◌^◌, inl, inr, List, [], ◌∷◌, length, Option, Some, None, refl, subst, sym, ap, ◌∙◌, arith, slice_index_or, Contains}
+use Rattle.std.specs.List.{AllByRecursion}
+use Rattle.std.proofs.lemmas.Option.{slice_get_cases}
+use Rattle.mn_base.specs.declared.ids.Addr.{Addr}
+use Rattle.mn_mini.specs.Flat.{bytes_in, space_in}
+use Rattle.mn_page.specs.declared.page.Page.{Page}
+use Rattle.mn_page.specs.Forest.{Forest, page_at}
+use Rattle.mn_page.proofs.Spelled.{page_length, entry_length, big_bytes-inj}
+use Rattle.mn_page.proofs.Counted.{counted, IsCounted}
+use Rattle.mn_world.specs.Growth.{ComparesTell, NumbersGoOn, count_in}
+use Rattle.mn_world.specs.Plans.{compare_page, compare_entry, compare_count}
+use Rattle.mn_world.proofs.Plans.Laying.{laid_is}
+use Rattle.mn_world.proofs.Plans.Spaces.{memory_by_pages, page_there, page_read, page_node, entry_there, node_0, get_in-index}
+use Rattle.mn_world.proofs.Plans.Compares.{IsMet, all_met}
+use Rattle.mn_world.proofs.Plans.Sizes.{index_below}
+use Rattle.mn_world.proofs.Plans.PutInPlace.{put_numbers}
+use Rattle.mn_world.proofs.Plans.SplitRoot.{count_read, free_read, new_number}
+
+-- what holds of each element holds of one that is there
+pub all_there : {X : Type 0} (P : X → Type 0) (xs : List X) (x : X) → AllByRecursion P xs → Contains xs x → P x
+all_there P [] x all (k, in', is) = absurd (omega arith)
+all_there P (y ∷ xs) x all (zero, in', is) = subst P is all.0
+all_there P (y ∷ xs) x all (suc k, in', is) = all_there P xs x all.1 (k, omega arith, is)
+
+-- Compares
+
+pub compares_tell : ComparesTell
+compares_tell memory store holds items met = record {
+  pages = λ addr p there in' spelled.
+      page_there holds.forest sound addr p in' spelled
+      (ap (λ (m : List (List ℕ)). bytes_in (space_in m addr.node) (20480 + 1024 * addr.slot) 1024) (sym is_spelled)
+      ∙ (ap (bytes_in (space_in memory addr.node) (20480 + 1024 * addr.slot)) (sym (page_length p spelled)) ∙ all_there (IsMet memory) items (compare_page addr p) mets there));
+  entries = λ v e there few spelled.
+      entry_there holds.forest sound v e few spelled
+      (ap (λ (m : List (List ℕ)). bytes_in (space_in m node_0) (64 + 64 * v) 64) (sym is_spelled)
+      ∙ (ap (bytes_in (space_in memory node_0) (64 + 64 * v)) (sym (entry_length e spelled)) ∙ all_there (IsMet memory) items (compare_entry v e) mets there));
+  counts = λ n count there in' low.
+      let size : count_in holds.forest n.0 ≤ 4096 = index_below holds.forest.pages n.0 sound.counts in
+      big_bytes-inj 8 count (count_in holds.forest n.0) low (omega arith)
+      (sym (ap (λ (m : List (List ℕ)). bytes_in (space_in m n) 16 8) (sym is_spelled) ∙ all_there (IsMet memory) items (compare_count n count) mets there) ∙ count_read holds.forest sound n in');
+}
+  where
+    sound : IsCounted holds.forest
+    sound = counted holds.forest holds.sound
+
+    is_spelled : memory ≡ memory_by_pages holds.forest
+    is_spelled = holds.spelled ∙ laid_is holds.forest
+
+    mets : AllByRecursion (IsMet memory) items
+    mets = all_met memory 0 items met
+
+-- Numbers
+
+-- a slot with no page stands behind those of its node
+pub past_pages : (f : Forest) (addr : Addr) → page_at f addr ≡ None → length (slice_index_or f.pages addr.node.0 []) ≤ addr.slot
+past_pages f addr free =
+    elim ((slice_get_cases (slice_index_or f.pages addr.node.0 []) addr.slot).1) as (λ _. length (slice_index_or f.pages addr.node.0 []) ≤ addr.slot) [
+      | inl found ↦ absurd (clash found.0 (sym free ∙ (sym (get_in-index f.pages addr.node.0 addr.slot) ∙ found.2)))
+      | inr past ↦ past.0
+    ]
+  where
+    clash : (x : Page) → ◌≡◌ {A = Option Page} None (Some x) → ⊥
+    clash x e = cc
+
+pub numbers_go_on : NumbersGoOn
+numbers_go_on memory store holds = record {
+  changed = λ addr was now there spelled next.
+      put_numbers memory addr was now
+      (ap (λ (m : List (List ℕ)). bytes_in (space_in m addr.node) (20480 + 1024 * addr.slot) 1024) is_spelled ∙ page_read holds.forest sound addr was (page_node holds.forest addr was there) there)
+      (page_length now spelled) next (subst (λ k. k < 2 ^ 64) next spelled.seq_high);
+  new = λ addr now free in' room spelled first.
+      new_number memory addr.node addr.slot now
+      (ap (λ (m : List (List ℕ)). bytes_in (space_in m addr.node) (20480 + 1024 * addr.slot) 1024) is_spelled ∙ free_read holds.forest sound addr.node addr.slot in' (past_pages holds.forest addr free) room)
+      (page_length now spelled) first;
+  counts = λ n count. inl (n, refl);
+}
+  where
+    sound : IsCounted holds.forest
+    sound = counted holds.forest holds.sound
+
+    is_spelled : memory ≡ memory_by_pages holds.forest
+    is_spelled = holds.spelled ∙ laid_is holds.forest
