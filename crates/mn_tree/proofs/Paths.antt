@@ -1,5 +1,5 @@
 -- A walk that reaches a leaf goes the way of the plain model.
-use Rattle.std.proofs.Common.{◌≡◌, ℕ, zero, suc, ◌+◌, ◌<◌, ◌≤◌, Bool, true, false, cond, ◌&&◌, List, [], ◌∷◌, Option, Some, None, refl, sym, ap, ◌∙◌, arith, nat_eq, eq-eqb, ne_eqb, eqb-true}
+use Rattle.std.proofs.Common.{◌≡◌, ℕ, zero, suc, ◌<◌, ◌≤◌, Bool, true, false, ◌&&◌, List, [], ◌∷◌, Option, Some, None, refl, ap, ◌∙◌, arith, nat_eq, eq-eqb, ne_eqb, eqb-true}
 use Rattle.std.specs.Prelude.{if◌then◌else◌}
 use Rattle.std.specs.Option.{option_map_or, option_and_then}
 use Rattle.mn_base.specs.declared.ids.Addr.{Addr}
@@ -8,7 +8,7 @@ use Rattle.mn_page.specs.Grammar.{height_of}
 use Rattle.mn_page.specs.Forest.{children_of}
 use Rattle.mn_page.specs.Holds.{page_covers}
 use Rattle.mn_page.specs.Overlay.{Held, held_at, child_for, path_to, max_path}
-use Rattle.mn_tree.specs.Walk.{held, goes_on, Walk, Missing, Wrong, Reached, walk_down, walk}
+use Rattle.mn_tree.specs.Walk.{held, goes_on, Missing, Wrong, Reached, walk_down}
 use Rattle.mn_tree.specs.Laws.{WalksArePaths}
 
 both : (x y : Bool) → (x && y) ≡ true → x ≡ true

@@ -1,12 +1,12 @@
 -- Where a page goes among those that are held.
-use Rattle.std.proofs.Common.{◌≡◌, ℕ, zero, suc, ◌+◌, ◌<◌, ◌≤◌, add-one, append_assoc, Bool, true, false, cond, List, [], ◌∷◌, ◌++◌, length, take, drop, set, get_or, refl, sym, ap, ◌∙◌, arith}
+use Rattle.std.proofs.Common.{◌≡◌, ℕ, suc, ◌+◌, ◌<◌, add-one, append_assoc, true, false, List, [], ◌∷◌, ◌++◌, length, take, drop, set, refl, sym, ap, ◌∙◌}
 use Rattle.std.proofs.lemmas.List.{set_split, map-append}
 use Rattle.mn_base.specs.Ids.{addr_same}
 use Rattle.mn_base.specs.declared.ids.Addr.{Addr}
 use Rattle.mn_page.specs.declared.page.Page.{Page}
 use Rattle.mn_page.specs.Overlay.{held_with}
 use Rattle.mn_tree.specs.declared.held.HeldPage.{HeldPage}
-use Rattle.mn_tree.specs.Walk.{held, helds, held_of}
+use Rattle.mn_tree.specs.Walk.{helds, held_of}
 use Rattle.mn_tree.specs.Places.{kept}
 
 -- the first pages stand elsewhere

@@ -24,3 +24,16 @@ pub mod Placing
 pub mod Ordered
 pub mod Placed
 pub mod Stepped
+pub mod OnlyAt
+pub mod Passing
+pub mod Moved
+pub mod LeafWrites
+pub mod LeavesTell
+pub mod Told
+pub mod Plans
+pub mod Reached
+pub mod StepWrites
+pub mod MoveReads
+pub mod Filled
+pub mod Sizes
+pub mod PlacedPages

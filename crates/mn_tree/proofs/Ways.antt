@@ -1,18 +1,17 @@
 -- How a walk goes on at an inner page.
 use Rattle.std.specs.Prelude.{if◌then◌else◌}
-use Rattle.std.proofs.Common.{◌≡◌, ℕ, zero, suc, ◌+◌, Bool, true, false, cond, ◌&&◌, not, List, [], ◌∷◌, Option, Some, None, refl, sym, ap, ◌∙◌, add-one, nat_eq, eq-eqb, ne_eqb}
+use Rattle.std.proofs.Common.{◌≡◌, ℕ, suc, ◌+◌, Bool, true, false, ◌&&◌, not, List, [], ◌∷◌, Option, Some, None, refl, sym, ap, ◌∙◌, add-one, nat_eq, eq-eqb, ne_eqb}
 use Rattle.std.specs.Option.{option_map_or}
-use Rattle.mn_base.specs.Order.{key_lt, key_le, below_bound, covers_key}
+use Rattle.mn_base.specs.Order.{key_lt, key_le, below_bound}
 use Rattle.mn_base.specs.declared.ids.Addr.{Addr}
 use Rattle.mn_page.specs.declared.page.Page.{Page}
-use Rattle.mn_page.specs.declared.page.Body.{Body}
-use Rattle.mn_page.specs.declared.page.Body.TheVariants.{Leaf, Inner}
+use Rattle.mn_page.specs.declared.page.Body.TheVariants.{Inner}
 use Rattle.mn_page.specs.declared.page.Child.{Child}
 use Rattle.mn_page.specs.Grammar.{height_of}
 use Rattle.mn_page.specs.Forest.{ranges_from, children_of, body_children}
 use Rattle.mn_page.specs.Holds.{page_covers}
 use Rattle.mn_page.specs.Overlay.{Held, held_at, child_for}
-use Rattle.mn_tree.specs.Walk.{held, goes_on, Walk, Missing, Wrong, Reached, walk_down}
+use Rattle.mn_tree.specs.Walk.{held, goes_on, Walk, Missing, Wrong, walk_down}
 use Rattle.mn_tree.specs.Found.{child_from}
 
 both : (x y : Bool) → (x && y) ≡ true → (x ≡ true) × (y ≡ true)

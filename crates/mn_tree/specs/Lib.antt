@@ -9,4 +9,6 @@ pub mod Effects
 pub mod Room
 pub mod Order
 pub mod Trees
+pub mod Moves
 pub mod Laws
+pub mod MoveLaws

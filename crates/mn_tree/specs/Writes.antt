@@ -1,5 +1,5 @@
 -- What a step writes: its changes of pages one by one, from the leaf upwards.
-use Rattle.std.specs.Prelude.{ℕ, ◌+◌, ◌||◌, Bool, nat_eq, List, [], ◌∷◌, ◌++◌, length, Option, Some, None, is_some, if◌then◌else◌}
+use Rattle.std.specs.Prelude.{ℕ, ◌+◌, ◌||◌, nat_eq, List, [], ◌∷◌, ◌++◌, length, Option, Some, None, is_some, if◌then◌else◌}
 use Rattle.std.specs.List.{list_any, flat_map}
 use Rattle.std.specs.Option.{option_to_list}
 use Rattle.mn_base.specs.Ids.{addr_same}

@@ -1,4 +1,5 @@
 ghost use Rattle.mn_tree.specs.Laws.{WalksArePaths, ReadsAreDraft, AddKeepsDraft, PathTells, StepKeepsTree, TransactionKeepsTree, TransactionTells, PlacingKeepsTree, StepReadsChanged, PlacedKeepsTree, SteppedKeepsTree};
+ghost use Rattle.mn_tree.specs.MoveLaws.{MovesKeepTree, MovesTell, MovesRead, PlacedArePages, MovesArePlaced, MovesComeOnce, QuietMoves};
 
 /// Where the root isn't too high, a walk that reaches a leaf goes the way of the plain model of the tree.
 pub fn walks_are_paths()
@@ -53,4 +54,39 @@ pub fn placed_keeps_tree()
 /// A step of the tree in memory that reaches its leaf leaves a draft of the store with the step done, where the root isn't too high.
 pub fn stepped_keeps_tree()
     ensures { SteppedKeepsTree }
+{}
+
+/// Where the pages of the read set stand as they were read, the steps leave a draft of the store with the steps done, though other pages were out of date.
+pub fn moves_keep_tree()
+    ensures { MovesKeepTree }
+{}
+
+/// Where the leaves of the read set stand as they were read, what the steps find is what they find on the version's pairs.
+pub fn moves_tell()
+    ensures { MovesTell }
+{}
+
+/// Each page of the read set came in, and is a leaf or was changed.
+pub fn moves_read()
+    ensures { MovesRead }
+{}
+
+/// What a plan writes is in the grammar of pages.
+pub fn placed_are_pages()
+    ensures { PlacedArePages }
+{}
+
+/// The pages that a plan writes show the store with the steps done, over those of a memory that has the pages of the read set as they were read.
+pub fn moves_are_placed()
+    ensures { MovesArePlaced }
+{}
+
+/// Steps that only read change no page.
+pub fn moves_may_be_quiet()
+    ensures { QuietMoves }
+{}
+
+/// No page comes in twice.
+pub fn moves_come_once()
+    ensures { MovesComeOnce }
 {}

@@ -2,9 +2,9 @@
 use Rattle.std.proofs.Common.{◌≡◌, ℕ, zero, suc, ◌+◌, ◌<◌, inl, inr, Bool, true, false, List, [], ◌∷◌, length, Option, Some, None, refl, subst, sym, ap, ◌∙◌, arith, slice_get, if◌then◌else◌}
 use Rattle.std.specs.Prelude.{nat_eq}
 use Rattle.std.specs.Option.{option_and_then, option_or}
-use Rattle.std.proofs.lemmas.Bool.{eqb-true}
+use Rattle.std.proofs.lemmas.Bool.{eqb-true, and_parts}
 use Rattle.std.proofs.lemmas.Option.{option_and_then_some, slice_get_within}
-use Rattle.mn_base.specs.Order.{covers_key}
+use Rattle.mn_base.specs.Order.{covers_key, key_le, below_bound}
 use Rattle.mn_base.specs.Store.{Store}
 use Rattle.mn_base.specs.declared.ids.Addr.{Addr}
 use Rattle.mn_base.specs.declared.ids.VersionNo.{VersionNo}
@@ -16,10 +16,12 @@ use Rattle.mn_page.specs.declared.page.Body.TheVariants.{Leaf, Inner}
 use Rattle.mn_page.specs.declared.page.Child.{Child}
 use Rattle.mn_page.specs.Grammar.{height_of}
 use Rattle.mn_page.specs.Forest.{ChildRange, ranges_from, children_of, body_children}
-use Rattle.mn_page.specs.Holds.{PagesAt, page_covers, page_serves, root_page, IsChild, IsTree}
+use Rattle.mn_page.specs.Holds.{PagesAt, page_covers, page_serves, root_page, IsChild, IsOnPath, IsTree}
 use Rattle.mn_page.specs.Overlay.{Held, held_at, child_for, path_to}
 use Rattle.mn_page.proofs.Grid.{all_at_place}
+use Rattle.mn_tree.specs.Found.{child_from}
 use Rattle.mn_tree.specs.Trees.{laid_over, IsShown, IsOrdered}
+use Rattle.mn_tree.proofs.Ways.{child_is}
 use Rattle.mn_tree.proofs.Trees.Twins.{serves_its, serves_one}
 use Rattle.mn_tree.proofs.Trees.Grows.{all_covered}
 use Rattle.mn_tree.proofs.Trees.Among.{Among, rest_addrs, body_addrs, has_child}
@@ -88,6 +90,18 @@ pub record FoundPath (entries : List CatEntry) (at : PagesAt) (v : VersionNo) (r
 abbrev held : Addr → Page → Held
 held addr page = record { addr = addr; page = page }
 
+-- a page of a key's path and those above it, up to the root
+abbrev pub IsUp : List CatEntry → PagesAt → ℕ → Addr → List ℕ → ℕ → Held → List Held → Type 0
+IsUp entries at v root key height h [] = IsOnPath entries at v height key h.addr h.page × (root ≡ h.addr)
+IsUp entries at v root key height h (parent ∷ above) = IsOnPath entries at v height key h.addr h.page × IsUp entries at v root key (suc height) parent above
+
+-- a key's whole path
+pub record WholePath (entries : List CatEntry) (at : PagesAt) (v : VersionNo) (root : Addr) (key : List ℕ) : Type 0 where
+  pub leaf : Held
+  pub above : List Held
+  pub up : IsUp entries at v.0 root key 0 leaf above
+  pub found : FoundPath entries at v root key (leaf ∷ above)
+
 module _ (entries : List CatEntry) (under : PagesAt) (pages : List Held) (v : VersionNo) (root : Addr) (key : List ℕ) (low_v : v.0 < length entries) (tree : IsTree entries (laid_over pages under)) (ordered : (a : Addr) (p : Page) → laid_over pages under a ≡ Some p → IsOrdered p) where
   abbrev at : PagesAt
   at = laid_over pages under
@@ -148,24 +162,60 @@ module _ (entries : List CatEntry) (under : PagesAt) (pages : List Held) (v : Ve
           option_and_then_some (λ next. path_to fuel pages next key (held addr page ∷ above)) (child_for (children_of page) key) path f
           (λ next chosen g. rest next (λ q found. goes_down addr page above (way page there) next chosen q (is_there next q found)) g)
 
+  -- an inner page names a child for each key that it covers
+  chooses : (page : Page) (height : ℕ) → page_covers key page ≡ true → height_of page.body ≡ suc height → (next : Addr) × (child_for (children_of page) key ≡ Some next)
+  chooses page height covers high = by_body page.body refl high
+    where
+      by_body : (b : Body) → page.body ≡ b → height_of b ≡ suc height → (next : Addr) × (child_for (children_of page) key ≡ Some next)
+      by_body (Leaf pairs) is h = absurd (omega arith)
+      by_body (Inner level first rest) is h =
+          let parts = and_parts (key_le page.low key) (below_bound key page.high) covers in
+          (child_from first rest key, ap (λ (b : Body). child_for (body_children page.low page.high b) key) is ∙ child_is first rest page.low page.high key parts.0 parts.1)
+
+  -- from a page on the way down to the leaf
+  descends : (height : ℕ) (addr : Addr) (page : Page) (above : List Held) → Way addr page above → height_of page.body ≡ height → IsUp entries at v.0 root key height (held addr page) above → WholePath entries at v root key
+  descends zero addr page above way flat up = record {
+    leaf = held addr page;
+    above = above;
+    up = up;
+    found = record { leaf = held addr page; above = above; is = refl; on = way.on; there = way.there; level = flat; serves = way.serves; covers = way.covers };
+  }
+  descends (suc height) addr page above way high up =
+      let c = chooses page height way.covers high in
+      let to = covering (children_of page) key c.0 c.1 in
+      let child = child_in entries at tree addr page way.there to.place to.range to.there in
+      let there : at c.0 ≡ Some child.page = ap at (sym to.is) ∙ child.there in
+      let lower : height_of child.page.body ≡ height = let one = child.height in omega arith in
+      let w = goes_down addr page above way c.0 c.1 child.page there in
+      descends height c.0 child.page (held addr page ∷ above) w lower (record { there = there; level = lower; serves = w.serves; covers = w.covers }, up)
+
+module _ (entries : List CatEntry) (under : PagesAt) (pages : List Held) (store : Store) (v : VersionNo) (entry : CatEntry) (key : List ℕ) (shown : IsShown entries (laid_over pages under) store) (there : slice_get entries v.0 ≡ Some entry) where
+  low_v : v.0 < length entries
+  low_v = slice_get_within entries v.0 entry there
+
+  way_from : (page : Page) → laid_over pages under entry.root ≡ Some page → Way entries under pages v entry.root key low_v shown.tree shown.ordered entry.root page []
+  way_from page at_root =
+      let root = shown.tree.roots v.0 low_v in
+      let root_is : root_page entries (laid_over pages under) v.0 ≡ Some page = ap (λ (o : Option CatEntry). option_and_then (λ (x : CatEntry). laid_over pages under x.root) o) there ∙ at_root in
+      let same : root.page ≡ page = page_same root.page page (sym root.there ∙ root_is) in
+      let made : page.made.0 ≡ v.0 = ap (λ (y : Page). y.made.0) (sym same) ∙ root.made in
+      record {
+        on = (at_root, made, refl);
+        there = at_root;
+        serves = subst (λ k. page_serves entries k page ≡ true) made (serves_its entries shown.tree.versions page (shown.tree.pages entry.root page at_root).made (shown.ordered entry.root page at_root));
+        covers = all_covered page.low page.high key (ap (λ (y : Page). y.low) (sym same) ∙ root.low) (ap (λ (y : Page). y.high) (sym same) ∙ root.high);
+      }
+
+  -- each key has a path
+  pub whole_path : WholePath entries (laid_over pages under) v entry.root key
+  whole_path =
+      let root = shown.tree.roots v.0 low_v in
+      let at_root : laid_over pages under entry.root ≡ Some root.page = sym (ap (λ (o : Option CatEntry). option_and_then (λ (x : CatEntry). laid_over pages under x.root) o) there) ∙ root.there in
+      let w = way_from root.page at_root in
+      descends entries under pages v entry.root key low_v shown.tree shown.ordered (height_of root.page.body) entry.root root.page [] w refl (record { there = w.there; level = refl; serves = w.serves; covers = w.covers }, refl)
+
 pub path_found : (entries : List CatEntry) (under : PagesAt) (pages : List Held) (store : Store) (v : VersionNo) (entry : CatEntry) (key : List ℕ) (fuel : ℕ) (path : List Held) → IsShown entries (laid_over pages under) store → slice_get entries v.0 ≡ Some entry
     → path_to fuel pages entry.root key [] ≡ Some path → FoundPath entries (laid_over pages under) v entry.root key path
 path_found entries under pages store v entry key fuel path shown there e =
-    down entries under pages v entry.root key low_v shown.tree shown.ordered fuel entry.root [] path way e
-  where
-    low_v : v.0 < length entries
-    low_v = slice_get_within entries v.0 entry there
-
-    way : (page : Page) → held_at pages entry.root ≡ Some page → Way entries under pages v entry.root key low_v shown.tree shown.ordered entry.root page []
-    way page found =
-        let root = shown.tree.roots v.0 low_v in
-        let at_root : laid_over pages under entry.root ≡ Some page = ap (λ o. option_or o (under entry.root)) found in
-        let root_is : root_page entries (laid_over pages under) v.0 ≡ Some page = ap (λ (o : Option CatEntry). option_and_then (λ (x : CatEntry). laid_over pages under x.root) o) there ∙ at_root in
-        let same : root.page ≡ page = page_same root.page page (sym root.there ∙ root_is) in
-        let made : page.made.0 ≡ v.0 = ap (λ (y : Page). y.made.0) (sym same) ∙ root.made in
-        record {
-          on = (at_root, made, refl);
-          there = at_root;
-          serves = subst (λ k. page_serves entries k page ≡ true) made (serves_its entries shown.tree.versions page (shown.tree.pages entry.root page at_root).made (shown.ordered entry.root page at_root));
-          covers = all_covered page.low page.high key (ap (λ (y : Page). y.low) (sym same) ∙ root.low) (ap (λ (y : Page). y.high) (sym same) ∙ root.high);
-        }
+    down entries under pages v entry.root key (low_v entries under pages store v entry key shown there) shown.tree shown.ordered fuel entry.root [] path
+    (λ page found. way_from entries under pages store v entry key shown there page (ap (λ o. option_or o (under entry.root)) found)) e

@@ -38,7 +38,7 @@ length_with pages a (m ∷ ms) = cases (precedes pages a m) (length_with pages a
     cases true rest = refl
     cases false rest = ap suc rest
 
-all_with : (P : ℕ → Type 0) (pages : List Held) (a : ℕ) (order : List ℕ) → P a → AllByRecursion P order → AllByRecursion P (with_number pages a order)
+pub all_with : (P : ℕ → Type 0) (pages : List Held) (a : ℕ) (order : List ℕ) → P a → AllByRecursion P order → AllByRecursion P (with_number pages a order)
 all_with P pages a [] one all = (one, tt)
 all_with P pages a (m ∷ ms) one all = cases (precedes pages a m) (all_with P pages a ms one all.1)
   where

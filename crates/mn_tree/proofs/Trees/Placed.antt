@@ -5,11 +5,14 @@ use Rattle.mn_base.specs.Ids.{addr_same}
 use Rattle.mn_base.specs.declared.ids.Addr.{Addr}
 use Rattle.mn_page.specs.Overlay.{Held, Overlay, is_new, placed_old, placed_new}
 use Rattle.mn_tree.specs.declared.write.Write.{Write}
-use Rattle.mn_tree.specs.Trees.{laid_over, is_noted, IsShown}
-use Rattle.mn_tree.specs.State.{leaf_joined}
+use Rattle.mn_base.specs.Store.{Store}
+use Rattle.mn_page.specs.declared.entry.CatEntry.{CatEntry}
+use Rattle.mn_page.specs.Holds.{PagesAt, IsTree}
+use Rattle.mn_tree.specs.Trees.{laid_over, is_noted, IsShown, IsDraft}
+use Rattle.mn_tree.specs.State.{Drafted, leaf_joined}
 use Rattle.mn_tree.specs.Writes.{step_writes, joined, all_joined, written, all_written}
 use Rattle.mn_tree.specs.Order.{new_order, changed_order, slot_of, slots_by_number, pair_of}
-use Rattle.mn_tree.specs.Laws.{AreFreeSlots, StepReadsChanged, PlacedKeepsTree, held_pair}
+use Rattle.mn_tree.specs.Laws.{AreFreeSlots, ReadsChanged, StepReadsChanged, PlacedKeepsTree, held_pair}
 use Rattle.mn_tree.proofs.Changes.{step_is}
 use Rattle.mn_tree.proofs.Trees.Puts.{addr_is, same_itself}
 use Rattle.mn_tree.proofs.Trees.Tidy.{noted_more, or_true}
@@ -21,19 +24,19 @@ use Rattle.mn_tree.proofs.Trees.Ordered.{Has, has_all, length_all, all_all, has_
 or_left : (s t : Bool) → s ≡ true → (s || t) ≡ true
 or_left s t e = ap (λ b. b || t) e
 
-or_right : (s t : Bool) → t ≡ true → (s || t) ≡ true
+pub or_right : (s t : Bool) → t ≡ true → (s || t) ≡ true
 or_right true t e = refl
 or_right false t e = e
 
 -- a page that joins is there, unless it is new, and the others stay
-joined_has : (addrs : List Addr) (a x : Addr) → is_noted addrs x ≡ true → is_noted (joined addrs a) x ≡ true
+pub joined_has : (addrs : List Addr) (a x : Addr) → is_noted addrs x ≡ true → is_noted (joined addrs a) x ≡ true
 joined_has addrs a x noted = cases (is_new a || is_noted addrs a)
   where
     cases : (t : Bool) → is_noted (if t then addrs else addrs ++ a ∷ []) x ≡ true
     cases true = noted
     cases false = noted_more addrs a x ∙ or_left (is_noted addrs x) (addr_same a x) noted
 
-joined_itself : (addrs : List Addr) (a : Addr) → is_new a ≡ false → is_noted (joined addrs a) a ≡ true
+pub joined_itself : (addrs : List Addr) (a : Addr) → is_new a ≡ false → is_noted (joined addrs a) a ≡ true
 joined_itself addrs a old = cases (is_new a) (is_noted addrs a) old refl
   where
     cases : (s t : Bool) → s ≡ false → is_noted addrs a ≡ t → is_noted (if s || t then addrs else addrs ++ a ∷ []) a ≡ true
@@ -42,7 +45,7 @@ joined_itself addrs a old = cases (is_new a) (is_noted addrs a) old refl
     cases false false e f = noted_more addrs a a ∙ or_right (is_noted addrs a) (addr_same a a) (same_itself a)
 
 -- what is noted was noted, or has just joined
-joined_back : (addrs : List Addr) (a x : Addr) → is_noted (joined addrs a) x ≡ true → (is_noted addrs x ≡ true) ⊎ ((is_new a ≡ false) × (a ≡ x))
+pub joined_back : (addrs : List Addr) (a x : Addr) → is_noted (joined addrs a) x ≡ true → (is_noted addrs x ≡ true) ⊎ ((is_new a ≡ false) × (a ≡ x))
 joined_back addrs a x noted = cases (is_new a) (is_noted addrs a) refl noted
   where
     cases : (s t : Bool) → is_new a ≡ s → is_noted (if s || t then addrs else addrs ++ a ∷ []) x ≡ true → (is_noted addrs x ≡ true) ⊎ ((is_new a ≡ false) × (a ≡ x))
@@ -75,15 +78,17 @@ step_reads_changed v d step path reads x noted =
 
 -- The order of a plan
 
-as_held : (xs ys : List Held) → map held_pair (map pair_of xs ++ map pair_of ys) ≡ xs ++ ys
+pub as_held : (xs ys : List Held) → map held_pair (map pair_of xs ++ map pair_of ys) ≡ xs ++ ys
 as_held [] [] = refl
 as_held [] (y ∷ ys) = ap (λ (l : List Held). y ∷ l) (as_held [] ys)
 as_held (x ∷ xs) ys = ap (λ (l : List Held). x ∷ l) (as_held xs ys)
 
-pub placed_keeps_tree : PlacedKeepsTree
-placed_keeps_tree entries at store d slots first draft reads long free =
-    subst (λ (hs : List Held). IsShown entries (laid_over hs at) store) (sym (as_held (flat_map (placed_old by d.overlay.pages) (changed_order d)) (flat_map (placed_new by d.overlay.pages) order)))
-    (placed_shown entries at store d.overlay by first draft by_long by_free (changed_order d) (λ x. noted_in_order d.overlay.changed d.read x (reads x)) order lows all_in)
+-- pages under the same notes, at any order of a draft's changed pages and in the slots of its order
+pub placed_over : (entries : List CatEntry) (at : PagesAt) (store : Store) (d : Drafted) (pages : List Held) (slots : List Addr) → IsTree entries at → IsDraft entries at store (record { pages = pages; changed = d.overlay.changed; fresh = d.overlay.fresh }) → ReadsChanged d
+    → length slots ≡ d.overlay.fresh → AreFreeSlots slots at
+    → IsShown entries (laid_over (flat_map (placed_old (slots_by_number (new_order d) slots d.overlay.fresh) pages) (changed_order d) ++ flat_map (placed_new (slots_by_number (new_order d) slots d.overlay.fresh) pages) (new_order d)) at) store
+placed_over entries at store d pages slots first draft reads long free =
+    placed_shown entries at store (record { pages = pages; changed = d.overlay.changed; fresh = d.overlay.fresh }) by first draft by_long by_free (changed_order d) (λ x. noted_in_order d.overlay.changed d.read x (reads x)) order lows all_in
   where
     order : List ℕ
     order = new_order d
@@ -113,3 +118,9 @@ placed_keeps_tree entries at store d slots first draft reads long free =
 
     all_in : (n : ℕ) → n < length by → (i : ℕ) × (slice_get order i ≡ Some n)
     all_in n low = has_place order n (has n (omega (arith, by_long)))
+
+pub placed_keeps_tree : PlacedKeepsTree
+placed_keeps_tree entries at store d slots first draft reads long free =
+    subst (λ (hs : List Held). IsShown entries (laid_over hs at) store)
+    (sym (as_held (flat_map (placed_old (slots_by_number (new_order d) slots d.overlay.fresh) d.overlay.pages) (changed_order d)) (flat_map (placed_new (slots_by_number (new_order d) slots d.overlay.fresh) d.overlay.pages) (new_order d))))
+    (placed_over entries at store d d.overlay.pages slots first draft reads long free)

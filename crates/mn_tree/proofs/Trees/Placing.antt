@@ -49,14 +49,14 @@ slot_once (a ∷ slots) at (suc n) zero s free e f = let is : a ≡ s = cc in ab
 slot_once (a ∷ slots) at (suc n) (suc m) s free e f = ap suc (slot_once slots at n m s free.3 e f)
 
 -- a new page's address has its number
-new_is : (a : Addr) → is_new a ≡ true → a ≡ new_addr a.slot
+pub new_is : (a : Addr) → is_new a ≡ true → a ≡ new_addr a.slot
 new_is a e =
     let node : a.node ≡ record { 0 = 8 } = ap (λ k. let n : NodeNo = record { 0 = k } in n) (eqb-true a.node.0 8 e) in
     ap (λ (n : NodeNo). let r : Addr = record { node = n; slot = a.slot } in r) node
 
 -- Pages in a list
 
-held_append : (xs ys : List Held) (x : Addr) → held_at (xs ++ ys) x ≡ option_or (held_at xs x) (held_at ys x)
+pub held_append : (xs ys : List Held) (x : Addr) → held_at (xs ++ ys) x ≡ option_or (held_at xs x) (held_at ys x)
 held_append [] ys x = refl
 held_append (h ∷ xs) ys x = cases (addr_same h.addr x) (held_append xs ys x)
   where

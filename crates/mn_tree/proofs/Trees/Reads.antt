@@ -14,8 +14,10 @@ use Rattle.mn_page.specs.declared.page.Child.{Child}
 use Rattle.mn_page.specs.Grammar.{IsPage, IsBody, IsKey, IsAddr, are_ascending}
 use Rattle.mn_page.specs.Forest.{page_at}
 use Rattle.mn_page.specs.Holds.{PagesAt}
-use Rattle.mn_page.specs.Overlay.{Held, held_at, held_with, new_addr}
-use Rattle.mn_tree.specs.Trees.{laid_over, AreRising, children_after, IsOrdered, IsShown}
+use Rattle.mn_base.specs.Store.{Store}
+use Rattle.mn_page.specs.declared.entry.CatEntry.{CatEntry}
+use Rattle.mn_page.specs.Overlay.{Held, overlay_of, held_at, held_with, new_addr}
+use Rattle.mn_tree.specs.Trees.{laid_over, AreRising, children_after, IsOrdered, IsShown, IsDraft}
 use Rattle.mn_tree.specs.Laws.{ReadsAreDraft, AddKeepsDraft}
 use Rattle.mn_tree.proofs.Trees.Tidy.{held_kept}
 use Rattle.mn_tree.proofs.Trees.Puts.{put_same, laid_with, addr_is}
@@ -54,6 +56,10 @@ ordered p is = record { rising = by_body p.body is.body; copied_above = is.copie
         lowest : (c : Child) (cs rest : List Child) → rest ≡ c ∷ cs → AllByRecursion (λ x. IsKey x.separator × IsAddr x.addr × (key_lt p.low x.separator ≡ true) × (below_bound x.separator p.high ≡ true)) rest → key_lt p.low c.separator ≡ true
         lowest c cs [] e all = absurd cc
         lowest c cs (d ∷ rest) e all = let same : d ≡ c = cc in ap (λ (x : Child). key_lt p.low x.separator) (sym same) ∙ (all.0).2
+
+-- no pages are a draft
+pub none_held : (entries : List CatEntry) (at : PagesAt) (store : Store) → IsShown entries at store → ((n : ℕ) → at (new_addr n) ≡ None) → IsDraft entries at store (overlay_of [])
+none_held entries at store shown none_new = record { shown = shown; none_new = none_new; fresh = λ n low. none_new n; same = λ x old off. refl; changed = λ x noted. absurd cc }
 
 pub reads_are_draft : ReadsAreDraft
 reads_are_draft memory store holds pages read = record {

@@ -27,8 +27,8 @@ use Rattle.mn_tree.specs.Trees.{laid_over, IsShown, IsWritable, IsDraft}
 use Rattle.mn_tree.specs.Laws.{PathTells, StepKeepsTree, TransactionKeepsTree, TransactionTells, found_on}
 use Rattle.mn_tree.proofs.Trees.Twins.{head_at}
 use Rattle.mn_tree.proofs.Trees.Fits.{ascending-filter}
-use Rattle.mn_tree.proofs.Trees.Raised.{raises, IsReady, Raises}
-use Rattle.mn_tree.proofs.Trees.Tidy.{draft_tidy, tidy_changes, path_exists, step_tidy}
+use Rattle.mn_tree.proofs.Trees.Raised.{OnPath, raises, IsReady, Raises}
+use Rattle.mn_tree.proofs.Trees.Tidy.{AllExist, draft_tidy, tidy_changes, step_tidy}
 use Rattle.mn_tree.proofs.Trees.Ready.{LeafChanges, copies_ready, leaf_ready}
 use Rattle.mn_tree.proofs.Trees.Found.{FoundPath, is_leaf, path_found}
 use Rattle.mn_tree.proofs.Trees.Pairs.{filter-without, without_outside, without_none}
@@ -89,7 +89,7 @@ del_changes entries at store v version root key path shown found f =
       outside = λ y off. without_outside (λ k. page_covers k y) key version.pairs off;
     }
 
-set_itself : (store : Store) (v : ℕ) (version : StoreVersion) → slice_get store v ≡ Some version → slice_set store v (re_paired version version.pairs) ≡ store
+pub set_itself : (store : Store) (v : ℕ) (version : StoreVersion) → slice_get store v ≡ Some version → slice_set store v (re_paired version version.pairs) ≡ store
 set_itself [] v version found = absurd cc
 set_itself (x ∷ store) zero version found = let is : x ≡ version = cc in ap (λ (y : StoreVersion). y ∷ store) (sym is)
 set_itself (x ∷ store) (suc v) version found = ap (λ (s : Store). x ∷ s) (set_itself store v version found)
@@ -114,10 +114,18 @@ Raised_to entries at store v version ps o = Raises entries at (slice_set store v
 abbrev Stands : List CatEntry → PagesAt → Store → VersionNo → StoreVersion → List Pair → Overlay → Type 0
 Stands entries at store v version ps o = IsDraft entries at (slice_set store v.0 (re_paired version ps)) o
 
-pub step_keeps_tree : StepKeepsTree
-step_keeps_tree entries at store o v version entry step path draft found there may way =
-    let r = by_step step may (path_found entries at o.pages store v entry (step_key step) max_path path draft.shown there way) in
-    let t = step_tidy at v o step path (draft_tidy at o draft) (path_exists at o.pages (step_key step) max_path entry.root [] path tt way) in
+-- the pages of a path are there
+on_path_exists : (entries : List CatEntry) (at : PagesAt) (v : VersionNo) (root : Addr) (h : Held) (above : List Held) → OnPath entries at v root h above → AllExist at (h ∷ above)
+on_path_exists entries at v root h [] path = ((h.page, path.0), tt)
+on_path_exists entries at v root h (parent ∷ above) path = ((h.page, path.0), on_path_exists entries at v root parent above path.2)
+
+-- a step on a path of the tree, whether its pages are held or not
+pub step_found : (entries : List CatEntry) (at : PagesAt) (store : Store) (o : Overlay) (v : VersionNo) (version : StoreVersion) (entry : CatEntry) (step : Step) (path : List Held) → IsDraft entries at store o → slice_get store v.0 ≡ Some version
+    → slice_get entries v.0 ≡ Some entry → (entry.frozen && is_change step) ≡ false → FoundPath entries (laid_over o.pages at) v entry.root (step_key step) path
+    → IsDraft entries at (slice_set store v.0 (record version { pairs = pairs_after_step version.pairs step })) (step_on v o step path)
+step_found entries at store o v version entry step path draft found there may way =
+    let r = by_step step may way in
+    let t = step_tidy at v o step path (draft_tidy at o draft) (subst (AllExist (laid_over o.pages at)) (sym way.is) (on_path_exists entries (laid_over o.pages at) v entry.root way.leaf way.above way.on)) in
     record { shown = r.shown; fresh = r.fresh; none_new = draft.none_new; same = t.same; changed = tidy_changes at (step_on v o step path) t }
   where
     writes : entry.frozen ≡ false → IsWritable entries v.0
@@ -147,9 +155,13 @@ step_keeps_tree entries at store o v version entry step path draft found there m
     by_step (Get key) e f = subst (λ (hs : List Held). Raised_to entries at store v version version.pairs (step_on v o (Get key) hs)) (sym f.is) (rests entries at store o v.0 version draft found)
     by_step (Check key want) e f = subst (λ (hs : List Held). Raised_to entries at store v version version.pairs (step_on v o (Check key want) hs)) (sym f.is) (rests entries at store o v.0 version draft found)
 
+pub step_keeps_tree : StepKeepsTree
+step_keeps_tree entries at store o v version entry step path draft found there may way =
+    step_found entries at store o v version entry step path draft found there may (path_found entries at o.pages store v entry (step_key step) max_path path draft.shown there way)
+
 -- All steps
 
-set_twice : (store : Store) (v : ℕ) (x y : StoreVersion) → slice_set (slice_set store v x) v y ≡ slice_set store v y
+pub set_twice : (store : Store) (v : ℕ) (x y : StoreVersion) → slice_set (slice_set store v x) v y ≡ slice_set store v y
 set_twice [] v x y = refl
 set_twice (z ∷ store) zero x y = refl
 set_twice (z ∷ store) (suc v) x y = ap (λ (s : Store). z ∷ s) (set_twice store v x y)
@@ -161,24 +173,24 @@ reply_same : (a b : Reply) → Some a ≡ Some b → a ≡ b
 reply_same a b e = cc
 
 -- a Check is met on the leaf just where it is met in the version
-same_unmet : (step : Step) (ps qs : List Pair) → value_at ps (step_key step) ≡ value_at qs (step_key step) → is_unmet ps step ≡ is_unmet qs step
+pub same_unmet : (step : Step) (ps qs : List Pair) → value_at ps (step_key step) ≡ value_at qs (step_key step) → is_unmet ps step ≡ is_unmet qs step
 same_unmet (Get key) ps qs e = refl
 same_unmet (Put key value) ps qs e = refl
 same_unmet (Del key) ps qs e = refl
 same_unmet (Check key want) ps qs e = ap (λ (x : Option (List ℕ)). not (option_eq bytes_eq x want)) e
 
-same_noted : (step : Step) (ps qs : List Pair) → value_at ps (step_key step) ≡ value_at qs (step_key step) → noted_by ps step ≡ noted_by qs step
+pub same_noted : (step : Step) (ps qs : List Pair) → value_at ps (step_key step) ≡ value_at qs (step_key step) → noted_by ps step ≡ noted_by qs step
 same_noted (Get key) ps qs e = ap (λ (x : Option (List ℕ)). x ∷ []) e
 same_noted (Put key value) ps qs e = refl
 same_noted (Del key) ps qs e = refl
 same_noted (Check key want) ps qs e = refl
 
-first_may : (b c d : Bool) → (b && (c || d)) ≡ false → (b && c) ≡ false
+pub first_may : (b c d : Bool) → (b && (c || d)) ≡ false → (b && c) ≡ false
 first_may true true d e = absurd cc
 first_may true false d e = refl
 first_may false c d e = refl
 
-rest_may : (b c d : Bool) → (b && (c || d)) ≡ false → (b && d) ≡ false
+pub rest_may : (b c d : Bool) → (b && (c || d)) ≡ false → (b && d) ≡ false
 rest_may true true d e = absurd cc
 rest_may true false d e = e
 rest_may false c d e = refl

@@ -1,9 +1,7 @@
 -- Steps note each old page that they change.
-use Rattle.std.proofs.Common.{◌≡◌, ◌⊎◌, inl, inr, Bool, true, false, ◌||◌, List, [], ◌∷◌, ◌++◌, Option, Some, None, refl, subst, sym, ap, ◌∙◌, if◌then◌else◌, ℕ, zero, suc}
+use Rattle.std.proofs.Common.{◌≡◌, ◌⊎◌, inl, inr, Bool, true, false, ◌||◌, List, [], ◌∷◌, ◌++◌, Option, Some, None, refl, subst, sym, ap, ◌∙◌, if◌then◌else◌}
 use Rattle.std.specs.Prelude.{nat_eq, is_some}
 use Rattle.std.specs.List.{AllByRecursion}
-use Rattle.std.specs.Option.{option_and_then, option_or}
-use Rattle.std.proofs.lemmas.Option.{option_and_then_some}
 use Rattle.mn_base.specs.Ids.{addr_same}
 use Rattle.mn_base.specs.Store.{Store, value_at, pairs_with, pairs_without}
 use Rattle.mn_base.specs.declared.ids.Addr.{Addr}
@@ -15,10 +13,8 @@ use Rattle.mn_page.specs.declared.page.Page.{Page}
 use Rattle.mn_page.specs.declared.page.Body.{Body}
 use Rattle.mn_page.specs.declared.page.Body.TheVariants.{Leaf}
 use Rattle.mn_page.specs.declared.page.Child.{Child}
-use Rattle.mn_page.specs.Grammar.{height_of}
-use Rattle.mn_page.specs.Forest.{children_of}
 use Rattle.mn_page.specs.Holds.{PagesAt, pairs_in}
-use Rattle.mn_page.specs.Overlay.{Held, Overlay, Halves, Asked, Nothing, Child_is, is_new, new_addr, held_at, held_with, with_changed, with_new, halves_of, page_with, body_with, root_changed, own_changed, other_changed, page_changed, when_asked, raised, child_for, path_to, step_on}
+use Rattle.mn_page.specs.Overlay.{Held, Overlay, Halves, Asked, Nothing, Child_is, is_new, new_addr, held_at, held_with, with_changed, with_new, halves_of, page_with, body_with, root_changed, own_changed, other_changed, page_changed, when_asked, raised, step_on}
 use Rattle.mn_tree.proofs.Trees.Puts.{put, put_here, put_else, clash, addr_is, addr_cases, same_itself, held_with_is, laid_with}
 use Rattle.mn_tree.specs.Trees.{laid_over, is_noted, IsChanged, IsDraft}
 
@@ -60,7 +56,7 @@ held_kept pages a p x was = cases (addr_same a x) refl
     cases true e = (p, held_with_is pages a p x ∙ ap (λ b. if b then Some p else held_at pages x) e)
     cases false e = (was.0, held_with_is pages a p x ∙ (ap (λ b. if b then Some p else held_at pages x) e ∙ was.1))
 
-held_here : (pages : List Held) (a : Addr) (p : Page) → held_at (held_with pages a p) a ≡ Some p
+pub held_here : (pages : List Held) (a : Addr) (p : Page) → held_at (held_with pages a p) a ≡ Some p
 held_here pages a p = held_with_is pages a p a ∙ ap (λ b. if b then Some p else held_at pages a) (same_itself a)
 
 or_false : (s t : Bool) → (s || t) ≡ false → (s ≡ false) × (t ≡ false)
@@ -183,20 +179,3 @@ step_tidy at v o (Del key) (h ∷ above) tidy there = cases (is_some (value_at (
     cases false = tidy
 step_tidy at v o (Get key) (h ∷ above) tidy there = tidy
 step_tidy at v o (Check key want) (h ∷ above) tidy there = tidy
-
--- the pages of a key's path are there
-pub path_exists : (at : PagesAt) (pages : List Held) (key : List ℕ) (fuel : ℕ) (addr : Addr) (above path : List Held) → AllExist (laid_over pages at) above → path_to fuel pages addr key above ≡ Some path → AllExist (laid_over pages at) path
-path_exists at pages key zero addr above path all e = absurd cc
-path_exists at pages key (suc fuel) addr above path all e =
-    option_and_then_some
-    (λ page. if nat_eq (height_of page.body) 0 then Some (held page ∷ above) else option_and_then (λ next. path_to fuel pages next key (held page ∷ above)) (child_for (children_of page) key)) (held_at pages addr) path e
-    (λ page there f. by_height page (page, ap (λ o. option_or o (at addr)) there) (nat_eq (height_of page.body) 0) f (λ next g. path_exists at pages key fuel next (held page ∷ above) path ((page, ap (λ o. option_or o (at addr)) there), all) g))
-  where
-    held : Page → Held
-    held page = record { addr = addr; page = page }
-
-    by_height : (page : Page) → Exists (laid_over pages at) addr → (t : Bool)
-        → (if t then Some (held page ∷ above) else option_and_then (λ next. path_to fuel pages next key (held page ∷ above)) (child_for (children_of page) key)) ≡ Some path
-        → ((next : Addr) → path_to fuel pages next key (held page ∷ above) ≡ Some path → AllExist (laid_over pages at) path) → AllExist (laid_over pages at) path
-    by_height page there true f rest = let same : held page ∷ above ≡ path = cc in subst (AllExist (laid_over pages at)) same (there, all)
-    by_height page there false f rest = option_and_then_some (λ next. path_to fuel pages next key (held page ∷ above)) (child_for (children_of page) key) path f (λ next chosen g. rest next g)

@@ -1,7 +1,7 @@
-use Rattle.std.proofs.Common.{◌≡◌, ◌+◌, List, sym, ◌∙◌}
-use Rattle.mn_page.specs.Overlay.{Held, held_at}
-use Rattle.mn_tree.specs.Walk.{held_of, helds, walk_down}
-use Rattle.mn_tree.proofs.Ways.{follows, followed, goes_down, ends_by_height, ends_by_fences, down_to, wrong_at, missing_at}
+use Rattle.std.proofs.Common.{sym, ◌∙◌}
+use Rattle.mn_page.specs.Overlay.{held_at}
+use Rattle.mn_tree.specs.Walk.{held_of, helds}
+use Rattle.mn_tree.proofs.Ways.{follows, goes_down, ends_by_height, ends_by_fences, down_to, wrong_at, missing_at}
 use Rattle.mn_tree.proofs.walk.follow.Goals.{else-height-left-via-then-height-left+else-is_within, else-height-left-via-else-height-left}
 use Rattle.mn_tree.proofs.walk.follow.Goals as goal
 

@@ -1,4 +1,4 @@
-use Rattle.std.proofs.Common.{◌≡◌, ◌+◌, true}
+use Rattle.std.proofs.Common.{◌≡◌, true}
 use Rattle.mn_page.specs.Grammar.{height_of}
 use Rattle.mn_page.specs.Holds.{page_covers}
 use Rattle.mn_tree.specs.Walk.{held_of, helds, walk, walk_down}

@@ -1,5 +1,5 @@
-use Rattle.std.proofs.Common.{◌≡◌, ◌^◌, None, refl, sym, ap, ◌∙◌}
-use Rattle.mn_tree.specs.State.{TreeState, Drafted, drafted, drafted_after, with_draft, stepped, stepping}
+use Rattle.std.proofs.Common.{◌^◌, None, refl, sym, ap, ◌∙◌}
+use Rattle.mn_tree.specs.State.{TreeState, Drafted, drafted, with_draft, stepped, stepping}
 use Rattle.mn_tree.specs.Walk.{Walk}
 use Rattle.mn_tree.proofs.Runs.{runs, stays_within}
 use Rattle.mn_tree.proofs.overlay.Overlay.step.Goals as goal
