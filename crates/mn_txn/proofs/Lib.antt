@@ -3,3 +3,9 @@ pub mod Images
 pub mod Sound
 pub mod Inside
 pub mod Plans
+mod Lists
+mod Attempts
+mod Found
+mod Known
+mod Done
+mod Unmet

@@ -108,7 +108,7 @@ no_compares : (ys : List Image) → flat_map compare_place (map write_of ys) ≡
 no_compares [] = refl
 no_compares (y ∷ ys) = no_compares ys
 
-compared : (xs ys : List Image) → flat_map compare_place (map compare_of xs ++ map write_of ys) ≡ map laws.image_place xs
+pub compared : (xs ys : List Image) → flat_map compare_place (map compare_of xs ++ map write_of ys) ≡ map laws.image_place xs
 compared [] ys = no_compares ys
 compared (x ∷ xs) ys = ap (λ l. laws.image_place x ∷ l) (compared xs ys)
 
@@ -116,7 +116,7 @@ only_writes : (ys : List Image) → flat_map write_place (map write_of ys) ≡ m
 only_writes [] = refl
 only_writes (y ∷ ys) = ap (λ l. laws.image_place y ∷ l) (only_writes ys)
 
-written : (xs ys : List Image) → flat_map write_place (map compare_of xs ++ map write_of ys) ≡ map laws.image_place ys
+pub written : (xs ys : List Image) → flat_map write_place (map compare_of xs ++ map write_of ys) ≡ map laws.image_place ys
 written [] ys = only_writes ys
 written (x ∷ xs) ys = written xs ys
 

@@ -2,3 +2,4 @@ pub mod State
 pub mod Order
 pub mod Plan
 pub mod Laws
+pub mod Attempt

@@ -2,6 +2,7 @@ ghost use Rattle.std.specs.Prelude.{◌≡◌};
 ghost use Rattle.mn_txn.specs.State.{State};
 ghost use Rattle.mn_txn.specs.Plan.{plan_of};
 ghost use Rattle.mn_txn.specs.Laws.{PlansAreInOrder, PagesStay, PlansNameTheirPlaces, PlansNameNoOther, PlansHoldTheirBytes, PlansCountOn};
+ghost use Rattle.mn_txn.specs.Attempt.{DoneIsPlanned, UnmetIsPlanned};
 
 // Each law is the contract of a function that does nothing: what it says is proved, and may be used, by calling it.
 
@@ -28,3 +29,33 @@ pub fn plans_hold_their_bytes()
 pub fn plans_count_on()
     ensures { PlansCountOn }
 {}
+
+/// The plan of a transaction whose Checks are met does what the transaction does, wherever its compares hold.
+pub fn done_is_planned()
+    ensures { DoneIsPlanned }
+{
+    mn_tree::moves_tell();
+    mn_tree::moves_read();
+    mn_tree::moves_come_once();
+    mn_tree::moves_are_placed();
+    mn_tree::moves_may_be_quiet();
+    mn_tree::reads_are_draft();
+    mn_world::next_slots_are_free();
+    mn_world::writes_leave_store();
+    mn_world::compares_tell();
+    mn_world::numbers_go_on();
+    plans_are_in_order();
+}
+
+/// The plan of a transaction with a Check that is unmet compares what the steps found, and the reply is the transaction's wherever that holds.
+pub fn unmet_is_planned()
+    ensures { UnmetIsPlanned }
+{
+    mn_tree::moves_tell();
+    mn_tree::moves_read();
+    mn_tree::moves_come_once();
+    mn_tree::reads_are_draft();
+    mn_world::compares_tell();
+    mn_world::numbers_go_on();
+    plans_are_in_order();
+}

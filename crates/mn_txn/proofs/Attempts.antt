@@ -1,0 +1,278 @@
+-- The plan of a try: its places, its numbers and its effect.
+use Rattle.std.proofs.Common.{◌≡◌, ◌⊎◌, inl, inr, ◌↔◌, ℕ, zero, suc, ◌+◌, ◌*◌, ◌<◌, Bool, true, false, List, [], ◌∷◌, ◌++◌, map, length, Contains, Option, Some, None, refl, subst, sym, ap, ◌∙◌, arith, if◌then◌else◌}
+use Rattle.std.specs.List.{AllByRecursion, list_any}
+use Rattle.std.specs.Option.{option_map, option_to_list}
+use Rattle.std.proofs.lemmas.List.{map-append}
+use Rattle.std.proofs.lemmas.List.Elements.{Contains-append_left, Contains-append_right, Contains-append_cases}
+use Rattle.mn_base.specs.Store.{Store, StoreVersion, heads_of, is_change, number_named, pairs_named, step_key, steps_run, applied}
+use Rattle.mn_base.specs.declared.ids.Addr.{Addr}
+use Rattle.mn_base.specs.declared.ids.NodeNo.{NodeNo}
+use Rattle.mn_base.specs.declared.op.Step.{Step}
+use Rattle.mn_base.specs.declared.op.Op.TheVariants.{Tx}
+use Rattle.mn_base.specs.declared.reply.Pair.{Pair}
+use Rattle.mn_mini.specs.declared.item.Item.{Item}
+use Rattle.mn_mini.specs.Mini.{Mini}
+use Rattle.mn_mini.specs.Flat.{memory_after}
+use Rattle.mn_page.specs.declared.page.Page.{Page}
+use Rattle.mn_page.specs.Grammar.{IsPage, page_bytes, entry_bytes}
+use Rattle.mn_page.specs.Space.{max_slots}
+use Rattle.mn_page.specs.Forest.{Forest, node_count, page_at}
+use Rattle.mn_page.specs.Holds.{Holds, page_covers}
+use Rattle.mn_page.specs.Overlay.{Held}
+use Rattle.mn_page.proofs.Spelled.{page_length}
+use Rattle.mn_tree.specs.Trees.{is_noted}
+use Rattle.mn_tree.specs.Moves.{done_in, came_at, leaves_at}
+use Rattle.mn_tree.specs.MoveLaws.{AreTold}
+use Rattle.mn_world.specs.Planned.{Place, page_place, entry_place, count_place, IsPagePlace, compare_places, write_places, IsCompared, HasNextNumber, IsPickOf, WritesPages, PlanActs}
+use Rattle.mn_world.specs.Growth.{GoOn, node_no, addrs_of}
+use Rattle.mn_txn.specs.declared.image.Image.{Image}
+use Rattle.mn_txn.specs.Plan.{compare_of, write_of}
+use Rattle.mn_txn.specs.Laws.{image_place}
+use Rattle.mn_txn.specs.Attempt.{Attempt, page_image, came_images, entry_images, count_image}
+use Rattle.mn_txn.proofs.Plans.{compared, written}
+use Rattle.mn_txn.proofs.Lists.{contains_map, mapped_back, all_contained, noted_has, has_noted, all_joined, all_apart, pick_behind}
+
+-- Places of images
+
+same_length : (node : NodeNo) (start n m : ℕ) → n ≡ m → ◌≡◌ {A = Place} (record { node = node; start = start; length = n }) (record { node = node; start = start; length = m })
+same_length node start n m e = ap (λ k. let r : Place = record { node = node; start = start; length = k } in r) e
+
+page_is : (addr : Addr) (p : Page) → IsPage p → image_place (page_image addr p) ≡ page_place addr
+page_is addr p is = same_length addr.node (20480 + 1024 * addr.slot) (length (page_bytes p)) 1024 (page_length p is)
+
+-- a page's address by its place
+addr_of : (a b : Addr) → page_place a ≡ page_place b → a ≡ b
+addr_of a b e =
+    let node : a.node ≡ b.node = ap (λ (p : Place). p.node) e in
+    let start : 20480 + 1024 * a.slot ≡ 20480 + 1024 * b.slot = ap (λ (p : Place). p.start) e in
+    let slot : a.slot ≡ b.slot = omega arith in
+    ap (λ (n : NodeNo). let r : Addr = record { node = n; slot = a.slot } in r) node ∙ ap (λ s. let r : Addr = record { node = b.node; slot = s } in r) slot
+
+no_count : (a : Addr) (n : NodeNo) (place : Place) → page_place a ≡ place → place ≡ count_place n → ⊥
+no_count a n place e f = let same : ◌≡◌ {A = ℕ} 1024 8 = ap (λ (p : Place). p.length) (e ∙ f) in absurd (omega arith)
+
+abbrev pub held_image : Held → Image
+held_image h = page_image h.addr h.page
+
+-- what a memory is after compares
+pub compares_pass : (memory : List (List ℕ)) (xs : List Image) (items : List Item) → memory_after memory (map compare_of xs ++ items) ≡ memory_after memory items
+compares_pass memory [] items = refl
+compares_pass memory (x ∷ xs) items = compares_pass memory xs items
+
+-- a try over a forest: the read set by addresses, changed pages, new ones, and the nodes that give slots with their counts
+module _ (f : Forest) (store : Store) (nodes : ℕ) (a : Attempt) (version : StoreVersion) (addrs : List Addr) (changed new : List Held) (giving : List ℕ) (was now : ℕ → ℕ) where
+  abbrev pub reads : List Image
+  reads = came_images a.moves addrs ++ (entry_images a ++ map (λ n. count_image n (was n)) giving)
+
+  abbrev pub writes : List Image
+  writes = map held_image (changed ++ new) ++ map (λ n. count_image n (now n)) giving
+
+  abbrev pub mini : Mini
+  mini = record { nodes = nodes; items = map compare_of reads ++ map write_of writes }
+
+  pub record Facts : Type 0 where
+    pub pairs : pairs_named store a.name ≡ version.pairs
+    pub told : AreTold f.entries (page_at f) a.version version.pairs a.moves a.draft a.steps a.reply
+    pub entry : length (entry_bytes a.entry) ≡ 64
+    pub came : AllByRecursion (λ x. (p : Page) × (came_at a.moves x ≡ Some p) × (page_at f x ≡ Some p) × IsPage p) addrs
+    pub sorts : (x : Addr) → is_noted addrs x ≡ true → (is_noted (leaves_at a.moves a.draft.read) x ≡ true) ⊎ Contains (addrs_of changed) x
+    pub leaves : (x : Addr) → is_noted (leaves_at a.moves a.draft.read) x ≡ true → is_noted addrs x ≡ true
+    pub changes : AllByRecursion (λ h. (is_noted addrs h.addr ≡ true) × ((p : Page) × (page_at f h.addr ≡ Some p) × (h.page.seq ≡ p.seq + 1))) changed
+    pub news : AllByRecursion (λ h. (page_at f h.addr ≡ None) × (h.addr.node.0 < node_count f) × (h.addr.slot < max_slots) × (h.page.seq ≡ 1)) new
+    pub pages : AllByRecursion (λ h. IsPage h.page) (changed ++ new)
+    pub picks : IsPickOf (map page_place (addrs_of changed)) (map page_place addrs)
+
+  abbrev counts : List Place
+  counts = map (λ n. count_place (node_no n)) giving
+
+  abbrev entries : List Place
+  entries = if list_any is_change a.steps then entry_place a.version.0 ∷ [] else []
+
+  came_places : (xs : List Addr) → AllByRecursion (λ x. (p : Page) × (came_at a.moves x ≡ Some p) × (page_at f x ≡ Some p) × IsPage p) xs → map image_place (came_images a.moves xs) ≡ map page_place xs
+  came_places [] all = refl
+  came_places (x ∷ xs) all =
+      let c = all.0 in
+      ap (λ (o : Option Page). map image_place (option_to_list (option_map (page_image x) o) ++ came_images a.moves xs)) c.1
+      ∙ (ap (λ (p : Place). p ∷ map image_place (came_images a.moves xs)) (page_is x c.0 c.3) ∙ ap (λ (l : List Place). page_place x ∷ l) (came_places xs all.1))
+
+  entry_places : length (entry_bytes a.entry) ≡ 64 → map image_place (entry_images a) ≡ entries
+  entry_places long = by_any (list_any is_change a.steps)
+    where
+      by_any : (t : Bool) → map image_place (if t then record { node = node_no 0; start = 64 + 64 * a.version.0; bytes = entry_bytes a.entry } ∷ [] else []) ≡ (if t then entry_place a.version.0 ∷ [] else [])
+      by_any true = ap (λ (p : Place). p ∷ []) (same_length (node_no 0) (64 + 64 * a.version.0) (length (entry_bytes a.entry)) 64 long)
+      by_any false = refl
+
+  counts_are : (c : ℕ → ℕ) (ns : List ℕ) → map image_place (map (λ n. count_image n (c n)) ns) ≡ map (λ n. count_place (node_no n)) ns
+  counts_are c [] = refl
+  counts_are c (n ∷ ns) = ap (λ (l : List Place). count_place (node_no n) ∷ l) (counts_are c ns)
+
+  held_places : (hs : List Held) → AllByRecursion (λ h. IsPage h.page) hs → map image_place (map held_image hs) ≡ map page_place (addrs_of hs)
+  held_places [] all = refl
+  held_places (h ∷ hs) all = ap (λ (p : Place). p ∷ map image_place (map held_image hs)) (page_is h.addr h.page all.0) ∙ ap (λ (l : List Place). page_place h.addr ∷ l) (held_places hs all.1)
+
+  module _ (facts : Facts) where
+    compared_are : compare_places mini ≡ map page_place addrs ++ (entries ++ counts)
+    compared_are =
+        compared reads writes ∙ (map-append image_place (came_images a.moves addrs) (entry_images a ++ map (λ n. count_image n (was n)) giving)
+        ∙ (ap (λ (l : List Place). l ++ map image_place (entry_images a ++ map (λ n. count_image n (was n)) giving)) (came_places addrs facts.came)
+        ∙ ap (λ (l : List Place). map page_place addrs ++ l) (map-append image_place (entry_images a) (map (λ n. count_image n (was n)) giving)
+        ∙ (ap (λ (l : List Place). l ++ map image_place (map (λ n. count_image n (was n)) giving)) (entry_places facts.entry) ∙ ap (λ (l : List Place). entries ++ l) (counts_are was giving)))))
+
+    written_are : write_places mini ≡ map page_place (addrs_of (changed ++ new)) ++ counts
+    written_are =
+        written reads writes ∙ (map-append image_place (map held_image (changed ++ new)) (map (λ n. count_image n (now n)) giving)
+        ∙ (ap (λ (l : List Place). l ++ map image_place (map (λ n. count_image n (now n)) giving)) (held_places (changed ++ new) facts.pages) ∙ ap (λ (l : List Place). map page_place (addrs_of (changed ++ new)) ++ l) (counts_are now giving)))
+
+    is_written : (place : Place) → Contains (map page_place (addrs_of (changed ++ new)) ++ counts) place → Contains (write_places mini) place
+    is_written place c = subst (λ (l : List Place). Contains l place) (sym written_are) c
+
+    changed_written : (x : Addr) → Contains (addrs_of changed) x → Contains (write_places mini) (page_place x)
+    changed_written x c =
+        is_written (page_place x) (Contains-append_left (map page_place (addrs_of (changed ++ new))) counts (page_place x)
+        (contains_map page_place (addrs_of (changed ++ new)) x (subst (λ (l : List Addr). Contains l x) (sym (map-append (λ (h : Held). h.addr) changed new)) (Contains-append_left (addrs_of changed) (addrs_of new) x c))))
+
+    abbrev Compared : Place → Type 0
+    Compared place = IsCompared f store a.version.0 (Tx a.name a.steps) mini place
+
+    run : done_in a.moves ≡ steps_run (pairs_named store a.name) a.steps
+    run = facts.told.run ∙ sym (ap (λ (l : List Pair). steps_run l a.steps) facts.pairs)
+
+    there : (place : Place) → Contains (map page_place addrs ++ (entries ++ counts)) place → Compared place
+    there place c = elim (Contains-append_cases (map page_place addrs) (entries ++ counts) place c) as (λ _. Compared place) [
+      | inl page ↦ of_page (mapped_back page_place addrs place page)
+      | inr other ↦ elim (Contains-append_cases entries counts place other) as (λ _. Compared place) [
+        | inl entry ↦ of_entry (list_any is_change a.steps) refl entry
+        | inr count ↦ of_count (mapped_back (λ n. count_place (node_no n)) giving place count) count
+      ]
+    ]
+      where
+        of_page : (x : Addr) × Contains addrs x × (page_place x ≡ place) → Compared place
+        of_page (x, has, is) = elim (facts.sorts x (has_noted addrs x has)) as (λ _. Compared place) [
+          | inl leaf ↦
+              let l = facts.told.leaves x leaf in
+              inl (x, l.0, sym is, l.1, l.2, l.3, subst (λ (ss : List Step). list_any (λ step. page_covers (step_key step) l.0) ss ≡ true) run l.4)
+          | inr change ↦
+              let c' = all_contained (λ y. (p : Page) × (came_at a.moves y ≡ Some p) × (page_at f y ≡ Some p) × IsPage p) addrs x facts.came has in
+              inr (inr (inl (x, c'.0, sym is, c'.2, subst (Contains (write_places mini)) is (changed_written x change))))
+        ]
+
+        of_entry : (t : Bool) → list_any is_change a.steps ≡ t → Contains (if t then entry_place a.version.0 ∷ [] else []) place → Compared place
+        of_entry true any (zero, low, is) = inr (inl (any, sym is))
+        of_entry true any (suc k, low, is) = absurd (omega arith)
+        of_entry false any (k, low, is) = absurd (omega arith)
+
+        of_count : (n : ℕ) × Contains giving n × (count_place (node_no n) ≡ place) → Contains counts place → Compared place
+        of_count (n, has, is) c' = inr (inr (inr ((node_no n, sym is), is_written place (Contains-append_right (map page_place (addrs_of (changed ++ new))) counts place c'))))
+
+    back : (place : Place) → Compared place → Contains (map page_place addrs ++ (entries ++ counts)) place
+    back place (inl leaf) =
+        let any = subst (λ (ss : List Step). list_any (λ step. page_covers (step_key step) leaf.1) ss ≡ true) (sym run) leaf.6 in
+        let noted = facts.leaves leaf.0 (facts.told.all leaf.0 leaf.1 leaf.3 leaf.4 leaf.5 any) in
+        Contains-append_left (map page_place addrs) (entries ++ counts) place (subst (Contains (map page_place addrs)) (sym leaf.2) (contains_map page_place addrs leaf.0 (noted_has addrs leaf.0 noted)))
+    back place (inr (inl entry)) =
+        Contains-append_right (map page_place addrs) (entries ++ counts) place (Contains-append_left entries counts place
+        (subst (λ t. Contains (if t then entry_place a.version.0 ∷ [] else []) place) (sym entry.0) (0, omega arith, sym entry.1)))
+    back place (inr (inr (inl old))) = elim (Contains-append_cases (map page_place (addrs_of (changed ++ new))) counts place (subst (λ (l : List Place). Contains l place) written_are old.4)) as (λ _. Contains (map page_place addrs ++ (entries ++ counts)) place) [
+      | inl page ↦ of_page (mapped_back page_place (addrs_of (changed ++ new)) place page)
+      | inr count ↦ of_count (mapped_back (λ n. count_place (node_no n)) giving place count)
+    ]
+      where
+        at : (x : Addr) → page_place x ≡ place → x ≡ old.0
+        at x is = addr_of x old.0 (is ∙ old.2)
+
+        as_read : (x : Addr) → x ≡ old.0 → Contains (addrs_of changed) x → Contains (map page_place addrs ++ (entries ++ counts)) place
+        as_read x same c =
+            let h = mapped_back (λ (g : Held). g.addr) changed x c in
+            let noted = (all_contained (λ g. (is_noted addrs g.addr ≡ true) × ((p : Page) × (page_at f g.addr ≡ Some p) × (g.page.seq ≡ p.seq + 1))) changed h.0 facts.changes h.1).0 in
+            Contains-append_left (map page_place addrs) (entries ++ counts) place
+            (subst (Contains (map page_place addrs)) (ap page_place (h.2 ∙ same) ∙ sym old.2) (contains_map page_place addrs (h.0).addr (noted_has addrs (h.0).addr noted)))
+
+        as_new : (x : Addr) → x ≡ old.0 → Contains (addrs_of new) x → Contains (map page_place addrs ++ (entries ++ counts)) place
+        as_new x same c =
+            let h = mapped_back (λ (g : Held). g.addr) new x c in
+            let none = (all_contained (λ g. (page_at f g.addr ≡ None) × (g.addr.node.0 < node_count f) × (g.addr.slot < max_slots) × (g.page.seq ≡ 1)) new h.0 facts.news h.1).0 in
+            absurd (nothing (page_at f old.0) (ap (page_at f) (sym (h.2 ∙ same)) ∙ none) old.3)
+          where
+            nothing : (o : Option Page) → o ≡ None → o ≡ Some old.1 → ⊥
+            nothing o e g = absurd cc
+
+        of_page : (x : Addr) × Contains (addrs_of (changed ++ new)) x × (page_place x ≡ place) → Contains (map page_place addrs ++ (entries ++ counts)) place
+        of_page (x, has, is) = elim (Contains-append_cases (addrs_of changed) (addrs_of new) x (subst (λ (l : List Addr). Contains l x) (map-append (λ (h : Held). h.addr) changed new) has)) as (λ _. Contains (map page_place addrs ++ (entries ++ counts)) place) [
+          | inl c ↦ as_read x (at x is) c
+          | inr c ↦ as_new x (at x is) c
+        ]
+
+        of_count : (n : ℕ) × Contains giving n × (count_place (node_no n) ≡ place) → Contains (map page_place addrs ++ (entries ++ counts)) place
+        of_count (n, has, is) = absurd (no_count old.0 (node_no n) place (sym old.2) (sym is))
+    back place (inr (inr (inr count))) = elim (Contains-append_cases (map page_place (addrs_of (changed ++ new))) counts place (subst (λ (l : List Place). Contains l place) written_are count.1)) as (λ _. Contains (map page_place addrs ++ (entries ++ counts)) place) [
+      | inl page ↦ of_page (mapped_back page_place (addrs_of (changed ++ new)) place page)
+      | inr c ↦ Contains-append_right (map page_place addrs) (entries ++ counts) place (Contains-append_right entries counts place c)
+    ]
+      where
+        of_page : (x : Addr) × Contains (addrs_of (changed ++ new)) x × (page_place x ≡ place) → Contains (map page_place addrs ++ (entries ++ counts)) place
+        of_page (x, has, is) = absurd (no_count x count.0.0 place is count.0.1)
+
+    pub compares_are : (place : Place) → Contains (compare_places mini) place ↔ Compared place
+    compares_are place = (λ c. there place (subst (λ (l : List Place). Contains l place) compared_are c), λ c. subst (λ (l : List Place). Contains l place) (sym compared_are) (back place c))
+
+    -- Numbers
+
+    compare_numbers : (memory : List (List ℕ)) (xs : List Image) → AllByRecursion (HasNextNumber memory) (map compare_of xs)
+    compare_numbers memory [] = tt
+    compare_numbers memory (x ∷ xs) = (tt, compare_numbers memory xs)
+
+    pub numbers : (memory : List (List ℕ)) → GoOn f memory → AllByRecursion (HasNextNumber memory) mini.items
+    numbers memory go =
+        let parts = all_apart (λ h. IsPage h.page) changed new facts.pages in
+        all_joined (HasNextNumber memory) (map compare_of reads) (map write_of writes) (compare_numbers memory reads)
+        (subst (AllByRecursion (HasNextNumber memory)) (sym (map-append write_of (map held_image (changed ++ new)) (map (λ n. count_image n (now n)) giving)))
+        (all_joined (HasNextNumber memory) (map write_of (map held_image (changed ++ new))) (map write_of (map (λ n. count_image n (now n)) giving)) (both changed parts.0 facts.changes) (of_counts giving)))
+      where
+        of_new : (hs : List Held) → AllByRecursion (λ h. IsPage h.page) hs → AllByRecursion (λ h. (page_at f h.addr ≡ None) × (h.addr.node.0 < node_count f) × (h.addr.slot < max_slots) × (h.page.seq ≡ 1)) hs → AllByRecursion (HasNextNumber memory) (map write_of (map held_image hs))
+        of_new [] pages all = tt
+        of_new (h ∷ hs) pages all = (go.new h.addr h.page (all.0).0 (all.0).1 (all.0).2 pages.0 (all.0).3, of_new hs pages.1 all.1)
+
+        both : (hs : List Held) → AllByRecursion (λ h. IsPage h.page) hs → AllByRecursion (λ h. (is_noted addrs h.addr ≡ true) × ((p : Page) × (page_at f h.addr ≡ Some p) × (h.page.seq ≡ p.seq + 1))) hs → AllByRecursion (HasNextNumber memory) (map write_of (map held_image (hs ++ new)))
+        both [] pages all = of_new new (all_apart (λ h. IsPage h.page) changed new facts.pages).1 facts.news
+        both (h ∷ hs) pages all = (go.changed h.addr (all.0).1.0 h.page (all.0).1.1 pages.0 (all.0).1.2, both hs pages.1 all.1)
+
+        of_counts : (ns : List ℕ) → AllByRecursion (HasNextNumber memory) (map write_of (map (λ n. count_image n (now n)) ns))
+        of_counts [] = tt
+        of_counts (n ∷ ns) = (go.counts (node_no n) (now n), of_counts ns)
+
+    -- Pages
+
+    pub pages_written : WritesPages f mini
+    pages_written = record {
+      changed = addrs_of changed;
+      new = addrs_of new;
+      others = counts;
+      written = written_are ∙ ap (λ (l : List Addr). map page_place l ++ counts) (map-append (λ (h : Held). h.addr) changed new);
+      as_compared = subst (IsPickOf (map page_place (addrs_of changed))) (sym compared_are) (pick_behind (map page_place (addrs_of changed)) (map page_place addrs) (entries ++ counts) facts.picks);
+      free = free new facts.news;
+      no_more = no_more giving;
+    }
+      where
+        free : (hs : List Held) → AllByRecursion (λ h. (page_at f h.addr ≡ None) × (h.addr.node.0 < node_count f) × (h.addr.slot < max_slots) × (h.page.seq ≡ 1)) hs → AllByRecursion (λ x. page_at f x ≡ None) (addrs_of hs)
+        free [] all = tt
+        free (h ∷ hs) all = ((all.0).0, free hs all.1)
+
+        no_more : (ns : List ℕ) → AllByRecursion (λ place. IsPagePlace place → ⊥) (map (λ n. count_place (node_no n)) ns)
+        no_more [] = tt
+        no_more (n ∷ ns) = ((λ is. no_count is.0 (node_no n) (count_place (node_no n)) (sym is.1) refl), no_more ns)
+
+    -- the plan acts
+    pub acts : (memory : List (List ℕ)) (holds : Holds memory store) → holds.forest ≡ f → GoOn f memory → number_named (heads_of store) a.name ≡ Some a.version.0 → Holds (memory_after memory mini.items) (applied store (Tx a.name a.steps)).store
+        → a.reply ≡ (applied store (Tx a.name a.steps)).reply → PlanActs memory store holds (Tx a.name a.steps) mini a.reply
+    acts memory holds same go number effect replies = record {
+      effect = effect;
+      replies = replies;
+      compares = λ w is place.
+          subst (λ k. Contains (compare_places mini) place ↔ IsCompared holds.forest store k (Tx a.name a.steps) mini place) (same_number a.version.0 w (sym number ∙ is))
+          (subst (λ (g : Forest). Contains (compare_places mini) place ↔ IsCompared g store a.version.0 (Tx a.name a.steps) mini place) (sym same) (compares_are place));
+      numbers = numbers memory go;
+      pages = subst (λ (g : Forest). WritesPages g mini) (sym same) pages_written;
+    }
+      where
+        same_number : (n m : ℕ) → Some n ≡ Some m → n ≡ m
+        same_number n m e = cc

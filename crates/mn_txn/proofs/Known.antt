@@ -1,0 +1,190 @@
+-- What a forest has where the compares of a try are met in its memory.
+use Rattle.std.proofs.Common.{◌≡◌, inl, inr, ℕ, zero, suc, ◌+◌, ◌*◌, ◌^◌, ◌<◌, ◌≤◌, Bool, true, false, not, ◌&&◌, ◌||◌, List, [], ◌∷◌, ◌++◌, map, length, Contains, Option, Some, None, refl, subst, sym, ap, ◌∙◌, arith, slice_get, slice_set, slice_index_or, if◌then◌else◌}
+use Rattle.std.specs.Prelude.{filter, nat_eq}
+use Rattle.std.specs.List.{AllByRecursion, list_any, range_with_len}
+use Rattle.std.specs.Option.{option_map, option_to_list}
+use Rattle.std.proofs.lemmas.Bool.{eqb-true, ne_eqb, cases_eq, and_parts}
+use Rattle.std.proofs.lemmas.List.{length-map, length-set}
+use Rattle.std.proofs.lemmas.List.FromFn.{length-range_with_len}
+use Rattle.std.proofs.lemmas.List.Elements.{Contains-append_left, Contains-append_right}
+use Rattle.mn_base.specs.Ids.{addr_same}
+use Rattle.mn_base.specs.Store.{Store, Head, heads_of, is_change, number_named}
+use Rattle.mn_base.specs.declared.ids.Addr.{Addr}
+use Rattle.mn_mini.specs.declared.item.Item.{Item}
+use Rattle.mn_mini.specs.Flat.{mismatch_from}
+use Rattle.mn_page.specs.declared.page.Page.{Page}
+use Rattle.mn_page.specs.declared.entry.CatEntry.{CatEntry}
+use Rattle.mn_page.specs.Space.{max_slots}
+use Rattle.mn_page.specs.Grammar.{IsPage, entry_bytes}
+use Rattle.mn_page.specs.Forest.{Forest, node_count, laid_of, space_laid, page_at}
+use Rattle.mn_page.specs.Holds.{Holds}
+use Rattle.mn_page.specs.Overlay.{Held, held_at, new_addr}
+use Rattle.mn_tree.specs.Trees.{is_noted, IsShown}
+use Rattle.mn_tree.specs.Laws.{ReadsAreDraft}
+use Rattle.mn_tree.specs.Moves.{Move, comes_in, came_at, is_leaf_at, leaves_at}
+use Rattle.mn_tree.specs.MoveLaws.{AreTold, MovesTell, AreReads, MovesRead, MovesComeOnce}
+use Rattle.mn_tree.proofs.Trees.Puts.{addr_is}
+use Rattle.mn_tree.proofs.Trees.Told.{noted_filter}
+use Rattle.mn_world.specs.Planned.{Continues}
+use Rattle.mn_world.specs.Growth.{AreNextSlots, taken_on, giving_nodes, node_no, count_in, AreMet, ComparesTell}
+use Rattle.mn_world.proofs.Plans.Compares.{still_named}
+use Rattle.mn_txn.specs.declared.image.Image.{Image}
+use Rattle.mn_txn.specs.Plan.{compare_of}
+use Rattle.mn_txn.specs.Attempt.{Attempt, IsAttempt, page_image, came_images, entry_images, count_image}
+use Rattle.mn_txn.proofs.Lists.{contains_map, all_noted}
+use Rattle.mn_txn.proofs.Found.{InStore, in_store}
+
+-- Images that are there
+
+-- a page that came in at one of the addresses
+pub came_has : (moves : List Move) (addrs : List Addr) (x : Addr) (p : Page) → is_noted addrs x ≡ true → came_at moves x ≡ Some p → Contains (came_images moves addrs) (page_image x p)
+came_has moves [] x p noted came = absurd cc
+came_has moves (y ∷ addrs) x p noted came = by_same (addr_same y x) refl noted (came_has moves addrs x p)
+  where
+    first : Addr → List Image
+    first z = option_to_list (option_map (page_image z) (came_at moves z))
+
+    by_same : (t : Bool) → addr_same y x ≡ t → (t || is_noted addrs x) ≡ true → (is_noted addrs x ≡ true → came_at moves x ≡ Some p → Contains (came_images moves addrs) (page_image x p)) → Contains (first y ++ came_images moves addrs) (page_image x p)
+    by_same true e f rest =
+        Contains-append_left (first y) (came_images moves addrs) (page_image x p)
+        (subst (λ (l : List Image). Contains l (page_image x p)) (sym (ap first (addr_is y x e) ∙ ap (λ (o : Option Page). option_to_list (option_map (page_image x) o)) came)) (0, omega arith, refl))
+    by_same false e f rest = Contains-append_right (first y) (came_images moves addrs) (page_image x p) (rest f came)
+
+-- what holds of each page that comes in holds of the one that came in at an address
+pub came_of : (P : Held → Type 0) (hs : List Held) (x : Addr) (p : Page) → AllByRecursion P hs → held_at hs x ≡ Some p → P (record { addr = x; page = p })
+came_of P [] x p all e = absurd cc
+came_of P (h ∷ hs) x p all e = by_same (addr_same h.addr x) refl e (came_of P hs x p all.1)
+  where
+    same_page : (q r : Page) → Some q ≡ Some r → q ≡ r
+    same_page q r f = cc
+
+    by_same : (t : Bool) → addr_same h.addr x ≡ t → (if t then Some h.page else held_at hs x) ≡ Some p → (held_at hs x ≡ Some p → P (record { addr = x; page = p })) → P (record { addr = x; page = p })
+    by_same true e' f rest = subst (λ (y : Addr). P (record { addr = y; page = p })) (addr_is h.addr x e') (subst (λ (q : Page). P (record { addr = h.addr; page = q })) (same_page h.page p f) all.0)
+    by_same false e' f rest = rest f
+
+pub contains_filter : {X : Type 0} (t : X → Bool) (xs : List X) (x : X) → Contains xs x → t x ≡ true → Contains (filter t xs) x
+contains_filter t [] x (k, low, is) e = absurd (omega arith)
+contains_filter {X} t (y ∷ ys) x (zero, low, is) e = subst (λ b. Contains (if b then y ∷ filter t ys else filter t ys) x) (sym (ap t is ∙ e)) (0, omega arith, is)
+contains_filter {X} t (y ∷ ys) x (suc k, low, is) e = by_test (t y) (contains_filter t ys x (k, omega arith, is) e)
+  where
+    by_test : (b : Bool) → Contains (filter t ys) x → Contains (if b then y ∷ filter t ys else filter t ys) x
+    by_test true c = (suc c.0, (let l = c.1 in omega arith), c.2)
+    by_test false c = c
+
+pub contains_range : (a k n : ℕ) → a ≤ n → n < a + k → Contains (range_with_len a k) n
+contains_range a zero n low high = absurd (omega arith)
+contains_range a (suc k) n low high = elim (cases_eq a n) as (λ _. Contains (a ∷ range_with_len (a + 1) k) n) [
+  | inl e ↦ (0, omega arith, e)
+  | inr off ↦ let c = contains_range (a + 1) k n (omega (arith, off)) (omega arith) in (suc c.0, (let l = c.1 in omega arith), c.2)
+]
+
+-- The forest
+
+pub nodes_are : (memory : List (List ℕ)) (store : Store) (holds : Holds memory store) → length memory ≡ node_count holds.forest
+nodes_are memory store holds =
+    ap (λ (m : List (List ℕ)). length m) holds.spelled
+    ∙ (length-map (range_with_len 0 (node_count holds.forest)) (space_laid (laid_of holds.forest)) ∙ length-range_with_len 0 (node_count holds.forest))
+
+-- a try in a memory in which its compares are met
+module _ (kept : List Head) (nodes : ℕ) (a : Attempt) (is : IsAttempt kept nodes a) (addrs : List Addr) (giving : List ℕ) (was : ℕ → ℕ) (more : List Item) (memory : List (List ℕ)) (store : Store) (many : length memory ≡ nodes) (holds : Holds memory store) (on : Continues kept (heads_of store))
+    (moves_tell : MovesTell) (moves_read : MovesRead) (moves_come_once : MovesComeOnce) (reads_are_draft : ReadsAreDraft) (compares_tell : ComparesTell) where
+  abbrev f : Forest
+  f = holds.forest
+
+  abbrev pub compared : List Image
+  compared = came_images a.moves addrs ++ (entry_images a ++ map (λ n. count_image n (was n)) giving)
+
+  pub number : number_named (heads_of store) a.name ≡ Some a.version.0
+  number = still_named kept (heads_of store) a.name a.version.0 on is.named
+
+  pub version : InStore f store a.name a.version.0
+  version = in_store memory store holds a.name a.version.0 number
+
+  pub shown : IsShown f.entries (page_at f) store
+  shown = (reads_are_draft memory store holds [] tt).shown
+
+  pub none_new : (n : ℕ) → page_at f (new_addr n) ≡ None
+  none_new = (reads_are_draft memory store holds [] tt).none_new
+
+  pub read : AreReads a.moves a.draft
+  read = moves_read a.version a.entry.root a.moves a.draft is.leads
+
+  pub few_nodes : nodes ≡ node_count f
+  few_nodes = sym many ∙ nodes_are memory store holds
+
+  module _ (met : mismatch_from memory 0 (map compare_of compared ++ more) ≡ None) where
+    tells : AreMet f (map compare_of compared ++ more)
+    tells = compares_tell memory store holds (map compare_of compared ++ more) met
+
+    has : (i : Image) → Contains compared i → Contains (map compare_of compared ++ more) (compare_of i)
+    has i c = Contains-append_left (map compare_of compared) more (compare_of i) (contains_map compare_of compared i c)
+
+    -- a page that was compared
+    pub page_of : (x : Addr) (p : Page) → is_noted addrs x ≡ true → came_at a.moves x ≡ Some p → IsPage p → page_at f x ≡ Some p
+    page_of x p noted came spelled =
+        tells.pages x p (has (page_image x p) (Contains-append_left (came_images a.moves addrs) (entry_images a ++ map (λ n. count_image n (was n)) giving) (page_image x p) (came_has a.moves addrs x p noted came)))
+        (subst (λ k. x.node.0 < k) few_nodes (came_of (λ h. h.addr.node.0 < nodes) (comes_in a.moves) x p is.within came)) spelled
+
+    -- the version's entry
+    pub entry_of : list_any is_change a.steps ≡ true → slice_get f.entries a.version.0 ≡ Some a.entry
+    entry_of any =
+        tells.entries a.version.0 a.entry
+        (has _ (Contains-append_right (came_images a.moves addrs) (entry_images a ++ map (λ n. count_image n (was n)) giving) (image_of a) (Contains-append_left (entry_images a) (map (λ n. count_image n (was n)) giving) (image_of a)
+        (subst (λ t. Contains (if t then image_of a ∷ [] else []) (image_of a)) (sym any) (0, omega arith, refl))))) is.few is.entry
+      where
+        image_of : Attempt → Image
+        image_of b = record { node = node_no 0; start = 64 + 64 * b.version.0; bytes = entry_bytes b.entry }
+
+    pub count_of : (n : ℕ) → Contains giving n → n < nodes → was n < 2 ^ 64 → was n ≡ count_in f n
+    count_of n gives low small =
+        tells.counts (node_no n) (was n)
+        (has (count_image n (was n)) (Contains-append_right (came_images a.moves addrs) (entry_images a ++ map (λ m. count_image m (was m)) giving) (count_image n (was n))
+        (Contains-append_right (entry_images a) (map (λ m. count_image m (was m)) giving) (count_image n (was n)) (contains_map (λ m. count_image m (was m)) giving n gives))))
+        (subst (λ k. n < k) few_nodes low) small
+
+    -- the leaves of the read set are among those compared
+    module _ (subset : (x : Addr) → is_noted (leaves_at a.moves a.draft.read) x ≡ true → is_noted addrs x ≡ true) where
+      pub leaf_stands : (x : Addr) → is_noted (leaves_at a.moves a.draft.read) x ≡ true → page_at f x ≡ came_at a.moves x
+      leaf_stands x noted =
+          let parts = and_parts (is_leaf_at a.moves x) (is_noted a.draft.read x) (sym (noted_filter (is_leaf_at a.moves) a.draft.read x) ∙ noted) in
+          let c = read.came x parts.1 in
+          page_of x c.0 (subset x noted) c.1 c.2 ∙ sym c.1
+
+      pub told : AreTold f.entries (page_at f) a.version version.version.pairs a.moves a.draft a.steps a.reply
+      told =
+          moves_tell f.entries (page_at f) store a.version version.version a.entry.root a.moves a.draft a.steps a.reply shown none_new version.found is.leads is.answered
+          (all_noted (λ x. page_at f x ≡ came_at a.moves x) (leaves_at a.moves a.draft.read) leaf_stands)
+
+      -- the transaction isn't refused
+      pub may : (version.entry.frozen && list_any is_change a.steps) ≡ false
+      may = by_any (list_any is_change a.steps) refl
+        where
+          none : (b : Bool) → (b && false) ≡ false
+          none true = refl
+          none false = refl
+
+          entry_same : (d e : CatEntry) → Some d ≡ Some e → d ≡ e
+          entry_same d e s = cc
+
+          by_any : (t : Bool) → list_any is_change a.steps ≡ t → (version.entry.frozen && list_any is_change a.steps) ≡ false
+          by_any true any = ap (λ (e : CatEntry). e.frozen && list_any is_change a.steps) (entry_same version.entry a.entry (sym version.there ∙ entry_of any)) ∙ is.may
+          by_any false any = ap (λ b. version.entry.frozen && b) any ∙ none version.entry.frozen
+
+-- Counts
+
+-- a node that gives slots is one of those counted
+pub taken_low : (counts : List ℕ) (slots : List Addr) (n : ℕ) → AreNextSlots counts slots → (taken_on slots n ≡ 0 → ⊥) → n < length counts
+taken_low counts [] n next some = absurd (some refl)
+taken_low counts (s ∷ slots) n next some = by_same (nat_eq s.node.0 n) refl some (λ more. subst (λ k. n < k) (length-set counts s.node.0 (s.slot + 1)) (taken_low (slice_set counts s.node.0 (s.slot + 1)) slots n next.3 more))
+  where
+    by_same : (t : Bool) → nat_eq s.node.0 n ≡ t → ((if t then taken_on slots n + 1 else taken_on slots n) ≡ 0 → ⊥) → ((taken_on slots n ≡ 0 → ⊥) → n < length counts) → n < length counts
+    by_same true e some' rest = let same = eqb-true s.node.0 n e in let low = next.0 in omega arith
+    by_same false e some' rest = rest some'
+
+pub gives : (counts : List ℕ) (slots : List Addr) (n : ℕ) → n < length counts → (taken_on slots n ≡ 0 → ⊥) → Contains (giving_nodes counts slots) n
+gives counts slots n low some = contains_filter (λ m. not (nat_eq (taken_on slots m) 0)) (range_with_len 0 (length counts)) n (contains_range 0 (length counts) n (omega arith) (omega arith)) (ap not (ne_eqb (taken_on slots n) 0 some))
+
+pub small_counts : (counts : List ℕ) (n : ℕ) → AllByRecursion (λ c. c ≤ max_slots) counts → slice_index_or counts n 0 ≤ max_slots
+small_counts [] n all = omega arith
+small_counts (c ∷ counts) zero all = all.0
+small_counts (c ∷ counts) (suc n) all = small_counts counts n all.1

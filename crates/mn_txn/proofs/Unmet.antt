@@ -1,0 +1,104 @@
+-- The plan of a try with an unmet Check is planned: it only compares.
+use Rattle.std.proofs.Common.{◌≡◌, inl, ℕ, false, ◌&&◌, List, [], ◌++◌, map, length, Some, None, refl, subst, sym, ap, ◌∙◌}
+use Rattle.std.specs.List.{list_any}
+use Rattle.std.proofs.lemmas.Bool.{and_parts}
+use Rattle.std.proofs.lemmas.List.{append-nil}
+use Rattle.mn_base.specs.Store.{Store, Head, heads_of, is_change, applied}
+use Rattle.mn_base.specs.declared.ids.Addr.{Addr}
+use Rattle.mn_base.specs.declared.op.Op.TheVariants.{Tx}
+use Rattle.mn_mini.specs.Mini.{Mini}
+use Rattle.mn_mini.specs.Flat.{mismatch_from}
+use Rattle.mn_page.specs.declared.page.Page.{Page}
+use Rattle.mn_page.specs.Grammar.{IsPage}
+use Rattle.mn_page.specs.Forest.{Forest, page_at}
+use Rattle.mn_page.specs.Holds.{Holds}
+use Rattle.mn_page.proofs.Spelled.{entry_length}
+use Rattle.mn_tree.specs.Trees.{is_noted}
+use Rattle.mn_tree.specs.Laws.{ReadsAreDraft}
+use Rattle.mn_tree.specs.Moves.{came_at, is_leaf_at, leaves_at}
+use Rattle.mn_tree.specs.MoveLaws.{AreTold, MovesTell, AreReads, MovesRead, MovesComeOnce}
+use Rattle.mn_tree.proofs.Trees.Told.{noted_filter}
+use Rattle.mn_world.specs.Planned.{Continues, PlanActs}
+use Rattle.mn_world.specs.Growth.{ComparesTell, NumbersGoOn}
+use Rattle.mn_txn.specs.declared.image.Image.{Image}
+use Rattle.mn_txn.specs.State.{AreApart}
+use Rattle.mn_txn.specs.Order.{in_item_order}
+use Rattle.mn_txn.specs.Plan.{plan_of, compare_of, write_of}
+use Rattle.mn_txn.specs.Laws.{PlansAreInOrder}
+use Rattle.mn_txn.specs.Attempt.{Attempt, IsAttempt, IsUnmet, came_images, entry_images, unmet_reads, UnmetIsPlanned}
+use Rattle.mn_txn.proofs.Lists.{all_noted}
+use Rattle.mn_txn.proofs.Found.{InStore, one_unmet, applied_reply, applied_nothing}
+use Rattle.mn_txn.proofs.Known.{number, version, page_of, told, may}
+use Rattle.mn_txn.proofs.Attempts.{Facts, acts, compares_pass}
+
+module _ (moves_tell : MovesTell) (moves_read : MovesRead) (moves_come_once : MovesComeOnce) (reads_are_draft : ReadsAreDraft) (compares_tell : ComparesTell) (numbers_go_on : NumbersGoOn) (kept : List Head) (nodes : ℕ) (a : Attempt) (is : IsAttempt kept nodes a) (un : IsUnmet a) (memory : List (List ℕ)) (store : Store)
+    (many : length memory ≡ nodes) (holds : Holds memory store) (on : Continues kept (heads_of store)) where
+  abbrev f : Forest
+  f = holds.forest
+
+  abbrev addrs : List Addr
+  addrs = leaves_at a.moves a.draft.read
+
+  abbrev no_count : ℕ → ℕ
+  no_count n = 0
+
+  abbrev compared : List Image
+  compared = came_images a.moves addrs ++ (entry_images a ++ [])
+
+  in_f : InStore f store a.name a.version.0
+  in_f = version kept nodes a is addrs [] no_count [] memory store many holds on moves_tell moves_read moves_come_once reads_are_draft compares_tell
+
+  reads : AreReads a.moves a.draft
+  reads = moves_read a.version a.entry.root a.moves a.draft is.leads
+
+  module _ (met : mismatch_from memory 0 (map compare_of compared ++ []) ≡ None) where
+    told_all : AreTold f.entries (page_at f) a.version in_f.version.pairs a.moves a.draft a.steps a.reply
+    unfolding in_f
+    told_all = told kept nodes a is addrs [] no_count [] memory store many holds on moves_tell moves_read moves_come_once reads_are_draft compares_tell met (λ x noted. noted)
+
+    may_run : (in_f.entry.frozen && list_any is_change a.steps) ≡ false
+    unfolding in_f
+    may_run = may kept nodes a is addrs [] no_count [] memory store many holds on moves_tell moves_read moves_come_once reads_are_draft compares_tell met (λ x noted. noted)
+
+    facts : Facts f store nodes a in_f.version addrs [] [] [] no_count no_count
+    facts = record {
+      pairs = in_f.pairs;
+      told = told_all;
+      entry = entry_length a.entry is.entry;
+      came = all_noted (λ x. (p : Page) × (came_at a.moves x ≡ Some p) × (page_at f x ≡ Some p) × IsPage p) addrs (λ x noted.
+          let parts = and_parts (is_leaf_at a.moves x) (is_noted a.draft.read x) (sym (noted_filter (is_leaf_at a.moves) a.draft.read x) ∙ noted) in
+          let c = reads.came x parts.1 in
+          (c.0, c.1, page_of kept nodes a is addrs [] no_count [] memory store many holds on moves_tell moves_read moves_come_once reads_are_draft compares_tell met x c.0 noted c.1 c.2, c.2));
+      sorts = λ x noted. inl noted;
+      leaves = λ x noted. noted;
+      changes = tt;
+      news = tt;
+      pages = tt;
+      picks = tt;
+    }
+
+    pub unmet_acts : PlanActs memory store holds (Tx a.name a.steps) (record { nodes = nodes; items = map compare_of compared ++ [] }) a.reply
+    unmet_acts =
+        acts f store nodes a in_f.version addrs [] [] [] no_count no_count facts memory holds refl (numbers_go_on memory store holds)
+        (number kept nodes a is addrs [] no_count [] memory store many holds on moves_tell moves_read moves_come_once reads_are_draft compares_tell)
+        (subst (λ (m : List (List ℕ)). Holds m (applied store (Tx a.name a.steps)).store) (sym (compares_pass memory compared []))
+        (subst (Holds memory)
+        (sym (applied_nothing f store a.name a.version.0 a.steps in_f may_run (one_unmet in_f.version.pairs 1 in_f.version.pairs [] a.steps un.step un.found (sym told_all.replies ∙ un.reply)))) holds))
+        (told_all.replies ∙ sym (applied_reply f store a.name a.version.0 a.steps in_f may_run))
+
+pub unmet_is_planned : MovesTell → MovesRead → MovesComeOnce → ReadsAreDraft → ComparesTell → NumbersGoOn → PlansAreInOrder → UnmetIsPlanned
+unmet_is_planned moves_tell moves_read moves_come_once reads_are_draft compares_tell numbers_go_on in_order kept t a is un apart_reads reads_are no_writes = record {
+  acts = λ memory store many sizes holds on met.
+      subst (λ (m : Mini). PlanActs memory store holds (Tx a.name a.steps) m a.reply) (sym mini_is)
+      (unmet_acts moves_tell moves_read moves_come_once reads_are_draft compares_tell numbers_go_on kept t.nodes a is un memory store many holds on
+      (subst (λ (m : Mini). mismatch_from memory 0 m.items ≡ None) mini_is met));
+  order = in_order t apart_reads (subst AreApart (sym no_writes) tt);
+}
+  where
+    all_reads : unmet_reads a ≡ came_images a.moves (leaves_at a.moves a.draft.read) ++ (entry_images a ++ [])
+    all_reads = ap (λ (l : List Image). came_images a.moves (leaves_at a.moves a.draft.read) ++ l) (sym (append-nil (entry_images a)))
+
+    mini_is : plan_of t ≡ record { nodes = t.nodes; items = map compare_of (came_images a.moves (leaves_at a.moves a.draft.read) ++ (entry_images a ++ [])) ++ [] }
+    mini_is =
+        ap (λ (rs : List Image). let m : Mini = record { nodes = t.nodes; items = map compare_of rs ++ map write_of (in_item_order t.writes) } in m) (reads_are ∙ all_reads)
+        ∙ ap (λ (ws : List Image). let m : Mini = record { nodes = t.nodes; items = map compare_of (came_images a.moves (leaves_at a.moves a.draft.read) ++ (entry_images a ++ [])) ++ map write_of (in_item_order ws) } in m) no_writes
