@@ -83,11 +83,16 @@ module _ {E : Type 0} (n : NodeNo) (c : ClientNo) (own v j : View E) (owns : Own
   looked_owns looked same = (owns.0.0, same (Node n) ∙ (node_joined n c own v j owns owns' join ∙ owns.0.1))
 
   module _ (looked rest part : View E) (same : IsSameLists j looked) (split : IsSplit looked (Node n) rest part) where
-    pub part_is : held part (Node n) ≡ held own (Node n)
+    part_is : held part (Node n) ≡ held own (Node n)
     part_is = split.given.0 ∙ (same (Node n) ∙ node_joined n c own v j owns owns' join)
 
-    pub part_owns : OwnsJust part (Node n)
-    part_owns = ((owns.0.0, part_is ∙ owns.0.1), λ b not. (split.others b not).1)
+    pub part_lists : IsSameLists own part
+    part_lists (Node k) = ⊎_elim
+        (λ (is : k.0 ≡ n.0). subst (λ (i : NodeNo). held part (Node i) ≡ held own (Node i)) (λ i. record { 0 = sym is i }) part_is)
+        (λ (ne : k.0 ≡ n.0 → ⊥). let apart : eqb k.0 n.0 ≡ false = ne_eqb k.0 n.0 ne in
+        (split.others (Node k) apart).1 ∙ sym (owns.1 (Node k) apart))
+        (cases_eq k.0 n.0)
+    part_lists (Client k) = (split.others (Client k) refl).1 ∙ sym (owns.1 (Client k) refl)
 
     none_else : (b : Actor) → held v b ≡ None → held own b ≡ None → held j b ≡ None
     none_else b x y = join.lists b ∙ (rw (x, y) refl)
@@ -107,5 +112,9 @@ module _ {E : Type 0} (n : NodeNo) (c : ClientNo) (own v j : View E) (owns : Own
     rest_lists (Node k) = rest_node k ∙ sym (owns'.1 (Node k) refl)
     rest_lists (Client k) = (split.others (Client k) refl).0 ∙ (same (Client k) ∙ (join.lists (Client k) ∙ (ap (λ (o : Option (List (ℕ × E))). or_else (held v (Client k)) o) (owns.1 (Client k) refl) ∙ keeps_client (held v (Client k)))))
 
-    pub rest_owns : OwnsJust rest (Client c)
-    rest_owns = ((owns'.0.0, rest_lists (Client c) ∙ owns'.0.1), λ b not. rest_lists b ∙ owns'.1 b not)
+-- a pass with the same lists owns the same actor alone
+pub same_owns : {E : Type 0} (v w : View E) (a : Actor) → IsSameLists v w → OwnsJust v a → OwnsJust w a
+same_owns v w a same owns = ((owns.0.0, same a ∙ owns.0.1), λ b not. same b ∙ owns.1 b not)
+
+pub same_lists : {E : Type 0} (v w u : View E) → IsSameLists v w → IsSameLists w u → IsSameLists v u
+same_lists v w u one two a = two a ∙ one a

@@ -1,5 +1,5 @@
 -- What a call of a node says, and what it takes before the node is asked.
-use Rattle.std.specs.Prelude.{ℕ, ◌≡◌, ◌≤◌, false, List, [], ◌∷◌, ◌++◌, length, map, Option, Some, ⊤}
+use Rattle.std.specs.Prelude.{ℕ, ◌+◌, ◌≡◌, ◌≤◌, false, List, [], ◌∷◌, ◌++◌, length, map, Option, Some, ⊤}
 use Rattle.mn_base.specs.declared.ids.NodeNo.{NodeNo}
 use Rattle.mn_base.specs.declared.ids.ClientNo.{ClientNo}
 use Rattle.mn_base.specs.declared.gate.StopAt.{StopAt}
@@ -45,10 +45,11 @@ pub record EndsList (known : ℕ) (e : Entry) (old new : List (ℕ × Entry)) : 
   pub later : known ≤ place
   pub ends : new ≡ old ++ (place, e) ∷ []
 
--- an entry ends the node's list and the client's, at one place that is not below this one
-pub record EndsBoth (known : ℕ) (e : Entry) (node node' client client' : List (ℕ × Entry)) : Type 0 where
+-- an entry ends the node's list and the client's, at one place that is not below this one; the other is the place after it
+pub record EndsBoth (known after : ℕ) (e : Entry) (node node' client client' : List (ℕ × Entry)) : Type 0 where
   pub place : ℕ
   pub later : known ≤ place
+  pub next : after ≡ place + 1
   pub ends_node : node' ≡ node ++ (place, e) ∷ []
   pub ends_client : client' ≡ client ++ (place, e) ∷ []
 

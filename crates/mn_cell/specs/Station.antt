@@ -114,19 +114,26 @@ pub record HasMade {D : Type 0} (state : D → DiskState) (faults : D → ℕ) (
 
 -- Stations
 
--- a node with its number and its list
+-- a node with its number, its list, and the place that its pass knows
 pub record StationState (D : Type 0) : Type 0 where
   pub number : NodeNo
   pub node : NodeState D
   pub list : List (ℕ × Entry)
+  pub known : ℕ
+
+-- the place that the pass knows, if it is there
+abbrev pub known_by : {L E : Type 0} {g : _} → Option (Pass L E g) → ℕ
+known_by None = 0
+known_by (Some p) = (view_of p).known
 
 -- the pass is there, of this board, owns just the node, and has this list
 abbrev pub IsPassOf : {L E : Type 0} {g : _} → TableId → NodeNo → List (ℕ × E) → Option (Pass L E g) → Type 0
 IsPassOf board n list None = ⊥
 IsPassOf board n list (Some p) = (board_of p ≡ board) × OwnsJust (view_of p) (Node n) × (held (view_of p) (Node n) ≡ Some list)
 
--- the node is as its entries leave it, and its number, records, down or up are those from before
+-- the node is as its entries leave it, and its number, records, down or up are those from before, as is the place that its pass knows
 pub record IsAsBefore {D : Type 0} (old new : StationState D) : Type 0 where
   pub list : new.list ≡ old.list
   pub records : new.node.records ≡ old.node.records
   pub down : new.node.down ≡ old.node.down
+  pub known : new.known ≡ old.known

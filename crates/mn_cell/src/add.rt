@@ -33,7 +33,7 @@ pub fn add<L: Law>(
     (own, place)
 }
 
-/// Tells that the lists of a node and a client are of one log. The client's pass is as before; the node's has the same list.
+/// Tells that the lists of a node and a client are of one log. Both passes are as before.
 pub fn compare<L: Law>(
     board: &Board<L>,
     own: Pass<L>,
@@ -45,12 +45,18 @@ pub fn compare<L: Law>(
     requires owns { OwnsJust (view_of own) (Node node) × OwnsJust (view_of pass.old) (Client client) }
     ensures board { (board_of result ≡ board_of own) × (board_of pass.new ≡ board_of own) }
     ensures node { (held (view_of result) (Node node) ≡ held (view_of own) (Node node)) × OwnsJust (view_of result) (Node node) }
+    ensures node_same { IsSame (view_of own) (view_of result) }
     ensures client { IsSame (view_of pass.old) (view_of pass.new) × OwnsJust (view_of pass.new) (Client client) }
     ensures one_log { AreOfOneLog L.legal node client (or_empty (held (view_of own) (Node node))) (or_empty (held (view_of pass.old) (Client client))) }
 {
     let _ = client;
     let known = board.note(pass);
+    let own_known = board.note(&own);
     board.join(pass, own);
+    let greater = board.note(pass);
+    board.look(pass, greater);
+    let mut own = board.split(pass, Actor::Node { node });
     board.look(pass, known);
-    board.split(pass, Actor::Node { node })
+    board.look(&mut own, own_known);
+    own
 }

@@ -19,7 +19,8 @@ use std::marker::{Model, PhantomData};
 
 mod calls;
 
-/// A memory node of the run that `N` names, with its list of entries and the pass that owns it. Contracts see its number, the node and the list.
+/// A memory node of the run that `N` names, with its list of entries and the pass that owns it. Contracts see its number, the node, the list
+/// and the place that the pass knows.
 ///
 /// The list is the pass's, which is of the run's board. Each entry is one that the records allow which the node started with, and the node
 /// has the records that they leave.
@@ -34,11 +35,11 @@ pub struct Station<N: Named, D: Disk> {
 
 impl<N: Named, D: Disk> Model for Station<N, D> {
     ghost use Rattle.mn_world.specs.Run.{entries_of};
-    ghost use Rattle.mn_cell.specs.Station.{HasMade, IsPassOf, StationState, start_of};
+    ghost use Rattle.mn_cell.specs.Station.{HasMade, IsPassOf, StationState, known_by, start_of};
 
     ghost Value = { StationState D };
 
-    ghost view = { λ s. record { number = s.number; node = s.node; list = s.list.entries } };
+    ghost view = { λ s. record { number = s.number; node = s.node; list = s.list.entries; known = known_by s.pass } };
 
     ghost invariant = { λ s. IsPassOf N.board s.number s.list.entries s.pass × HasMade D.state D.faults (start_of N.records) s.number (N.faults s.number.0) (N.honest s.number.0) (entries_of s.list.entries) s.node };
 }
@@ -62,7 +63,7 @@ impl<N: Named, D: Disk> Station<N, D> {
         requires board { board_of pass ≡ N.board }
         requires owns { OwnsJust (view_of pass) (AtNode number) }
         requires list { held (view_of pass) (AtNode number) ≡ Some [] }
-        ensures made { IfOk result (λ station. station ≡ record { number = number; node = node; list = [] }) }
+        ensures made { IfOk result (λ station. station ≡ record { number = number; node = node; list = []; known = (view_of pass).known }) }
         ensures refused { IfErr result (λ refused. (refused.node ≡ node) × (refused.pass ≡ pass)) }
     {
         match NodeList::new(alloc) {
@@ -85,6 +86,7 @@ impl<N: Named, D: Disk> Station<N, D> {
         ensures board { board_of result.2 ≡ N.board }
         ensures owns { OwnsJust (view_of result.2) (AtNode self.number) }
         ensures pass { held (view_of result.2) (AtNode self.number) ≡ Some self.list }
+        ensures known { (view_of result.2).known ≡ self.known }
     {
         let Station {
             number: _,

@@ -188,7 +188,7 @@ fn enter(
     ensures board { (board_of result ≡ id_of board.now) × (board_of pass.new ≡ id_of board.now) }
     ensures owns { OwnsJust (view_of result) (AtNode number) × OwnsJust (view_of pass.new) (Client list.old.client) }
     ensures lists { (held (view_of result) (AtNode number) ≡ Some node_list.new.entries) × (held (view_of pass.new) (Client list.old.client) ≡ Some list.new.entries) }
-    ensures ends { EndsBoth (view_of pass.old).known entries.0 node_list.old.entries node_list.new.entries list.old.entries list.new.entries }
+    ensures ends { EndsBoth (view_of pass.old).known (view_of result).known entries.0 node_list.old.entries node_list.new.entries list.old.entries list.new.entries }
     ensures client { list.new.client ≡ list.old.client }
     ensures room { list.old.room ≤ list.new.room + 1 }
 {
@@ -220,8 +220,8 @@ impl<N: Named, D: Disk> Station<N, D> {
     ///
     /// NoMemory: there was none for the call; the node, the pass and both lists are as before. It never comes for the decision of an id whose
     /// vote the client has got here and hasn't decided, where the client's list has room, whether the node is up or down. Any other reply is
-    /// the last entry of both lists, at a place that is not below the one that the client's pass knew. Where `stop` is given, a request that
-    /// adds a record isn't done.
+    /// the last entry of both lists, at a place that is not below the one that the client's pass knew, and the node's pass knows the place after
+    /// it. Where `stop` is given, a request that adds a record isn't done.
     pub fn call(
         &mut self,
         alloc: Global,
@@ -242,7 +242,7 @@ impl<N: Named, D: Disk> Station<N, D> {
         ensures board { board_of pass.new ≡ N.board }
         ensures owns { OwnsJust (view_of pass.new) (Client list.old.client) }
         ensures list { held (view_of pass.new) (Client list.old.client) ≡ Some list.new.entries }
-        ensures said { result ≢ Reply.NoMemory → EndsBoth (view_of pass.old).known (entry_at self.old.number list.old.client (what_said request stop result)) self.old.list self.new.list list.old.entries list.new.entries }
+        ensures said { result ≢ Reply.NoMemory → EndsBoth (view_of pass.old).known self.new.known (entry_at self.old.number list.old.client (what_said request stop result)) self.old.list self.new.list list.old.entries list.new.entries }
         ensures before { result ≡ Reply.NoMemory → IsAsBefore self.old self.new }
         ensures pass_before { result ≡ Reply.NoMemory → IsSame (view_of pass.old) (view_of pass.new) }
         ensures list_before { result ≡ Reply.NoMemory → list.new.entries ≡ list.old.entries }
@@ -286,7 +286,7 @@ impl<N: Named, D: Disk> Station<N, D> {
         ensures list { held (view_of pass.new) (Client list.old.client) ≡ Some list.new.entries }
         ensures exactly { IfOk result (λ halted. halted ≡ not self.old.node.down) }
         ensures down { OnOk result (self.new.node.down ≡ true) }
-        ensures halted { IfOk result (λ halted. halted ≡ true → EndsBoth (view_of pass.old).known (entry_at self.old.number list.old.client (Stopped None None)) self.old.list self.new.list list.old.entries list.new.entries) }
+        ensures halted { IfOk result (λ halted. halted ≡ true → EndsBoth (view_of pass.old).known self.new.known (entry_at self.old.number list.old.client (Stopped None None)) self.old.list self.new.list list.old.entries list.new.entries) }
         ensures no_entry { IfOk result (λ halted. halted ≡ false → (self.new ≡ self.old) × (pass.new ≡ pass.old) × (list.new ≡ list.old)) }
         ensures failed { OnErr result ((self.new ≡ self.old) × (pass.new ≡ pass.old) × (list.new.entries ≡ list.old.entries)) }
         ensures room { list.old.room ≤ list.new.room + 1 }
@@ -329,7 +329,7 @@ impl<N: Named, D: Disk> Station<N, D> {
         ensures was_up { IfOk result (λ kept. IfNone kept (self.old.node.down ≡ false)) }
         ensures was_down { IfOk result (λ kept. OnSome kept (self.old.node.down ≡ true)) }
         ensures up { OnOk result (self.new.node.down ≡ false) }
-        ensures restarted { IfOk result (λ kept. IfSome kept (λ there. EndsBoth (view_of pass.old).known (entry_at self.old.number list.old.client (Restarted there)) self.old.list self.new.list list.old.entries list.new.entries)) }
+        ensures restarted { IfOk result (λ kept. IfSome kept (λ there. EndsBoth (view_of pass.old).known self.new.known (entry_at self.old.number list.old.client (Restarted there)) self.old.list self.new.list list.old.entries list.new.entries)) }
         ensures no_entry { IfOk result (λ kept. IfNone kept ((self.new ≡ self.old) × (pass.new ≡ pass.old) × (list.new ≡ list.old))) }
         ensures cause { IfErr result (FailsRestart D.state D.faults self.old.node.disk self.new.node.disk self.old.node.records self.old.node.pending) }
         ensures undamaged { N.honest self.old.number.0 → IfErr result IsUndamaged }
