@@ -17,3 +17,5 @@ pub use txn::Txn;
 
 #[cfg(test)]
 mod tests;
+#[cfg(test)]
+mod tree_tests;
