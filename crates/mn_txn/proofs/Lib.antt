@@ -9,3 +9,4 @@ mod Found
 mod Known
 mod Done
 mod Unmet
+mod Slots

@@ -3,3 +3,4 @@ pub mod Order
 pub mod Plan
 pub mod Laws
 pub mod Attempt
+pub mod Slots
