@@ -1,5 +1,6 @@
 pub mod Grid
 pub mod Counted
+pub mod Heights
 pub mod Keys
 pub mod Named
 pub mod Leaves

@@ -1,5 +1,5 @@
 -- The laws of memories that hold a store.
-use Rattle.std.specs.Prelude.{◌≡◌, ℕ, List, [], ◌∷◌, Some, slice_get}
+use Rattle.std.specs.Prelude.{◌≡◌, ◌≤◌, ℕ, List, [], ◌∷◌, Some, slice_get}
 use Rattle.mn_base.specs.Store.{Store, StoreVersion, heads_of, number_named, value_at, applied}
 use Rattle.mn_base.specs.declared.ids.Addr.{Addr}
 use Rattle.mn_base.specs.declared.op.Step.TheVariants.{Get}
@@ -7,6 +7,7 @@ use Rattle.mn_base.specs.declared.op.Op.TheVariants.{Tx}
 use Rattle.mn_base.specs.declared.reply.Reply.TheVariants.{Values}
 use Rattle.mn_page.specs.declared.entry.CatEntry.{CatEntry}
 use Rattle.mn_page.specs.declared.page.Page.{Page}
+use Rattle.mn_page.specs.Grammar.{height_of}
 use Rattle.mn_page.specs.Forest.{page_at}
 use Rattle.mn_page.specs.Holds.{Holds, PagesAt, IsOnPath, OneOnPath, pairs_in}
 
@@ -29,3 +30,7 @@ abbrev pub LeafTellsGet : Type 0
 LeafTellsGet =
     (memory : List (List ℕ)) (store : Store) (holds : Holds memory store) (v : ℕ) (name key : List ℕ) (addr : Addr) (page : Page) → number_named (heads_of store) name ≡ Some v
     → IsLeafFor holds.forest.entries (page_at holds.forest) v key addr page → (applied store (Tx name (Get key ∷ []))).reply ≡ Values (value_at (pairs_in page.body) key ∷ [])
+
+-- no page is higher than 14
+abbrev pub NoneTooHigh : Type 0
+NoneTooHigh = (memory : List (List ℕ)) (store : Store) (holds : Holds memory store) (addr : Addr) (p : Page) → page_at holds.forest addr ≡ Some p → height_of p.body ≤ 14

@@ -170,7 +170,7 @@ child_for (c ∷ cs) key = if covers_key c.low c.high key then Some c.addr else 
 
 -- how many pages a path has at most
 abbrev pub max_path : ℕ
-max_path = 15
+max_path = 31
 
 -- the path of a key from this address down, the leaf first; none where a page of it isn't there
 abbrev pub path_to : ℕ → List Held → Addr → List ℕ → List Held → Option (List Held)

@@ -1,7 +1,7 @@
 ghost use Rattle.mn_base.specs.Store.{empty_store};
 ghost use Rattle.mn_page.specs.Forest.{memory_of, base_forest};
 ghost use Rattle.mn_page.specs.Holds.{Holds};
-ghost use Rattle.mn_page.specs.Laws.{LeafTells, LeafTellsGet};
+ghost use Rattle.mn_page.specs.Laws.{LeafTells, LeafTellsGet, NoneTooHigh};
 
 /// The space of one fresh node holds the store with the empty version `main`.
 pub fn base_holds_empty_store()
@@ -17,4 +17,9 @@ pub fn leaf_tells()
 /// That leaf tells the reply to a transaction of one Get.
 pub fn leaf_tells_get()
     ensures { LeafTellsGet }
+{}
+
+/// In a memory that holds a store no page is higher than 14.
+pub fn none_too_high()
+    ensures { NoneTooHigh }
 {}

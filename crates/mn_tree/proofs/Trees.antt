@@ -37,3 +37,5 @@ pub mod MoveReads
 pub mod Filled
 pub mod Sizes
 pub mod PlacedPages
+pub mod Tries
+pub mod Origins

@@ -1,13 +1,12 @@
 -- How a walk goes on at an inner page.
 use Rattle.std.specs.Prelude.{if◌then◌else◌}
-use Rattle.std.proofs.Common.{◌≡◌, ℕ, suc, ◌+◌, Bool, true, false, ◌&&◌, not, List, [], ◌∷◌, Option, Some, None, refl, sym, ap, ◌∙◌, add-one, nat_eq, eq-eqb, ne_eqb}
+use Rattle.std.proofs.Common.{◌≡◌, ℕ, suc, ◌+◌, Bool, true, false, ◌&&◌, not, List, [], ◌∷◌, Option, Some, None, refl, sym, ap, ◌∙◌, add-one}
 use Rattle.std.specs.Option.{option_map_or}
 use Rattle.mn_base.specs.Order.{key_lt, key_le, below_bound}
 use Rattle.mn_base.specs.declared.ids.Addr.{Addr}
 use Rattle.mn_page.specs.declared.page.Page.{Page}
 use Rattle.mn_page.specs.declared.page.Body.TheVariants.{Inner}
 use Rattle.mn_page.specs.declared.page.Child.{Child}
-use Rattle.mn_page.specs.Grammar.{height_of}
 use Rattle.mn_page.specs.Forest.{ranges_from, children_of, body_children}
 use Rattle.mn_page.specs.Holds.{page_covers}
 use Rattle.mn_page.specs.Overlay.{Held, held_at, child_for}
@@ -26,41 +25,34 @@ child_is first (c ∷ cs) low high key above below = (elim (key_lt key c.separat
 ]) refl
 
 -- what follows a page that covers the key: the page at the child's address
-abbrev pub followed : ℕ → List Held → List ℕ → Held → List Held → Addr → Option Page → Walk
-followed left pages key h above addr found =
-    option_map_or (λ p. if goes_on left key p then walk_down left pages key (held addr p) (h ∷ above) else Wrong addr) found (Missing addr (Some (suc left)))
+abbrev pub followed : List (Option ℕ) → ℕ → ℕ → List Held → List ℕ → Held → List Held → Addr → Option Page → Walk
+followed parents v left pages key h above addr found =
+    option_map_or (λ p. if goes_on parents v left key p then walk_down parents v left pages key (held addr p) (h ∷ above) else Wrong addr) found (Missing addr (Some (suc left)))
 
-pub follows : (left : ℕ) (pages : List Held) (key : List ℕ) (h : Held) (above : List Held) (height : ℕ) (first : Addr) (rest : List Child) (addr : Addr) → h.page.body ≡ Inner height first rest → page_covers key h.page ≡ true
-    → addr ≡ child_from first rest key → walk_down (left + 1) pages key h above ≡ followed left pages key h above addr (held_at pages addr)
-follows left pages key h above height first rest addr is covers child =
-    let two = both (key_le h.page.low key) (below_bound key h.page.high) covers in
-    let next : child_for (children_of h.page) key ≡ Some addr = ap (λ b. child_for (body_children h.page.low h.page.high b) key) is ∙ child_is first rest h.page.low h.page.high key two.0 two.1 ∙ ap (λ a. Some a) (sym child) in
-    ap (λ n. walk_down n pages key h above) (add-one left)
-    ∙ ap (λ o. option_map_or (λ a. followed left pages key h above a (held_at pages a)) o (Wrong h.addr)) next
+module _ (parents : List (Option ℕ)) (v left : ℕ) (pages : List Held) (key : List ℕ) (h : Held) (above : List Held) where
+  pub follows : (height : ℕ) (first : Addr) (rest : List Child) (addr : Addr) → h.page.body ≡ Inner height first rest → page_covers key h.page ≡ true → addr ≡ child_from first rest key
+      → walk_down parents v (left + 1) pages key h above ≡ followed parents v left pages key h above addr (held_at pages addr)
+  follows height first rest addr is covers child =
+      let two = both (key_le h.page.low key) (below_bound key h.page.high) covers in
+      let next : child_for (children_of h.page) key ≡ Some addr = ap (λ b. child_for (body_children h.page.low h.page.high b) key) is ∙ child_is first rest h.page.low h.page.high key two.0 two.1 ∙ ap (λ a. Some a) (sym child) in
+      ap (λ n. walk_down parents v n pages key h above) (add-one left)
+      ∙ ap (λ o. option_map_or (λ a. followed parents v left pages key h above a (held_at pages a)) o (Wrong h.addr)) next
 
--- it goes down
-pub goes_down : (left : ℕ) (key : List ℕ) (p : Page) → height_of p.body ≡ left → page_covers key p ≡ true → goes_on left key p ≡ true
-goes_down left key p height covers = rw (eq-eqb (height_of p.body) left height, covers) refl
+  pub down_to : (addr : Addr) (found : Option Page) (next : Held) → Some next.page ≡ found → next.addr ≡ addr → goes_on parents v left key next.page ≡ true
+      → followed parents v left pages key h above addr found ≡ walk_down parents v left pages key next (h ∷ above)
+  down_to addr found next is there goes =
+      ap (followed parents v left pages key h above addr) (sym is) ∙ goes_in (goes_on parents v left key next.page) goes ∙ ap (λ a. walk_down parents v left pages key (held a next.page) (h ∷ above)) (sym there)
+    where
+      goes_in : (t : Bool) → t ≡ true → (if t then walk_down parents v left pages key (held addr next.page) (h ∷ above) else Wrong addr) ≡ walk_down parents v left pages key (held addr next.page) (h ∷ above)
+      goes_in true e = refl
+      goes_in false e = absurd cc
 
-pub ends_by_height : (left : ℕ) (key : List ℕ) (p : Page) → (height_of p.body ≡ left → ⊥) → goes_on left key p ≡ false
-ends_by_height left key p other = rw (ne_eqb (height_of p.body) left other) refl
+  pub wrong_at : (addr : Addr) (found : Option Page) (p : Page) → Some p ≡ found → goes_on parents v left key p ≡ false → followed parents v left pages key h above addr found ≡ Wrong addr
+  wrong_at addr found p is stops = ap (followed parents v left pages key h above addr) (sym is) ∙ stops_at (goes_on parents v left key p) stops
+    where
+      stops_at : (t : Bool) → t ≡ false → (if t then walk_down parents v left pages key (held addr p) (h ∷ above) else Wrong addr) ≡ Wrong addr
+      stops_at true e = absurd cc
+      stops_at false e = refl
 
-and_false : (x : Bool) → (x && false) ≡ false
-and_false true = refl
-and_false false = refl
-
-pub ends_by_fences : (left : ℕ) (key : List ℕ) (p : Page) → page_covers key p ≡ false → goes_on left key p ≡ false
-ends_by_fences left key p not_covered = ap (λ b. nat_eq (height_of p.body) left && b) not_covered ∙ and_false (nat_eq (height_of p.body) left)
-
-pub down_to : (left : ℕ) (pages : List Held) (key : List ℕ) (h : Held) (above : List Held) (addr : Addr) (found : Option Page) (next : Held) → Some next.page ≡ found → next.addr ≡ addr → goes_on left key next.page ≡ true
-    → followed left pages key h above addr found ≡ walk_down left pages key next (h ∷ above)
-down_to left pages key h above addr found next is there goes =
-    ap (followed left pages key h above addr) (sym is) ∙ (rw goes refl) ∙ ap (λ a. walk_down left pages key (held a next.page) (h ∷ above)) (sym there)
-
-pub wrong_at : (left : ℕ) (pages : List Held) (key : List ℕ) (h : Held) (above : List Held) (addr : Addr) (found : Option Page) (p : Page) → Some p ≡ found → goes_on left key p ≡ false
-    → followed left pages key h above addr found ≡ Wrong addr
-wrong_at left pages key h above addr found p is stops = ap (followed left pages key h above addr) (sym is) ∙ (rw stops refl)
-
-pub missing_at : (left : ℕ) (pages : List Held) (key : List ℕ) (h : Held) (above : List Held) (addr : Addr) (found : Option Page) → None ≡ found
-    → followed left pages key h above addr found ≡ Missing addr (Some (left + 1))
-missing_at left pages key h above addr found is = ap (followed left pages key h above addr) (sym is) ∙ ap (λ n. Missing addr (Some n)) (sym (add-one left))
+  pub missing_at : (addr : Addr) (found : Option Page) → None ≡ found → followed parents v left pages key h above addr found ≡ Missing addr (Some (left + 1))
+  missing_at addr found is = ap (followed parents v left pages key h above addr) (sym is) ∙ ap (λ n. Missing addr (Some n)) (sym (add-one left))

@@ -1,5 +1,5 @@
 -- What the code's walk finds, in the words of the walk over lists.
-use Rattle.std.specs.Prelude.{◌≡◌, ℕ, ◌+◌, true, List, [], ◌∷◌, map, Some, if◌then◌else◌, ⊤}
+use Rattle.std.specs.Prelude.{◌≡◌, ℕ, ◌+◌, true, List, [], ◌∷◌, map, Option, Some, if◌then◌else◌, ⊤}
 use Rattle.std.specs.Borrow.{Bor}
 use Rattle.mn_base.specs.Order.{key_lt}
 use Rattle.mn_base.specs.declared.ids.Addr.{Addr}
@@ -18,16 +18,16 @@ child_from found [] key = found
 child_from found (c ∷ cs) key = if key_lt key c.separator then found else child_from c.addr cs key
 
 -- how a walk goes on behind a page that is one higher than `left`
-abbrev pub walk_after : List Held → List ℕ → ℕ → Held → List Held → Next → Walk
-walk_after pages key left h above (next.Missing addr) = Missing addr (Some (left + 1))
-walk_after pages key left h above (next.Wrong addr) = Wrong addr
-walk_after pages key left h above (next.Down held) = walk_down left pages key (held_of held.now) (h ∷ above)
+abbrev pub walk_after : List (Option ℕ) → ℕ → List Held → List ℕ → ℕ → Held → List Held → Next → Walk
+walk_after parents v pages key left h above (next.Missing addr) = Missing addr (Some (left + 1))
+walk_after parents v pages key left h above (next.Wrong addr) = Wrong addr
+walk_after parents v pages key left h above (next.Down held) = walk_down parents v left pages key (held_of held.now) (h ∷ above)
 
 -- a page that a walk goes down to
-abbrev pub IsOnTheWay : ℕ → List ℕ → Next → Type 0
-IsOnTheWay left key (next.Missing addr) = ⊤
-IsOnTheWay left key (next.Wrong addr) = ⊤
-IsOnTheWay left key (next.Down held) = goes_on left key held.now.page ≡ true
+abbrev pub IsOnTheWay : List (Option ℕ) → ℕ → ℕ → List ℕ → Next → Type 0
+IsOnTheWay parents v left key (next.Missing addr) = ⊤
+IsOnTheWay parents v left key (next.Wrong addr) = ⊤
+IsOnTheWay parents v left key (next.Down held) = goes_on parents v left key held.now.page ≡ true
 
 -- pages as they are lent
 abbrev pub lents : List (Bor HeldPage) → List Held

@@ -23,7 +23,7 @@ use Rattle.mn_tree.specs.Trees.{laid_over, is_noted, IsShown, IsDraft}
 -- where a walk reaches a leaf under a root that isn't too high, its path is the one of the plain model
 abbrev pub WalksArePaths : Type 0
 WalksArePaths =
-    (pages : List Held) (root : Addr) (key : List ℕ) (path : List Held) → walk pages root key ≡ Reached path
+    (parents : List (Option ℕ)) (v : ℕ) (pages : List Held) (root : Addr) (key : List ℕ) (path : List Held) → walk parents v pages root key ≡ Reached path
     → option_map_or (λ p. height_of p.body) (held_at pages root) 0 ≤ max_height → path_to max_path pages root key [] ≡ Some path
 
 -- pages that were read from a memory that holds a store are a draft of it
@@ -55,7 +55,7 @@ StepKeepsTree =
 abbrev pub SteppedKeepsTree : Type 0
 SteppedKeepsTree =
     (entries : List CatEntry) (at : PagesAt) (store : Store) (s : TreeState) (version : StoreVersion) (entry : CatEntry) (step : Step) (path : List Held) → IsDraft entries at store s.draft.overlay → slice_get store s.version.0 ≡ Some version
-    → slice_get entries s.version.0 ≡ Some entry → s.root ≡ entry.root → (entry.frozen && is_change step) ≡ false → walk s.draft.overlay.pages s.root (step_key step) ≡ Reached path
+    → slice_get entries s.version.0 ≡ Some entry → s.root ≡ entry.root → (entry.frozen && is_change step) ≡ false → walk s.parents s.version.0 s.draft.overlay.pages s.root (step_key step) ≡ Reached path
     → option_map_or (λ p. height_of p.body) (held_at s.draft.overlay.pages s.root) 0 ≤ max_height
     → IsDraft entries at (slice_set store s.version.0 (record version { pairs = pairs_after_step version.pairs step })) (stepped s step).state.draft.overlay
 

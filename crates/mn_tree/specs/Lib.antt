@@ -12,3 +12,4 @@ pub mod Trees
 pub mod Moves
 pub mod Laws
 pub mod MoveLaws
+pub mod Tries

@@ -11,7 +11,7 @@ use Rattle.mn_base.specs.declared.reply.Reply.TheVariants.{Values, Unmet}
 use Rattle.mn_page.specs.declared.page.Page.{Page}
 use Rattle.mn_page.specs.Grammar.{IsPage, IsAddr, height_of}
 use Rattle.mn_page.specs.Overlay.{Held, Overlay, held_at, is_new, path_pairs}
-use Rattle.mn_tree.specs.Walk.{Reached, walk}
+use Rattle.mn_tree.specs.Walk.{Reached, is_live, walk}
 use Rattle.mn_tree.specs.State.{Drafted, drafted_with, drafted_after, max_height}
 use Rattle.mn_tree.specs.Trees.{is_noted}
 
@@ -20,20 +20,20 @@ pub data Move : Type 0 where
   Comes : (held : Held) → Move
   Does : (step : Step) → Move
 
--- a page that may come in: it is in its grammar, was made in the version, isn't too high, and isn't held yet
-pub record MayCome (v : VersionNo) (d : Drafted) (h : Held) : Type 0 where
+-- a page that may come in: it is in its grammar, serves the version, isn't too high, and isn't held yet
+pub record MayCome (parents : List (Option ℕ)) (v : VersionNo) (d : Drafted) (h : Held) : Type 0 where
   pub page : IsPage h.page
   pub addr : IsAddr h.addr
-  pub made : h.page.made.0 ≡ v.0
+  pub live : is_live parents v.0 h.page ≡ true
   pub height : height_of h.page.body ≤ max_height
   pub absent : held_at d.overlay.pages h.addr ≡ None
 
--- the moves lead from one draft to the other; each step reaches the leaf of its key
-abbrev pub LeadsTo : VersionNo → Addr → Drafted → List Move → Drafted → Type 0
-LeadsTo v root d [] after = d ≡ after
-LeadsTo v root d (Comes h ∷ moves) after = MayCome v d h × LeadsTo v root (drafted_with d h.addr h.page) moves after
-LeadsTo v root d (Does step ∷ moves) after =
-    (path : List Held) × (walk d.overlay.pages root (step_key step) ≡ Reached path) × LeadsTo v root (drafted_after v d step path) moves after
+-- the moves lead from one draft to the other, where these are the parents of the versions; each step reaches the leaf of its key
+abbrev pub LeadsTo : List (Option ℕ) → VersionNo → Addr → Drafted → List Move → Drafted → Type 0
+LeadsTo parents v root d [] after = d ≡ after
+LeadsTo parents v root d (Comes h ∷ moves) after = MayCome parents v d h × LeadsTo parents v root (drafted_with d h.addr h.page) moves after
+LeadsTo parents v root d (Does step ∷ moves) after =
+    (path : List Held) × (walk parents v.0 d.overlay.pages root (step_key step) ≡ Reached path) × LeadsTo parents v root (drafted_after v d step path) moves after
 
 -- the pages that come in, and the steps that are done
 abbrev pub comes_in : List Move → List Held
@@ -47,16 +47,16 @@ done_in (Comes h ∷ moves) = done_in moves
 done_in (Does step ∷ moves) = step ∷ done_in moves
 
 -- these steps are run one after another, up to the first Check that isn't met, and this is what they find: the first is the n-th, and this was found before
-abbrev pub AreAnswered : VersionNo → Addr → Drafted → List Move → ℕ → List (Option (List ℕ)) → List Step → Reply → Type 0
-AreAnswered v root d [] n found steps reply = (steps ≡ []) × (reply ≡ Values found)
-AreAnswered v root d (Comes h ∷ moves) n found steps reply = AreAnswered v root (drafted_with d h.addr h.page) moves n found steps reply
-AreAnswered v root d (Does step ∷ moves) n found [] reply = ⊥
-AreAnswered v root d (Does step ∷ moves) n found (next ∷ steps) reply =
+abbrev pub AreAnswered : List (Option ℕ) → VersionNo → Addr → Drafted → List Move → ℕ → List (Option (List ℕ)) → List Step → Reply → Type 0
+AreAnswered parents v root d [] n found steps reply = (steps ≡ []) × (reply ≡ Values found)
+AreAnswered parents v root d (Comes h ∷ moves) n found steps reply = AreAnswered parents v root (drafted_with d h.addr h.page) moves n found steps reply
+AreAnswered parents v root d (Does step ∷ moves) n found [] reply = ⊥
+AreAnswered parents v root d (Does step ∷ moves) n found (next ∷ steps) reply =
     (step ≡ next)
-    × ((path : List Held) → walk d.overlay.pages root (step_key step) ≡ Reached path
+    × ((path : List Held) → walk parents v.0 d.overlay.pages root (step_key step) ≡ Reached path
     → ((is_unmet (path_pairs path) step ≡ true) × (moves ≡ []) × (reply ≡ Unmet n (value_at (path_pairs path) (step_key step))))
     ⊎ ((is_unmet (path_pairs path) step ≡ false)
-    × AreAnswered v root (drafted_after v d step path) moves (n + 1) (found ++ noted_by (path_pairs path) step) steps reply))
+    × AreAnswered parents v root (drafted_after v d step path) moves (n + 1) (found ++ noted_by (path_pairs path) step) steps reply))
 
 -- a page as it came in
 abbrev pub came_at : List Move → Addr → Option Page

@@ -126,9 +126,9 @@ stepping s step (Missing addr above) = record { answer = Need addr; state = with
 stepping s step (Wrong addr) = record { answer = BadPath (placed_addr s.draft.origins addr); state = with_draft s s.draft None }
 stepping s step (Reached path) = record { answer = told step (path_pairs path); state = with_draft s (drafted_after s.version s.draft step path) None }
 
--- a step goes down from the root to the leaf of its key
+-- a step goes down from the root to the leaf of its key, by pages that serve the version
 abbrev pub stepped : TreeState → Step → Stepping
-stepped s step = stepping s step (walk s.draft.overlay.pages s.root (step_key step))
+stepped s step = stepping s step (walk s.parents s.version.0 s.draft.overlay.pages s.root (step_key step))
 
 -- what the answer asks for is wanted
 abbrev pub AsksFor : TreeState → Stepped → Type 0

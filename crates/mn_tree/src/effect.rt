@@ -13,6 +13,7 @@ use crate::walk::{Walked, walk_to};
 use crate::write::Write;
 use crate::writer::raise;
 use mn_base::{Addr, Key, NoMemory, Step, VersionNo};
+use mn_vtree::VersionTree;
 use std::alloc::Global;
 
 /// What a step does on the leaf of its key: its answer, and the pages that it writes.
@@ -102,6 +103,7 @@ fn effect_on(
 /// How far a step comes on these pages.
 pub fn come_down(
     alloc: Global,
+    tree: &VersionTree,
     version: VersionNo,
     root: Addr,
     draft: &Draft,
@@ -109,9 +111,9 @@ pub fn come_down(
 ) -> Result<Progress, NoMemory>
     requires version { version.0 < 64 }
     requires bound { length draft.now.origins.items ≤ 2 ^ 16 }
-    ensures { IfOk result (IsProgress version draft.now step.now (walk (helds draft.now.pages.items) root (step_key step.now))) }
+    ensures { IfOk result (IsProgress version draft.now step.now (walk tree.now version.0 (helds draft.now.pages.items) root (step_key step.now))) }
 {
-    match walk_to(alloc, &draft.pages, root, key_of(step))? {
+    match walk_to(alloc, tree, version, &draft.pages, root, key_of(step))? {
         Walked::Missing { addr, above } => Ok(Progress::Missing { addr, above }),
         Walked::Wrong { addr } => Ok(Progress::Wrong { addr }),
         Walked::Reached { leaf, above } => {

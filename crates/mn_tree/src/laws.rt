@@ -1,5 +1,6 @@
 ghost use Rattle.mn_tree.specs.Laws.{WalksArePaths, ReadsAreDraft, AddKeepsDraft, PathTells, StepKeepsTree, TransactionKeepsTree, TransactionTells, PlacingKeepsTree, StepReadsChanged, PlacedKeepsTree, SteppedKeepsTree};
 ghost use Rattle.mn_tree.specs.MoveLaws.{MovesKeepTree, MovesTell, MovesRead, PlacedArePages, MovesArePlaced, MovesComeOnce, QuietMoves};
+ghost use Rattle.mn_tree.specs.Tries.{MovesTakePages, MovesTakeSteps, MovesAreMet, NeedsAreAbsent, NeedsAreSlots, NeedsMayCome, BadPathsCame, PlacedHaveRoom};
 
 /// Where the root isn't too high, a walk that reaches a leaf goes the way of the plain model of the tree.
 pub fn walks_are_paths()
@@ -89,4 +90,44 @@ pub fn moves_may_be_quiet()
 /// No page comes in twice.
 pub fn moves_come_once()
     ensures { MovesComeOnce }
+{}
+
+/// A page that may come in may be the next of the moves.
+pub fn moves_take_pages()
+    ensures { MovesTakePages }
+{}
+
+/// A step that is done is the next of the moves; an unmet Check is the last one, and their answer.
+pub fn moves_take_steps()
+    ensures { MovesTakeSteps }
+{}
+
+/// Moves whose Checks are all met answer with what they have found.
+pub fn moves_are_met()
+    ensures { MovesAreMet }
+{}
+
+/// The page that a step needs isn't held.
+pub fn needs_are_absent()
+    ensures { NeedsAreAbsent }
+{}
+
+/// The page that a step needs stands in a slot.
+pub fn needs_are_slots()
+    ensures { NeedsAreSlots }
+{}
+
+/// The page that a step needs may come in where it fits.
+pub fn needs_may_come()
+    ensures { NeedsMayCome }
+{}
+
+/// Where a step meets a bad page, a page was read at the address that it names.
+pub fn bad_paths_came()
+    ensures { BadPathsCame }
+{}
+
+/// The pages that a plan writes are no larger than a slot.
+pub fn placed_have_room()
+    ensures { PlacedHaveRoom }
 {}

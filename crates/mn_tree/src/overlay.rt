@@ -119,7 +119,14 @@ impl Overlay {
         ensures wanted { IfOk result (AsksFor self.new) }
         ensures unchanged { OnErr result (self.new ≡ self.old) }
     {
-        match come_down(alloc, self.version, self.root, &self.draft, step)? {
+        match come_down(
+            alloc,
+            &self.tree,
+            self.version,
+            self.root,
+            &self.draft,
+            step,
+        )? {
             Progress::Missing { addr, above } => {
                 let key = key_of(step).try_copy(alloc)?;
                 self.wanted = Some(Wanted { addr, key, above });

@@ -2,13 +2,14 @@ ghost use Rattle.std.specs.Prelude.{◌≡◌, ◌+◌, true, List, IfOk};
 ghost use Rattle.mn_page.specs.Grammar.{height_of};
 ghost use Rattle.mn_page.specs.Holds.{page_covers};
 ghost use Rattle.mn_page.specs.Overlay.{Held};
-ghost use Rattle.mn_tree.specs.Walk.{held_of, helds, walk, walk_down};
+ghost use Rattle.mn_tree.specs.Walk.{held_of, helds, is_met, goes_on, walk, walk_down};
 ghost use Rattle.mn_tree.specs.Found.{child_from, walk_after, IsOnTheWay, seen_walk};
 
 use crate::held::{HeldPage, page_at};
-use mn_base::{Addr, Key, NoMemory};
+use mn_base::{Addr, Key, NoMemory, VersionNo};
 use mn_fence::covers;
 use mn_page::{Body, Child, Page};
+use mn_vtree::VersionTree;
 use std::alloc::Global;
 
 /// Where a walk ended.
@@ -19,7 +20,7 @@ pub enum Walked<'a> {
         addr: Addr,
         above: Option<u16>,
     },
-    /// At a page that doesn't cover the key or isn't one height below.
+    /// At a page that doesn't serve the version, doesn't cover the key or isn't one height below.
     Wrong {
         addr: Addr,
     },
@@ -73,12 +74,34 @@ fn child_among(first: Addr, rest: &[Child], key: &Key) -> Addr
     found
 }
 
+/// Whether a walk for the key may meet the page: it serves the version and covers the key.
+#[tactic(auto, unfolding(crate::specs::Walk::is_live))]
+fn may_meet(tree: &VersionTree, version: VersionNo, page: &Page, key: &Key) -> bool
+    ensures { result ≡ is_met tree.now version.0 key.now page.now }
+{
+    tree.serves(page.made, page.copied, version) && is_within(page, key)
+}
+
+/// Whether a walk goes on at a page that is to be of this height.
+fn may_go_on(tree: &VersionTree, version: VersionNo, page: &Page, left: u16, key: &Key) -> bool
+    ensures { result ≡ goes_on tree.now version.0 left key.now page.now }
+{
+    height(&page.body) == left && may_meet(tree, version, page, key)
+}
+
 /// What follows an inner page, which is one higher than `left` and covers the key.
-fn follow<'a>(pages: &'a [HeldPage], at: &HeldPage, left: u16, key: &Key) -> Next<'a>
+fn follow<'a>(
+    tree: &VersionTree,
+    version: VersionNo,
+    pages: &'a [HeldPage],
+    at: &HeldPage,
+    left: u16,
+    key: &Key,
+) -> Next<'a>
     requires covers { page_covers key.now at.now.page ≡ true }
     requires height { height_of at.now.page.body ≡ left + 1 }
-    ensures walk { (above : List Held) → walk_down (left + 1) (helds pages.now) key.now (held_of at.now) above ≡ walk_after (helds pages.now) key.now left (held_of at.now) above result }
-    ensures down { IsOnTheWay left key.now result }
+    ensures walk { (above : List Held) → walk_down tree.now version.0 (left + 1) (helds pages.now) key.now (held_of at.now) above ≡ walk_after tree.now version.0 (helds pages.now) key.now left (held_of at.now) above result }
+    ensures down { IsOnTheWay tree.now version.0 left key.now result }
 {
     let Body::Inner { first, rest, .. } = &at.page.body else {
         unreachable!();
@@ -86,7 +109,7 @@ fn follow<'a>(pages: &'a [HeldPage], at: &HeldPage, left: u16, key: &Key) -> Nex
     let addr = child_among(*first, rest.as_slice(), key);
     match page_at(pages, addr) {
         Some(held) => {
-            if height(&held.page.body) == left && is_within(&held.page, key) {
+            if may_go_on(tree, version, &held.page, left, key) {
                 Next::Down { held }
             } else {
                 Next::Wrong { addr }
@@ -96,14 +119,16 @@ fn follow<'a>(pages: &'a [HeldPage], at: &HeldPage, left: u16, key: &Key) -> Nex
     }
 }
 
-/// The walk from the root to the leaf of a key.
+/// The walk from the root to the leaf of a key, by pages that serve the version.
 pub fn walk_to<'a>(
     alloc: Global,
+    tree: &VersionTree,
+    version: VersionNo,
     pages: &'a [HeldPage],
     root: Addr,
     key: &Key,
 ) -> Result<Walked<'a>, NoMemory>
-    ensures { IfOk result (λ walked. seen_walk walked ≡ walk (helds pages.now) root key.now) }
+    ensures { IfOk result (λ walked. seen_walk walked ≡ walk tree.now version.0 (helds pages.now) root key.now) }
 {
     let Some(held) = page_at(pages, root) else {
         return Ok(Walked::Missing {
@@ -111,7 +136,7 @@ pub fn walk_to<'a>(
             above: None,
         });
     };
-    if !is_within(&held.page, key) {
+    if !may_meet(tree, version, &held.page, key) {
         return Ok(Walked::Wrong { addr: root });
     }
     let mut at = held;
@@ -119,7 +144,7 @@ pub fn walk_to<'a>(
     let mut above = Vec::new(alloc);
     while left > 0 {
         left -= 1;
-        match follow(pages, at, left, key) {
+        match follow(tree, version, pages, at, left, key) {
             Next::Down { held } => {
                 above.insert(0, at)?;
                 at = held;

@@ -1,7 +1,8 @@
 -- The plan of a try: its places, its numbers and its effect.
-use Rattle.std.proofs.Common.{◌≡◌, ◌⊎◌, inl, inr, ◌↔◌, ℕ, zero, suc, ◌+◌, ◌*◌, ◌<◌, Bool, true, false, List, [], ◌∷◌, ◌++◌, map, length, Contains, Option, Some, None, refl, subst, sym, ap, ◌∙◌, arith, if◌then◌else◌}
+use Rattle.std.proofs.Common.{◌≡◌, ◌⊎◌, inl, inr, ◌↔◌, ℕ, zero, suc, ◌+◌, ◌*◌, ◌<◌, Bool, true, false, ◌&&◌, nat_eq, eq-eqb, List, [], ◌∷◌, ◌++◌, map, length, Contains, Option, Some, None, refl, subst, sym, ap, ◌∙◌, arith, if◌then◌else◌}
 use Rattle.std.specs.List.{AllByRecursion, list_any}
 use Rattle.std.specs.Option.{option_map, option_to_list}
+use Rattle.std.proofs.lemmas.Bool.{and_from}
 use Rattle.std.proofs.lemmas.List.{map-append}
 use Rattle.std.proofs.lemmas.List.Elements.{Contains-append_left, Contains-append_right, Contains-append_cases}
 use Rattle.mn_base.specs.Store.{Store, StoreVersion, heads_of, is_change, number_named, pairs_named, step_key, steps_run, applied}
@@ -23,9 +24,10 @@ use Rattle.mn_page.proofs.Spelled.{page_length}
 use Rattle.mn_tree.specs.Trees.{is_noted}
 use Rattle.mn_tree.specs.Moves.{done_in, came_at, leaves_at}
 use Rattle.mn_tree.specs.MoveLaws.{AreTold}
-use Rattle.mn_world.specs.Planned.{Place, page_place, entry_place, count_place, IsPagePlace, compare_places, write_places, IsCompared, HasNextNumber, IsPickOf, WritesPages, PlanActs}
+use Rattle.mn_world.specs.Planned.{Place, page_place, entry_place, count_place, IsPagePlace, IsWholePlace, ComeOnce, compare_places, write_places, IsCompared, HasNextNumber, IsPickOf, WritesPages, PlanActs}
 use Rattle.mn_world.specs.Growth.{GoOn, node_no, addrs_of}
 use Rattle.mn_txn.specs.declared.image.Image.{Image}
+use Rattle.mn_txn.specs.State.{is_at, AreApart}
 use Rattle.mn_txn.specs.Plan.{compare_of, write_of}
 use Rattle.mn_txn.specs.Laws.{image_place}
 use Rattle.mn_txn.specs.Attempt.{Attempt, page_image, came_images, entry_images, count_image}
@@ -50,6 +52,24 @@ addr_of a b e =
 
 no_count : (a : Addr) (n : NodeNo) (place : Place) → page_place a ≡ place → place ≡ count_place n → ⊥
 no_count a n place e f = let same : ◌≡◌ {A = ℕ} 1024 8 = ap (λ (p : Place). p.length) (e ∙ f) in absurd (omega arith)
+
+-- images at one place are not apart
+not_same : (x y : Image) → is_at x.node x.start y ≡ false → image_place y ≡ image_place x → ⊥
+not_same x y off e =
+    clash (is_at x.node x.start y)
+    (ap (λ (p : Place). nat_eq x.node.0 p.node.0 && nat_eq x.start p.start) e ∙ and_from (nat_eq x.node.0 x.node.0) (nat_eq x.start x.start) (eq-eqb x.node.0 x.node.0 refl) (eq-eqb x.start x.start refl)) off
+  where
+    clash : (t : Bool) → t ≡ true → t ≡ false → ⊥
+    clash t on off = absurd cc
+
+-- the places of images that are apart come once
+places_once : (xs : List Image) → AreApart xs → ComeOnce (map image_place xs)
+places_once [] apart = tt
+places_once (x ∷ xs) apart = (others xs apart.0, places_once xs apart.1)
+  where
+    others : (ys : List Image) → AllByRecursion (λ y. is_at x.node x.start y ≡ false) ys → AllByRecursion (λ place. place ≡ image_place x → ⊥) (map image_place ys)
+    others [] off = tt
+    others (y ∷ ys) off = (not_same x y off.0, others ys off.1)
 
 abbrev pub held_image : Held → Image
 held_image h = page_image h.addr h.page
@@ -261,18 +281,42 @@ module _ (f : Forest) (store : Store) (nodes : ℕ) (a : Attempt) (version : Sto
         no_more [] = tt
         no_more (n ∷ ns) = ((λ is. no_count is.0 (node_no n) (count_place (node_no n)) (sym is.1) refl), no_more ns)
 
+    -- Whole places
+
+    pub wholes : AllByRecursion IsWholePlace (write_places mini)
+    wholes =
+        subst (AllByRecursion IsWholePlace) (sym written_are)
+        (all_joined IsWholePlace (map page_place (addrs_of (changed ++ new))) counts (of_pages (addrs_of (changed ++ new))) (of_counts giving))
+      where
+        of_pages : (xs : List Addr) → AllByRecursion IsWholePlace (map page_place xs)
+        of_pages [] = tt
+        of_pages (x ∷ xs) = (inl (x, refl), of_pages xs)
+
+        of_counts : (ns : List ℕ) → AllByRecursion IsWholePlace (map (λ n. count_place (node_no n)) ns)
+        of_counts [] = tt
+        of_counts (n ∷ ns) = (inr (inr (node_no n, refl)), of_counts ns)
+
+    pub once : AreApart writes → ComeOnce (write_places mini)
+    once apart = subst ComeOnce (sym (written reads writes)) (places_once writes apart)
+
     -- the plan acts
     pub acts : (memory : List (List ℕ)) (holds : Holds memory store) → holds.forest ≡ f → GoOn f memory → number_named (heads_of store) a.name ≡ Some a.version.0 → Holds (memory_after memory mini.items) (applied store (Tx a.name a.steps)).store
-        → a.reply ≡ (applied store (Tx a.name a.steps)).reply → PlanActs memory store holds (Tx a.name a.steps) mini a.reply
-    acts memory holds same go number effect replies = record {
+        → a.reply ≡ (applied store (Tx a.name a.steps)).reply → AreApart writes → PlanActs memory store holds (Tx a.name a.steps) mini a.reply
+    acts memory holds same go number effect replies apart = record {
       effect = effect;
       replies = replies;
       compares = λ w is place.
           subst (λ k. Contains (compare_places mini) place ↔ IsCompared holds.forest store k (Tx a.name a.steps) mini place) (same_number a.version.0 w (sym number ∙ is))
           (subst (λ (g : Forest). Contains (compare_places mini) place ↔ IsCompared g store a.version.0 (Tx a.name a.steps) mini place) (sym same) (compares_are place));
+      nowhere = λ none. absurd (named_not a.version.0 (sym number ∙ none));
+      wholes = wholes;
+      once = once apart;
       numbers = numbers memory go;
       pages = subst (λ (g : Forest). WritesPages g mini) (sym same) pages_written;
     }
       where
         same_number : (n m : ℕ) → Some n ≡ Some m → n ≡ m
         same_number n m e = cc
+
+        named_not : (v : ℕ) → ◌≡◌ {A = Option ℕ} (Some v) None → ⊥
+        named_not v e = cc

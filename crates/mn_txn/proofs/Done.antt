@@ -6,6 +6,7 @@ use Rattle.std.specs.Option.{option_map_or}
 use Rattle.std.proofs.lemmas.Bool.{eq-eqb, ne_eqb, and_parts, and_from}
 use Rattle.std.proofs.lemmas.List.{map-append}
 use Rattle.mn_base.specs.Store.{Store, Head, heads_of, is_change, ran, steps_run, applied}
+use Rattle.mn_base.specs.Tree.{parents_of}
 use Rattle.mn_base.specs.declared.ids.Addr.{Addr}
 use Rattle.mn_base.specs.declared.op.Step.{Step}
 use Rattle.mn_base.specs.declared.op.Op.TheVariants.{Tx}
@@ -32,13 +33,15 @@ use Rattle.mn_world.specs.Planned.{Continues, PlanActs, IsPickOf, page_place}
 use Rattle.mn_world.specs.Plans.{write_count}
 use Rattle.mn_world.specs.Growth.{AreNextSlots, taken_on, giving_nodes, node_no, count_writes, addrs_of, AreCounts, AreDifferent, NextSlotsAreFree, write_held, WritesLeaveStore, ComparesTell, NumbersGoOn}
 use Rattle.mn_txn.specs.declared.image.Image.{Image}
+use Rattle.mn_txn.specs.State.{AreApart}
 use Rattle.mn_txn.specs.Order.{in_item_order}
 use Rattle.mn_txn.specs.Plan.{plan_of, compare_of, write_of}
 use Rattle.mn_txn.specs.Laws.{PlansAreInOrder}
 use Rattle.mn_txn.specs.Attempt.{Attempt, IsAttempt, IsDone, page_image, count_image, counts_written, done_reads, done_writes, DoneIsPlanned}
+use Rattle.mn_txn.proofs.Plans.{apart_in_order}
 use Rattle.mn_txn.proofs.Lists.{noted_has, all_noted, pick_some}
 use Rattle.mn_txn.proofs.Found.{InStore, all_done, quiet_pairs, applied_reply, applied_store, applied_nothing}
-use Rattle.mn_txn.proofs.Known.{few_nodes, number, version, shown, none_new, page_of, entry_of, count_of, told, may, taken_low, gives, small_counts}
+use Rattle.mn_txn.proofs.Known.{few_nodes, number, version, shown, none_new, agrees, page_of, entry_of, count_of, told, may, taken_low, gives, small_counts}
 use Rattle.mn_txn.proofs.Attempts.{Facts, mini, acts, compares_pass, held_image}
 
 -- Lists
@@ -165,7 +168,7 @@ module _ (moves_tell : MovesTell) (moves_read : MovesRead) (moves_come_once : Mo
   in_f = version kept nodes a is a.draft.read giving was more memory store many holds on moves_tell moves_read moves_come_once reads_are_draft compares_tell
 
   reads : AreReads a.moves a.draft
-  reads = moves_read a.version a.entry.root a.moves a.draft is.leads
+  reads = moves_read (parents_of kept) a.version a.entry.root a.moves a.draft is.leads
 
   page : (x : Addr) (p : Page) → is_noted a.draft.read x ≡ true → came_at a.moves x ≡ Some p → IsPage p → page_at f x ≡ Some p
   page = page_of kept nodes a is a.draft.read giving was more memory store many holds on moves_tell moves_read moves_come_once reads_are_draft compares_tell met
@@ -209,7 +212,7 @@ module _ (moves_tell : MovesTell) (moves_read : MovesRead) (moves_come_once : Mo
   came_there : AllByRecursion (λ h. is_noted a.draft.read h.addr ≡ true → page_at f h.addr ≡ Some h.page) (comes_in a.moves)
   came_there =
       weaker (λ h. came_at a.moves h.addr ≡ Some h.page) (λ h. is_noted a.draft.read h.addr ≡ true → page_at f h.addr ≡ Some h.page) (λ h came noted. (stands h.addr h.page noted came).0) (comes_in a.moves)
-      (moves_come_once a.version a.entry.root a.moves a.draft is.leads)
+      (moves_come_once (parents_of kept) a.version a.entry.root a.moves a.draft is.leads)
 
   -- changed pages are of the read set
   noted_changed : (changed : List Held) → addrs_of changed ≡ changed_order a.draft → AllByRecursion (λ h. (is_noted a.draft.read h.addr ≡ true) × (is_noted a.draft.overlay.changed h.addr ≡ true)) changed
@@ -240,9 +243,10 @@ module _ (moves_tell : MovesTell) (moves_read : MovesRead) (moves_come_once : Mo
       after = slice_set store a.version.0 (re_paired in_f.version (pairs_after in_f.version.pairs (done_in a.moves)))
 
       p : ArePlaced f.entries (page_at f) after a.moves a.draft a.slots
-      p = moves_are_placed f.entries (page_at f) store a.version in_f.version a.entry a.moves a.draft a.slots
+      p = moves_are_placed f.entries (page_at f) store (parents_of kept) a.version in_f.version a.entry a.moves a.draft a.slots
           (shown kept nodes a is a.draft.read giving was more memory store many holds on moves_tell moves_read moves_come_once reads_are_draft compares_tell)
-          (none_new kept nodes a is a.draft.read giving was more memory store many holds on moves_tell moves_read moves_come_once reads_are_draft compares_tell) in_f.found
+          (none_new kept nodes a is a.draft.read giving was more memory store many holds on moves_tell moves_read moves_come_once reads_are_draft compares_tell)
+          (agrees kept nodes a is a.draft.read giving was more memory store many holds on moves_tell moves_read moves_come_once reads_are_draft compares_tell) in_f.found
           (entry_of kept nodes a is a.draft.read giving was more memory store many holds on moves_tell moves_read moves_come_once reads_are_draft compares_tell met any)
           (ap (λ (l : List Step). a.entry.frozen && list_any is_change l) done_is ∙ is.may) is.leads came_there is.few (subst (AllByRecursion IsStep) (sym done_is) is.steps) (subst (λ (l : List Step). length l ≤ 16) (sym done_is) is.many) dn.slots.1
           (weaker (λ s. (page_at f s ≡ None) × (s.node.0 < node_count f) × (s.node.0 < 8) × (s.slot < max_slots)) IsAddr (λ s all. (all.2, all.3)) a.slots free.0)
@@ -273,7 +277,7 @@ module _ (moves_tell : MovesTell) (moves_read : MovesRead) (moves_come_once : Mo
   }
     where
       q : (a.draft.overlay.changed ≡ []) × (a.draft.overlay.fresh ≡ 0)
-      q = quiet_moves a.version a.entry.root a.moves a.draft is.leads (ap (list_any is_change) done_is ∙ any)
+      q = quiet_moves (parents_of kept) a.version a.entry.root a.moves a.draft is.leads (ap (list_any is_change) done_is ∙ any)
 
       none : (changed_order a.draft ≡ []) × (placed a.slots a.draft ≡ [])
       none = no_change a.draft a.slots q.0 q.1
@@ -330,22 +334,23 @@ module _ (moves_tell : MovesTell) (moves_read : MovesRead) (moves_come_once : Mo
       ∙ (ap (λ (l : List Item). l ++ map write_of (counts_written a)) (writes_held (settled.changed ++ settled.new) ∙ map-append write_held settled.changed settled.new)
       ∙ ap (λ (l : List Item). (map write_held settled.changed ++ map write_held settled.new) ++ l) (writes_counted now giving))
 
-  pub done_acts : PlanActs memory store holds (Tx a.name a.steps) (record { nodes = nodes; items = map compare_of (done_reads a) ++ map write_of (done_writes a) }) a.reply
-  done_acts =
+  pub done_acts : AreApart (done_writes a) → PlanActs memory store holds (Tx a.name a.steps) (record { nodes = nodes; items = map compare_of (done_reads a) ++ map write_of (done_writes a) }) a.reply
+  done_acts apart =
       subst (λ (l : List Image). let m : Mini = record { nodes = nodes; items = map compare_of (done_reads a) ++ map write_of l } in PlanActs memory store holds (Tx a.name a.steps) m a.reply) (sym writes_are)
       (acts f store nodes a in_f.version a.draft.read settled.changed settled.new giving was now facts memory holds refl (numbers_go_on memory store holds)
       (number kept nodes a is a.draft.read giving was more memory store many holds on moves_tell moves_read moves_come_once reads_are_draft compares_tell)
       (subst (λ (m : List (List ℕ)). Holds m (applied store (Tx a.name a.steps)).store)
       (sym (compares_pass memory (done_reads a) (map write_of (map held_image (settled.changed ++ settled.new) ++ counts_written a)) ∙ ap (memory_after memory) items_are)) settled.effect)
-      (told_all.replies ∙ sym (applied_reply f store a.name a.version.0 a.steps in_f may_run)))
+      (told_all.replies ∙ sym (applied_reply f store a.name a.version.0 a.steps in_f may_run)) (subst AreApart writes_are apart))
 
 pub done_is_planned : MovesTell → MovesRead → MovesComeOnce → MovesArePlaced → QuietMoves → ReadsAreDraft → NextSlotsAreFree → WritesLeaveStore → ComparesTell → NumbersGoOn → PlansAreInOrder → DoneIsPlanned
 done_is_planned moves_tell moves_read moves_come_once moves_are_placed quiet_moves reads_are_draft next_slots_are_free writes_leave_store compares_tell numbers_go_on in_order kept t a is dn apart_reads apart_writes reads_are writes_are = record {
   acts = λ memory store many sizes holds on met.
       subst (λ (m : Mini). PlanActs memory store holds (Tx a.name a.steps) m a.reply) (sym mini_is)
       (done_acts moves_tell moves_read moves_come_once moves_are_placed quiet_moves reads_are_draft next_slots_are_free writes_leave_store compares_tell numbers_go_on kept t.nodes a is dn memory store many holds on (map write_of (in_item_order t.writes))
-      (subst (λ (rs : List Image). mismatch_from memory 0 (map compare_of rs ++ map write_of (in_item_order t.writes)) ≡ None) reads_are met));
+      (subst (λ (rs : List Image). mismatch_from memory 0 (map compare_of rs ++ map write_of (in_item_order t.writes)) ≡ None) reads_are met) (subst AreApart writes_are (apart_in_order t.writes apart_writes)));
   order = in_order t apart_reads apart_writes;
+  kind = tt;
 }
   where
     mini_is : plan_of t ≡ record { nodes = t.nodes; items = map compare_of (done_reads a) ++ map write_of (done_writes a) }

@@ -1,6 +1,6 @@
 -- What a forest has where the compares of a try are met in its memory.
 use Rattle.std.proofs.Common.{◌≡◌, inl, inr, ℕ, zero, suc, ◌+◌, ◌*◌, ◌^◌, ◌<◌, ◌≤◌, Bool, true, false, not, ◌&&◌, ◌||◌, List, [], ◌∷◌, ◌++◌, map, length, Contains, Option, Some, None, refl, subst, sym, ap, ◌∙◌, arith, slice_get, slice_set, slice_index_or, if◌then◌else◌}
-use Rattle.std.specs.Prelude.{filter, nat_eq}
+use Rattle.std.specs.Prelude.{filter, nat_eq, bytes_eq}
 use Rattle.std.specs.List.{AllByRecursion, list_any, range_with_len}
 use Rattle.std.specs.Option.{option_map, option_to_list}
 use Rattle.std.proofs.lemmas.Bool.{eqb-true, ne_eqb, cases_eq, and_parts}
@@ -9,6 +9,7 @@ use Rattle.std.proofs.lemmas.List.FromFn.{length-range_with_len}
 use Rattle.std.proofs.lemmas.List.Elements.{Contains-append_left, Contains-append_right}
 use Rattle.mn_base.specs.Ids.{addr_same}
 use Rattle.mn_base.specs.Store.{Store, Head, heads_of, is_change, number_named}
+use Rattle.mn_base.specs.Tree.{parents_of, serves}
 use Rattle.mn_base.specs.declared.ids.Addr.{Addr}
 use Rattle.mn_mini.specs.declared.item.Item.{Item}
 use Rattle.mn_mini.specs.Flat.{mismatch_from}
@@ -19,15 +20,17 @@ use Rattle.mn_page.specs.Grammar.{IsPage, entry_bytes}
 use Rattle.mn_page.specs.Forest.{Forest, node_count, laid_of, space_laid, page_at}
 use Rattle.mn_page.specs.Holds.{Holds}
 use Rattle.mn_page.specs.Overlay.{Held, held_at, new_addr}
+use Rattle.mn_tree.specs.Walk.{is_live}
 use Rattle.mn_tree.specs.Trees.{is_noted, IsShown}
 use Rattle.mn_tree.specs.Laws.{ReadsAreDraft}
 use Rattle.mn_tree.specs.Moves.{Move, comes_in, came_at, is_leaf_at, leaves_at}
-use Rattle.mn_tree.specs.MoveLaws.{AreTold, MovesTell, AreReads, MovesRead, MovesComeOnce}
+use Rattle.mn_tree.specs.MoveLaws.{Agrees, AreTold, MovesTell, AreReads, MovesRead, MovesComeOnce}
 use Rattle.mn_tree.proofs.Trees.Puts.{addr_is}
 use Rattle.mn_tree.proofs.Trees.Told.{noted_filter}
 use Rattle.mn_world.specs.Planned.{Continues}
 use Rattle.mn_world.specs.Growth.{AreNextSlots, taken_on, giving_nodes, node_no, count_in, AreMet, ComparesTell}
 use Rattle.mn_world.proofs.Plans.Compares.{still_named}
+use Rattle.mn_world.proofs.Plans.Kept.{serves_kept}
 use Rattle.mn_txn.specs.declared.image.Image.{Image}
 use Rattle.mn_txn.specs.Plan.{compare_of}
 use Rattle.mn_txn.specs.Attempt.{Attempt, IsAttempt, page_image, came_images, entry_images, count_image}
@@ -78,6 +81,19 @@ contains_range a (suc k) n low high = elim (cases_eq a n) as (λ _. Contains (a 
   | inr off ↦ let c = contains_range (a + 1) k n (omega (arith, off)) (omega arith) in (suc c.0, (let l = c.1 in omega arith), c.2)
 ]
 
+-- a version of a name is one of the catalog's
+pub named_low : (kept : List Head) (name : List ℕ) (v : ℕ) → number_named kept name ≡ Some v → v < length kept
+named_low [] name v e = absurd cc
+named_low (k ∷ kept) name v e = by_name (bytes_eq k.name name) e (λ n f. named_low kept name n f)
+  where
+    by_rest : (o : Option ℕ) → number_named kept name ≡ o → option_map (λ n. n + 1) o ≡ Some v → ((n : ℕ) → number_named kept name ≡ Some n → n < length kept) → v < suc (length kept)
+    by_rest None f g rest = absurd cc
+    by_rest (Some n) f g rest = let low = rest n f in let same : n + 1 ≡ v = cc in omega arith
+
+    by_name : (t : Bool) → (if t then Some 0 else option_map (λ n. n + 1) (number_named kept name)) ≡ Some v → ((n : ℕ) → number_named kept name ≡ Some n → n < length kept) → v < suc (length kept)
+    by_name true g rest = let same : 0 ≡ v = cc in omega arith
+    by_name false g rest = by_rest (number_named kept name) refl g rest
+
 -- The forest
 
 pub nodes_are : (memory : List (List ℕ)) (store : Store) (holds : Holds memory store) → length memory ≡ node_count holds.forest
@@ -107,7 +123,13 @@ module _ (kept : List Head) (nodes : ℕ) (a : Attempt) (is : IsAttempt kept nod
   none_new = (reads_are_draft memory store holds [] tt).none_new
 
   pub read : AreReads a.moves a.draft
-  read = moves_read a.version a.entry.root a.moves a.draft is.leads
+  read = moves_read (parents_of kept) a.version a.entry.root a.moves a.draft is.leads
+
+  -- the kept catalog says of each page whether it serves the version as the store does
+  pub agrees : Agrees (parents_of kept) f.entries a.version.0
+  unfolding is_live
+  agrees p =
+      sym (serves_kept kept (heads_of store) on p.made.0 p.copied a.version.0 (named_low kept a.name a.version.0 is.named)) ∙ ap (λ (hs : List Head). serves (parents_of hs) p.made.0 p.copied a.version.0) holds.shown.heads
 
   pub few_nodes : nodes ≡ node_count f
   few_nodes = sym many ∙ nodes_are memory store holds
@@ -152,7 +174,7 @@ module _ (kept : List Head) (nodes : ℕ) (a : Attempt) (is : IsAttempt kept nod
 
       pub told : AreTold f.entries (page_at f) a.version version.version.pairs a.moves a.draft a.steps a.reply
       told =
-          moves_tell f.entries (page_at f) store a.version version.version a.entry.root a.moves a.draft a.steps a.reply shown none_new version.found is.leads is.answered
+          moves_tell f.entries (page_at f) store (parents_of kept) a.version version.version a.entry.root a.moves a.draft a.steps a.reply shown none_new agrees version.found is.leads is.answered
           (all_noted (λ x. page_at f x ≡ came_at a.moves x) (leaves_at a.moves a.draft.read) leaf_stands)
 
       -- the transaction isn't refused

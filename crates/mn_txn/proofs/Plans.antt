@@ -41,7 +41,7 @@ apart_placed i (x ∷ xs) a = by (stands_before x i) (apart_placed i xs (a.0.1, 
     by true later = (all_placed (λ y. is_at x.node x.start y ≡ false) i xs (turned x i ∙ a.0.0) a.1.0, later)
     by false later = a
 
-apart_in_order : (xs : List Image) → AreApart xs → AreApart (in_item_order xs)
+pub apart_in_order : (xs : List Image) → AreApart xs → AreApart (in_item_order xs)
 apart_in_order [] a = tt
 apart_in_order (x ∷ xs) a = apart_placed x (in_item_order xs) (all_in_order (λ y. is_at x.node x.start y ≡ false) xs a.0, apart_in_order xs a.1)
 

@@ -4,6 +4,7 @@ use Rattle.std.specs.List.{list_any}
 use Rattle.std.proofs.lemmas.Bool.{and_parts}
 use Rattle.std.proofs.lemmas.List.{append-nil}
 use Rattle.mn_base.specs.Store.{Store, Head, heads_of, is_change, applied}
+use Rattle.mn_base.specs.Tree.{parents_of}
 use Rattle.mn_base.specs.declared.ids.Addr.{Addr}
 use Rattle.mn_base.specs.declared.op.Op.TheVariants.{Tx}
 use Rattle.mn_mini.specs.Mini.{Mini}
@@ -49,7 +50,7 @@ module _ (moves_tell : MovesTell) (moves_read : MovesRead) (moves_come_once : Mo
   in_f = version kept nodes a is addrs [] no_count [] memory store many holds on moves_tell moves_read moves_come_once reads_are_draft compares_tell
 
   reads : AreReads a.moves a.draft
-  reads = moves_read a.version a.entry.root a.moves a.draft is.leads
+  reads = moves_read (parents_of kept) a.version a.entry.root a.moves a.draft is.leads
 
   module _ (met : mismatch_from memory 0 (map compare_of compared ++ []) ≡ None) where
     told_all : AreTold f.entries (page_at f) a.version in_f.version.pairs a.moves a.draft a.steps a.reply
@@ -84,7 +85,7 @@ module _ (moves_tell : MovesTell) (moves_read : MovesRead) (moves_come_once : Mo
         (subst (λ (m : List (List ℕ)). Holds m (applied store (Tx a.name a.steps)).store) (sym (compares_pass memory compared []))
         (subst (Holds memory)
         (sym (applied_nothing f store a.name a.version.0 a.steps in_f may_run (one_unmet in_f.version.pairs 1 in_f.version.pairs [] a.steps un.step un.found (sym told_all.replies ∙ un.reply)))) holds))
-        (told_all.replies ∙ sym (applied_reply f store a.name a.version.0 a.steps in_f may_run))
+        (told_all.replies ∙ sym (applied_reply f store a.name a.version.0 a.steps in_f may_run)) tt
 
 pub unmet_is_planned : MovesTell → MovesRead → MovesComeOnce → ReadsAreDraft → ComparesTell → NumbersGoOn → PlansAreInOrder → UnmetIsPlanned
 unmet_is_planned moves_tell moves_read moves_come_once reads_are_draft compares_tell numbers_go_on in_order kept t a is un apart_reads reads_are no_writes = record {
@@ -93,6 +94,7 @@ unmet_is_planned moves_tell moves_read moves_come_once reads_are_draft compares_
       (unmet_acts moves_tell moves_read moves_come_once reads_are_draft compares_tell numbers_go_on kept t.nodes a is un memory store many holds on
       (subst (λ (m : Mini). mismatch_from memory 0 m.items ≡ None) mini_is met));
   order = in_order t apart_reads (subst AreApart (sym no_writes) tt);
+  kind = tt;
 }
   where
     all_reads : unmet_reads a ≡ came_images a.moves (leaves_at a.moves a.draft.read) ++ (entry_images a ++ [])

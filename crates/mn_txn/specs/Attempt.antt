@@ -1,9 +1,10 @@
--- A try of a transaction whose pages were all made in its version, and what it reads and writes. When that is planned.
+-- A try of a transaction, and what it reads and writes. When that is planned.
 use Rattle.std.specs.Prelude.{ℕ, ◌≡◌, ◌+◌, ◌^◌, ◌<◌, ◌≤◌, ◌&&◌, true, false, List, [], ◌∷◌, ◌++◌, length, map, Option, Some, if◌then◌else◌, slice_index_or}
 use Rattle.std.specs.List.{AllByRecursion, flat_map, list_any}
 use Rattle.std.specs.Option.{option_map, option_to_list}
 use Rattle.byteorder.specs.Endian.{big_bytes}
 use Rattle.mn_base.specs.Store.{Head, number_named, is_change, max_versions}
+use Rattle.mn_base.specs.Tree.{parents_of}
 use Rattle.mn_base.specs.declared.ids.Addr.{Addr}
 use Rattle.mn_base.specs.declared.ids.VersionNo.{VersionNo}
 use Rattle.mn_base.specs.declared.op.Step.{Step}
@@ -38,7 +39,7 @@ pub record Attempt : Type 0 where
   pub counts : List ℕ
   pub slots : List Addr
 
--- the kept catalog has the version; the steps may run on it, and came to this draft and reply over pages of these nodes
+-- the kept catalog has the version; the steps may run on it, and came to this draft and reply over pages of these nodes, each of which serves the version by that catalog
 pub record IsAttempt (kept : List Head) (nodes : ℕ) (a : Attempt) : Type 0 where
   pub named : number_named kept a.name ≡ Some a.version.0
   pub few : a.version.0 < max_versions
@@ -46,8 +47,8 @@ pub record IsAttempt (kept : List Head) (nodes : ℕ) (a : Attempt) : Type 0 whe
   pub may : (a.entry.frozen && list_any is_change a.steps) ≡ false
   pub steps : AllByRecursion IsStep a.steps
   pub many : length a.steps ≤ 16
-  pub leads : LeadsTo a.version a.entry.root no_pages a.moves a.draft
-  pub answered : AreAnswered a.version a.entry.root no_pages a.moves 1 [] a.steps a.reply
+  pub leads : LeadsTo (parents_of kept) a.version a.entry.root no_pages a.moves a.draft
+  pub answered : AreAnswered (parents_of kept) a.version a.entry.root no_pages a.moves 1 [] a.steps a.reply
   pub within : AllByRecursion (λ h. h.addr.node.0 < nodes) (comes_in a.moves)
 
 -- no Check is unmet; each new page has a slot, the next of its node, and no page to be changed was read with the last number

@@ -10,7 +10,7 @@ use Rattle.mn_base.specs.declared.ids.NodeNo.{NodeNo}
 use Rattle.mn_base.specs.declared.ids.Addr.{Addr}
 use Rattle.mn_base.specs.declared.ids.Tid.{Tid}
 use Rattle.mn_base.specs.declared.op.Op.{Op}
-use Rattle.mn_base.specs.declared.op.Op.TheVariants.{Snapshot, Branch, Scan}
+use Rattle.mn_base.specs.declared.op.Op.TheVariants.{Tx, Snapshot, Branch, Scan}
 use Rattle.mn_base.specs.declared.reply.Reply.{Reply}
 use Rattle.mn_base.specs.declared.answer.Busy.{Busy}
 use Rattle.mn_base.specs.declared.answer.Busy.TheVariants.{Lock, Moved, Forced, Path}
@@ -37,7 +37,7 @@ use Rattle.mn_world.specs.Calls.{Call, call_in, calls_of, is_prepare, is_exec, i
 use Rattle.mn_world.specs.Clients.{is_read, is_plan}
 use Rattle.mn_world.specs.Planned.{Place, page_place, count_place, catalog_place, IsPlanned}
 use Rattle.mn_world.specs.Needs.{NeedsSlots, WritesOld}
-use Rattle.mn_world.specs.Shown.{Seen, SeesCatalog, SeesPage, ShowsCatalog, ServesNamed, seen_in, ReadShows, ScanShows}
+use Rattle.mn_world.specs.Shown.{Seen, SeesCatalog, SeesPage, ShowsCatalog, ServesNamed, seen_in, seen_at, ReadShows, ScanShows}
 
 -- Plans that are over
 
@@ -211,17 +211,47 @@ abbrev pub asks_catalog : Request → Bool
 asks_catalog (Ask.Exec tid (Bare.Read start length ∷ [])) = nat_eq start catalog_start && nat_eq length catalog_size
 asks_catalog request = false
 
+-- it asks node 0 for the catalog
+abbrev pub asks_for_catalog : List Entry → Bool
+asks_for_catalog es = list_any (λ c. nat_eq c.node.0 0 && asks_catalog c.request) (calls_of es)
+
 -- a later try reads everything anew: it asks for the catalog, and peeks at nothing
 abbrev pub reads_anew : List Entry → Bool
-reads_anew es = list_any (λ c. nat_eq c.node.0 0 && asks_catalog c.request) (calls_of es) && list_all (λ c. not (is_peek c.request)) (calls_of es)
+reads_anew es = asks_for_catalog es && list_all (λ c. not (is_peek c.request)) (calls_of es)
 
 -- the tries are all of the operation's, but for a scan, which may have taken leaves before
 abbrev pub IsWhole : Op → List Entry → Type 0
 IsWhole (Scan version low high limit) taken = ⊤
 IsWhole op taken = taken ≡ []
 
+-- an entry that brought a leaf
+abbrev pub BringsLeaf : Entry → Type 0
+BringsLeaf e = (seen : Seen) × (addr : Addr) × (page : Page) × Contains (seen_at e) seen × SeesPage seen addr page × (height_of page.body ≡ 0)
+
+-- what a scan took ends with a leaf that serves its version by a catalog read before, or is nothing
+abbrev pub EndsWithLeaf : Op → List Entry → Type 0
+EndsWithLeaf op [] = ⊤
+EndsWithLeaf op (e ∷ es) =
+    (seen : Seen) × (addr : Addr) × (page : Page) × (entries : List CatEntry)
+    × Contains (seen_at e) seen × SeesPage seen addr page × (height_of page.body ≡ 0) × ShowsCatalog es entries × ServesNamed entries (op_version op) page
+
+-- in a try of a scan no read but the newest brings a leaf: a leaf that was taken begins a new count
+abbrev pub BringsNone : List Entry → Type 0
+BringsNone [] = ⊤
+BringsNone (e ∷ es) = AllByRecursion (λ d. BringsLeaf d → ⊥) es
+
+abbrev pub LeafIsNewest : Op → List Entry → Type 0
+LeafIsNewest (Scan version low high limit) try = BringsNone try
+LeafIsNewest op try = ⊤
+
+-- a transaction, and a scan that took leaves, may fail by what was kept, with no call; each other try asks for the catalog
+abbrev pub MayBeKept : Op → List Entry → List Entry → Type 0
+MayBeKept (Tx version steps) taken first = ⊤
+MayBeKept (Scan version low high limit) (e ∷ es) first = ⊤
+MayBeKept op taken first = IsTrue (asks_for_catalog first)
+
 -- eight tries failed, each from the second on anew and by a cause, and the last by this one. A scan counts from the leaf that it took last. The first may have
--- no entry: what it used was kept from earlier operations
+-- no entry, where what it used was kept from earlier operations
 pub record FailedTries (nodes : ℕ) (op : Op) (now : List Entry) (busy : Busy) : Type 0 where
   pub rest : List Entry
   pub last : List Entry
@@ -236,6 +266,9 @@ pub record FailedTries (nodes : ℕ) (op : Op) (now : List Entry) (busy : Busy) 
   pub tries : IsTrue (is_one_try last && (list_all is_one_try middle && is_one_try first))
   pub anew : IsTrue (reads_anew last && list_all reads_anew middle)
   pub whole : IsWhole op taken
+  pub took : EndsWithLeaf op taken
+  pub leaves : LeafIsNewest op last × AllByRecursion (LeafIsNewest op) middle × LeafIsNewest op first
+  pub may_be_kept : MayBeKept op taken first
 
 -- Answers
 
@@ -250,9 +283,14 @@ FreeSlots nodes seens free =
     (counts : List ℕ) × (length counts ≡ nodes) × (free + sum counts ≡ max_slots * nodes)
     × ((n : NodeNo) (count : ℕ) → slice_get counts n.0 ≡ Some count → ShowsBytes seens n count_start (big_bytes count_size count))
 
--- a later try begins after one that failed; that the first failed may not be seen, where it was not refused
+-- the newest entry was refused
+abbrev pub ends_refused : List Entry → Bool
+ends_refused [] = false
+ends_refused (e ∷ es) = list_any (λ c. is_refusal c.reply) (call_in e.node e.what)
+
+-- a later try begins after one that failed: after a refusal or a fault; that the first failed may not be seen, where it was not refused
 abbrev pub BeginsAfter : ℕ → Op → List Entry → Type 0
-BeginsAfter nodes op earlier = IsTrue (none_refused earlier) ⊎ ((cause : Busy) × FailsAs nodes op earlier cause)
+BeginsAfter nodes op earlier = IsTrue (none_refused earlier || ends_refused earlier) ⊎ ((fault : Busy) × MeetsFault nodes (seen_in earlier) op fault)
 
 -- the last try of the operation, a later one that was not refused, and the decisions after it
 pub record LastTry (nodes : ℕ) (op : Op) (now : List Entry) (try : List Entry) : Type 0 where
@@ -267,9 +305,17 @@ pub record LastTry (nodes : ℕ) (op : Op) (now : List Entry) (try : List Entry)
 abbrev pub is_down_cause : NodeNo → Call → Bool
 is_down_cause n c = node_same c.node n && ((is_down_reply c.reply && not (is_any_decide c.request)) || (is_stopped c.reply && (is_any_prepare c.request && not (is_last_of c.node c.request))))
 
--- a read since Begin shows the reply, by a catalog of the whole list
-abbrev pub SomeReadShows : List Entry → List Entry → Op → Reply → Type 0
-SomeReadShows es now op reply = (seen : Seen) × Contains (seen_in now) seen × ReadShows es seen op reply
+-- a read since Begin shows the reply, by what the list held before it; `now` are the entries since Begin
+pub record SomeReadShows (es now : List Entry) (op : Op) (reply : Reply) : Type 0 where
+  pub entry : Entry
+  pub newer : List Entry
+  pub older : List Entry
+  pub before : List Entry
+  pub since : now ≡ newer ++ entry ∷ older
+  pub split : es ≡ newer ++ entry ∷ before
+  pub seen : Seen
+  pub brought : Contains (seen_at entry) seen
+  pub shows : ReadShows before seen op reply
 
 -- the last issue is a plan with this reply, and every participant was done
 abbrev pub LastPlanReplies : List Entry → List Entry → Op → Reply → Type 0

@@ -1,10 +1,11 @@
 -- The history of a log: each operation that was replied to, and each one of whose plans is committed, in order of place.
 use Rattle.std.specs.Prelude.{ℕ, ◌≡◌, ◌⊎◌, Bool, false, ◌&&◌, nat_lt, nat_eq, IsTrue, List, [], ◌∷◌, ◌++◌, length, map, Option, Some, None, if◌then◌else◌, Contains, MatchBool}
-use Rattle.std.specs.List.{list_any, flat_map, AllByRecursion}
+use Rattle.std.specs.List.{list_any, AllByRecursion}
 use Rattle.mn_base.specs.Ids.{client_same}
 use Rattle.mn_base.specs.declared.ids.ClientNo.{ClientNo}
 use Rattle.mn_base.specs.declared.history.Past.{Past}
 use Rattle.mn_base.specs.declared.op.Op.{Op}
+use Rattle.mn_base.specs.declared.op.Op.TheVariants.{Scan}
 use Rattle.mn_base.specs.declared.reply.Reply.{Reply}
 use Rattle.mn_base.specs.declared.reply.Reply.TheVariants.{Pairs}
 use Rattle.mn_base.specs.declared.answer.Answer.{Answer}
@@ -12,10 +13,10 @@ use Rattle.mn_base.specs.declared.answer.Answer.TheVariants.{Replied}
 use Rattle.mn_world.specs.declared.entry.Entry.{Entry}
 use Rattle.mn_world.specs.declared.entry.What.{What}
 use Rattle.mn_world.specs.declared.entry.What.TheVariants.{Answered}
-use Rattle.mn_world.specs.Calls.{Issued, is_by, client_entries, call_in, issue_in, Begun, begun_in, under_way, since_begin}
+use Rattle.mn_world.specs.Calls.{Issued, is_by, client_entries, issue_in, Begun, begun_in, under_way, since_begin}
 use Rattle.mn_world.specs.Clients.{is_read}
 use Rattle.mn_world.specs.Commits.{committed_by}
-use Rattle.mn_world.specs.Shown.{Seen, seen_by, seen_in, ReadShows, IsCatalogRead}
+use Rattle.mn_world.specs.Shown.{Seen, seen_in, seen_at, ReadShows, IsCatalogRead}
 use Rattle.mn_world.specs.Answers.{IsPlanBy}
 
 -- an operation at its place
@@ -36,26 +37,22 @@ pub record PlanOf (past : List Entry) (i : Issued) (p : Past) : Type 0 where
   pub entry : Entry
   pub later : List Entry
   pub before : List Entry
-  pub split : past ≡ later ++ entry ∷ [] ++ before
+  pub split : past ≡ later ++ entry ∷ before
   pub issued : issue_in entry.what ≡ i ∷ []
   pub by : entry.client ≡ Some p.client
   pub of : under_way (client_entries p.client before) ≡ Some (record { number = p.number; op = p.op })
   pub planned : IsPlanBy (client_entries p.client before) p.op i.mini p.reply
 
--- the reads of an entry
-abbrev pub seen_at : Entry → List Seen
-seen_at e = flat_map (λ c. seen_by c.node c.request c.reply) (call_in e.node e.what)
-
--- an entry of the client in which a read shows the reply, by the list that the client has where it answers
+-- an entry of the client in which a read shows the reply, by the list that the client has before it
 abbrev pub ShowsHere : ClientNo → List Entry → Entry → Op → Reply → Type 0
-ShowsHere c es e op reply = IsTrue (is_by c e) × ((seen : Seen) × Contains (seen_at e) seen × ReadShows es seen op reply)
+ShowsHere c before e op reply = IsTrue (is_by c e) × ((seen : Seen) × Contains (seen_at e) seen × ReadShows (client_entries c before) seen op reply)
 
 -- the place of the client's last read since its Begin that shows the reply
-abbrev pub LastShown : ClientNo → List Entry → Op → Reply → List Entry → ℕ → Type 0
-LastShown c es op reply [] place = ⊥
-LastShown c es op reply (e ∷ past) place =
-    (ShowsHere c es e op reply × (place ≡ length past))
-    ⊎ ((ShowsHere c es e op reply → ⊥) × ((is_by c e ≡ false) ⊎ (begun_in e.what ≡ [])) × LastShown c es op reply past place)
+abbrev pub LastShown : ClientNo → Op → Reply → List Entry → ℕ → Type 0
+LastShown c op reply [] place = ⊥
+LastShown c op reply (e ∷ past) place =
+    (ShowsHere c past e op reply × (place ≡ length past))
+    ⊎ ((ShowsHere c past e op reply → ⊥) × ((is_by c e ≡ false) ⊎ (begun_in e.what ≡ [])) × LastShown c op reply past place)
 
 -- an entry of the client that reads the catalog
 abbrev pub ReadsCatalog : ClientNo → Entry → Type 0
@@ -70,16 +67,16 @@ pub record FirstCatalogAt (c : ClientNo) (past : List Entry) (place : ℕ) : Typ
   pub entry : Entry
   pub later : List Entry
   pub before : List Entry
-  pub split : past ≡ later ++ entry ∷ [] ++ before
+  pub split : past ≡ later ++ entry ∷ before
   pub here : ReadsCatalog c entry
   pub is_place : place ≡ length before
-  pub same : under_way (client_entries c before) ≡ under_way (client_entries c past)
+  pub since : since_begin (client_entries c past) ≡ client_entries c later ++ entry ∷ since_begin (client_entries c before)
   pub first : NoCatalog (seen_in (since_begin (client_entries c before)))
 
--- where a reply that no plan gives has its place
+-- where a reply that no plan gives has its place: a scan's pairs at its first catalog read
 abbrev pub ReadPlace : ClientNo → List Entry → Op → Reply → ℕ → Type 0
-ReadPlace c past op (Pairs pairs) place = FirstCatalogAt c past place
-ReadPlace c past op reply place = LastShown c (client_entries c past) op reply past place
+ReadPlace c past (Scan version low high limit) (Pairs pairs) place = FirstCatalogAt c past place
+ReadPlace c past op reply place = LastShown c op reply past place
 
 -- the operation stands in the history already, by its plan
 abbrev pub has_past : ClientNo → ℕ → List Placed → Bool

@@ -22,8 +22,7 @@ use Rattle.mn_world.specs.Commits.{committed_by, flat_after}
 use Rattle.mn_world.specs.Opened.{AreSound, is_committed, have_voted, voted_participants, memory_in, opened_memory}
 use Rattle.mn_world.specs.Run.{IsRun, IsLegalBy}
 use Rattle.mn_world.specs.Answers.{is_given_up}
-use Rattle.mn_world.specs.Shown.{Seen, seen_in}
-use Rattle.mn_world.specs.History.{seen_at}
+use Rattle.mn_world.specs.Shown.{Seen, seen_in, seen_at}
 
 -- Lists
 

@@ -149,7 +149,22 @@ pub record WritesPages (f : Forest) (mini : Mini) : Type 0 where
   pub free : AllByRecursion (λ addr. page_at f addr ≡ None) new
   pub no_more : AllByRecursion (λ place. IsPagePlace place → ⊥) others
 
+-- the range of a whole page, entry or count
+abbrev pub IsWholePlace : Place → Type 0
+IsWholePlace place = IsPagePlace place ⊎ IsEntryPlace place ⊎ IsCountPlace place
+
+-- no place comes twice
+abbrev pub ComeOnce : List Place → Type 0
+ComeOnce [] = ⊤
+ComeOnce (place ∷ places) = AllByRecursion (λ other. other ≡ place → ⊥) places × ComeOnce places
+
 -- Planned
+
+-- the operations that plans do
+abbrev pub HasPlans : Op → Type 0
+HasPlans (Scan version low high limit) = ⊥
+HasPlans Versions = ⊥
+HasPlans op = ⊤
 
 -- the catalog's versions are the first ones, with their names and parents; what it has frozen stays frozen
 abbrev pub Continues : List Head → List Head → Type 0
@@ -163,6 +178,11 @@ pub record PlanActs (memory : List (List ℕ)) (store : Store) (holds : Holds me
   pub replies : reply ≡ (applied store op).reply
   pub compares : (v : ℕ) → number_named (heads_of store) (op_version op) ≡ Some v
       → (place : Place) → Contains (compare_places mini) place ↔ IsCompared holds.forest store v op mini place
+  -- where there is no such version it compares nothing
+  pub nowhere : number_named (heads_of store) (op_version op) ≡ None → compare_places mini ≡ []
+  -- each write is of a whole page, entry or count, each of which is written once
+  pub wholes : AllByRecursion IsWholePlace (write_places mini)
+  pub once : ComeOnce (write_places mini)
   pub numbers : AllByRecursion (HasNextNumber memory) mini.items
   pub pages : WritesPages holds.forest mini
 
@@ -172,3 +192,4 @@ pub record IsPlanned (kept : List Head) (op : Op) (mini : Mini) (reply : Reply) 
       → (holds : Holds memory store) → Continues kept (heads_of store) → mismatch_from memory 0 mini.items ≡ None
       → PlanActs memory store holds op mini reply
   pub order : IsTrue (are_in_order mini.items)
+  pub kind : HasPlans op

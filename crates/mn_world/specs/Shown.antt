@@ -23,7 +23,7 @@ use Rattle.mn_page.specs.Space.{catalog_size}
 use Rattle.mn_page.specs.Forest.{heads_in}
 use Rattle.mn_page.specs.Holds.{page_covers, page_serves, pairs_in}
 use Rattle.mn_world.specs.declared.entry.Entry.{Entry}
-use Rattle.mn_world.specs.Calls.{calls_of}
+use Rattle.mn_world.specs.Calls.{call_in, calls_of}
 use Rattle.mn_world.specs.Planned.{Place, page_place, catalog_place}
 
 -- Bytes that were read
@@ -41,6 +41,10 @@ seen_by n request reply = []
 -- the reads of a list that were done, the newest first
 abbrev pub seen_in : List Entry → List Seen
 seen_in es = flat_map (λ c. seen_by c.node c.request c.reply) (calls_of es)
+
+-- the reads of an entry
+abbrev pub seen_at : Entry → List Seen
+seen_at e = flat_map (λ c. seen_by c.node c.request c.reply) (call_in e.node e.what)
 
 -- a read of the catalog with these entries
 abbrev pub SeesCatalog : Seen → List CatEntry → Type 0
@@ -60,7 +64,7 @@ ServesNamed entries name page = (v : ℕ) × (number_named (heads_in entries) na
 
 -- Replies that a read shows
 
--- a leaf shows a lone Get's reply, where the list shows a catalog by which it serves the version
+-- a leaf shows a lone Get's reply, where the list before its read shows a catalog by which it serves the version
 abbrev pub LeafShows : List Entry → Seen → Op → Reply → Type 0
 LeafShows es seen (Tx version (Get key ∷ [])) reply =
     (entries : List CatEntry) × (addr : Addr) × (page : Page) × ShowsCatalog es entries × SeesPage seen addr page × (height_of page.body ≡ 0)
@@ -75,7 +79,7 @@ CatalogReplies heads op reply = refusal heads op ≡ Some reply
 abbrev pub CatalogShows : Seen → Op → Reply → Type 0
 CatalogShows seen op reply = (entries : List CatEntry) × SeesCatalog seen entries × CatalogReplies (heads_in entries) op reply
 
--- a read shows a reply
+-- a read shows a reply, by what its client's list held before it
 abbrev pub ReadShows : List Entry → Seen → Op → Reply → Type 0
 ReadShows es seen op reply = LeafShows es seen op reply ⊎ CatalogShows seen op reply
 

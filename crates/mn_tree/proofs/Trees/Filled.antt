@@ -41,11 +41,11 @@ IsFilled most fresh top low high (Inner height first rest) =
 abbrev pub IsLow : List ℕ → Type 0
 IsLow low = (length low ≤ 32) × IsTrue (list_all (λ b. nat_lt b 256) low)
 
--- a page that was made in the version, where there are so many new pages
-pub record IsSized (v fresh top : ℕ) (p : Page) : Type 0 where
+-- a page by itself, where there are so many new pages
+pub record IsSized (fresh top : ℕ) (p : Page) : Type 0 where
   pub seq_low : 1 ≤ p.seq
   pub seq_high : p.seq < 2 ^ 64
-  pub made : p.made.0 ≡ v
+  pub made : p.made.0 < 64
   pub copied : p.copied < 2 ^ 64
   pub low : IsLow p.low
   pub high : IsBound p.high
@@ -68,8 +68,8 @@ filled_more most fresh top full later higher low high (Inner height first rest) 
     let count = is.3 in
     (is.0, omega arith, is.2, omega arith, place_more fresh later first f is.4, weaker (IsBranch fresh) (IsBranch later) (λ c b. branch_more fresh later c f b) rest is.5)
 
-pub sized_more : (v fresh top later higher : ℕ) (p : Page) → fresh ≤ later → top ≤ higher → IsSized v fresh top p → IsSized v later higher p
-sized_more v fresh top later higher p f t is = record {
+pub sized_more : (fresh top later higher : ℕ) (p : Page) → fresh ≤ later → top ≤ higher → IsSized fresh top p → IsSized later higher p
+sized_more fresh top later higher p f t is = record {
   seq_low = is.seq_low;
   seq_high = is.seq_high;
   made = is.made;
@@ -84,11 +84,11 @@ filled_height most fresh top low high (Leaf pairs) is = omega arith
 filled_height most fresh top low high (Inner height first rest) is = is.1
 
 -- a page in its grammar
-pub page_sized : (v fresh top : ℕ) (p : Page) → IsPage p → p.made.0 ≡ v → height_of p.body ≤ top → IsSized v fresh top p
-page_sized v fresh top p is made level = record {
+pub page_sized : (fresh top : ℕ) (p : Page) → IsPage p → height_of p.body ≤ top → IsSized fresh top p
+page_sized fresh top p is level = record {
   seq_low = is.seq_low;
   seq_high = is.seq_high;
-  made = made;
+  made = is.made;
   copied = is.copied;
   low = is.low;
   high = is.high;

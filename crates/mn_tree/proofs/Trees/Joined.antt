@@ -58,6 +58,18 @@ list_as_all t (w ∷ ws) e = let parts = and_parts (t w) (list_all t ws) e in (p
 abbrev pub joined : ℕ → ℕ → ℕ
 joined copied v = bit_or copied (2 ^ v)
 
+-- a page that was copied for a version doesn't serve it
+pub serves_never : (heads : List Head) (v : ℕ) (h : Head) → slice_get heads v ≡ Some h → (made copied : ℕ) → v < 64 → serves (parents_of heads) made (joined copied v) v ≡ false
+serves_never heads v h there made copied few =
+    ap (λ b. is_ancestor (parents_of heads) made v && not b)
+    (any_joined (λ x. is_ancestor (parents_of heads) x v) (has_version (joined copied v)) v (joined_bit copied v v ∙ (ap (λ b. has_version copied v || b) (eq-eqb v v refl) ∙ last (has_version copied v))) (is_own_ancestor heads v h there)
+    (range_with_len 0 max_versions) v (range_at 0 64 v few ∙ (let e : 0 + v ≡ v = omega arith in ap Some e)))
+    ∙ and_right (is_ancestor (parents_of heads) made v) false refl
+  where
+    last : (b : Bool) → (b || true) ≡ true
+    last true = refl
+    last false = refl
+
 module _ (heads : List Head) (tree : IsVersionTree heads) (v : ℕ) (h : Head) (there : slice_get heads v ≡ Some h) (writable : h.frozen ≡ false) where
   -- it serves each other version that it served
   pub serves_still : (made copied w : ℕ) → (w ≡ v → ⊥) → serves (parents_of heads) made (joined copied v) w ≡ serves (parents_of heads) made copied w
@@ -71,15 +83,7 @@ module _ (heads : List Head) (tree : IsVersionTree heads) (v : ℕ) (h : Head) (
 
   -- and that one no more
   pub serves_no_more : (made copied : ℕ) → v < 64 → serves (parents_of heads) made (joined copied v) v ≡ false
-  serves_no_more made copied few =
-      ap (λ b. is_ancestor (parents_of heads) made v && not b)
-      (any_joined (λ x. is_ancestor (parents_of heads) x v) (has_version (joined copied v)) v (joined_bit copied v v ∙ (ap (λ b. has_version copied v || b) (eq-eqb v v refl) ∙ last (has_version copied v))) (is_own_ancestor heads v h there)
-      (range_with_len 0 max_versions) v (range_at 0 64 v few ∙ (let e : 0 + v ≡ v = omega arith in ap Some e)))
-      ∙ and_right (is_ancestor (parents_of heads) made v) false refl
-    where
-      last : (b : Bool) → (b || true) ≡ true
-      last true = refl
-      last false = refl
+  serves_no_more made copied few = serves_never heads v h there made copied few
 
   pub joined_all : (P : ℕ → Type 0) (copied : ℕ) → P v → AllByRecursion P (versions_in copied) → AllByRecursion P (versions_in (joined copied v))
   joined_all P copied one all = all_joined P (has_version (joined copied v)) (has_version copied) v (joined_bit copied v) one (range_with_len 0 max_versions) all

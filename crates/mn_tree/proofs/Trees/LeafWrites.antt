@@ -1,4 +1,4 @@
--- What the writes of a leaf's new body are: the leaf or its halves, and inner pages above.
+-- What the writes of a leaf's new body are: the leaf or its halves, or those of its copy, and inner pages above.
 use Rattle.std.proofs.Common.{◌≡◌, ◌⊎◌, inl, inr, ℕ, ◌+◌, Bool, true, false, List, [], ◌∷◌, ◌++◌, length, Option, Some, None, refl, subst, sym, ap, ◌∙◌, arith, if◌then◌else◌}
 use Rattle.std.specs.Prelude.{nat_le, nat_eq}
 use Rattle.std.specs.List.{AllByRecursion}
@@ -11,15 +11,14 @@ use Rattle.mn_page.specs.declared.page.Body.{Body}
 use Rattle.mn_page.specs.declared.page.Body.TheVariants.{Leaf, Inner}
 use Rattle.mn_page.specs.declared.page.Child.{Child}
 use Rattle.mn_page.specs.Grammar.{height_of}
-use Rattle.mn_page.specs.Overlay.{Held, Overlay, Halves, Asked, Nothing, Child_is, held_at, is_new, new_addr, halves_of, inner_halves, body_with, placed_addr}
+use Rattle.mn_page.specs.Overlay.{Held, Overlay, Halves, Asked, Nothing, Child_is, held_at, is_new, new_addr, halves_of, inner_halves, copied_for, body_with, placed_addr}
 use Rattle.mn_tree.specs.declared.write.Write.{Write}
 use Rattle.mn_tree.specs.Writes.{own_writes, other_writes, root_writes, page_writes, page_asks, origins_in, writes_if, writes_up, joined, all_joined, written, all_written}
 use Rattle.mn_tree.specs.Trees.{is_noted}
-use Rattle.mn_tree.proofs.Trees.Puts.{held_with_is, addr_is, addr_cases, same_itself, page_same}
+use Rattle.mn_tree.proofs.Trees.Puts.{held_with_is, addr_is, addr_cases, same_itself, page_same, weaker}
 use Rattle.mn_tree.proofs.Trees.SplitBelow.{same_level}
 use Rattle.mn_tree.proofs.Trees.Placed.{joined_back}
-use Rattle.mn_tree.proofs.Trees.Passing.{own_page_writes}
-use Rattle.mn_tree.proofs.Trees.Moved.{AllMade, all_both}
+use Rattle.mn_tree.proofs.Trees.Moved.{all_both}
 
 -- Where a page of the written ones comes from
 
@@ -114,23 +113,26 @@ halves_high (Inner height first rest) hs high e = by_count (nat_le (length rest 
 more_high : (n : ℕ) → n + 1 ≡ 0 → ⊥
 more_high n e = absurd (omega arith)
 
-pub up_high : (v : VersionNo) (n : ℕ) (origins : List Addr) (h : Held) (above : List Held) (body : Body) → AllMade v (h ∷ above) → AllByRecursion (λ g. IsHigh g.page.body) above → IsHigh body
-    → AllByRecursion (λ w. IsHigh w.page.body) (writes_up v n origins h above body)
-up_high v n origins h [] body made all high = by_halves (halves_of body) refl
+page_high : (v : VersionNo) (n : ℕ) (origin : Addr) (h : Held) (body : Body) → IsHigh h.page.body → IsHigh body → AllByRecursion (λ w. IsHigh w.page.body) (page_writes v n origin h body)
+page_high v n origin h body was high = by_own (nat_eq h.page.made.0 v.0) (halves_of body) refl
+  where
+    by_own : (t : Bool) (x : Option Halves) → halves_of body ≡ x → AllByRecursion (λ w. IsHigh w.page.body) (if t then own_writes v n origin h body x else other_writes v n origin h body x)
+    by_own true None e = (high, tt)
+    by_own true (Some hs) e = let parts = halves_high body hs high e in (parts.1, (parts.0, tt))
+    by_own false None e = (high, (was, tt))
+    by_own false (Some hs) e = let parts = halves_high body hs high e in (parts.0, (parts.1, (was, tt)))
+
+pub up_high : (v : VersionNo) (n : ℕ) (origins : List Addr) (h : Held) (above : List Held) (body : Body) → AllByRecursion (λ g. IsHigh g.page.body) (h ∷ above) → IsHigh body → AllByRecursion (λ w. IsHigh w.page.body) (writes_up v n origins h above body)
+up_high v n origins h [] body all high = by_halves (halves_of body) refl
   where
     by_halves : (x : Option Halves) → halves_of body ≡ x → AllByRecursion (λ w. IsHigh w.page.body) (root_writes v n (placed_addr origins h.addr) h body x)
     by_halves None e = (high, tt)
     by_halves (Some hs) e = let parts = halves_high body hs high e in (parts.0, (parts.1, (more_high (height_of body), tt)))
-up_high v n origins h (parent ∷ above) body made all high =
-    all_both (λ w. IsHigh w.page.body) (page_writes v n (placed_addr origins h.addr) h body) _
-    (subst (AllByRecursion (λ (w : Write). IsHigh w.page.body)) (sym (own_page_writes v n (placed_addr origins h.addr) h body made.0)) (by_halves (halves_of body) refl))
+up_high v n origins h (parent ∷ above) body all high =
+    all_both (λ w. IsHigh w.page.body) (page_writes v n (placed_addr origins h.addr) h body) _ (page_high v n (placed_addr origins h.addr) h body all.0 high)
     (by_asked (page_asks v n h body) (λ now more.
-    up_high v (n + length (origins_in (page_writes v n (placed_addr origins h.addr) h body))) origins parent above (body_with parent.page.body h.addr now more) made.1 all.1 (with_high parent.page.body h.addr now more all.0)))
+    up_high v (n + length (origins_in (page_writes v n (placed_addr origins h.addr) h body))) origins parent above (body_with parent.page.body h.addr now more) all.1 (with_high parent.page.body h.addr now more (all.1).0)))
   where
-    by_halves : (x : Option Halves) → halves_of body ≡ x → AllByRecursion (λ w. IsHigh w.page.body) (own_writes v n (placed_addr origins h.addr) h body x)
-    by_halves None e = (high, tt)
-    by_halves (Some hs) e = let parts = halves_high body hs high e in (parts.1, (parts.0, tt))
-
     later : Addr → Option Child → List Write
     later now more = writes_up v (n + length (origins_in (page_writes v n (placed_addr origins h.addr) h body))) origins parent above (body_with parent.page.body h.addr now more)
 
@@ -138,7 +140,36 @@ up_high v n origins h (parent ∷ above) body made all high =
     by_asked Nothing rest = tt
     by_asked (Child_is now more) rest = rest now more
 
+-- so are those above a page that changes
+upper_high : (v : VersionNo) (n : ℕ) (origins : List Addr) (h parent : Held) (above : List Held) (body : Body) → AllByRecursion (λ g. IsHigh g.page.body) (parent ∷ above)
+    → AllByRecursion (λ w. IsHigh w.page.body) (writes_if (page_asks v n h body) (λ now more. writes_up v (n + length (origins_in (page_writes v n (placed_addr origins h.addr) h body))) origins parent above (body_with parent.page.body h.addr now more)))
+upper_high v n origins h parent above body all = by_asked (page_asks v n h body)
+  where
+    later : Addr → Option Child → List Write
+    later now more = writes_up v (n + length (origins_in (page_writes v n (placed_addr origins h.addr) h body))) origins parent above (body_with parent.page.body h.addr now more)
+
+    by_asked : (a : Asked) → AllByRecursion (λ w. IsHigh w.page.body) (writes_if a later)
+    by_asked Nothing = tt
+    by_asked (Child_is now more) = up_high v (n + length (origins_in (page_writes v n (placed_addr origins h.addr) h body))) origins parent above (body_with parent.page.body h.addr now more) all (with_high parent.page.body h.addr now more all.0)
+
 -- The leaf
+
+-- leaves are written to new addresses and in the leaf's place alone
+abbrev pub IsLeafPlace : Held → Addr → Type 0
+IsLeafPlace h a = (is_new a ≡ true) ⊎ (a ≡ h.addr)
+
+pub leaf_places : (v : VersionNo) (n : ℕ) (origins : List Addr) (h : Held) (above : List Held) (body : Body) → AllByRecursion (λ g. IsHigh g.page.body) above
+    → AllByRecursion (λ w. height_of w.page.body ≡ 0 → IsLeafPlace h w.addr) (writes_up v n origins h above body)
+leaf_places v n origins h [] body all = by_halves (halves_of body)
+  where
+    by_halves : (x : Option Halves) → AllByRecursion (λ w. height_of w.page.body ≡ 0 → IsLeafPlace h w.addr) (root_writes v n (placed_addr origins h.addr) h body x)
+    by_halves None = (λ e. inr refl, tt)
+    by_halves (Some halves) = (λ e. inl refl, (λ e. inl refl, (λ e. inr refl, tt)))
+leaf_places v n origins h (parent ∷ above) body all =
+    all_both (λ w. height_of w.page.body ≡ 0 → IsLeafPlace h w.addr) (page_writes v n (placed_addr origins h.addr) h body) _
+    (weaker (λ w. IsLeafPlace h w.addr) (λ w. height_of w.page.body ≡ 0 → IsLeafPlace h w.addr) (λ w is e. is) (page_writes v n (placed_addr origins h.addr) h body)
+    (page_places (IsLeafPlace h) v n (placed_addr origins h.addr) h body (λ m. inl refl) (inr refl)))
+    (weaker (λ w. IsHigh w.page.body) (λ w. height_of w.page.body ≡ 0 → IsLeafPlace h w.addr) (λ w high e. absurd (high e)) _ (upper_high v n origins h parent above body all))
 
 -- the leaf with its new pairs, whole
 abbrev pub IsWhole : Addr → Page → List Pair → Addr → Page → Type 0
@@ -154,46 +185,50 @@ IsRight r h hs a p = (a ≡ r) × (p.low ≡ hs.separator) × (p.high ≡ h.high
 abbrev pub IsHalf : Addr → Addr → Page → Halves → Addr → Page → Type 0
 IsHalf l r h hs a p = IsLeft l h hs a p ⊎ IsRight r h hs a p
 
--- the leaves among the writes of a leaf's new pairs
-pub data LeafWrites (h : Held) (new : List Pair) (ws : List Write) : Type 0 where
-  stays : AllByRecursion (λ w. height_of w.page.body ≡ 0 → IsWhole h.addr h.page new w.addr w.page) ws → LeafWrites h new ws
-  splits : (hs : Halves) (l r : Addr) → halves_of (Leaf new) ≡ Some hs → (is_new l ≡ false → l ≡ h.addr) → is_new r ≡ true → AllByRecursion (λ w. height_of w.page.body ≡ 0 → IsHalf l r h.page hs w.addr w.page) ws
-      → LeafWrites h new ws
+-- the leaves among the writes of a leaf's new pairs, but for those that are out of use, as the old page of a copy
+pub data LeafWrites (IsLive : Page → Type 0) (h : Held) (new : List Pair) (ws : List Write) : Type 0 where
+  stays : (x : Addr) → (is_new x ≡ false → x ≡ h.addr) → AllByRecursion (λ w. height_of w.page.body ≡ 0 → IsLive w.page → IsWhole x h.page new w.addr w.page) ws → LeafWrites IsLive h new ws
+  splits : (hs : Halves) (l r : Addr) → halves_of (Leaf new) ≡ Some hs → (is_new l ≡ false → l ≡ h.addr) → is_new r ≡ true
+      → AllByRecursion (λ w. height_of w.page.body ≡ 0 → IsLive w.page → IsHalf l r h.page hs w.addr w.page) ws → LeafWrites IsLive h new ws
 
-never : (Q : Write → Type 0) (ws : List Write) → AllByRecursion (λ w. IsHigh w.page.body) ws → AllByRecursion (λ w. height_of w.page.body ≡ 0 → Q w) ws
-never Q [] all = tt
-never Q (w ∷ ws) all = (λ e. absurd (all.0 e), never Q ws all.1)
+module _ (IsLive : Page → Type 0) (v : VersionNo) (off : (p : Page) → IsLive (copied_for v p) → ⊥) where
+  never : (Q : Write → Type 0) (ws : List Write) → AllByRecursion (λ w. IsHigh w.page.body) ws → AllByRecursion (λ w. height_of w.page.body ≡ 0 → IsLive w.page → Q w) ws
+  never Q [] all = tt
+  never Q (w ∷ ws) all = (λ e live. absurd (all.0 e), never Q ws all.1)
 
-pub leaf_writes : (v : VersionNo) (n : ℕ) (origins : List Addr) (h : Held) (above : List Held) (new : List Pair) → AllMade v (h ∷ above) → AllByRecursion (λ g. IsHigh g.page.body) above → LeafWrites h new (writes_up v n origins h above (Leaf new))
-leaf_writes v n origins h [] new made all = by_halves (halves_of (Leaf new)) refl
-  where
-    by_halves : (x : Option Halves) → halves_of (Leaf new) ≡ x → LeafWrites h new (root_writes v n (placed_addr origins h.addr) h (Leaf new) x)
-    by_halves None e = stays (λ level. (refl, refl, refl, refl), tt)
-    by_halves (Some hs) e = splits hs (new_addr n) (new_addr (n + 1)) e (λ f. absurd cc) refl (λ level. inl (refl, refl, refl, refl), (λ level. inr (refl, refl, refl, refl), (λ level. absurd (more_high 0 level), tt)))
-leaf_writes v n origins h (parent ∷ above) new made all = by_halves (halves_of (Leaf new)) refl
-  where
-    ws : List Write
-    ws = page_writes v n (placed_addr origins h.addr) h (Leaf new)
+  pub leaf_writes : (n : ℕ) (origins : List Addr) (h : Held) (above : List Held) (new : List Pair) → AllByRecursion (λ g. IsHigh g.page.body) above → LeafWrites IsLive h new (writes_up v n origins h above (Leaf new))
+  leaf_writes n origins h [] new all = by_halves (halves_of (Leaf new)) refl
+    where
+      by_halves : (x : Option Halves) → halves_of (Leaf new) ≡ x → LeafWrites IsLive h new (root_writes v n (placed_addr origins h.addr) h (Leaf new) x)
+      by_halves None e = stays h.addr (λ f. refl) (λ level live. (refl, refl, refl, refl), tt)
+      by_halves (Some hs) e =
+          splits hs (new_addr n) (new_addr (n + 1)) e (λ f. absurd cc) refl
+          (λ level live. inl (refl, refl, refl, refl), (λ level live. inr (refl, refl, refl, refl), (λ level live. absurd (more_high 0 level), tt)))
+  leaf_writes n origins h (parent ∷ above) new all = by_own (nat_eq h.page.made.0 v.0) (halves_of (Leaf new)) refl (upper_high v n origins h parent above (Leaf new) all)
+    where
+      ws : List Write
+      ws = page_writes v n (placed_addr origins h.addr) h (Leaf new)
 
-    later : Addr → Option Child → List Write
-    later now more = writes_up v (n + length (origins_in ws)) origins parent above (body_with parent.page.body h.addr now more)
+      higher : List Write
+      higher = writes_if (page_asks v n h (Leaf new)) (λ now more. writes_up v (n + length (origins_in ws)) origins parent above (body_with parent.page.body h.addr now more))
 
-    upper : AllByRecursion (λ w. IsHigh w.page.body) (writes_if (page_asks v n h (Leaf new)) later)
-    upper = by_asked (page_asks v n h (Leaf new))
-      where
-        by_asked : (a : Asked) → AllByRecursion (λ w. IsHigh w.page.body) (writes_if a later)
-        by_asked Nothing = tt
-        by_asked (Child_is now more) = up_high v (n + length (origins_in ws)) origins parent above (body_with parent.page.body h.addr now more) made.1 all.1 (with_high parent.page.body h.addr now more all.0)
+      mine : Bool → Option Halves → List Write
+      mine t x = if t then own_writes v n (placed_addr origins h.addr) h (Leaf new) x else other_writes v n (placed_addr origins h.addr) h (Leaf new) x
 
-    own : (Q : Write → Type 0) (x : Option Halves) → halves_of (Leaf new) ≡ x → AllByRecursion Q (own_writes v n (placed_addr origins h.addr) h (Leaf new) x) → AllByRecursion Q ws
-    own Q x e each = subst (AllByRecursion Q) (sym (own_page_writes v n (placed_addr origins h.addr) h (Leaf new) made.0 ∙ ap (own_writes v n (placed_addr origins h.addr) h (Leaf new)) e)) each
-
-    by_halves : (x : Option Halves) → halves_of (Leaf new) ≡ x → LeafWrites h new (ws ++ writes_if (page_asks v n h (Leaf new)) later)
-    by_halves None e =
-        stays (all_both (λ w. height_of w.page.body ≡ 0 → IsWhole h.addr h.page new w.addr w.page) ws _
-        (own (λ w. height_of w.page.body ≡ 0 → IsWhole h.addr h.page new w.addr w.page) None e (λ level. (refl, refl, refl, refl), tt)) (never (λ w. IsWhole h.addr h.page new w.addr w.page) _ upper))
-    by_halves (Some hs) e =
-        splits hs h.addr (new_addr n) e (λ f. refl) refl
-        (all_both (λ w. height_of w.page.body ≡ 0 → IsHalf h.addr (new_addr n) h.page hs w.addr w.page) ws _
-        (own (λ w. height_of w.page.body ≡ 0 → IsHalf h.addr (new_addr n) h.page hs w.addr w.page) (Some hs) e (λ level. inr (refl, refl, refl, refl), (λ level. inl (refl, refl, refl, refl), tt)))
-        (never (λ w. IsHalf h.addr (new_addr n) h.page hs w.addr w.page) _ upper))
+      by_own : (t : Bool) (x : Option Halves) → halves_of (Leaf new) ≡ x → AllByRecursion (λ w. IsHigh w.page.body) higher → LeafWrites IsLive h new (mine t x ++ higher)
+      by_own true None e rest =
+          stays h.addr (λ f. refl)
+          (all_both (λ w. height_of w.page.body ≡ 0 → IsLive w.page → IsWhole h.addr h.page new w.addr w.page) (mine true None) higher (λ level live. (refl, refl, refl, refl), tt) (never (λ w. IsWhole h.addr h.page new w.addr w.page) higher rest))
+      by_own true (Some hs) e rest =
+          splits hs h.addr (new_addr n) e (λ f. refl) refl
+          (all_both (λ w. height_of w.page.body ≡ 0 → IsLive w.page → IsHalf h.addr (new_addr n) h.page hs w.addr w.page) (mine true (Some hs)) higher
+          (λ level live. inr (refl, refl, refl, refl), (λ level live. inl (refl, refl, refl, refl), tt)) (never (λ w. IsHalf h.addr (new_addr n) h.page hs w.addr w.page) higher rest))
+      by_own false None e rest =
+          stays (new_addr n) (λ f. absurd cc)
+          (all_both (λ w. height_of w.page.body ≡ 0 → IsLive w.page → IsWhole (new_addr n) h.page new w.addr w.page) (mine false None) higher
+          (λ level live. (refl, refl, refl, refl), (λ level live. absurd (off h.page live), tt)) (never (λ w. IsWhole (new_addr n) h.page new w.addr w.page) higher rest))
+      by_own false (Some hs) e rest =
+          splits hs (new_addr n) (new_addr (n + 1)) e (λ f. absurd cc) refl
+          (all_both (λ w. height_of w.page.body ≡ 0 → IsLive w.page → IsHalf (new_addr n) (new_addr (n + 1)) h.page hs w.addr w.page) (mine false (Some hs)) higher
+          (λ level live. inl (refl, refl, refl, refl), (λ level live. inr (refl, refl, refl, refl), (λ level live. absurd (off h.page live), tt)))
+          (never (λ w. IsHalf (new_addr n) (new_addr (n + 1)) h.page hs w.addr w.page) higher rest))

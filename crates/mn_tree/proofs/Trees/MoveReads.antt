@@ -60,28 +60,28 @@ once_joined addrs a once = cases (is_new a) (is_noted addrs a) refl
 -- What holds between moves
 
 -- an old page that is held came in; it has the number with which it came, and is as it was unless it was changed
-record IsOld (came : List Held) (changed : List Addr) (x : Addr) (page : Page) : Type 0 where
-  was : Page
-  there : held_at came x ≡ Some was
-  is : IsPage was
-  addr : IsAddr x
-  number : page.seq ≡ was.seq
-  same : (page ≡ was) ⊎ (is_noted changed x ≡ true)
+pub record IsOld (came : List Held) (changed : List Addr) (x : Addr) (page : Page) : Type 0 where
+  pub was : Page
+  pub there : held_at came x ≡ Some was
+  pub is : IsPage was
+  pub addr : IsAddr x
+  pub number : page.seq ≡ was.seq
+  pub same : (page ≡ was) ⊎ (is_noted changed x ≡ true)
 
 -- a page of the read set
-abbrev IsRead : List Held → List Addr → Addr → Type 0
+abbrev pub IsRead : List Held → List Addr → Addr → Type 0
 IsRead came changed x = (page : Page) × (held_at came x ≡ Some page) × IsPage page × IsAddr x × ((height_of page.body ≡ 0) ⊎ (is_noted changed x ≡ true))
 
-record Reads (came : List Held) (o : Overlay) (read : List Addr) : Type 0 where
-  once : AreOnce read
-  each : (x : Addr) → is_noted read x ≡ true → IsRead came o.changed x
-  changed : (x : Addr) → is_noted o.changed x ≡ true → is_noted read x ≡ true
-  kept : (x : Addr) → is_noted o.changed x ≡ true → (page : Page) × (held_at o.pages x ≡ Some page)
-  old : (x : Addr) (page : Page) → is_new x ≡ false → held_at o.pages x ≡ Some page → IsOld came o.changed x page
-  new : (n : ℕ) → n < o.fresh → (page : Page) × (held_at o.pages (new_addr n) ≡ Some page) × (page.seq ≡ 1)
-  fresh : (n : ℕ) → o.fresh ≤ n → held_at o.pages (new_addr n) ≡ None
+pub record Reads (came : List Held) (o : Overlay) (read : List Addr) : Type 0 where
+  pub once : AreOnce read
+  pub each : (x : Addr) → is_noted read x ≡ true → IsRead came o.changed x
+  pub changed : (x : Addr) → is_noted o.changed x ≡ true → is_noted read x ≡ true
+  pub kept : (x : Addr) → is_noted o.changed x ≡ true → (page : Page) × (held_at o.pages x ≡ Some page)
+  pub old : (x : Addr) (page : Page) → is_new x ≡ false → held_at o.pages x ≡ Some page → IsOld came o.changed x page
+  pub new : (n : ℕ) → n < o.fresh → (page : Page) × (held_at o.pages (new_addr n) ≡ Some page) × (page.seq ≡ 1)
+  pub fresh : (n : ℕ) → o.fresh ≤ n → held_at o.pages (new_addr n) ≡ None
   -- what came in is held
-  absent : (x : Addr) → held_at o.pages x ≡ None → held_at came x ≡ None
+  pub absent : (x : Addr) → held_at o.pages x ≡ None → held_at came x ≡ None
 
 -- more pages are changed
 old_more : (came : List Held) (changed : List Addr) (a x : Addr) (page : Page) → IsOld came changed x page → IsOld came (joined changed a) x page
@@ -213,7 +213,7 @@ touched came o read a q r there level = record {
         )
 
 -- a step
-step_reads : (v : VersionNo) (came : List Held) (d : Drafted) (step : Step) (path : List Held) → Reads came d.overlay d.read → AreHeld d.overlay.pages path → LeafFirst (step_key step) path
+pub step_reads : (v : VersionNo) (came : List Held) (d : Drafted) (step : Step) (path : List Held) → Reads came d.overlay d.read → AreHeld d.overlay.pages path → LeafFirst (step_key step) path
     → Reads came (drafted_after v d step path).overlay (drafted_after v d step path).read
 step_reads v came d step path r held leaf =
     subst (λ (o : Overlay). Reads came o (all_joined (leaf_joined d.read path) (step_writes v d.overlay.fresh d.origins step path))) (sym (step_is v d.overlay d.origins step path))
@@ -229,12 +229,12 @@ step_reads v came d step path r held leaf =
     with_leaf (h ∷ hs) all first = touched came d.overlay d.read h.addr h.page r all.0 first.0
 
 -- a page that comes in
-came_more : (came : List Held) (h : Held) (x : Addr) (p : Page) → held_at came x ≡ Some p → held_at (came ++ h ∷ []) x ≡ Some p
+pub came_more : (came : List Held) (h : Held) (x : Addr) (p : Page) → held_at came x ≡ Some p → held_at (came ++ h ∷ []) x ≡ Some p
 came_more came h x p there = held_append came (h ∷ []) x ∙ ap (λ (o : Option Page). option_or o (held_at (h ∷ []) x)) there
 
-comes_reads : (v : VersionNo) (came : List Held) (d : Drafted) (h : Held) → Reads came d.overlay d.read → MayCome v d h
+pub comes_reads : (parents : List (Option ℕ)) (v : VersionNo) (came : List Held) (d : Drafted) (h : Held) → Reads came d.overlay d.read → MayCome parents v d h
     → Reads (came ++ h ∷ []) (record { pages = held_with d.overlay.pages h.addr h.page; changed = d.overlay.changed; fresh = d.overlay.fresh }) d.read
-comes_reads v came d h r may = record {
+comes_reads parents v came d h r may = record {
   once = r.once;
   each = λ x noted. let is = r.each x noted in (is.0, came_more came h x is.0 is.1, is.2, is.3, is.4);
   changed = r.changed;
@@ -268,23 +268,35 @@ comes_reads v came d h r may = record {
     absent x none (inl e) = absurd (nothing h.page (held_at (held_with d.overlay.pages h.addr h.page) x) none (ap (held_at (held_with d.overlay.pages h.addr h.page)) (sym e) ∙ held_here d.overlay.pages h.addr h.page))
     absent x none (inr apart) = at_end x (r.absent x (was_absent d.overlay.pages h.addr h.page x none)) ∙ ap (λ b. if b then Some h.page else None) (differs h.addr x apart)
 
-append_nil : (xs : List Held) → xs ++ [] ≡ xs
+pub append_nil : (xs : List Held) → xs ++ [] ≡ xs
 append_nil [] = refl
 append_nil (x ∷ xs) = ap (λ (l : List Held). x ∷ l) (append_nil xs)
 
 -- all moves, after pages that came in before
-all_moves : (v : VersionNo) (root : Addr) (moves : List Move) (came : List Held) (d after : Drafted) → Reads came d.overlay d.read → LeadsTo v root d moves after → Reads (came ++ comes_in moves) after.overlay after.read
-all_moves v root [] came d after r leads = subst (λ (e : Drafted). Reads (came ++ []) e.overlay e.read) leads (subst (λ (hs : List Held). Reads hs d.overlay d.read) (sym (append_nil came)) r)
-all_moves v root (Comes h ∷ moves) came d after r (may, leads) =
+pub all_moves : (parents : List (Option ℕ)) (v : VersionNo) (root : Addr) (moves : List Move) (came : List Held) (d after : Drafted) → Reads came d.overlay d.read → LeadsTo parents v root d moves after → Reads (came ++ comes_in moves) after.overlay after.read
+all_moves parents v root [] came d after r leads = subst (λ (e : Drafted). Reads (came ++ []) e.overlay e.read) leads (subst (λ (hs : List Held). Reads hs d.overlay d.read) (sym (append_nil came)) r)
+all_moves parents v root (Comes h ∷ moves) came d after r (may, leads) =
     subst (λ (hs : List Held). Reads hs after.overlay after.read) (append_assoc came (h ∷ []) (comes_in moves))
-    (all_moves v root moves (came ++ h ∷ []) _ after (comes_reads v came d h r may) leads)
-all_moves v root (Does step ∷ moves) came d after r (path, way, leads) =
-    let on = reached d.overlay.pages root (step_key step) path way in
-    all_moves v root moves came (drafted_after v d step path) after (step_reads v came d step path r on.0 on.1) leads
+    (all_moves parents v root moves (came ++ h ∷ []) _ after (comes_reads parents v came d h r may) leads)
+all_moves parents v root (Does step ∷ moves) came d after r (path, way, leads) =
+    let on = reached parents v.0 d.overlay.pages root (step_key step) path way in
+    all_moves parents v root moves came (drafted_after v d step path) after (step_reads v came d step path r on.0 on.1) leads
+
+pub no_reads : Reads [] no_pages.overlay no_pages.read
+no_reads = record {
+  once = tt;
+  each = λ x noted. absurd cc;
+  changed = λ x noted. absurd cc;
+  kept = λ x noted. absurd cc;
+  old = λ x page is there. absurd cc;
+  new = λ n low. absurd (omega arith);
+  fresh = λ n low. refl;
+  absent = λ x none. refl;
+}
 
 -- the read set of a transaction
 pub moves_read : MovesRead
-moves_read v root moves d leads = record {
+moves_read parents v root moves d leads = record {
   once = r.once;
   came = r.each;
   changed = r.changed;
@@ -296,17 +308,5 @@ moves_read v root moves d leads = record {
   new = r.new;
 }
   where
-    start : Reads [] no_pages.overlay no_pages.read
-    start = record {
-      once = tt;
-      each = λ x noted. absurd cc;
-      changed = λ x noted. absurd cc;
-      kept = λ x noted. absurd cc;
-      old = λ x page is there. absurd cc;
-      new = λ n low. absurd (omega arith);
-      fresh = λ n low. refl;
-      absent = λ x none. refl;
-    }
-
     r : Reads (comes_in moves) d.overlay d.read
-    r = all_moves v root moves [] no_pages d start leads
+    r = all_moves parents v root moves [] no_pages d no_reads leads

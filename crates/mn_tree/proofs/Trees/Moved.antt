@@ -1,39 +1,32 @@
 -- The moves of a transaction keep the tree, where the pages that they write or read stand in the memory as they came in.
-use Rattle.std.proofs.Common.{◌≡◌, ℕ, suc, ◌+◌, Bool, true, false, ◌&&◌, ◌||◌, List, [], ◌∷◌, ◌++◌, length, Option, Some, None, refl, subst, sym, ap, ◌∙◌, arith, is_some, slice_get, slice_set, if◌then◌else◌}
-use Rattle.std.specs.Prelude.{nat_eq}
+use Rattle.std.proofs.Common.{◌≡◌, ℕ, ◌+◌, Bool, true, false, ◌&&◌, ◌||◌, List, [], ◌∷◌, ◌++◌, Option, Some, None, refl, subst, sym, ap, ◌∙◌, arith, slice_get, slice_set}
 use Rattle.std.specs.List.{AllByRecursion, list_any}
 use Rattle.std.specs.Option.{option_or}
 use Rattle.std.proofs.lemmas.Bool.{ne_eqb}
-use Rattle.mn_base.specs.Ids.{addr_same}
-use Rattle.mn_base.specs.Store.{Store, StoreVersion, value_at, pairs_with, pairs_without, is_change, step_key, pairs_after_step}
+use Rattle.mn_base.specs.Store.{Store, StoreVersion, is_change, step_key, pairs_after_step}
 use Rattle.mn_base.specs.declared.ids.Addr.{Addr}
 use Rattle.mn_base.specs.declared.ids.VersionNo.{VersionNo}
 use Rattle.mn_base.specs.declared.op.Step.{Step}
-use Rattle.mn_base.specs.declared.op.Step.TheVariants.{Get, Put, Del, Check}
 use Rattle.mn_base.specs.declared.reply.Pair.{Pair}
 use Rattle.mn_page.specs.declared.entry.CatEntry.{CatEntry}
 use Rattle.mn_page.specs.declared.page.Page.{Page}
-use Rattle.mn_page.specs.declared.page.Body.{Body}
-use Rattle.mn_page.specs.declared.page.Body.TheVariants.{Leaf}
-use Rattle.mn_page.specs.declared.page.Child.{Child}
-use Rattle.mn_page.specs.Holds.{PagesAt, pairs_in}
-use Rattle.mn_page.specs.Overlay.{Held, Overlay, Halves, Asked, Nothing, Child_is, held_at, held_with, is_new, halves_of, body_with, placed_addr, step_on}
+use Rattle.mn_page.specs.Holds.{PagesAt}
+use Rattle.mn_page.specs.Overlay.{Held, Overlay, held_at, held_with, is_new, step_on}
 use Rattle.mn_page.proofs.Alike.{re_paired, get-set_same}
 use Rattle.mn_tree.specs.declared.write.Write.{Write}
 use Rattle.mn_tree.specs.Walk.{Reached, walk}
-use Rattle.mn_tree.specs.Writes.{joined, all_joined, own_writes, other_writes, root_writes, page_writes, page_asks, origins_in, writes_if, writes_up, step_writes, written, all_written}
+use Rattle.mn_tree.specs.Writes.{joined, all_joined, step_writes, all_written}
 use Rattle.mn_tree.specs.State.{Drafted, drafted_with, drafted_after, no_pages, leaf_joined}
 use Rattle.mn_tree.specs.Trees.{laid_over, is_noted, IsDraft}
 use Rattle.mn_tree.specs.Moves.{Move, Comes, Does, LeadsTo, comes_in, done_in, only_at, pairs_after}
-use Rattle.mn_tree.specs.MoveLaws.{MovesKeepTree}
+use Rattle.mn_tree.specs.MoveLaws.{Agrees, MovesKeepTree}
 use Rattle.mn_tree.proofs.Changes.{step_is}
-use Rattle.mn_tree.proofs.Trees.Puts.{held_with_is, page_same}
 use Rattle.mn_tree.proofs.Trees.Found.{IsUp, WholePath, whole_path}
 use Rattle.mn_tree.proofs.Trees.Reads.{add_keeps_draft, none_held}
 use Rattle.mn_tree.proofs.Trees.Placed.{joined_has, joined_itself}
 use Rattle.mn_tree.proofs.Trees.Steps.{set_itself, set_twice, first_may, rest_may, step_found}
 use Rattle.mn_tree.proofs.Trees.OnlyAt.{is_kept, kept, held_kept, with_kept, with_left, written_kept}
-use Rattle.mn_tree.proofs.Trees.Passing.{ArePassed, Passed, walk_passes, first_passed, first_up, on_path, same_held, same_step}
+use Rattle.mn_tree.proofs.Trees.Passing.{Passed, walk_passes, first_passed, first_up, on_path, same_held, same_step}
 
 -- The read set grows
 
@@ -64,84 +57,21 @@ leaf_joined_has : (read : List Addr) (path : List Held) (x : Addr) → is_noted 
 leaf_joined_has read [] x noted = noted
 leaf_joined_has read (h ∷ path) x noted = joined_has read h.addr x noted
 
-pub leads_reads : (v : VersionNo) (root : Addr) (d after : Drafted) (moves : List Move) → LeadsTo v root d moves after → (x : Addr) → is_noted d.read x ≡ true → is_noted after.read x ≡ true
-leads_reads v root d after [] same x noted = ap (λ (e : Drafted). is_noted e.read x) (sym same) ∙ noted
-leads_reads v root d after (Comes h ∷ moves) leads x noted = leads_reads v root (drafted_with d h.addr h.page) after moves leads.1 x noted
-leads_reads v root d after (Does step ∷ moves) leads x noted =
-    leads_reads v root (drafted_after v d step leads.0) after moves leads.2 x
+pub leads_reads : (parents : List (Option ℕ)) (v : VersionNo) (root : Addr) (d after : Drafted) (moves : List Move) → LeadsTo parents v root d moves after → (x : Addr) → is_noted d.read x ≡ true → is_noted after.read x ≡ true
+leads_reads parents v root d after [] same x noted = ap (λ (e : Drafted). is_noted e.read x) (sym same) ∙ noted
+leads_reads parents v root d after (Comes h ∷ moves) leads x noted = leads_reads parents v root (drafted_with d h.addr h.page) after moves leads.1 x noted
+leads_reads parents v root d after (Does step ∷ moves) leads x noted =
+    leads_reads parents v root (drafted_after v d step leads.0) after moves leads.2 x
     (all_joined_has (leaf_joined d.read leads.0) (step_writes v d.overlay.fresh d.origins step leads.0) x (leaf_joined_has d.read leads.0 x noted))
-
--- All pages were made in the version
-
-abbrev pub AreMade : VersionNo → List Held → Type 0
-AreMade v pages = (a : Addr) (p : Page) → held_at pages a ≡ Some p → p.made.0 ≡ v.0
-
-abbrev IsMade : VersionNo → Write → Type 0
-IsMade v w = w.page.made.0 ≡ v.0
-
-pub made_with : (v : VersionNo) (pages : List Held) (a : Addr) (p : Page) → AreMade v pages → p.made.0 ≡ v.0 → AreMade v (held_with pages a p)
-made_with v pages a p all one x q there = cases (addr_same a x) (sym (held_with_is pages a p x) ∙ there)
-  where
-    cases : (t : Bool) → (if t then Some p else held_at pages x) ≡ Some q → q.made.0 ≡ v.0
-    cases true e = ap (λ (y : Page). y.made.0) (sym (page_same p q e)) ∙ one
-    cases false e = all x q e
-
-pub all_made : (v : VersionNo) (ws : List Write) (o : Overlay) → AreMade v o.pages → AllByRecursion (IsMade v) ws → AreMade v (all_written o ws).pages
-all_made v [] o all ones = all
-all_made v (w ∷ ws) o all ones = all_made v ws (written o w) (made_with v o.pages w.addr w.page all ones.0) ones.1
 
 pub all_both : {X : Type 0} (P : X → Type 0) (xs ys : List X) → AllByRecursion P xs → AllByRecursion P ys → AllByRecursion P (xs ++ ys)
 all_both P [] ys all more = more
 all_both P (x ∷ xs) ys all more = (all.0, all_both P xs ys all.1 more)
 
-abbrev pub AllMade : VersionNo → List Held → Type 0
-AllMade v path = AllByRecursion (λ h. h.page.made.0 ≡ v.0) path
-
-page_made : (v : VersionNo) (n : ℕ) (origin : Addr) (h : Held) (body : Body) → h.page.made.0 ≡ v.0 → AllByRecursion (IsMade v) (page_writes v n origin h body)
-page_made v n origin h body made = by_own (nat_eq h.page.made.0 v.0) (halves_of body)
-  where
-    by_own : (t : Bool) (x : Option Halves) → AllByRecursion (IsMade v) (if t then own_writes v n origin h body x else other_writes v n origin h body x)
-    by_own true None = (made, tt)
-    by_own true (Some halves) = (refl, (made, tt))
-    by_own false None = (refl, (made, tt))
-    by_own false (Some halves) = (refl, (refl, (made, tt)))
-
-pub writes_made : (v : VersionNo) (n : ℕ) (origins : List Addr) (h : Held) (above : List Held) (body : Body) → AllMade v (h ∷ above) → AllByRecursion (IsMade v) (writes_up v n origins h above body)
-writes_made v n origins h [] body all = by_halves (halves_of body)
-  where
-    by_halves : (x : Option Halves) → AllByRecursion (IsMade v) (root_writes v n (placed_addr origins h.addr) h body x)
-    by_halves None = (all.0, tt)
-    by_halves (Some halves) = (refl, (refl, (all.0, tt)))
-writes_made v n origins h (parent ∷ above) body all =
-    all_both (IsMade v) (page_writes v n (placed_addr origins h.addr) h body) _ (page_made v n (placed_addr origins h.addr) h body all.0)
-    (by_asked (page_asks v n h body) (λ now more.
-    writes_made v (n + length (origins_in (page_writes v n (placed_addr origins h.addr) h body))) origins parent above (body_with parent.page.body h.addr now more) all.1))
-  where
-    later : Addr → Option Child → List Write
-    later now more = writes_up v (n + length (origins_in (page_writes v n (placed_addr origins h.addr) h body))) origins parent above (body_with parent.page.body h.addr now more)
-
-    by_asked : (a : Asked) → ((now : Addr) (more : Option Child) → AllByRecursion (IsMade v) (later now more)) → AllByRecursion (IsMade v) (writes_if a later)
-    by_asked Nothing rest = tt
-    by_asked (Child_is now more) rest = rest now more
-
-pub step_made : (v : VersionNo) (n : ℕ) (origins : List Addr) (step : Step) (path : List Held) → AllMade v path → AllByRecursion (IsMade v) (step_writes v n origins step path)
-step_made v n origins step [] all = tt
-step_made v n origins (Put key value) (h ∷ above) all = writes_made v n origins h above (Leaf (pairs_with (pairs_in h.page.body) key value)) all
-step_made v n origins (Del key) (h ∷ above) all = by_found (is_some (value_at (pairs_in h.page.body) key))
-  where
-    by_found : (t : Bool) → AllByRecursion (IsMade v) (if t then writes_up v n origins h above (Leaf (pairs_without (pairs_in h.page.body) key)) else [])
-    by_found true = writes_made v n origins h above (Leaf (pairs_without (pairs_in h.page.body) key)) all
-    by_found false = tt
-step_made v n origins (Get key) (h ∷ above) all = tt
-step_made v n origins (Check key want) (h ∷ above) all = tt
-
-pub passed_made : (v : VersionNo) (pages : List Held) (root : Addr) (key : List ℕ) (height : ℕ) (h : Held) (above : List Held) → AreMade v pages → ArePassed pages root key height h above → AllMade v (h ∷ above)
-passed_made v pages root key height h [] all passed = (all h.addr h.page (passed.0).there, tt)
-passed_made v pages root key height h (parent ∷ above) all passed = (all h.addr h.page (passed.0).there, passed_made v pages root key (suc height) parent above all passed.1)
-
 -- The tree that is left
 
-module _ (entries : List CatEntry) (at : PagesAt) (store : Store) (v : VersionNo) (version : StoreVersion) (entry : CatEntry) (found : slice_get store v.0 ≡ Some version) (there : slice_get entries v.0 ≡ Some entry) (read : List Addr) where
+module _ (entries : List CatEntry) (at : PagesAt) (store : Store) (parents : List (Option ℕ)) (v : VersionNo) (version : StoreVersion) (entry : CatEntry) (agrees : Agrees parents entries v.0) (found : slice_get store v.0 ≡ Some version)
+    (there : slice_get entries v.0 ≡ Some entry) (read : List Addr) where
   abbrev store_with : List Pair → Store
   store_with ps = slice_set store v.0 (re_paired version ps)
 
@@ -165,9 +95,9 @@ module _ (entries : List CatEntry) (at : PagesAt) (store : Store) (v : VersionNo
           (ap (λ o. option_or o (at h.addr)) (held_kept read d.overlay.pages h.addr (kept_is true e) ∙ absent) ∙ stands e))
       by_note false e = pages_are (kept read d.overlay.pages) (with_left read d.overlay.pages h.addr h.page (kept_is false e)) now
 
-  stepped : (d : Drafted) (step : Step) (path : List Held) (ps : List Pair) → (entry.frozen && is_change step) ≡ false → walk d.overlay.pages entry.root (step_key step) ≡ Reached path → AreMade v d.overlay.pages
+  stepped : (d : Drafted) (step : Step) (path : List Held) (ps : List Pair) → (entry.frozen && is_change step) ≡ false → walk parents v.0 d.overlay.pages entry.root (step_key step) ≡ Reached path
       → ((x : Addr) → is_noted (drafted_after v d step path).read x ≡ true → is_noted read x ≡ true) → StandAt ps d.overlay → StandAt (pairs_after_step ps step) (drafted_after v d step path).overlay
-  stepped d step path ps may way made reads now =
+  stepped d step path ps may way reads now =
       subst (λ (s : Store). IsDraft entries at s (only_at read (step_on v d.overlay step path))) (set_twice store v.0 (re_paired version ps) (re_paired version (pairs_after_step ps step)))
       (subst (λ (o : Overlay). IsDraft entries at (slice_set (store_with ps) v.0 (re_paired version (pairs_after_step ps step))) o) same_overlay
       (step_found entries at (store_with ps) (only_at read d.overlay) v (re_paired version ps) entry step (real.leaf ∷ real.above) now (get-set_same store v.0 version (re_paired version ps) found) there may real.found))
@@ -178,8 +108,8 @@ module _ (entries : List CatEntry) (at : PagesAt) (store : Store) (v : VersionNo
       tree : PagesAt
       tree = laid_over (kept read o.pages) at
 
-      passed : Passed o.pages entry.root (step_key step) path
-      passed = walk_passes o.pages entry.root (step_key step) path way
+      passed : Passed parents v.0 o.pages entry.root (step_key step) path
+      passed = walk_passes parents v.0 o.pages entry.root (step_key step) path way
 
       stands : (a : Addr) (p : Page) → is_kept read a ≡ true → held_at o.pages a ≡ Some p → tree a ≡ Some p
       stands a p keep held = ap (λ x. option_or x (at a)) (held_kept read o.pages a keep ∙ held)
@@ -205,14 +135,14 @@ module _ (entries : List CatEntry) (at : PagesAt) (store : Store) (v : VersionNo
 
       same_leaf : passed.leaf ≡ real.leaf
       same_leaf =
-          same_held entries tree v entry there now.shown.tree now.shown.ordered o.pages (λ a. is_kept read a ≡ true) made stands (step_key step) 0 passed.leaf real.leaf
-          (on_path entries tree v entry there now.shown.tree now.shown.ordered o.pages (λ a. is_kept read a ≡ true) made stands (step_key step) 0 passed.leaf leaf_known (first_passed o.pages entry.root (step_key step) 0 passed.leaf passed.above passed.passed))
+          same_held entries tree parents v entry there now.shown.tree agrees o.pages (λ a. is_kept read a ≡ true) stands (step_key step) 0 passed.leaf real.leaf
+          (on_path entries tree parents v entry there now.shown.tree agrees o.pages (λ a. is_kept read a ≡ true) stands (step_key step) 0 passed.leaf leaf_known (first_passed parents v.0 o.pages entry.root (step_key step) 0 passed.leaf passed.above passed.passed))
           (first_up entries tree v.0 entry.root (step_key step) 0 real.leaf real.above real.up)
 
       same_ws : ws ≡ step_writes v o.fresh d.origins step (real.leaf ∷ real.above)
       same_ws =
           ap (step_writes v o.fresh d.origins step) passed.is
-          ∙ (same_step entries tree v entry there now.shown.tree now.shown.ordered o.pages (λ a. is_kept read a ≡ true) made stands (step_key step) o.fresh d.origins step passed.leaf passed.above real.above passed.passed
+          ∙ (same_step entries tree parents v entry there now.shown.tree agrees o.pages (λ a. is_kept read a ≡ true) stands (step_key step) o.fresh d.origins step passed.leaf passed.above real.above passed.passed
           (subst (λ (h : Held). IsUp entries tree v.0 entry.root (step_key step) 0 h real.above) (sym same_leaf) real.up)
           (subst (λ (hs : List Held). AllByRecursion (λ w. is_kept read w.addr ≡ true) (step_writes v o.fresh d.origins step hs)) passed.is all)
           ∙ ap (λ (h : Held). step_writes v o.fresh d.origins step (h ∷ real.above)) same_leaf)
@@ -222,24 +152,21 @@ module _ (entries : List CatEntry) (at : PagesAt) (store : Store) (v : VersionNo
           step_is v (only_at read o) d.origins step (real.leaf ∷ real.above)
           ∙ (ap (all_written (only_at read o)) (sym same_ws) ∙ (sym (written_kept read ws o all) ∙ ap (only_at read) (sym (step_is v o d.origins step path))))
 
-  moves_stand : (moves : List Move) (d after : Drafted) (ps : List Pair) → ((x : Addr) → is_noted after.read x ≡ true → is_noted read x ≡ true) → (entry.frozen && list_any is_change (done_in moves)) ≡ false → LeadsTo v entry.root d moves after
-      → AreMade v d.overlay.pages → AllByRecursion (λ h. is_noted read h.addr ≡ true → at h.addr ≡ Some h.page) (comes_in moves) → StandAt ps d.overlay → StandAt (pairs_after ps (done_in moves)) after.overlay
-  moves_stand [] d after ps reads may same made stands now = subst (λ (e : Drafted). StandAt ps e.overlay) same now
-  moves_stand (Comes h ∷ moves) d after ps reads may leads made stands now =
+  moves_stand : (moves : List Move) (d after : Drafted) (ps : List Pair) → ((x : Addr) → is_noted after.read x ≡ true → is_noted read x ≡ true) → (entry.frozen && list_any is_change (done_in moves)) ≡ false → LeadsTo parents v entry.root d moves after
+      → AllByRecursion (λ h. is_noted read h.addr ≡ true → at h.addr ≡ Some h.page) (comes_in moves) → StandAt ps d.overlay → StandAt (pairs_after ps (done_in moves)) after.overlay
+  moves_stand [] d after ps reads may same stands now = subst (λ (e : Drafted). StandAt ps e.overlay) same now
+  moves_stand (Comes h ∷ moves) d after ps reads may leads stands now =
       let c = leads.0 in
       let low = c.addr.0 in
-      moves_stand moves (drafted_with d h.addr h.page) after ps reads may leads.1 (made_with v d.overlay.pages h.addr h.page made c.made) stands.1
+      moves_stand moves (drafted_with d h.addr h.page) after ps reads may leads.1 stands.1
       (came d h ps c.absent (ne_eqb h.addr.node.0 8 (λ e. absurd (omega arith))) stands.0 now)
-  moves_stand (Does step ∷ moves) d after ps reads may leads made stands now =
+  moves_stand (Does step ∷ moves) d after ps reads may leads stands now =
       let path = leads.0 in
-      let passed = walk_passes d.overlay.pages entry.root (step_key step) path leads.1 in
       let next = drafted_after v d step path in
-      let ones = step_made v d.overlay.fresh d.origins step path (subst (AllMade v) (sym passed.is) (passed_made v d.overlay.pages entry.root (step_key step) 0 passed.leaf passed.above made passed.passed)) in
-      moves_stand moves next after (pairs_after_step ps step) reads (rest_may entry.frozen (is_change step) (list_any is_change (done_in moves)) may) leads.2
-      (subst (λ (x : Overlay). AreMade v x.pages) (sym (step_is v d.overlay d.origins step path)) (all_made v (step_writes v d.overlay.fresh d.origins step path) d.overlay made ones)) stands
-      (stepped d step path ps (first_may entry.frozen (is_change step) (list_any is_change (done_in moves)) may) leads.1 made (λ x e. reads x (leads_reads v entry.root next after moves leads.2 x e)) now)
+      moves_stand moves next after (pairs_after_step ps step) reads (rest_may entry.frozen (is_change step) (list_any is_change (done_in moves)) may) leads.2 stands
+      (stepped d step path ps (first_may entry.frozen (is_change step) (list_any is_change (done_in moves)) may) leads.1 (λ x e. reads x (leads_reads parents v entry.root next after moves leads.2 x e)) now)
 
 pub moves_keep_tree : MovesKeepTree
-moves_keep_tree entries at store v version entry moves d shown none_new found there may leads stands =
-    moves_stand entries at store v version entry found there d.read moves no_pages d version.pairs (λ x e. e) may leads (λ a p e. absurd cc) stands
+moves_keep_tree entries at store parents v version entry moves d shown none_new agrees found there may leads stands =
+    moves_stand entries at store parents v version entry agrees found there d.read moves no_pages d version.pairs (λ x e. e) may leads stands
     (subst (λ (s : Store). IsDraft entries at s (only_at d.read no_pages.overlay)) (sym (set_itself store v.0 version found)) (none_held entries at store shown none_new))

@@ -83,11 +83,11 @@ module _ (fresh : ℕ) (by : List Addr) (long : length by ≡ fresh) (all : AllB
       let same = mapped rest in
       (is.0, omega arith, omega arith, omega arith, placed_is fresh by first long all is.4, ascends low rest high r, children low low rest high (λ key e. e) r is.5)
 
-  page_is : (v top seq : ℕ) (p : Page) → v < 64 → top < 2 ^ 16 → 1 ≤ seq → seq < 2 ^ 64 → IsSized v fresh top p → IsOrdered p → IsPage (placed_page by seq p)
-  page_is v top seq p few small low high is ordered = record {
+  page_is : (top seq : ℕ) (p : Page) → top < 2 ^ 16 → 1 ≤ seq → seq < 2 ^ 64 → IsSized fresh top p → IsOrdered p → IsPage (placed_page by seq p)
+  page_is top seq p small low high is ordered = record {
     seq_low = low;
     seq_high = high;
-    made = subst (λ n. n < 64) (sym is.made) few;
+    made = is.made;
     copied = is.copied;
     copied_above = ordered.copied_above;
     low = is.low;
@@ -100,7 +100,7 @@ module _ (fresh : ℕ) (by : List Addr) (long : length by ≡ fresh) (all : AllB
 
 -- the changed pages and the new ones
 pub placed_are_pages : PlacedArePages
-placed_are_pages v root moves d slots few steps many leads long addrs ordered =
+placed_are_pages parents v root moves d slots few steps many leads long addrs ordered =
     all_append (λ h. IsPage h.1) (map pair_of (flat_map (placed_old by d.overlay.pages) (changed_order d))) (map pair_of (flat_map (placed_new by d.overlay.pages) order))
     (olds (changed_order d) (passes (is_changed d.overlay.changed) d.read)) (news order)
   where
@@ -116,8 +116,8 @@ placed_are_pages v root moves d slots few steps many leads long addrs ordered =
     small : top < 2 ^ 16
     small = omega arith
 
-    sized : AreSized v.0 top d.overlay
-    sized = moves_sized v root moves d steps leads
+    sized : AreSized top d.overlay
+    sized = moves_sized parents v root moves d few steps leads
 
     by_long : length by ≡ d.overlay.fresh
     by_long = mapped_long (range_with_len 0 d.overlay.fresh) ∙ length_range 0 d.overlay.fresh
@@ -150,7 +150,7 @@ placed_are_pages v root moves d slots few steps many leads long addrs ordered =
         cases (Some p) there rest =
             let is = (sized.each x p there).1 in
             let next = next_is (2 ^ 64) p.seq is.seq_low is.seq_high in
-            (page_is d.overlay.fresh by by_long by_addrs v.0 top (next_number p.seq) p few small next.0 next.1 is (ordered x p there (or_right (is_new x) (is_noted d.overlay.changed x) all.0)), rest)
+            (page_is d.overlay.fresh by by_long by_addrs top (next_number p.seq) p small next.0 next.1 is (ordered x p there (or_right (is_new x) (is_noted d.overlay.changed x) all.0)), rest)
 
     news : (ns : List ℕ) → AllByRecursion (λ h. IsPage h.1) (map pair_of (flat_map (placed_new by d.overlay.pages) ns))
     news [] = tt
@@ -161,4 +161,4 @@ placed_are_pages v root moves d slots few steps many leads long addrs ordered =
         cases None there rest = rest
         cases (Some p) there rest =
             let is = (sized.each (new_addr n) p there).1 in
-            (page_is d.overlay.fresh by by_long by_addrs v.0 top p.seq p few small is.seq_low is.seq_high is (ordered (new_addr n) p there refl), rest)
+            (page_is d.overlay.fresh by by_long by_addrs top p.seq p small is.seq_low is.seq_high is (ordered (new_addr n) p there refl), rest)

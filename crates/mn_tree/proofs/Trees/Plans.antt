@@ -115,7 +115,7 @@ all_mapped [] all = tt
 all_mapped (x ∷ xs) all = (all.0, all_mapped xs all.1)
 
 pub moves_are_placed : MovesRead → PlacedArePages → MovesArePlaced
-moves_are_placed moves_read placed_are_pages entries at store v version entry moves d slots shown none_new found there may leads stands few steps many long addrs free = record {
+moves_are_placed moves_read placed_are_pages entries at store parents v version entry moves d slots shown none_new agrees found there may leads stands few steps many long addrs free = record {
   changed = changed;
   new = new;
   are = are;
@@ -128,7 +128,7 @@ moves_are_placed moves_read placed_are_pages entries at store v version entry mo
   first = all_news by d.overlay.pages (λ h. h.page.seq ≡ 1) (new_order d)
       (weaker (λ n. n < d.overlay.fresh) (λ n. (p : Page) → held_at d.overlay.pages (new_addr n) ≡ Some p → p.seq ≡ 1) (λ n low p held. let h = reads.new n low in ap (λ (y : Page). y.seq) (same_page p h.0 (sym held ∙ h.1)) ∙ h.2) (new_order d) lows);
   pages = subst (AllByRecursion (λ (h : Held). IsPage h.page)) are
-      (all_mapped (placed slots d) (placed_are_pages v entry.root moves d slots few steps many leads long addrs
+      (all_mapped (placed slots d) (placed_are_pages parents v entry.root moves d slots few steps many leads long addrs
       (λ addr page held new_or. draft.shown.ordered addr page (ap (λ o. option_or o (at addr)) (held_kept d.read d.overlay.pages addr (known addr new_or) ∙ held)))));
   shown = subst (λ (hs : List Held). IsShown entries (laid_over hs at) after) same_pages (placed_over entries at after d (kept d.read d.overlay.pages) slots shown.tree draft reads.changed long free);
 }
@@ -137,10 +137,10 @@ moves_are_placed moves_read placed_are_pages entries at store v version entry mo
     after = slice_set store v.0 (record version { pairs = pairs_after version.pairs (done_in moves) })
 
     reads : AreReads moves d
-    reads = moves_read v entry.root moves d leads
+    reads = moves_read parents v entry.root moves d leads
 
     draft : IsDraft entries at after (only_at d.read d.overlay)
-    draft = moves_keep_tree entries at store v version entry moves d shown none_new found there may leads stands
+    draft = moves_keep_tree entries at store parents v version entry moves d shown none_new agrees found there may leads stands
 
     by : List Addr
     by = slots_by_number (new_order d) slots d.overlay.fresh
@@ -195,11 +195,11 @@ moves_are_placed moves_read placed_are_pages entries at store v version entry mo
 
 -- Steps that only read
 
-quiet : (v : VersionNo) (root : Addr) (moves : List Move) (d after : Drafted) → LeadsTo v root d moves after → list_any is_change (done_in moves) ≡ false → (after.overlay.changed ≡ d.overlay.changed) × (after.overlay.fresh ≡ d.overlay.fresh)
-quiet v root [] d after same none = (ap (λ (e : Drafted). e.overlay.changed) (sym same), ap (λ (e : Drafted). e.overlay.fresh) (sym same))
-quiet v root (Comes h ∷ moves) d after leads none = quiet v root moves (drafted_with d h.addr h.page) after leads.1 none
-quiet v root (Does step ∷ moves) d after leads none =
-    let rest = quiet v root moves (drafted_after v d step leads.0) after leads.2 (more (is_change step) (list_any is_change (done_in moves)) none) in
+quiet : (parents : List (Option ℕ)) (v : VersionNo) (root : Addr) (moves : List Move) (d after : Drafted) → LeadsTo parents v root d moves after → list_any is_change (done_in moves) ≡ false → (after.overlay.changed ≡ d.overlay.changed) × (after.overlay.fresh ≡ d.overlay.fresh)
+quiet parents v root [] d after same none = (ap (λ (e : Drafted). e.overlay.changed) (sym same), ap (λ (e : Drafted). e.overlay.fresh) (sym same))
+quiet parents v root (Comes h ∷ moves) d after leads none = quiet parents v root moves (drafted_with d h.addr h.page) after leads.1 none
+quiet parents v root (Does step ∷ moves) d after leads none =
+    let rest = quiet parents v root moves (drafted_after v d step leads.0) after leads.2 (more (is_change step) (list_any is_change (done_in moves)) none) in
     let still = stays step leads.0 (first (is_change step) (list_any is_change (done_in moves)) none) in
     (rest.0 ∙ ap (λ (o : Overlay). o.changed) still, rest.1 ∙ ap (λ (o : Overlay). o.fresh) still)
   where
@@ -219,4 +219,4 @@ quiet v root (Does step ∷ moves) d after leads none =
     stays (Del key) (h ∷ above) e = absurd cc
 
 pub quiet_moves : QuietMoves
-quiet_moves v root moves d leads none = quiet v root moves no_pages d leads none
+quiet_moves parents v root moves d leads none = quiet parents v root moves no_pages d leads none

@@ -1,5 +1,5 @@
 -- What a walk tells of the pages of its path.
-use Rattle.std.proofs.Common.{◌≡◌, ℕ, suc, true, List, [], ◌∷◌, Some, subst, sym}
+use Rattle.std.proofs.Common.{◌≡◌, ℕ, suc, true, List, [], ◌∷◌, Option, Some, subst, sym}
 use Rattle.std.specs.List.{AllByRecursion}
 use Rattle.mn_base.specs.declared.ids.Addr.{Addr}
 use Rattle.mn_page.specs.Grammar.{height_of}
@@ -21,12 +21,12 @@ abbrev pub IsWay : List Held → List ℕ → List Held → Type 0
 IsWay pages key path = AreHeld pages path × LeafFirst key path
 
 -- the pages of a path are held, and its leaf covers the key
-pub reached : (pages : List Held) (root : Addr) (key : List ℕ) (path : List Held) → walk pages root key ≡ Reached path → IsWay pages key path
-reached pages root key path way =
-    let p = walk_passes pages root key path way in
-    let first = first_passed pages root key 0 p.leaf p.above p.passed in
+pub reached : (parents : List (Option ℕ)) (v : ℕ) (pages : List Held) (root : Addr) (key : List ℕ) (path : List Held) → walk parents v pages root key ≡ Reached path → IsWay pages key path
+reached parents v pages root key path way =
+    let p = walk_passes parents v pages root key path way in
+    let first = first_passed parents v pages root key 0 p.leaf p.above p.passed in
     subst (IsWay pages key) (sym p.is) (held_up 0 p.leaf p.above p.passed, (first.level, first.covers))
   where
-    held_up : (height : ℕ) (h : Held) (above : List Held) → ArePassed pages root key height h above → AreHeld pages (h ∷ above)
+    held_up : (height : ℕ) (h : Held) (above : List Held) → ArePassed parents v pages root key height h above → AreHeld pages (h ∷ above)
     held_up height h [] passed = ((passed.0).there, tt)
     held_up height h (parent ∷ above) passed = ((passed.0).there, held_up (suc height) parent above passed.1)

@@ -52,7 +52,7 @@ one_at_most node from (suc count) =
     ] refl
 
 -- a read has at most one participant
-read_alone : (nodes : ℕ) (items : List Item) → is_read items ≡ true → length (participants_of (record { nodes = nodes; items = items })) ≤ 1
+pub read_alone : (nodes : ℕ) (items : List Item) → is_read items ≡ true → length (participants_of (record { nodes = nodes; items = items })) ≤ 1
 read_alone nodes [] e = absurd cc
 read_alone nodes (Read node start k ∷ []) e = one_at_most node 0 nodes
 read_alone nodes (Read node start k ∷ (i ∷ is)) e = absurd cc

@@ -16,8 +16,7 @@ use Rattle.mn_world.specs.declared.entry.Entry.{Entry}
 use Rattle.mn_world.specs.declared.entry.What.{What}
 use Rattle.mn_world.specs.declared.entry.What.TheVariants.{Begin, Issue, Called, Stopped, Restarted, Abandoned, Answered}
 use Rattle.mn_world.specs.Calls.{Call, is_by, client_entries, call_in, calls_of}
-use Rattle.mn_world.specs.Shown.{Seen, seen_by, seen_in}
-use Rattle.mn_world.specs.History.{seen_at}
+use Rattle.mn_world.specs.Shown.{Seen, seen_by, seen_in, seen_at}
 use Rattle.mn_world.specs.Protocol.{Start, KeepsProtocol}
 use Rattle.mn_world.specs.Laws.{SeenIsFlat}
 use Rattle.mn_world.proofs.Bytes.Step.{flat}
@@ -25,11 +24,11 @@ use Rattle.mn_world.proofs.Bytes.Through.{Whole}
 use Rattle.mn_world.proofs.Bytes.Spaces.{whole_run}
 use Rattle.mn_world.proofs.Bytes.Reads.{call_reads}
 
-nothing : (seen : Seen) → Contains [] seen → ⊥
+pub nothing : (seen : Seen) → Contains [] seen → ⊥
 nothing seen h = absurd (omega (arith, h.1))
 
 -- a read that was seen
-abbrev IsSeenBy : NodeNo → Request → NodeReply → Seen → Type 0
+abbrev pub IsSeenBy : NodeNo → Request → NodeReply → Seen → Type 0
 IsSeenBy n request reply seen =
     (tid : Tid) × (start : ℕ) × (length : ℕ) × (bytes : List ℕ) × (request ≡ Ask.Exec tid (Bare.Read start length ∷ [])) × (reply ≡ Say.Done (bytes ∷ []))
     × (seen ≡ record { place = record { node = n; start = start; length = length }; bytes = bytes })
@@ -41,7 +40,7 @@ only x seen h = by (Contains-append_cases (x ∷ []) [] seen h)
     by (inl here) = Rattle.std.proofs.lemmas.List.Elements.All-contains (λ y. y ≡ x) (x ∷ []) seen (Rattle.std.proofs.lemmas.List.Elements.All-from_recursion (λ y. y ≡ x) (x ∷ []) (refl, tt)) here
     by (inr none) = absurd (nothing seen none)
 
-seen_by_is : (n : NodeNo) (request : Request) (reply : NodeReply) (seen : Seen) → Contains (seen_by n request reply) seen → IsSeenBy n request reply seen
+pub seen_by_is : (n : NodeNo) (request : Request) (reply : NodeReply) (seen : Seen) → Contains (seen_by n request reply) seen → IsSeenBy n request reply seen
 seen_by_is n (Ask.Prepare tid ps part) reply seen h = absurd (nothing seen h)
 seen_by_is n (Ask.Decide tid verdict) reply seen h = absurd (nothing seen h)
 seen_by_is n (Ask.Force tid) reply seen h = absurd (nothing seen h)
@@ -65,7 +64,7 @@ seen_by_is n (Ask.Exec tid (Bare.Read start k ∷ [])) Say.Down seen h = absurd 
 seen_by_is n (Ask.Exec tid (Bare.Read start k ∷ [])) Say.Stopped seen h = absurd (nothing seen h)
 seen_by_is n (Ask.Exec tid (Bare.Read start k ∷ [])) Say.NoMemory seen h = absurd (nothing seen h)
 
-abbrev StandsIn : List (List ℕ) → Seen → Type 0
+abbrev pub StandsIn : List (List ℕ) → Seen → Type 0
 StandsIn memory seen = seen.bytes ≡ bytes_in (space_in memory seen.place.node) seen.place.start seen.place.length
 
 called_seen : (start : Start) (past : List Entry) (by : Option ClientNo) (k : NodeNo) (request : Request) (reply : NodeReply) (seen : Seen) → Whole start past → KeepsProtocol start past (record { node = Some k; client = by; what = Called request reply })
@@ -78,17 +77,17 @@ called_seen start past by k request reply seen w keeps (tid, at, length, bytes, 
     head : (a b : List ℕ) → a ∷ [] ≡ b ∷ [] → a ≡ b
     head a b h = cc
 
-stopped_unseen : (k : NodeNo) (request : Request) (seen : Seen) → IsSeenBy k request Say.Stopped seen → ⊥
+pub stopped_unseen : (k : NodeNo) (request : Request) (seen : Seen) → IsSeenBy k request Say.Stopped seen → ⊥
 stopped_unseen k request seen (tid, at, length, bytes, asked, said, is) = absurd cc
 
-lone : (n : NodeNo) (request : Request) (reply : NodeReply) (seen : Seen) → Contains (seen_by n request reply ++ []) seen → IsSeenBy n request reply seen
+pub lone : (n : NodeNo) (request : Request) (reply : NodeReply) (seen : Seen) → Contains (seen_by n request reply ++ []) seen → IsSeenBy n request reply seen
 lone n request reply seen h = by (Contains-append_cases (seen_by n request reply) [] seen h)
   where
     by : Contains (seen_by n request reply) seen ⊎ Contains [] seen → IsSeenBy n request reply seen
     by (inl here) = seen_by_is n request reply seen here
     by (inr none) = absurd (nothing seen none)
 
-here_seen : (start : Start) (past : List Entry) (by : Option ClientNo) (at : Option NodeNo) (what : What) (seen : Seen) → Whole start past → KeepsProtocol start past (record { node = at; client = by; what = what })
+pub here_seen : (start : Start) (past : List Entry) (by : Option ClientNo) (at : Option NodeNo) (what : What) (seen : Seen) → Whole start past → KeepsProtocol start past (record { node = at; client = by; what = what })
     → Contains (seen_at (record { node = at; client = by; what = what })) seen → StandsIn (flat start past) seen
 here_seen start past by None what seen w keeps h = absurd (nothing seen h)
 here_seen start past by (Some k) (Called request reply) seen w keeps h = called_seen start past by k request reply seen w keeps (lone k request reply seen h)

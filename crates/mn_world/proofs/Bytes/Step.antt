@@ -84,7 +84,7 @@ held_without t u (h ∷ hs) other =
     ] refl
 
 -- a vote is held or decided
-voted_held : (t : Tid) (records : List Record) → has_voted records t ≡ true
+pub voted_held : (t : Tid) (records : List Record) → has_voted records t ≡ true
     → ((g : HeldPart) × (held_part_of t (held_parts records) ≡ Some g)) ⊎ ((has_decided_yes records t ≡ true) ⊎ (has_decided_no records t ≡ true))
 voted_held t [] e = absurd cc
 voted_held t (Voted u ps part ∷ records) e =
@@ -199,7 +199,7 @@ any_contains (p ∷ ps) n f all e =
       | inr there ↦ any_contains ps n f all.1 there
     ]
 
-named_part : (start : Start) (mini : Mini) (n : NodeNo) → IsMade start mini → list_any (λ i. node_same (item_node i) n) mini.items ≡ true → list_any (λ m. node_same m n) (participants_of mini) ≡ true
+pub named_part : (start : Start) (mini : Mini) (n : NodeNo) → IsMade start mini → list_any (λ i. node_same (item_node i) n) mini.items ≡ true → list_any (λ m. node_same m n) (participants_of mini) ≡ true
 named_part start mini n made e = named_takes_part mini n (named_below mini.nodes mini.items n (items_below mini.nodes mini.items made.1.inside) e) e
 
 -- A step

@@ -248,15 +248,15 @@ abandoned_is_never start past later c tid sound run gone = never_from start (lat
 -- Refused
 
 -- at most one of the calls is an Exec of the id
-abbrev IsOnce : Tid → List Call → Type 0
+abbrev pub IsOnce : Tid → List Call → Type 0
 IsOnce tid [] = ⊤
 IsOnce tid (c ∷ cs) = (is_exec tid c.request ≡ true → list_any (λ d. is_exec tid d.request) cs ≡ false) × IsOnce tid cs
 
 -- an Exec of the id goes to its one participant
-abbrev IsToOne : ClientNo → List Entry → Tid → Call → Type 0
+abbrev pub IsToOne : ClientNo → List Entry → Tid → Call → Type 0
 IsToOne c past tid call = is_exec tid call.request ≡ true → (mini : Mini) × (issue_named tid (issues_of (client_entries c past)) ≡ Some mini) × (participants_of mini ≡ call.node ∷ [])
 
-abbrev ExecsOnce : ClientNo → List Entry → Tid → Type 0
+abbrev pub ExecsOnce : ClientNo → List Entry → Tid → Type 0
 ExecsOnce c past tid = AllByRecursion (IsToOne c past tid) (calls_of (client_entries c past)) × IsOnce tid (calls_of (client_entries c past))
 
 -- what a client may send as an Exec
@@ -271,7 +271,7 @@ exec_sent start past c k tid Ask.List e s = absurd cc
 exec_sent start past c k tid (Ask.Peek at n) e s = absurd cc
 
 -- where nothing was sent to the participant, no call is an Exec
-unsent_none : (c : ClientNo) (past : List Entry) (tid : Tid) (k : NodeNo) (mini : Mini) → issue_named tid (issues_of (client_entries c past)) ≡ Some mini → participants_of mini ≡ k ∷ [] → (calls : List Call) → AllByRecursion (IsToOne c past tid) calls
+pub unsent_none : (c : ClientNo) (past : List Entry) (tid : Tid) (k : NodeNo) (mini : Mini) → issue_named tid (issues_of (client_entries c past)) ≡ Some mini → participants_of mini ≡ k ∷ [] → (calls : List Call) → AllByRecursion (IsToOne c past tid) calls
     → list_any (λ d. node_same d.node k && (is_try tid d.request && true)) calls ≡ false → list_any (λ d. is_exec tid d.request) calls ≡ false
 unsent_none c past tid k mini is alone [] all unsent = refl
 unsent_none c past tid k mini is alone (d ∷ ds) all unsent =
@@ -327,7 +327,7 @@ once_here start past e c (Some k) (Issue u m) tid kept keeps own o = (All-map (I
 once_here start past e c (Some k) (Abandoned u) tid kept keeps own o = (All-map (IsToOne c past tid) (IsToOne c (e ∷ past) tid) (λ d h. to_one_stays start past e c tid d kept keeps h) (calls_of (client_entries c past)) o.0, o.1)
 once_here start past e c (Some k) (Answered number answer) tid kept keeps own o = (All-map (IsToOne c past tid) (IsToOne c (e ∷ past) tid) (λ d h. to_one_stays start past e c tid d kept keeps h) (calls_of (client_entries c past)) o.0, o.1)
 
-once_run : (start : Start) (past : List Entry) (c : ClientNo) (tid : Tid) → StartsSound start → FollowsProtocol start past → ExecsOnce c past tid
+pub once_run : (start : Start) (past : List Entry) (c : ClientNo) (tid : Tid) → StartsSound start → FollowsProtocol start past → ExecsOnce c past tid
 once_run start [] c tid sound run = (tt, tt)
 once_run start (e ∷ past) c tid sound run =
     let kept = kept_run start past sound run.0 in
@@ -338,7 +338,7 @@ once_run start (e ∷ past) c tid sound run =
     ] refl
 
 -- one call is not told of in two ways
-asked_some : (tid : Tid) (say : NodeReply → Bool) (calls : List Call) → list_any (λ c. is_exec tid c.request && say c.reply) calls ≡ true → list_any (λ c. is_exec tid c.request) calls ≡ true
+pub asked_some : (tid : Tid) (say : NodeReply → Bool) (calls : List Call) → list_any (λ c. is_exec tid c.request && say c.reply) calls ≡ true → list_any (λ c. is_exec tid c.request) calls ≡ true
 asked_some tid say [] e = absurd cc
 asked_some tid say (c ∷ cs) e = elim (or_cases (is_exec tid c.request && say c.reply) (list_any (λ c. is_exec tid c.request && say c.reply) cs) e) as (λ _. (is_exec tid c.request || list_any (λ c. is_exec tid c.request) cs) ≡ true) [
   | inl here ↦ or_left (is_exec tid c.request) (list_any (λ c. is_exec tid c.request) cs) (and_left (is_exec tid c.request) (say c.reply) here)
@@ -395,7 +395,7 @@ executed_result past tid k (inl h) = told_result tid (calls_of (client_entries t
 executed_result past tid k (inr h) = told_result tid (calls_of (client_entries tid.client past)) (inr (told_somewhere (is_exec tid) is_stopped k (calls_of (client_entries tid.client past)) h))
 
 -- an Exec comes from the client of the id
-some_to_one : (c : ClientNo) (past : List Entry) (tid : Tid) (calls : List Call) → AllByRecursion (IsToOne c past tid) calls → list_any (λ d. is_exec tid d.request) calls ≡ true
+pub some_to_one : (c : ClientNo) (past : List Entry) (tid : Tid) (calls : List Call) → AllByRecursion (IsToOne c past tid) calls → list_any (λ d. is_exec tid d.request) calls ≡ true
     → (k : NodeNo) × (mini : Mini) × (issue_named tid (issues_of (client_entries c past)) ≡ Some mini) × (participants_of mini ≡ k ∷ [])
 some_to_one c past tid [] all e = absurd cc
 some_to_one c past tid (d ∷ ds) all e = elim (or_cases (is_exec tid d.request) (list_any (λ d. is_exec tid d.request) ds) e) as (λ _. (k : NodeNo) × (mini : Mini) × (issue_named tid (issues_of (client_entries c past)) ≡ Some mini) × (participants_of mini ≡ k ∷ [])) [
@@ -457,12 +457,12 @@ since_step es tid at by (Abandoned t) older h = elim (or_cases (tid_same t tid) 
   | inr there ↦ or_right (tid_same t tid) (was_abandoned tid es) (older there)
 ]
 
-since_abandoned : (es : List Entry) (tid : Tid) → was_abandoned tid (since_begin es) ≡ true → was_abandoned tid es ≡ true
+pub since_abandoned : (es : List Entry) (tid : Tid) → was_abandoned tid (since_begin es) ≡ true → was_abandoned tid es ≡ true
 since_abandoned [] tid e = e
 since_abandoned (x ∷ es) tid e = since_step es tid x.node x.client x.what (since_abandoned es tid) e
 
 -- an id that is issued again would have a lower number
-issued_anew : (start : Start) (past : List Entry) (c : ClientNo) (t tid : Tid) (m mini : Mini) → Kept start past → AllowsIssue c (client_entries c past) t m → tid_same t tid ≡ true → issue_named tid (issues_of (client_entries c past)) ≡ Some mini → ⊥
+pub issued_anew : (start : Start) (past : List Entry) (c : ClientNo) (t tid : Tid) (m mini : Mini) → Kept start past → AllowsIssue c (client_entries c past) t m → tid_same t tid ≡ true → issue_named tid (issues_of (client_entries c past)) ≡ Some mini → ⊥
 issued_anew start past c t tid m mini kept own same is =
     let low : tid.serial ≤ length (issues_of (client_entries c past)) = (kept.issued c tid mini is).1 in
     let high : t.serial ≡ length (issues_of (client_entries c past)) + 1 = own.serial in
@@ -529,7 +529,7 @@ IsClosed c past tid =
 none_is_some : (m : Mini) → None ≡ Some m → ⊥
 none_is_some m e = absurd cc
 
-closed_since : (start : Start) (past : List Entry) (c : ClientNo) (at : Option NodeNo) (what : What) (tid : Tid) (mini : Mini) → Kept start past → KeepsProtocol start past (record { node = at; client = Some c; what = what })
+pub closed_since : (start : Start) (past : List Entry) (c : ClientNo) (at : Option NodeNo) (what : What) (tid : Tid) (mini : Mini) → Kept start past → KeepsProtocol start past (record { node = at; client = Some c; what = what })
     → issue_named tid (issues_of (client_entries c past)) ≡ Some mini → issue_named tid (issues_of (since_begin (client_entries c past))) ≡ None
     → issue_named tid (issues_of (since_begin_after what (record { node = at; client = Some c; what = what }) (since_begin (client_entries c past)))) ≡ None
 closed_since start past c at (Begin number op) tid mini kept keeps is none = refl

@@ -69,7 +69,7 @@ lock_answered = record {
     (put, refl),
     (
       refl,
-      (refl, record { rest = locked.after 21; last = later_try locked locked 21; middle = six_tries; first = first_try; taken = []; split = refl; over = refl; six = refl; last_fails = locked_fails 21 (locked.after 18); others_fail = six_fail locked; tries = refl; anew = refl; whole = refl }),
+      (refl, record { rest = locked.after 21; last = later_try locked locked 21; middle = six_tries; first = first_try; taken = []; split = refl; over = refl; six = refl; last_fails = locked_fails 21 (locked.after 18); others_fail = six_fail locked; tries = refl; anew = refl; whole = refl; took = tt; leaves = (tt, (tt, (tt, (tt, (tt, (tt, (tt, tt)))))), tt); may_be_kept = tt }),
     ),
   );
 }
@@ -99,6 +99,9 @@ moved_answered = record {
           tries = refl;
           anew = refl;
           whole = refl;
+          took = tt;
+          leaves = (tt, (tt, (tt, (tt, (tt, (tt, (tt, tt)))))), tt);
+          may_be_kept = tt;
         },
       ),
     ),
@@ -114,7 +117,7 @@ forced_answered = record {
     (put, refl),
     (
       refl,
-      (refl, record { rest = forced.after 21; last = later_try forced locked 21; middle = six_tries; first = first_try; taken = []; split = refl; over = refl; six = refl; last_fails = forced_fails 21 (locked.after 18); others_fail = six_fail locked; tries = refl; anew = refl; whole = refl }),
+      (refl, record { rest = forced.after 21; last = later_try forced locked 21; middle = six_tries; first = first_try; taken = []; split = refl; over = refl; six = refl; last_fails = forced_fails 21 (locked.after 18); others_fail = six_fail locked; tries = refl; anew = refl; whole = refl; took = tt; leaves = (tt, (tt, (tt, (tt, (tt, (tt, (tt, tt)))))), tt); may_be_kept = tt }),
     ),
   );
 }
@@ -128,7 +131,7 @@ path_answered = record {
     (put, refl),
     (
       refl,
-      (refl, record { rest = []; last = later_try strayed locked 21; middle = six_tries; first = first_try; taken = []; split = refl; over = refl; six = refl; last_fails = strayed_fails 21 (locked.after 18); others_fail = six_fail locked; tries = refl; anew = refl; whole = refl }),
+      (refl, record { rest = []; last = later_try strayed locked 21; middle = six_tries; first = first_try; taken = []; split = refl; over = refl; six = refl; last_fails = strayed_fails 21 (locked.after 18); others_fail = six_fail locked; tries = refl; anew = refl; whole = refl; took = tt; leaves = (tt, (tt, (tt, (tt, (tt, (tt, (tt, tt)))))), tt); may_be_kept = tt }),
     ),
   );
 }
@@ -161,6 +164,9 @@ kept_first_answered = record {
           tries = refl;
           anew = refl;
           whole = refl;
+          took = tt;
+          leaves = (tt, (tt, (tt, (tt, (tt, (tt, (tt, tt)))))), tt);
+          may_be_kept = tt;
         },
       ),
     ),

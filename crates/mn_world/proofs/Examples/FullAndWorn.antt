@@ -3,7 +3,6 @@ use Rattle.std.proofs.Common.{◌≡◌, ℕ, zero, suc, ◌^◌, ◌-◌, inl, 
 use Rattle.byteorder.specs.Endian.{big_bytes}
 use Rattle.mn_base.specs.declared.op.Op.{Op}
 use Rattle.mn_base.specs.declared.op.Op.TheVariants.{Snapshot}
-use Rattle.mn_base.specs.declared.answer.Busy.TheVariants.{Lock}
 use Rattle.mn_base.specs.declared.answer.Answer.TheVariants as Gives
 use Rattle.mn_mini.specs.declared.request.Request.TheVariants as Ask
 use Rattle.mn_mini.specs.declared.reply.NodeReply.TheVariants as Say
@@ -17,9 +16,9 @@ use Rattle.mn_world.specs.declared.entry.Entry.{Entry}
 use Rattle.mn_world.specs.Planned.{page_place, entry_place, count_place, catalog_place}
 use Rattle.mn_world.specs.Needs.{NeedsSlots, WritesOld}
 use Rattle.mn_world.specs.Shown.{Seen, seen_in, SeesCatalog}
-use Rattle.mn_world.specs.Answers.{FailsAs, FreeSlots, ShowsBytes}
+use Rattle.mn_world.specs.Answers.{FreeSlots, ShowsBytes}
 use Rattle.mn_world.specs.Run.{IsLegalBy}
-use Rattle.mn_world.proofs.Examples.TwoNodes.{node, id}
+use Rattle.mn_world.proofs.Examples.TwoNodes.{node}
 use Rattle.mn_world.proofs.Examples.Entries.{begin, answered, called, read, seen, catalog_of, version, pair}
 use Rattle.mn_world.proofs.Examples.Scans.{entries, entry_rules, frozen_main, m2}
 use Rattle.mn_world.proofs.Examples.Tries.{catalog_bytes, catalog_seen, sees_catalog, put, locked, first_try}
@@ -120,9 +119,6 @@ full_try =
 abbrev full_tries : List Entry
 full_tries = full_try ++ first_try
 
-first_failed : FailsAs 2 put first_try (Lock (node 0) 128 64 (id 1 1))
-first_failed = inl (_, refl, refl)
-
 two_slots : NeedsSlots (seen_in full_try) put 2
 two_slots = (
   record {
@@ -157,7 +153,7 @@ full_answered = record {
   node = tt;
   step = (
     (put, refl),
-    (refl, (refl, full_try, (record { rest = []; earlier = first_try; split = refl; over = refl; begins = inr (_, first_failed); is_try = refl }), lit< tt, two_slots, one_free)),
+    (refl, (refl, full_try, (record { rest = []; earlier = first_try; split = refl; over = refl; begins = inl refl; is_try = refl }), lit< tt, two_slots, one_free)),
   );
 }
 
@@ -194,7 +190,7 @@ worn_answered = record {
         refl,
         worn_try,
         page_place (at 1 1),
-        (record { rest = []; earlier = first_try; split = refl; over = refl; begins = inr (_, first_failed); is_try = refl }),
+        (record { rest = []; earlier = first_try; split = refl; over = refl; begins = inl refl; is_try = refl }),
         refl,
         refl,
         writes_leaf,

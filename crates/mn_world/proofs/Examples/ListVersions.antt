@@ -36,11 +36,17 @@ reply = Listing (listing_of (heads_of empty_store))
 abbrev begun : List Entry
 begun = record { node = None; client = Some (client 0); what = Begin 1 Versions } ∷ []
 
+abbrev the_issue : Entry
+the_issue = record { node = None; client = Some (client 0); what = Rattle.mn_world.specs.declared.entry.What.TheVariants.Issue (id 0 1) reads }
+
 abbrev issued : List Entry
-issued = record { node = None; client = Some (client 0); what = Rattle.mn_world.specs.declared.entry.What.TheVariants.Issue (id 0 1) reads } ∷ begun
+issued = the_issue ∷ begun
+
+abbrev the_read : Entry
+the_read = record { node = Some (node 0); client = Some (client 0); what = Rattle.mn_world.specs.declared.entry.What.TheVariants.Called (Ask.Exec (id 0 1) (part_of reads (node 0))) (Rattle.mn_mini.specs.declared.reply.NodeReply.TheVariants.Done (catalog ∷ [])) }
 
 abbrev done : List Entry
-done = record { node = Some (node 0); client = Some (client 0); what = Rattle.mn_world.specs.declared.entry.What.TheVariants.Called (Ask.Exec (id 0 1) (part_of reads (node 0))) (Rattle.mn_mini.specs.declared.reply.NodeReply.TheVariants.Done (catalog ∷ [])) } ∷ issued
+done = the_read ∷ issued
 
 abbrev answered : List Entry
 answered = record { node = None; client = Some (client 0); what = Answered 1 (Replied reply) } ∷ done
@@ -82,7 +88,7 @@ run_answered = (
   run_done,
   record {
     keeps = record { actor = lit≤ tt; at_node = tt; by_client = (Versions, refl); of_run = tt };
-    means = (refl, inr (inl (refl, (seen, (0, lit< tt, refl), inr catalog_shows))));
+    means = (refl, inr (inl (refl, record { entry = the_read; newer = []; older = the_issue ∷ []; before = issued; since = refl; split = refl; seen = seen; brought = (0, lit< tt, refl); shows = inr catalog_shows })));
   },
 )
 

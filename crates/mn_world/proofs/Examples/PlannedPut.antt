@@ -21,7 +21,7 @@ use Rattle.mn_world.specs.Answers.{all_done, IsPlanBy, LastPlanReplies, Shows, M
 use Rattle.mn_world.specs.Run.{IsLegalBy}
 use Rattle.mn_world.proofs.Plans.PutInPlace.{put_is_planned}
 use Rattle.mn_world.proofs.Examples.TwoNodes.{node, id, prepare}
-use Rattle.mn_world.proofs.Examples.Entries.{AreLegal, own, begin, answered, called, read, seen, catalog_of, main, sees_main, key, pair}
+use Rattle.mn_world.proofs.Examples.Entries.{AreLegal, own, begin, answered, called, read, issue_read, exec_read, seen, catalog_of, main, sees_main, key, pair}
 use Rattle.mn_world.proofs.Examples.Scans.{root, left, left_is_page}
 
 -- the left leaf of main stands on node 1, and has room for k2
@@ -117,7 +117,30 @@ legal_listed = (
     ),
     record { actor = lit≤ tt; node = tt; step = (record { mini = _; issued = refl; alone = refl; own_part = refl; once = refl; open_still = refl }, tt) },
   ),
-  record { actor = lit≤ tt; node = tt; step = ((Versions, refl), (refl, inr (inl (refl, (seen catalog_place (catalog_of (main_entry ∷ [])), (0, lit< tt, refl), inr (main_entry ∷ [], sees_main, refl)))))) },
+  record {
+    actor = lit≤ tt;
+    node = tt;
+    step = (
+      (Versions, refl),
+      (
+        refl,
+        inr (inl (
+          refl,
+          record {
+            entry = exec_read 1 catalog_place (Say.Done (catalog_of (main_entry ∷ []) ∷ []));
+            newer = [];
+            older = issue_read 1 catalog_place ∷ [];
+            before = issue_read 1 catalog_place ∷ begin Versions ∷ [];
+            since = refl;
+            split = refl;
+            seen = seen catalog_place (catalog_of (main_entry ∷ []));
+            brought = (0, lit< tt, refl);
+            shows = inr (main_entry ∷ [], sees_main, refl);
+          },
+        )),
+      ),
+    );
+  },
 )
 
 sound_plan : IsSound plan

@@ -93,7 +93,7 @@ left_seen = seen (page_place (at 1 0)) (page_bytes left)
 abbrev pub right_seen : Seen
 right_seen = seen (page_place (at 0 1)) (page_bytes right)
 
-sees_entries : SeesCatalog catalog_seen entries
+pub sees_entries : SeesCatalog catalog_seen entries
 sees_entries = (refl, lit≤ tt, entry_rules, refl)
 
 abbrev pub read_seen : ℕ → Seen → List Entry

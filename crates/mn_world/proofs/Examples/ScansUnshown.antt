@@ -19,7 +19,7 @@ use Rattle.mn_page.proofs.Examples.Spelling.{at}
 use Rattle.mn_page.proofs.Spelled.{page_spelled_once}
 use Rattle.mn_world.specs.declared.entry.Entry.{Entry}
 use Rattle.mn_world.specs.Planned.{catalog_place}
-use Rattle.mn_world.specs.Shown.{Seen, SeesCatalog, seen_in, SeesPage, ServesNamed, IsChain, BeginsAt, ReachesEnd, leaf_pairs, IsCatalogRead, ScanShows}
+use Rattle.mn_world.specs.Shown.{Seen, SeesCatalog, seen_in, SeesPage, ServesNamed, IsChain, BeginsAt, ReachesEnd, leaf_pairs, IsCatalogRead, ReadShows, ScanShows}
 use Rattle.mn_world.specs.Answers.{Shows}
 use Rattle.mn_world.specs.Calls.{Issued, issues_of, since_begin}
 use Rattle.mn_world.specs.Clients.{is_plan}
@@ -43,8 +43,11 @@ pairs_refuse_nothing heads name low high limit pairs e = by (head_named heads na
 leaves_alone : (es : List Entry) (j : Issued) (js : List Issued) (pairs : List Pair) → issues_of (since_begin es) ≡ j ∷ js → is_plan j.mini.items ≡ false → (ScanShows (seen_in (since_begin es)) scan (Pairs pairs) → ⊥)
     → Shows es (since_begin es) scan (Replied (Pairs pairs)) → ⊥
 leaves_alone es j js pairs issued reads none (inl (i, before, last, plans, planned, done)) = read_is_no_plan es (since_begin es) before i j js issued reads last plans
-leaves_alone es j js pairs issued reads none (inr (inl (given_up, (s, has, inl leaf)))) = leaf
-leaves_alone es j js pairs issued reads none (inr (inl (given_up, (s, has, inr (entries, sees, refused))))) = pairs_refuse_nothing (heads_in entries) main (Some (key 4)) (Some (key 7)) 10 pairs refused
+leaves_alone es j js pairs issued reads none (inr (inl (given_up, shown))) = no_read shown.before shown.seen shown.shows
+  where
+    no_read : (before : List Entry) (s : Seen) → ReadShows before s scan (Pairs pairs) → ⊥
+    no_read before s (inl leaf) = leaf
+    no_read before s (inr (entries, sees, refused)) = pairs_refuse_nothing (heads_in entries) main (Some (key 4)) (Some (key 7)) 10 pairs refused
 leaves_alone es j js pairs issued reads none (inr (inr (given_up, scanned))) = none scanned
 
 -- It stops before the end: the leaf after the first was not read

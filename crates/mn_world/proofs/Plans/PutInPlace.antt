@@ -201,6 +201,10 @@ put_compares f store name key value v nodes e addr p q lp lq le facts place = (t
     back (inr (inr (inl old))) = at_first (sym written ∙ only _ place old.4)
     back (inr (inr (inr count))) = absurd (not_count addr count.0.0 place (sym written ∙ only _ place count.1) count.0.1)
 
+-- what is named is there
+pub named_not : (v : ℕ) → ◌≡◌ {A = Option ℕ} (Some v) None → ⊥
+named_not v e = cc
+
 put_acts : (kept : List Head) (nodes : ℕ) (name key value : List ℕ) (v : ℕ) (e : CatEntry) (addr : Addr) (p : Page) (pairs : List Pair) → HasRoom kept nodes name key value v e addr p pairs
     → (memory : List (List ℕ)) (store : Store) → length memory ≡ nodes → (holds : Holds memory store) → Continues kept (heads_of store)
     → mismatch_from memory 0 (put_in_place nodes key value v e addr p pairs).items ≡ None → PlanActs memory store holds (Tx name (Put key value ∷ [])) (put_in_place nodes key value v e addr p pairs) (Values [])
@@ -236,6 +240,9 @@ put_acts kept nodes name key value v e addr p pairs r memory store many holds on
           (λ k. Contains (compare_places (put_in_place nodes key value v e addr p pairs)) place ↔ IsCompared holds.forest store k (Tx name (Put key value ∷ [])) (put_in_place nodes key value v e addr p pairs) place)
           (same_some v w (sym (still_named kept (heads_of store) name v on r.named) ∙ is))
           (put_compares holds.forest store name key value v nodes e addr p (new_leaf p pairs key value) lp lq le facts place);
+      nowhere = λ none. absurd (named_not v (sym (still_named kept (heads_of store) name v on r.named) ∙ none));
+      wholes = (inl (addr, place_same addr.node (20480 + 1024 * addr.slot) (length (page_bytes (new_leaf p pairs key value))) 1024 lq), tt);
+      once = (tt, tt);
       numbers = (tt, (tt, (put_numbers memory addr p (new_leaf p pairs key value) page lq refl r.number, tt)));
       pages = record {
         changed = addr ∷ [];
@@ -257,4 +264,5 @@ put_is_planned kept nodes name key value v e addr p pairs r = record {
   order = and_from (may_precede addr.node (20480 + 1024 * addr.slot) node_0 (64 + 64 * v)) true
       (or_left (nat_lt (place_rank (20480 + 1024 * addr.slot)) (place_rank (64 + 64 * v))) _ (ap (λ k. nat_lt k (place_rank (64 + 64 * v))) (page_rank addr.slot) ∙ ap (nat_lt 0) (entry_rank v r.few)))
       refl;
+  kind = tt;
 }

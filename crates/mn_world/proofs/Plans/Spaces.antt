@@ -181,7 +181,7 @@ entry_read f sound v e at =
     (head_length (node_count f) 0 (length (slice_index_or f.pages 0 []))) fits (subst (λ k. 64 * v + 64 ≤ k) (sym long) (omega arith))
     ∙ read_piece entry_bytes 64 f.entries v (64 * v) e (entry_sizes f.entries sound.entries) at refl)
 
-not_unused : (e : CatEntry) → IsEntry e → AreZeros (entry_bytes e) → ⊥
+pub not_unused : (e : CatEntry) → IsEntry e → AreZeros (entry_bytes e) → ⊥
 not_unused e is z =
     let seq : big_bytes 8 e.seq ≡ big_bytes 8 0 = same_zeros (big_bytes 8 e.seq) (zeros_front 8 (entry_bytes e) z) in
     let low = is.seq_low in

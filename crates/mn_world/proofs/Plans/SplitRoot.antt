@@ -31,14 +31,14 @@ use Rattle.mn_page.proofs.PairsWith.{ascending-put, all-put, two_parts}
 use Rattle.mn_page.proofs.Alike.{re_paired, all-set}
 use Rattle.mn_page.proofs.Spelled.{length-padded, page_length, entry_length, entry_spelled_once, big_bytes-inj}
 use Rattle.mn_page.proofs.Split.{Split, CanSplit, split_forest, with_root, with_left, new_root, left_page, right_page, split_is_forest, CutPairs, shows_split, old_serves, old_covers, lt_nil}
-use Rattle.mn_world.specs.Planned.{Place, page_place, entry_place, count_place, compare_places, write_places, IsCompared, HasNextNumber, WritesPages, Continues, PlanActs, IsPlanned, place_rank}
+use Rattle.mn_world.specs.Planned.{Place, page_place, entry_place, count_place, compare_places, write_places, IsCompared, HasNextNumber, WritesPages, Continues, PlanActs, IsPlanned, place_rank, IsWholePlace, ComeOnce}
 use Rattle.mn_world.specs.Plans.{write_page, slot_at, left_half, right_half, parent_of_halves, HasSplit, split_items, SplitIsPlanned}
 use Rattle.mn_world.proofs.Plans.Pieces.{bytes_in-skip, bytes_in-within, bytes_in-padded}
 use Rattle.mn_world.proofs.Plans.Spaces.{memory_by_pages, catalog_bytes, page_there, page_read, entry_read, node_0, memory_length, space_in-memory_by_pages, head_length, front_length, catalog_length, AreSlots, node_slots, text_length, get_in-index}
 use Rattle.mn_world.proofs.Plans.Laying.{HasSlots, laid_is, forest_laid, page_over, page_new, count_over}
 use Rattle.mn_world.proofs.Plans.Sizes.{index-set_in, index-add_in, sizes_of, sizes-set_in, sizes-add_in, index_below, index-set-all}
 use Rattle.mn_world.proofs.Plans.Compares.{all_met, still_named, page_rank, entry_rank, element_at}
-use Rattle.mn_world.proofs.Plans.PutInPlace.{put_store, put_numbers, place_same}
+use Rattle.mn_world.proofs.Plans.PutInPlace.{put_store, put_numbers, place_same, named_not}
 use Rattle.mn_page.proofs.Counted.{counted, forest, listed, shows, IsCounted, ListsStore, forest_heads, leaf_pairs_are}
 
 -- A node's count
@@ -311,7 +311,7 @@ split_memory f v e p n count lows first more can count_is memory same =
 
 -- The places
 
-page_places_apart : (a b : Addr) → page_place a ≡ page_place b → a ≡ b
+pub page_places_apart : (a b : Addr) → page_place a ≡ page_place b → a ≡ b
 page_places_apart a b e =
     let nodes : a.node ≡ b.node = ap (λ (x : Place). x.node) e in
     let starts : 20480 + 1024 * a.slot ≡ 20480 + 1024 * b.slot = ap (λ (x : Place). x.start) e in
@@ -484,6 +484,44 @@ split_pages f v nodes e p n count lows first more can count_is lp =
     four_same : {a b c x y z : Place} → a ≡ x → b ≡ y → c ≡ z → ◌≡◌ {A = List Place} (a ∷ b ∷ c ∷ count_place n ∷ []) (x ∷ y ∷ z ∷ count_place n ∷ [])
     four_same p q r = cc
 
+-- the four places are whole, and different
+split_wholes : (f : Forest) (v nodes : ℕ) (e : CatEntry) (p : Page) (n : NodeNo) (count : ℕ) (lows : List Pair) (first : Pair) (more : List Pair) → CanSplit (split_of f e p n count lows first more) v e (entry_head e)
+    → AllByRecursion IsWholePlace (write_places (record { nodes = nodes; items = split_items v e p n count lows first more }))
+split_wholes f v nodes e p n count lows first more can = (
+  inl (e.root, place_same e.root.node (20480 + 1024 * e.root.slot) (length (page_bytes (new_root (split_of f e p n count lows first more)))) 1024 (page_length (new_root (split_of f e p n count lows first more)) can.root_spelled)),
+  (
+    inl (slot_at n count, place_same n (20480 + 1024 * count) (length (page_bytes (left_page (split_of f e p n count lows first more)))) 1024 (page_length (left_page (split_of f e p n count lows first more)) can.left_spelled)),
+    (
+      inl (slot_at n (count + 1), place_same n (20480 + 1024 * (count + 1)) (length (page_bytes (right_page (split_of f e p n count lows first more)))) 1024 (page_length (right_page (split_of f e p n count lows first more)) can.right_spelled)),
+      (inr (inr (n, refl)), tt),
+    ),
+  ),
+)
+
+different : (f : Forest) (root : Addr) (old : Page) (n : NodeNo) (count : ℕ) → page_at f root ≡ Some old → count ≡ length (slice_index_or f.pages n.0 [])
+    → ComeOnce (page_place root ∷ page_place (slot_at n count) ∷ page_place (slot_at n (count + 1)) ∷ count_place n ∷ [])
+different f root old n count there count_is = (
+  (
+    λ e. no_page f n count old (omega arith) (ap (page_at f) (page_places_apart (slot_at n count) root e) ∙ there),
+    (λ e. no_page f n (count + 1) old (omega arith) (ap (page_at f) (page_places_apart (slot_at n (count + 1)) root e) ∙ there), (λ e. page_not_count root n (sym e), tt)),
+  ),
+  ((λ e. next_slot (page_places_apart (slot_at n (count + 1)) (slot_at n count) e), (λ e. page_not_count (slot_at n count) n (sym e), tt)), ((λ e. page_not_count (slot_at n (count + 1)) n (sym e), tt), (tt, tt))),
+)
+  where
+    next_slot : slot_at n (count + 1) ≡ slot_at n count → ⊥
+    next_slot e = let same : count + 1 ≡ count = ap (λ (a : Addr). a.slot) e in absurd (omega arith)
+
+split_once : (f : Forest) (v nodes : ℕ) (e : CatEntry) (p : Page) (n : NodeNo) (count : ℕ) (lows : List Pair) (first : Pair) (more : List Pair) → CanSplit (split_of f e p n count lows first more) v e (entry_head e)
+    → count ≡ length (slice_index_or f.pages n.0 []) → ComeOnce (write_places (record { nodes = nodes; items = split_items v e p n count lows first more }))
+split_once f v nodes e p n count lows first more can count_is =
+    let root_is = place_same e.root.node (20480 + 1024 * e.root.slot) (length (page_bytes (new_root (split_of f e p n count lows first more)))) 1024 (page_length (new_root (split_of f e p n count lows first more)) can.root_spelled) in
+    let left_is = place_same n (20480 + 1024 * count) (length (page_bytes (left_page (split_of f e p n count lows first more)))) 1024 (page_length (left_page (split_of f e p n count lows first more)) can.left_spelled) in
+    let right_is = place_same n (20480 + 1024 * (count + 1)) (length (page_bytes (right_page (split_of f e p n count lows first more)))) 1024 (page_length (right_page (split_of f e p n count lows first more)) can.right_spelled) in
+    subst ComeOnce (sym (four_same root_is left_is right_is)) (different f e.root p n count can.there count_is)
+  where
+    four_same : {a b c x y z : Place} → a ≡ x → b ≡ y → c ≡ z → ◌≡◌ {A = List Place} (a ∷ b ∷ c ∷ count_place n ∷ []) (x ∷ y ∷ z ∷ count_place n ∷ [])
+    four_same p q r = cc
+
 split_acts : (kept : List Head) (nodes : ℕ) (name key value : List ℕ) (v : ℕ) (e : CatEntry) (p : Page) (pairs : List Pair) (n : NodeNo) (count : ℕ) (lows : List Pair) (first : Pair) (more : List Pair)
     → HasSplit kept nodes name key value v e p pairs n count lows first more → (memory : List (List ℕ)) (store : Store) → length memory ≡ nodes → (holds : Holds memory store) → Continues kept (heads_of store)
     → mismatch_from memory 0 (split_items v e p n count lows first more) ≡ None
@@ -547,6 +585,9 @@ split_acts kept nodes name key value v e p pairs n count lows first more r memor
           ),
         ),
       );
+      nowhere = λ none. absurd (named_not v (sym (still_named kept (heads_of store) name v on r.named) ∙ none));
+      wholes = split_wholes holds.forest v nodes e p n count lows first more can;
+      once = split_once holds.forest v nodes e p n count lows first more can facts.count_is;
       pages = split_pages holds.forest v nodes e p n count lows first more can facts.count_is lp;
     }
   where
@@ -562,4 +603,5 @@ split_is_planned kept nodes name key value v e p pairs n count lows first more r
       (and_from _ _ (may_pages e.root.node n e.root.slot count)
       (and_from _ _ (may_pages n n count (count + 1))
       (and_from _ true (by_rank n n (20480 + 1024 * (count + 1)) 16 0 2 (page_rank (count + 1)) refl refl) refl)))));
+  kind = tt;
 }
