@@ -1,6 +1,7 @@
 -- Worked examples of the definitions, by computation.
 pub mod TwoNodes
 pub mod Race
+pub mod DecidedFirst
 pub mod Starts
 pub mod ListVersions
 pub mod Resumed

@@ -5,3 +5,4 @@ pub mod Commits
 pub mod Plans
 pub mod Examples
 pub mod Computed
+pub mod Meaning

@@ -15,3 +15,7 @@ pub mod History
 pub mod Laws
 pub mod Plans
 pub mod Growth
+pub mod Meaning
+pub mod Causes
+pub mod OneHistory
+pub mod Undisturbed

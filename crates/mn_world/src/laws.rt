@@ -3,6 +3,11 @@ ghost use Rattle.mn_world.specs.Laws.{ListsMakeRun, FreshIsSound, HeldPartsApart
 ghost use Rattle.mn_world.specs.Laws.{CommitsAreFlat, SpacesAgree, MemoryIsFlat, ReadsAreFlat, ExecsAreFlat, PreparesReadNothing, SeenIsFlat};
 ghost use Rattle.mn_world.specs.Laws.{AbandonedIsNever, RefusedIsNever, GivenUpIsNever, UnkeptIsNever, CommitsOnce, ForcedNeverVotes, AbandonedLacksVote};
 ghost use Rattle.mn_world.specs.Plans.{PutIsPlanned, SplitIsPlanned};
+ghost use Rattle.mn_world.specs.Meaning.{HistoryExists, HistoryIsOne, HistoryIsLegal, HoldsThroughout, StaysOpened, EndsOpened, FrozenNeverChanges, EachOnce};
+ghost use Rattle.mn_world.specs.Meaning.{RepliedStands, CommittedStands, OnlyThoseStand, PlacesLieBetween, SeenFirst, OthersHaveNoEffect, OthersCommitNothing, PlansLieBehind, OnePlanEach};
+ghost use Rattle.mn_world.specs.Causes.{LockWasHeld, ForcedStands, MovedByOther, PathByOther};
+ghost use Rattle.mn_world.specs.OneHistory.{RunsHaveHistory, RunsAreOneHistory};
+ghost use Rattle.mn_world.specs.Undisturbed.{UpIsSure, OnlyOwnCommits, UndisturbedIsSure};
 ghost use Rattle.mn_world.specs.Run.{RunsFollowProtocol};
 ghost use Rattle.mn_world.specs.Growth.{NextSlotsAreFree, WritesLeaveStore, ComparesTell, NumbersGoOn};
 
@@ -151,4 +156,134 @@ pub fn compares_tell()
 /// A page with the next number goes on from the one that stands there, and a new one from a free slot.
 pub fn numbers_go_on()
     ensures { NumbersGoOn }
+{}
+
+/// Every run from records that hold a store has a history.
+pub fn history_exists()
+    ensures { HistoryExists }
+{}
+
+/// It has no other.
+pub fn history_is_one()
+    ensures { HistoryIsOne }
+{}
+
+/// It is legal from the opened store.
+pub fn history_is_legal()
+    ensures { HistoryIsLegal }
+{}
+
+/// At every place the flat memory holds the store of the operations placed before it.
+pub fn holds_throughout()
+    ensures { HoldsThroughout }
+{}
+
+/// The records at every place are opened with the store there.
+pub fn stays_opened()
+    ensures { StaysOpened }
+{}
+
+/// After the last place that is the store of the whole history.
+pub fn ends_opened()
+    ensures { EndsOpened }
+{}
+
+/// A version that is frozen at one place stands unchanged at every later one.
+pub fn frozen_never_changes()
+    ensures { FrozenNeverChanges }
+{}
+
+/// No operation stands twice.
+pub fn each_once()
+    ensures { EachOnce }
+{}
+
+/// Each operation that was replied to stands there, with that reply.
+pub fn replied_stands()
+    ensures { RepliedStands }
+{}
+
+/// Each operation whose plan is committed stands there, at the place of its commit.
+pub fn committed_stands()
+    ensures { CommittedStands }
+{}
+
+/// No other one does.
+pub fn only_those_stand()
+    ensures { OnlyThoseStand }
+{}
+
+/// An operation stands after its Begin, and before its answer where it was replied to.
+pub fn places_lie_between()
+    ensures { PlacesLieBetween }
+{}
+
+/// One that was replied to before the Begin of another has the lower place.
+pub fn seen_first()
+    ensures { SeenFirst }
+{}
+
+/// One that was answered otherwise than by a reply or a doubt stands nowhere.
+pub fn others_have_no_effect()
+    ensures { OthersHaveNoEffect }
+{}
+
+/// No plan of it is committed, before or after.
+pub fn others_commit_nothing()
+    ensures { OthersCommitNothing }
+{}
+
+/// A plan is committed after its operation's Begin.
+pub fn plans_lie_behind()
+    ensures { PlansLieBehind }
+{}
+
+/// Of each operation at most one plan is committed.
+pub fn one_plan_each()
+    ensures { OnePlanEach }
+{}
+
+/// Where an operation met a lock, the records held its range for another operation's id, unless the node missed that id's decision.
+pub fn lock_was_held()
+    ensures { LockWasHeld }
+{}
+
+/// Where it was forced, the records say so.
+pub fn forced_stands()
+    ensures { ForcedStands }
+{}
+
+/// Where bytes had moved, another operation's plan was committed since they were read, in the same try.
+pub fn moved_by_other()
+    ensures { MovedByOther }
+{}
+
+/// Where a try met a fault of path, another operation's plan was committed within it.
+pub fn path_by_other()
+    ensures { PathByOther }
+{}
+
+/// Every run from records that hold a store has a history.
+pub fn runs_have_history()
+    ensures { RunsHaveHistory }
+{}
+
+/// And it is one history: what was replied to or took effect, in commit order, and nothing else.
+pub fn runs_are_one_history()
+    ensures { RunsAreOneHistory }
+{}
+
+/// An operation with each node up from its Begin to its answer is answered neither Down nor InDoubt.
+pub fn up_is_sure()
+    ensures { UpIsSure }
+{}
+
+/// Where no other actor has an entry there, only the operation's own plans are committed meanwhile.
+pub fn only_own_commits()
+    ensures { OnlyOwnCommits }
+{}
+
+/// An operation with no entry of another actor from its Begin to its answer, and each node up meanwhile, meets no moved bytes and no fault of path, and no node that was down.
+pub fn undisturbed_is_sure()
+    ensures { UndisturbedIsSure }
 {}

@@ -1,0 +1,277 @@
+-- A lock that an operation met was held by another id; an id that was forced is.
+use Rattle.std.proofs.Common.{◌≡◌, ℕ, zero, suc, ◌<◌, Bool, true, false, not, ◌&&◌, ◌||◌, List, [], ◌∷◌, length, Option, Some, None, refl, subst, sym, ap, ◌∙◌, arith, if◌then◌else◌, Contains}
+use Rattle.mn_base.specs.Ids.{tid_same, tid_lt}
+use Rattle.mn_base.specs.declared.ids.NodeNo.{NodeNo}
+use Rattle.mn_base.specs.declared.ids.Tid.{Tid}
+use Rattle.mn_base.specs.declared.answer.Busy.TheVariants.{Lock, Forced}
+use Rattle.mn_base.specs.declared.answer.Answer.TheVariants.{Busy as GaveUp}
+use Rattle.mn_mini.specs.declared.part.PartItem.{PartItem}
+use Rattle.mn_mini.specs.declared.record.Record.{Record}
+use Rattle.mn_mini.specs.declared.record.Record.TheVariants.{Voted, Executed, Decided}
+use Rattle.mn_mini.specs.declared.request.Request.{Request}
+use Rattle.mn_mini.specs.declared.request.Request.TheVariants as Ask
+use Rattle.mn_mini.specs.declared.reply.NodeReply.{NodeReply}
+use Rattle.mn_mini.specs.declared.reply.NodeReply.TheVariants as Say
+use Rattle.mn_mini.specs.Mini.{range_of, item_conflicts_with, has_write}
+use Rattle.mn_mini.specs.Flat.{Mismatched, part_mismatch_from}
+use Rattle.mn_mini.specs.Node.{HeldPart, held_parts, has_forced, has_voted, holders, least_tid, lesser_tid, Clash, clash_or, clash_of, only_reply, after_compares, after_locks, tested, answer, space_of}
+use Rattle.mn_world.specs.declared.entry.Entry.{Entry}
+use Rattle.mn_world.specs.declared.entry.What.{What}
+use Rattle.mn_world.specs.declared.entry.What.TheVariants.{Called}
+use Rattle.mn_world.specs.Calls.{is_try, node_entries}
+use Rattle.mn_world.specs.Run.{IsRun}
+use Rattle.mn_world.specs.Nodes.{is_down}
+use Rattle.mn_world.specs.Shown.{Seen}
+use Rattle.mn_world.specs.Answers.{RefusedAs}
+use Rattle.mn_world.specs.Protocol.{Start, KeepsProtocol, base_at, records_of, AllowedAt}
+use Rattle.mn_world.specs.Laws.{part_of_request}
+use Rattle.mn_world.specs.Causes.{CalledAt, WasHeld, LockWasHeld, IsForcedAt, ForcedStands}
+use Rattle.mn_world.proofs.Reading.MakeRun.{runs_follow_protocol}
+use Rattle.mn_world.proofs.Reading.Same.{tid_same-true}
+use Rattle.mn_world.proofs.Meaning.Prefixes.{keeps_there, older_run}
+use Rattle.mn_world.proofs.Meaning.Once.{answer_at}
+use Rattle.mn_world.proofs.Meaning.Refused.{LastRefused, last_refused}
+use Rattle.mn_world.proofs.Meaning.Another.{of_another}
+
+contains_here : {X : Type 0} (x : X) (xs : List X) → Contains (x ∷ xs) x
+contains_here x xs = (0, omega arith, refl)
+
+contains_more : {X : Type 0} (x : X) (xs : List X) (y : X) → Contains xs y → Contains (x ∷ xs) y
+contains_more x xs y (k, in', is) = (suc k, omega arith, is)
+
+-- Who holds
+
+-- a held part of this id conflicts with the item, and is of another id than its own
+record HeldBy (hs : List HeldPart) (tid : Tid) (item : PartItem) (holder : Tid) : Type 0 where
+  pub held : HeldPart
+  pub there : Contains hs held
+  pub holder_is : held.tid ≡ holder
+  pub other : tid_same holder tid ≡ false
+  pub conflicts : item_conflicts_with item held.part ≡ true
+
+least_there : (t : Tid) (ts : List Tid) → least_tid ts ≡ Some t → Contains ts t
+least_there t [] is = absurd cc
+least_there t (u ∷ ts) is = by (least_tid ts) refl is (λ v e. least_there v ts e)
+  where
+    some : (a b : Tid) → Some a ≡ Some b → a ≡ b
+    some a b e = cc
+
+    by : (o : Option Tid) → least_tid ts ≡ o → Some (lesser_tid u o) ≡ Some t → ((v : Tid) → least_tid ts ≡ Some v → Contains ts v) → Contains (u ∷ ts) t
+    by None e f rest = subst (λ (x : Tid). Contains (u ∷ ts) x) (some u t f) (contains_here u ts)
+    by (Some v) e f rest = less (tid_lt v u) (some (lesser_tid u (Some v)) t f)
+      where
+        less : (b : Bool) → (if b then v else u) ≡ t → Contains (u ∷ ts) t
+        less true g = subst (λ (x : Tid). Contains (u ∷ ts) x) g (contains_more u ts v (rest v e))
+        less false g = subst (λ (x : Tid). Contains (u ∷ ts) x) g (contains_here u ts)
+
+holder_there : (hs : List HeldPart) (tid : Tid) (item : PartItem) (t : Tid) → Contains (holders hs tid item) t → HeldBy hs tid item t
+holder_there [] tid item t (k, in', is) = absurd (omega arith)
+holder_there (h ∷ hs) tid item t has = by (tid_same h.tid tid) (item_conflicts_with item h.part) refl refl has (λ g. further (holder_there hs tid item t g))
+  where
+    further : HeldBy hs tid item t → HeldBy (h ∷ hs) tid item t
+    further x = record { held = x.held; there = contains_more h hs x.held x.there; holder_is = x.holder_is; other = x.other; conflicts = x.conflicts }
+
+    first : tid_same h.tid tid ≡ false → item_conflicts_with item h.part ≡ true → Contains (h.tid ∷ holders hs tid item) t → (Contains (holders hs tid item) t → HeldBy (h ∷ hs) tid item t) → HeldBy (h ∷ hs) tid item t
+    first a b (zero, in', is) rest = record { held = h; there = contains_here h hs; holder_is = is; other = ap (λ (x : Tid). tid_same x tid) (sym is) ∙ a; conflicts = b }
+    first a b (suc k, in', is) rest = rest (k, omega arith, is)
+
+    by : (a b : Bool) → tid_same h.tid tid ≡ a → item_conflicts_with item h.part ≡ b → Contains (if not a && b then h.tid ∷ holders hs tid item else holders hs tid item) t → (Contains (holders hs tid item) t → HeldBy (h ∷ hs) tid item t) → HeldBy (h ∷ hs) tid item t
+    by true b e f g rest = rest g
+    by false true e f g rest = first e f g rest
+    by false false e f g rest = rest g
+
+-- the item of a part that clashes
+record ClashAt (hs : List HeldPart) (tid : Tid) (part : List PartItem) (clash : Clash) : Type 0 where
+  pub item : PartItem
+  pub there : Contains part item
+  pub range_is : range_of item ≡ clash.range
+  pub holds : HeldBy hs tid item clash.holder
+
+clash_at : (hs : List HeldPart) (tid : Tid) (part : List PartItem) (clash : Clash) → clash_of hs tid part ≡ Some clash → ClashAt hs tid part clash
+clash_at hs tid [] clash is = absurd cc
+clash_at hs tid (item ∷ part) clash is = by (least_tid (holders hs tid item)) refl is (λ e. further (clash_at hs tid part clash e))
+  where
+    further : ClashAt hs tid part clash → ClashAt hs tid (item ∷ part) clash
+    further x = record { item = x.item; there = contains_more item part x.item x.there; range_is = x.range_is; holds = x.holds }
+
+    same : (a b : Clash) → Some a ≡ Some b → a ≡ b
+    same a b e = cc
+
+    by : (o : Option Tid) → least_tid (holders hs tid item) ≡ o → clash_or item o (clash_of hs tid part) ≡ Some clash → (clash_of hs tid part ≡ Some clash → ClashAt hs tid (item ∷ part) clash) → ClashAt hs tid (item ∷ part) clash
+    by None e f rest = rest f
+    by (Some t) e f rest =
+        let this : record { range = range_of item; holder = t } ≡ clash = same _ clash f in
+        record {
+          item = item;
+          there = contains_here item part;
+          range_is = ap (λ (x : Clash). x.range) this;
+          holds = subst (λ (x : Tid). HeldBy hs tid item x) (ap (λ (x : Clash). x.holder) this) (holder_there hs tid item t (least_there t (holders hs tid item) e));
+        }
+
+-- What a node answered
+
+-- a request with a part, which clashed so
+record LockedBy (records : List Record) (request : Request) (clash : Clash) : Type 0 where
+  pub tid : Tid
+  pub part : List PartItem
+  pub asked : part_of_request request ≡ Some part
+  pub clashes : clash_of (held_parts records) tid part ≡ Some clash
+  pub own : (t : Tid) → tid_same t tid ≡ false → is_try t request ≡ false
+  pub tries : is_try tid request ≡ true
+
+tested_lock : (base : List ℕ) (records : List Record) (tid : Tid) (part : List PartItem) (added : Option Record) (clash : Clash) → (tested base records tid part added).reply ≡ Say.BadLock clash.range.start clash.range.length clash.holder → clash_of (held_parts records) tid part ≡ Some clash
+tested_lock base records tid part added clash is = locks (clash_of (held_parts records) tid part) is
+  where
+    compares : (o : Option Mismatched) → (after_compares (space_of base records) part added o).reply ≡ Say.BadLock clash.range.start clash.range.length clash.holder → ⊥
+    compares (Some at) e = cc
+    compares None e = cc
+
+    same : (a b c d : ℕ) (s t : Tid) → Say.BadLock a b s ≡ Say.BadLock c d t → (a ≡ c) × (b ≡ d) × (s ≡ t)
+    same a b c d s t e = (cc, cc, cc)
+
+    locks : (o : Option Clash) → (after_locks (space_of base records) part added o).reply ≡ Say.BadLock clash.range.start clash.range.length clash.holder → o ≡ Some clash
+    locks (Some at) e =
+        let parts = same at.range.start at.range.length clash.range.start clash.range.length at.holder clash.holder e in
+        λ i. Some (record { range = record { start = parts.0 i; length = parts.1 i }; holder = parts.2 i })
+    locks None e = absurd (compares (part_mismatch_from (space_of base records) 0 part) e)
+
+not_same : (t u : Tid) → tid_same t u ≡ false → tid_same u t ≡ false
+not_same t u e = by (tid_same u t) refl
+  where
+    clash : (b : Bool) → b ≡ true → b ≡ false → ⊥
+    clash b p q = cc
+
+    by : (b : Bool) → tid_same u t ≡ b → tid_same u t ≡ false
+    by true f = absurd (clash (tid_same t u) (subst (λ (x : Tid). tid_same t x ≡ true) (sym (tid_same-true u t f)) (Rattle.mn_world.proofs.Reading.Same.tid_same-refl t)) e)
+    by false f = f
+
+locked_by : (base : List ℕ) (records : List Record) (request : Request) (clash : Clash) → (answer base records request).reply ≡ Say.BadLock clash.range.start clash.range.length clash.holder → LockedBy records request clash
+locked_by base records (Ask.Prepare tid ps part) clash is = by (has_forced records tid) is
+  where
+    own : (t : Tid) → tid_same t tid ≡ false → (tid_same tid t || false) ≡ false
+    own t e = ap (λ (b : Bool). b || false) (not_same t tid e)
+
+    by : (b : Bool) → (if b then only_reply Say.BadForced else tested base records tid part (Some (Voted tid ps part))).reply ≡ Say.BadLock clash.range.start clash.range.length clash.holder → LockedBy records (Ask.Prepare tid ps part) clash
+    by true e = absurd cc
+    by false e = record { tid = tid; part = part; asked = refl; clashes = tested_lock base records tid part (Some (Voted tid ps part)) clash e; own = own; tries = ap (λ (b : Bool). b || false) (Rattle.mn_world.proofs.Reading.Same.tid_same-refl tid) }
+locked_by base records (Ask.Exec tid part) clash is = record { tid = tid; part = part; asked = refl; clashes = tested_lock base records tid part (if has_write part then Some (Executed tid part) else None) clash is; own = λ t e. not_same t tid e; tries = Rattle.mn_world.proofs.Reading.Same.tid_same-refl tid }
+locked_by base records (Ask.Decide tid verdict) clash is = absurd cc
+locked_by base records (Ask.Force tid) clash is = absurd (by (has_voted records tid) is)
+  where
+    by : (b : Bool) → (if b then only_reply (Say.Vote true) else record { reply = Say.Vote false; added = if has_forced records tid then None else Some (Rattle.mn_mini.specs.declared.record.Record.TheVariants.Forced tid) }).reply ≡ Say.BadLock clash.range.start clash.range.length clash.holder → ⊥
+    by true e = cc
+    by false e = cc
+locked_by base records Ask.List clash is = absurd cc
+locked_by base records (Ask.Peek at size) clash is = absurd cc
+
+-- a node that said anything but Down was up
+pub said_up : (base : List ℕ) (records : List Record) (request : Request) (reply : NodeReply) (down : Bool) → (reply ≡ Say.Down → ⊥) → reply ≡ (if down then Say.Down else (answer base records request).reply) → (answer base records request).reply ≡ reply
+said_up base records request reply true other is = absurd (other is)
+said_up base records request reply false other is = sym is
+
+pub call_answer : (start : Start) (before : List Entry) (x : Entry) (n : NodeNo) (request : Request) (reply : NodeReply) → KeepsProtocol start before x → x.node ≡ Some n → x.what ≡ Called request reply → (reply ≡ Say.Down → ⊥)
+    → (answer (base_at start n) (records_of start before n) request).reply ≡ reply
+call_answer start before x n request reply keeps node what other =
+    let at : AllowedAt start before (Some n) (Called request reply) = subst (λ (w : What). AllowedAt start before (Some n) w) what (subst (λ (o : Option NodeNo). AllowedAt start before o x.what) node keeps.at_node) in
+    said_up (base_at start n) (records_of start before n) request reply (is_down (node_entries n before)) other at.1
+
+-- What the list shows
+
+lock_refused : (seens : List Seen) (m : NodeNo) (request : Request) (reply : NodeReply) (n : NodeNo) (begins size : ℕ) (holder : Tid) → RefusedAs seens m request reply (Lock n begins size holder) → (m ≡ n) × (reply ≡ Say.BadLock begins size holder)
+lock_refused seens m request (Say.BadLock b s h) n begins size holder is = parts n m begins b size s holder h is
+  where
+    parts : (n m : NodeNo) (a b c d : ℕ) (s t : Tid) → Lock n a c s ≡ Lock m b d t → (m ≡ n) × (Say.BadLock b d t ≡ Say.BadLock a c s)
+    parts n m a b c d s t e = (cc, cc)
+lock_refused seens m (Ask.Prepare tid ps part) (Say.BadCompare item found) n begins size holder (at, expected, has, shows, is) = absurd cc
+lock_refused seens m (Ask.Exec tid part) (Say.BadCompare item found) n begins size holder (at, expected, has, shows, is) = absurd cc
+lock_refused seens m (Ask.Prepare tid ps part) Say.BadForced n begins size holder is = absurd cc
+lock_refused seens m request reply n begins size holder is = absurd is
+
+pub lock_was_held : LockWasHeld
+lock_was_held start store past place e c number n begins size holder h stands answers =
+    let a = answer_at past place e c number (GaveUp (Lock n begins size holder)) stands answers in
+    let r = last_refused start past h.run c number (Lock n begins size holder) (λ nodes seens op f. f) (answer_at past place e c number (GaveUp (Lock n begins size holder)) stands answers) in
+    let is = lock_refused (seen_of r) r.node r.request r.reply n begins size holder r.refused in
+    finish r is.0 is.1
+  where
+    seen_of : LastRefused past c number (Lock n begins size holder) (answer_at past place e c number (GaveUp (Lock n begins size holder)) stands answers) → List Seen
+    seen_of r = Rattle.mn_world.specs.Shown.seen_in r.try
+
+    not_down : Say.BadLock begins size holder ≡ Say.Down → ⊥
+    not_down e = cc
+
+    finish : (r : LastRefused past c number (Lock n begins size holder) (answer_at past place e c number (GaveUp (Lock n begins size holder)) stands answers)) → r.node ≡ n → r.reply ≡ Say.BadLock begins size holder
+        → WasHeld start past c number place n (record { start = begins; length = size }) holder
+    finish r node reply =
+        let call : CalledAt past c number r.at n r.request (Say.BadLock begins size holder) = subst (λ (x : NodeReply). CalledAt past c number r.at n r.request x) reply (subst (λ (m : NodeNo). CalledAt past c number r.at m r.request r.reply) node r.call) in
+        build r.at r.request call r.low
+      where
+        build : (at : ℕ) (request : Request) (call : CalledAt past c number at n request (Say.BadLock begins size holder)) → at < length stands.1 → WasHeld start past c number place n (record { start = begins; length = size }) holder
+        build at request call low =
+            let keeps = keeps_there start past call.later call.entry call.before call.split (runs_follow_protocol start past h.run) in
+            let said = call_answer start call.before call.entry n request (Say.BadLock begins size holder) keeps call.node call.what not_down in
+            let locked = locked_by (base_at start n) (records_of start call.before n) request (record { range = record { start = begins; length = size }; holder = holder }) said in
+            let clash = clash_at (held_parts (records_of start call.before n)) locked.tid locked.part (record { range = record { start = begins; length = size }; holder = holder }) locked.clashes in
+            let place_is : place ≡ length stands.1 = stands.3 in
+            record {
+              at = at;
+              request = request;
+              call = call;
+              before_answer = omega arith;
+              part = locked.part;
+              item = clash.item;
+              held = clash.holds.held;
+              asked = locked.asked;
+              has_item = clash.there;
+              there = clash.holds.there;
+              holder_is = clash.holds.holder_is;
+              other = locked.own holder clash.holds.other;
+              range_is = clash.range_is;
+              conflicts = clash.holds.conflicts;
+              holder_of = of_another start call.before c number n request locked.tid holder clash.holds.held call.entry (Say.BadLock begins size holder) call.op h.opened.sound
+                  (older_run start call.later (call.entry ∷ call.before) (subst (IsRun start) call.split h.run)) call.client call.node call.what call.of
+                  locked.tries clash.holds.other clash.holds.there clash.holds.holder_is;
+            }
+
+-- Forced
+
+forced_refused : (seens : List Seen) (m : NodeNo) (request : Request) (reply : NodeReply) (tid : Tid) → RefusedAs seens m request reply (Forced tid) → (ps : List NodeNo) × (part : List PartItem) × (request ≡ Ask.Prepare tid ps part) × (reply ≡ Say.BadForced)
+forced_refused seens m request (Say.BadLock b s h) tid is = absurd cc
+forced_refused seens m (Ask.Prepare t ps part) (Say.BadCompare item found) tid (at, expected, has, shows, is) = absurd cc
+forced_refused seens m (Ask.Exec t part) (Say.BadCompare item found) tid (at, expected, has, shows, is) = absurd cc
+forced_refused seens m (Ask.Prepare t ps part) Say.BadForced tid is = (ps, part, ap (λ (x : Tid). Ask.Prepare x ps part) (sym (same tid t is)), refl)
+  where
+    same : (a b : Tid) → Forced a ≡ Forced b → a ≡ b
+    same a b e = cc
+forced_refused seens m request reply tid is = absurd is
+
+forced_by : (base : List ℕ) (records : List Record) (tid : Tid) (ps : List NodeNo) (part : List PartItem) → (answer base records (Ask.Prepare tid ps part)).reply ≡ Say.BadForced → has_forced records tid ≡ true
+forced_by base records tid ps part is = by (has_forced records tid) refl is
+  where
+    compares : (o : Option Mismatched) → (after_compares (space_of base records) part (Some (Voted tid ps part)) o).reply ≡ Say.BadForced → ⊥
+    compares (Some at) e = cc
+    compares None e = cc
+
+    locks : (o : Option Clash) → (after_locks (space_of base records) part (Some (Voted tid ps part)) o).reply ≡ Say.BadForced → ⊥
+    locks (Some at) e = cc
+    locks None e = compares (part_mismatch_from (space_of base records) 0 part) e
+
+    by : (b : Bool) → has_forced records tid ≡ b → (if b then only_reply Say.BadForced else tested base records tid part (Some (Voted tid ps part))).reply ≡ Say.BadForced → has_forced records tid ≡ true
+    by true e f = e
+    by false e f = absurd (locks (clash_of (held_parts records) tid part) f)
+
+pub forced_stands : ForcedStands
+forced_stands start store past place e c number tid h stands answers =
+    let r = last_refused start past h.run c number (Forced tid) (λ nodes seens op f. f) (answer_at past place e c number (GaveUp (Forced tid)) stands answers) in
+    let is = forced_refused (Rattle.mn_world.specs.Shown.seen_in r.try) r.node r.request r.reply tid r.refused in
+    build r.at r.node is.0 is.1 (subst (λ (x : NodeReply). CalledAt past c number r.at r.node (Ask.Prepare tid is.0 is.1) x) is.3 (subst (λ (q : Request). CalledAt past c number r.at r.node q r.reply) is.2 r.call)) r.low
+  where
+    not_down : Say.BadForced ≡ Say.Down → ⊥
+    not_down e = cc
+
+    build : (at : ℕ) (n : NodeNo) (ps : List NodeNo) (part : List PartItem) (call : CalledAt past c number at n (Ask.Prepare tid ps part) Say.BadForced) → at < length stands.1 → IsForcedAt start past c number place tid
+    build at n ps part call low =
+        let keeps = keeps_there start past call.later call.entry call.before call.split (runs_follow_protocol start past h.run) in
+        let said = call_answer start call.before call.entry n (Ask.Prepare tid ps part) Say.BadForced keeps call.node call.what not_down in
+        let place_is : place ≡ length stands.1 = stands.3 in
+        record { at = at; node = n; participants = ps; part = part; call = call; before_answer = omega arith; forced = forced_by (base_at start n) (records_of start call.before n) tid ps part said }

@@ -1,0 +1,379 @@
+-- A try that met a fault of path overlaps another operation's commit.
+use Rattle.std.proofs.Common.{◌≡◌, ℕ, ◌<◌, ◌⊎◌, inl, inr, Bool, true, false, ◌&&◌, List, [], ◌∷◌, ◌++◌, length, Option, Some, None, refl, subst, sym, ap, ◌∙◌, arith, if◌then◌else◌, Contains}
+use Rattle.std.specs.List.{AllByRecursion, flat_map}
+use Rattle.std.proofs.lemmas.List.{append_assoc, length-append}
+use Rattle.std.proofs.lemmas.List.Elements.{Contains-append_cases}
+use Rattle.mn_base.specs.Store.{Store}
+use Rattle.mn_base.specs.declared.ids.NodeNo.{NodeNo}
+use Rattle.mn_base.specs.declared.ids.ClientNo.{ClientNo}
+use Rattle.mn_base.specs.declared.ids.Addr.{Addr}
+use Rattle.mn_base.specs.declared.ids.Tid.{Tid}
+use Rattle.mn_base.specs.declared.answer.Busy.TheVariants.{Path}
+use Rattle.mn_base.specs.declared.answer.Answer.TheVariants.{Busy as GaveUp}
+use Rattle.mn_mini.specs.declared.part.PartItem.TheVariants as Bare
+use Rattle.mn_mini.specs.declared.request.Request.{Request}
+use Rattle.mn_mini.specs.declared.request.Request.TheVariants as Ask
+use Rattle.mn_mini.specs.declared.reply.NodeReply.{NodeReply}
+use Rattle.mn_mini.specs.declared.reply.NodeReply.TheVariants as Say
+use Rattle.mn_mini.specs.Mini.{Mini}
+use Rattle.mn_page.specs.Holds.{Holds}
+use Rattle.mn_page.proofs.Grid.{all_append, all_split}
+use Rattle.mn_world.specs.declared.entry.Entry.{Entry}
+use Rattle.mn_world.specs.declared.entry.What.{What}
+use Rattle.mn_world.specs.declared.entry.What.TheVariants.{Begin, Issue, Called, Stopped, Restarted, Abandoned, Answered}
+use Rattle.mn_world.specs.Calls.{Issued, begun_in, issue_in, issues_of, issue_named, is_by, client_entries, since_begin, since_begin_after, under_way}
+use Rattle.mn_world.specs.Clients.{is_read, AllowsExec}
+use Rattle.mn_world.specs.Commits.{committed_by}
+use Rattle.mn_world.specs.Shown.{Seen, seen_in, seen_at}
+use Rattle.mn_world.specs.Answers.{RefusedAs, MeetsFault, FailsAs, FailedTries, nodes_of, none_refused, is_one_try}
+use Rattle.mn_world.specs.Protocol.{Start, start_nodes, FollowsProtocol, AllowedAt, AllowedBy, IsOfRun}
+use Rattle.mn_world.specs.Run.{IsRun}
+use Rattle.mn_world.specs.Causes.{PathMoved, PathByOther}
+use Rattle.mn_world.proofs.Reading.MakeRun.{runs_follow_protocol}
+use Rattle.mn_world.proofs.Reading.Sees.{seen_in-cons}
+use Rattle.mn_world.proofs.Reading.NewCalls.{by_of}
+use Rattle.mn_world.proofs.Bytes.Step.{flat}
+use Rattle.mn_world.proofs.Bytes.Spaces.{whole_run}
+use Rattle.mn_world.proofs.Bytes.Seen.{StandsIn, here_seen}
+use Rattle.mn_world.proofs.Meaning.Ascends.{under_since, all_front}
+use Rattle.mn_world.proofs.Meaning.Between.{none_begun}
+use Rattle.mn_world.proofs.Meaning.Splits.{shorter_by}
+use Rattle.mn_world.proofs.Meaning.Prefixes.{follows_before, older_follows, older_run}
+use Rattle.mn_world.proofs.Meaning.Effects.{read_call, flat_none, flat_read}
+use Rattle.mn_world.proofs.Meaning.Kept.{some_store}
+use Rattle.mn_world.proofs.Meaning.Scanned.{SeenAfter, seen_after}
+use Rattle.mn_world.proofs.Meaning.Positions.{AnswerAt, client_append}
+use Rattle.mn_world.proofs.Meaning.Answered.{ShownAnswer, shown_answer}
+use Rattle.mn_world.proofs.Meaning.Legal.{known_run}
+use Rattle.mn_world.proofs.Meaning.Once.{answer_at, others_commit_nothing}
+use Rattle.mn_world.proofs.Meaning.Found.{plan_exists}
+use Rattle.mn_world.proofs.Meaning.Exists.{SinceSplit, since_split, LiftedPart, lift_part, history_exists}
+use Rattle.mn_world.proofs.Meaning.Refused.{since_under, SinceTry, try_split, assoc_four}
+use Rattle.mn_world.proofs.Meaning.Moved.{CommitIn}
+use Rattle.mn_world.proofs.Meaning.Faults.{IsSeenIn, no_fault}
+
+-- A part of a client's list, as a part of the log
+
+record LiftedFront (c : ClientNo) (log try older : List Entry) : Type 0 where
+  pub span : List Entry
+  pub base : List Entry
+  pub split : log ≡ span ++ base
+  pub own : client_entries c span ≡ try
+  pub rest : client_entries c base ≡ older
+
+lift_front : (c : ClientNo) (log try older : List Entry) → client_entries c log ≡ try ++ older → LiftedFront c log try older
+lift_front c log [] older same = record { span = []; base = log; split = refl; own = refl; rest = same }
+lift_front c [] (t ∷ try) older same = absurd cc
+lift_front c (e ∷ log) (t ∷ try) older same =
+    elim (is_by c e) as (λ b. is_by c e ≡ b → (if b then e ∷ client_entries c log else client_entries c log) ≡ t ∷ (try ++ older) → LiftedFront c (e ∷ log) (t ∷ try) older) [
+      | true ↦ λ by h. own by h (λ rest. lift_front c log try older rest)
+      | false ↦ λ by h. other by (lift_front c log (t ∷ try) older h)
+    ] refl same
+  where
+    own : is_by c e ≡ true → e ∷ client_entries c log ≡ t ∷ (try ++ older) → (client_entries c log ≡ try ++ older → LiftedFront c log try older) → LiftedFront c (e ∷ log) (t ∷ try) older
+    own by h deeper =
+        let here : e ≡ t = cc in
+        let rest : client_entries c log ≡ try ++ older = cc in
+        let l = deeper rest in
+        record {
+          span = e ∷ l.span;
+          base = l.base;
+          split = ap (λ (es : List Entry). e ∷ es) l.split;
+          own = ap (λ (b : Bool). if b then e ∷ client_entries c l.span else client_entries c l.span) by ∙ (ap (λ (x : Entry). x ∷ client_entries c l.span) here ∙ ap (λ (es : List Entry). t ∷ es) l.own);
+          rest = l.rest;
+        }
+
+    other : is_by c e ≡ false → LiftedFront c log (t ∷ try) older → LiftedFront c (e ∷ log) (t ∷ try) older
+    other by l = record {
+      span = e ∷ l.span;
+      base = l.base;
+      split = ap (λ (es : List Entry). e ∷ es) l.split;
+      own = ap (λ (b : Bool). if b then e ∷ client_entries c l.span else client_entries c l.span) by ∙ l.own;
+      rest = l.rest;
+    }
+
+-- The memory stays all along, or a plan is committed
+
+abbrev StaysAll : Start → List Entry → List Entry → Type 0
+StaysAll start later before = (a b : List Entry) → later ≡ a ++ b → flat start (b ++ before) ≡ flat start before
+
+stays_all : (start : Start) (later before : List Entry) → StaysAll start later before ⊎ CommitIn later before
+stays_all start [] before = inl none
+  where
+    none : (a b : List Entry) → [] ≡ a ++ b → flat start (b ++ before) ≡ flat start before
+    none [] b e = ap (λ (es : List Entry). flat start (es ++ before)) (sym e)
+    none (x ∷ a) b e = absurd cc
+stays_all start (e ∷ later) before = by (stays_all start later before) (committed_by (later ++ before) e) refl
+  where
+    more : StaysAll start later before → flat start (e ∷ (later ++ before)) ≡ flat start (later ++ before) → StaysAll start (e ∷ later) before
+    more all same [] b h = ap (λ (es : List Entry). flat start (es ++ before)) (sym h) ∙ (same ∙ all [] later refl)
+    more all same (x ∷ a) b h = let rest : later ≡ a ++ b = cc in all a b rest
+
+    tell : StaysAll start later before → (i : Issued) → committed_by (later ++ before) e ≡ Some i → (b : Bool) → is_read i.mini.items ≡ b → StaysAll start (e ∷ later) before ⊎ CommitIn (e ∷ later) before
+    tell all i is true read = inl (more all (flat_read start (later ++ before) e i is read))
+    tell all i is false not_read = inr (record { newer = []; entry = e; older = later; issued = i; split = refl; commits = is; not_read = not_read })
+
+    by : StaysAll start later before ⊎ CommitIn later before → (o : Option Issued) → committed_by (later ++ before) e ≡ o → StaysAll start (e ∷ later) before ⊎ CommitIn (e ∷ later) before
+    by (inr c) o is = inr (record { newer = e ∷ c.newer; entry = c.entry; older = c.older; issued = c.issued; split = ap (λ (l : List Entry). e ∷ l) c.split; commits = c.commits; not_read = c.not_read })
+    by (inl all) None none = inl (more all (flat_none start (later ++ before) e none))
+    by (inl all) (Some i) is = tell all i is (is_read i.mini.items) refl
+
+-- Numbers of nodes
+
+nodes_here : (start : Start) (what : What) → IsOfRun start what → AllByRecursion (λ (i : Issued). i.mini.nodes ≡ start_nodes start) (issue_in what)
+nodes_here start (Issue tid mini) of = (of.1, tt)
+nodes_here start (Begin number op) of = tt
+nodes_here start (Answered number answer) of = tt
+nodes_here start (Called request reply) of = tt
+nodes_here start (Stopped request asked) of = tt
+nodes_here start (Restarted kept) of = tt
+nodes_here start (Abandoned tid) of = tt
+
+nodes_all : (start : Start) (past : List Entry) (c : ClientNo) → FollowsProtocol start past → AllByRecursion (λ (i : Issued). i.mini.nodes ≡ start_nodes start) (issues_of (client_entries c past))
+nodes_all start [] c run = tt
+nodes_all start (e ∷ past) c run =
+    let rest = nodes_all start past c run.0 in
+    elim (is_by c e) as (λ b. AllByRecursion (λ (i : Issued). i.mini.nodes ≡ start_nodes start) (issues_of (if b then e ∷ client_entries c past else client_entries c past))) [
+      | true ↦ all_append (λ (i : Issued). i.mini.nodes ≡ start_nodes start) (issue_in e.what) (issues_of (client_entries c past)) (nodes_here start e.what run.1.of_run) rest
+      | false ↦ rest
+    ]
+
+issues_since : (P : Issued → Type 0) (es : List Entry) → AllByRecursion P (issues_of es) → AllByRecursion P (issues_of (since_begin es))
+issues_since P [] all = tt
+issues_since P (e ∷ es) all = step e.node e.client e.what (all_split P (issue_in e.what) (issues_of es) all).0 (issues_since P es (all_split P (issue_in e.what) (issues_of es) all).1)
+  where
+    step : (at : Option NodeNo) (by : Option ClientNo) (what : What) → AllByRecursion P (issue_in what) → AllByRecursion P (issues_of (since_begin es)) → AllByRecursion P (issues_of (since_begin_after what (record { node = at; client = by; what = what }) (since_begin es)))
+    step at by (Begin number op) here rest = tt
+    step at by (Answered number answer) here rest = tt
+    step at by (Issue tid mini) here rest = (here.0, rest)
+    step at by (Called request reply) here rest = rest
+    step at by (Stopped request asked) here rest = rest
+    step at by (Restarted kept) here rest = rest
+    step at by (Abandoned tid) here rest = rest
+
+-- an operation that read something has issued something
+issued_some : (newer : List Entry) (y : Entry) (older : List Entry) (tid : Tid) (mini : Mini) → issue_named tid (issues_of older) ≡ Some mini → (i : Issued) × (is : List Issued) × (issues_of (newer ++ y ∷ older) ≡ i ∷ is)
+issued_some newer y older tid mini named = by (issues_of (newer ++ y ∷ older)) refl
+  where
+    behind : (a b : List Issued) → a ++ b ≡ [] → b ≡ []
+    behind [] b h = h
+    behind (j ∷ a) b h = absurd cc
+
+    inner : (newer : List Entry) → issues_of (newer ++ y ∷ older) ≡ [] → issues_of older ≡ []
+    inner [] h = behind (issue_in y.what) (issues_of older) h
+    inner (e ∷ newer) h = inner newer (behind (issue_in e.what) (issues_of (newer ++ y ∷ older)) h)
+
+    none_some : ◌≡◌ {A = Option Mini} None (Some mini) → ⊥
+    none_some e = cc
+
+    by : (l : List Issued) → issues_of (newer ++ y ∷ older) ≡ l → (i : Issued) × (is : List Issued) × (issues_of (newer ++ y ∷ older) ≡ i ∷ is)
+    by [] e = absurd (none_some (ap (issue_named tid) (sym (inner newer e)) ∙ named))
+    by (i ∷ is) e = (i, is, e)
+
+-- What is no refusal
+
+path_refused : (seens : List Seen) (m : NodeNo) (request : Request) (reply : NodeReply) (addr : Addr) (seq : ℕ) → RefusedAs seens m request reply (Path addr seq) → ⊥
+path_refused seens m request (Say.BadLock b s h) addr seq is = cc
+path_refused seens m (Ask.Prepare t ps part) (Say.BadCompare item found) addr seq (at, expected, has, shows, is) = cc
+path_refused seens m (Ask.Exec t part) (Say.BadCompare item found) addr seq (at, expected, has, shows, is) = cc
+path_refused seens m (Ask.Prepare t ps part) Say.BadForced addr seq is = cc
+path_refused seens m request reply addr seq is = is
+
+-- a read was made by an Exec of an issue of its operation
+read_issue : (start : Start) (before : List Entry) (c : ClientNo) (x : Entry) (seen : Seen) → FollowsProtocol start (x ∷ before) → is_by c x ≡ true → Contains (seen_at x) seen
+    → (tid : Tid) × (mini : Mini) × (issue_named tid (issues_of (since_begin (client_entries c before))) ≡ Some mini)
+read_issue start before c x seen run by has =
+    let call = read_call x.client x.node x.what seen has in
+    let keeps : AllowedBy before x.client x.node x.what = run.1.by_client in
+    let own : AllowedBy before (Some c) x.node x.what = subst (λ (o : Option ClientNo). AllowedBy before o x.node x.what) (by_of c x.client x.node x.what by) keeps in
+    let there : AllowedBy before (Some c) (Some call.node) x.what = subst (λ (o : Option NodeNo). AllowedBy before (Some c) o x.what) call.here own in
+    let exec : AllowsExec (client_entries c before) call.node call.tid (Bare.Read call.begins call.size ∷ []) = subst (λ (w : What). AllowedBy before (Some c) (Some call.node) w) call.call there in
+    (call.tid, exec.mini, exec.issued)
+
+-- it was read at a node of the run
+read_node : (start : Start) (before : List Entry) (x : Entry) (seen : Seen) → FollowsProtocol start (x ∷ before) → Contains (seen_at x) seen → seen.place.node.0 < start_nodes start
+read_node start before x seen run has =
+    let call = read_call x.client x.node x.what seen has in
+    let at : AllowedAt start before (Some call.node) x.what = subst (λ (o : Option NodeNo). AllowedAt start before o x.what) call.here run.1.at_node in
+    subst (λ (s : Seen). s.place.node.0 < start_nodes start) (sym call.is) at.0
+
+pub path_by_other : PathByOther
+path_by_other start store past place e c number addr seq h stands answers = at_last failed.last refl
+  where
+    a : AnswerAt past c number (GaveUp (Path addr seq))
+    a = answer_at past place e c number (GaveUp (Path addr seq)) stands answers
+
+    log : List Entry
+    log = stands.1
+
+    s : ShownAnswer past c number (GaveUp (Path addr seq)) (answer_at past place e c number (GaveUp (Path addr seq)) stands answers)
+    s = shown_answer start past c number (GaveUp (Path addr seq)) (answer_at past place e c number (GaveUp (Path addr seq)) stands answers) h.run
+
+    failed : FailedTries (nodes_of (issues_of (since_begin (client_entries c stands.1)))) s.op (since_begin (client_entries c stands.1)) (Path addr seq)
+    failed = s.shows.1
+
+    follows : FollowsProtocol start past
+    follows = runs_follow_protocol start past h.run
+
+    and_left : (a b : Bool) → (a && b) ≡ true → a ≡ true
+    and_left true b g = refl
+    and_left false b g = absurd cc
+
+    by_fault : (x : Entry) (try : List Entry) → failed.last ≡ x ∷ try → MeetsFault (nodes_of (issues_of (since_begin (client_entries c stands.1)))) (seen_in (x ∷ try)) s.op (Path addr seq) → PathMoved past c number place
+    by_fault x try is fault = tell (stays_all start front.span front.base)
+      where
+        tail : List Entry
+        tail = flat_map (λ t. t) failed.middle ++ (failed.first ++ failed.taken)
+
+        whole : since_begin (client_entries c stands.1) ≡ failed.rest ++ x ∷ (try ++ (flat_map (λ t. t) failed.middle ++ (failed.first ++ failed.taken)))
+        whole = failed.split ∙ (assoc_four failed.rest failed.last (flat_map (λ t. t) failed.middle) failed.first failed.taken ∙ ap (λ (l : List Entry). failed.rest ++ (l ++ (flat_map (λ t. t) failed.middle ++ (failed.first ++ failed.taken)))) is)
+
+        split : SinceSplit (client_entries c stands.1) failed.rest x (try ++ (flat_map (λ t. t) failed.middle ++ (failed.first ++ failed.taken)))
+        split = since_split (client_entries c stands.1) failed.rest x (try ++ (flat_map (λ t. t) failed.middle ++ (failed.first ++ failed.taken))) whole
+
+        l : LiftedPart c stands.1 failed.rest x split.before
+        l = lift_part c stands.1 failed.rest x split.before split.split
+
+        under : under_way (client_entries c l.before) ≡ Some (record { number = number; op = s.op })
+        under = ap under_way l.list ∙ (sym (since_under failed.rest x split.before (try ++ (flat_map (λ t. t) failed.middle ++ (failed.first ++ failed.taken))) (ap since_begin (sym split.split) ∙ whole)) ∙ (ap under_way (sym split.split) ∙ s.now))
+
+        inner : SinceTry split.before try
+        inner = try_split split.before try (flat_map (λ t. t) failed.middle ++ (failed.first ++ failed.taken)) (sym split.rest)
+
+        front : LiftedFront c l.before try inner.older
+        front = lift_front c l.before try inner.older (l.list ∙ inner.split)
+
+        -- the operation was under way at the base of the try
+        during : under_way (client_entries c front.base) ≡ Some (record { number = number; op = s.op })
+        during =
+            let since : since_begin (client_entries c l.before) ≡ try ++ (flat_map (λ t. t) failed.middle ++ (failed.first ++ failed.taken)) = ap since_begin l.list ∙ sym split.rest in
+            let none : AllByRecursion (λ (y : Entry). begun_in y.what ≡ []) try =
+            all_front (λ (y : Entry). begun_in y.what ≡ []) try (flat_map (λ t. t) failed.middle ++ (failed.first ++ failed.taken)) (subst (AllByRecursion (λ (y : Entry). begun_in y.what ≡ [])) since (none_begun (client_entries c l.before))) in
+            let list : client_entries c l.before ≡ try ++ client_entries c front.base =
+            ap (client_entries c) front.split ∙ (client_append c front.span front.base ∙ ap (λ (es : List Entry). es ++ client_entries c front.base) front.own) in
+            under_since try (client_entries c front.base) (record { number = number; op = s.op }) none (ap under_way (sym list) ∙ under)
+
+        there : past ≡ (stands.0 ++ (e ∷ l.later)) ++ x ∷ l.before
+        there = stands.2 ∙ (ap (λ (es : List Entry). stands.0 ++ e ∷ es) l.split ∙ sym (append_assoc stands.0 (e ∷ l.later) (x ∷ l.before)))
+
+        to_x : FollowsProtocol start (x ∷ l.before)
+        to_x = follows_before start past (stands.0 ++ (e ∷ l.later)) (x ∷ l.before) there follows
+
+        to_span : FollowsProtocol start (front.span ++ front.base)
+        to_span = subst (FollowsProtocol start) front.split to_x.0
+
+        to_base : FollowsProtocol start front.base
+        to_base = older_follows start front.span front.base to_span
+
+        memory_long : length (flat start front.base) ≡ start_nodes start
+        memory_long = (whole_run start front.base h.opened.sound h.spaces to_base).even.spaces
+
+        -- where no plan is committed, all that the try read stands in one memory
+        stood : StaysAll start front.span front.base → (seen : Seen) → Contains (seen_in (x ∷ try)) seen → IsSeenIn (flat start front.base) seen
+        stood all seen has = by (Contains-append_cases (seen_at x) (seen_in try) seen (subst (λ (ss : List Seen). Contains ss seen) (seen_in-cons x try) has))
+          where
+            by : Contains (seen_at x) seen ⊎ Contains (seen_in try) seen → IsSeenIn (flat start front.base) seen
+            by (inl here) = (
+              subst (λ (m : List (List ℕ)). StandsIn m seen) (ap (flat start) front.split ∙ all [] front.span refl)
+                  (here_seen start l.before x.client x.node x.what seen (whole_run start l.before h.opened.sound h.spaces to_x.0) to_x.1 here),
+              subst (λ (k : ℕ). seen.place.node.0 < k) (sym memory_long) (read_node start l.before x seen to_x here),
+            )
+            by (inr older) =
+                let r : SeenAfter start front.span front.base seen = seen_after start front.span front.base c seen h.opened.sound h.spaces to_span (subst (λ (es : List Entry). Contains (seen_in es) seen) (sym front.own) older) in
+                let parts : front.span ++ front.base ≡ r.newer ++ r.entry ∷ (r.older ++ front.base) = ap (λ (es : List Entry). es ++ front.base) r.split ∙ append_assoc r.newer (r.entry ∷ r.older) front.base in (
+                  subst (λ (m : List (List ℕ)). StandsIn m seen) (all (r.newer ++ r.entry ∷ []) r.older (r.split ∙ sym (append_assoc r.newer (r.entry ∷ []) r.older))) r.stands,
+                  subst (λ (k : ℕ). seen.place.node.0 < k) (sym memory_long)
+                      (read_node start (r.older ++ front.base) r.entry seen (older_follows start r.newer (r.entry ∷ (r.older ++ front.base)) (subst (FollowsProtocol start) parts to_span)) r.here),
+                )
+
+        -- the operation's minitransactions were made for as many nodes as there are
+        nodes_are : (seen : Seen) → Contains (seen_in (x ∷ try)) seen → nodes_of (issues_of (since_begin (client_entries c stands.1))) ≡ length (flat start front.base)
+        nodes_are seen has = by (issues_of (since_begin (client_entries c stands.1))) refl (issues_since (λ (i : Issued). i.mini.nodes ≡ start_nodes start) (client_entries c stands.1) (nodes_all start stands.1 c (follows_before start past (stands.0 ++ e ∷ []) stands.1 (stands.2 ∙ sym (append_assoc stands.0 (e ∷ []) stands.1)) follows)))
+          where
+            b : Rattle.mn_world.proofs.Meaning.Moved.BroughtIn (x ∷ try) seen
+            b = Rattle.mn_world.proofs.Meaning.Moved.brought (x ∷ try) seen has
+
+            -- the entry that read it, since Begin
+            parts : since_begin (client_entries c stands.1) ≡ (failed.rest ++ b.newer) ++ b.entry ∷ (b.older ++ (flat_map (λ t. t) failed.middle ++ (failed.first ++ failed.taken)))
+            parts =
+                whole ∙ (ap (λ (es : List Entry). failed.rest ++ (es ++ (flat_map (λ t. t) failed.middle ++ (failed.first ++ failed.taken)))) b.split
+                ∙ (ap (λ (es : List Entry). failed.rest ++ es) (append_assoc b.newer (b.entry ∷ b.older) (flat_map (λ t. t) failed.middle ++ (failed.first ++ failed.taken)))
+                ∙ sym (append_assoc failed.rest b.newer (b.entry ∷ (b.older ++ (flat_map (λ t. t) failed.middle ++ (failed.first ++ failed.taken)))))))
+
+            sp : SinceSplit (client_entries c stands.1) (failed.rest ++ b.newer) b.entry (b.older ++ (flat_map (λ t. t) failed.middle ++ (failed.first ++ failed.taken)))
+            sp = since_split (client_entries c stands.1) (failed.rest ++ b.newer) b.entry (b.older ++ (flat_map (λ t. t) failed.middle ++ (failed.first ++ failed.taken))) parts
+
+            lp : LiftedPart c stands.1 (failed.rest ++ b.newer) b.entry sp.before
+            lp = lift_part c stands.1 (failed.rest ++ b.newer) b.entry sp.before sp.split
+
+            issue : (tid : Tid) × (mini : Mini) × (issue_named tid (issues_of (since_begin (client_entries c lp.before))) ≡ Some mini)
+            issue = read_issue start lp.before c b.entry seen (follows_before start stands.1 lp.later (b.entry ∷ lp.before) lp.split (follows_before start past (stands.0 ++ e ∷ []) stands.1 (stands.2 ∙ sym (append_assoc stands.0 (e ∷ []) stands.1)) follows)) lp.by b.brought
+
+            some : (i : Issued) × (is : List Issued) × (issues_of ((failed.rest ++ b.newer) ++ b.entry ∷ since_begin sp.before) ≡ i ∷ is)
+            some = issued_some (failed.rest ++ b.newer) b.entry (since_begin sp.before) issue.0 issue.1 (ap (λ (es : List Entry). issue_named issue.0 (issues_of (since_begin es))) (sym lp.list) ∙ issue.2)
+
+            now_is : issues_of (since_begin (client_entries c stands.1)) ≡ some.0 ∷ some.1
+            now_is = ap issues_of (parts ∙ ap (λ (es : List Entry). (failed.rest ++ b.newer) ++ b.entry ∷ es) sp.rest) ∙ some.2
+
+            none_some : (i : Issued) (is : List Issued) → [] ≡ i ∷ is → ⊥
+            none_some i is e = cc
+
+            by : (is : List Issued) → issues_of (since_begin (client_entries c stands.1)) ≡ is → AllByRecursion (λ (i : Issued). i.mini.nodes ≡ start_nodes start) (issues_of (since_begin (client_entries c stands.1))) → nodes_of (issues_of (since_begin (client_entries c stands.1))) ≡ length (flat start front.base)
+            by [] e all = absurd (none_some some.0 some.1 (sym e ∙ now_is))
+            by (i ∷ is) e all = ap nodes_of e ∙ ((subst (AllByRecursion (λ (j : Issued). j.mini.nodes ≡ start_nodes start)) e all).0 ∙ sym memory_long)
+
+        some_holds : (t : Store) × Holds (flat start front.base) t
+        some_holds =
+            let history = history_exists start store past h in
+            let known = known_run start store past history.0 h.opened.sound h.spaces h.opened.holds h.run history.1 in
+            some_store start store past history.0 known ((stands.0 ++ (e ∷ l.later)) ++ (x ∷ front.span)) front.base
+            (there ∙ (ap (λ (es : List Entry). (stands.0 ++ (e ∷ l.later)) ++ x ∷ es) front.split ∙ sym (append_assoc (stands.0 ++ (e ∷ l.later)) (x ∷ front.span) front.base)))
+
+        low : length l.before < length stands.1
+        low = shorter_by stands.1 l.later x l.before l.split
+
+        tell : StaysAll start front.span front.base ⊎ CommitIn front.span front.base → PathMoved past c number place
+        tell (inl all) = absurd (no_fault (flat start front.base) some_holds.0 some_holds.1 (seen_in (x ∷ try)) (stood all) (nodes_of (issues_of (since_begin (client_entries c stands.1)))) nodes_are s.op addr seq fault)
+        tell (inr co) =
+            let base_split : l.before ≡ co.newer ++ co.entry ∷ (co.older ++ front.base) = front.split ∙ (ap (λ (es : List Entry). es ++ front.base) co.split ∙ append_assoc co.newer (co.entry ∷ co.older) front.base) in
+            let outer : past ≡ ((stands.0 ++ (e ∷ l.later)) ++ (x ∷ co.newer)) ++ co.entry ∷ (co.older ++ front.base) =
+            there ∙ (ap (λ (es : List Entry). (stands.0 ++ (e ∷ l.later)) ++ x ∷ es) base_split ∙ sym (append_assoc (stands.0 ++ (e ∷ l.later)) (x ∷ co.newer) (co.entry ∷ (co.older ++ front.base)))) in
+            let run : IsRun start (co.entry ∷ (co.older ++ front.base)) = older_run start ((stands.0 ++ (e ∷ l.later)) ++ (x ∷ co.newer)) (co.entry ∷ (co.older ++ front.base)) (subst (IsRun start) outer h.run) in
+            let plan = plan_exists start (co.older ++ front.base) co.entry co.issued run.0 co.commits co.not_read in
+            let sum = length-append co.older front.base in
+            let below = shorter_by l.before co.newer co.entry (co.older ++ front.base) base_split in
+            let low' : length l.before < length stands.1 = shorter_by stands.1 l.later x l.before l.split in
+            let place_is : place ≡ length stands.1 = stands.3 in
+            record {
+              at = length l.before;
+              entry = x;
+              later = stands.0 ++ (e ∷ l.later);
+              before = l.before;
+              split = there;
+              is_place = refl;
+              client = by_of c x.client x.node x.what l.by;
+              op = s.op;
+              of = under;
+              before_answer = omega arith;
+              span = front.span;
+              base = front.base;
+              begins = front.split;
+              during = during;
+              one_try = ap none_refused front.own ∙ subst (λ (t : List Entry). is_one_try t ≡ true) is (and_left (is_one_try failed.last) _ failed.tries);
+              commit = length (co.older ++ front.base);
+              other = plan.0.client;
+              its = plan.0.number;
+              commits = ((stands.0 ++ (e ∷ l.later)) ++ (x ∷ co.newer), co.entry, co.older ++ front.base, co.issued, outer, refl, co.commits, co.not_read, (plan.0, plan.1, refl, refl));
+              inside = (omega arith, omega arith);
+              not_own = λ client its.
+                  others_commit_nothing start store past place (length (co.older ++ front.base)) e c number (GaveUp (Path addr seq)) h stands answers tt
+                  ((stands.0 ++ (e ∷ l.later)) ++ (x ∷ co.newer), co.entry, co.older ++ front.base, co.issued, outer, refl, co.commits, co.not_read, (plan.0, plan.1, client, its));
+            }
+
+    at_last : (last : List Entry) → failed.last ≡ last → PathMoved past c number place
+    at_last [] is = absurd (subst (λ (t : List Entry). FailsAs (nodes_of (issues_of (since_begin (client_entries c stands.1)))) s.op t (Path addr seq)) is failed.last_fails)
+    at_last (x ∷ try) is = by (subst (λ (t : List Entry). FailsAs (nodes_of (issues_of (since_begin (client_entries c stands.1)))) s.op t (Path addr seq)) is failed.last_fails)
+      where
+        by : FailsAs (nodes_of (issues_of (since_begin (client_entries c stands.1)))) s.op (x ∷ try) (Path addr seq) → PathMoved past c number place
+        by (inl (call, here, refused)) = absurd (path_refused (seen_in try) call.node call.request call.reply addr seq refused)
+        by (inr fault) = by_fault x try is fault

@@ -1,0 +1,5 @@
+use Rattle.mn_world.proofs.Meaning.Held.{forced_stands}
+use Rattle.mn_world.proofs.laws.forced_stands.Goals as goal
+
+pub returns : goal.returns
+returns c = forced_stands
