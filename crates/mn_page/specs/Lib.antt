@@ -4,6 +4,7 @@ pub mod Forest
 pub mod Holds
 pub mod Laws
 pub mod Overlay
+pub mod Copies
 pub mod Written
 pub mod Reading
 pub mod Fronts
