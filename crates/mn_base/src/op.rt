@@ -1,5 +1,7 @@
 ghost use Rattle.std.specs.Prelude.{◌≡◌, ◌≤◌, length, IfOk, IfErr, OnOk};
+ghost use Rattle.std.specs.List.{list_any};
 ghost use Rattle.mn_base.specs.Refusal.{RefusesSteps};
+ghost use Rattle.mn_base.specs.Store.{is_change};
 
 use crate::{BaseError, Key, Name, NoMemory, TryCopy, Value, copies_of};
 use std::alloc::Global;
@@ -35,6 +37,18 @@ impl TryCopy for Step {
                 key: key.try_copy(alloc)?,
                 want: want.try_copy(alloc)?,
             }),
+        }
+    }
+}
+
+impl Step {
+    /// Whether it may change pairs: a Put or a Del.
+    pub fn changes(&self) -> bool
+        ensures { result ≡ is_change self.now }
+    {
+        match self {
+            Step::Put { .. } | Step::Del { .. } => true,
+            Step::Get { .. } | Step::Check { .. } => false,
         }
     }
 }
@@ -85,6 +99,19 @@ impl Steps {
         ensures within { (1 ≤ length self.now) × (length self.now ≤ MAX_STEPS) }
     {
         &self.steps
+    }
+
+    /// Whether some step is a Put or a Del.
+    pub fn has_change(&self) -> bool
+        ensures { result ≡ list_any is_change self.now }
+    {
+        let steps = self.as_slice();
+        for step in steps {
+            if step.changes() {
+                return true;
+            }
+        }
+        false
     }
 }
 

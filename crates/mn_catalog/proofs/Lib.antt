@@ -1,3 +1,4 @@
 mod Spread
 mod Faults
 mod Names
+mod Versions

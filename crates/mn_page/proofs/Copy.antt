@@ -33,7 +33,7 @@ use Rattle.mn_page.proofs.Counted.{IsChildIn, IsCounted, IsPageIn, IsRootIn, Lis
 abbrev pub Joins : (ℕ → Bool) → (ℕ → Bool) → ℕ → Type 0
 Joins new old v = (w : ℕ) → new w ≡ (old w || nat_eq w v)
 
-any_same : (t new old : ℕ → Bool) (v : ℕ) → Joins new old v → t v ≡ false → (ws : List ℕ) → list_any t (filter new ws) ≡ list_any t (filter old ws)
+pub any_same : (t new old : ℕ → Bool) (v : ℕ) → Joins new old v → t v ≡ false → (ws : List ℕ) → list_any t (filter new ws) ≡ list_any t (filter old ws)
 any_same t new old v joins off [] = refl
 any_same t new old v joins off (w ∷ ws) =
     let rest = any_same t new old v joins off ws in
@@ -44,7 +44,7 @@ any_same t new old v joins off (w ∷ ws) =
     cases false true e rest = ap (λ c. c || list_any t (filter new ws)) (ap t (eqb-true w v e) ∙ off) ∙ rest
     cases false false e rest = rest
 
-any_joined : (t new : ℕ → Bool) (v : ℕ) → new v ≡ true → t v ≡ true → (ws : List ℕ) (i : ℕ) → slice_get ws i ≡ Some v → list_any t (filter new ws) ≡ true
+pub any_joined : (t new : ℕ → Bool) (v : ℕ) → new v ≡ true → t v ≡ true → (ws : List ℕ) (i : ℕ) → slice_get ws i ≡ Some v → list_any t (filter new ws) ≡ true
 any_joined t new v is pass [] i at = absurd cc
 any_joined t new v is pass (w ∷ ws) zero at =
     let here : w ≡ v = cc in
@@ -59,7 +59,7 @@ any_joined t new v is pass (w ∷ ws) (suc i) at = over (new w) (any_joined t ne
     over true rest = or_right (t w) _ rest
     over false rest = rest
 
-all_joined : (P : ℕ → Type 0) (new old : ℕ → Bool) (v : ℕ) → Joins new old v → P v → (ws : List ℕ) → AllByRecursion P (filter old ws) → AllByRecursion P (filter new ws)
+pub all_joined : (P : ℕ → Type 0) (new old : ℕ → Bool) (v : ℕ) → Joins new old v → P v → (ws : List ℕ) → AllByRecursion P (filter old ws) → AllByRecursion P (filter new ws)
 all_joined P new old v joins one [] all = tt
 all_joined P new old v joins one (w ∷ ws) all = subst (λ b. AllByRecursion P (cond b (w ∷ filter new ws) (filter new ws))) (sym (joins w)) (cases (old w) (nat_eq w v) refl all (λ rest. all_joined P new old v joins one ws rest))
   where
@@ -68,7 +68,7 @@ all_joined P new old v joins one (w ∷ ws) all = subst (λ b. AllByRecursion P 
     cases false true e all more = (subst P (sym (eqb-true w v e)) one, more all)
     cases false false e all more = more all
 
-range_at : (a n i : ℕ) → i < n → slice_get (range_with_len a n) i ≡ Some (a + i)
+pub range_at : (a n i : ℕ) → i < n → slice_get (range_with_len a n) i ≡ Some (a + i)
 range_at a zero i in' = absurd (omega arith)
 range_at a (suc n) zero in' = let e : a ≡ a + 0 = omega arith in ap Some e
 range_at a (suc n) (suc i) in' = let e : a + 1 + i ≡ a + suc i = omega arith in range_at (a + 1) n i (omega arith) ∙ ap Some e

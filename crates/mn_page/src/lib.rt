@@ -22,7 +22,7 @@ mod write;
 pub use entry::{CatEntry, Entries};
 pub use error::{BadPage, PageError};
 pub use laws::{base_holds_empty_store, leaf_tells, leaf_tells_get};
-pub use page::{Body, Branches, Child, Page};
+pub use page::{Body, Branches, Child, Page, number_after};
 pub use page_ref::PageRef;
 pub use pages::Pages;
 

@@ -8,27 +8,6 @@ use crate::pairs::{remove_pair, set_pair, value_of};
 use mn_base::{Founds, Key, NoMemory, Pair, Reply, Step, TryCopy, Value};
 use std::alloc::Global;
 
-fn changes(step: &Step) -> bool
-    ensures { result ≡ is_change step.now }
-{
-    match step {
-        Step::Put { .. } | Step::Del { .. } => true,
-        Step::Get { .. } | Step::Check { .. } => false,
-    }
-}
-
-/// Whether some step is a Put or a Del.
-pub fn has_change(steps: &[Step]) -> bool
-    ensures { result ≡ list_any is_change steps.now }
-{
-    for step in steps {
-        if changes(step) {
-            return true;
-        }
-    }
-    false
-}
-
 /// What a key has after a step, when it had this before.
 fn left<'a>(found: Option<&'a Value>, step: &'a Step, key: &Key) -> Option<&'a Value>
     ensures { option_map (λ v. v.now) result ≡ left_by (option_map (λ v. v.now) found.entry) step.now key.now }

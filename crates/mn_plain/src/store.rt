@@ -6,7 +6,7 @@ ghost use Rattle.mn_plain.specs.Kept.{version_of, store_of, IsPlace, SetsPairs, 
 
 use crate::digest::digest_of;
 use crate::pairs::within;
-use crate::steps::{has_change, reply_to, take_steps};
+use crate::steps::{reply_to, take_steps};
 use crate::version::{Kept, Place};
 use mn_base::{Key, Listing, Name, NoMemory, Op, Pairs, Reply, Steps, TryCopy, Version, VersionNo};
 use std::alloc::Global;
@@ -243,7 +243,7 @@ impl Store {
         let Some(place) = self.find(version) else {
             return Ok(Reply::NoVersion);
         };
-        let change = has_change(steps.as_slice());
+        let change = steps.has_change();
         if is_shut(place, change) {
             return Ok(Reply::Frozen);
         }

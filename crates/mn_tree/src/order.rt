@@ -1,14 +1,14 @@
 ghost use Rattle.std.specs.Prelude.{◌≡◌, ◌≤◌, ◌^◌, ◌++◌, ◌∷◌, [], length, map, filter, insert, IfOk, OnOk};
 ghost use Rattle.mn_base.specs.Order.{key_lt};
 ghost use Rattle.std.specs.List.{range_with_len};
-ghost use Rattle.mn_page.specs.Overlay.{new_addr, next_number, child_at, placed_addr, placed_page, placed_body};
+ghost use Rattle.mn_page.specs.Overlay.{new_addr, child_at, placed_addr, placed_page, placed_body};
 ghost use Rattle.mn_tree.specs.Walk.{helds};
 ghost use Rattle.mn_tree.specs.Order.{stands_first, precedes, with_number, with_numbers, place_in, slot_of, slots_by_number, is_changed, old_pages, new_pages};
 
 use crate::held::{HeldPage, UNPLACED, is_among, page_at, resolved};
 use crate::walk::height;
 use mn_base::{Addr, Bytes, NoMemory, NodeNo, TryCopy};
-use mn_page::{Body, Branches, Child, Page};
+use mn_page::{Body, Branches, Child, Page, number_after};
 use std::alloc::Global;
 
 /// The place of the new page of this number.
@@ -160,13 +160,6 @@ fn page_in(alloc: Global, by: &[Addr], seq: u64, page: &Page) -> Result<Page, No
         high: page.high.try_copy(alloc)?,
         body: body_in(alloc, by, &page.body)?,
     })
-}
-
-/// The number of the next write; the last number stays.
-fn number_after(seq: u64) -> u64
-    ensures { result ≡ next_number seq }
-{
-    if seq == u64::MAX { seq } else { seq + 1 }
 }
 
 /// Adds an old page, if it was changed.

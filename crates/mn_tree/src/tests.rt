@@ -143,27 +143,15 @@ fn run(
     step: &Step,
 ) -> Result<Stepped, Fail> {
     for _level in 0..16 {
-        let Stepped::Need { addr } = overlay.step(alloc, step)? else {
-            break;
+        let answer = overlay.step(alloc, step)?;
+        let Stepped::Need { addr } = answer else {
+            return Ok(answer);
         };
         if let Some(page) = copy_at(alloc, pages, addr)? {
             overlay.add(addr, page)?;
         }
     }
     Ok(overlay.step(alloc, step)?)
-}
-
-fn height(page: &Page) -> u16 {
-    match &page.body {
-        Body::Leaf { .. } => 0,
-        Body::Inner { height, .. } => *height,
-    }
-}
-
-// Lower, or at one height further to the left.
-fn stands_before(page: &Page, other: &Page) -> bool {
-    let (at, other_at) = (height(page), height(other));
-    at < other_at || at == other_at && page.low.as_slice() < other.low.as_slice()
 }
 
 // The pages as they are placed in these slots.
@@ -203,56 +191,6 @@ fn a_ninth_pair_splits_the_root(rt: HostRuntime) -> Result<(), Fail> {
         let mut slot = front.to_vec(alloc)?;
         slot.resize(1024, 0)?;
         assert!(rt; slot_of(alloc, page)? == slot);
-    }
-    Ok(())
-}
-
-#[test]
-fn many_keys_are_read_back(rt: HostRuntime) -> Result<(), Fail> {
-    let alloc = rt.alloc();
-    // Ascending, descending and mixed: the n-th key is (first + n * stride) modulo 600.
-    for (first, stride) in [(0, 1), (599, 599), (5, 331)] {
-        let mut overlay = tree_of(alloc, leaf(alloc, 1, 0, Vec::new(alloc)))?;
-        for n in 0..600_u32 {
-            let number = (first + n * stride) % 600;
-            let key = (number as u16).to_be_bytes();
-            let answer = overlay.step(alloc, &put(alloc, &key, &key)?)?;
-            assert!(rt; matches!(answer, Stepped::Changed));
-        }
-
-        let mut slots = Vec::new(alloc);
-        let count = overlay.new_pages();
-        for slot in 0..u16::MAX {
-            if u32::from(slot) >= count {
-                break;
-            }
-            slots.push(at(1, slot))?;
-        }
-        let pages = placed(alloc, &mut overlay, &slots)?;
-        assert_eq!(rt; pages.len(), slots.len() + 1);
-        assert_eq!(rt; pages[0].0, at(0, 0));
-        // New slots run from the leaves upwards, at one height from left to right.
-        for (n, slot) in slots.iter().enumerate() {
-            assert_eq!(rt; pages[n + 1].0, *slot);
-            if n > 0 {
-                assert!(rt; stands_before(&pages[n].1, &pages[n + 1].1));
-            }
-        }
-
-        let tree = VersionTree::new(alloc, &[None])?;
-        let mut again = Overlay::new(alloc, tree, VersionNo(0), at(0, 0))?;
-        for number in 0..600_u16 {
-            let key = number.to_be_bytes();
-            let get = Step::Get {
-                key: key_of(alloc, &key)?,
-            };
-            let Stepped::Found { value: Some(value) } = run(alloc, &mut again, &pages, &get)? else {
-                assert!(rt; false);
-                break;
-            };
-            assert!(rt; value.as_slice() == key.as_slice());
-        }
-        assert_eq!(rt; again.new_pages(), 0);
     }
     Ok(())
 }
@@ -375,6 +313,26 @@ fn a_leaf_is_copied_for_each_version(rt: HostRuntime) -> Result<(), Fail> {
     }
     let front = b"\0\0\0\0\0\0\0\x03\x01\0\0\0\0\0\0\0\0\0\0\x06\x02k5\0\x05".as_slice();
     assert!(rt; slot_of(alloc, &old)?.starts_with(front));
+    Ok(())
+}
+
+#[test]
+fn a_step_ends_at_a_page_that_its_transaction_has_copied(rt: HostRuntime) -> Result<(), Fail> {
+    let alloc = rt.alloc();
+    // The root is out of date: it names a leaf of main twice.
+    let mut pages = Vec::new(alloc);
+    pages.push((at(1, 1), inner(alloc, 1, 1, at(0, 1), at(0, 1))?))?;
+    pages.push((at(0, 1), leaf(alloc, 1, 0, pairs_of(alloc, b'1', b'8')?)))?;
+    let mut overlay = tree_for(alloc, 1, at(1, 1))?;
+    let answer = run(alloc, &mut overlay, &pages, &put(alloc, b"k6", b"w")?)?;
+    assert!(rt; matches!(answer, Stepped::Changed));
+    // The copy took the place of the first of the two, so the way to k6 leads to the old leaf.
+    let check = Step::Check {
+        key: key_of(alloc, b"k6")?,
+        want: Some(value_of(alloc, b"w")?),
+    };
+    let answer = run(alloc, &mut overlay, &pages, &check)?;
+    assert!(rt; matches!(answer, Stepped::BadPath { addr } if addr == at(0, 1)));
     Ok(())
 }
 

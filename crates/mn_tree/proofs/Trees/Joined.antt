@@ -7,45 +7,7 @@ use Rattle.std.proofs.lemmas.Bool.{eqb-true, eq-eqb, lt-ltb, and_parts, and_from
 use Rattle.mn_base.specs.Store.{Head, max_versions}
 use Rattle.mn_base.specs.Tree.{IsVersionTree, serves, parents_of, is_ancestor, has_version, versions_in}
 use Rattle.mn_page.proofs.Ancestors.{alone, is_own_ancestor, above_le}
-use Rattle.mn_page.proofs.Copy.{Joins, joined_bit}
-
-any_same : (t new old : ℕ → Bool) (v : ℕ) → Joins new old v → t v ≡ false → (ws : List ℕ) → list_any t (filter new ws) ≡ list_any t (filter old ws)
-any_same t new old v joins off [] = refl
-any_same t new old v joins off (w ∷ ws) = ap (λ b. list_any t (cond b (w ∷ filter new ws) (filter new ws))) (joins w) ∙ cases (old w) (nat_eq w v) refl (any_same t new old v joins off ws)
-  where
-    cases : (a b : Bool) → nat_eq w v ≡ b → list_any t (filter new ws) ≡ list_any t (filter old ws) → list_any t (cond (a || b) (w ∷ filter new ws) (filter new ws)) ≡ list_any t (cond a (w ∷ filter old ws) (filter old ws))
-    cases true b e rest = ap (λ c. t w || c) rest
-    cases false true e rest = ap (λ c. c || list_any t (filter new ws)) (ap t (eqb-true w v e) ∙ off) ∙ rest
-    cases false false e rest = rest
-
-any_joined : (t new : ℕ → Bool) (v : ℕ) → new v ≡ true → t v ≡ true → (ws : List ℕ) (i : ℕ) → slice_get ws i ≡ Some v → list_any t (filter new ws) ≡ true
-any_joined t new v is pass [] i at = absurd cc
-any_joined t new v is pass (w ∷ ws) zero at =
-    let here : w ≡ v = cc in
-    ap (λ b. list_any t (cond b (w ∷ filter new ws) (filter new ws))) (ap new here ∙ is) ∙ ap (λ b. b || list_any t (filter new ws)) (ap t here ∙ pass)
-any_joined t new v is pass (w ∷ ws) (suc i) at = over (new w) (any_joined t new v is pass ws i at)
-  where
-    or_right : (a b : Bool) → b ≡ true → (a || b) ≡ true
-    or_right true b e = refl
-    or_right false b e = e
-
-    over : (b : Bool) → list_any t (filter new ws) ≡ true → list_any t (cond b (w ∷ filter new ws) (filter new ws)) ≡ true
-    over true rest = or_right (t w) _ rest
-    over false rest = rest
-
-all_joined : (P : ℕ → Type 0) (new old : ℕ → Bool) (v : ℕ) → Joins new old v → P v → (ws : List ℕ) → AllByRecursion P (filter old ws) → AllByRecursion P (filter new ws)
-all_joined P new old v joins one [] all = tt
-all_joined P new old v joins one (w ∷ ws) all = subst (λ b. AllByRecursion P (cond b (w ∷ filter new ws) (filter new ws))) (sym (joins w)) (cases (old w) (nat_eq w v) refl all (λ rest. all_joined P new old v joins one ws rest))
-  where
-    cases : (a b : Bool) → nat_eq w v ≡ b → AllByRecursion P (cond a (w ∷ filter old ws) (filter old ws)) → (AllByRecursion P (filter old ws) → AllByRecursion P (filter new ws)) → AllByRecursion P (cond (a || b) (w ∷ filter new ws) (filter new ws))
-    cases true b e all more = (all.0, more all.1)
-    cases false true e all more = (subst P (sym (eqb-true w v e)) one, more all)
-    cases false false e all more = more all
-
-pub range_at : (a n i : ℕ) → i < n → slice_get (range_with_len a n) i ≡ Some (a + i)
-range_at a zero i in' = absurd (omega arith)
-range_at a (suc n) zero in' = let e : a ≡ a + 0 = omega arith in ap Some e
-range_at a (suc n) (suc i) in' = let e : a + 1 + i ≡ a + suc i = omega arith in range_at (a + 1) n i (omega arith) ∙ ap Some e
+use Rattle.mn_page.proofs.Copy.{joined_bit, any_same, any_joined, all_joined, range_at}
 
 all_as_list : (t : ℕ → Bool) (ws : List ℕ) → AllByRecursion (λ w. t w ≡ true) ws → list_all t ws ≡ true
 all_as_list t [] all = refl

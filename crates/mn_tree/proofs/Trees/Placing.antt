@@ -20,7 +20,7 @@ use Rattle.mn_tree.specs.Trees.{laid_over, is_noted, IsShown, IsDraft}
 use Rattle.mn_tree.specs.Laws.{AreFreeSlots, PlacingKeepsTree}
 use Rattle.mn_tree.proofs.Trees.Puts.{addr_is, same_itself, differs, page_same, nothing}
 use Rattle.mn_tree.proofs.Trees.Among.{Among, rest_addrs, body_addrs}
-use Rattle.mn_tree.proofs.Trees.Joined.{range_at}
+use Rattle.mn_page.proofs.Copy.{range_at}
 use Rattle.mn_tree.proofs.Trees.Found.{settled}
 use Rattle.mn_tree.proofs.Trees.Renamed.{Moved, Came, renamed_body, renamed_shown}
 

@@ -18,9 +18,9 @@ returns-then-is_without_effect c =
     let steps = c.args.steps.now in
     let reply = c.in_ok-reply.reply in
     let kept = subst (λ (o : Option StoreVersion). IsSomeAnd o (λ k. c.pairs_at.result.now ≡ k.pairs)) place.1.there c.pairs_at.ensures in
-    let ran_there = subst (λ (ps : List Pair). RanIs ps c.as_slice-3.result.now reply) (c.as_slice-2.ensures ∙ kept) c.in_ok-reply.ensures in
-    let ran_is = subst (λ (ss : List Step). RanIs v.pairs ss reply) c.as_slice-3.ensures.steps ran_there in
-    let change : c.has_change-change.result ≡ list_any is_change steps = c.has_change-change.ensures ∙ ap (λ (ss : List Step). list_any is_change ss) c.as_slice.ensures.steps in
+    let ran_there = subst (λ (ps : List Pair). RanIs ps c.as_slice-2.result.now reply) (c.as_slice.ensures ∙ kept) c.in_ok-reply.ensures in
+    let ran_is = subst (λ (ss : List Step). RanIs v.pairs ss reply) c.as_slice-2.ensures.steps ran_there in
+    let change : c.has_change-change.result ≡ list_any is_change steps = c.has_change-change.ensures in
     let allows : (v.head.frozen && list_any is_change steps) ≡ false = ap (λ (b : Bool). b && list_any is_change steps) (sym place.2) ∙ ap (λ (b : Bool). c.in-Some.place.frozen && b) (sym change) ∙ sym c.is_shut.ensures ∙ c.if-is_shut.false in
     let without : not (list_any is_change steps && not (is_unmet_reply reply)) ≡ true = ap (λ (b : Bool). not (b && not (is_unmet_reply reply))) (sym change) ∙ sym c.is_without_effect.ensures ∙ c.if-is_without_effect.true in
     tx_without_effect c.args.self.now c.args.version.now steps c.in-Some.place.at v reply place.1 allows ran_is without

@@ -1,0 +1,111 @@
+-- A page with one more version in its copied set: what it serves, and that it is a page.
+use Rattle.std.proofs.Common.{◌≡◌, ℕ, ◌+◌, ◌-◌, ◌^◌, ◌<◌, ◌≤◌, Bool, true, false, cond, not, ◌&&◌, ◌||◌, List, [], ◌∷◌, Option, Some, refl, sym, ap, ◌∙◌, arith, rules, slice_get, nat_eq}
+use Rattle.std.specs.Prelude.{filter, nat_lt, IsTrue}
+use Rattle.std.specs.Int.Bits.{bit_or}
+use Rattle.std.specs.List.{AllByRecursion, list_any, list_all, range_with_len}
+use Rattle.std.proofs.lemmas.Bool.{eq-eqb, and_parts, and_from, lt-ltb}
+use Rattle.std.proofs.lemmas.Bool.Decides.{nat_tests}
+use Rattle.std.proofs.lemmas.Nat.{or_lt, pow_below}
+use Rattle.mn_base.specs.Store.{max_versions}
+use Rattle.mn_base.specs.Tree.{is_ancestor, serves, has_version, versions_in}
+use Rattle.mn_base.specs.declared.ids.VersionNo.{VersionNo}
+use Rattle.mn_page.specs.declared.page.Page.{Page}
+use Rattle.mn_page.specs.Grammar.{IsPage}
+use Rattle.mn_page.specs.Overlay.{next_number}
+use Rattle.mn_page.proofs.Copy.{joined_bit, any_same, any_joined, all_joined, range_at}
+use Rattle.mn_page.specs.Copies.{marked_for, copy_for}
+use Rattle.mn_cow.specs.Serving.{ServesOthers, ServesItsOwn}
+
+-- Serving
+
+and_not_or : (a b t : Bool) → (a && not (b || t)) ≡ ((a && not b) && not t)
+and_not_or false b t = refl
+and_not_or true true t = refl
+and_not_or true false t = refl
+
+or_true : (b : Bool) → (b || true) ≡ true
+or_true true = refl
+or_true false = refl
+
+or_false : (b : Bool) → (b || false) ≡ b
+or_false true = refl
+or_false false = refl
+
+-- some version of the set with one more passes where that one does, or some version did
+any_marked : (test : ℕ → Bool) (copied v : ℕ) → v < 64
+    → list_any test (versions_in (bit_or copied (2 ^ v))) ≡ (list_any test (versions_in copied) || test v)
+any_marked test copied v few = go (test v) refl
+  where
+    there : slice_get (range_with_len 0 max_versions) v ≡ Some v
+    there = range_at 0 64 v few ∙ (let e : 0 + v ≡ v = omega arith in ap Some e)
+
+    in_set : has_version (bit_or copied (2 ^ v)) v ≡ true
+    in_set = joined_bit copied v v ∙ ap (λ b. has_version copied v || b) (eq-eqb v v refl) ∙ or_true (has_version copied v)
+
+    go : (b : Bool) → test v ≡ b
+        → list_any test (versions_in (bit_or copied (2 ^ v))) ≡ (list_any test (versions_in copied) || test v)
+    go true e =
+        any_joined test (has_version (bit_or copied (2 ^ v))) v in_set e (range_with_len 0 max_versions) v there
+        ∙ sym (ap (λ b. list_any test (versions_in copied) || b) e ∙ or_true (list_any test (versions_in copied)))
+    go false e =
+        any_same test (has_version (bit_or copied (2 ^ v))) (has_version copied) v (joined_bit copied v) e (range_with_len 0 max_versions)
+        ∙ sym (ap (λ b. list_any test (versions_in copied) || b) e ∙ or_false (list_any test (versions_in copied)))
+
+pub old_serves : (v : VersionNo) (p : Page) → v.0 < 64 → ServesOthers v.0 p (marked_for v p)
+old_serves v p few parents w =
+    ap (λ b. is_ancestor parents p.made.0 w && not b) (any_marked (λ x. is_ancestor parents x w) p.copied v.0 few)
+    ∙ and_not_or (is_ancestor parents p.made.0 w) (list_any (λ x. is_ancestor parents x w) (versions_in p.copied)) (is_ancestor parents v.0 w)
+
+and_true : (b : Bool) → (b && true) ≡ b
+and_true true = refl
+and_true false = refl
+
+pub copy_serves : (v : VersionNo) (p : Page) → ServesItsOwn v.0 (copy_for v p)
+copy_serves v p parents w = and_true (is_ancestor parents v.0 w)
+
+-- Grammar
+
+all_as_list : (t : ℕ → Bool) (ws : List ℕ) → AllByRecursion (λ w. t w ≡ true) ws → list_all t ws ≡ true
+all_as_list t [] all = refl
+all_as_list t (w ∷ ws) all = and_from (t w) (list_all t ws) all.0 (all_as_list t ws all.1)
+
+list_as_all : (t : ℕ → Bool) (ws : List ℕ) → list_all t ws ≡ true → AllByRecursion (λ w. t w ≡ true) ws
+list_as_all t [] e = tt
+list_as_all t (w ∷ ws) e = let parts = and_parts (t w) (list_all t ws) e in (parts.0, list_as_all t ws parts.1)
+
+next_is_number : (seq : ℕ) → 1 ≤ seq → seq < 2 ^ 64 → (1 ≤ next_number seq) × (next_number seq < 2 ^ 64)
+next_is_number seq low high = go (nat_eq seq (2 ^ 64 - 1)) refl
+  where
+    go : (b : Bool) → nat_eq seq (2 ^ 64 - 1) ≡ b → (1 ≤ next_number seq) × (next_number seq < 2 ^ 64)
+    go true t = rw t (low, high)
+    go false t = rw t (omega arith, grind (arith, nat_tests))
+
+pub old_is_page : (v : VersionNo) (p : Page) → p.made.0 < v.0 → v.0 < 64 → IsPage p → IsPage (marked_for v p)
+old_is_page v p above few is =
+    let number = next_is_number p.seq is.seq_low is.seq_high in
+    record {
+      seq_low = number.0;
+      seq_high = number.1;
+      made = is.made;
+      copied = or_lt 64 p.copied (2 ^ v.0) is.copied (pow_below v.0 64 few);
+      copied_above = all_as_list (nat_lt p.made.0) (versions_in (bit_or p.copied (2 ^ v.0)))
+          (all_joined (λ w. nat_lt p.made.0 w ≡ true) (has_version (bit_or p.copied (2 ^ v.0))) (has_version p.copied) v.0 (joined_bit p.copied v.0)
+          (lt-ltb p.made.0 v.0 above) (range_with_len 0 max_versions) (list_as_all (nat_lt p.made.0) (versions_in p.copied) is.copied_above));
+      low = is.low;
+      high = is.high;
+      fences = is.fences;
+      body = is.body;
+    }
+
+pub copy_is_page : (v : VersionNo) (p : Page) → v.0 < 64 → IsPage p → IsPage (copy_for v p)
+copy_is_page v p few is = record {
+  seq_low = omega arith;
+  seq_high = search rules;
+  made = few;
+  copied = search rules;
+  copied_above = refl;
+  low = is.low;
+  high = is.high;
+  fences = is.fences;
+  body = is.body;
+}
