@@ -27,6 +27,7 @@ pub mod Decide
 pub mod Tell
 pub mod Found
 pub mod Exists
+pub mod LastTry
 pub mod Refused
 pub mod Settled
 pub mod Heard

@@ -1,7 +1,10 @@
 -- A lock that an operation met was held by another id; an id that was forced is.
-use Rattle.std.proofs.Common.{◌≡◌, ℕ, zero, suc, ◌<◌, Bool, true, false, not, ◌&&◌, ◌||◌, List, [], ◌∷◌, length, Option, Some, None, refl, subst, sym, ap, ◌∙◌, arith, if◌then◌else◌, Contains}
+use Rattle.std.proofs.Common.{◌≡◌, ℕ, zero, suc, ◌≤◌, Bool, true, false, not, ◌&&◌, ◌||◌, List, [], ◌∷◌, ◌++◌, length, Option, Some, None, refl, subst, sym, ap, ◌∙◌, arith, if◌then◌else◌, Contains}
+use Rattle.std.proofs.lemmas.List.{append_assoc}
 use Rattle.mn_base.specs.Ids.{tid_same, tid_lt}
+use Rattle.mn_base.specs.Store.{Store}
 use Rattle.mn_base.specs.declared.ids.NodeNo.{NodeNo}
+use Rattle.mn_base.specs.declared.ids.ClientNo.{ClientNo}
 use Rattle.mn_base.specs.declared.ids.Tid.{Tid}
 use Rattle.mn_base.specs.declared.answer.Busy.TheVariants.{Lock, Forced}
 use Rattle.mn_base.specs.declared.answer.Answer.TheVariants.{Busy as GaveUp}
@@ -14,23 +17,26 @@ use Rattle.mn_mini.specs.declared.reply.NodeReply.{NodeReply}
 use Rattle.mn_mini.specs.declared.reply.NodeReply.TheVariants as Say
 use Rattle.mn_mini.specs.Mini.{range_of, item_conflicts_with, has_write}
 use Rattle.mn_mini.specs.Flat.{Mismatched, part_mismatch_from}
-use Rattle.mn_mini.specs.Node.{HeldPart, held_parts, has_forced, has_voted, holders, least_tid, lesser_tid, Clash, clash_or, clash_of, only_reply, after_compares, after_locks, tested, answer, space_of}
+use Rattle.mn_mini.specs.Node.{HeldPart, held_parts, has_forced, is_force_of, has_voted, holders, least_tid, lesser_tid, Clash, clash_or, clash_of, only_reply, after_compares, after_locks, tested, answer, space_of}
 use Rattle.mn_world.specs.declared.entry.Entry.{Entry}
 use Rattle.mn_world.specs.declared.entry.What.{What}
 use Rattle.mn_world.specs.declared.entry.What.TheVariants.{Called}
 use Rattle.mn_world.specs.Calls.{is_try, node_entries}
 use Rattle.mn_world.specs.Run.{IsRun}
 use Rattle.mn_world.specs.Nodes.{is_down}
-use Rattle.mn_world.specs.Shown.{Seen}
+use Rattle.mn_world.specs.Shown.{Seen, seen_in}
 use Rattle.mn_world.specs.Answers.{RefusedAs}
 use Rattle.mn_world.specs.Protocol.{Start, KeepsProtocol, base_at, records_of, AllowedAt}
 use Rattle.mn_world.specs.Laws.{part_of_request}
-use Rattle.mn_world.specs.Causes.{CalledAt, WasHeld, LockWasHeld, IsForcedAt, ForcedStands}
+use Rattle.mn_world.specs.Meaning.{OpenedRun}
+use Rattle.mn_world.specs.Causes.{BusyTries, WasHeld, LockWasHeld, IsForcedAt, ForcedStands}
 use Rattle.mn_world.proofs.Reading.MakeRun.{runs_follow_protocol}
 use Rattle.mn_world.proofs.Reading.Same.{tid_same-true}
 use Rattle.mn_world.proofs.Meaning.Prefixes.{keeps_there, older_run}
-use Rattle.mn_world.proofs.Meaning.Once.{answer_at}
-use Rattle.mn_world.proofs.Meaning.Refused.{LastRefused, last_refused}
+use Rattle.mn_world.proofs.Reading.Unchanged.{record_stays}
+use Rattle.mn_world.proofs.Meaning.Splits.{Front, front}
+use Rattle.mn_world.proofs.Meaning.LastTry.{as_in_last, busy_tries, in_log}
+use Rattle.mn_world.proofs.Meaning.Refused.{LastRefused, last_refused, call_in_last}
 use Rattle.mn_world.proofs.Meaning.Another.{of_another}
 
 contains_here : {X : Type 0} (x : X) (xs : List X) → Contains (x ∷ xs) x
@@ -187,51 +193,62 @@ lock_refused seens m (Ask.Exec tid part) (Say.BadCompare item found) n begins si
 lock_refused seens m (Ask.Prepare tid ps part) Say.BadForced n begins size holder is = absurd cc
 lock_refused seens m request reply n begins size holder is = absurd is
 
-pub lock_was_held : LockWasHeld
-lock_was_held start store past place e c number n begins size holder h stands answers =
-    let a = answer_at past place e c number (GaveUp (Lock n begins size holder)) stands answers in
-    let r = last_refused start past h.run c number (Lock n begins size holder) (λ nodes seens op f. f) (answer_at past place e c number (GaveUp (Lock n begins size holder)) stands answers) in
-    let is = lock_refused (seen_of r) r.node r.request r.reply n begins size holder r.refused in
-    finish r is.0 is.1
+-- where the last try was refused by a lock, the records held it
+pub held_there : (start : Start) (store : Store) (past : List Entry) (c : ClientNo) (number place : ℕ) (n : NodeNo) (begins size : ℕ) (holder : Tid) → OpenedRun start store past
+    → BusyTries past c number place (Lock n begins size holder) → WasHeld start past c number place n (record { start = begins; length = size }) holder
+held_there start store past c number place n begins size holder h t =
+    record {
+      tries = t;
+      at = length r.there.before;
+      request = r.request;
+      call = call_in_last t r n r.request (Say.BadLock begins size holder) is.0 refl is.1;
+      part = locked.part;
+      item = clash.item;
+      held = clash.holds.held;
+      asked = locked.asked;
+      has_item = clash.there;
+      there = clash.holds.there;
+      holder_is = clash.holds.holder_is;
+      other = locked.own holder clash.holds.other;
+      range_is = clash.range_is;
+      conflicts = clash.holds.conflicts;
+      holder_of = of_another start r.there.before c number n r.request locked.tid holder clash.holds.held r.entry (Say.BadLock begins size holder) t.op h.opened.sound
+          (older_run start (t.later ++ (t.answer ∷ r.there.later)) (r.entry ∷ r.there.before) (subst (IsRun start) split h.run)) r.there.client node what r.there.of
+          locked.tries clash.holds.other clash.holds.there clash.holds.holder_is;
+    }
   where
-    seen_of : LastRefused past c number (Lock n begins size holder) (answer_at past place e c number (GaveUp (Lock n begins size holder)) stands answers) → List Seen
-    seen_of r = Rattle.mn_world.specs.Shown.seen_in r.try
+    r : LastRefused t
+    r = last_refused t (λ nodes seens op f. f)
+
+    is : (r.node ≡ n) × (r.reply ≡ Say.BadLock begins size holder)
+    is = lock_refused (seen_in r.try) r.node r.request r.reply n begins size holder r.refused
 
     not_down : Say.BadLock begins size holder ≡ Say.Down → ⊥
     not_down e = cc
 
-    finish : (r : LastRefused past c number (Lock n begins size holder) (answer_at past place e c number (GaveUp (Lock n begins size holder)) stands answers)) → r.node ≡ n → r.reply ≡ Say.BadLock begins size holder
-        → WasHeld start past c number place n (record { start = begins; length = size }) holder
-    finish r node reply =
-        let call : CalledAt past c number r.at n r.request (Say.BadLock begins size holder) = subst (λ (x : NodeReply). CalledAt past c number r.at n r.request x) reply (subst (λ (m : NodeNo). CalledAt past c number r.at m r.request r.reply) node r.call) in
-        build r.at r.request call r.low
-      where
-        build : (at : ℕ) (request : Request) (call : CalledAt past c number at n request (Say.BadLock begins size holder)) → at < length stands.1 → WasHeld start past c number place n (record { start = begins; length = size }) holder
-        build at request call low =
-            let keeps = keeps_there start past call.later call.entry call.before call.split (runs_follow_protocol start past h.run) in
-            let said = call_answer start call.before call.entry n request (Say.BadLock begins size holder) keeps call.node call.what not_down in
-            let locked = locked_by (base_at start n) (records_of start call.before n) request (record { range = record { start = begins; length = size }; holder = holder }) said in
-            let clash = clash_at (held_parts (records_of start call.before n)) locked.tid locked.part (record { range = record { start = begins; length = size }; holder = holder }) locked.clashes in
-            let place_is : place ≡ length stands.1 = stands.3 in
-            record {
-              at = at;
-              request = request;
-              call = call;
-              before_answer = omega arith;
-              part = locked.part;
-              item = clash.item;
-              held = clash.holds.held;
-              asked = locked.asked;
-              has_item = clash.there;
-              there = clash.holds.there;
-              holder_is = clash.holds.holder_is;
-              other = locked.own holder clash.holds.other;
-              range_is = clash.range_is;
-              conflicts = clash.holds.conflicts;
-              holder_of = of_another start call.before c number n request locked.tid holder clash.holds.held call.entry (Say.BadLock begins size holder) call.op h.opened.sound
-                  (older_run start call.later (call.entry ∷ call.before) (subst (IsRun start) call.split h.run)) call.client call.node call.what call.of
-                  locked.tries clash.holds.other clash.holds.there clash.holds.holder_is;
-            }
+    node : r.entry.node ≡ Some n
+    node = r.at_node ∙ ap (λ (m : NodeNo). Some m) is.0
+
+    what : r.entry.what ≡ Called r.request (Say.BadLock begins size holder)
+    what = r.what ∙ ap (λ (x : NodeReply). Called r.request x) is.1
+
+    split : past ≡ (t.later ++ (t.answer ∷ r.there.later)) ++ r.entry ∷ r.there.before
+    split = in_log t (as_in_last t [] r.entry r.try r.there)
+
+    said : (answer (base_at start n) (records_of start r.there.before n) r.request).reply ≡ Say.BadLock begins size holder
+    said =
+        call_answer start r.there.before r.entry n r.request (Say.BadLock begins size holder)
+        (keeps_there start past (t.later ++ (t.answer ∷ r.there.later)) r.entry r.there.before split (runs_follow_protocol start past h.run)) node what not_down
+
+    locked : LockedBy (records_of start r.there.before n) r.request (record { range = record { start = begins; length = size }; holder = holder })
+    locked = locked_by (base_at start n) (records_of start r.there.before n) r.request (record { range = record { start = begins; length = size }; holder = holder }) said
+
+    clash : ClashAt (held_parts (records_of start r.there.before n)) locked.tid locked.part (record { range = record { start = begins; length = size }; holder = holder })
+    clash = clash_at (held_parts (records_of start r.there.before n)) locked.tid locked.part (record { range = record { start = begins; length = size }; holder = holder }) locked.clashes
+
+pub lock_was_held : LockWasHeld
+lock_was_held start store past place e c number n begins size holder h stands answers =
+    held_there start store past c number place n begins size holder h (busy_tries start past h.run c number place (Lock n begins size holder) e stands answers)
 
 -- Forced
 
@@ -260,18 +277,47 @@ forced_by base records tid ps part is = by (has_forced records tid) refl is
     by true e f = e
     by false e f = absurd (locks (clash_of (held_parts records) tid part) f)
 
+-- a record of Forced stays
+forced_on : (start : Start) (later before : List Entry) (n : NodeNo) (tid : Tid) → has_forced (records_of start before n) tid ≡ true → has_forced (records_of start (later ++ before) n) tid ≡ true
+forced_on start [] before n tid forced = forced
+forced_on start (e ∷ later) before n tid forced = record_stays start (later ++ before) e n (is_force_of tid) (forced_on start later before n tid forced)
+
 pub forced_stands : ForcedStands
-forced_stands start store past place e c number tid h stands answers =
-    let r = last_refused start past h.run c number (Forced tid) (λ nodes seens op f. f) (answer_at past place e c number (GaveUp (Forced tid)) stands answers) in
-    let is = forced_refused (Rattle.mn_world.specs.Shown.seen_in r.try) r.node r.request r.reply tid r.refused in
-    build r.at r.node is.0 is.1 (subst (λ (x : NodeReply). CalledAt past c number r.at r.node (Ask.Prepare tid is.0 is.1) x) is.3 (subst (λ (q : Request). CalledAt past c number r.at r.node q r.reply) is.2 r.call)) r.low
+forced_stands start store past place e c number tid h stands answers = record {
+  tries = t;
+  at = length r.there.before;
+  node = r.node;
+  participants = is.0;
+  part = is.1;
+  call = call_in_last t r r.node (Ask.Prepare tid is.0 is.1) Say.BadForced refl is.2 is.3;
+  forced = later;
+}
   where
+    t : BusyTries past c number place (Forced tid)
+    t = busy_tries start past h.run c number place (Forced tid) e stands answers
+
+    r : LastRefused t
+    r = last_refused t (λ nodes seens op f. f)
+
+    is : (ps : List NodeNo) × (part : List PartItem) × (r.request ≡ Ask.Prepare tid ps part) × (r.reply ≡ Say.BadForced)
+    is = forced_refused (seen_in r.try) r.node r.request r.reply tid r.refused
+
     not_down : Say.BadForced ≡ Say.Down → ⊥
     not_down e = cc
 
-    build : (at : ℕ) (n : NodeNo) (ps : List NodeNo) (part : List PartItem) (call : CalledAt past c number at n (Ask.Prepare tid ps part) Say.BadForced) → at < length stands.1 → IsForcedAt start past c number place tid
-    build at n ps part call low =
-        let keeps = keeps_there start past call.later call.entry call.before call.split (runs_follow_protocol start past h.run) in
-        let said = call_answer start call.before call.entry n (Ask.Prepare tid ps part) Say.BadForced keeps call.node call.what not_down in
-        let place_is : place ≡ length stands.1 = stands.3 in
-        record { at = at; node = n; participants = ps; part = part; call = call; before_answer = omega arith; forced = forced_by (base_at start n) (records_of start call.before n) tid ps part said }
+    split : past ≡ (t.later ++ (t.answer ∷ r.there.later)) ++ r.entry ∷ r.there.before
+    split = in_log t (as_in_last t [] r.entry r.try r.there)
+
+    said : (answer (base_at start r.node) (records_of start r.there.before r.node) (Ask.Prepare tid is.0 is.1)).reply ≡ Say.BadForced
+    said =
+        call_answer start r.there.before r.entry r.node (Ask.Prepare tid is.0 is.1) Say.BadForced
+        (keeps_there start past (t.later ++ (t.answer ∷ r.there.later)) r.entry r.there.before split (runs_follow_protocol start past h.run)) r.at_node
+        (r.what ∙ (λ i. Called (is.2 i) (is.3 i))) not_down
+
+    later : (newer older : List Entry) → past ≡ newer ++ older → length r.there.before ≤ length older → has_forced (records_of start older r.node) tid ≡ true
+    later newer older whole low =
+        let f : Front older r.there.before =
+        front newer ((t.later ++ (t.answer ∷ r.there.later)) ++ r.entry ∷ []) older r.there.before
+        (sym whole ∙ (split ∙ sym (append_assoc (t.later ++ (t.answer ∷ r.there.later)) (r.entry ∷ []) r.there.before))) low in
+        subst (λ (es : List Entry). has_forced (records_of start es r.node) tid ≡ true) (sym f.is)
+        (forced_on start f.span r.there.before r.node tid (forced_by (base_at start r.node) (records_of start r.there.before r.node) tid is.0 is.1 said))

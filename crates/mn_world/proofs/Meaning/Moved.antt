@@ -4,9 +4,11 @@ use Rattle.std.specs.Prelude.{bytes_eq}
 use Rattle.std.specs.List.{list_all}
 use Rattle.std.proofs.lemmas.List.{append_assoc, length-append}
 use Rattle.std.proofs.lemmas.List.Elements.{Contains-append_cases}
+use Rattle.mn_base.specs.Store.{Store}
 use Rattle.mn_base.specs.declared.ids.NodeNo.{NodeNo}
 use Rattle.mn_base.specs.declared.ids.ClientNo.{ClientNo}
 use Rattle.mn_base.specs.declared.ids.Tid.{Tid}
+use Rattle.mn_base.specs.declared.answer.Busy.{Busy}
 use Rattle.mn_base.specs.declared.answer.Busy.TheVariants.{Moved}
 use Rattle.mn_base.specs.declared.answer.Answer.TheVariants.{Busy as GaveUp}
 use Rattle.mn_mini.specs.declared.part.PartItem.{PartItem}
@@ -23,6 +25,7 @@ use Rattle.mn_mini.specs.Node.{held_parts, has_forced, Clash, clash_of, only_rep
 use Rattle.mn_page.proofs.Keys.{bytes_eq-refl}
 use Rattle.mn_world.specs.declared.entry.Entry.{Entry}
 use Rattle.mn_world.specs.declared.entry.What.{What}
+use Rattle.mn_world.specs.declared.entry.What.TheVariants.{Called}
 use Rattle.mn_world.specs.Calls.{Call, Issued, calls_of, client_entries, since_begin, under_way}
 use Rattle.mn_world.specs.Clients.{is_read, Sends}
 use Rattle.mn_world.specs.Commits.{committed_by}
@@ -31,7 +34,8 @@ use Rattle.mn_world.specs.Answers.{RefusedAs, DiffersAs, ShowsBytes, part_compar
 use Rattle.mn_world.specs.Protocol.{Start, FollowsProtocol, AllowedBy, base_at, records_of}
 use Rattle.mn_world.specs.Run.{IsRun}
 use Rattle.mn_world.specs.Laws.{StartsSound, HasSpaces, part_of_request}
-use Rattle.mn_world.specs.Causes.{CalledAt, WasMoved, MovedByOther}
+use Rattle.mn_world.specs.Meaning.{OpenedRun, StandsAt, AnswersOp}
+use Rattle.mn_world.specs.Causes.{BusyTries, CommitsOther, WasMoved, MovedByOther}
 use Rattle.mn_world.proofs.Reading.MakeRun.{runs_follow_protocol}
 use Rattle.mn_world.proofs.Reading.Sees.{calls-append, seen_in-cons}
 use Rattle.mn_world.proofs.Reading.NewCalls.{by_of}
@@ -48,10 +52,10 @@ use Rattle.mn_world.proofs.Bytes.Seen.{StandsIn, here_seen, nothing}
 use Rattle.mn_world.proofs.Meaning.Splits.{shorter}
 use Rattle.mn_world.proofs.Meaning.Prefixes.{follows_before, older_run}
 use Rattle.mn_world.proofs.Meaning.Effects.{flat_none, flat_read, no_plan_at_read}
-use Rattle.mn_world.proofs.Meaning.Once.{answer_at, others_commit_nothing}
+use Rattle.mn_world.proofs.Meaning.Once.{others_commit_nothing}
 use Rattle.mn_world.proofs.Meaning.Found.{plan_exists}
-use Rattle.mn_world.proofs.Meaning.Exists.{LiftedPart, lift_part}
-use Rattle.mn_world.proofs.Meaning.Refused.{LastRefused, last_refused, since_under}
+use Rattle.mn_world.proofs.Meaning.LastTry.{Deeper, deeper, as_in_last, busy_tries, in_log}
+use Rattle.mn_world.proofs.Meaning.Refused.{LastRefused, last_refused, call_in_last}
 use Rattle.mn_world.proofs.Meaning.Held.{call_answer}
 
 -- Bytes of a range of a range
@@ -81,14 +85,15 @@ record MismatchAt (space : List ℕ) (i : ℕ) (part : List PartItem) (at : Mism
   pub expected : List ℕ
   pub item_is : at.item ≡ i + number
   pub there : slice_get (part_compares part) number ≡ Some (begins, expected)
-  pub differs : bytes_eq (bytes_in space begins (length expected)) expected ≡ false
+  pub found_is : bytes_in space begins (length expected) ≡ at.found
+  pub differs : bytes_eq at.found expected ≡ false
 
 mismatch_at : (space : List ℕ) (i : ℕ) (part : List PartItem) (at : Mismatched) → part_mismatch_from space i part ≡ Some at → MismatchAt space i part at
 mismatch_at space i [] at is = absurd cc
 mismatch_at space i (Bare.Read begins size ∷ part) at is =
-    let m = mismatch_at space i part at is in record { number = m.number; begins = m.begins; expected = m.expected; item_is = m.item_is; there = m.there; differs = m.differs }
+    let m = mismatch_at space i part at is in record { number = m.number; begins = m.begins; expected = m.expected; item_is = m.item_is; there = m.there; found_is = m.found_is; differs = m.differs }
 mismatch_at space i (Bare.Write begins bytes ∷ part) at is =
-    let m = mismatch_at space i part at is in record { number = m.number; begins = m.begins; expected = m.expected; item_is = m.item_is; there = m.there; differs = m.differs }
+    let m = mismatch_at space i part at is in record { number = m.number; begins = m.begins; expected = m.expected; item_is = m.item_is; there = m.there; found_is = m.found_is; differs = m.differs }
 mismatch_at space i (Bare.Compare begins bytes ∷ part) at is = by (bytes_eq (bytes_in space begins (length bytes)) bytes) refl is (λ e. mismatch_at space (i + 1) part at e)
   where
     some : (a b : Mismatched) → Some a ≡ Some b → a ≡ b
@@ -99,11 +104,12 @@ mismatch_at space i (Bare.Compare begins bytes ∷ part) at is = by (bytes_eq (b
     by true e f rest =
         let m = rest f in
         let is : at.item ≡ i + 1 + m.number = m.item_is in
-        record { number = suc m.number; begins = m.begins; expected = m.expected; item_is = omega arith; there = m.there; differs = m.differs }
+        record { number = suc m.number; begins = m.begins; expected = m.expected; item_is = omega arith; there = m.there; found_is = m.found_is; differs = m.differs }
     by false e f rest =
         let this : record { item = i; found = bytes_in space begins (length bytes) } ≡ at = some _ at f in
         let item : i ≡ at.item = ap (λ (x : Mismatched). x.item) this in
-        record { number = 0; begins = begins; expected = bytes; item_is = omega arith; there = refl; differs = e }
+        let found : bytes_in space begins (length bytes) ≡ at.found = ap (λ (x : Mismatched). x.found) this in
+        record { number = 0; begins = begins; expected = bytes; item_is = omega arith; there = refl; found_is = found; differs = ap (λ (x : List ℕ). bytes_eq x bytes) (sym found) ∙ e }
 
 -- what a node's BadCompare says
 record Compared (base : List ℕ) (records : List Record) (tid : Tid) (part : List PartItem) (item : ℕ) (found : List ℕ) : Type 0 where
@@ -256,6 +262,23 @@ stays_or_commits start (e ∷ later) before = by (stays_or_commits start later b
     by (inl same) None none = inl (flat_none start (later ++ before) e none ∙ same)
     by (inl same) (Some i) is = tell i is (is_read i.mini.items) refl same
 
+-- a plan that is committed before the entry of a busy operation is another operation's
+pub commits_other : (start : Start) (store : Store) (past : List Entry) (place : ℕ) (e : Entry) (c : ClientNo) (number : ℕ) (busy : Busy) → OpenedRun start store past → StandsAt past place e
+    → AnswersOp e c number (GaveUp busy) → (later : List Entry) (x : Entry) (log : List Entry) → past ≡ later ++ x ∷ log → (newer : List Entry) (y : Entry) (older : List Entry) (i : Issued)
+    → log ≡ newer ++ y ∷ older → committed_by older y ≡ Some i → is_read i.mini.items ≡ false → CommitsOther past c number (length older)
+commits_other start store past place e c number busy h stands answers later x log split newer y older i inner commits not_read =
+    let outer : past ≡ (later ++ (x ∷ newer)) ++ y ∷ older = split ∙ (ap (λ (es : List Entry). later ++ x ∷ es) inner ∙ sym (append_assoc later (x ∷ newer) (y ∷ older))) in
+    let run : IsRun start (y ∷ older) = older_run start (later ++ (x ∷ newer)) (y ∷ older) (subst (IsRun start) outer h.run) in
+    let plan = plan_exists start older y i run.0 commits not_read in
+    record {
+      other = plan.0.client;
+      its = plan.0.number;
+      commits = (later ++ (x ∷ newer), y, older, i, outer, refl, commits, not_read, (plan.0, plan.1, refl, refl));
+      not_own = λ client its.
+          others_commit_nothing start store past place (length older) e c number (GaveUp busy) h stands answers tt
+          (later ++ (x ∷ newer), y, older, i, outer, refl, commits, not_read, (plan.0, plan.1, client, its));
+    }
+
 -- an entry that read something leaves the memory
 read_stays : (start : Start) (before : List Entry) (x : Entry) (seen : Seen) → StartsSound start → HasSpaces start → FollowsProtocol start (x ∷ before) → Contains (seen_at x) seen → flat start (x ∷ before) ≡ flat start before
 read_stays start before x seen sound spaces run has = by (committed_by before x) refl
@@ -268,135 +291,119 @@ read_stays start before x seen sound spaces run has = by (committed_by before x)
     by None none = flat_none start before x none
     by (Some i) is = tell i is (is_read i.mini.items) refl
 
--- a call, with the newest entries of its client's list before it
-record CalledWith (past : List Entry) (c : ClientNo) (number at : ℕ) (n : NodeNo) (request : Request) (reply : NodeReply) (try older : List Entry) : Type 0 where
-  pub call : CalledAt past c number at n request reply
-  pub list : client_entries c call.before ≡ try ++ older
-  pub earlier : List Entry
-  pub since : since_begin (client_entries c call.before) ≡ try ++ earlier
-
 pub moved_by_other : MovedByOther
-moved_by_other start store past place e c number n begins expected found h stands answers =
-    build d.part d.item d.asked d.there (subst (λ (x : NodeReply). CalledWith past c number r.at n r.request x r.try r.older) d.reply_is (subst (λ (m : NodeNo). CalledWith past c number r.at m r.request r.reply r.try r.older) d.node_is (record { call = r.call; list = r.list; earlier = r.earlier; since = r.since })))
-    d.shows.0 d.shows.1 (d.shows.2, d.shows.3, d.shows.4)
+moved_by_other start store past place e c number n begins expected found h stands answers = tell (stays_or_commits start z.between (y.entry ∷ z.is.before))
   where
-    r : LastRefused past c number (Moved n begins expected found) (answer_at past place e c number (GaveUp (Moved n begins expected found)) stands answers)
-    r = last_refused start past h.run c number (Moved n begins expected found) (λ nodes seens op f. f) (answer_at past place e c number (GaveUp (Moved n begins expected found)) stands answers)
+    t : BusyTries past c number place (Moved n begins expected found)
+    t = busy_tries start past h.run c number place (Moved n begins expected found) e stands answers
+
+    r : LastRefused t
+    r = last_refused t (λ nodes seens op f. f)
 
     d : Differed (seen_in r.try) r.node n r.request r.reply begins expected found
     d = moved_refused (seen_in r.try) r.node r.request r.reply n begins expected found r.refused
 
+    -- the read that showed the expected bytes
+    seen : Seen
+    seen = d.shows.0
+
+    y : BroughtIn r.try d.shows.0
+    y = brought r.try d.shows.0 d.shows.1
+
+    z : Deeper t [] r.entry r.try r.there y.newer y.entry y.older
+    z = deeper t [] r.entry r.try r.there y.newer y.entry y.older y.split
+
     follows : FollowsProtocol start past
     follows = runs_follow_protocol start past h.run
 
-    not_down : (item : ℕ) → Say.BadCompare item found ≡ Say.Down → ⊥
-    not_down item e = cc
+    not_down : Say.BadCompare d.item found ≡ Say.Down → ⊥
+    not_down e = cc
 
     pair_is : (a b : ℕ) (x y : List ℕ) → ◌≡◌ {A = Option (ℕ × List ℕ)} (Some (a, x)) (Some (b, y)) → (a ≡ b) × (x ≡ y)
     pair_is a b x y e =
         let pairs : ◌≡◌ {A = ℕ × List ℕ} (a, x) (b, y) = cc in
         (ap (λ (p : ℕ × List ℕ). p.0) pairs, ap (λ (p : ℕ × List ℕ). p.1) pairs)
 
-    build : (part : List PartItem) (item : ℕ) → part_of_request r.request ≡ Some part → slice_get (part_compares part) item ≡ Some (begins, expected) → CalledWith past c number r.at n r.request (Say.BadCompare item found) r.try r.older
-        → (seen : Seen) → Contains (seen_in r.try) seen → (seen.place.node ≡ n) × (seen.place.start ≤ begins) × (bytes_in seen.bytes (begins - seen.place.start) (length expected) ≡ expected) → WasMoved past c number place n begins expected found
-    build part item asked there w seen has (node, low, shows) = tell (stays_or_commits start l.later (y.entry ∷ l.before))
-      where
-        y : BroughtIn r.try seen
-        y = brought r.try seen has
+    split : past ≡ (t.later ++ (t.answer ∷ r.there.later)) ++ r.entry ∷ r.there.before
+    split = in_log t (as_in_last t [] r.entry r.try r.there)
 
-        all : client_entries c w.call.before ≡ y.newer ++ y.entry ∷ (y.older ++ r.older)
-        all = w.list ∙ (ap (λ (es : List Entry). es ++ r.older) y.split ∙ append_assoc y.newer (y.entry ∷ y.older) r.older)
+    node : r.entry.node ≡ Some n
+    node = r.at_node ∙ ap (λ (m : NodeNo). Some m) d.node_is
 
-        since : since_begin (client_entries c w.call.before) ≡ y.newer ++ y.entry ∷ (y.older ++ w.earlier)
-        since = w.since ∙ (ap (λ (es : List Entry). es ++ w.earlier) y.split ∙ append_assoc y.newer (y.entry ∷ y.older) w.earlier)
+    what : r.entry.what ≡ Called r.request (Say.BadCompare d.item found)
+    what = r.what ∙ ap (λ (x : NodeReply). Called r.request x) d.reply_is
 
-        l : LiftedPart c w.call.before y.newer y.entry (y.older ++ r.older)
-        l = lift_part c w.call.before y.newer y.entry (y.older ++ r.older) all
+    to_call : FollowsProtocol start (r.entry ∷ r.there.before)
+    to_call = follows_before start past (t.later ++ (t.answer ∷ r.there.later)) (r.entry ∷ r.there.before) split follows
 
-        to_call : FollowsProtocol start (w.call.entry ∷ w.call.before)
-        to_call = follows_before start past w.call.later (w.call.entry ∷ w.call.before) w.call.split follows
+    to_read : FollowsProtocol start (y.entry ∷ z.is.before)
+    to_read = follows_before start r.there.before z.between (y.entry ∷ z.is.before) z.split to_call.0
 
-        to_read : FollowsProtocol start (y.entry ∷ l.before)
-        to_read = follows_before start w.call.before l.later (y.entry ∷ l.before) l.split to_call.0
+    -- where it was read, the expected bytes stood in the flat memory
+    stood : bytes_in (space_in (flat start z.is.before) n) begins (length expected) ≡ expected
+    stood =
+        let stands_there : StandsIn (flat start z.is.before) d.shows.0 =
+        here_seen start z.is.before y.entry.client y.entry.node y.entry.what d.shows.0 (whole_run start z.is.before h.opened.sound h.spaces to_read.0) to_read.1 y.brought in
+        let at_node : d.shows.0.bytes ≡ bytes_in (space_in (flat start z.is.before) n) d.shows.0.place.start d.shows.0.place.length =
+        subst (λ (k : NodeNo). d.shows.0.bytes ≡ bytes_in (space_in (flat start z.is.before) k) d.shows.0.place.start d.shows.0.place.length) d.shows.2 stands_there in
+        let inner : bytes_in (bytes_in (space_in (flat start z.is.before) n) d.shows.0.place.start d.shows.0.place.length) (begins - d.shows.0.place.start) (length expected) ≡ expected =
+        ap (λ (b : List ℕ). bytes_in b (begins - d.shows.0.place.start) (length expected)) (sym at_node) ∙ d.shows.4 in
+        sym (range_of_range (space_in (flat start z.is.before) n) d.shows.0.place.start d.shows.0.place.length begins (length expected) d.shows.3 (ap (λ (b : List ℕ). length b) inner)) ∙ inner
 
-        -- where it was read, the expected bytes stood in the flat memory
-        stood : bytes_in (space_in (flat start l.before) n) begins (length expected) ≡ expected
-        stood =
-            let stands_there : StandsIn (flat start l.before) seen = here_seen start l.before y.entry.client y.entry.node y.entry.what seen (whole_run start l.before h.opened.sound h.spaces to_read.0) to_read.1 y.brought in
-            let at_node : seen.bytes ≡ bytes_in (space_in (flat start l.before) n) seen.place.start seen.place.length = subst (λ (k : NodeNo). seen.bytes ≡ bytes_in (space_in (flat start l.before) k) seen.place.start seen.place.length) node stands_there in
-            let inner : bytes_in (bytes_in (space_in (flat start l.before) n) seen.place.start seen.place.length) (begins - seen.place.start) (length expected) ≡ expected =
-            ap (λ (b : List ℕ). bytes_in b (begins - seen.place.start) (length expected)) (sym at_node) ∙ shows in
-            sym (range_of_range (space_in (flat start l.before) n) seen.place.start seen.place.length begins (length expected) low (ap (λ (b : List ℕ). length b) inner)) ∙ inner
+    sends : Sends (client_entries c r.there.before) (Some n) r.request
+    sends =
+        let by : AllowedBy r.there.before r.entry.client r.entry.node r.entry.what = to_call.1.by_client in
+        let own : AllowedBy r.there.before (Some c) r.entry.node r.entry.what = subst (λ (o : Option ClientNo). AllowedBy r.there.before o r.entry.node r.entry.what) r.there.client by in
+        let there : AllowedBy r.there.before (Some c) (Some n) r.entry.what = subst (λ (o : Option NodeNo). AllowedBy r.there.before (Some c) o r.entry.what) node own in
+        subst (λ (x : What). AllowedBy r.there.before (Some c) (Some n) x) what there
 
-        sends : Sends (client_entries c w.call.before) (Some n) r.request
-        sends =
-            let by : AllowedBy w.call.before w.call.entry.client w.call.entry.node w.call.entry.what = to_call.1.by_client in
-            let own : AllowedBy w.call.before (Some c) w.call.entry.node w.call.entry.what = subst (λ (o : Option ClientNo). AllowedBy w.call.before o w.call.entry.node w.call.entry.what) w.call.client by in
-            let there : AllowedBy w.call.before (Some c) (Some n) w.call.entry.what = subst (λ (o : Option NodeNo). AllowedBy w.call.before (Some c) o w.call.entry.what) w.call.node own in
-            subst (λ (x : What). AllowedBy w.call.before (Some c) (Some n) x) w.call.what there
+    -- where it was refused, others stood there
+    differ : (bytes_in (space_in (flat start r.there.before) n) begins (length expected) ≡ found) × (bytes_eq found expected ≡ false)
+    differ =
+        let said = call_answer start r.there.before r.entry n r.request (Say.BadCompare d.item found) to_call.1 node what not_down in
+        let mismatch = call_differs start r.there.before c n r.request d.part d.item found (whole_run start r.there.before h.opened.sound h.spaces to_call.0) sends d.asked said in
+        let m = mismatch_at (space_in (flat start r.there.before) n) 0 d.part (record { item = d.item; found = found }) mismatch in
+        let item_is : d.item ≡ 0 + m.number = m.item_is in
+        let number_is : m.number ≡ d.item = omega arith in
+        let same = pair_is m.begins begins m.expected expected (sym m.there ∙ (ap (slice_get (part_compares d.part)) number_is ∙ d.there)) in (
+          (λ i. bytes_in (space_in (flat start r.there.before) n) (sym same.0 i) (length (sym same.1 i))) ∙ m.found_is,
+          subst (λ (x : List ℕ). bytes_eq found x ≡ false) same.1 m.differs,
+        )
 
-        -- where it was refused, other bytes stood there
-        differ : bytes_eq (bytes_in (space_in (flat start w.call.before) n) begins (length expected)) expected ≡ false
-        differ =
-            let said = call_answer start w.call.before w.call.entry n r.request (Say.BadCompare item found) to_call.1 w.call.node w.call.what (not_down item) in
-            let mismatch = call_differs start w.call.before c n r.request part item found (whole_run start w.call.before h.opened.sound h.spaces to_call.0) sends asked said in
-            let m = mismatch_at (space_in (flat start w.call.before) n) 0 part (record { item = item; found = found }) mismatch in
-            let item_is : item ≡ 0 + m.number = m.item_is in
-            let number_is : m.number ≡ item = omega arith in
-            let same = pair_is m.begins begins m.expected expected (sym m.there ∙ (ap (slice_get (part_compares part)) number_is ∙ there)) in
-            subst (λ (b : ℕ). bytes_eq (bytes_in (space_in (flat start w.call.before) n) b (length expected)) expected ≡ false) same.0
-            (subst (λ (x : List ℕ). bytes_eq (bytes_in (space_in (flat start w.call.before) n) m.begins (length x)) x ≡ false) same.1 m.differs)
+    clash : (b : Bool) → b ≡ true → b ≡ false → ⊥
+    clash b p q = cc
 
-        clash : (b : Bool) → b ≡ true → b ≡ false → ⊥
-        clash b p q = cc
+    unchanged : flat start (z.between ++ y.entry ∷ z.is.before) ≡ flat start (y.entry ∷ z.is.before) → ⊥
+    unchanged same =
+        let memory : flat start r.there.before ≡ flat start z.is.before =
+        ap (flat start) z.split ∙ (same ∙ read_stays start z.is.before y.entry d.shows.0 h.opened.sound h.spaces to_read y.brought) in
+        let found_is : found ≡ expected =
+        sym differ.0 ∙ (ap (λ (mem : List (List ℕ)). bytes_in (space_in mem n) begins (length expected)) memory ∙ stood) in
+        clash (bytes_eq found expected) (ap (λ (b : List ℕ). bytes_eq b expected) found_is ∙ bytes_eq-refl expected) differ.1
 
-        unchanged : flat start (l.later ++ y.entry ∷ l.before) ≡ flat start (y.entry ∷ l.before) → ⊥
-        unchanged same =
-            let memory : flat start w.call.before ≡ flat start l.before = ap (flat start) l.split ∙ (same ∙ read_stays start l.before y.entry seen h.opened.sound h.spaces to_read y.brought) in
-            clash (bytes_eq (bytes_in (space_in (flat start w.call.before) n) begins (length expected)) expected)
-            (ap (λ (mem : List (List ℕ)). bytes_eq (bytes_in (space_in mem n) begins (length expected)) expected) memory ∙ (ap (λ (b : List ℕ). bytes_eq b expected) stood ∙ bytes_eq-refl expected)) differ
-
-        tell : (flat start (l.later ++ y.entry ∷ l.before) ≡ flat start (y.entry ∷ l.before)) ⊎ CommitIn l.later (y.entry ∷ l.before) → WasMoved past c number place n begins expected found
-        tell (inl same) = absurd (unchanged same)
-        tell (inr co) =
-            let inner : w.call.before ≡ co.newer ++ co.entry ∷ (co.older ++ y.entry ∷ l.before) = l.split ∙ (ap (λ (es : List Entry). es ++ y.entry ∷ l.before) co.split ∙ append_assoc co.newer (co.entry ∷ co.older) (y.entry ∷ l.before)) in
-            let outer : past ≡ (w.call.later ++ (w.call.entry ∷ co.newer)) ++ co.entry ∷ (co.older ++ y.entry ∷ l.before) =
-            w.call.split ∙ (ap (λ (es : List Entry). w.call.later ++ w.call.entry ∷ es) inner ∙ sym (append_assoc w.call.later (w.call.entry ∷ co.newer) (co.entry ∷ (co.older ++ y.entry ∷ l.before)))) in
-            let run : IsRun start (co.entry ∷ (co.older ++ y.entry ∷ l.before)) = older_run start (w.call.later ++ (w.call.entry ∷ co.newer)) (co.entry ∷ (co.older ++ y.entry ∷ l.before)) (subst (IsRun start) outer h.run) in
-            let plan = plan_exists start (co.older ++ y.entry ∷ l.before) co.entry co.issued run.0 co.commits co.not_read in
-            let reads : past ≡ (w.call.later ++ (w.call.entry ∷ l.later)) ++ y.entry ∷ l.before =
-            w.call.split ∙ (ap (λ (es : List Entry). w.call.later ++ w.call.entry ∷ es) l.split ∙ sym (append_assoc w.call.later (w.call.entry ∷ l.later) (y.entry ∷ l.before))) in
-            let sum = length-append co.older (y.entry ∷ l.before) in
-            let below = Rattle.mn_world.proofs.Meaning.Splits.shorter_by w.call.before co.newer co.entry (co.older ++ y.entry ∷ l.before) inner in
-            let at_is : r.at ≡ length w.call.before = w.call.is_place in
-            let low' : r.at < length stands.1 = r.low in
-            let place_is : place ≡ length stands.1 = stands.3 in
-            record {
-              at = r.at;
-              request = r.request;
-              item = item;
-              call = w.call;
-              before_answer = omega arith;
-              read = length l.before;
-              reader = y.entry;
-              later = w.call.later ++ (w.call.entry ∷ l.later);
-              before = l.before;
-              split = reads;
-              is_place = refl;
-              client = by_of c y.entry.client y.entry.node y.entry.what l.by;
-              seen = seen;
-              brought = y.brought;
-              covers = (node, low);
-              between = y.newer;
-              since = all ∙ ap (λ (es : List Entry). y.newer ++ y.entry ∷ es) (sym l.list);
-              one_try = none_first y.newer (y.entry ∷ y.older) (ap none_refused (sym y.split) ∙ r.one_try);
-              during = (w.call.op, ap under_way l.list ∙ (sym (since_under y.newer y.entry (y.older ++ r.older) (y.older ++ w.earlier) (ap since_begin (sym all) ∙ since)) ∙ (ap under_way (sym all) ∙ w.call.of)));
-              commit = length (co.older ++ y.entry ∷ l.before);
-              other = plan.0.client;
-              its = plan.0.number;
-              commits = (w.call.later ++ (w.call.entry ∷ co.newer), co.entry, co.older ++ y.entry ∷ l.before, co.issued, outer, refl, co.commits, co.not_read, (plan.0, plan.1, refl, refl));
-              inside = (omega arith, omega arith);
-              not_own = λ client its.
-                  others_commit_nothing start store past place (length (co.older ++ y.entry ∷ l.before)) e c number (GaveUp (Moved n begins expected found)) h stands answers tt
-                  (w.call.later ++ (w.call.entry ∷ co.newer), co.entry, co.older ++ y.entry ∷ l.before, co.issued, outer, refl, co.commits, co.not_read, (plan.0, plan.1, client, its));
-            }
+    tell : (flat start (z.between ++ y.entry ∷ z.is.before) ≡ flat start (y.entry ∷ z.is.before)) ⊎ CommitIn z.between (y.entry ∷ z.is.before) → WasMoved past c number place n begins expected found
+    tell (inl same) = absurd (unchanged same)
+    tell (inr co) =
+        let inner : r.there.before ≡ co.newer ++ co.entry ∷ (co.older ++ y.entry ∷ z.is.before) =
+        z.split ∙ (ap (λ (es : List Entry). es ++ y.entry ∷ z.is.before) co.split ∙ append_assoc co.newer (co.entry ∷ co.older) (y.entry ∷ z.is.before)) in
+        let sum = length-append co.older (y.entry ∷ z.is.before) in
+        let below = Rattle.mn_world.proofs.Meaning.Splits.shorter_by r.there.before co.newer co.entry (co.older ++ y.entry ∷ z.is.before) inner in
+        record {
+          tries = t;
+          at = length r.there.before;
+          request = r.request;
+          item = d.item;
+          call = call_in_last t r n r.request (Say.BadCompare d.item found) d.node_is refl d.reply_is;
+          part = d.part;
+          asked = d.asked;
+          compares = d.there;
+          differ = differ.1;
+          read = length z.is.before;
+          reader = y.entry;
+          reads = as_in_last t ([] ++ r.entry ∷ y.newer) y.entry y.older z.is;
+          shows = (d.shows.0, y.brought, d.shows.2, d.shows.3, d.shows.4);
+          commit = length (co.older ++ y.entry ∷ z.is.before);
+          other = commits_other start store past place e c number (Moved n begins expected found) h stands answers (t.later ++ (t.answer ∷ r.there.later)) r.entry r.there.before split co.newer co.entry
+              (co.older ++ y.entry ∷ z.is.before) co.issued inner co.commits co.not_read;
+          inside = (omega arith, omega arith);
+        }

@@ -1,6 +1,6 @@
 -- A try that met a fault of path overlaps another operation's commit.
 use Rattle.std.proofs.Common.{◌≡◌, ℕ, ◌<◌, ◌⊎◌, inl, inr, Bool, true, false, ◌&&◌, List, [], ◌∷◌, ◌++◌, length, Option, Some, None, refl, subst, sym, ap, ◌∙◌, arith, if◌then◌else◌, Contains}
-use Rattle.std.specs.List.{AllByRecursion, flat_map}
+use Rattle.std.specs.List.{AllByRecursion}
 use Rattle.std.proofs.lemmas.List.{append_assoc, length-append}
 use Rattle.std.proofs.lemmas.List.Elements.{Contains-append_cases}
 use Rattle.mn_base.specs.Store.{Store}
@@ -8,6 +8,7 @@ use Rattle.mn_base.specs.declared.ids.NodeNo.{NodeNo}
 use Rattle.mn_base.specs.declared.ids.ClientNo.{ClientNo}
 use Rattle.mn_base.specs.declared.ids.Addr.{Addr}
 use Rattle.mn_base.specs.declared.ids.Tid.{Tid}
+use Rattle.mn_base.specs.declared.answer.Busy.{Busy}
 use Rattle.mn_base.specs.declared.answer.Busy.TheVariants.{Path}
 use Rattle.mn_base.specs.declared.answer.Answer.TheVariants.{Busy as GaveUp}
 use Rattle.mn_mini.specs.declared.part.PartItem.TheVariants as Bare
@@ -25,72 +26,66 @@ use Rattle.mn_world.specs.Calls.{Issued, begun_in, issue_in, issues_of, issue_na
 use Rattle.mn_world.specs.Clients.{is_read, AllowsExec}
 use Rattle.mn_world.specs.Commits.{committed_by}
 use Rattle.mn_world.specs.Shown.{Seen, seen_in, seen_at}
-use Rattle.mn_world.specs.Answers.{RefusedAs, MeetsFault, FailsAs, FailedTries, nodes_of, none_refused, is_one_try}
+use Rattle.mn_world.specs.Answers.{RefusedAs, MeetsFault, FailsAs, nodes_of}
 use Rattle.mn_world.specs.Protocol.{Start, start_nodes, FollowsProtocol, AllowedAt, AllowedBy, IsOfRun}
-use Rattle.mn_world.specs.Run.{IsRun}
-use Rattle.mn_world.specs.Causes.{PathMoved, PathByOther}
+use Rattle.mn_world.specs.Causes.{BusyTries, IsInLast, PathMoved, PathByOther}
 use Rattle.mn_world.proofs.Reading.MakeRun.{runs_follow_protocol}
 use Rattle.mn_world.proofs.Reading.Sees.{seen_in-cons}
 use Rattle.mn_world.proofs.Reading.NewCalls.{by_of}
 use Rattle.mn_world.proofs.Bytes.Step.{flat}
 use Rattle.mn_world.proofs.Bytes.Spaces.{whole_run}
 use Rattle.mn_world.proofs.Bytes.Seen.{StandsIn, here_seen}
-use Rattle.mn_world.proofs.Meaning.Ascends.{under_since, all_front}
-use Rattle.mn_world.proofs.Meaning.Between.{none_begun}
 use Rattle.mn_world.proofs.Meaning.Splits.{shorter_by}
-use Rattle.mn_world.proofs.Meaning.Prefixes.{follows_before, older_follows, older_run}
+use Rattle.mn_world.proofs.Meaning.Prefixes.{follows_before, older_follows}
 use Rattle.mn_world.proofs.Meaning.Effects.{read_call, flat_none, flat_read}
 use Rattle.mn_world.proofs.Meaning.Kept.{some_store}
 use Rattle.mn_world.proofs.Meaning.Scanned.{SeenAfter, seen_after}
-use Rattle.mn_world.proofs.Meaning.Positions.{AnswerAt, client_append}
-use Rattle.mn_world.proofs.Meaning.Answered.{ShownAnswer, shown_answer}
+use Rattle.mn_world.proofs.Meaning.Positions.{client_split, is_own}
 use Rattle.mn_world.proofs.Meaning.Legal.{known_run}
-use Rattle.mn_world.proofs.Meaning.Once.{answer_at, others_commit_nothing}
-use Rattle.mn_world.proofs.Meaning.Found.{plan_exists}
-use Rattle.mn_world.proofs.Meaning.Exists.{SinceSplit, since_split, LiftedPart, lift_part, history_exists}
-use Rattle.mn_world.proofs.Meaning.Refused.{since_under, SinceTry, try_split, assoc_four}
-use Rattle.mn_world.proofs.Meaning.Moved.{CommitIn}
+use Rattle.mn_world.proofs.Meaning.Exists.{history_exists}
+use Rattle.mn_world.proofs.Meaning.LastTry.{InLast, in_last, Deeper, deeper, as_in_last, since_whole, tries_before, busy_tries, in_log}
+use Rattle.mn_world.proofs.Meaning.Moved.{CommitIn, BroughtIn, brought, commits_other}
 use Rattle.mn_world.proofs.Meaning.Faults.{IsSeenIn, no_fault}
 
--- A part of a client's list, as a part of the log
+-- The log of a try
 
-record LiftedFront (c : ClientNo) (log try older : List Entry) : Type 0 where
-  pub span : List Entry
-  pub base : List Entry
-  pub split : log ≡ span ++ base
-  pub own : client_entries c span ≡ try
-  pub rest : client_entries c base ≡ older
+record Ends (xs : List Entry) : Type 0 where
+  front : List Entry
+  oldest : Entry
+  is : xs ≡ front ++ oldest ∷ []
 
-lift_front : (c : ClientNo) (log try older : List Entry) → client_entries c log ≡ try ++ older → LiftedFront c log try older
-lift_front c log [] older same = record { span = []; base = log; split = refl; own = refl; rest = same }
-lift_front c [] (t ∷ try) older same = absurd cc
-lift_front c (e ∷ log) (t ∷ try) older same =
-    elim (is_by c e) as (λ b. is_by c e ≡ b → (if b then e ∷ client_entries c log else client_entries c log) ≡ t ∷ (try ++ older) → LiftedFront c (e ∷ log) (t ∷ try) older) [
-      | true ↦ λ by h. own by h (λ rest. lift_front c log try older rest)
-      | false ↦ λ by h. other by (lift_front c log (t ∷ try) older h)
-    ] refl same
+last_of : (xs : List Entry) → (xs ≡ []) ⊎ Ends xs
+last_of [] = inl refl
+last_of (x ∷ xs) = inr (by (last_of xs))
   where
-    own : is_by c e ≡ true → e ∷ client_entries c log ≡ t ∷ (try ++ older) → (client_entries c log ≡ try ++ older → LiftedFront c log try older) → LiftedFront c (e ∷ log) (t ∷ try) older
-    own by h deeper =
-        let here : e ≡ t = cc in
-        let rest : client_entries c log ≡ try ++ older = cc in
-        let l = deeper rest in
-        record {
-          span = e ∷ l.span;
-          base = l.base;
-          split = ap (λ (es : List Entry). e ∷ es) l.split;
-          own = ap (λ (b : Bool). if b then e ∷ client_entries c l.span else client_entries c l.span) by ∙ (ap (λ (x : Entry). x ∷ client_entries c l.span) here ∙ ap (λ (es : List Entry). t ∷ es) l.own);
-          rest = l.rest;
-        }
+    by : (xs ≡ []) ⊎ Ends xs → Ends (x ∷ xs)
+    by (inl none) = record { front = []; oldest = x; is = ap (λ (l : List Entry). x ∷ l) none }
+    by (inr e) = record { front = x ∷ e.front; oldest = e.oldest; is = ap (λ (l : List Entry). x ∷ l) e.is }
 
-    other : is_by c e ≡ false → LiftedFront c log (t ∷ try) older → LiftedFront c (e ∷ log) (t ∷ try) older
-    other by l = record {
-      span = e ∷ l.span;
-      base = l.base;
-      split = ap (λ (es : List Entry). e ∷ es) l.split;
-      own = ap (λ (b : Bool). if b then e ∷ client_entries c l.span else client_entries c l.span) by ∙ l.own;
-      rest = l.rest;
-    }
+-- the log from the oldest entry of the last try up to its newest, and the log before the try
+record LogOf {past : List Entry} {c : ClientNo} {number place : ℕ} {busy : Busy} (t : BusyTries past c number place busy) (x : Entry) (try : List Entry) (i : InLast t [] x try) : Type 0 where
+  span : List Entry
+  base : List Entry
+  split : i.before ≡ span ++ base
+  own : client_entries c span ≡ try
+  first : (span ≡ []) ⊎ ((y : Entry) × IsInLast t (length base) y)
+  of : under_way (client_entries c base) ≡ Some (record { number = number; op = t.op })
+
+log_of : {past : List Entry} {c : ClientNo} {number place : ℕ} {busy : Busy} (t : BusyTries past c number place busy) (x : Entry) (try : List Entry) (i : InLast t [] x try) → LogOf t x try i
+log_of {past} {c} {number} {place} {busy} t x try i = by (last_of try)
+  where
+    by : (try ≡ []) ⊎ Ends try → LogOf t x try i
+    by (inl none) = record { span = []; base = i.before; split = refl; own = sym none; first = inl refl; of = i.of }
+    by (inr e) =
+        let d : Deeper t [] x try i e.front e.oldest [] = deeper t [] x try i e.front e.oldest [] e.is in
+        record {
+          span = d.between ++ e.oldest ∷ [];
+          base = d.is.before;
+          split = d.split ∙ sym (append_assoc d.between (e.oldest ∷ []) d.is.before);
+          own = client_split c (d.between ++ e.oldest ∷ []) d.between e.oldest [] refl (is_own c e.oldest d.is.client) ∙ (ap (λ (l : List Entry). l ++ e.oldest ∷ []) d.own ∙ sym e.is);
+          first = inr (e.oldest, as_in_last t ([] ++ x ∷ e.front) e.oldest [] d.is);
+          of = d.is.of;
+        }
 
 -- The memory stays all along, or a plan is committed
 
@@ -198,72 +193,37 @@ read_node start before x seen run has =
     subst (λ (s : Seen). s.place.node.0 < start_nodes start) (sym call.is) at.0
 
 pub path_by_other : PathByOther
-path_by_other start store past place e c number addr seq h stands answers = at_last failed.last refl
+path_by_other start store past place e c number addr seq h stands answers = at_last t.failed.last refl
   where
-    a : AnswerAt past c number (GaveUp (Path addr seq))
-    a = answer_at past place e c number (GaveUp (Path addr seq)) stands answers
-
-    log : List Entry
-    log = stands.1
-
-    s : ShownAnswer past c number (GaveUp (Path addr seq)) (answer_at past place e c number (GaveUp (Path addr seq)) stands answers)
-    s = shown_answer start past c number (GaveUp (Path addr seq)) (answer_at past place e c number (GaveUp (Path addr seq)) stands answers) h.run
-
-    failed : FailedTries (nodes_of (issues_of (since_begin (client_entries c stands.1)))) s.op (since_begin (client_entries c stands.1)) (Path addr seq)
-    failed = s.shows.1
+    t : BusyTries past c number place (Path addr seq)
+    t = busy_tries start past h.run c number place (Path addr seq) e stands answers
 
     follows : FollowsProtocol start past
     follows = runs_follow_protocol start past h.run
 
-    and_left : (a b : Bool) → (a && b) ≡ true → a ≡ true
-    and_left true b g = refl
-    and_left false b g = absurd cc
-
-    by_fault : (x : Entry) (try : List Entry) → failed.last ≡ x ∷ try → MeetsFault (nodes_of (issues_of (since_begin (client_entries c stands.1)))) (seen_in (x ∷ try)) s.op (Path addr seq) → PathMoved past c number place
+    by_fault : (x : Entry) (try : List Entry) → t.failed.last ≡ x ∷ try → MeetsFault (nodes_of (issues_of (since_begin (client_entries c t.before)))) (seen_in (x ∷ try)) t.op (Path addr seq) → PathMoved past c number place addr seq
     by_fault x try is fault = tell (stays_all start front.span front.base)
       where
-        tail : List Entry
-        tail = flat_map (λ t. t) failed.middle ++ (failed.first ++ failed.taken)
+        i : InLast t [] x try
+        i = in_last t [] x try is
 
-        whole : since_begin (client_entries c stands.1) ≡ failed.rest ++ x ∷ (try ++ (flat_map (λ t. t) failed.middle ++ (failed.first ++ failed.taken)))
-        whole = failed.split ∙ (assoc_four failed.rest failed.last (flat_map (λ t. t) failed.middle) failed.first failed.taken ∙ ap (λ (l : List Entry). failed.rest ++ (l ++ (flat_map (λ t. t) failed.middle ++ (failed.first ++ failed.taken)))) is)
+        front : LogOf t x try (in_last t [] x try is)
+        front = log_of t x try (in_last t [] x try is)
 
-        split : SinceSplit (client_entries c stands.1) failed.rest x (try ++ (flat_map (λ t. t) failed.middle ++ (failed.first ++ failed.taken)))
-        split = since_split (client_entries c stands.1) failed.rest x (try ++ (flat_map (λ t. t) failed.middle ++ (failed.first ++ failed.taken))) whole
+        there : past ≡ (t.later ++ (t.answer ∷ i.later)) ++ x ∷ i.before
+        there = in_log t (as_in_last t [] x try i)
 
-        l : LiftedPart c stands.1 failed.rest x split.before
-        l = lift_part c stands.1 failed.rest x split.before split.split
-
-        under : under_way (client_entries c l.before) ≡ Some (record { number = number; op = s.op })
-        under = ap under_way l.list ∙ (sym (since_under failed.rest x split.before (try ++ (flat_map (λ t. t) failed.middle ++ (failed.first ++ failed.taken))) (ap since_begin (sym split.split) ∙ whole)) ∙ (ap under_way (sym split.split) ∙ s.now))
-
-        inner : SinceTry split.before try
-        inner = try_split split.before try (flat_map (λ t. t) failed.middle ++ (failed.first ++ failed.taken)) (sym split.rest)
-
-        front : LiftedFront c l.before try inner.older
-        front = lift_front c l.before try inner.older (l.list ∙ inner.split)
-
-        -- the operation was under way at the base of the try
-        during : under_way (client_entries c front.base) ≡ Some (record { number = number; op = s.op })
-        during =
-            let since : since_begin (client_entries c l.before) ≡ try ++ (flat_map (λ t. t) failed.middle ++ (failed.first ++ failed.taken)) = ap since_begin l.list ∙ sym split.rest in
-            let none : AllByRecursion (λ (y : Entry). begun_in y.what ≡ []) try =
-            all_front (λ (y : Entry). begun_in y.what ≡ []) try (flat_map (λ t. t) failed.middle ++ (failed.first ++ failed.taken)) (subst (AllByRecursion (λ (y : Entry). begun_in y.what ≡ [])) since (none_begun (client_entries c l.before))) in
-            let list : client_entries c l.before ≡ try ++ client_entries c front.base =
-            ap (client_entries c) front.split ∙ (client_append c front.span front.base ∙ ap (λ (es : List Entry). es ++ client_entries c front.base) front.own) in
-            under_since try (client_entries c front.base) (record { number = number; op = s.op }) none (ap under_way (sym list) ∙ under)
-
-        there : past ≡ (stands.0 ++ (e ∷ l.later)) ++ x ∷ l.before
-        there = stands.2 ∙ (ap (λ (es : List Entry). stands.0 ++ e ∷ es) l.split ∙ sym (append_assoc stands.0 (e ∷ l.later) (x ∷ l.before)))
-
-        to_x : FollowsProtocol start (x ∷ l.before)
-        to_x = follows_before start past (stands.0 ++ (e ∷ l.later)) (x ∷ l.before) there follows
+        to_x : FollowsProtocol start (x ∷ i.before)
+        to_x = follows_before start past (t.later ++ (t.answer ∷ i.later)) (x ∷ i.before) there follows
 
         to_span : FollowsProtocol start (front.span ++ front.base)
         to_span = subst (FollowsProtocol start) front.split to_x.0
 
         to_base : FollowsProtocol start front.base
         to_base = older_follows start front.span front.base to_span
+
+        to_answer : FollowsProtocol start t.before
+        to_answer = follows_before start past (t.later ++ t.answer ∷ []) t.before (t.split ∙ sym (append_assoc t.later (t.answer ∷ []) t.before)) follows
 
         memory_long : length (flat start front.base) ≡ start_nodes start
         memory_long = (whole_run start front.base h.opened.sound h.spaces to_base).even.spaces
@@ -275,8 +235,8 @@ path_by_other start store past place e c number addr seq h stands answers = at_l
             by : Contains (seen_at x) seen ⊎ Contains (seen_in try) seen → IsSeenIn (flat start front.base) seen
             by (inl here) = (
               subst (λ (m : List (List ℕ)). StandsIn m seen) (ap (flat start) front.split ∙ all [] front.span refl)
-                  (here_seen start l.before x.client x.node x.what seen (whole_run start l.before h.opened.sound h.spaces to_x.0) to_x.1 here),
-              subst (λ (k : ℕ). seen.place.node.0 < k) (sym memory_long) (read_node start l.before x seen to_x here),
+                  (here_seen start i.before x.client x.node x.what seen (whole_run start i.before h.opened.sound h.spaces to_x.0) to_x.1 here),
+              subst (λ (k : ℕ). seen.place.node.0 < k) (sym memory_long) (read_node start i.before x seen to_x here),
             )
             by (inr older) =
                 let r : SeenAfter start front.span front.base seen = seen_after start front.span front.base c seen h.opened.sound h.spaces to_span (subst (λ (es : List Entry). Contains (seen_in es) seen) (sym front.own) older) in
@@ -287,93 +247,75 @@ path_by_other start store past place e c number addr seq h stands answers = at_l
                 )
 
         -- the operation's minitransactions were made for as many nodes as there are
-        nodes_are : (seen : Seen) → Contains (seen_in (x ∷ try)) seen → nodes_of (issues_of (since_begin (client_entries c stands.1))) ≡ length (flat start front.base)
-        nodes_are seen has = by (issues_of (since_begin (client_entries c stands.1))) refl (issues_since (λ (i : Issued). i.mini.nodes ≡ start_nodes start) (client_entries c stands.1) (nodes_all start stands.1 c (follows_before start past (stands.0 ++ e ∷ []) stands.1 (stands.2 ∙ sym (append_assoc stands.0 (e ∷ []) stands.1)) follows)))
+        nodes_are : (seen : Seen) → Contains (seen_in (x ∷ try)) seen → nodes_of (issues_of (since_begin (client_entries c t.before))) ≡ length (flat start front.base)
+        nodes_are seen has = by (issues_of (since_begin (client_entries c t.before))) refl (issues_since (λ (i : Issued). i.mini.nodes ≡ start_nodes start) (client_entries c t.before) (nodes_all start t.before c to_answer))
           where
-            b : Rattle.mn_world.proofs.Meaning.Moved.BroughtIn (x ∷ try) seen
-            b = Rattle.mn_world.proofs.Meaning.Moved.brought (x ∷ try) seen has
+            b : BroughtIn (x ∷ try) seen
+            b = brought (x ∷ try) seen has
 
-            -- the entry that read it, since Begin
-            parts : since_begin (client_entries c stands.1) ≡ (failed.rest ++ b.newer) ++ b.entry ∷ (b.older ++ (flat_map (λ t. t) failed.middle ++ (failed.first ++ failed.taken)))
-            parts =
-                whole ∙ (ap (λ (es : List Entry). failed.rest ++ (es ++ (flat_map (λ t. t) failed.middle ++ (failed.first ++ failed.taken)))) b.split
-                ∙ (ap (λ (es : List Entry). failed.rest ++ es) (append_assoc b.newer (b.entry ∷ b.older) (flat_map (λ t. t) failed.middle ++ (failed.first ++ failed.taken)))
-                ∙ sym (append_assoc failed.rest b.newer (b.entry ∷ (b.older ++ (flat_map (λ t. t) failed.middle ++ (failed.first ++ failed.taken)))))))
+            -- the entry that read it
+            j : InLast t b.newer b.entry b.older
+            j = in_last t b.newer b.entry b.older (is ∙ b.split)
 
-            sp : SinceSplit (client_entries c stands.1) (failed.rest ++ b.newer) b.entry (b.older ++ (flat_map (λ t. t) failed.middle ++ (failed.first ++ failed.taken)))
-            sp = since_split (client_entries c stands.1) (failed.rest ++ b.newer) b.entry (b.older ++ (flat_map (λ t. t) failed.middle ++ (failed.first ++ failed.taken))) parts
+            issue : (tid : Tid) × (mini : Mini) × (issue_named tid (issues_of (since_begin (client_entries c j.before))) ≡ Some mini)
+            issue = read_issue start j.before c b.entry seen (follows_before start t.before j.later (b.entry ∷ j.before) j.split to_answer) (is_own c b.entry j.client) b.brought
 
-            lp : LiftedPart c stands.1 (failed.rest ++ b.newer) b.entry sp.before
-            lp = lift_part c stands.1 (failed.rest ++ b.newer) b.entry sp.before sp.split
+            some : (i : Issued) × (is : List Issued) × (issues_of ((t.failed.rest ++ b.newer) ++ b.entry ∷ (b.older ++ tries_before t)) ≡ i ∷ is)
+            some =
+                issued_some (t.failed.rest ++ b.newer) b.entry (b.older ++ tries_before t) issue.0 issue.1
+                (ap (λ (es : List Entry). issue_named issue.0 (issues_of es)) (sym j.since) ∙ issue.2)
 
-            issue : (tid : Tid) × (mini : Mini) × (issue_named tid (issues_of (since_begin (client_entries c lp.before))) ≡ Some mini)
-            issue = read_issue start lp.before c b.entry seen (follows_before start stands.1 lp.later (b.entry ∷ lp.before) lp.split (follows_before start past (stands.0 ++ e ∷ []) stands.1 (stands.2 ∙ sym (append_assoc stands.0 (e ∷ []) stands.1)) follows)) lp.by b.brought
-
-            some : (i : Issued) × (is : List Issued) × (issues_of ((failed.rest ++ b.newer) ++ b.entry ∷ since_begin sp.before) ≡ i ∷ is)
-            some = issued_some (failed.rest ++ b.newer) b.entry (since_begin sp.before) issue.0 issue.1 (ap (λ (es : List Entry). issue_named issue.0 (issues_of (since_begin es))) (sym lp.list) ∙ issue.2)
-
-            now_is : issues_of (since_begin (client_entries c stands.1)) ≡ some.0 ∷ some.1
-            now_is = ap issues_of (parts ∙ ap (λ (es : List Entry). (failed.rest ++ b.newer) ++ b.entry ∷ es) sp.rest) ∙ some.2
+            now_is : issues_of (since_begin (client_entries c t.before)) ≡ some.0 ∷ some.1
+            now_is = ap issues_of (since_whole t b.newer b.entry b.older (is ∙ b.split)) ∙ some.2
 
             none_some : (i : Issued) (is : List Issued) → [] ≡ i ∷ is → ⊥
             none_some i is e = cc
 
-            by : (is : List Issued) → issues_of (since_begin (client_entries c stands.1)) ≡ is → AllByRecursion (λ (i : Issued). i.mini.nodes ≡ start_nodes start) (issues_of (since_begin (client_entries c stands.1))) → nodes_of (issues_of (since_begin (client_entries c stands.1))) ≡ length (flat start front.base)
+            by : (is : List Issued) → issues_of (since_begin (client_entries c t.before)) ≡ is → AllByRecursion (λ (i : Issued). i.mini.nodes ≡ start_nodes start) (issues_of (since_begin (client_entries c t.before))) → nodes_of (issues_of (since_begin (client_entries c t.before))) ≡ length (flat start front.base)
             by [] e all = absurd (none_some some.0 some.1 (sym e ∙ now_is))
             by (i ∷ is) e all = ap nodes_of e ∙ ((subst (AllByRecursion (λ (j : Issued). j.mini.nodes ≡ start_nodes start)) e all).0 ∙ sym memory_long)
 
-        some_holds : (t : Store) × Holds (flat start front.base) t
+        some_holds : (s : Store) × Holds (flat start front.base) s
         some_holds =
             let history = history_exists start store past h in
             let known = known_run start store past history.0 h.opened.sound h.spaces h.opened.holds h.run history.1 in
-            some_store start store past history.0 known ((stands.0 ++ (e ∷ l.later)) ++ (x ∷ front.span)) front.base
-            (there ∙ (ap (λ (es : List Entry). (stands.0 ++ (e ∷ l.later)) ++ x ∷ es) front.split ∙ sym (append_assoc (stands.0 ++ (e ∷ l.later)) (x ∷ front.span) front.base)))
+            some_store start store past history.0 known ((t.later ++ (t.answer ∷ i.later)) ++ (x ∷ front.span)) front.base
+            (there ∙ (ap (λ (es : List Entry). (t.later ++ (t.answer ∷ i.later)) ++ x ∷ es) front.split ∙ sym (append_assoc (t.later ++ (t.answer ∷ i.later)) (x ∷ front.span) front.base)))
 
-        low : length l.before < length stands.1
-        low = shorter_by stands.1 l.later x l.before l.split
+        tell : StaysAll start front.span front.base ⊎ CommitIn front.span front.base → PathMoved past c number place addr seq
+        tell (inl all) = absurd (no_fault (flat start front.base) some_holds.0 some_holds.1 (seen_in (x ∷ try)) (stood all) (nodes_of (issues_of (since_begin (client_entries c t.before)))) nodes_are t.op addr seq fault)
+        tell (inr co) = from front.first
+          where
+            base_split : i.before ≡ co.newer ++ co.entry ∷ (co.older ++ front.base)
+            base_split = front.split ∙ (ap (λ (es : List Entry). es ++ front.base) co.split ∙ append_assoc co.newer (co.entry ∷ co.older) front.base)
 
-        tell : StaysAll start front.span front.base ⊎ CommitIn front.span front.base → PathMoved past c number place
-        tell (inl all) = absurd (no_fault (flat start front.base) some_holds.0 some_holds.1 (seen_in (x ∷ try)) (stood all) (nodes_of (issues_of (since_begin (client_entries c stands.1)))) nodes_are s.op addr seq fault)
-        tell (inr co) =
-            let base_split : l.before ≡ co.newer ++ co.entry ∷ (co.older ++ front.base) = front.split ∙ (ap (λ (es : List Entry). es ++ front.base) co.split ∙ append_assoc co.newer (co.entry ∷ co.older) front.base) in
-            let outer : past ≡ ((stands.0 ++ (e ∷ l.later)) ++ (x ∷ co.newer)) ++ co.entry ∷ (co.older ++ front.base) =
-            there ∙ (ap (λ (es : List Entry). (stands.0 ++ (e ∷ l.later)) ++ x ∷ es) base_split ∙ sym (append_assoc (stands.0 ++ (e ∷ l.later)) (x ∷ co.newer) (co.entry ∷ (co.older ++ front.base)))) in
-            let run : IsRun start (co.entry ∷ (co.older ++ front.base)) = older_run start ((stands.0 ++ (e ∷ l.later)) ++ (x ∷ co.newer)) (co.entry ∷ (co.older ++ front.base)) (subst (IsRun start) outer h.run) in
-            let plan = plan_exists start (co.older ++ front.base) co.entry co.issued run.0 co.commits co.not_read in
-            let sum = length-append co.older front.base in
-            let below = shorter_by l.before co.newer co.entry (co.older ++ front.base) base_split in
-            let low' : length l.before < length stands.1 = shorter_by stands.1 l.later x l.before l.split in
-            let place_is : place ≡ length stands.1 = stands.3 in
-            record {
-              at = length l.before;
-              entry = x;
-              later = stands.0 ++ (e ∷ l.later);
-              before = l.before;
-              split = there;
-              is_place = refl;
-              client = by_of c x.client x.node x.what l.by;
-              op = s.op;
-              of = under;
-              before_answer = omega arith;
-              span = front.span;
-              base = front.base;
-              begins = front.split;
-              during = during;
-              one_try = ap none_refused front.own ∙ subst (λ (t : List Entry). is_one_try t ≡ true) is (and_left (is_one_try failed.last) _ failed.tries);
-              commit = length (co.older ++ front.base);
-              other = plan.0.client;
-              its = plan.0.number;
-              commits = ((stands.0 ++ (e ∷ l.later)) ++ (x ∷ co.newer), co.entry, co.older ++ front.base, co.issued, outer, refl, co.commits, co.not_read, (plan.0, plan.1, refl, refl));
-              inside = (omega arith, omega arith);
-              not_own = λ client its.
-                  others_commit_nothing start store past place (length (co.older ++ front.base)) e c number (GaveUp (Path addr seq)) h stands answers tt
-                  ((stands.0 ++ (e ∷ l.later)) ++ (x ∷ co.newer), co.entry, co.older ++ front.base, co.issued, outer, refl, co.commits, co.not_read, (plan.0, plan.1, client, its));
-            }
+            no_commit : (newer : List Entry) (y : Entry) (older : List Entry) → [] ≡ newer ++ y ∷ older → ⊥
+            no_commit [] y older h = cc
+            no_commit (z ∷ newer) y older h = cc
 
-    at_last : (last : List Entry) → failed.last ≡ last → PathMoved past c number place
-    at_last [] is = absurd (subst (λ (t : List Entry). FailsAs (nodes_of (issues_of (since_begin (client_entries c stands.1)))) s.op t (Path addr seq)) is failed.last_fails)
-    at_last (x ∷ try) is = by (subst (λ (t : List Entry). FailsAs (nodes_of (issues_of (since_begin (client_entries c stands.1)))) s.op t (Path addr seq)) is failed.last_fails)
+            from : (front.span ≡ []) ⊎ ((y : Entry) × IsInLast t (length front.base) y) → PathMoved past c number place addr seq
+            from (inl none) = absurd (no_commit co.newer co.entry co.older (sym none ∙ co.split))
+            from (inr first) =
+                let sum = length-append co.older front.base in
+                let below = shorter_by i.before co.newer co.entry (co.older ++ front.base) base_split in
+                record {
+                  tries = t;
+                  from = length front.base;
+                  first = first.0;
+                  begins = first.1;
+                  to = length i.before;
+                  last = x;
+                  ends = as_in_last t [] x try i;
+                  commit = length (co.older ++ front.base);
+                  other = commits_other start store past place e c number (Path addr seq) h stands answers (t.later ++ (t.answer ∷ i.later)) x i.before there co.newer co.entry (co.older ++ front.base)
+                      co.issued base_split co.commits co.not_read;
+                  inside = (omega arith, omega arith);
+                }
+
+    at_last : (last : List Entry) → t.failed.last ≡ last → PathMoved past c number place addr seq
+    at_last [] is = absurd (subst (λ (l : List Entry). FailsAs (nodes_of (issues_of (since_begin (client_entries c t.before)))) t.op l (Path addr seq)) is t.failed.last_fails)
+    at_last (x ∷ try) is = by (subst (λ (l : List Entry). FailsAs (nodes_of (issues_of (since_begin (client_entries c t.before)))) t.op l (Path addr seq)) is t.failed.last_fails)
       where
-        by : FailsAs (nodes_of (issues_of (since_begin (client_entries c stands.1)))) s.op (x ∷ try) (Path addr seq) → PathMoved past c number place
+        by : FailsAs (nodes_of (issues_of (since_begin (client_entries c t.before)))) t.op (x ∷ try) (Path addr seq) → PathMoved past c number place addr seq
         by (inl (call, here, refused)) = absurd (path_refused (seen_in try) call.node call.request call.reply addr seq refused)
         by (inr fault) = by_fault x try is fault

@@ -58,3 +58,18 @@ shorter past later before split =
 
 pub shorter_by : {X : Type 0} (past later : List X) (x : X) (before : List X) → past ≡ later ++ x ∷ before → suc (length before) ≤ length past
 shorter_by past later x before split = shorter past later (x ∷ before) split
+
+-- of two fronts of one list the longer one goes on from the other
+pub record Front {X : Type 0} (xs ys : List X) : Type 0 where
+  pub span : List X
+  pub is : xs ≡ span ++ ys
+
+pub front : {X : Type 0} (a b xs ys : List X) → a ++ xs ≡ b ++ ys → length ys ≤ length xs → Front xs ys
+front [] b xs ys same low = record { span = b; is = same }
+front (w ∷ a) [] xs ys same low =
+    let all : suc (length (a ++ xs)) ≡ length ys = ap (λ l. length l) same in
+    let parts = length-append a xs in absurd (omega arith)
+front {X} (w ∷ a) (z ∷ b) xs ys same low = front a b xs ys rest low
+  where
+    rest : a ++ xs ≡ b ++ ys
+    rest = cc

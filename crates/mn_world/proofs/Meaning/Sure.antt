@@ -7,13 +7,14 @@ use Rattle.mn_base.specs.declared.ids.Addr.{Addr}
 use Rattle.mn_base.specs.declared.op.Op.{Op}
 use Rattle.mn_base.specs.declared.answer.Answer.{Answer}
 use Rattle.mn_base.specs.declared.answer.Answer.TheVariants.{Replied, Busy as GaveUp, Down, InDoubt, Full, Worn, NoMemory}
+use Rattle.mn_base.specs.declared.answer.Busy.{Busy}
 use Rattle.mn_base.specs.declared.answer.Busy.TheVariants.{Lock, Moved, Forced, Path}
 use Rattle.mn_base.specs.Store.{Store}
 use Rattle.mn_world.specs.declared.entry.Entry.{Entry}
 use Rattle.mn_world.specs.Calls.{Begun, client_entries, under_way}
 use Rattle.mn_world.specs.Protocol.{Start, FollowsProtocol}
 use Rattle.mn_world.specs.Meaning.{OpenedRun, CommitsPlanAt}
-use Rattle.mn_world.specs.Causes.{PathMoved}
+use Rattle.mn_world.specs.Causes.{BusyTries, IsInLast, CommitsOther}
 use Rattle.mn_world.specs.declared.entry.What.{What}
 use Rattle.mn_world.specs.declared.entry.What.TheVariants.{Begin}
 use Rattle.mn_world.specs.Clients.{ClientAllows}
@@ -21,24 +22,12 @@ use Rattle.mn_world.specs.Undisturbed.{IsOfUpNodes, IsUndisturbed, IsUndisturbed
 use Rattle.mn_world.proofs.Reading.MakeRun.{runs_follow_protocol}
 use Rattle.mn_world.proofs.Meaning.Clients.{Allowed, begin_higher}
 use Rattle.mn_world.proofs.Meaning.Positions.{BeginAt, allowed_at, client_append}
+use Rattle.mn_world.proofs.Meaning.Splits.{Front, front}
+use Rattle.mn_world.proofs.Meaning.LastTry.{in_log, before_answer}
 use Rattle.mn_world.proofs.Meaning.Moved.{moved_by_other}
 use Rattle.mn_world.proofs.Meaning.Paths.{path_by_other}
 use Rattle.mn_world.proofs.Meaning.Undisturbed.{up_is_sure}
 use Rattle.mn_world.proofs.Meaning.OwnCommits.{only_own_commits}
-
-record Front (xs ys : List Entry) : Type 0 where
-  span : List Entry
-  is : xs ≡ span ++ ys
-
-front : (a b xs ys : List Entry) → a ++ xs ≡ b ++ ys → length ys ≤ length xs → Front xs ys
-front [] b xs ys same low = record { span = b; is = same }
-front (w ∷ a) [] xs ys same low =
-    let all : suc (length (a ++ xs)) ≡ length ys = ap (λ (l : List Entry). length l) same in
-    let parts = length-append a xs in absurd (omega arith)
-front (w ∷ a) (z ∷ b) xs ys same low = front a b xs ys rest low
-  where
-    rest : a ++ xs ≡ b ++ ys
-    rest = cc
 
 -- an operation is under way behind its Begin alone
 under_behind : (start : Start) (past : List Entry) (c : ClientNo) (number : ℕ) (op : Op) (f : BeginAt past c number op) → FollowsProtocol start past → (later older : List Entry) → past ≡ later ++ older → (b : Begun) → under_way (client_entries c older) ≡ Some b → b.number ≡ number
@@ -61,11 +50,11 @@ under_behind start past c number op f run later older split b now same = by (low
     by (inl less) = less
     by (inr more) = absurd (never (front (f.at.later ++ f.at.entry ∷ []) later f.at.before older (append_assoc f.at.later (f.at.entry ∷ []) f.at.before ∙ (sym f.at.split ∙ split)) more))
 
--- nothing of another operation is committed in it
-none_other : (start : Start) (store : Store) (past : List Entry) (c : ClientNo) (number : ℕ) (answer : Answer) → OpenedRun start store past → (u : IsUndisturbed start past c number answer) → (later older : List Entry) → past ≡ later ++ older
-    → (b : Begun) → under_way (client_entries c older) ≡ Some b → b.number ≡ number → (commit : ℕ) (other : ClientNo) (its : ℕ) → CommitsPlanAt past commit other its → length older ≤ commit → commit < length (u.between ++ u.begins ∷ u.before)
-    → (other ≡ c → its ≡ number → ⊥) → ⊥
-none_other start store past c number answer h u later older split b now same commit other its commits low high not_own =
+-- nothing of another operation is committed in its tries
+none_other : (start : Start) (store : Store) (past : List Entry) (c : ClientNo) (number : ℕ) (answer : Answer) → OpenedRun start store past → (u : IsUndisturbed start past c number answer)
+    → {busy : Busy} {from to : ℕ} {x y : Entry} (t : BusyTries past c number (length (u.between ++ u.begins ∷ u.before)) busy) → IsInLast t from x → IsInLast t to y → (commit : ℕ) → CommitsOther past c number commit
+    → from ≤ commit → commit < to → ⊥
+none_other start store past c number answer h u {busy} {from} {to} {x} {y} t oldest newest commit o low high =
     let f : BeginAt past c number u.op = record {
       at = record {
         entry = u.begins;
@@ -76,7 +65,7 @@ none_other start store past c number answer h u later older split b now same com
       };
       begins = u.begun.1;
     } in
-    let behind : length u.before < length older = under_behind start past c number u.op (record {
+    let behind : length u.before < length oldest.before = under_behind start past c number u.op (record {
       at = record {
         entry = u.begins;
         later = u.later ++ (u.answers ∷ u.between);
@@ -85,9 +74,12 @@ none_other start store past c number answer h u later older split b now same com
         by = u.begun.0;
       };
       begins = u.begun.1;
-    }) (runs_follow_protocol start past h.run) later older split b now same in
-    let own = only_own_commits start store past u.later u.between u.before u.begins u.answers c number u.op answer h u.split u.begun u.answered u.up u.own commit other its commits (omega arith) high in
-    not_own own.0 own.1
+    }) (runs_follow_protocol start past h.run) ((t.later ++ (t.answer ∷ oldest.later)) ++ x ∷ []) oldest.before
+    (in_log t oldest ∙ sym (append_assoc (t.later ++ (t.answer ∷ oldest.later)) (x ∷ []) oldest.before)) (record { number = number; op = t.op }) oldest.of refl in
+    let place : from ≡ length oldest.before = oldest.is_place in
+    let end : to < length (u.between ++ u.begins ∷ u.before) = before_answer t newest in
+    let own = only_own_commits start store past u.later u.between u.before u.begins u.answers c number u.op answer h u.split u.begun u.answered u.up u.own commit o.other o.its o.commits (omega arith) (omega arith) in
+    o.not_own own.0 own.1
 
 pub undisturbed_is_sure : UndisturbedIsSure
 undisturbed_is_sure start store past c number answer h u = by answer u
@@ -98,20 +90,13 @@ undisturbed_is_sure start store past c number answer h u = by answer u
     moved : (n : NodeNo) (begins : ℕ) (expected found : List ℕ) → IsUndisturbed start past c number (GaveUp (Moved n begins expected found)) → ⊥
     moved n begins expected found v =
         let m = moved_by_other start store past (length (v.between ++ v.begins ∷ v.before)) v.answers c number n begins expected found h (v.later, v.between ++ v.begins ∷ v.before, v.split, refl) v.answered in
-        let read : m.read ≡ length m.before = m.is_place in
         let inside = m.inside in
-        let before_answer : m.at < length (v.between ++ v.begins ∷ v.before) = m.before_answer in
-        none_other start store past c number (GaveUp (Moved n begins expected found)) h v (m.later ++ m.reader ∷ []) m.before (m.split ∙ sym (append_assoc m.later (m.reader ∷ []) m.before))
-        (record { number = number; op = m.during.0 }) m.during.1 refl m.commit m.other m.its m.commits (omega arith) (omega arith) m.not_own
+        none_other start store past c number (GaveUp (Moved n begins expected found)) h v m.tries m.reads m.call.there m.commit m.other (omega arith) inside.1
 
     path : (addr : Addr) (seq : ℕ) → IsUndisturbed start past c number (GaveUp (Path addr seq)) → ⊥
     path addr seq v =
         let m = path_by_other start store past (length (v.between ++ v.begins ∷ v.before)) v.answers c number addr seq h (v.later, v.between ++ v.begins ∷ v.before, v.split, refl) v.answered in
-        let inside = m.inside in
-        let before_answer : m.at < length (v.between ++ v.begins ∷ v.before) = m.before_answer in
-        none_other start store past c number (GaveUp (Path addr seq)) h v (m.later ++ (m.entry ∷ m.span)) m.base
-        (m.split ∙ (ap (λ (l : List Entry). m.later ++ m.entry ∷ l) m.begins ∙ sym (append_assoc m.later (m.entry ∷ m.span) m.base)))
-        (record { number = number; op = m.op }) m.during refl m.commit m.other m.its m.commits (omega arith) (omega arith) m.not_own
+        none_other start store past c number (GaveUp (Path addr seq)) h v m.tries m.begins m.ends m.commit m.other m.inside.0 m.inside.1
 
     by : (a : Answer) → IsUndisturbed start past c number a → IsUndisturbedAnswer past c a
     by (Down n) v = up (Down n) v
