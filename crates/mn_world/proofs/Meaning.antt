@@ -32,8 +32,10 @@ pub mod Refused
 pub mod Settled
 pub mod Heard
 pub mod Own
+pub mod Forces
 pub mod Another
 pub mod Held
+pub mod Forced
 pub mod Moved
 pub mod Faults
 pub mod Paths

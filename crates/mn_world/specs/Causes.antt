@@ -1,7 +1,7 @@
 -- Why an operation was busy: what the records held, and what other operations committed. What the
 -- client's own list shows of a cause is part of the answer; this is what every run adds to it.
-use Rattle.std.specs.Prelude.{ℕ, ◌≡◌, ◌<◌, ◌≤◌, ◌⊎◌, Bool, true, false, ◌&&◌, ◌||◌, IsTrue, List, [], ◌∷◌, ◌++◌, length, Some, Contains, slice_get, bytes_eq}
-use Rattle.std.specs.List.{list_any}
+use Rattle.std.specs.Prelude.{ℕ, ◌≡◌, ◌<◌, ◌≤◌, ◌⊎◌, Bool, true, false, not, ◌&&◌, ◌||◌, IsTrue, List, [], ◌∷◌, ◌++◌, length, Some, Contains, slice_get, bytes_eq}
+use Rattle.std.specs.List.{list_any, list_all}
 use Rattle.mn_base.specs.Ids.{node_same}
 use Rattle.mn_base.specs.Store.{Store}
 use Rattle.mn_base.specs.declared.ids.NodeNo.{NodeNo}
@@ -22,7 +22,7 @@ use Rattle.mn_mini.specs.Mini.{Mini, range_of, item_conflicts_with}
 use Rattle.mn_mini.specs.Node.{HeldPart, held_parts, has_forced}
 use Rattle.mn_world.specs.declared.entry.Entry.{Entry}
 use Rattle.mn_world.specs.declared.entry.What.TheVariants.{Issue, Called}
-use Rattle.mn_world.specs.Calls.{call_in, is_try, is_prepare, is_decide, is_down_reply, is_stopped, was_told, was_decided, client_entries, issues_of, since_begin, under_way}
+use Rattle.mn_world.specs.Calls.{call_in, calls_of, is_try, is_prepare, is_decide, is_down_reply, is_stopped, was_told, was_decided, client_entries, issues_of, since_begin, under_way}
 use Rattle.mn_world.specs.Shown.{seen_at}
 use Rattle.mn_world.specs.Answers.{FailedTries, ShowsBytes, nodes_of, part_compares}
 use Rattle.mn_world.specs.Protocol.{Start, run_number, records_of}
@@ -75,6 +75,18 @@ pub record CommitsOther (past : List Entry) (c : ClientNo) (number commit : ℕ)
   pub commits : CommitsPlanAt past commit other its
   pub not_own : other ≡ c → its ≡ number → ⊥
 
+-- Clients that recover nothing
+
+-- a request that a recovery makes: for the list of what is held, or a Force
+abbrev pub is_recovery : Request → Bool
+is_recovery Ask.List = true
+is_recovery (Ask.Force tid) = true
+is_recovery request = false
+
+-- a client's list has none, as a proxy's has none
+abbrev pub recovers_nothing : List Entry → Bool
+recovers_nothing es = list_all (λ call. not (is_recovery call.request)) (calls_of es)
+
 -- Locks
 
 -- the list has a Prepare of the id to the node after a Decide of it there
@@ -84,9 +96,13 @@ prepared_after_decide tid n (e ∷ es) =
     (list_any (λ c. node_same c.node n && is_prepare tid c.request) (call_in e.node e.what) && was_decided tid n es)
     || prepared_after_decide tid n es
 
--- the node was down, or stopped, at its client's Decide of the id; or that came before the Prepare
+-- the node was down, or stopped, at its client's Decide of the id
 abbrev pub missed_decision : Tid → NodeNo → List Entry → Bool
-missed_decision tid n es = was_told (is_decide tid) (λ reply. is_down_reply reply || is_stopped reply) n es || prepared_after_decide tid n es
+missed_decision tid n es = was_told (is_decide tid) (λ reply. is_down_reply reply || is_stopped reply) n es
+
+-- or the Decide came before the Prepare, as it may where the client forced the id itself
+abbrev pub missed_or_early : Tid → NodeNo → List Entry → Bool
+missed_or_early tid n es = missed_decision tid n es || prepared_after_decide tid n es
 
 -- a client issued the id for this operation, before
 pub record IssuedBefore (before : List Entry) (tid : Tid) (c : ClientNo) (number : ℕ) : Type 0 where
@@ -100,15 +116,17 @@ pub record IssuedBefore (before : List Entry) (tid : Tid) (c : ClientNo) (number
   pub op : Op
   pub of : under_way (client_entries c older) ≡ Some (record { number = number; op = op })
 
--- the id is one of an older run, or of another operation; it is of this one only where the node missed its decision
-abbrev pub IsOfAnother : Start → List Entry → ClientNo → ℕ → NodeNo → Tid → Type 0
-IsOfAnother start before c number n tid =
+-- the id is one of an older run, or of another operation; it is of this one only where excepted
+abbrev pub IsOfAnother : (Tid → NodeNo → List Entry → Bool) → Start → List Entry → ClientNo → ℕ → NodeNo
+    → Tid → Type 0
+IsOfAnother excepted start before c number n tid =
     (tid.run < run_number start)
-    ⊎ ((other : ClientNo) × (its : ℕ) × IssuedBefore before tid other its × (other ≡ c → its ≡ number → IsTrue (missed_decision tid n (client_entries c before))))
+    ⊎ ((other : ClientNo) × (its : ℕ) × IssuedBefore before tid other its
+    × (other ≡ c → its ≡ number → IsTrue (excepted tid n (client_entries c before))))
 
 -- the records held that range for the other id, where the last try was refused
-pub record WasHeld (start : Start) (past : List Entry) (c : ClientNo) (number place : ℕ) (n : NodeNo)
-    (range : Range) (holder : Tid) : Type 0 where
+pub record WasHeld (excepted : Tid → NodeNo → List Entry → Bool) (start : Start) (past : List Entry)
+    (c : ClientNo) (number place : ℕ) (n : NodeNo) (range : Range) (holder : Tid) : Type 0 where
   pub tries : BusyTries past c number place (Lock n range.start range.length holder)
   pub at : ℕ
   pub request : Request
@@ -123,16 +141,38 @@ pub record WasHeld (start : Start) (past : List Entry) (c : ClientNo) (number pl
   pub other : is_try holder request ≡ false
   pub range_is : range_of item ≡ range
   pub conflicts : IsTrue (item_conflicts_with item held.part)
-  pub holder_of : IsOfAnother start call.there.before c number n holder
+  pub holder_of : IsOfAnother excepted start call.there.before c number n holder
 
 abbrev pub LockWasHeld : Type 0
 LockWasHeld =
     (start : Start) (store : Store) (past : List Entry) (place : ℕ) (e : Entry) (c : ClientNo) (number : ℕ)
     (n : NodeNo) (begins size : ℕ) (holder : Tid) → OpenedRun start store past → StandsAt past place e
     → AnswersOp e c number (GaveUp (Lock n begins size holder))
-    → WasHeld start past c number place n (record { start = begins; length = size }) holder
+    → WasHeld missed_or_early start past c number place n (record { start = begins; length = size }) holder
+
+-- of a client that makes no request of a recovery: the holder is of another operation, unless the node
+-- answered Down or Stopped to this operation's Decide of it
+abbrev pub LockOfOther : Type 0
+LockOfOther =
+    (start : Start) (store : Store) (past : List Entry) (place : ℕ) (e : Entry) (c : ClientNo) (number : ℕ)
+    (n : NodeNo) (begins size : ℕ) (holder : Tid) → OpenedRun start store past → StandsAt past place e
+    → AnswersOp e c number (GaveUp (Lock n begins size holder))
+    → IsTrue (recovers_nothing (client_entries c past))
+    → WasHeld missed_decision start past c number place n (record { start = begins; length = size }) holder
 
 -- Forced
+
+-- an actor sent the node a Force of the id, which it voted no to, or stopped in
+pub record WasForcedBy (before : List Entry) (n : NodeNo) (tid : Tid) (sender : ClientNo) : Type 0 where
+  pub entry : Entry
+  pub later : List Entry
+  pub older : List Entry
+  pub split : before ≡ later ++ entry ∷ older
+  pub client : entry.client ≡ Some sender
+  pub reply : NodeReply
+  pub call : call_in entry.node entry.what
+      ≡ record { node = n; request = Ask.Force tid; reply = reply } ∷ []
+  pub said : (reply ≡ Say.Vote false) ⊎ (reply ≡ Say.Stopped)
 
 -- where the last try was refused a node has the id forced, there and at every later place
 pub record IsForcedAt (start : Start) (past : List Entry) (c : ClientNo) (number place : ℕ) (tid : Tid)
@@ -145,12 +185,22 @@ pub record IsForcedAt (start : Start) (past : List Entry) (c : ClientNo) (number
   pub call : IsCallInLast tries at node (Ask.Prepare tid participants part) Say.BadForced
   pub forced : (newer older : List Entry) → past ≡ newer ++ older → at ≤ length older
       → has_forced (records_of start older node) tid ≡ true
+  pub sender : ClientNo
+  pub sent : WasForcedBy call.there.before node tid sender
 
 abbrev pub ForcedStands : Type 0
 ForcedStands =
     (start : Start) (store : Store) (past : List Entry) (place : ℕ) (e : Entry) (c : ClientNo) (number : ℕ)
     (tid : Tid) → OpenedRun start store past → StandsAt past place e
     → AnswersOp e c number (GaveUp (Forced tid)) → IsForcedAt start past c number place tid
+
+-- of a client that makes no request of a recovery: another actor forced it
+abbrev pub ForcedByOther : Type 0
+ForcedByOther =
+    (start : Start) (store : Store) (past : List Entry) (place : ℕ) (e : Entry) (c : ClientNo) (number : ℕ)
+    (tid : Tid) → OpenedRun start store past → StandsAt past place e
+    → AnswersOp e c number (GaveUp (Forced tid)) → IsTrue (recovers_nothing (client_entries c past))
+    → (f : IsForcedAt start past c number place tid) × (f.sender ≡ c → ⊥)
 
 -- Moved
 

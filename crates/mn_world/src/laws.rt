@@ -5,7 +5,7 @@ ghost use Rattle.mn_world.specs.Laws.{AbandonedIsNever, RefusedIsNever, GivenUpI
 ghost use Rattle.mn_world.specs.Plans.{PutIsPlanned, SplitIsPlanned};
 ghost use Rattle.mn_world.specs.Meaning.{HistoryExists, HistoryIsOne, HistoryIsLegal, HoldsThroughout, StaysOpened, EndsOpened, FrozenNeverChanges, EachOnce};
 ghost use Rattle.mn_world.specs.Meaning.{RepliedStands, CommittedStands, OnlyThoseStand, PlacesLieBetween, SeenFirst, OthersHaveNoEffect, OthersCommitNothing, PlansLieBehind, OnePlanEach};
-ghost use Rattle.mn_world.specs.Causes.{LockWasHeld, ForcedStands, MovedByOther, PathByOther};
+ghost use Rattle.mn_world.specs.Causes.{LockWasHeld, LockOfOther, ForcedStands, ForcedByOther, MovedByOther, PathByOther};
 ghost use Rattle.mn_world.specs.OneHistory.{RunsHaveHistory, RunsAreOneHistory};
 ghost use Rattle.mn_world.specs.Undisturbed.{UpIsSure, OnlyOwnCommits, UndisturbedIsSure};
 ghost use Rattle.mn_world.specs.Run.{RunsFollowProtocol};
@@ -243,22 +243,34 @@ pub fn one_plan_each()
     ensures { OnePlanEach }
 {}
 
-/// Where an operation met a lock, the records held its range for another operation's id, unless the node missed that id's decision.
+/// Where an operation met a lock, the records held its range for another operation's id, unless the
+/// node missed that id's decision, or got it before the Prepare.
 pub fn lock_was_held()
     ensures { LockWasHeld }
 {}
 
-/// Where it was forced, the records say so.
+/// Of a client that asks for no list and forces nothing it was another operation's, unless the node
+/// answered Down or Stopped to the Decide of it.
+pub fn lock_of_other()
+    ensures { LockOfOther }
+{}
+
+/// Where it was forced, the node's records say so from then on, and some actor forced it before.
 pub fn forced_stands()
     ensures { ForcedStands }
 {}
 
-/// Where bytes had moved, another operation's plan was committed since they were read, in the same try.
+/// Of a client that asks for no list and forces nothing, that was another actor.
+pub fn forced_by_other()
+    ensures { ForcedByOther }
+{}
+
+/// Where bytes had moved, another operation's plan was committed since they were read, in the last try.
 pub fn moved_by_other()
     ensures { MovedByOther }
 {}
 
-/// Where a try met a fault of path, another operation's plan was committed within it.
+/// Where the last try met a fault of path, another operation's plan was committed within it.
 pub fn path_by_other()
     ensures { PathByOther }
 {}

@@ -21,7 +21,7 @@ use Rattle.mn_world.specs.Clients.{AllowsIssue, Sends}
 use Rattle.mn_world.specs.Protocol.{Start, records_of, FollowsProtocol, AllowedAt, AllowedBy}
 use Rattle.mn_world.specs.Run.{IsRun}
 use Rattle.mn_world.specs.Laws.{StartsSound}
-use Rattle.mn_world.specs.Causes.{missed_decision, IssuedBefore, IsOfAnother}
+use Rattle.mn_world.specs.Causes.{missed_or_early, IssuedBefore, IsOfAnother}
 use Rattle.mn_world.proofs.Reading.MakeRun.{runs_follow_protocol}
 use Rattle.mn_world.proofs.Reading.Same.{tid_same-true}
 use Rattle.mn_world.proofs.Reading.NewCalls.{by_of}
@@ -30,6 +30,7 @@ use Rattle.mn_world.proofs.Votes.Start.{held_has_vote, names_old, old_below}
 use Rattle.mn_world.proofs.Votes.Preserved.{kept_run}
 use Rattle.mn_world.proofs.Meaning.Splits.{shorter_by}
 use Rattle.mn_world.proofs.Meaning.Over.{or_cases}
+use Rattle.mn_world.proofs.Meaning.Prefixes.{keeps_there}
 use Rattle.mn_world.proofs.Meaning.Positions.{issued_since}
 use Rattle.mn_world.proofs.Meaning.Heard.{none_found}
 use Rattle.mn_world.proofs.Meaning.Own.{held_is, own_missed}
@@ -129,9 +130,17 @@ own_since start before e c number op tid run client now i =
       of = i.of;
     }) run (record { entry = e; later = []; before = before; split = refl; by = client }) (shorter_by before i.later i.entry i.older i.split) now refl).named
 
+-- an id is its issuer's
+pub issue_by : (start : Start) (before : List Entry) (d : ClientNo) (k : ℕ) (tid : Tid) → IssuedBefore before tid d k → FollowsProtocol start before → tid.client ≡ d
+issue_by start before d k tid i run =
+    let by : AllowedBy i.older i.entry.client i.entry.node i.entry.what = (keeps_there start before i.later i.entry i.older i.split run).by_client in
+    let own : AllowedBy i.older (Some d) i.entry.node i.entry.what = subst (λ (o : Option ClientNo). AllowedBy i.older o i.entry.node i.entry.what) i.client by in
+    let allowed : AllowsIssue d (client_entries d i.older) tid i.mini = subst (λ (w : What). AllowedBy i.older (Some d) i.entry.node w) i.what own in
+    allowed.client
+
 pub of_another : (start : Start) (before : List Entry) (c : ClientNo) (number : ℕ) (n : NodeNo) (request : Request) (tid holder : Tid) (held : HeldPart) (e : Entry) (reply : NodeReply) (op : Op) → StartsSound start → IsRun start (e ∷ before)
     → e.client ≡ Some c → e.node ≡ Some n → e.what ≡ Called request reply → under_way (client_entries c before) ≡ Some (record { number = number; op = op })
-    → is_try tid request ≡ true → tid_same holder tid ≡ false → Contains (held_parts (records_of start before n)) held → held.tid ≡ holder → IsOfAnother start before c number n holder
+    → is_try tid request ≡ true → tid_same holder tid ≡ false → Contains (held_parts (records_of start before n)) held → held.tid ≡ holder → IsOfAnother missed_or_early start before c number n holder
 of_another start before c number n request tid holder held e reply op sound run client node what now try differ has holder_is = by (voted_from start before n holder (records_of start before n) (kept.records n) voted)
   where
     follows : FollowsProtocol start (e ∷ before)
@@ -153,13 +162,13 @@ of_another start before c number n request tid holder held e reply op sound run 
     there : AllowedAt start before (Some n) (Called request reply)
     there = subst (λ (w : What). AllowedAt start before (Some n) w) what (subst (λ (o : Option NodeNo). AllowedAt start before o e.what) node follows.1.at_node)
 
-    missed : IssuedBefore before holder c number → holder.client ≡ c → missed_decision holder n (client_entries c before) ≡ true
+    missed : IssuedBefore before holder c number → holder.client ≡ c → missed_or_early holder n (client_entries c before) ≡ true
     missed i own =
-        subst (λ (d : ClientNo). missed_decision holder n (client_entries d before) ≡ true) own
+        subst (λ (d : ClientNo). missed_or_early holder n (client_entries d before) ≡ true) own
         (own_missed start before n request tid holder i.mini held sound run.0 there.0 try (subst (λ (d : ClientNo). Sends (client_entries d before) (Some n) request) (sym own) allowed) differ has holder_is
         (subst (λ (d : ClientNo). issue_named holder (issues_of (since_begin (client_entries d before))) ≡ Some i.mini) (sym own) (own_since start before e c number op holder follows client now i)))
 
-    by : ((mini : Mini) × (mini_of before holder ≡ Some mini)) ⊎ IsOld start holder → IsOfAnother start before c number n holder
+    by : ((mini : Mini) × (mini_of before holder ≡ Some mini)) ⊎ IsOld start holder → IsOfAnother missed_or_early start before c number n holder
     by (inr old) = inl (old_below start holder old)
     by (inl (mini, named)) =
         let p = place_of start before holder.client holder mini follows.0 named in

@@ -151,7 +151,7 @@ rests_on past e t n P Q on (inr (decided, rest)) =
 abbrev pub Released : Start → List Entry → Tid → NodeNo → Type 0
 Released start past t n = NotHeld (records_of start past n) t × (has_voted (records_of start past n) t ≡ true)
 
-decide_is : (t : Tid) (request : Request) → is_decide t request ≡ true → (verdict : Bool) × (request ≡ Ask.Decide t verdict)
+pub decide_is : (t : Tid) (request : Request) → is_decide t request ≡ true → (verdict : Bool) × (request ≡ Ask.Decide t verdict)
 decide_is t (Ask.Decide u verdict) e = (verdict, ap (λ (x : Tid). Ask.Decide x verdict) (tid_same-true u t e))
 decide_is t (Ask.Prepare u ps part) e = absurd cc
 decide_is t (Ask.Exec u part) e = absurd cc

@@ -1,13 +1,12 @@
--- A lock that an operation met was held by another id; an id that was forced is.
-use Rattle.std.proofs.Common.{◌≡◌, ℕ, zero, suc, ◌≤◌, Bool, true, false, not, ◌&&◌, ◌||◌, List, [], ◌∷◌, ◌++◌, length, Option, Some, None, refl, subst, sym, ap, ◌∙◌, arith, if◌then◌else◌, Contains}
+-- A lock that an operation met was held by another id.
+use Rattle.std.proofs.Common.{◌≡◌, ℕ, zero, suc, ◌⊎◌, inl, inr, Bool, true, false, not, ◌&&◌, ◌||◌, List, [], ◌∷◌, ◌++◌, length, Option, Some, None, refl, subst, sym, ap, ◌∙◌, arith, if◌then◌else◌, Contains}
 use Rattle.std.proofs.lemmas.List.{append_assoc}
 use Rattle.mn_base.specs.Ids.{tid_same, tid_lt}
 use Rattle.mn_base.specs.Store.{Store}
 use Rattle.mn_base.specs.declared.ids.NodeNo.{NodeNo}
 use Rattle.mn_base.specs.declared.ids.ClientNo.{ClientNo}
 use Rattle.mn_base.specs.declared.ids.Tid.{Tid}
-use Rattle.mn_base.specs.declared.answer.Busy.TheVariants.{Lock, Forced}
-use Rattle.mn_base.specs.declared.answer.Answer.TheVariants.{Busy as GaveUp}
+use Rattle.mn_base.specs.declared.answer.Busy.TheVariants.{Lock}
 use Rattle.mn_mini.specs.declared.part.PartItem.{PartItem}
 use Rattle.mn_mini.specs.declared.record.Record.{Record}
 use Rattle.mn_mini.specs.declared.record.Record.TheVariants.{Voted, Executed, Decided}
@@ -17,27 +16,27 @@ use Rattle.mn_mini.specs.declared.reply.NodeReply.{NodeReply}
 use Rattle.mn_mini.specs.declared.reply.NodeReply.TheVariants as Say
 use Rattle.mn_mini.specs.Mini.{range_of, item_conflicts_with, has_write}
 use Rattle.mn_mini.specs.Flat.{Mismatched, part_mismatch_from}
-use Rattle.mn_mini.specs.Node.{HeldPart, held_parts, has_forced, is_force_of, has_voted, holders, least_tid, lesser_tid, Clash, clash_or, clash_of, only_reply, after_compares, after_locks, tested, answer, space_of}
+use Rattle.mn_mini.specs.Node.{HeldPart, held_parts, has_forced, has_voted, holders, least_tid, lesser_tid, Clash, clash_or, clash_of, only_reply, after_compares, after_locks, tested, answer, space_of}
 use Rattle.mn_world.specs.declared.entry.Entry.{Entry}
 use Rattle.mn_world.specs.declared.entry.What.{What}
 use Rattle.mn_world.specs.declared.entry.What.TheVariants.{Called}
-use Rattle.mn_world.specs.Calls.{is_try, node_entries}
+use Rattle.mn_world.specs.Calls.{is_try, node_entries, client_entries}
 use Rattle.mn_world.specs.Run.{IsRun}
 use Rattle.mn_world.specs.Nodes.{is_down}
 use Rattle.mn_world.specs.Shown.{Seen, seen_in}
 use Rattle.mn_world.specs.Answers.{RefusedAs}
-use Rattle.mn_world.specs.Protocol.{Start, KeepsProtocol, base_at, records_of, AllowedAt}
+use Rattle.mn_world.specs.Protocol.{Start, KeepsProtocol, FollowsProtocol, base_at, records_of, AllowedAt}
 use Rattle.mn_world.specs.Laws.{part_of_request}
 use Rattle.mn_world.specs.Meaning.{OpenedRun}
-use Rattle.mn_world.specs.Causes.{BusyTries, WasHeld, LockWasHeld, IsForcedAt, ForcedStands}
+use Rattle.mn_world.specs.Causes.{prepared_after_decide, missed_decision, missed_or_early, IssuedBefore, IsOfAnother, recovers_nothing, BusyTries, WasHeld, LockWasHeld, LockOfOther}
 use Rattle.mn_world.proofs.Reading.MakeRun.{runs_follow_protocol}
 use Rattle.mn_world.proofs.Reading.Same.{tid_same-true}
-use Rattle.mn_world.proofs.Meaning.Prefixes.{keeps_there, older_run}
-use Rattle.mn_world.proofs.Reading.Unchanged.{record_stays}
-use Rattle.mn_world.proofs.Meaning.Splits.{Front, front}
+use Rattle.mn_world.proofs.Meaning.Prefixes.{follows_before, keeps_there, older_run}
+use Rattle.mn_world.proofs.Meaning.Over.{or_cases}
 use Rattle.mn_world.proofs.Meaning.LastTry.{as_in_last, busy_tries, in_log}
 use Rattle.mn_world.proofs.Meaning.Refused.{LastRefused, last_refused, call_in_last}
-use Rattle.mn_world.proofs.Meaning.Another.{of_another}
+use Rattle.mn_world.proofs.Meaning.Forces.{recovers_before, early_none}
+use Rattle.mn_world.proofs.Meaning.Another.{of_another, issue_by}
 
 contains_here : {X : Type 0} (x : X) (xs : List X) → Contains (x ∷ xs) x
 contains_here x xs = (0, omega arith, refl)
@@ -195,7 +194,7 @@ lock_refused seens m request reply n begins size holder is = absurd is
 
 -- where the last try was refused by a lock, the records held it
 pub held_there : (start : Start) (store : Store) (past : List Entry) (c : ClientNo) (number place : ℕ) (n : NodeNo) (begins size : ℕ) (holder : Tid) → OpenedRun start store past
-    → BusyTries past c number place (Lock n begins size holder) → WasHeld start past c number place n (record { start = begins; length = size }) holder
+    → BusyTries past c number place (Lock n begins size holder) → WasHeld missed_or_early start past c number place n (record { start = begins; length = size }) holder
 held_there start store past c number place n begins size holder h t =
     record {
       tries = t;
@@ -250,74 +249,57 @@ pub lock_was_held : LockWasHeld
 lock_was_held start store past place e c number n begins size holder h stands answers =
     held_there start store past c number place n begins size holder h (busy_tries start past h.run c number place (Lock n begins size holder) e stands answers)
 
--- Forced
-
-forced_refused : (seens : List Seen) (m : NodeNo) (request : Request) (reply : NodeReply) (tid : Tid) → RefusedAs seens m request reply (Forced tid) → (ps : List NodeNo) × (part : List PartItem) × (request ≡ Ask.Prepare tid ps part) × (reply ≡ Say.BadForced)
-forced_refused seens m request (Say.BadLock b s h) tid is = absurd cc
-forced_refused seens m (Ask.Prepare t ps part) (Say.BadCompare item found) tid (at, expected, has, shows, is) = absurd cc
-forced_refused seens m (Ask.Exec t part) (Say.BadCompare item found) tid (at, expected, has, shows, is) = absurd cc
-forced_refused seens m (Ask.Prepare t ps part) Say.BadForced tid is = (ps, part, ap (λ (x : Tid). Ask.Prepare x ps part) (sym (same tid t is)), refl)
-  where
-    same : (a b : Tid) → Forced a ≡ Forced b → a ≡ b
-    same a b e = cc
-forced_refused seens m request reply tid is = absurd is
-
-forced_by : (base : List ℕ) (records : List Record) (tid : Tid) (ps : List NodeNo) (part : List PartItem) → (answer base records (Ask.Prepare tid ps part)).reply ≡ Say.BadForced → has_forced records tid ≡ true
-forced_by base records tid ps part is = by (has_forced records tid) refl is
-  where
-    compares : (o : Option Mismatched) → (after_compares (space_of base records) part (Some (Voted tid ps part)) o).reply ≡ Say.BadForced → ⊥
-    compares (Some at) e = cc
-    compares None e = cc
-
-    locks : (o : Option Clash) → (after_locks (space_of base records) part (Some (Voted tid ps part)) o).reply ≡ Say.BadForced → ⊥
-    locks (Some at) e = cc
-    locks None e = compares (part_mismatch_from (space_of base records) 0 part) e
-
-    by : (b : Bool) → has_forced records tid ≡ b → (if b then only_reply Say.BadForced else tested base records tid part (Some (Voted tid ps part))).reply ≡ Say.BadForced → has_forced records tid ≡ true
-    by true e f = e
-    by false e f = absurd (locks (clash_of (held_parts records) tid part) f)
-
--- a record of Forced stays
-forced_on : (start : Start) (later before : List Entry) (n : NodeNo) (tid : Tid) → has_forced (records_of start before n) tid ≡ true → has_forced (records_of start (later ++ before) n) tid ≡ true
-forced_on start [] before n tid forced = forced
-forced_on start (e ∷ later) before n tid forced = record_stays start (later ++ before) e n (is_force_of tid) (forced_on start later before n tid forced)
-
-pub forced_stands : ForcedStands
-forced_stands start store past place e c number tid h stands answers = record {
-  tries = t;
-  at = length r.there.before;
-  node = r.node;
-  participants = is.0;
-  part = is.1;
-  call = call_in_last t r r.node (Ask.Prepare tid is.0 is.1) Say.BadForced refl is.2 is.3;
-  forced = later;
+-- of a client that makes no request of a recovery, only the node's own silence is excepted
+pub lock_of_other : LockOfOther
+lock_of_other start store past place e c number n begins size holder h stands answers recovers = record {
+  tries = w.tries;
+  at = w.at;
+  request = w.request;
+  call = w.call;
+  part = w.part;
+  item = w.item;
+  held = w.held;
+  asked = w.asked;
+  has_item = w.has_item;
+  there = w.there;
+  holder_is = w.holder_is;
+  other = w.other;
+  range_is = w.range_is;
+  conflicts = w.conflicts;
+  holder_of = by w.holder_of;
 }
   where
-    t : BusyTries past c number place (Forced tid)
-    t = busy_tries start past h.run c number place (Forced tid) e stands answers
+    w : WasHeld missed_or_early start past c number place n (record { start = begins; length = size }) holder
+    w = held_there start store past c number place n begins size holder h (busy_tries start past h.run c number place (Lock n begins size holder) e stands answers)
 
-    r : LastRefused t
-    r = last_refused t (λ nodes seens op f. f)
+    split : past ≡ ((w.tries.later ++ (w.tries.answer ∷ w.call.there.later)) ++ w.call.entry ∷ []) ++ w.call.there.before
+    split = in_log w.tries w.call.there ∙ sym (append_assoc (w.tries.later ++ (w.tries.answer ∷ w.call.there.later)) (w.call.entry ∷ []) w.call.there.before)
 
-    is : (ps : List NodeNo) × (part : List PartItem) × (r.request ≡ Ask.Prepare tid ps part) × (r.reply ≡ Say.BadForced)
-    is = forced_refused (seen_in r.try) r.node r.request r.reply tid r.refused
+    follows : FollowsProtocol start w.call.there.before
+    follows = follows_before start past ((w.tries.later ++ (w.tries.answer ∷ w.call.there.later)) ++ w.call.entry ∷ []) w.call.there.before split (runs_follow_protocol start past h.run)
 
-    not_down : Say.BadForced ≡ Say.Down → ⊥
-    not_down e = cc
+    recovered : recovers_nothing (client_entries c w.call.there.before) ≡ true
+    recovered =
+        recovers_before c ((w.tries.later ++ (w.tries.answer ∷ w.call.there.later)) ++ w.call.entry ∷ []) w.call.there.before
+        (subst (λ (l : List Entry). recovers_nothing (client_entries c l) ≡ true) split recovers)
 
-    split : past ≡ (t.later ++ (t.answer ∷ r.there.later)) ++ r.entry ∷ r.there.before
-    split = in_log t (as_in_last t [] r.entry r.try r.there)
+    missed : holder.client ≡ c → missed_or_early holder n (client_entries c w.call.there.before) ≡ true → missed_decision holder n (client_entries c w.call.there.before) ≡ true
+    missed own is = lost (or_cases (missed_decision holder n (client_entries c w.call.there.before)) (prepared_after_decide holder n (client_entries c w.call.there.before)) is)
+      where
+        not_both : (b : Bool) → b ≡ true → b ≡ false → ⊥
+        not_both b p q = cc
 
-    said : (answer (base_at start r.node) (records_of start r.there.before r.node) (Ask.Prepare tid is.0 is.1)).reply ≡ Say.BadForced
-    said =
-        call_answer start r.there.before r.entry r.node (Ask.Prepare tid is.0 is.1) Say.BadForced
-        (keeps_there start past (t.later ++ (t.answer ∷ r.there.later)) r.entry r.there.before split (runs_follow_protocol start past h.run)) r.at_node
-        (r.what ∙ (λ i. Called (is.2 i) (is.3 i))) not_down
+        lost : (missed_decision holder n (client_entries c w.call.there.before) ≡ true) ⊎ (prepared_after_decide holder n (client_entries c w.call.there.before) ≡ true)
+            → missed_decision holder n (client_entries c w.call.there.before) ≡ true
+        lost (inl m) = m
+        lost (inr early) =
+            absurd (not_both (prepared_after_decide holder n (client_entries c w.call.there.before)) early
+            (subst (λ (d : ClientNo). prepared_after_decide holder n (client_entries d w.call.there.before) ≡ false) own
+            (early_none start w.call.there.before holder n h.opened.sound follows (subst (λ (d : ClientNo). recovers_nothing (client_entries d w.call.there.before) ≡ true) (sym own) recovered))))
 
-    later : (newer older : List Entry) → past ≡ newer ++ older → length r.there.before ≤ length older → has_forced (records_of start older r.node) tid ≡ true
-    later newer older whole low =
-        let f : Front older r.there.before =
-        front newer ((t.later ++ (t.answer ∷ r.there.later)) ++ r.entry ∷ []) older r.there.before
-        (sym whole ∙ (split ∙ sym (append_assoc (t.later ++ (t.answer ∷ r.there.later)) (r.entry ∷ []) r.there.before))) low in
-        subst (λ (es : List Entry). has_forced (records_of start es r.node) tid ≡ true) (sym f.is)
-        (forced_on start f.span r.there.before r.node tid (forced_by (base_at start r.node) (records_of start r.there.before r.node) tid is.0 is.1 said))
+    by : IsOfAnother missed_or_early start w.call.there.before c number n holder → IsOfAnother missed_decision start w.call.there.before c number n holder
+    by (inl old) = inl old
+    by (inr (other, its, issue, excepted)) = inr (other, its, issue, λ one same. missed (issuer other its issue ∙ one) (excepted one same))
+      where
+        issuer : (d : ClientNo) (k : ℕ) → IssuedBefore w.call.there.before holder d k → holder.client ≡ d
+        issuer d k i = issue_by start w.call.there.before d k holder i follows

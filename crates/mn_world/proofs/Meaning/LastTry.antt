@@ -1,7 +1,7 @@
 -- The last try of an operation that was busy: its entries in the log.
-use Rattle.std.proofs.Common.{◌≡◌, ℕ, ◌<◌, List, [], ◌∷◌, ◌++◌, length, Option, Some, refl, subst, sym, ap, ◌∙◌, arith}
+use Rattle.std.proofs.Common.{◌≡◌, ℕ, ◌<◌, List, [], ◌∷◌, ◌++◌, length, Option, Some, refl, sym, ap, ◌∙◌, arith}
 use Rattle.std.specs.List.{flat_map}
-use Rattle.std.proofs.lemmas.List.{append_assoc, length-append}
+use Rattle.std.proofs.lemmas.List.{append_assoc}
 use Rattle.mn_base.specs.declared.ids.NodeNo.{NodeNo}
 use Rattle.mn_base.specs.declared.ids.ClientNo.{ClientNo}
 use Rattle.mn_base.specs.declared.answer.Busy.{Busy}
@@ -16,7 +16,7 @@ use Rattle.mn_world.specs.Meaning.{StandsAt, AnswersOp}
 use Rattle.mn_world.specs.Causes.{BusyTries, IsInLast}
 use Rattle.mn_world.proofs.Reading.NewCalls.{by_of}
 use Rattle.mn_world.proofs.Meaning.Splits.{shorter_by}
-use Rattle.mn_world.proofs.Meaning.Positions.{client_append, client_split, is_own}
+use Rattle.mn_world.proofs.Meaning.Positions.{client_split, is_own}
 use Rattle.mn_world.proofs.Meaning.Answered.{ShownAnswer, shown_answer}
 use Rattle.mn_world.proofs.Meaning.Once.{answer_at}
 use Rattle.mn_world.proofs.Meaning.Exists.{SinceSplit, since_split, LiftedPart, lift_part}

@@ -1,5 +1,5 @@
 -- Bytes that an operation had read and did not find again were changed by another operation's plan, within one try.
-use Rattle.std.proofs.Common.{◌≡◌, ℕ, zero, suc, ◌+◌, ◌-◌, ◌<◌, ◌≤◌, ◌⊎◌, inl, inr, Bool, true, false, not, ◌&&◌, List, [], ◌∷◌, ◌++◌, length, take, drop, Option, Some, None, refl, subst, sym, ap, ◌∙◌, arith, if◌then◌else◌, slice_get, Contains}
+use Rattle.std.proofs.Common.{◌≡◌, ℕ, zero, suc, ◌+◌, ◌-◌, ◌≤◌, ◌⊎◌, inl, inr, Bool, true, false, not, ◌&&◌, List, [], ◌∷◌, ◌++◌, length, take, drop, Option, Some, None, refl, subst, sym, ap, ◌∙◌, arith, if◌then◌else◌, slice_get, Contains}
 use Rattle.std.specs.Prelude.{bytes_eq}
 use Rattle.std.specs.List.{list_all}
 use Rattle.std.proofs.lemmas.List.{append_assoc, length-append}
@@ -26,7 +26,7 @@ use Rattle.mn_page.proofs.Keys.{bytes_eq-refl}
 use Rattle.mn_world.specs.declared.entry.Entry.{Entry}
 use Rattle.mn_world.specs.declared.entry.What.{What}
 use Rattle.mn_world.specs.declared.entry.What.TheVariants.{Called}
-use Rattle.mn_world.specs.Calls.{Call, Issued, calls_of, client_entries, since_begin, under_way}
+use Rattle.mn_world.specs.Calls.{Call, Issued, calls_of, client_entries}
 use Rattle.mn_world.specs.Clients.{is_read, Sends}
 use Rattle.mn_world.specs.Commits.{committed_by}
 use Rattle.mn_world.specs.Shown.{Seen, seen_in, seen_at}
@@ -38,7 +38,6 @@ use Rattle.mn_world.specs.Meaning.{OpenedRun, StandsAt, AnswersOp}
 use Rattle.mn_world.specs.Causes.{BusyTries, CommitsOther, WasMoved, MovedByOther}
 use Rattle.mn_world.proofs.Reading.MakeRun.{runs_follow_protocol}
 use Rattle.mn_world.proofs.Reading.Sees.{calls-append, seen_in-cons}
-use Rattle.mn_world.proofs.Reading.NewCalls.{by_of}
 use Rattle.mn_world.proofs.Votes.Backing.{ExecAt}
 use Rattle.mn_world.proofs.Votes.Preserved.{new_not_old}
 use Rattle.mn_world.proofs.Votes.Acts.{sent_unvoted}

@@ -20,7 +20,7 @@ use Rattle.mn_world.specs.Clients.{Sends}
 use Rattle.mn_world.specs.Protocol.{Start, start_nodes, records_of, KeepsProtocol, FollowsProtocol}
 use Rattle.mn_world.specs.Run.{IsRun}
 use Rattle.mn_world.specs.Laws.{StartsSound}
-use Rattle.mn_world.specs.Causes.{prepared_after_decide, missed_decision}
+use Rattle.mn_world.specs.Causes.{prepared_after_decide, missed_decision, missed_or_early}
 use Rattle.mn_world.proofs.Reading.MakeRun.{runs_follow_protocol}
 use Rattle.mn_world.proofs.Reading.Same.{tid_same-true, tid_same-refl}
 use Rattle.mn_world.proofs.Reading.NewCalls.{IsCallOf, new_call, by_of}
@@ -181,7 +181,7 @@ other_over P (i ∷ is) tid holder mini own all differ named none at =
 
 -- Decisions
 
-told_split : (tid : Tid) (n : NodeNo) (cs : List Call) → list_any (λ (c : Call). node_same c.node n && (is_decide tid c.request && true)) cs ≡ true
+pub told_split : (tid : Tid) (n : NodeNo) (cs : List Call) → list_any (λ (c : Call). node_same c.node n && (is_decide tid c.request && true)) cs ≡ true
     → (list_any (λ (c : Call). node_same c.node n && (is_decide tid c.request && is_lost c.reply)) cs ≡ true) ⊎ (list_any (λ (c : Call). node_same c.node n && (is_decide tid c.request && is_heard c.reply)) cs ≡ true)
 told_split tid n [] e = absurd cc
 told_split tid n (c ∷ cs) e = by (or_cases (node_same c.node n && (is_decide tid c.request && true)) _ e) (told_split tid n cs)
@@ -241,10 +241,15 @@ pub held_is : (records : List Record) (held : HeldPart) (holder : Tid) → Conta
 held_is records held holder has is none =
     clash (tid_same held.tid holder) (subst (λ (x : Tid). tid_same held.tid x ≡ true) is (tid_same-refl held.tid)) (all_there (λ (h : HeldPart). tid_same h.tid holder ≡ false) (held_parts records) held none has)
 
-pub own_missed : (start : Start) (past : List Entry) (n : NodeNo) (request : Request) (tid holder : Tid) (mini : Mini) (held : HeldPart) → StartsSound start → IsRun start past → n.0 < start_nodes start
+-- its Prepare was done, and its decision was sent, since Begin
+pub record OwnDecided (es : List Entry) (n : NodeNo) (holder : Tid) : Type 0 where
+  pub prepared : was_told (is_prepare holder) is_done n (since_begin es) ≡ true
+  pub decided : was_decided holder n (since_begin es) ≡ true
+
+pub own_decided : (start : Start) (past : List Entry) (n : NodeNo) (request : Request) (tid holder : Tid) (mini : Mini) (held : HeldPart) → StartsSound start → IsRun start past → n.0 < start_nodes start
     → is_try tid request ≡ true → Sends (client_entries holder.client past) (Some n) request → tid_same holder tid ≡ false → Contains (held_parts (records_of start past n)) held → held.tid ≡ holder
-    → issue_named holder (issues_of (since_begin (client_entries holder.client past))) ≡ Some mini → missed_decision holder n (client_entries holder.client past) ≡ true
-own_missed start past n request tid holder mini held sound run low try sends differ has holder_is named = by_over found.holds
+    → issue_named holder (issues_of (since_begin (client_entries holder.client past))) ≡ Some mini → OwnDecided (client_entries holder.client past) n holder
+own_decided start past n request tid holder mini held sound run low try sends differ has holder_is named = by_over found.holds
   where
     follows : FollowsProtocol start past
     follows = runs_follow_protocol start past run
@@ -335,29 +340,35 @@ own_missed start past n request tid holder mini held sound run low try sends dif
         by (inl h) = prepared is_done h
         by (inr h) = absurd (clash (was_told_somewhere (is_prepare holder) is_lost (since_begin (client_entries holder.client past))) (somewhere (calls_of (since_begin (client_entries holder.client past))) (prepared is_stopped h)) settled.0)
 
-    released : was_told (is_prepare holder) is_done n (client_entries holder.client past) ≡ true → Rests (client_entries holder.client past) holder n (Released start past holder n) → missed_decision holder n (client_entries holder.client past) ≡ true
-    released told (inl r) = absurd (held_is (records_of start past n) held holder has holder_is r.0)
-    released told (inr (decided, inl untold)) = absurd (clash (was_told (is_prepare holder) is_done n (client_entries holder.client past)) told untold)
-    released told (inr (decided, inr after)) = or_right (was_told (is_decide holder) is_lost n (client_entries holder.client past)) (prepared_after_decide holder n (client_entries holder.client past)) after
-
-    settled_case : HasSettled (since_begin (client_entries holder.client past)) (record { tid = holder; mini = mini }) → missed_decision holder n (client_entries holder.client past) ≡ true
-    settled_case settled = by (told_split holder n (calls_of (client_entries holder.client past)) (since_told (λ (c : Call). node_same c.node n && (is_decide holder c.request && true)) (client_entries holder.client past) (settled.1 n named_there (done settled))))
-      where
-        prepared_list : was_told (is_prepare holder) is_done n (client_entries holder.client past) ≡ true
-        prepared_list = since_told (λ (c : Call). node_same c.node n && (is_prepare holder c.request && is_done c.reply)) (client_entries holder.client past) (done settled)
-
-        by : (list_any (λ (c : Call). node_same c.node n && (is_decide holder c.request && is_lost c.reply)) (calls_of (client_entries holder.client past)) ≡ true) ⊎ (list_any (λ (c : Call). node_same c.node n && (is_decide holder c.request && is_heard c.reply)) (calls_of (client_entries holder.client past)) ≡ true)
-            → missed_decision holder n (client_entries holder.client past) ≡ true
-        by (inl h) = or_left (was_told (is_decide holder) is_lost n (client_entries holder.client past)) (prepared_after_decide holder n (client_entries holder.client past)) h
-        by (inr h) = released prepared_list (heard start past holder n sound follows low h)
-
     same_issued : found.issued ≡ record { tid = holder; mini = mini }
     same_issued = λ i. record { tid = found.tid_is i; mini = found.mini_is i }
 
-    by_over : Over (since_begin (client_entries holder.client past)) found.issued → missed_decision holder n (client_entries holder.client past) ≡ true
+    by_over : Over (since_begin (client_entries holder.client past)) found.issued → OwnDecided (client_entries holder.client past) n holder
     by_over over = at (subst (Over (since_begin (client_entries holder.client past))) same_issued over)
       where
-        at : Over (since_begin (client_entries holder.client past)) (record { tid = holder; mini = mini }) → missed_decision holder n (client_entries holder.client past) ≡ true
+        at : Over (since_begin (client_entries holder.client past)) (record { tid = holder; mini = mini }) → OwnDecided (client_entries holder.client past) n holder
         at (inr told) = absurd (no_exec (exec_list (client_entries holder.client past) holder told))
         at (inl (gone, inl read)) = let few = read_alone mini.nodes mini.items read in let many = several in absurd (omega arith)
-        at (inl (gone, inr settled)) = settled_case settled
+        at (inl (gone, inr settled)) = record { prepared = done settled; decided = settled.1 n named_there (done settled) }
+
+pub own_missed : (start : Start) (past : List Entry) (n : NodeNo) (request : Request) (tid holder : Tid) (mini : Mini) (held : HeldPart) → StartsSound start → IsRun start past → n.0 < start_nodes start
+    → is_try tid request ≡ true → Sends (client_entries holder.client past) (Some n) request → tid_same holder tid ≡ false → Contains (held_parts (records_of start past n)) held → held.tid ≡ holder
+    → issue_named holder (issues_of (since_begin (client_entries holder.client past))) ≡ Some mini → missed_or_early holder n (client_entries holder.client past) ≡ true
+own_missed start past n request tid holder mini held sound run low try sends differ has holder_is named =
+    by (told_split holder n (calls_of (client_entries holder.client past)) (since_told (λ (c : Call). node_same c.node n && (is_decide holder c.request && true)) (client_entries holder.client past) own.decided))
+  where
+    own : OwnDecided (client_entries holder.client past) n holder
+    own = own_decided start past n request tid holder mini held sound run low try sends differ has holder_is named
+
+    prepared : was_told (is_prepare holder) is_done n (client_entries holder.client past) ≡ true
+    prepared = since_told (λ (c : Call). node_same c.node n && (is_prepare holder c.request && is_done c.reply)) (client_entries holder.client past) own.prepared
+
+    released : Rests (client_entries holder.client past) holder n (Released start past holder n) → missed_or_early holder n (client_entries holder.client past) ≡ true
+    released (inl r) = absurd (held_is (records_of start past n) held holder has holder_is r.0)
+    released (inr (decided, inl untold)) = absurd (clash (was_told (is_prepare holder) is_done n (client_entries holder.client past)) prepared untold)
+    released (inr (decided, inr after)) = or_right (missed_decision holder n (client_entries holder.client past)) (prepared_after_decide holder n (client_entries holder.client past)) after
+
+    by : (list_any (λ (c : Call). node_same c.node n && (is_decide holder c.request && is_lost c.reply)) (calls_of (client_entries holder.client past)) ≡ true) ⊎ (list_any (λ (c : Call). node_same c.node n && (is_decide holder c.request && is_heard c.reply)) (calls_of (client_entries holder.client past)) ≡ true)
+        → missed_or_early holder n (client_entries holder.client past) ≡ true
+    by (inl h) = or_left (missed_decision holder n (client_entries holder.client past)) (prepared_after_decide holder n (client_entries holder.client past)) h
+    by (inr h) = released (heard start past holder n sound (runs_follow_protocol start past run) low h)

@@ -1,5 +1,5 @@
 -- A try that met a fault of path overlaps another operation's commit.
-use Rattle.std.proofs.Common.{◌≡◌, ℕ, ◌<◌, ◌⊎◌, inl, inr, Bool, true, false, ◌&&◌, List, [], ◌∷◌, ◌++◌, length, Option, Some, None, refl, subst, sym, ap, ◌∙◌, arith, if◌then◌else◌, Contains}
+use Rattle.std.proofs.Common.{◌≡◌, ℕ, ◌<◌, ◌⊎◌, inl, inr, Bool, true, false, List, [], ◌∷◌, ◌++◌, length, Option, Some, None, refl, subst, sym, ap, ◌∙◌, arith, if◌then◌else◌, Contains}
 use Rattle.std.specs.List.{AllByRecursion}
 use Rattle.std.proofs.lemmas.List.{append_assoc, length-append}
 use Rattle.std.proofs.lemmas.List.Elements.{Contains-append_cases}
@@ -10,7 +10,6 @@ use Rattle.mn_base.specs.declared.ids.Addr.{Addr}
 use Rattle.mn_base.specs.declared.ids.Tid.{Tid}
 use Rattle.mn_base.specs.declared.answer.Busy.{Busy}
 use Rattle.mn_base.specs.declared.answer.Busy.TheVariants.{Path}
-use Rattle.mn_base.specs.declared.answer.Answer.TheVariants.{Busy as GaveUp}
 use Rattle.mn_mini.specs.declared.part.PartItem.TheVariants as Bare
 use Rattle.mn_mini.specs.declared.request.Request.{Request}
 use Rattle.mn_mini.specs.declared.request.Request.TheVariants as Ask
@@ -22,7 +21,7 @@ use Rattle.mn_page.proofs.Grid.{all_append, all_split}
 use Rattle.mn_world.specs.declared.entry.Entry.{Entry}
 use Rattle.mn_world.specs.declared.entry.What.{What}
 use Rattle.mn_world.specs.declared.entry.What.TheVariants.{Begin, Issue, Called, Stopped, Restarted, Abandoned, Answered}
-use Rattle.mn_world.specs.Calls.{Issued, begun_in, issue_in, issues_of, issue_named, is_by, client_entries, since_begin, since_begin_after, under_way}
+use Rattle.mn_world.specs.Calls.{Issued, issue_in, issues_of, issue_named, is_by, client_entries, since_begin, since_begin_after, under_way}
 use Rattle.mn_world.specs.Clients.{is_read, AllowsExec}
 use Rattle.mn_world.specs.Commits.{committed_by}
 use Rattle.mn_world.specs.Shown.{Seen, seen_in, seen_at}

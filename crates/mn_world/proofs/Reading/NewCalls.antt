@@ -76,7 +76,7 @@ own_calls start past c e keeps by =
     subst (λ (o : Option ClientNo). KeepsProtocol start past (record { node = e.node; client = o; what = e.what }) → AllByRecursion (IsCallOf start past c (record { node = e.node; client = o; what = e.what })) (call_in e.node e.what)) (sym is) (entry_calls start past c e.node e.what) keeps
 
 -- a test that some call passes is passed by an older call, or by the entry's own
-some_call : (P : Call → Type 0) (test : Call → Bool) (new : List Call) → AllByRecursion P new → list_any test new ≡ true → (call : Call) × P call × (test call ≡ true)
+pub some_call : (P : Call → Type 0) (test : Call → Bool) (new : List Call) → AllByRecursion P new → list_any test new ≡ true → (call : Call) × P call × (test call ≡ true)
 some_call P test [] all e = absurd cc
 some_call P test (call ∷ calls) all e =
     elim (test call) as (λ b. test call ≡ b → (b || list_any test calls) ≡ true → (call : Call) × P call × (test call ≡ true)) [

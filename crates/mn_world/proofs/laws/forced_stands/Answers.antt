@@ -1,4 +1,4 @@
-use Rattle.mn_world.proofs.Meaning.Held.{forced_stands}
+use Rattle.mn_world.proofs.Meaning.Forced.{forced_stands}
 use Rattle.mn_world.proofs.laws.forced_stands.Goals as goal
 
 pub returns : goal.returns
