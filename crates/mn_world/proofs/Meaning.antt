@@ -47,3 +47,5 @@ pub mod Together
 pub mod Undisturbed
 pub mod OwnCommits
 pub mod Sure
+pub mod Unlocked
+pub mod Unhindered

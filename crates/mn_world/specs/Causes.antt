@@ -1,6 +1,7 @@
 -- Why an operation was busy: what the records held, and what other operations committed. What the
 -- client's own list shows of a cause is part of the answer; this is what every run adds to it.
-use Rattle.std.specs.Prelude.{ℕ, ◌≡◌, ◌<◌, ◌≤◌, ◌⊎◌, Bool, true, false, not, ◌&&◌, ◌||◌, IsTrue, List, [], ◌∷◌, ◌++◌, length, Some, Contains, slice_get, bytes_eq}
+use Rattle.std.specs.Prelude.{ℕ, ◌≡◌, ◌<◌, ◌≤◌, ◌⊎◌, Bool, true, false, not, ◌&&◌, ◌||◌, IsTrue}
+use Rattle.std.specs.Prelude.{List, [], ◌∷◌, ◌++◌, length, Some, Contains, slice_get, bytes_eq}
 use Rattle.std.specs.List.{list_any, list_all}
 use Rattle.mn_base.specs.Ids.{node_same}
 use Rattle.mn_base.specs.Store.{Store}
@@ -22,7 +23,9 @@ use Rattle.mn_mini.specs.Mini.{Mini, range_of, item_conflicts_with}
 use Rattle.mn_mini.specs.Node.{HeldPart, held_parts, has_forced}
 use Rattle.mn_world.specs.declared.entry.Entry.{Entry}
 use Rattle.mn_world.specs.declared.entry.What.TheVariants.{Issue, Called}
-use Rattle.mn_world.specs.Calls.{call_in, calls_of, is_try, is_prepare, is_decide, is_down_reply, is_stopped, was_told, was_decided, client_entries, issues_of, since_begin, under_way}
+use Rattle.mn_world.specs.Calls.{call_in, calls_of, is_try, is_prepare, is_decide, is_down_reply}
+use Rattle.mn_world.specs.Calls.{is_stopped, was_told, was_decided, client_entries, issues_of}
+use Rattle.mn_world.specs.Calls.{since_begin, under_way}
 use Rattle.mn_world.specs.Shown.{seen_at}
 use Rattle.mn_world.specs.Answers.{FailedTries, ShowsBytes, nodes_of, part_compares}
 use Rattle.mn_world.specs.Protocol.{Start, run_number, records_of}
@@ -32,7 +35,8 @@ use Rattle.mn_world.specs.Meaning.{OpenedRun, StandsAt, AnswersOp, CommitsPlanAt
 -- The last try
 
 -- an operation that was busy, with the tries that its client's own list shows for that answer
-pub record BusyTries (past : List Entry) (c : ClientNo) (number place : ℕ) (busy : Busy) : Type 0 where
+pub record BusyTries (past : List Entry) (c : ClientNo) (number place : ℕ)
+    (busy : Busy) : Type 0 where
   pub answer : Entry
   pub later : List Entry
   pub before : List Entry
@@ -93,12 +97,14 @@ recovers_nothing es = list_all (λ call. not (is_recovery call.request)) (calls_
 abbrev pub prepared_after_decide : Tid → NodeNo → List Entry → Bool
 prepared_after_decide tid n [] = false
 prepared_after_decide tid n (e ∷ es) =
-    (list_any (λ c. node_same c.node n && is_prepare tid c.request) (call_in e.node e.what) && was_decided tid n es)
+    (list_any (λ c. node_same c.node n && is_prepare tid c.request) (call_in e.node e.what)
+    && was_decided tid n es)
     || prepared_after_decide tid n es
 
 -- the node was down, or stopped, at its client's Decide of the id
 abbrev pub missed_decision : Tid → NodeNo → List Entry → Bool
-missed_decision tid n es = was_told (is_decide tid) (λ reply. is_down_reply reply || is_stopped reply) n es
+missed_decision tid n es =
+    was_told (is_decide tid) (λ reply. is_down_reply reply || is_stopped reply) n es
 
 -- or the Decide came before the Prepare, as it may where the client forced the id itself
 abbrev pub missed_or_early : Tid → NodeNo → List Entry → Bool
@@ -117,8 +123,8 @@ pub record IssuedBefore (before : List Entry) (tid : Tid) (c : ClientNo) (number
   pub of : under_way (client_entries c older) ≡ Some (record { number = number; op = op })
 
 -- the id is one of an older run, or of another operation; it is of this one only where excepted
-abbrev pub IsOfAnother : (Tid → NodeNo → List Entry → Bool) → Start → List Entry → ClientNo → ℕ → NodeNo
-    → Tid → Type 0
+abbrev pub IsOfAnother : (Tid → NodeNo → List Entry → Bool) → Start → List Entry → ClientNo → ℕ
+    → NodeNo → Tid → Type 0
 IsOfAnother excepted start before c number n tid =
     (tid.run < run_number start)
     ⊎ ((other : ClientNo) × (its : ℕ) × IssuedBefore before tid other its
@@ -145,25 +151,30 @@ pub record WasHeld (excepted : Tid → NodeNo → List Entry → Bool) (start : 
 
 abbrev pub LockWasHeld : Type 0
 LockWasHeld =
-    (start : Start) (store : Store) (past : List Entry) (place : ℕ) (e : Entry) (c : ClientNo) (number : ℕ)
-    (n : NodeNo) (begins size : ℕ) (holder : Tid) → OpenedRun start store past → StandsAt past place e
+    (start : Start) (store : Store) (past : List Entry) (place : ℕ) (e : Entry) (c : ClientNo)
+    (number : ℕ) (n : NodeNo) (begins size : ℕ) (holder : Tid)
+    → OpenedRun start store past → StandsAt past place e
     → AnswersOp e c number (GaveUp (Lock n begins size holder))
-    → WasHeld missed_or_early start past c number place n (record { start = begins; length = size }) holder
+    → WasHeld missed_or_early start past c number place n
+    (record { start = begins; length = size }) holder
 
--- of a client that makes no request of a recovery: the holder is of another operation, unless the node
--- answered Down or Stopped to this operation's Decide of it
+-- of a client that makes no request of a recovery: the holder is of another operation, unless the
+-- node answered Down or Stopped to this operation's Decide of it
 abbrev pub LockOfOther : Type 0
 LockOfOther =
-    (start : Start) (store : Store) (past : List Entry) (place : ℕ) (e : Entry) (c : ClientNo) (number : ℕ)
-    (n : NodeNo) (begins size : ℕ) (holder : Tid) → OpenedRun start store past → StandsAt past place e
+    (start : Start) (store : Store) (past : List Entry) (place : ℕ) (e : Entry) (c : ClientNo)
+    (number : ℕ) (n : NodeNo) (begins size : ℕ) (holder : Tid)
+    → OpenedRun start store past → StandsAt past place e
     → AnswersOp e c number (GaveUp (Lock n begins size holder))
     → IsTrue (recovers_nothing (client_entries c past))
-    → WasHeld missed_decision start past c number place n (record { start = begins; length = size }) holder
+    → WasHeld missed_decision start past c number place n
+    (record { start = begins; length = size }) holder
 
 -- Forced
 
 -- an actor sent the node a Force of the id, which it voted no to, or stopped in
-pub record WasForcedBy (before : List Entry) (n : NodeNo) (tid : Tid) (sender : ClientNo) : Type 0 where
+pub record WasForcedBy (before : List Entry) (n : NodeNo) (tid : Tid)
+    (sender : ClientNo) : Type 0 where
   pub entry : Entry
   pub later : List Entry
   pub older : List Entry
@@ -175,8 +186,8 @@ pub record WasForcedBy (before : List Entry) (n : NodeNo) (tid : Tid) (sender : 
   pub said : (reply ≡ Say.Vote false) ⊎ (reply ≡ Say.Stopped)
 
 -- where the last try was refused a node has the id forced, there and at every later place
-pub record IsForcedAt (start : Start) (past : List Entry) (c : ClientNo) (number place : ℕ) (tid : Tid)
-    : Type 0 where
+pub record IsForcedAt (start : Start) (past : List Entry) (c : ClientNo) (number place : ℕ)
+    (tid : Tid) : Type 0 where
   pub tries : BusyTries past c number place (Forced tid)
   pub at : ℕ
   pub node : NodeNo
@@ -190,15 +201,15 @@ pub record IsForcedAt (start : Start) (past : List Entry) (c : ClientNo) (number
 
 abbrev pub ForcedStands : Type 0
 ForcedStands =
-    (start : Start) (store : Store) (past : List Entry) (place : ℕ) (e : Entry) (c : ClientNo) (number : ℕ)
-    (tid : Tid) → OpenedRun start store past → StandsAt past place e
+    (start : Start) (store : Store) (past : List Entry) (place : ℕ) (e : Entry) (c : ClientNo)
+    (number : ℕ) (tid : Tid) → OpenedRun start store past → StandsAt past place e
     → AnswersOp e c number (GaveUp (Forced tid)) → IsForcedAt start past c number place tid
 
 -- of a client that makes no request of a recovery: another actor forced it
 abbrev pub ForcedByOther : Type 0
 ForcedByOther =
-    (start : Start) (store : Store) (past : List Entry) (place : ℕ) (e : Entry) (c : ClientNo) (number : ℕ)
-    (tid : Tid) → OpenedRun start store past → StandsAt past place e
+    (start : Start) (store : Store) (past : List Entry) (place : ℕ) (e : Entry) (c : ClientNo)
+    (number : ℕ) (tid : Tid) → OpenedRun start store past → StandsAt past place e
     → AnswersOp e c number (GaveUp (Forced tid)) → IsTrue (recovers_nothing (client_entries c past))
     → (f : IsForcedAt start past c number place tid) × (f.sender ≡ c → ⊥)
 
@@ -230,14 +241,15 @@ pub record WasMoved (past : List Entry) (c : ClientNo) (number place : ℕ) (n :
 
 abbrev pub MovedByOther : Type 0
 MovedByOther =
-    (start : Start) (store : Store) (past : List Entry) (place : ℕ) (e : Entry) (c : ClientNo) (number : ℕ)
-    (n : NodeNo) (begins : ℕ) (expected found : List ℕ) → OpenedRun start store past → StandsAt past place e
+    (start : Start) (store : Store) (past : List Entry) (place : ℕ) (e : Entry) (c : ClientNo)
+    (number : ℕ) (n : NodeNo) (begins : ℕ) (expected found : List ℕ)
+    → OpenedRun start store past → StandsAt past place e
     → AnswersOp e c number (GaveUp (Moved n begins expected found))
     → WasMoved past c number place n begins expected found
 
 -- Path
 
--- another operation's plan is committed within the last try: from one of its entries on, before another
+-- another operation's plan is committed within the last try: from an entry of it on, before another
 pub record PathMoved (past : List Entry) (c : ClientNo) (number place : ℕ) (addr : Addr) (seq : ℕ)
     : Type 0 where
   pub tries : BusyTries past c number place (Path addr seq)
@@ -254,6 +266,6 @@ pub record PathMoved (past : List Entry) (c : ClientNo) (number place : ℕ) (ad
 
 abbrev pub PathByOther : Type 0
 PathByOther =
-    (start : Start) (store : Store) (past : List Entry) (place : ℕ) (e : Entry) (c : ClientNo) (number : ℕ)
-    (addr : Addr) (seq : ℕ) → OpenedRun start store past → StandsAt past place e
+    (start : Start) (store : Store) (past : List Entry) (place : ℕ) (e : Entry) (c : ClientNo)
+    (number : ℕ) (addr : Addr) (seq : ℕ) → OpenedRun start store past → StandsAt past place e
     → AnswersOp e c number (GaveUp (Path addr seq)) → PathMoved past c number place addr seq

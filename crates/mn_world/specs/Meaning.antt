@@ -1,5 +1,6 @@
 -- The laws of meaning: however a run goes, its history is one legal history of the store.
-use Rattle.std.specs.Prelude.{ℕ, ◌≡◌, ◌<◌, ◌⊎◌, true, false, nat_lt, filter, List, [], ◌∷◌, ◌++◌, length, Some, ⊤, slice_get, Contains}
+use Rattle.std.specs.Prelude.{ℕ, ◌≡◌, ◌<◌, ◌⊎◌, true, false, nat_lt, filter, List, [], ◌∷◌, ◌++◌}
+use Rattle.std.specs.Prelude.{length, Some, ⊤, slice_get, Contains}
 use Rattle.std.specs.List.{AllByRecursion}
 use Rattle.mn_base.specs.Store.{Store, StoreVersion}
 use Rattle.mn_base.specs.History.{IsLegal, store_after}
@@ -8,6 +9,7 @@ use Rattle.mn_base.specs.declared.answer.Answer.{Answer}
 use Rattle.mn_base.specs.declared.answer.Answer.TheVariants.{Replied, InDoubt}
 use Rattle.mn_base.specs.declared.op.Op.{Op}
 use Rattle.mn_base.specs.declared.reply.Reply.{Reply}
+use Rattle.mn_base.specs.declared.history.Past.{Past}
 use Rattle.mn_page.specs.Holds.{Holds}
 use Rattle.mn_world.specs.declared.entry.Entry.{Entry}
 use Rattle.mn_world.specs.declared.entry.What.TheVariants.{Begin, Answered}
@@ -27,21 +29,25 @@ pub record OpenedRun (start : Start) (store : Store) (past : List Entry) : Type 
   pub run : IsRun start past
 
 -- with its history
-pub record HistoryRun (start : Start) (store : Store) (past : List Entry) (placed : List Placed) : Type 0 where
+pub record HistoryRun (start : Start) (store : Store) (past : List Entry)
+    (placed : List Placed) : Type 0 where
   pub opened : OpenedRun start store past
   pub history : IsHistory past placed
 
 -- The history
 
 abbrev pub HistoryExists : Type 0
-HistoryExists = (start : Start) (store : Store) (past : List Entry) → OpenedRun start store past → (placed : List Placed) × IsHistory past placed
+HistoryExists = (start : Start) (store : Store) (past : List Entry) → OpenedRun start store past
+    → (placed : List Placed) × IsHistory past placed
 
 abbrev pub HistoryIsOne : Type 0
-HistoryIsOne = (start : Start) (store : Store) (past : List Entry) (one other : List Placed) → HistoryRun start store past one → HistoryRun start store past other → one ≡ other
+HistoryIsOne = (start : Start) (store : Store) (past : List Entry) (one other : List Placed)
+    → HistoryRun start store past one → HistoryRun start store past other → one ≡ other
 
 -- it is legal from the opened store
 abbrev pub HistoryIsLegal : Type 0
-HistoryIsLegal = (start : Start) (store : Store) (past : List Entry) (placed : List Placed) → HistoryRun start store past placed → IsLegal store (pasts_of placed)
+HistoryIsLegal = (start : Start) (store : Store) (past : List Entry) (placed : List Placed)
+    → HistoryRun start store past placed → IsLegal store (pasts_of placed)
 
 -- The store at each place
 
@@ -56,26 +62,34 @@ store_at store placed n = store_after store (pasts_of (placed_before n placed))
 -- at every place the flat memory holds the store of the operations placed before it
 abbrev pub HoldsThroughout : Type 0
 HoldsThroughout =
-    (start : Start) (store : Store) (past later before : List Entry) (placed : List Placed) → HistoryRun start store past placed → past ≡ later ++ before
+    (start : Start) (store : Store) (past later before : List Entry) (placed : List Placed)
+    → HistoryRun start store past placed → past ≡ later ++ before
     → Holds (flat_after (opened_memory start) before) (store_at store placed (length before))
 
 -- the records at every place are opened with the store there
 abbrev pub StaysOpened : Type 0
 StaysOpened =
-    (start : Start) (store : Store) (past later before : List Entry) (placed : List Placed) → HistoryRun start store past placed → past ≡ later ++ before
-    → IsOpened (start_nodes start) (base_at start) (records_of start before) (store_at store placed (length before))
+    (start : Start) (store : Store) (past later before : List Entry) (placed : List Placed)
+    → HistoryRun start store past placed → past ≡ later ++ before
+    → IsOpened (start_nodes start) (base_at start) (records_of start before)
+    (store_at store placed (length before))
 
 -- after the last place it is the store of the whole history
 abbrev pub EndsOpened : Type 0
 EndsOpened =
-    (start : Start) (store : Store) (past : List Entry) (placed : List Placed) → HistoryRun start store past placed
-    → IsOpened (start_nodes start) (base_at start) (records_of start past) (store_after store (pasts_of placed))
+    (start : Start) (store : Store) (past : List Entry) (placed : List Placed)
+    → HistoryRun start store past placed
+    → IsOpened (start_nodes start) (base_at start) (records_of start past)
+    (store_after store (pasts_of placed))
 
 -- a version that is frozen in the store at one place stands there unchanged at every later place
 abbrev pub FrozenNeverChanges : Type 0
 FrozenNeverChanges =
-    (start : Start) (store : Store) (past later between before : List Entry) (placed : List Placed) (v : ℕ) (version : StoreVersion) → HistoryRun start store past placed
-    → past ≡ later ++ (between ++ before) → slice_get (store_at store placed (length before)) v ≡ Some version → version.head.frozen ≡ true
+    (start : Start) (store : Store) (past later between before : List Entry) (placed : List Placed)
+    (v : ℕ) (version : StoreVersion) → HistoryRun start store past placed
+    → past ≡ later ++ (between ++ before)
+    → slice_get (store_at store placed (length before)) v ≡ Some version
+    → version.head.frozen ≡ true
     → slice_get (store_at store placed (length (between ++ before))) v ≡ Some version
 
 -- The operations of the history
@@ -83,14 +97,19 @@ FrozenNeverChanges =
 -- no operation stands twice
 abbrev pub AreOnce : List Placed → Type 0
 AreOnce [] = ⊤
-AreOnce (p ∷ ps) = AllByRecursion (λ q. q.past.client ≡ p.past.client → q.past.number ≡ p.past.number → ⊥) ps × AreOnce ps
+AreOnce (p ∷ ps) =
+    AllByRecursion (λ q. q.past.client ≡ p.past.client → q.past.number ≡ p.past.number → ⊥) ps
+    × AreOnce ps
 
 abbrev pub EachOnce : Type 0
-EachOnce = (start : Start) (store : Store) (past : List Entry) (placed : List Placed) → HistoryRun start store past placed → AreOnce placed
+EachOnce = (start : Start) (store : Store) (past : List Entry) (placed : List Placed)
+    → HistoryRun start store past placed → AreOnce placed
 
 -- the entry stands at this place
 abbrev pub StandsAt : List Entry → ℕ → Entry → Type 0
-StandsAt past place e = (later : List Entry) × (before : List Entry) × (past ≡ later ++ e ∷ before) × (place ≡ length before)
+StandsAt past place e =
+    (later : List Entry) × (before : List Entry) × (past ≡ later ++ e ∷ before)
+    × (place ≡ length before)
 
 -- the entry is the Begin of this operation of this client, or its answer
 abbrev pub BeginsOp : Entry → ClientNo → ℕ → Op → Type 0
@@ -102,44 +121,61 @@ AnswersOp e c number answer = (e.client ≡ Some c) × (e.what ≡ Answered numb
 -- a plan of this operation is committed at this place
 abbrev pub CommitsPlanAt : List Entry → ℕ → ClientNo → ℕ → Type 0
 CommitsPlanAt past place c number =
-    (later : List Entry) × (e : Entry) × (before : List Entry) × (i : Issued) × (past ≡ later ++ e ∷ before) × (place ≡ length before)
-    × (committed_by before e ≡ Some i) × (is_read i.mini.items ≡ false) × ((p : Rattle.mn_base.specs.declared.history.Past.Past) × PlanOf before i p × (p.client ≡ c) × (p.number ≡ number))
+    (later : List Entry) × (e : Entry) × (before : List Entry) × (i : Issued)
+    × (past ≡ later ++ e ∷ before) × (place ≡ length before)
+    × (committed_by before e ≡ Some i) × (is_read i.mini.items ≡ false)
+    × ((p : Past) × PlanOf before i p × (p.client ≡ c) × (p.number ≡ number))
 
 -- each operation that was replied to stands in the history with that reply
 abbrev pub RepliedStands : Type 0
 RepliedStands =
-    (start : Start) (store : Store) (past : List Entry) (placed : List Placed) (place : ℕ) (e : Entry) (c : ClientNo) (number : ℕ) (reply : Reply)
-    → HistoryRun start store past placed → StandsAt past place e → AnswersOp e c number (Replied reply)
-    → (p : Placed) × Contains placed p × (p.past.client ≡ c) × (p.past.number ≡ number) × (p.past.reply ≡ reply)
+    (start : Start) (store : Store) (past : List Entry) (placed : List Placed) (place : ℕ)
+    (e : Entry) (c : ClientNo) (number : ℕ) (reply : Reply)
+    → HistoryRun start store past placed → StandsAt past place e
+    → AnswersOp e c number (Replied reply)
+    → (p : Placed) × Contains placed p × (p.past.client ≡ c) × (p.past.number ≡ number)
+    × (p.past.reply ≡ reply)
 
 -- each one whose plan is committed stands there, at the plan's place
 abbrev pub CommittedStands : Type 0
 CommittedStands =
-    (start : Start) (store : Store) (past : List Entry) (placed : List Placed) (place : ℕ) (c : ClientNo) (number : ℕ)
+    (start : Start) (store : Store) (past : List Entry) (placed : List Placed) (place : ℕ)
+    (c : ClientNo) (number : ℕ)
     → HistoryRun start store past placed → CommitsPlanAt past place c number
-    → (p : Placed) × Contains placed p × (p.past.client ≡ c) × (p.past.number ≡ number) × (p.place ≡ place)
+    → (p : Placed) × Contains placed p × (p.past.client ≡ c) × (p.past.number ≡ number)
+    × (p.place ≡ place)
 
--- nothing else stands there: an operation of the history was begun, and has a committed plan at its place, or was replied to so
+-- nothing else stands there: an operation of the history was begun, and has a committed plan at its
+-- place, or was replied to so
 abbrev pub OnlyThoseStand : Type 0
 OnlyThoseStand =
-    (start : Start) (store : Store) (past : List Entry) (placed : List Placed) (p : Placed) → HistoryRun start store past placed → Contains placed p
-    → ((place : ℕ) × (e : Entry) × StandsAt past place e × BeginsOp e p.past.client p.past.number p.past.op × (place < p.place))
+    (start : Start) (store : Store) (past : List Entry) (placed : List Placed) (p : Placed)
+    → HistoryRun start store past placed → Contains placed p
+    → ((place : ℕ) × (e : Entry) × StandsAt past place e
+    × BeginsOp e p.past.client p.past.number p.past.op × (place < p.place))
     × (CommitsPlanAt past p.place p.past.client p.past.number
-    ⊎ ((place : ℕ) × (e : Entry) × StandsAt past place e × AnswersOp e p.past.client p.past.number (Replied p.past.reply) × (p.place < place)))
+    ⊎ ((place : ℕ) × (e : Entry) × StandsAt past place e
+    × AnswersOp e p.past.client p.past.number (Replied p.past.reply) × (p.place < place)))
 
 -- an operation takes its place after its Begin and, where it is replied to, before its answer
 abbrev pub PlacesLieBetween : Type 0
 PlacesLieBetween =
-    (start : Start) (store : Store) (past : List Entry) (placed : List Placed) (p : Placed) (place : ℕ) (e : Entry) → HistoryRun start store past placed
+    (start : Start) (store : Store) (past : List Entry) (placed : List Placed) (p : Placed)
+    (place : ℕ) (e : Entry) → HistoryRun start store past placed
     → Contains placed p → StandsAt past place e
-    → ((op : Op) → BeginsOp e p.past.client p.past.number op → place < p.place) × ((reply : Reply) → AnswersOp e p.past.client p.past.number (Replied reply) → p.place < place)
+    → ((op : Op) → BeginsOp e p.past.client p.past.number op → place < p.place)
+    × ((reply : Reply) → AnswersOp e p.past.client p.past.number (Replied reply) → p.place < place)
 
 -- an operation that was replied to before another one's Begin has the lower place
 abbrev pub SeenFirst : Type 0
 SeenFirst =
-    (start : Start) (store : Store) (past : List Entry) (placed : List Placed) (p q : Placed) (answered begun : ℕ) (e f : Entry) (reply : Reply) (op : Op) → HistoryRun start store past placed
-    → Contains placed p → Contains placed q → StandsAt past answered e → AnswersOp e p.past.client p.past.number (Replied reply)
-    → StandsAt past begun f → BeginsOp f q.past.client q.past.number op → answered < begun → p.place < q.place
+    (start : Start) (store : Store) (past : List Entry) (placed : List Placed) (p q : Placed)
+    (answered begun : ℕ) (e f : Entry) (reply : Reply) (op : Op)
+    → HistoryRun start store past placed
+    → Contains placed p → Contains placed q → StandsAt past answered e
+    → AnswersOp e p.past.client p.past.number (Replied reply)
+    → StandsAt past begun f → BeginsOp f q.past.client q.past.number op → answered < begun
+    → p.place < q.place
 
 -- neither a reply nor a doubt
 abbrev pub MeansNoEffect : Answer → Type 0
@@ -147,26 +183,34 @@ MeansNoEffect (Replied reply) = ⊥
 MeansNoEffect (InDoubt tid n) = ⊥
 MeansNoEffect answer = ⊤
 
--- an operation that was answered otherwise has no effect: no plan of it is committed, then or later, and it stands nowhere
+-- an operation that was answered otherwise has no effect: no plan of it is committed, then or
+-- later, and it stands nowhere
 abbrev pub OthersHaveNoEffect : Type 0
 OthersHaveNoEffect =
-    (start : Start) (store : Store) (past : List Entry) (placed : List Placed) (place : ℕ) (e : Entry) (c : ClientNo) (number : ℕ) (answer : Answer)
-    → HistoryRun start store past placed → StandsAt past place e → AnswersOp e c number answer → MeansNoEffect answer
+    (start : Start) (store : Store) (past : List Entry) (placed : List Placed) (place : ℕ)
+    (e : Entry) (c : ClientNo) (number : ℕ) (answer : Answer)
+    → HistoryRun start store past placed → StandsAt past place e → AnswersOp e c number answer
+    → MeansNoEffect answer
     → AllByRecursion (λ p. p.past.client ≡ c → p.past.number ≡ number → ⊥) placed
 
 abbrev pub OthersCommitNothing : Type 0
 OthersCommitNothing =
-    (start : Start) (store : Store) (past : List Entry) (place other : ℕ) (e : Entry) (c : ClientNo) (number : ℕ) (answer : Answer)
-    → OpenedRun start store past → StandsAt past place e → AnswersOp e c number answer → MeansNoEffect answer → CommitsPlanAt past other c number → ⊥
+    (start : Start) (store : Store) (past : List Entry) (place other : ℕ) (e : Entry) (c : ClientNo)
+    (number : ℕ) (answer : Answer)
+    → OpenedRun start store past → StandsAt past place e → AnswersOp e c number answer
+    → MeansNoEffect answer → CommitsPlanAt past other c number → ⊥
 
 -- a plan is committed after its operation's Begin
 abbrev pub PlansLieBehind : Type 0
 PlansLieBehind =
-    (start : Start) (store : Store) (past : List Entry) (place begun : ℕ) (e : Entry) (c : ClientNo) (number : ℕ) (op : Op)
-    → OpenedRun start store past → CommitsPlanAt past place c number → StandsAt past begun e → BeginsOp e c number op → begun < place
+    (start : Start) (store : Store) (past : List Entry) (place begun : ℕ) (e : Entry) (c : ClientNo)
+    (number : ℕ) (op : Op)
+    → OpenedRun start store past → CommitsPlanAt past place c number → StandsAt past begun e
+    → BeginsOp e c number op → begun < place
 
 -- of each operation, also one in doubt or one whose client died, at most one plan is committed
 abbrev pub OnePlanEach : Type 0
 OnePlanEach =
-    (start : Start) (store : Store) (past : List Entry) (one other : ℕ) (c : ClientNo) (number : ℕ) → OpenedRun start store past
+    (start : Start) (store : Store) (past : List Entry) (one other : ℕ) (c : ClientNo) (number : ℕ)
+    → OpenedRun start store past
     → CommitsPlanAt past one c number → CommitsPlanAt past other c number → one ≡ other

@@ -7,7 +7,7 @@ ghost use Rattle.mn_world.specs.Meaning.{HistoryExists, HistoryIsOne, HistoryIsL
 ghost use Rattle.mn_world.specs.Meaning.{RepliedStands, CommittedStands, OnlyThoseStand, PlacesLieBetween, SeenFirst, OthersHaveNoEffect, OthersCommitNothing, PlansLieBehind, OnePlanEach};
 ghost use Rattle.mn_world.specs.Causes.{LockWasHeld, LockOfOther, ForcedStands, ForcedByOther, MovedByOther, PathByOther};
 ghost use Rattle.mn_world.specs.OneHistory.{RunsHaveHistory, RunsAreOneHistory};
-ghost use Rattle.mn_world.specs.Undisturbed.{UpIsSure, OnlyOwnCommits, UndisturbedIsSure};
+ghost use Rattle.mn_world.specs.Undisturbed.{UpIsSure, OnlyOwnCommits, UndisturbedIsSure, UndisturbedIsAnswered};
 ghost use Rattle.mn_world.specs.Run.{RunsFollowProtocol};
 ghost use Rattle.mn_world.specs.Growth.{NextSlotsAreFree, WritesLeaveStore, ComparesTell, NumbersGoOn};
 
@@ -295,7 +295,14 @@ pub fn only_own_commits()
     ensures { OnlyOwnCommits }
 {}
 
-/// An operation with no entry of another actor from its Begin to its answer, and each node up meanwhile, meets no moved bytes and no fault of path, and no node that was down.
+/// An operation with no entry of another actor from its Begin to its answer, and each node up meanwhile,
+/// meets no moved bytes and no fault of path, and no node that was down.
 pub fn undisturbed_is_sure()
     ensures { UndisturbedIsSure }
+{}
+
+/// With nothing held at its Begin besides, and a client that asks for no list and forces nothing, it is
+/// answered by a reply, or for want of slots, of sequence numbers or of memory.
+pub fn undisturbed_is_answered()
+    ensures { UndisturbedIsAnswered }
 {}

@@ -377,7 +377,7 @@ backed start (e ∷ past) c t n sound run none told =
         let sends : Sends (client_entries c past) (Some call.node) (Ask.Decide t ask.0) = subst (λ (q : Request). Sends (client_entries c past) (Some call.node) q) ask.1 is.sends in
         backed_now start past c t ask.0 run.0 (none_before c e past none) sends.1
 
-prepare_is : (t : Tid) (request : Request) → is_prepare t request ≡ true → (ps : List NodeNo) × (part : List PartItem) × (request ≡ Ask.Prepare t ps part)
+pub prepare_is : (t : Tid) (request : Request) → is_prepare t request ≡ true → (ps : List NodeNo) × (part : List PartItem) × (request ≡ Ask.Prepare t ps part)
 prepare_is t (Ask.Prepare u ps part) e = (ps, part, ap (λ (x : Tid). Ask.Prepare x ps part) (tid_same-true u t e))
 prepare_is t (Ask.Exec u part) e = absurd cc
 prepare_is t (Ask.Decide u verdict) e = absurd cc

@@ -30,7 +30,7 @@ use Rattle.mn_world.proofs.Meaning.Undisturbed.{up_is_sure}
 use Rattle.mn_world.proofs.Meaning.OwnCommits.{only_own_commits}
 
 -- an operation is under way behind its Begin alone
-under_behind : (start : Start) (past : List Entry) (c : ClientNo) (number : ℕ) (op : Op) (f : BeginAt past c number op) → FollowsProtocol start past → (later older : List Entry) → past ≡ later ++ older → (b : Begun) → under_way (client_entries c older) ≡ Some b → b.number ≡ number
+pub under_behind : (start : Start) (past : List Entry) (c : ClientNo) (number : ℕ) (op : Op) (f : BeginAt past c number op) → FollowsProtocol start past → (later older : List Entry) → past ≡ later ++ older → (b : Begun) → under_way (client_entries c older) ≡ Some b → b.number ≡ number
     → length f.at.before < length older
 under_behind start past c number op f run later older split b now same = by (low_or_high (length f.at.before) (length older))
   where
@@ -98,7 +98,7 @@ undisturbed_is_sure start store past c number answer h u = by answer u
         let m = path_by_other start store past (length (v.between ++ v.begins ∷ v.before)) v.answers c number addr seq h (v.later, v.between ++ v.begins ∷ v.before, v.split, refl) v.answered in
         none_other start store past c number (GaveUp (Path addr seq)) h v m.tries m.begins m.ends m.commit m.other m.inside.0 m.inside.1
 
-    by : (a : Answer) → IsUndisturbed start past c number a → IsUndisturbedAnswer past c a
+    by : (a : Answer) → IsUndisturbed start past c number a → IsUndisturbedAnswer a
     by (Down n) v = up (Down n) v
     by (InDoubt tid n) v = up (InDoubt tid n) v
     by (GaveUp (Moved n begins expected found)) v = moved n begins expected found v

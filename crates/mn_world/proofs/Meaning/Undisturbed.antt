@@ -125,7 +125,7 @@ nil_right : (xs : List Entry) → xs ++ [] ≡ xs
 nil_right [] = refl
 nil_right (x ∷ xs) = ap (λ (l : List Entry). x ∷ l) (nil_right xs)
 
-none_fails : (start : Start) (between base : List Entry) (c : ClientNo) (f : Call → Bool) → ((call : Call) → f call ≡ true → is_none call.reply ≡ true) → FollowsProtocol start (between ++ base) → UpThroughout start between base → list_any f (calls_of (client_entries c between)) ≡ true → ⊥
+pub none_fails : (start : Start) (between base : List Entry) (c : ClientNo) (f : Call → Bool) → ((call : Call) → f call ≡ true → is_none call.reply ≡ true) → FollowsProtocol start (between ++ base) → UpThroughout start between base → list_any f (calls_of (client_entries c between)) ≡ true → ⊥
 none_fails start between base c f fails run up any =
     let i = some_call f c between any in
     let there : between ++ base ≡ i.newer ++ i.entry ∷ (i.older ++ base) = ap (λ (l : List Entry). l ++ base) i.split ∙ append_assoc i.newer (i.entry ∷ i.older) base in
@@ -133,7 +133,7 @@ none_fails start between base c f fails run up any =
     (up (i.newer ++ i.entry ∷ []) i.older (i.split ∙ sym (append_assoc i.newer (i.entry ∷ []) i.older))) (up i.newer (i.entry ∷ i.older) i.split) i.call
 
 -- the entries since Begin
-since_here : (start : Start) (between before : List Entry) (begins : Entry) (c : ClientNo) (number : ℕ) (op : Op) (d : Begun) → FollowsProtocol start (between ++ begins ∷ before) → BeginsOp begins c number op
+pub since_here : (start : Start) (between before : List Entry) (begins : Entry) (c : ClientNo) (number : ℕ) (op : Op) (d : Begun) → FollowsProtocol start (between ++ begins ∷ before) → BeginsOp begins c number op
     → under_way (client_entries c (between ++ begins ∷ before)) ≡ Some d → number ≡ d.number → since_begin (client_entries c (between ++ begins ∷ before)) ≡ client_entries c between
 since_here start between before begins c number op d run is now same =
     let list = client_split c (between ++ begins ∷ before) between begins before refl (is_own c begins is.0) in
