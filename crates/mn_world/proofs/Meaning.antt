@@ -11,6 +11,7 @@ pub mod Ranges
 pub mod Scanned
 pub mod Legal
 pub mod Throughout
+pub mod Stops
 pub mod Clients
 pub mod Over
 pub mod Positions

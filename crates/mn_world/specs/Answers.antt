@@ -122,13 +122,18 @@ is_copying (Snapshot version child) = true
 is_copying (Branch version child) = true
 is_copying op = false
 
+-- the page is the root, which the operation copies, and was copied for the new version already
+abbrev pub is_copied_root : List CatEntry → Op → Option ℕ → Page → Bool
+is_copied_root entries op None page = is_copying op && has_version page.copied (length entries)
+is_copied_root entries op (Some height) page = false
+
 -- the page is at fault for the version and the key
 abbrev pub IsPageAtFault : List CatEntry → Op → List ℕ → Option ℕ → Page → Type 0
 IsPageAtFault entries op key height page =
     (ServesNamed entries (op_version op) page → ⊥)
     ⊎ (page_covers key page ≡ false)
     ⊎ (is_wrong_height height (height_of page.body) ≡ true)
-    ⊎ ((is_copying op && has_version page.copied (length entries)) ≡ true)
+    ⊎ (is_copied_root entries op height page ≡ true)
 
 -- what was read at an address is at fault, and the page's number, or 0 where no page stands
 abbrev pub IsAtFault : List CatEntry → Op → List ℕ → Option ℕ → List ℕ → ℕ → Type 0

@@ -12,10 +12,12 @@ use Rattle.mn_base.specs.declared.reply.Reply.{Reply}
 use Rattle.mn_base.specs.declared.history.Past.{Past}
 use Rattle.mn_page.specs.Holds.{Holds}
 use Rattle.mn_world.specs.declared.entry.Entry.{Entry}
-use Rattle.mn_world.specs.declared.entry.What.TheVariants.{Begin, Answered}
+use Rattle.mn_world.specs.declared.entry.What.{What}
+use Rattle.mn_world.specs.declared.entry.What.TheVariants.{Begin, Answered, Stopped, Restarted}
 use Rattle.mn_world.specs.Calls.{Issued}
 use Rattle.mn_world.specs.Clients.{is_read}
 use Rattle.mn_world.specs.Protocol.{Start, start_nodes, base_at, start_records, records_of}
+use Rattle.mn_world.specs.Protocol.{FollowsProtocol}
 use Rattle.mn_world.specs.Commits.{committed_by, flat_after}
 use Rattle.mn_world.specs.Opened.{IsOpened, opened_memory}
 use Rattle.mn_world.specs.Run.{IsRun}
@@ -80,6 +82,21 @@ EndsOpened =
     (start : Start) (store : Store) (past : List Entry) (placed : List Placed)
     → HistoryRun start store past placed
     → IsOpened (start_nodes start) (base_at start) (records_of start past)
+    (store_after store (pasts_of placed))
+
+-- a step by which a node stops, or comes back
+abbrev pub IsStop : What → Type 0
+IsStop (Stopped request asked) = ⊤
+IsStop (Restarted kept) = ⊤
+IsStop what = ⊥
+
+-- whatever stops and restarts come behind a run, they leave opened records: they are a run with it
+abbrev pub StopsLeaveOpened : Type 0
+StopsLeaveOpened =
+    (start : Start) (store : Store) (past stops : List Entry) → OpenedRun start store past
+    → AllByRecursion (λ e. IsStop e.what) stops → FollowsProtocol start (stops ++ past)
+    → (placed : List Placed) × HistoryRun start store (stops ++ past) placed
+    × IsOpened (start_nodes start) (base_at start) (records_of start (stops ++ past))
     (store_after store (pasts_of placed))
 
 -- a version that is frozen in the store at one place stands there unchanged at every later place

@@ -1,7 +1,7 @@
 -- What an operation needs on the pages that a try read: new slots, and the pages and entries that it writes.
-use Rattle.std.specs.Prelude.{ℕ, ◌≡◌, ◌⊎◌, List, Some, Contains, slice_get}
+use Rattle.std.specs.Prelude.{ℕ, ◌≡◌, ◌⊎◌, List, Some, None, Contains, slice_get}
 use Rattle.std.specs.List.{AllByRecursion}
-use Rattle.mn_base.specs.Store.{number_named, op_version}
+use Rattle.mn_base.specs.Store.{number_named, op_version, refusal}
 use Rattle.mn_base.specs.declared.ids.Addr.{Addr}
 use Rattle.mn_base.specs.declared.ids.VersionNo.{VersionNo}
 use Rattle.mn_base.specs.declared.op.Op.{Op}
@@ -12,7 +12,8 @@ use Rattle.mn_page.specs.Overlay.{Held, needed_slots, changed_pages}
 use Rattle.mn_world.specs.Planned.{Place, page_place, entry_place}
 use Rattle.mn_world.specs.Shown.{Seen, SeesCatalog, SeesPage}
 
--- what a try read of its version: the entry by a catalog, and pages at their addresses
+-- what a try read of its version: the entry by a catalog that doesn't refuse the operation, and pages
+-- at their addresses
 pub record ReadsTree (seens : List Seen) (op : Op) : Type 0 where
   pub entries : List CatEntry
   pub catalog : Seen
@@ -22,6 +23,7 @@ pub record ReadsTree (seens : List Seen) (op : Op) : Type 0 where
   pub seen : Contains seens catalog × SeesCatalog catalog entries
   pub named : number_named (heads_in entries) (op_version op) ≡ Some version.0
   pub at : slice_get entries version.0 ≡ Some entry
+  pub admitted : refusal (heads_in entries) op ≡ None
   pub read : AllByRecursion (λ h. (seen : Seen) × Contains seens seen × SeesPage seen h.addr h.page) pages
 
 -- the splits and copies of the operation on these pages take so many new slots

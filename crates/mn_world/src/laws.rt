@@ -3,7 +3,7 @@ ghost use Rattle.mn_world.specs.Laws.{ListsMakeRun, FreshIsSound, HeldPartsApart
 ghost use Rattle.mn_world.specs.Laws.{CommitsAreFlat, SpacesAgree, MemoryIsFlat, ReadsAreFlat, ExecsAreFlat, PreparesReadNothing, SeenIsFlat};
 ghost use Rattle.mn_world.specs.Laws.{AbandonedIsNever, RefusedIsNever, GivenUpIsNever, UnkeptIsNever, CommitsOnce, ForcedNeverVotes, AbandonedLacksVote};
 ghost use Rattle.mn_world.specs.Plans.{PutIsPlanned, SplitIsPlanned};
-ghost use Rattle.mn_world.specs.Meaning.{HistoryExists, HistoryIsOne, HistoryIsLegal, HoldsThroughout, StaysOpened, EndsOpened, FrozenNeverChanges, EachOnce};
+ghost use Rattle.mn_world.specs.Meaning.{HistoryExists, HistoryIsOne, HistoryIsLegal, HoldsThroughout, StaysOpened, EndsOpened, StopsLeaveOpened, FrozenNeverChanges, EachOnce};
 ghost use Rattle.mn_world.specs.Meaning.{RepliedStands, CommittedStands, OnlyThoseStand, PlacesLieBetween, SeenFirst, OthersHaveNoEffect, OthersCommitNothing, PlansLieBehind, OnePlanEach};
 ghost use Rattle.mn_world.specs.Causes.{LockWasHeld, LockOfOther, ForcedStands, ForcedByOther, MovedByOther, PathByOther};
 ghost use Rattle.mn_world.specs.OneHistory.{RunsHaveHistory, RunsAreOneHistory};
@@ -186,6 +186,11 @@ pub fn stays_opened()
 /// After the last place that is the store of the whole history.
 pub fn ends_opened()
     ensures { EndsOpened }
+{}
+
+/// Whatever stops and restarts come behind a run, the records that they leave are opened.
+pub fn stops_leave_opened()
+    ensures { StopsLeaveOpened }
 {}
 
 /// A version that is frozen at one place stands unchanged at every later one.

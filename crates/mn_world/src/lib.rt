@@ -21,8 +21,8 @@ pub use laws::{
     others_have_no_effect, path_by_other, places_lie_between, plans_lie_behind,
     prepares_read_nothing, put_is_planned, reads_are_flat, records_stay_sound, refused_is_never,
     replied_stands, runs_are_one_history, runs_follow_protocol, runs_have_history, seen_first,
-    seen_is_flat, spaces_agree, split_is_planned, stays_opened, undisturbed_is_sure,
-    unkept_is_never, up_is_sure, writes_leave_store, yes_has_votes,
+    seen_is_flat, spaces_agree, split_is_planned, stays_opened, stops_leave_opened,
+    undisturbed_is_sure, unkept_is_never, up_is_sure, writes_leave_store, yes_has_votes,
 };
 pub use lists::{ClientList, EntryList, Log};
 

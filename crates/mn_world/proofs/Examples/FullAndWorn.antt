@@ -130,6 +130,7 @@ two_slots = (
     seen = ((3, lit< tt, refl), sees_catalog);
     named = refl;
     at = refl;
+    admitted = refl;
     read = ((seen (page_place (at 1 1)) full_bytes, (2, lit< tt, refl), (refl, full_spelled)), tt);
   },
   refl,
@@ -173,6 +174,7 @@ writes_leaf = (
     seen = ((1, lit< tt, refl), sees_catalog);
     named = refl;
     at = refl;
+    admitted = refl;
     read = ((seen (page_place (at 1 1)) worn_bytes, (0, lit< tt, refl), (refl, worn_spelled)), tt);
   },
   inl (at 1 1 ∷ [], at 1 1, refl, (0, lit< tt, refl), refl),
@@ -242,6 +244,7 @@ writes_entry = (
     seen = ((3, lit< tt, refl), sees_worn);
     named = refl;
     at = refl;
+    admitted = refl;
     read = ((seen (page_place (at 1 1)) full_bytes, (2, lit< tt, refl), (refl, full_spelled)), tt);
   },
   inr refl,

@@ -12,7 +12,7 @@ use Rattle.mn_page.proofs.Examples.Spelling.{at}
 use Rattle.mn_page.proofs.Spelled.{page_spelled_once}
 use Rattle.mn_world.specs.Planned.{Place, count_place}
 use Rattle.mn_world.specs.Shown.{Seen, SeesCatalog, SeesPage}
-use Rattle.mn_world.specs.Answers.{Reached, is_wrong_height, IsPageAtFault, IsAtFault, MeetsBadPage, MeetsBadAddr, MeetsBadPlace, MeetsFault}
+use Rattle.mn_world.specs.Answers.{Reached, is_wrong_height, is_copied_root, IsPageAtFault, IsAtFault, MeetsBadPage, MeetsBadAddr, MeetsBadPlace, MeetsFault}
 use Rattle.mn_world.proofs.Examples.Entries.{page_is_no_catalog}
 use Rattle.mn_world.proofs.Examples.OneCatalog.{one_catalog}
 use Rattle.mn_world.proofs.Examples.Scans.{entries, m2}
@@ -61,7 +61,8 @@ not_at_fault key height none (inr (inr (inl wrong))) = false_not_true (subst (λ
   where
     false_not_true : false ≡ true → ⊥
     false_not_true e = cc
-not_at_fault key height none (inr (inr (inr copied))) = false_not_true copied
+not_at_fault key height none (inr (inr (inr copied))) =
+    false_not_true (subst (λ (h : Option ℕ). is_copied_root entries put h leaf ≡ true) none copied)
   where
     false_not_true : false ≡ true → ⊥
     false_not_true e = cc

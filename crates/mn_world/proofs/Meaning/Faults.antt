@@ -25,7 +25,7 @@ use Rattle.mn_page.proofs.Grid.{all_of_filter}
 use Rattle.mn_page.proofs.Split.{lt_nil}
 use Rattle.mn_world.specs.Planned.{page_place, count_place}
 use Rattle.mn_world.specs.Shown.{Seen, SeesPage}
-use Rattle.mn_world.specs.Answers.{Reached, is_wrong_height, is_copying, IsPageAtFault, IsAtFault, MeetsBadPage, AreBelow, IsBadCatalog, IsBadCount, MeetsFault}
+use Rattle.mn_world.specs.Answers.{Reached, is_wrong_height, is_copying, is_copied_root, IsPageAtFault, IsAtFault, MeetsBadPage, AreBelow, IsBadCatalog, IsBadCount, MeetsFault}
 use Rattle.mn_world.specs.Answers.Reached.{by_root, by_child}
 use Rattle.mn_world.proofs.Bytes.Seen.{StandsIn}
 use Rattle.mn_world.proofs.Plans.Told.{all_there}
@@ -144,6 +144,12 @@ and_right : (a b : Bool) → (a && b) ≡ true → b ≡ true
 and_right true b e = e
 and_right false b e = absurd cc
 
+-- a root that was copied for the new version has it in its copied set
+copied_root : (entries : List CatEntry) (op : Op) (height : Option ℕ) (page : Page) → is_copied_root entries op height page ≡ true
+    → has_version page.copied (length entries) ≡ true
+copied_root entries op None page copied = and_right (is_copying op) (has_version page.copied (length entries)) copied
+copied_root entries op (Some height) page copied = absurd cc
+
 bad_page : (memory : List (List ℕ)) (store : Store) (holds : Holds memory store) (seens : List Seen) → ((seen : Seen) → Contains seens seen → IsSeenIn memory seen) → (op : Op) (addr : Addr) (seq : ℕ) → MeetsBadPage seens op addr seq → TooHigh seens
 bad_page memory store holds seens all op addr seq (seen, key, height, entries, has, (catalog, in', sees, way), place, fault) = by fault
   where
@@ -188,7 +194,7 @@ bad_page memory store holds seens all op addr seq (seen, key, height, entries, h
     at_fault page is (inr (inl outside)) = absurd (clash (page_covers key page) (ap (page_covers key) (sym (page_is page is)) ∙ on.covers) outside)
     at_fault page is (inr (inr (inl height_is))) = wrong height refl page is height_is
     at_fault page is (inr (inr (inr copied))) =
-        absurd (not_copied memory store holds addr page (on.there ∙ ap Some (page_is page is)) (ap (λ (es : List CatEntry). has_version page.copied (length es)) (sym same) ∙ and_right (is_copying op) (has_version page.copied (length entries)) copied))
+        absurd (not_copied memory store holds addr page (on.there ∙ ap Some (page_is page is)) (ap (λ (es : List CatEntry). has_version page.copied (length es)) (sym same) ∙ copied_root entries op height page copied))
 
     by : IsAtFault entries op key height seen.bytes seq → TooHigh seens
     by (inl (none, number)) = absurd (none on.page spells)
