@@ -3,12 +3,11 @@ use Rattle.std.specs.Prelude.{ℕ, ◌≡◌, ◌<◌, ◌⊎◌, true, false, n
 use Rattle.std.specs.Prelude.{length, Some, ⊤, slice_get, Contains}
 use Rattle.std.specs.List.{AllByRecursion}
 use Rattle.mn_base.specs.Store.{Store, StoreVersion}
-use Rattle.mn_base.specs.History.{IsLegal, store_after}
+use Rattle.mn_base.specs.History.{store_after}
 use Rattle.mn_base.specs.declared.ids.ClientNo.{ClientNo}
 use Rattle.mn_base.specs.declared.answer.Answer.{Answer}
 use Rattle.mn_base.specs.declared.answer.Answer.TheVariants.{Replied, InDoubt}
 use Rattle.mn_base.specs.declared.op.Op.{Op}
-use Rattle.mn_base.specs.declared.reply.Reply.{Reply}
 use Rattle.mn_base.specs.declared.history.Past.{Past}
 use Rattle.mn_page.specs.Holds.{Holds}
 use Rattle.mn_world.specs.declared.entry.Entry.{Entry}
@@ -38,18 +37,9 @@ pub record HistoryRun (start : Start) (store : Store) (past : List Entry)
 
 -- The history
 
-abbrev pub HistoryExists : Type 0
-HistoryExists = (start : Start) (store : Store) (past : List Entry) → OpenedRun start store past
-    → (placed : List Placed) × IsHistory past placed
-
 abbrev pub HistoryIsOne : Type 0
 HistoryIsOne = (start : Start) (store : Store) (past : List Entry) (one other : List Placed)
     → HistoryRun start store past one → HistoryRun start store past other → one ≡ other
-
--- it is legal from the opened store
-abbrev pub HistoryIsLegal : Type 0
-HistoryIsLegal = (start : Start) (store : Store) (past : List Entry) (placed : List Placed)
-    → HistoryRun start store past placed → IsLegal store (pasts_of placed)
 
 -- The store at each place
 
@@ -118,10 +108,6 @@ AreOnce (p ∷ ps) =
     AllByRecursion (λ q. q.past.client ≡ p.past.client → q.past.number ≡ p.past.number → ⊥) ps
     × AreOnce ps
 
-abbrev pub EachOnce : Type 0
-EachOnce = (start : Start) (store : Store) (past : List Entry) (placed : List Placed)
-    → HistoryRun start store past placed → AreOnce placed
-
 -- the entry stands at this place
 abbrev pub StandsAt : List Entry → ℕ → Entry → Type 0
 StandsAt past place e =
@@ -142,16 +128,6 @@ CommitsPlanAt past place c number =
     × (past ≡ later ++ e ∷ before) × (place ≡ length before)
     × (committed_by before e ≡ Some i) × (is_read i.mini.items ≡ false)
     × ((p : Past) × PlanOf before i p × (p.client ≡ c) × (p.number ≡ number))
-
--- each operation that was replied to stands in the history with that reply
-abbrev pub RepliedStands : Type 0
-RepliedStands =
-    (start : Start) (store : Store) (past : List Entry) (placed : List Placed) (place : ℕ)
-    (e : Entry) (c : ClientNo) (number : ℕ) (reply : Reply)
-    → HistoryRun start store past placed → StandsAt past place e
-    → AnswersOp e c number (Replied reply)
-    → (p : Placed) × Contains placed p × (p.past.client ≡ c) × (p.past.number ≡ number)
-    × (p.past.reply ≡ reply)
 
 -- each one whose plan is committed stands there, at the plan's place
 abbrev pub CommittedStands : Type 0
@@ -174,48 +150,11 @@ OnlyThoseStand =
     ⊎ ((place : ℕ) × (e : Entry) × StandsAt past place e
     × AnswersOp e p.past.client p.past.number (Replied p.past.reply) × (p.place < place)))
 
--- an operation takes its place after its Begin and, where it is replied to, before its answer
-abbrev pub PlacesLieBetween : Type 0
-PlacesLieBetween =
-    (start : Start) (store : Store) (past : List Entry) (placed : List Placed) (p : Placed)
-    (place : ℕ) (e : Entry) → HistoryRun start store past placed
-    → Contains placed p → StandsAt past place e
-    → ((op : Op) → BeginsOp e p.past.client p.past.number op → place < p.place)
-    × ((reply : Reply) → AnswersOp e p.past.client p.past.number (Replied reply) → p.place < place)
-
--- an operation that was replied to before another one's Begin has the lower place
-abbrev pub SeenFirst : Type 0
-SeenFirst =
-    (start : Start) (store : Store) (past : List Entry) (placed : List Placed) (p q : Placed)
-    (answered begun : ℕ) (e f : Entry) (reply : Reply) (op : Op)
-    → HistoryRun start store past placed
-    → Contains placed p → Contains placed q → StandsAt past answered e
-    → AnswersOp e p.past.client p.past.number (Replied reply)
-    → StandsAt past begun f → BeginsOp f q.past.client q.past.number op → answered < begun
-    → p.place < q.place
-
 -- neither a reply nor a doubt
 abbrev pub MeansNoEffect : Answer → Type 0
 MeansNoEffect (Replied reply) = ⊥
 MeansNoEffect (InDoubt tid n) = ⊥
 MeansNoEffect answer = ⊤
-
--- an operation that was answered otherwise has no effect: no plan of it is committed, then or
--- later, and it stands nowhere
-abbrev pub OthersHaveNoEffect : Type 0
-OthersHaveNoEffect =
-    (start : Start) (store : Store) (past : List Entry) (placed : List Placed) (place : ℕ)
-    (e : Entry) (c : ClientNo) (number : ℕ) (answer : Answer)
-    → HistoryRun start store past placed → StandsAt past place e → AnswersOp e c number answer
-    → MeansNoEffect answer
-    → AllByRecursion (λ p. p.past.client ≡ c → p.past.number ≡ number → ⊥) placed
-
-abbrev pub OthersCommitNothing : Type 0
-OthersCommitNothing =
-    (start : Start) (store : Store) (past : List Entry) (place other : ℕ) (e : Entry) (c : ClientNo)
-    (number : ℕ) (answer : Answer)
-    → OpenedRun start store past → StandsAt past place e → AnswersOp e c number answer
-    → MeansNoEffect answer → CommitsPlanAt past other c number → ⊥
 
 -- a plan is committed after its operation's Begin
 abbrev pub PlansLieBehind : Type 0

@@ -3,8 +3,8 @@ ghost use Rattle.mn_world.specs.Laws.{ListsMakeRun, FreshIsSound, HeldPartsApart
 ghost use Rattle.mn_world.specs.Laws.{CommitsAreFlat, SpacesAgree, MemoryIsFlat, ReadsAreFlat, ExecsAreFlat, PreparesReadNothing, SeenIsFlat};
 ghost use Rattle.mn_world.specs.Laws.{AbandonedIsNever, RefusedIsNever, GivenUpIsNever, UnkeptIsNever, CommitsOnce, ForcedNeverVotes, AbandonedLacksVote};
 ghost use Rattle.mn_world.specs.Plans.{PutIsPlanned, SplitIsPlanned};
-ghost use Rattle.mn_world.specs.Meaning.{HistoryExists, HistoryIsOne, HistoryIsLegal, HoldsThroughout, StaysOpened, EndsOpened, StopsLeaveOpened, FrozenNeverChanges, EachOnce};
-ghost use Rattle.mn_world.specs.Meaning.{RepliedStands, CommittedStands, OnlyThoseStand, PlacesLieBetween, SeenFirst, OthersHaveNoEffect, OthersCommitNothing, PlansLieBehind, OnePlanEach};
+ghost use Rattle.mn_world.specs.Meaning.{HistoryIsOne, HoldsThroughout, StaysOpened, EndsOpened, StopsLeaveOpened, FrozenNeverChanges};
+ghost use Rattle.mn_world.specs.Meaning.{CommittedStands, OnlyThoseStand, PlansLieBehind, OnePlanEach};
 ghost use Rattle.mn_world.specs.Causes.{LockWasHeld, LockOfOther, ForcedStands, ForcedByOther, MovedByOther, PathByOther};
 ghost use Rattle.mn_world.specs.OneHistory.{RunsHaveHistory, RunsAreOneHistory};
 ghost use Rattle.mn_world.specs.Undisturbed.{UpIsSure, OnlyOwnCommits, UndisturbedIsSure, UndisturbedIsAnswered};
@@ -158,19 +158,9 @@ pub fn numbers_go_on()
     ensures { NumbersGoOn }
 {}
 
-/// Every run from records that hold a store has a history.
-pub fn history_exists()
-    ensures { HistoryExists }
-{}
-
 /// It has no other.
 pub fn history_is_one()
     ensures { HistoryIsOne }
-{}
-
-/// It is legal from the opened store.
-pub fn history_is_legal()
-    ensures { HistoryIsLegal }
 {}
 
 /// At every place the flat memory holds the store of the operations placed before it.
@@ -198,16 +188,6 @@ pub fn frozen_never_changes()
     ensures { FrozenNeverChanges }
 {}
 
-/// No operation stands twice.
-pub fn each_once()
-    ensures { EachOnce }
-{}
-
-/// Each operation that was replied to stands there, with that reply.
-pub fn replied_stands()
-    ensures { RepliedStands }
-{}
-
 /// Each operation whose plan is committed stands there, at the place of its commit.
 pub fn committed_stands()
     ensures { CommittedStands }
@@ -216,26 +196,6 @@ pub fn committed_stands()
 /// No other one does.
 pub fn only_those_stand()
     ensures { OnlyThoseStand }
-{}
-
-/// An operation stands after its Begin, and before its answer where it was replied to.
-pub fn places_lie_between()
-    ensures { PlacesLieBetween }
-{}
-
-/// One that was replied to before the Begin of another has the lower place.
-pub fn seen_first()
-    ensures { SeenFirst }
-{}
-
-/// One that was answered otherwise than by a reply or a doubt stands nowhere.
-pub fn others_have_no_effect()
-    ensures { OthersHaveNoEffect }
-{}
-
-/// No plan of it is committed, before or after.
-pub fn others_commit_nothing()
-    ensures { OthersCommitNothing }
 {}
 
 /// A plan is committed after its operation's Begin.

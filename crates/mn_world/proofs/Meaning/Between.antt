@@ -1,5 +1,7 @@
 -- An operation stands between its Begin and its answer.
 use Rattle.std.proofs.Common.{◌≡◌, ℕ, ◌<◌, ◌⊎◌, inl, inr, Bool, true, false, List, [], ◌∷◌, ◌++◌, length, Option, Some, None, refl, subst, sym, ap, ◌∙◌, arith, Contains}
+use Rattle.mn_world.specs.Meaning.{HistoryRun}
+use Rattle.mn_base.specs.Store.{Store}
 use Rattle.std.specs.List.{AllByRecursion}
 use Rattle.std.proofs.lemmas.List.{append_assoc}
 use Rattle.std.proofs.lemmas.List.Elements.{All-contains, All-from_recursion}
@@ -20,7 +22,7 @@ use Rattle.mn_world.specs.History.{Placed, FirstCatalogAt, LastShown, ReadPlace}
 use Rattle.mn_world.specs.Protocol.{Start, FollowsProtocol}
 use Rattle.mn_world.specs.Run.{IsRun}
 use Rattle.mn_world.specs.Laws.{StartsSound, HasSpaces}
-use Rattle.mn_world.specs.Meaning.{StandsAt, BeginsOp, AnswersOp, CommitsPlanAt, PlacesLieBetween, SeenFirst, OnlyThoseStand, PlansLieBehind}
+use Rattle.mn_world.specs.Meaning.{StandsAt, BeginsOp, AnswersOp, CommitsPlanAt, OnlyThoseStand, PlansLieBehind}
 use Rattle.mn_world.proofs.Reading.MakeRun.{runs_follow_protocol}
 use Rattle.mn_world.proofs.Meaning.Splits.{SameSplit, same_split, shorter_by}
 use Rattle.mn_world.proofs.Meaning.Effects.{read_call}
@@ -163,6 +165,15 @@ begin_at past place e c number op (later, before, split, is) begins = record { a
 pub origin_of : (start : Start) (past : List Entry) (placed : List Placed) (p : Placed) → IsRun start past → Rattle.mn_world.specs.History.IsHistory past placed → Contains placed p → Origin past p
 origin_of start past placed p run history has = All-contains (Origin past) placed p (All-from_recursion (Origin past) placed (origins start past placed (runs_follow_protocol start past run) history)) has
 
+-- an operation takes its place after its Begin and, where it is replied to, before its answer
+abbrev PlacesLieBetween : Type 0
+PlacesLieBetween =
+    (start : Start) (store : Store) (past : List Entry) (placed : List Placed) (p : Placed)
+    (place : ℕ) (e : Entry) → HistoryRun start store past placed
+    → Contains placed p → StandsAt past place e
+    → ((op : Op) → BeginsOp e p.past.client p.past.number op → place < p.place)
+    × ((reply : Reply) → AnswersOp e p.past.client p.past.number (Replied reply) → p.place < place)
+
 pub places_lie_between : PlacesLieBetween
 places_lie_between start store past placed p place e h has stands = (begins, answers)
   where
@@ -178,6 +189,17 @@ places_lie_between start store past placed p place e h has stands = (begins, ans
     answers reply is =
         let less = answered_behind start past h.opened.opened.sound h.opened.spaces h.opened.run p origin reply (answer_at past place e p.past.client p.past.number (Replied reply) stands is) in
         let at : place ≡ length stands.1 = stands.3 in omega arith
+
+-- an operation that was replied to before another one's Begin has the lower place
+abbrev SeenFirst : Type 0
+SeenFirst =
+    (start : Start) (store : Store) (past : List Entry) (placed : List Placed) (p q : Placed)
+    (answered begun : ℕ) (e f : Entry) (reply : Reply) (op : Op)
+    → HistoryRun start store past placed
+    → Contains placed p → Contains placed q → StandsAt past answered e
+    → AnswersOp e p.past.client p.past.number (Replied reply)
+    → StandsAt past begun f → BeginsOp f q.past.client q.past.number op → answered < begun
+    → p.place < q.place
 
 pub seen_first : SeenFirst
 seen_first start store past placed p q answered begun e f reply op h has has' stands answers stands' begins less =

@@ -29,7 +29,7 @@ use Rattle.mn_world.specs.Run.{IsRun, Means}
 use Rattle.mn_world.specs.Laws.{StartsSound, HasSpaces}
 use Rattle.mn_world.specs.Shown.{Seen, seen_in, seen_at, ReadShows, FirstCatalog, ScanShows}
 use Rattle.mn_world.specs.History.{Placed, placed_in, PlanOf, NoCatalog, ShowsHere, LastShown, FirstCatalogAt, ReadPlace, has_past, AnswerPuts, StepPuts, EntryPuts, IsHistory}
-use Rattle.mn_world.specs.Meaning.{HistoryExists}
+use Rattle.mn_world.specs.OneHistory.{RunsHaveHistory}
 use Rattle.mn_world.proofs.Reading.MakeRun.{runs_follow_protocol}
 use Rattle.mn_world.proofs.Reading.Sees.{seen_in-cons}
 use Rattle.mn_world.proofs.Meaning.Prefixes.{follows_before, older_run}
@@ -271,5 +271,5 @@ exists_run start store (e ∷ past) sound spaces opened run =
     let new = entry_exists start store past e old.0 sound spaces opened run old.1 (committed_by past e) refl in
     (new.0, (old.0, old.1, new.1))
 
-pub history_exists : HistoryExists
+pub history_exists : RunsHaveHistory
 history_exists start store past h = exists_run start store past h.opened.sound h.spaces h.opened.holds h.run

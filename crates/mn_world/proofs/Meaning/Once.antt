@@ -1,5 +1,8 @@
 -- Each operation stands once, exactly where a plan of it is committed or it was replied to, and between its Begin and its answer.
 use Rattle.std.proofs.Common.{◌≡◌, ℕ, ◌<◌, Bool, true, false, ◌&&◌, ◌||◌, List, [], ◌∷◌, ◌++◌, length, refl, subst, sym, ap, ◌∙◌, arith, if◌then◌else◌}
+use Rattle.mn_world.specs.Meaning.{OpenedRun}
+use Rattle.mn_world.specs.Meaning.{HistoryRun}
+use Rattle.mn_base.specs.Store.{Store}
 use Rattle.std.specs.Prelude.{nat_lt, nat_eq}
 use Rattle.std.specs.List.{AllByRecursion}
 use Rattle.mn_base.specs.Ids.{client_same}
@@ -13,7 +16,7 @@ use Rattle.mn_world.specs.Protocol.{Start}
 use Rattle.mn_world.specs.Run.{IsRun}
 use Rattle.mn_world.specs.Laws.{StartsSound, HasSpaces}
 use Rattle.mn_world.specs.History.{Placed, placed_in, has_past, IsHistory}
-use Rattle.mn_world.specs.Meaning.{AreOnce, EachOnce, StandsAt, AnswersOp, CommitsPlanAt, OnePlanEach, MeansNoEffect, OthersHaveNoEffect, OthersCommitNothing}
+use Rattle.mn_world.specs.Meaning.{AreOnce, StandsAt, AnswersOp, CommitsPlanAt, OnePlanEach, MeansNoEffect}
 use Rattle.mn_world.proofs.Reading.Same.{client_same-refl, nat_eq-refl}
 use Rattle.mn_world.proofs.Reading.MakeRun.{runs_follow_protocol}
 use Rattle.mn_world.proofs.Meaning.Splits.{shorter_by}
@@ -119,6 +122,10 @@ once_run start (e ∷ past) placed sound spaces run history =
         (once_push history.0 (record { place = length past; past = p })
         (all_apart (Origin past) (record { place = length past; past = p }) (new_plan start past e sound spaces run p plan) history.0 (origins start past history.0 (runs_follow_protocol start past run.0) history.1)) once)
 
+abbrev EachOnce : Type 0
+EachOnce = (start : Start) (store : Store) (past : List Entry) (placed : List Placed)
+    → HistoryRun start store past placed → AreOnce placed
+
 pub each_once : EachOnce
 each_once start store past placed h = once_run start past placed h.opened.opened.sound h.opened.spaces h.opened.run h.history
 
@@ -149,10 +156,27 @@ all_none : (P : Placed → Type 0) (c : ClientNo) (number : ℕ) → ((q : Place
 all_none P c number f [] all = tt
 all_none P c number f (q ∷ qs) all = (f q all.0, all_none P c number f qs all.1)
 
+-- an operation that was answered otherwise has no effect: no plan of it is committed, then or
+-- later, and it stands nowhere
+abbrev OthersHaveNoEffect : Type 0
+OthersHaveNoEffect =
+    (start : Start) (store : Store) (past : List Entry) (placed : List Placed) (place : ℕ)
+    (e : Entry) (c : ClientNo) (number : ℕ) (answer : Answer)
+    → HistoryRun start store past placed → StandsAt past place e → AnswersOp e c number answer
+    → MeansNoEffect answer
+    → AllByRecursion (λ p. p.past.client ≡ c → p.past.number ≡ number → ⊥) placed
+
 pub others_have_no_effect : OthersHaveNoEffect
 others_have_no_effect start store past placed place e c number answer h stands answers means =
     all_none (Origin past) c number (no_effect start past h.opened.opened.sound h.opened.spaces h.opened.run c number answer (answer_at past place e c number answer stands answers) means) placed
     (origins start past placed (runs_follow_protocol start past h.opened.run) h.history)
+
+abbrev OthersCommitNothing : Type 0
+OthersCommitNothing =
+    (start : Start) (store : Store) (past : List Entry) (place other : ℕ) (e : Entry) (c : ClientNo)
+    (number : ℕ) (answer : Answer)
+    → OpenedRun start store past → StandsAt past place e → AnswersOp e c number answer
+    → MeansNoEffect answer → CommitsPlanAt past other c number → ⊥
 
 pub others_commit_nothing : OthersCommitNothing
 others_commit_nothing start store past place other e c number answer h stands answers means plan =

@@ -1,5 +1,8 @@
 -- Each operation whose plan is committed, and each one that was replied to, stands in the history.
 use Rattle.std.proofs.Common.{◌≡◌, ℕ, zero, suc, ◌+◌, ◌<◌, ◌⊎◌, inl, inr, Bool, true, false, ◌&&◌, ◌||◌, List, [], ◌∷◌, ◌++◌, length, Option, Some, None, refl, subst, sym, ap, ◌∙◌, arith, if◌then◌else◌, Contains}
+use Rattle.mn_world.specs.Meaning.{AnswersOp}
+use Rattle.mn_world.specs.Meaning.{StandsAt}
+use Rattle.mn_world.specs.Meaning.{HistoryRun}
 use Rattle.std.specs.Prelude.{nat_lt, nat_eq, MatchBool}
 use Rattle.std.proofs.lemmas.List.{append_assoc}
 use Rattle.std.proofs.lemmas.List.Elements.{All-contains, All-from_recursion, Contains-append_left, Contains-push}
@@ -25,7 +28,7 @@ use Rattle.mn_world.specs.Run.{IsRun}
 use Rattle.mn_world.specs.Laws.{StartsSound, HasSpaces}
 use Rattle.mn_world.specs.History.{Placed, placed_in, PlanOf, ReadPlace, has_past, AnswerPuts, StepPuts, EntryPuts, IsHistory}
 use Rattle.mn_world.specs.Opened.{opened_memory}
-use Rattle.mn_world.specs.Meaning.{CommittedStands, RepliedStands}
+use Rattle.mn_world.specs.Meaning.{CommittedStands}
 use Rattle.mn_world.proofs.Reading.Same.{client_same-true, nat_eq-true}
 use Rattle.mn_world.proofs.Reading.MakeRun.{runs_follow_protocol}
 use Rattle.mn_world.proofs.Meaning.Splits.{SameSplit, same_split, shorter_by}
@@ -280,6 +283,16 @@ replied_now start store past e old new sound spaces opened run history c number 
       same = refl;
       replied = refl;
     }
+
+-- each operation that was replied to stands in the history with that reply
+abbrev RepliedStands : Type 0
+RepliedStands =
+    (start : Start) (store : Store) (past : List Entry) (placed : List Placed) (place : ℕ)
+    (e : Entry) (c : ClientNo) (number : ℕ) (reply : Reply)
+    → HistoryRun start store past placed → StandsAt past place e
+    → AnswersOp e c number (Replied reply)
+    → (p : Placed) × Contains placed p × (p.past.client ≡ c) × (p.past.number ≡ number)
+    × (p.past.reply ≡ reply)
 
 pub replied_stands : RepliedStands
 replied_stands start store past placed place e c number reply h (later, before, split, is) answers =

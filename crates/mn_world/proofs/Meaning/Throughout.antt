@@ -1,5 +1,6 @@
 -- The laws of the store at each place.
 use Rattle.std.proofs.Common.{◌≡◌, ℕ, ◌+◌, ◌<◌, ◌≤◌, Bool, true, false, cond, List, [], ◌∷◌, ◌++◌, length, Some, refl, subst, sym, ap, ◌∙◌, arith, slice_get}
+use Rattle.mn_base.specs.History.{IsLegal}
 use Rattle.std.specs.Prelude.{nat_lt}
 use Rattle.std.proofs.lemmas.Bool.Decides.{nat_tests}
 use Rattle.mn_base.specs.Store.{Store, applied}
@@ -9,7 +10,7 @@ use Rattle.mn_page.specs.Holds.{Holds}
 use Rattle.mn_world.specs.declared.entry.Entry.{Entry}
 use Rattle.mn_world.specs.Protocol.{Start}
 use Rattle.mn_world.specs.History.{Placed, pasts_of}
-use Rattle.mn_world.specs.Meaning.{HistoryRun, HistoryIsLegal, placed_before, store_at, HoldsThroughout, StaysOpened, EndsOpened, FrozenNeverChanges}
+use Rattle.mn_world.specs.Meaning.{HistoryRun, placed_before, store_at, HoldsThroughout, StaysOpened, EndsOpened, FrozenNeverChanges}
 use Rattle.mn_world.proofs.Bytes.Spaces.{memory_is_flat}
 use Rattle.mn_world.proofs.Votes.Records.{records_stay_sound}
 use Rattle.mn_world.proofs.Meaning.Chain.{Chain, chain_legal, chain_end}
@@ -20,6 +21,11 @@ use Rattle.mn_world.proofs.Meaning.Legal.{known_run}
 
 pub known_of : (start : Start) (store : Store) (past : List Entry) (placed : List Placed) → HistoryRun start store past placed → Known start store past placed
 known_of start store past placed h = known_run start store past placed h.opened.opened.sound h.opened.spaces h.opened.opened.holds h.opened.run h.history
+
+-- it is legal from the opened store
+abbrev HistoryIsLegal : Type 0
+HistoryIsLegal = (start : Start) (store : Store) (past : List Entry) (placed : List Placed)
+    → HistoryRun start store past placed → IsLegal store (pasts_of placed)
 
 pub history_is_legal : HistoryIsLegal
 history_is_legal start store past placed h = chain_legal (HoldsAt start past) (PlansAt past) (length past) store 0 placed (known_of start store past placed h).chain
