@@ -2,6 +2,11 @@
 pub mod TwoNodes
 pub mod Race
 pub mod DecidedFirst
+pub mod MovedBytes
+pub mod StopInLastVote
+pub mod TwoRecoveries
+pub mod FrozenBetween
+pub mod Unhindered
 pub mod Starts
 pub mod ListVersions
 pub mod Resumed

@@ -1,5 +1,5 @@
 -- A client that decides an id at a node before it prepares it there meets its own lock: each step keeps the protocol, and the id counts as settled.
-use Rattle.std.proofs.Common.{◌≡◌, ℕ, false, true, ◌||◌, List, [], ◌∷◌, replicate, Some, None, refl, arith, lit<, lit≤}
+use Rattle.std.proofs.Common.{◌≡◌, ℕ, false, true, List, [], ◌∷◌, replicate, Some, None, refl, arith, lit<, lit≤}
 use Rattle.mn_base.specs.declared.op.Op.TheVariants.{Versions}
 use Rattle.mn_mini.specs.declared.item.Item.TheVariants.{Read, Write}
 use Rattle.mn_mini.specs.declared.part.PartItem.TheVariants as Bare
@@ -10,10 +10,10 @@ use Rattle.mn_mini.specs.Mini.{Mini, IsSound}
 use Rattle.mn_mini.specs.Node.{answer}
 use Rattle.mn_world.specs.declared.entry.Entry.{Entry}
 use Rattle.mn_world.specs.declared.entry.What.TheVariants.{Begin, Called, Abandoned}
-use Rattle.mn_world.specs.Calls.{Call, is_decide, is_down_reply, is_stopped, was_told, client_entries, since_begin}
+use Rattle.mn_world.specs.Calls.{Call, client_entries, since_begin}
 use Rattle.mn_world.specs.Answers.{are_settled}
 use Rattle.mn_world.specs.Protocol.{Start, FollowsProtocol, base_at, records_of}
-use Rattle.mn_world.specs.Causes.{prepared_after_decide}
+use Rattle.mn_world.specs.Causes.{recovers_nothing, prepared_after_decide, missed_decision}
 use Rattle.mn_world.proofs.Examples.TwoNodes.{node, client, id, issue, prepare}
 
 abbrev start : Start
@@ -160,8 +160,12 @@ refused_example : refused ≡ record { node = Some (node 1); client = Some (clie
 refused_example = refl
 
 -- though node 1 answered each Decide
-heard_example : was_told (is_decide (id 0 1)) (λ reply. is_down_reply reply || is_stopped reply) (node 1) (client_entries (client 0) again) ≡ false
+heard_example : missed_decision (id 0 1) (node 1) (client_entries (client 0) again) ≡ false
 heard_example = refl
 
 first_example : prepared_after_decide (id 0 1) (node 1) (client_entries (client 0) again) ≡ true
 first_example = refl
+
+-- the client made requests of a recovery
+recovers_example : recovers_nothing (client_entries (client 0) again) ≡ false
+recovers_example = refl

@@ -21,7 +21,7 @@ use Rattle.mn_world.specs.History.{Placed, IsHistory, pasts_of}
 use Rattle.mn_world.proofs.Examples.TwoNodes.{node, client, id}
 
 -- one node, of whose space the first 4,160 bytes are there
-abbrev start : Start
+abbrev pub start : Start
 start = record { bases = (replicate 64 0 ++ padded 4096 (entry_bytes main_entry)) ∷ []; records = [] ∷ [] }
 
 abbrev reads : Mini
@@ -30,25 +30,25 @@ reads = record { nodes = 1; items = Read (node 0) 64 4096 ∷ [] }
 abbrev catalog : List ℕ
 catalog = padded 4096 (entry_bytes main_entry)
 
-abbrev reply : Reply
+abbrev pub reply : Reply
 reply = Listing (listing_of (heads_of empty_store))
 
-abbrev begun : List Entry
+abbrev pub begun : List Entry
 begun = record { node = None; client = Some (client 0); what = Begin 1 Versions } ∷ []
 
-abbrev the_issue : Entry
+abbrev pub the_issue : Entry
 the_issue = record { node = None; client = Some (client 0); what = Rattle.mn_world.specs.declared.entry.What.TheVariants.Issue (id 0 1) reads }
 
-abbrev issued : List Entry
+abbrev pub issued : List Entry
 issued = the_issue ∷ begun
 
-abbrev the_read : Entry
+abbrev pub the_read : Entry
 the_read = record { node = Some (node 0); client = Some (client 0); what = Rattle.mn_world.specs.declared.entry.What.TheVariants.Called (Ask.Exec (id 0 1) (part_of reads (node 0))) (Rattle.mn_mini.specs.declared.reply.NodeReply.TheVariants.Done (catalog ∷ [])) }
 
-abbrev done : List Entry
+abbrev pub done : List Entry
 done = the_read ∷ issued
 
-abbrev answered : List Entry
+abbrev pub answered : List Entry
 answered = record { node = None; client = Some (client 0); what = Answered 1 (Replied reply) } ∷ done
 
 abbrev seen : Seen

@@ -17,7 +17,7 @@ begun = record { node = None; client = Some (client 0); what = Begin 1 Versions 
 abbrev issued : List Entry
 issued = issue 0 1 a_writes begun
 
-abbrev voted : List Entry
+abbrev pub voted : List Entry
 voted = call 0 0 (prepare 0 1 a_writes 0) issued
 
 abbrev listed : List Entry
@@ -38,7 +38,7 @@ decided = call 17 0 (Ask.Decide (id 0 1) false) given_up
 abbrev decided_again : List Entry
 decided_again = call 0 0 (Ask.Decide (id 0 1) false) decided
 
-sound_a : IsSound a_writes
+pub sound_a : IsSound a_writes
 sound_a = record { some = lit≤ tt; few = lit≤ tt; inside = (((lit< tt, lit< tt), (lit≤ tt, lit≤ tt, lit≤ tt)), (((lit< tt, lit< tt), (lit≤ tt, lit≤ tt, lit≤ tt)), tt)) }
 
 keeps_begin : FollowsProtocol start begun
@@ -47,7 +47,7 @@ keeps_begin = (tt, record { actor = lit≤ tt; at_node = tt; by_client = (refl, 
 keeps_issue : FollowsProtocol start issued
 keeps_issue = (keeps_begin, record { actor = lit≤ tt; at_node = tt; by_client = record { under_way = refl; client = refl; serial = refl; kind = refl; sound = sound_a; after = refl }; of_run = (refl, refl) })
 
-keeps_vote : FollowsProtocol start voted
+pub keeps_vote : FollowsProtocol start voted
 keeps_vote = (
   keeps_issue,
   record {
@@ -92,13 +92,13 @@ keeps_decision_again = (keeps_decision, record { actor = lit≤ tt; at_node = (l
 
 -- A stop inside the last Prepare: the restart decides whether it is committed
 
-abbrev stopped : List Entry
+abbrev pub stopped : List Entry
 stopped = record { node = Some (node 1); client = Some (client 0); what = Stopped (Some (prepare 0 1 a_writes 1)) None } ∷ voted
 
-abbrev restarted : Bool → List Entry
+abbrev pub restarted : Bool → List Entry
 restarted b = record { node = Some (node 1); client = Some (client 16); what = Restarted b } ∷ stopped
 
-keeps_stop : FollowsProtocol start stopped
+pub keeps_stop : FollowsProtocol start stopped
 keeps_stop = (
   keeps_vote,
   record {

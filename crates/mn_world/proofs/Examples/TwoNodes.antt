@@ -1,5 +1,5 @@
--- Worked rows: runs over two nodes with spaces of 32 bytes.
-use Rattle.std.proofs.Common.{◌≡◌, ℕ, true, false, List, [], ◌∷◌, ◌++◌, replicate, Some, None, refl}
+-- Worked runs over two nodes with spaces of 32 bytes.
+use Rattle.std.proofs.Common.{◌≡◌, ℕ, true, false, List, [], ◌∷◌, ◌++◌, length, replicate, Option, Some, None, refl}
 use Rattle.mn_base.specs.declared.ids.NodeNo.{NodeNo}
 use Rattle.mn_base.specs.declared.ids.ClientNo.{ClientNo}
 use Rattle.mn_base.specs.declared.ids.Tid.{Tid}
@@ -15,7 +15,8 @@ use Rattle.mn_world.specs.declared.entry.Entry.{Entry}
 use Rattle.mn_world.specs.declared.entry.What.{What}
 use Rattle.mn_world.specs.declared.entry.What.TheVariants.{Issue, Called}
 use Rattle.mn_world.specs.Protocol.{Start, base_at, records_of}
-use Rattle.mn_world.specs.Commits.{flat_after}
+use Rattle.mn_world.specs.Calls.{Issued}
+use Rattle.mn_world.specs.Commits.{committed_by, flat_after}
 
 abbrev pub node : ℕ → NodeNo
 node n = record { 0 = n }
@@ -36,6 +37,15 @@ call c n request past =
 
 abbrev pub issue : ℕ → ℕ → Mini → List Entry → List Entry
 issue c serial mini past = record { node = None; client = Some (client c); what = Issue (id c serial) mini } ∷ past
+
+-- what a list commits, each with its place, the newest first
+abbrev with_commit : ℕ → Option Issued → List (ℕ × Tid) → List (ℕ × Tid)
+with_commit place None rest = rest
+with_commit place (Some i) rest = (place, i.tid) ∷ rest
+
+abbrev pub commits : List Entry → List (ℕ × Tid)
+commits [] = []
+commits (e ∷ past) = with_commit (length past) (committed_by past e) (commits past)
 
 -- a writes 61 at start 20 of both nodes, b writes 62 at start 21 of node 0
 abbrev pub a_writes : Mini
@@ -102,6 +112,10 @@ raced_example_records = refl
 
 raced_example_records_1 : records_of start raced (node 1) ≡ Forced (id 0 1) ∷ []
 raced_example_records_1 = refl
+
+-- nothing of it is committed
+raced_example_commits : commits raced ≡ []
+raced_example_commits = refl
 
 raced_example_flat : flat_after start.bases raced ≡ start.bases
 raced_example_flat = refl
