@@ -31,27 +31,54 @@ main = main_entry.name
 
 -- main frozen, and its new child m
 abbrev frozen_main : CatEntry
-frozen_main = record { seq = 2; frozen = true; parent = None; root = main_entry.root; name = main_entry.name }
+frozen_main = record {
+  seq = 2;
+  frozen = true;
+  parent = None;
+  root = main_entry.root;
+  name = main_entry.name;
+}
 
 abbrev child : CatEntry
-child = record { seq = 1; frozen = false; parent = Some (record { 0 = 0 }); root = main_entry.root; name = 109 ∷ [] }
+child = record {
+  seq = 1;
+  frozen = false;
+  parent = Some (record { 0 = 0 });
+  root = main_entry.root;
+  name = 109 ∷ [];
+}
 
 -- one node, of whose space the first 4,160 bytes are there
 abbrev start : Start
-start = record { bases = (replicate 64 0 ++ padded 4096 (entry_bytes main_entry)) ∷ []; records = [] ∷ [] }
+start = record {
+  bases = (replicate 64 0 ++ padded 4096 (entry_bytes main_entry)) ∷ [];
+  records = [] ∷ [];
+}
 
 abbrev call : ℕ → Request → List Entry → List Entry
 call c request past =
-    record { node = Some (node 0); client = Some (client c); what = Called request (answer (base_at start (node 0)) (records_of start past (node 0)) request).reply } ∷ past
+    record {
+      node = Some (node 0);
+      client = Some (client c);
+      what = Called request (answer (base_at start (node 0)) (records_of start past (node 0)) request).reply;
+    } ∷ past
 
 abbrev issue : ℕ → ℕ → Mini → List Entry → List Entry
-issue c serial mini past = record { node = None; client = Some (client c); what = Issue (id c serial) mini } ∷ past
+issue c serial mini past = record {
+  node = None;
+  client = Some (client c);
+  what = Issue (id c serial) mini;
+} ∷ past
 
 abbrev begin : ℕ → Op → List Entry → List Entry
 begin c op past = record { node = None; client = Some (client c); what = Begin 1 op } ∷ past
 
 abbrev answered : ℕ → Answer → List Entry → List Entry
-answered c said past = record { node = None; client = Some (client c); what = Answered 1 said } ∷ past
+answered c said past = record {
+  node = None;
+  client = Some (client c);
+  what = Answered 1 said;
+} ∷ past
 
 abbrev a : Op
 a = Tx main (Check (107 ∷ []) (Some (118 ∷ [])) ∷ Put (107 ∷ []) (119 ∷ []) ∷ [])
@@ -67,7 +94,10 @@ abbrev a_plan : Mini
 a_plan = record { nodes = 1; items = Compare (node 0) 64 (entry_bytes main_entry) ∷ [] }
 
 abbrev b_plan : Mini
-b_plan = record { nodes = 1; items = Compare (node 0) 64 (entry_bytes main_entry) ∷ (Write (node 0) 64 (entry_bytes frozen_main) ∷ (Write (node 0) 128 (entry_bytes child) ∷ [])) }
+b_plan = record {
+  nodes = 1;
+  items = Compare (node 0) 64 (entry_bytes main_entry) ∷ (Write (node 0) 64 (entry_bytes frozen_main) ∷ (Write (node 0) 128 (entry_bytes child) ∷ []));
+}
 
 abbrev exec : ℕ → ℕ → Mini → Request
 exec c serial mini = Ask.Exec (id c serial) (part_of mini (node 0))
@@ -90,10 +120,18 @@ a_told = answered 0 (Replied Frozen) read_again
 -- Each step keeps the protocol
 
 sound_reads : IsSound reads
-sound_reads = record { some = lit≤ tt; few = lit≤ tt; inside = (((lit< tt, lit< tt), (lit≤ tt, lit≤ tt, lit≤ tt)), tt) }
+sound_reads = record {
+  some = lit≤ tt;
+  few = lit≤ tt;
+  inside = (((lit< tt, lit< tt), (lit≤ tt, lit≤ tt, lit≤ tt)), tt);
+}
 
 sound_a : IsSound a_plan
-sound_a = record { some = lit≤ tt; few = lit≤ tt; inside = (((lit< tt, lit< tt), (lit≤ tt, lit≤ tt, lit≤ tt)), tt) }
+sound_a = record {
+  some = lit≤ tt;
+  few = lit≤ tt;
+  inside = (((lit< tt, lit< tt), (lit≤ tt, lit≤ tt, lit≤ tt)), tt);
+}
 
 sound_b : IsSound b_plan
 sound_b = record {
@@ -105,17 +143,54 @@ sound_b = record {
 keeps_planned : FollowsProtocol start a_planned
 keeps_planned = (
   (
-    ((tt, record { actor = lit≤ tt; at_node = tt; by_client = (refl, refl); of_run = tt }), record { actor = lit≤ tt; at_node = tt; by_client = record { under_way = refl; client = refl; serial = refl; kind = refl; sound = sound_reads; after = refl }; of_run = (refl, refl) }),
-    record { actor = lit≤ tt; at_node = (lit< tt, refl); by_client = record { mini = reads; issued = refl; alone = refl; own_part = refl; once = refl; open_still = refl }; of_run = tt },
+    (
+      (
+        tt,
+        record {
+          actor = lit≤ tt;
+          at_node = tt;
+          by_client = (refl, refl);
+          of_run = tt;
+        },
+      ),
+      record { actor = lit≤ tt; at_node = tt; by_client = record { under_way = refl; client = refl; serial = refl; kind = refl; sound = sound_reads; after = refl }; of_run = (refl, refl) },
+    ),
+    record {
+      actor = lit≤ tt;
+      at_node = (lit< tt, refl);
+      by_client = record { mini = reads; issued = refl; alone = refl; own_part = refl; once = refl; open_still = refl };
+      of_run = tt;
+    },
   ),
-  record { actor = lit≤ tt; at_node = tt; by_client = record { under_way = refl; client = refl; serial = refl; kind = refl; sound = sound_a; after = refl }; of_run = (refl, refl) },
+  record {
+    actor = lit≤ tt;
+    at_node = tt;
+    by_client = record { under_way = refl; client = refl; serial = refl; kind = refl; sound = sound_a; after = refl };
+    of_run = (refl, refl);
+  },
 )
 
 keeps_b : FollowsProtocol start b_told
 keeps_b = (
   (
-    ((keeps_planned, record { actor = lit≤ tt; at_node = tt; by_client = (refl, refl); of_run = tt }), record { actor = lit≤ tt; at_node = tt; by_client = record { under_way = refl; client = refl; serial = refl; kind = refl; sound = sound_b; after = refl }; of_run = (refl, refl) }),
-    record { actor = lit≤ tt; at_node = (lit< tt, refl); by_client = record { mini = b_plan; issued = refl; alone = refl; own_part = refl; once = refl; open_still = refl }; of_run = tt },
+    (
+      (
+        keeps_planned,
+        record {
+          actor = lit≤ tt;
+          at_node = tt;
+          by_client = (refl, refl);
+          of_run = tt;
+        },
+      ),
+      record { actor = lit≤ tt; at_node = tt; by_client = record { under_way = refl; client = refl; serial = refl; kind = refl; sound = sound_b; after = refl }; of_run = (refl, refl) },
+    ),
+    record {
+      actor = lit≤ tt;
+      at_node = (lit< tt, refl);
+      by_client = record { mini = b_plan; issued = refl; alone = refl; own_part = refl; once = refl; open_still = refl };
+      of_run = tt;
+    },
   ),
   record { actor = lit≤ tt; at_node = tt; by_client = (b, refl); of_run = tt },
 )
@@ -123,29 +198,76 @@ keeps_b = (
 keeps_a : FollowsProtocol start a_told
 keeps_a = (
   (
-    ((keeps_b, record { actor = lit≤ tt; at_node = (lit< tt, refl); by_client = record { mini = a_plan; issued = refl; alone = refl; own_part = refl; once = refl; open_still = refl }; of_run = tt }), record { actor = lit≤ tt; at_node = tt; by_client = record { under_way = refl; client = refl; serial = refl; kind = refl; sound = sound_reads; after = refl }; of_run = (refl, refl) }),
-    record { actor = lit≤ tt; at_node = (lit< tt, refl); by_client = record { mini = reads; issued = refl; alone = refl; own_part = refl; once = refl; open_still = refl }; of_run = tt },
+    (
+      (
+        keeps_b,
+        record {
+          actor = lit≤ tt;
+          at_node = (lit< tt, refl);
+          by_client = record { mini = a_plan; issued = refl; alone = refl; own_part = refl; once = refl; open_still = refl };
+          of_run = tt;
+        },
+      ),
+      record { actor = lit≤ tt; at_node = tt; by_client = record { under_way = refl; client = refl; serial = refl; kind = refl; sound = sound_reads; after = refl }; of_run = (refl, refl) },
+    ),
+    record {
+      actor = lit≤ tt;
+      at_node = (lit< tt, refl);
+      by_client = record { mini = reads; issued = refl; alone = refl; own_part = refl; once = refl; open_still = refl };
+      of_run = tt;
+    },
   ),
   record { actor = lit≤ tt; at_node = tt; by_client = (a, refl); of_run = tt },
 )
 
 -- What they come to
 
-refused_example : refused ≡ record { node = Some (node 0); client = Some (client 0); what = Called (exec 0 2 a_plan) (Say.BadCompare 0 (entry_bytes frozen_main)) } ∷ b_told
+refused_example : refused ≡ record {
+  node = Some (node 0);
+  client = Some (client 0);
+  what = Called (exec 0 2 a_plan) (Say.BadCompare 0 (entry_bytes frozen_main));
+} ∷ b_told
 refused_example = refl
 
 moved_example : RefusedAs (seen_in (client_entries (client 0) b_told)) (node 0) (exec 0 2 a_plan) (Say.BadCompare 0 (entry_bytes frozen_main)) (Moved (node 0) 64 (entry_bytes main_entry) (entry_bytes frozen_main))
-moved_example = (64, entry_bytes main_entry, refl, (record { place = catalog_place; bytes = padded 4096 (entry_bytes main_entry) }, (0, lit< tt, refl), refl, lit≤ tt, refl), refl)
+moved_example = (
+  64,
+  entry_bytes main_entry,
+  refl,
+  (
+    record {
+      place = catalog_place;
+      bytes = padded 4096 (entry_bytes main_entry);
+    },
+    (0, lit< tt, refl),
+    refl,
+    lit≤ tt,
+    refl,
+  ),
+  refl,
+)
 
 -- the second catalog shows the refusal
 abbrev catalog : List ℕ
 catalog = padded 4096 (entry_bytes frozen_main ++ (entry_bytes child ++ []))
 
 frozen_is_entry : IsEntry frozen_main
-frozen_is_entry = record { seq_low = lit≤ tt; seq_high = lit< tt; parent = tt; root = (lit< tt, lit< tt); name = (lit≤ tt, lit≤ tt, refl) }
+frozen_is_entry = record {
+  seq_low = lit≤ tt;
+  seq_high = lit< tt;
+  parent = tt;
+  root = (lit< tt, lit< tt);
+  name = (lit≤ tt, lit≤ tt, refl);
+}
 
 child_is_entry : IsEntry child
-child_is_entry = record { seq_low = lit≤ tt; seq_high = lit< tt; parent = lit< tt; root = (lit< tt, lit< tt); name = (lit≤ tt, lit≤ tt, refl) }
+child_is_entry = record {
+  seq_low = lit≤ tt;
+  seq_high = lit< tt;
+  parent = lit< tt;
+  root = (lit< tt, lit< tt);
+  name = (lit≤ tt, lit≤ tt, refl);
+}
 
 catalog_shows : CatalogShows (record { place = catalog_place; bytes = catalog }) a Frozen
 catalog_shows = (frozen_main ∷ (child ∷ []), (refl, lit≤ tt, (frozen_is_entry, (child_is_entry, tt)), refl), refl)
@@ -155,7 +277,11 @@ answer_example : Shows (client_entries (client 0) read_again) (since_begin (clie
 answer_example = inr (inl (
   refl,
   record {
-    entry = record { node = Some (node 0); client = Some (client 0); what = Called (exec 0 3 reads) (Say.Done (catalog ∷ [])) };
+    entry = record {
+      node = Some (node 0);
+      client = Some (client 0);
+      what = Called (exec 0 3 reads) (Say.Done (catalog ∷ []));
+    };
     newer = [];
     older = since_begin (client_entries (client 0) (issue 0 3 reads refused));
     before = client_entries (client 0) (issue 0 3 reads refused);
@@ -172,4 +298,17 @@ commits_example : commits a_told ≡ (10, id 0 3) ∷ (6, id 1 1) ∷ (2, id 0 1
 commits_example = refl
 
 place_example : LastShown (client 0) a Frozen read_again 10
-place_example = inl ((refl, (record { place = catalog_place; bytes = catalog }, (0, lit< tt, refl), inr catalog_shows)), refl)
+place_example = inl (
+  (
+    refl,
+    (
+      record {
+        place = catalog_place;
+        bytes = catalog;
+      },
+      (0, lit< tt, refl),
+      inr catalog_shows,
+    ),
+  ),
+  refl,
+)

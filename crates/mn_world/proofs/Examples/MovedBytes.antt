@@ -40,14 +40,21 @@ abbrev begin : ℕ → Op → List Entry → List Entry
 begin c op past = record { node = None; client = Some (client c); what = Begin 1 op } ∷ past
 
 abbrev answered : ℕ → Answer → List Entry → List Entry
-answered c answer past = record { node = None; client = Some (client c); what = Answered 1 answer } ∷ past
+answered c answer past = record {
+  node = None;
+  client = Some (client c);
+  what = Answered 1 answer;
+} ∷ past
 
 abbrev reads : Mini
 reads = record { nodes = 2; items = Read (node 0) 20 1 ∷ [] }
 
 -- it expects the old byte, and writes the new one
 abbrev swaps : ℕ → ℕ → Mini
-swaps old new = record { nodes = 2; items = Compare (node 0) 20 (old ∷ []) ∷ Write (node 0) 20 (new ∷ []) ∷ [] }
+swaps old new = record {
+  nodes = 2;
+  items = Compare (node 0) 20 (old ∷ []) ∷ Write (node 0) 20 (new ∷ []) ∷ [];
+}
 
 abbrev exec : ℕ → ℕ → Mini → Request
 exec c serial mini = Ask.Exec (id c serial) (part_of mini (node 0))
@@ -88,74 +95,175 @@ a_told = answered 0 (Replied (Values (Some (98 ∷ []) ∷ []))) a_done
 -- Each step keeps the protocol
 
 sound_reads : IsSound reads
-sound_reads = record { some = lit≤ tt; few = lit≤ tt; inside = (((lit< tt, lit< tt), (lit≤ tt, lit≤ tt, lit≤ tt)), tt) }
+sound_reads = record {
+  some = lit≤ tt;
+  few = lit≤ tt;
+  inside = (((lit< tt, lit< tt), (lit≤ tt, lit≤ tt, lit≤ tt)), tt);
+}
 
 sound_swaps : (old new : ℕ) → IsSound (swaps old new)
-sound_swaps old new = record { some = lit≤ tt; few = lit≤ tt; inside = (((lit< tt, lit< tt), (lit≤ tt, lit≤ tt, lit≤ tt)), (((lit< tt, lit< tt), (lit≤ tt, lit≤ tt, lit≤ tt)), tt)) }
+sound_swaps old new = record {
+  some = lit≤ tt;
+  few = lit≤ tt;
+  inside = (((lit< tt, lit< tt), (lit≤ tt, lit≤ tt, lit≤ tt)), (((lit< tt, lit< tt), (lit≤ tt, lit≤ tt, lit≤ tt)), tt));
+}
 
 keeps_read : FollowsProtocol start a_read
 keeps_read = (
   (
     (tt, record { actor = lit≤ tt; at_node = tt; by_client = (refl, refl); of_run = tt }),
-    record { actor = lit≤ tt; at_node = tt; by_client = record { under_way = refl; client = refl; serial = refl; kind = refl; sound = sound_reads; after = refl }; of_run = (refl, refl) },
+    record {
+      actor = lit≤ tt;
+      at_node = tt;
+      by_client = record { under_way = refl; client = refl; serial = refl; kind = refl; sound = sound_reads; after = refl };
+      of_run = (refl, refl);
+    },
   ),
-  record { actor = lit≤ tt; at_node = (lit< tt, refl); by_client = record { mini = reads; issued = refl; alone = refl; own_part = refl; once = refl; open_still = refl }; of_run = tt },
+  record {
+    actor = lit≤ tt;
+    at_node = (lit< tt, refl);
+    by_client = record { mini = reads; issued = refl; alone = refl; own_part = refl; once = refl; open_still = refl };
+    of_run = tt;
+  },
 )
 
 keeps_planned : FollowsProtocol start a_planned
-keeps_planned = (keeps_read, record { actor = lit≤ tt; at_node = tt; by_client = record { under_way = refl; client = refl; serial = refl; kind = refl; sound = sound_swaps 0 97; after = refl }; of_run = (refl, refl) })
+keeps_planned = (
+  keeps_read,
+  record {
+    actor = lit≤ tt;
+    at_node = tt;
+    by_client = record { under_way = refl; client = refl; serial = refl; kind = refl; sound = sound_swaps 0 97; after = refl };
+    of_run = (refl, refl);
+  },
+)
 
 keeps_b_planned : FollowsProtocol start b_planned
 keeps_b_planned = (
   (keeps_planned, record { actor = lit≤ tt; at_node = tt; by_client = (refl, refl); of_run = tt }),
-  record { actor = lit≤ tt; at_node = tt; by_client = record { under_way = refl; client = refl; serial = refl; kind = refl; sound = sound_swaps 0 98; after = refl }; of_run = (refl, refl) },
+  record {
+    actor = lit≤ tt;
+    at_node = tt;
+    by_client = record { under_way = refl; client = refl; serial = refl; kind = refl; sound = sound_swaps 0 98; after = refl };
+    of_run = (refl, refl);
+  },
 )
 
 keeps_b : FollowsProtocol start b_told
 keeps_b = (
-  (keeps_b_planned, record { actor = lit≤ tt; at_node = (lit< tt, refl); by_client = record { mini = swaps 0 98; issued = refl; alone = refl; own_part = refl; once = refl; open_still = refl }; of_run = tt }),
+  (
+    keeps_b_planned,
+    record {
+      actor = lit≤ tt;
+      at_node = (lit< tt, refl);
+      by_client = record { mini = swaps 0 98; issued = refl; alone = refl; own_part = refl; once = refl; open_still = refl };
+      of_run = tt;
+    },
+  ),
   record { actor = lit≤ tt; at_node = tt; by_client = (b, refl); of_run = tt },
 )
 
 keeps_refusal : FollowsProtocol start refused
-keeps_refusal = (keeps_b, record { actor = lit≤ tt; at_node = (lit< tt, refl); by_client = record { mini = swaps 0 97; issued = refl; alone = refl; own_part = refl; once = refl; open_still = refl }; of_run = tt })
+keeps_refusal = (
+  keeps_b,
+  record {
+    actor = lit≤ tt;
+    at_node = (lit< tt, refl);
+    by_client = record { mini = swaps 0 97; issued = refl; alone = refl; own_part = refl; once = refl; open_still = refl };
+    of_run = tt;
+  },
+)
 
 keeps_again : FollowsProtocol start planned_again
 keeps_again = (
   (
-    (keeps_refusal, record { actor = lit≤ tt; at_node = tt; by_client = record { under_way = refl; client = refl; serial = refl; kind = refl; sound = sound_reads; after = refl }; of_run = (refl, refl) }),
-    record { actor = lit≤ tt; at_node = (lit< tt, refl); by_client = record { mini = reads; issued = refl; alone = refl; own_part = refl; once = refl; open_still = refl }; of_run = tt },
+    (
+      keeps_refusal,
+      record {
+        actor = lit≤ tt;
+        at_node = tt;
+        by_client = record { under_way = refl; client = refl; serial = refl; kind = refl; sound = sound_reads; after = refl };
+        of_run = (refl, refl);
+      },
+    ),
+    record {
+      actor = lit≤ tt;
+      at_node = (lit< tt, refl);
+      by_client = record { mini = reads; issued = refl; alone = refl; own_part = refl; once = refl; open_still = refl };
+      of_run = tt;
+    },
   ),
-  record { actor = lit≤ tt; at_node = tt; by_client = record { under_way = refl; client = refl; serial = refl; kind = refl; sound = sound_swaps 98 97; after = refl }; of_run = (refl, refl) },
+  record {
+    actor = lit≤ tt;
+    at_node = tt;
+    by_client = record { under_way = refl; client = refl; serial = refl; kind = refl; sound = sound_swaps 98 97; after = refl };
+    of_run = (refl, refl);
+  },
 )
 
 keeps_a : FollowsProtocol start a_told
 keeps_a = (
-  (keeps_again, record { actor = lit≤ tt; at_node = (lit< tt, refl); by_client = record { mini = swaps 98 97; issued = refl; alone = refl; own_part = refl; once = refl; open_still = refl }; of_run = tt }),
+  (
+    keeps_again,
+    record {
+      actor = lit≤ tt;
+      at_node = (lit< tt, refl);
+      by_client = record { mini = swaps 98 97; issued = refl; alone = refl; own_part = refl; once = refl; open_still = refl };
+      of_run = tt;
+    },
+  ),
   record { actor = lit≤ tt; at_node = tt; by_client = (a, refl); of_run = tt },
 )
 
 -- What they come to
 
-refused_example : refused ≡ record { node = Some (node 0); client = Some (client 0); what = Called (exec 0 2 (swaps 0 97)) (Say.BadCompare 0 (98 ∷ [])) } ∷ b_told
+refused_example : refused ≡ record {
+  node = Some (node 0);
+  client = Some (client 0);
+  what = Called (exec 0 2 (swaps 0 97)) (Say.BadCompare 0 (98 ∷ []));
+} ∷ b_told
 refused_example = refl
 
 -- it expected the byte that its read had shown
 moved_example : RefusedAs (seen_in (client_entries (client 0) b_told)) (node 0) (exec 0 2 (swaps 0 97)) (Say.BadCompare 0 (98 ∷ [])) (Moved (node 0) 20 (0 ∷ []) (98 ∷ []))
-moved_example = (20, 0 ∷ [], refl, (record { place = record { node = node 0; start = 20; length = 1 }; bytes = 0 ∷ [] }, (0, lit< tt, refl), refl, lit≤ tt, refl), refl)
+moved_example = (
+  20,
+  0 ∷ [],
+  refl,
+  (
+    record {
+      place = record { node = node 0; start = 20; length = 1 };
+      bytes = 0 ∷ [];
+    },
+    (0, lit< tt, refl),
+    refl,
+    lit≤ tt,
+    refl,
+  ),
+  refl,
+)
 
 -- the plan is given up, and another one may follow
-given_up_example : is_given_up (client_entries (client 0) refused) (record { tid = id 0 2; mini = swaps 0 97 }) ≡ true
+given_up_example : is_given_up (client_entries (client 0) refused) (record {
+  tid = id 0 2;
+  mini = swaps 0 97;
+}) ≡ true
 given_up_example = refl
 
-over_example : is_over (since_begin (client_entries (client 0) refused)) (record { tid = id 0 2; mini = swaps 0 97 }) ≡ true
+over_example : is_over (since_begin (client_entries (client 0) refused)) (record {
+  tid = id 0 2;
+  mini = swaps 0 97;
+}) ≡ true
 over_example = refl
 
 -- both plans are committed where they are done, and each read at its own place: b's lies between a's first read and its refusal
 commits_example : commits a_told ≡ (12, id 0 4) ∷ (10, id 0 3) ∷ (6, id 1 1) ∷ (2, id 0 1) ∷ []
 commits_example = refl
 
-under_way_example : under_way (client_entries (client 0) refused) ≡ Some (record { number = 1; op = a })
+under_way_example : under_way (client_entries (client 0) refused) ≡ Some (record {
+  number = 1;
+  op = a;
+})
 under_way_example = refl
 
 ended_example : under_way (client_entries (client 0) a_told) ≡ None

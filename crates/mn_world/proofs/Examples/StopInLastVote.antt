@@ -17,7 +17,11 @@ use Rattle.mn_world.proofs.Examples.TwoNodes.{node, client, id, start, call, a_w
 use Rattle.mn_world.proofs.Examples.Race.{stopped, keeps_stop}
 
 abbrev told : List Entry
-told = record { node = None; client = Some (client 0); what = Answered 1 (InDoubt (id 0 1) (node 1)) } ∷ stopped
+told = record {
+  node = None;
+  client = Some (client 0);
+  what = Answered 1 (InDoubt (id 0 1) (node 1));
+} ∷ stopped
 
 -- with the vote kept, or lost
 abbrev back : Bool → List Entry
@@ -37,38 +41,113 @@ decided kept = call 17 1 (Ask.Decide (id 0 1) kept) (call 17 0 (Ask.Decide (id 0
 -- Each step keeps the protocol
 
 abbrev listing : Call
-listing = record { node = node 0; request = Ask.List; reply = Say.Listed (record { tid = id 0 1; participants = node 0 ∷ node 1 ∷ [] } ∷ []) }
+listing = record {
+  node = node 0;
+  request = Ask.List;
+  reply = Say.Listed (record { tid = id 0 1; participants = node 0 ∷ node 1 ∷ [] } ∷ []);
+}
 
 keeps_told : FollowsProtocol start told
-keeps_told = (keeps_stop, record { actor = lit≤ tt; at_node = tt; by_client = (Versions, refl); of_run = tt })
+keeps_told = (
+  keeps_stop,
+  record {
+    actor = lit≤ tt;
+    at_node = tt;
+    by_client = (Versions, refl);
+    of_run = tt;
+  },
+)
 
 keeps_kept : FollowsProtocol start (forced true)
 keeps_kept = (
   (
-    ((keeps_told, record { actor = lit≤ tt; at_node = (lit< tt, (refl, refl)); by_client = tt; of_run = tt }), record { actor = lit≤ tt; at_node = (lit< tt, refl); by_client = tt; of_run = tt }),
-    record { actor = lit≤ tt; at_node = (lit< tt, refl); by_client = (refl, (node 0 ∷ node 1 ∷ [], (listing, (0, lit< tt, refl), refl), (0, lit< tt, refl))); of_run = tt },
+    (
+      (
+        keeps_told,
+        record {
+          actor = lit≤ tt;
+          at_node = (lit< tt, (refl, refl));
+          by_client = tt;
+          of_run = tt;
+        },
+      ),
+      record { actor = lit≤ tt; at_node = (lit< tt, refl); by_client = tt; of_run = tt },
+    ),
+    record {
+      actor = lit≤ tt;
+      at_node = (lit< tt, refl);
+      by_client = (refl, (node 0 ∷ node 1 ∷ [], (listing, (0, lit< tt, refl), refl), (0, lit< tt, refl)));
+      of_run = tt;
+    },
   ),
-  record { actor = lit≤ tt; at_node = (lit< tt, refl); by_client = (refl, (node 0 ∷ node 1 ∷ [], (listing, (1, lit< tt, refl), refl), (1, lit< tt, refl))); of_run = tt },
+  record {
+    actor = lit≤ tt;
+    at_node = (lit< tt, refl);
+    by_client = (refl, (node 0 ∷ node 1 ∷ [], (listing, (1, lit< tt, refl), refl), (1, lit< tt, refl)));
+    of_run = tt;
+  },
 )
 
 keeps_yes : FollowsProtocol start (decided true)
 keeps_yes = (
-  (keeps_kept, record { actor = lit≤ tt; at_node = (lit< tt, refl); by_client = (refl, (node 0 ∷ node 1 ∷ [], inr (listing, (2, lit< tt, refl), refl), (refl, (refl, tt)))); of_run = tt }),
-  record { actor = lit≤ tt; at_node = (lit< tt, refl); by_client = (refl, (node 0 ∷ node 1 ∷ [], inr (listing, (3, lit< tt, refl), refl), (refl, (refl, tt)))); of_run = tt },
+  (
+    keeps_kept,
+    record {
+      actor = lit≤ tt;
+      at_node = (lit< tt, refl);
+      by_client = (refl, (node 0 ∷ node 1 ∷ [], inr (listing, (2, lit< tt, refl), refl), (refl, (refl, tt))));
+      of_run = tt;
+    },
+  ),
+  record {
+    actor = lit≤ tt;
+    at_node = (lit< tt, refl);
+    by_client = (refl, (node 0 ∷ node 1 ∷ [], inr (listing, (3, lit< tt, refl), refl), (refl, (refl, tt))));
+    of_run = tt;
+  },
 )
 
 keeps_lost : FollowsProtocol start (forced false)
 keeps_lost = (
   (
-    ((keeps_told, record { actor = lit≤ tt; at_node = (lit< tt, refl); by_client = tt; of_run = tt }), record { actor = lit≤ tt; at_node = (lit< tt, refl); by_client = tt; of_run = tt }),
-    record { actor = lit≤ tt; at_node = (lit< tt, refl); by_client = (refl, (node 0 ∷ node 1 ∷ [], (listing, (0, lit< tt, refl), refl), (0, lit< tt, refl))); of_run = tt },
+    (
+      (
+        keeps_told,
+        record {
+          actor = lit≤ tt;
+          at_node = (lit< tt, refl);
+          by_client = tt;
+          of_run = tt;
+        },
+      ),
+      record { actor = lit≤ tt; at_node = (lit< tt, refl); by_client = tt; of_run = tt },
+    ),
+    record {
+      actor = lit≤ tt;
+      at_node = (lit< tt, refl);
+      by_client = (refl, (node 0 ∷ node 1 ∷ [], (listing, (0, lit< tt, refl), refl), (0, lit< tt, refl)));
+      of_run = tt;
+    },
   ),
-  record { actor = lit≤ tt; at_node = (lit< tt, refl); by_client = (refl, (node 0 ∷ node 1 ∷ [], (listing, (1, lit< tt, refl), refl), (1, lit< tt, refl))); of_run = tt },
+  record {
+    actor = lit≤ tt;
+    at_node = (lit< tt, refl);
+    by_client = (refl, (node 0 ∷ node 1 ∷ [], (listing, (1, lit< tt, refl), refl), (1, lit< tt, refl)));
+    of_run = tt;
+  },
 )
 
 keeps_no : FollowsProtocol start (decided false)
 keeps_no = (
-  (keeps_lost, record { actor = lit≤ tt; at_node = (lit< tt, refl); by_client = (refl, refl); of_run = tt }),
+  (
+    keeps_lost,
+    record {
+      actor = lit≤ tt;
+      at_node = (lit< tt, refl);
+      by_client = (refl, refl);
+      of_run = tt;
+    },
+  ),
   record { actor = lit≤ tt; at_node = (lit< tt, refl); by_client = (refl, refl); of_run = tt },
 )
 
@@ -89,7 +168,20 @@ doubt_example : is_in_doubt (id 0 1) (client_entries (client 0) stopped) ≡ tru
 doubt_example = refl
 
 told_example : WasToldDoubt told (client 0) 1
-told_example = (id 0 1, node 1, (4, record { node = None; client = Some (client 0); what = Answered 1 (InDoubt (id 0 1) (node 1)) }, ([], stopped, refl, refl), (refl, refl)))
+told_example = (
+  id 0 1,
+  node 1,
+  (
+    4,
+    record {
+      node = None;
+      client = Some (client 0);
+      what = Answered 1 (InDoubt (id 0 1) (node 1));
+    },
+    ([], stopped, refl, refl),
+    (refl, refl),
+  ),
+)
 
 ended_example : under_way (client_entries (client 0) told) ≡ None
 ended_example = refl
@@ -104,10 +196,16 @@ kept_example = refl
 lost_example : commits (decided false) ≡ []
 lost_example = refl
 
-votes_example : replies (forced true) ≡ Say.Done [] ∷ Say.Listed (record { tid = id 0 1; participants = node 0 ∷ node 1 ∷ [] } ∷ []) ∷ Say.Vote true ∷ Say.Vote true ∷ []
+votes_example : replies (forced true) ≡ Say.Done [] ∷ Say.Listed (record {
+  tid = id 0 1;
+  participants = node 0 ∷ node 1 ∷ [];
+} ∷ []) ∷ Say.Vote true ∷ Say.Vote true ∷ []
 votes_example = refl
 
-lost_votes_example : replies (forced false) ≡ Say.Done [] ∷ Say.Listed (record { tid = id 0 1; participants = node 0 ∷ node 1 ∷ [] } ∷ []) ∷ Say.Vote true ∷ Say.Vote false ∷ []
+lost_votes_example : replies (forced false) ≡ Say.Done [] ∷ Say.Listed (record {
+  tid = id 0 1;
+  participants = node 0 ∷ node 1 ∷ [];
+} ∷ []) ∷ Say.Vote true ∷ Say.Vote false ∷ []
 lost_votes_example = refl
 
 records_example : records_of start (decided true) (node 1) ≡ Decided (id 0 1) true ∷ Voted (id 0 1) (participants_of a_writes) (part_of a_writes (node 1)) ∷ []

@@ -53,25 +53,68 @@ ended = call 0 1 (Ask.Decide (id 0 2) true) (call 0 0 (Ask.Decide (id 0 2) true)
 -- Each step keeps the protocol
 
 abbrev listing : Call
-listing = record { node = node 0; request = Ask.List; reply = Say.Listed (record { tid = id 0 1; participants = node 0 ∷ node 1 ∷ [] } ∷ []) }
+listing = record {
+  node = node 0;
+  request = Ask.List;
+  reply = Say.Listed (record { tid = id 0 1; participants = node 0 ∷ node 1 ∷ [] } ∷ []);
+}
 
 keeps_forced : FollowsProtocol start forced
 keeps_forced = (
   (
-    ((keeps_vote, record { actor = lit≤ tt; at_node = (lit< tt, refl); by_client = tt; of_run = tt }), record { actor = lit≤ tt; at_node = (lit< tt, refl); by_client = tt; of_run = tt }),
-    record { actor = lit≤ tt; at_node = (lit< tt, refl); by_client = (refl, (node 0 ∷ node 1 ∷ [], (listing, (0, lit< tt, refl), refl), (0, lit< tt, refl))); of_run = tt },
+    (
+      (
+        keeps_vote,
+        record {
+          actor = lit≤ tt;
+          at_node = (lit< tt, refl);
+          by_client = tt;
+          of_run = tt;
+        },
+      ),
+      record { actor = lit≤ tt; at_node = (lit< tt, refl); by_client = tt; of_run = tt },
+    ),
+    record {
+      actor = lit≤ tt;
+      at_node = (lit< tt, refl);
+      by_client = (refl, (node 0 ∷ node 1 ∷ [], (listing, (0, lit< tt, refl), refl), (0, lit< tt, refl)));
+      of_run = tt;
+    },
   ),
-  record { actor = lit≤ tt; at_node = (lit< tt, refl); by_client = (refl, (node 0 ∷ node 1 ∷ [], (listing, (1, lit< tt, refl), refl), (1, lit< tt, refl))); of_run = tt },
+  record {
+    actor = lit≤ tt;
+    at_node = (lit< tt, refl);
+    by_client = (refl, (node 0 ∷ node 1 ∷ [], (listing, (1, lit< tt, refl), refl), (1, lit< tt, refl)));
+    of_run = tt;
+  },
 )
 
 keeps_decided : FollowsProtocol start decided
 keeps_decided = (
   (
     (
-      (keeps_forced, record { actor = lit≤ tt; at_node = (lit< tt, refl); by_client = record { mini = a_writes; issued = refl; all = refl; several = lit≤ tt; named = (1, lit< tt, refl); own_part = refl; once = refl; open_still = refl; lower = (λ h. refl, (λ h. absurd (omega arith), tt)) }; of_run = tt }),
-      record { actor = lit≤ tt; at_node = (lit< tt, refl); by_client = (refl, (node 0 ∷ node 1 ∷ [], (listing, (0, lit< tt, refl), refl), (0, lit< tt, refl))); of_run = tt },
+      (
+        keeps_forced,
+        record {
+          actor = lit≤ tt;
+          at_node = (lit< tt, refl);
+          by_client = record { mini = a_writes; issued = refl; all = refl; several = lit≤ tt; named = (1, lit< tt, refl); own_part = refl; once = refl; open_still = refl; lower = (λ h. refl, (λ h. absurd (omega arith), tt)) };
+          of_run = tt;
+        },
+      ),
+      record {
+        actor = lit≤ tt;
+        at_node = (lit< tt, refl);
+        by_client = (refl, (node 0 ∷ node 1 ∷ [], (listing, (0, lit< tt, refl), refl), (0, lit< tt, refl)));
+        of_run = tt;
+      },
     ),
-    record { actor = lit≤ tt; at_node = (lit< tt, refl); by_client = (refl, (node 0 ∷ node 1 ∷ [], (listing, (1, lit< tt, refl), refl), (1, lit< tt, refl))); of_run = tt },
+    record {
+      actor = lit≤ tt;
+      at_node = (lit< tt, refl);
+      by_client = (refl, (node 0 ∷ node 1 ∷ [], (listing, (1, lit< tt, refl), refl), (1, lit< tt, refl)));
+      of_run = tt;
+    },
   ),
   record { actor = lit≤ tt; at_node = (lit< tt, refl); by_client = (refl, refl); of_run = tt },
 )
@@ -82,22 +125,58 @@ keeps_again = (
     (
       (
         (
-          (keeps_decided, record { actor = lit≤ tt; at_node = tt; by_client = (a_writes, refl, refl); of_run = tt }),
-          record { actor = lit≤ tt; at_node = (lit< tt, refl); by_client = (refl, refl); of_run = tt },
+          (
+            keeps_decided,
+            record {
+              actor = lit≤ tt;
+              at_node = tt;
+              by_client = (a_writes, refl, refl);
+              of_run = tt;
+            },
+          ),
+          record {
+            actor = lit≤ tt;
+            at_node = (lit< tt, refl);
+            by_client = (refl, refl);
+            of_run = tt;
+          },
         ),
-        record { actor = lit≤ tt; at_node = (lit< tt, refl); by_client = (refl, refl); of_run = tt },
+        record {
+          actor = lit≤ tt;
+          at_node = (lit< tt, refl);
+          by_client = (refl, refl);
+          of_run = tt;
+        },
       ),
       record { actor = lit≤ tt; at_node = (lit< tt, refl); by_client = (refl, refl); of_run = tt },
     ),
     record { actor = lit≤ tt; at_node = (lit< tt, refl); by_client = (refl, refl); of_run = tt },
   ),
-  record { actor = lit≤ tt; at_node = tt; by_client = record { under_way = refl; client = refl; serial = refl; kind = refl; sound = sound_a; after = refl }; of_run = (refl, refl) },
+  record {
+    actor = lit≤ tt;
+    at_node = tt;
+    by_client = record { under_way = refl; client = refl; serial = refl; kind = refl; sound = sound_a; after = refl };
+    of_run = (refl, refl);
+  },
 )
 
 keeps_done : FollowsProtocol start done
 keeps_done = (
-  (keeps_again, record { actor = lit≤ tt; at_node = (lit< tt, refl); by_client = record { mini = a_writes; issued = refl; all = refl; several = lit≤ tt; named = (0, lit< tt, refl); own_part = refl; once = refl; open_still = refl; lower = (λ h. absurd (omega arith), (λ h. absurd (omega arith), tt)) }; of_run = tt }),
-  record { actor = lit≤ tt; at_node = (lit< tt, refl); by_client = record { mini = a_writes; issued = refl; all = refl; several = lit≤ tt; named = (1, lit< tt, refl); own_part = refl; once = refl; open_still = refl; lower = (λ h. refl, (λ h. absurd (omega arith), tt)) }; of_run = tt },
+  (
+    keeps_again,
+    record {
+      actor = lit≤ tt;
+      at_node = (lit< tt, refl);
+      by_client = record { mini = a_writes; issued = refl; all = refl; several = lit≤ tt; named = (0, lit< tt, refl); own_part = refl; once = refl; open_still = refl; lower = (λ h. absurd (omega arith), (λ h. absurd (omega arith), tt)) };
+      of_run = tt;
+    },
+  ),
+  record {
+    actor = lit≤ tt;
+    at_node = (lit< tt, refl);
+    by_client = record { mini = a_writes; issued = refl; all = refl; several = lit≤ tt; named = (1, lit< tt, refl); own_part = refl; once = refl; open_still = refl; lower = (λ h. refl, (λ h. absurd (omega arith), tt)) };
+    of_run = tt;
+  },
 )
 
 -- What they come to
@@ -129,7 +208,11 @@ records_1_example = refl
 -- the first coordinator's Force stands before the refusal
 forced_by_example : WasForcedBy forced (node 1) (id 0 1) (client 17)
 forced_by_example = record {
-  entry = record { node = Some (node 1); client = Some (client 17); what = Called (Ask.Force (id 0 1)) (Say.Vote false) };
+  entry = record {
+    node = Some (node 1);
+    client = Some (client 17);
+    what = Called (Ask.Force (id 0 1)) (Say.Vote false);
+  };
   later = [];
   older = call 17 0 (Ask.Force (id 0 1)) listed;
   split = refl;
@@ -153,10 +236,16 @@ recovery_example : recovers_nothing (client_entries (client 17) ended) ≡ false
 recovery_example = refl
 
 -- before its Decide the client's plan is given up and over, but not settled
-given_up_example : is_given_up (client_entries (client 0) given_up) (record { tid = id 0 1; mini = a_writes }) ≡ true
+given_up_example : is_given_up (client_entries (client 0) given_up) (record {
+  tid = id 0 1;
+  mini = a_writes;
+}) ≡ true
 given_up_example = refl
 
-over_example : is_over (since_begin (client_entries (client 0) given_up)) (record { tid = id 0 1; mini = a_writes }) ≡ true
+over_example : is_over (since_begin (client_entries (client 0) given_up)) (record {
+  tid = id 0 1;
+  mini = a_writes;
+}) ≡ true
 over_example = refl
 
 unsettled_example : are_settled (since_begin (client_entries (client 0) given_up)) ≡ false
