@@ -26,8 +26,8 @@ use Rattle.mn_world.specs.declared.entry.What.TheVariants.{Issue, Called}
 use Rattle.mn_world.specs.Calls.{call_in, calls_of, is_try, is_prepare, is_decide, is_down_reply}
 use Rattle.mn_world.specs.Calls.{is_stopped, was_told, was_decided, client_entries, issues_of}
 use Rattle.mn_world.specs.Calls.{since_begin, under_way}
-use Rattle.mn_world.specs.Shown.{seen_at}
-use Rattle.mn_world.specs.Answers.{FailedTries, ShowsBytes, nodes_of, part_compares}
+use Rattle.mn_world.specs.Shown.{seen_at, seen_in}
+use Rattle.mn_world.specs.Answers.{FailedTries, MeetsFault, ShowsBytes, nodes_of, part_compares}
 use Rattle.mn_world.specs.Protocol.{Start, run_number, records_of}
 use Rattle.mn_world.specs.Laws.{part_of_request}
 use Rattle.mn_world.specs.Meaning.{OpenedRun, StandsAt, AnswersOp, CommitsPlanAt}
@@ -249,20 +249,34 @@ MovedByOther =
 
 -- Path
 
--- another operation's plan is committed within the last try: from an entry of it on, before another
-pub record PathMoved (past : List Entry) (c : ClientNo) (number place : ℕ) (addr : Addr) (seq : ℕ)
-    : Type 0 where
-  pub tries : BusyTries past c number place (Path addr seq)
+-- before this place, from an entry of the last try on, a plan of another operation is committed
+pub record CommitsWithin {past : List Entry} {c : ClientNo} {number place : ℕ} {busy : Busy}
+    (tries : BusyTries past c number place busy) (at : ℕ) : Type 0 where
   pub from : ℕ
   pub first : Entry
   pub begins : IsInLast tries from first
-  pub to : ℕ
-  pub last : Entry
-  pub ends : IsInLast tries to last
-  -- the other operation
   pub commit : ℕ
   pub other : CommitsOther past c number commit
-  pub inside : (from ≤ commit) × (commit < to)
+  pub inside : (from ≤ commit) × (commit < at)
+
+-- what the last try read up to this entry meets the fault
+abbrev pub MeetsAt : {past : List Entry} {c : ClientNo} {number place at : ℕ} {busy : Busy}
+    {e : Entry} → (tries : BusyTries past c number place busy) → IsInLast tries at e → Type 0
+MeetsAt {past} {c} {number} {place} {at} {busy} {e} tries i =
+    MeetsFault (nodes_of (issues_of (since_begin (client_entries c tries.before))))
+    (seen_in (e ∷ i.older)) tries.op busy
+
+-- the last try meets the fault at an entry, and at each such entry another operation's plan has
+-- been committed within the try
+pub record PathMoved (past : List Entry) (c : ClientNo) (number place : ℕ) (addr : Addr) (seq : ℕ)
+    : Type 0 where
+  pub tries : BusyTries past c number place (Path addr seq)
+  pub to : ℕ
+  pub reader : Entry
+  pub reads : IsInLast tries to reader
+  pub meets : MeetsAt tries reads
+  pub moved : (at : ℕ) (e : Entry) (i : IsInLast tries at e) → MeetsAt tries i
+      → CommitsWithin tries at
 
 abbrev pub PathByOther : Type 0
 PathByOther =

@@ -235,7 +235,7 @@ pub fn moved_by_other()
     ensures { MovedByOther }
 {}
 
-/// Where the last try met a fault of path, another operation's plan was committed within it.
+/// Where the last try met a fault of path, another operation's plan had been committed within it.
 pub fn path_by_other()
     ensures { PathByOther }
 {}

@@ -1,7 +1,7 @@
 -- The last try of an operation that was busy: its entries in the log.
 use Rattle.std.proofs.Common.{◌≡◌, ℕ, ◌<◌, List, [], ◌∷◌, ◌++◌, length, Option, Some, refl, sym, ap, ◌∙◌, arith}
 use Rattle.std.specs.List.{flat_map}
-use Rattle.std.proofs.lemmas.List.{append_assoc}
+use Rattle.std.proofs.lemmas.List.{append_assoc, append_cancel_left}
 use Rattle.mn_base.specs.declared.ids.NodeNo.{NodeNo}
 use Rattle.mn_base.specs.declared.ids.ClientNo.{ClientNo}
 use Rattle.mn_base.specs.declared.answer.Busy.{Busy}
@@ -169,6 +169,34 @@ as_in_last t newer y older i = record {
   older = older;
   in_try = i.in_try;
   behind = i.behind;
+  of = i.of;
+}
+
+pub since_is : {past : List Entry} {c : ClientNo} {number place at : ℕ} {busy : Busy} {y : Entry} (t : BusyTries past c number place busy) (i : IsInLast t at y)
+    → since_begin (client_entries c i.before) ≡ i.older ++ tries_before t
+since_is {past} {c} {number} {place} {at} {busy} {y} t i = ap since_begin same ∙ sym s.rest
+  where
+    list : client_entries c t.before ≡ (t.failed.rest ++ i.newer) ++ y ∷ client_entries c i.before
+    list = client_split c t.before i.later y i.before i.split (is_own c y i.client) ∙ ap (λ (l : List Entry). l ++ y ∷ client_entries c i.before) i.behind
+
+    s : SinceSplit (client_entries c t.before) (t.failed.rest ++ i.newer) y (i.older ++ tries_before t)
+    s = since_split (client_entries c t.before) (t.failed.rest ++ i.newer) y (i.older ++ tries_before t) (since_whole t i.newer y i.older i.in_try)
+
+    tails : (x z : Entry) (xs zs : List Entry) → x ∷ xs ≡ z ∷ zs → xs ≡ zs
+    tails x z xs zs e = cc
+
+    same : client_entries c i.before ≡ s.before
+    same = tails y y (client_entries c i.before) s.before (append_cancel_left (t.failed.rest ++ i.newer) (y ∷ client_entries c i.before) (y ∷ s.before) (sym list ∙ s.split))
+
+abbrev pub from_is : {past : List Entry} {c : ClientNo} {number place at : ℕ} {busy : Busy} {y : Entry} (t : BusyTries past c number place busy) (i : IsInLast t at y) → InLast t i.newer y i.older
+from_is t i = record {
+  later = i.later;
+  before = i.before;
+  split = i.split;
+  client = i.client;
+  in_try = i.in_try;
+  behind = i.behind;
+  since = since_is t i;
   of = i.of;
 }
 

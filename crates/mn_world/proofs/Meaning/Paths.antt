@@ -27,7 +27,7 @@ use Rattle.mn_world.specs.Commits.{committed_by}
 use Rattle.mn_world.specs.Shown.{Seen, seen_in, seen_at}
 use Rattle.mn_world.specs.Answers.{RefusedAs, MeetsFault, FailsAs, nodes_of}
 use Rattle.mn_world.specs.Protocol.{Start, start_nodes, FollowsProtocol, AllowedAt, AllowedBy, IsOfRun}
-use Rattle.mn_world.specs.Causes.{BusyTries, IsInLast, PathMoved, PathByOther}
+use Rattle.mn_world.specs.Causes.{BusyTries, IsInLast, CommitsWithin, PathMoved, PathByOther}
 use Rattle.mn_world.proofs.Reading.MakeRun.{runs_follow_protocol}
 use Rattle.mn_world.proofs.Reading.Sees.{seen_in-cons}
 use Rattle.mn_world.proofs.Reading.NewCalls.{by_of}
@@ -42,7 +42,7 @@ use Rattle.mn_world.proofs.Meaning.Scanned.{SeenAfter, seen_after}
 use Rattle.mn_world.proofs.Meaning.Positions.{client_split, is_own}
 use Rattle.mn_world.proofs.Meaning.Legal.{known_run}
 use Rattle.mn_world.proofs.Meaning.Exists.{history_exists}
-use Rattle.mn_world.proofs.Meaning.LastTry.{InLast, in_last, Deeper, deeper, as_in_last, since_whole, tries_before, busy_tries, in_log}
+use Rattle.mn_world.proofs.Meaning.LastTry.{InLast, in_last, from_is, Deeper, deeper, as_in_last, since_whole, tries_before, busy_tries, in_log}
 use Rattle.mn_world.proofs.Meaning.Moved.{CommitIn, BroughtIn, brought, commits_other}
 use Rattle.mn_world.proofs.Meaning.Faults.{IsSeenIn, no_fault}
 
@@ -62,7 +62,8 @@ last_of (x ∷ xs) = inr (by (last_of xs))
     by (inr e) = record { front = x ∷ e.front; oldest = e.oldest; is = ap (λ (l : List Entry). x ∷ l) e.is }
 
 -- the log from the oldest entry of the last try up to its newest, and the log before the try
-record LogOf {past : List Entry} {c : ClientNo} {number place : ℕ} {busy : Busy} (t : BusyTries past c number place busy) (x : Entry) (try : List Entry) (i : InLast t [] x try) : Type 0 where
+record LogOf {past : List Entry} {c : ClientNo} {number place : ℕ} {busy : Busy} (t : BusyTries past c number place busy) (newer : List Entry) (x : Entry) (try : List Entry) (i : InLast t newer x try)
+    : Type 0 where
   span : List Entry
   base : List Entry
   split : i.before ≡ span ++ base
@@ -70,19 +71,20 @@ record LogOf {past : List Entry} {c : ClientNo} {number place : ℕ} {busy : Bus
   first : (span ≡ []) ⊎ ((y : Entry) × IsInLast t (length base) y)
   of : under_way (client_entries c base) ≡ Some (record { number = number; op = t.op })
 
-log_of : {past : List Entry} {c : ClientNo} {number place : ℕ} {busy : Busy} (t : BusyTries past c number place busy) (x : Entry) (try : List Entry) (i : InLast t [] x try) → LogOf t x try i
-log_of {past} {c} {number} {place} {busy} t x try i = by (last_of try)
+log_of : {past : List Entry} {c : ClientNo} {number place : ℕ} {busy : Busy} (t : BusyTries past c number place busy) (newer : List Entry) (x : Entry) (try : List Entry) (i : InLast t newer x try)
+    → LogOf t newer x try i
+log_of {past} {c} {number} {place} {busy} t newer x try i = by (last_of try)
   where
-    by : (try ≡ []) ⊎ Ends try → LogOf t x try i
+    by : (try ≡ []) ⊎ Ends try → LogOf t newer x try i
     by (inl none) = record { span = []; base = i.before; split = refl; own = sym none; first = inl refl; of = i.of }
     by (inr e) =
-        let d : Deeper t [] x try i e.front e.oldest [] = deeper t [] x try i e.front e.oldest [] e.is in
+        let d : Deeper t newer x try i e.front e.oldest [] = deeper t newer x try i e.front e.oldest [] e.is in
         record {
           span = d.between ++ e.oldest ∷ [];
           base = d.is.before;
           split = d.split ∙ sym (append_assoc d.between (e.oldest ∷ []) d.is.before);
           own = client_split c (d.between ++ e.oldest ∷ []) d.between e.oldest [] refl (is_own c e.oldest d.is.client) ∙ (ap (λ (l : List Entry). l ++ e.oldest ∷ []) d.own ∙ sym e.is);
-          first = inr (e.oldest, as_in_last t ([] ++ x ∷ e.front) e.oldest [] d.is);
+          first = inr (e.oldest, as_in_last t (newer ++ x ∷ e.front) e.oldest [] d.is);
           of = d.is.of;
         }
 
@@ -200,17 +202,14 @@ path_by_other start store past place e c number addr seq h stands answers = at_l
     follows : FollowsProtocol start past
     follows = runs_follow_protocol start past h.run
 
-    by_fault : (x : Entry) (try : List Entry) → t.failed.last ≡ x ∷ try → MeetsFault (nodes_of (issues_of (since_begin (client_entries c t.before)))) (seen_in (x ∷ try)) t.op (Path addr seq) → PathMoved past c number place addr seq
-    by_fault x try is fault = tell (stays_all start front.span front.base)
+    by_fault : (newer : List Entry) (x : Entry) (try : List Entry) (i : InLast t newer x try) → MeetsFault (nodes_of (issues_of (since_begin (client_entries c t.before)))) (seen_in (x ∷ try)) t.op (Path addr seq) → CommitsWithin t (length i.before)
+    by_fault newer x try i fault = tell (stays_all start front.span front.base)
       where
-        i : InLast t [] x try
-        i = in_last t [] x try is
-
-        front : LogOf t x try (in_last t [] x try is)
-        front = log_of t x try (in_last t [] x try is)
+        front : LogOf t newer x try i
+        front = log_of t newer x try i
 
         there : past ≡ (t.later ++ (t.answer ∷ i.later)) ++ x ∷ i.before
-        there = in_log t (as_in_last t [] x try i)
+        there = in_log t (as_in_last t newer x try i)
 
         to_x : FollowsProtocol start (x ∷ i.before)
         to_x = follows_before start past (t.later ++ (t.answer ∷ i.later)) (x ∷ i.before) there follows
@@ -252,20 +251,23 @@ path_by_other start store past place e c number addr seq h stands answers = at_l
             b : BroughtIn (x ∷ try) seen
             b = brought (x ∷ try) seen has
 
+            in_try : t.failed.last ≡ (newer ++ b.newer) ++ b.entry ∷ b.older
+            in_try = i.in_try ∙ (ap (λ (l : List Entry). newer ++ l) b.split ∙ sym (append_assoc newer b.newer (b.entry ∷ b.older)))
+
             -- the entry that read it
-            j : InLast t b.newer b.entry b.older
-            j = in_last t b.newer b.entry b.older (is ∙ b.split)
+            j : InLast t (newer ++ b.newer) b.entry b.older
+            j = in_last t (newer ++ b.newer) b.entry b.older in_try
 
             issue : (tid : Tid) × (mini : Mini) × (issue_named tid (issues_of (since_begin (client_entries c j.before))) ≡ Some mini)
             issue = read_issue start j.before c b.entry seen (follows_before start t.before j.later (b.entry ∷ j.before) j.split to_answer) (is_own c b.entry j.client) b.brought
 
-            some : (i : Issued) × (is : List Issued) × (issues_of ((t.failed.rest ++ b.newer) ++ b.entry ∷ (b.older ++ tries_before t)) ≡ i ∷ is)
+            some : (i : Issued) × (is : List Issued) × (issues_of ((t.failed.rest ++ (newer ++ b.newer)) ++ b.entry ∷ (b.older ++ tries_before t)) ≡ i ∷ is)
             some =
-                issued_some (t.failed.rest ++ b.newer) b.entry (b.older ++ tries_before t) issue.0 issue.1
+                issued_some (t.failed.rest ++ (newer ++ b.newer)) b.entry (b.older ++ tries_before t) issue.0 issue.1
                 (ap (λ (es : List Entry). issue_named issue.0 (issues_of es)) (sym j.since) ∙ issue.2)
 
             now_is : issues_of (since_begin (client_entries c t.before)) ≡ some.0 ∷ some.1
-            now_is = ap issues_of (since_whole t b.newer b.entry b.older (is ∙ b.split)) ∙ some.2
+            now_is = ap issues_of (since_whole t (newer ++ b.newer) b.entry b.older in_try) ∙ some.2
 
             none_some : (i : Issued) (is : List Issued) → [] ≡ i ∷ is → ⊥
             none_some i is e = cc
@@ -281,7 +283,7 @@ path_by_other start store past place e c number addr seq h stands answers = at_l
             some_store start store past history.0 known ((t.later ++ (t.answer ∷ i.later)) ++ (x ∷ front.span)) front.base
             (there ∙ (ap (λ (es : List Entry). (t.later ++ (t.answer ∷ i.later)) ++ x ∷ es) front.split ∙ sym (append_assoc (t.later ++ (t.answer ∷ i.later)) (x ∷ front.span) front.base)))
 
-        tell : StaysAll start front.span front.base ⊎ CommitIn front.span front.base → PathMoved past c number place addr seq
+        tell : StaysAll start front.span front.base ⊎ CommitIn front.span front.base → CommitsWithin t (length i.before)
         tell (inl all) = absurd (no_fault (flat start front.base) some_holds.0 some_holds.1 (seen_in (x ∷ try)) (stood all) (nodes_of (issues_of (since_begin (client_entries c t.before)))) nodes_are t.op addr seq fault)
         tell (inr co) = from front.first
           where
@@ -292,19 +294,15 @@ path_by_other start store past place e c number addr seq h stands answers = at_l
             no_commit [] y older h = cc
             no_commit (z ∷ newer) y older h = cc
 
-            from : (front.span ≡ []) ⊎ ((y : Entry) × IsInLast t (length front.base) y) → PathMoved past c number place addr seq
+            from : (front.span ≡ []) ⊎ ((y : Entry) × IsInLast t (length front.base) y) → CommitsWithin t (length i.before)
             from (inl none) = absurd (no_commit co.newer co.entry co.older (sym none ∙ co.split))
             from (inr first) =
                 let sum = length-append co.older front.base in
                 let below = shorter_by i.before co.newer co.entry (co.older ++ front.base) base_split in
                 record {
-                  tries = t;
                   from = length front.base;
                   first = first.0;
                   begins = first.1;
-                  to = length i.before;
-                  last = x;
-                  ends = as_in_last t [] x try i;
                   commit = length (co.older ++ front.base);
                   other = commits_other start store past place e c number (Path addr seq) h stands answers (t.later ++ (t.answer ∷ i.later)) x i.before there co.newer co.entry (co.older ++ front.base)
                       co.issued base_split co.commits co.not_read;
@@ -317,4 +315,11 @@ path_by_other start store past place e c number addr seq h stands answers = at_l
       where
         by : FailsAs (nodes_of (issues_of (since_begin (client_entries c t.before)))) t.op (x ∷ try) (Path addr seq) → PathMoved past c number place addr seq
         by (inl (call, here, refused)) = absurd (path_refused (seen_in try) call.node call.request call.reply addr seq refused)
-        by (inr fault) = by_fault x try is fault
+        by (inr fault) = record {
+          tries = t;
+          to = length (in_last t [] x try is).before;
+          reader = x;
+          reads = as_in_last t [] x try (in_last t [] x try is);
+          meets = fault;
+          moved = λ at e i meets. subst (λ (k : ℕ). CommitsWithin t k) (sym i.is_place) (by_fault i.newer e i.older (from_is t i) meets);
+        }

@@ -96,7 +96,8 @@ undisturbed_is_sure start store past c number answer h u = by answer u
     path : (addr : Addr) (seq : ℕ) → IsUndisturbed start past c number (GaveUp (Path addr seq)) → ⊥
     path addr seq v =
         let m = path_by_other start store past (length (v.between ++ v.begins ∷ v.before)) v.answers c number addr seq h (v.later, v.between ++ v.begins ∷ v.before, v.split, refl) v.answered in
-        none_other start store past c number (GaveUp (Path addr seq)) h v m.tries m.begins m.ends m.commit m.other m.inside.0 m.inside.1
+        let w = m.moved m.to m.reader m.reads m.meets in
+        none_other start store past c number (GaveUp (Path addr seq)) h v m.tries w.begins m.reads w.commit w.other w.inside.0 w.inside.1
 
     by : (a : Answer) → IsUndisturbed start past c number a → IsUndisturbedAnswer a
     by (Down n) v = up (Down n) v
