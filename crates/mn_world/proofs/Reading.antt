@@ -5,3 +5,4 @@ pub mod Steps
 pub mod NewCalls
 pub mod Unchanged
 pub mod MakeRun
+pub mod Gathered

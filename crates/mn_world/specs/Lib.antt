@@ -19,3 +19,4 @@ pub mod Meaning
 pub mod Causes
 pub mod OneHistory
 pub mod Undisturbed
+pub mod Scans

@@ -13,6 +13,7 @@ ghost use Rattle.mn_world.specs.OneHistory.{RunsHaveHistory, RunsAreOneHistory};
 ghost use Rattle.mn_world.specs.Meaning.{HistoryIsOne, CommittedStands, OnlyThoseStand};
 ghost use Rattle.mn_world.specs.Meaning.{PlansLieBehind, OnePlanEach, HoldsThroughout, StaysOpened};
 ghost use Rattle.mn_world.specs.Meaning.{EndsOpened, StopsLeaveOpened, FrozenNeverChanges};
+ghost use Rattle.mn_world.specs.Scans.{GatheredStays, LeavesAreGathered, GatheredIsShown};
 ghost use Rattle.mn_world.specs.Causes.{LockWasHeld, LockOfOther, ForcedStands, ForcedByOther};
 ghost use Rattle.mn_world.specs.Causes.{MovedByOther, PathByOther};
 ghost use Rattle.mn_world.specs.Undisturbed.{UpIsSure, OnlyOwnCommits, UndisturbedIsSure};
@@ -241,6 +242,23 @@ pub fn stops_leave_opened()
 /// A version that is frozen at one place stands unchanged at every later one.
 pub fn frozen_never_changes()
     ensures { FrozenNeverChanges }
+{}
+
+// What a scan gathers
+
+/// What a scan has gathered stays so with further reads.
+pub fn gathered_stays()
+    ensures { GatheredStays }
+{}
+
+/// A leaf that may come next brings its pairs within the bounds, as far as the limit allows.
+pub fn leaves_are_gathered()
+    ensures { LeavesAreGathered }
+{}
+
+/// At the limit, or where a leaf reaches the upper bound, what was gathered shows the scan's reply.
+pub fn gathered_is_shown()
+    ensures { GatheredIsShown }
 {}
 
 // Why an operation was busy
