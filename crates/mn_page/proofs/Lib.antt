@@ -10,6 +10,9 @@ pub mod Alike
 pub mod Spelled
 pub mod Split
 pub mod Copy
+pub mod Descent
+pub mod Added
+pub mod AddedStore
 pub mod Base
 pub mod Examples
 pub mod Scanned

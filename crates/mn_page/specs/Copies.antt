@@ -3,7 +3,8 @@ use Rattle.mn_base.specs.declared.ids.VersionNo.{VersionNo}
 use Rattle.mn_page.specs.declared.page.Page.{Page}
 use Rattle.mn_page.specs.Overlay.{copied_for, new_page, next_number}
 
--- the old page as it is written again: with the version in its copied set and the next sequence number, where the last one stays
+-- the old page as it is written again: with the version in its copied set and the next sequence
+-- number, where the last one stays
 abbrev pub marked_for : VersionNo → Page → Page
 marked_for v p = record (copied_for v p) { seq = next_number p.seq }
 

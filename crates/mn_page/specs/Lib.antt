@@ -5,6 +5,7 @@ pub mod Holds
 pub mod Laws
 pub mod Overlay
 pub mod Copies
+pub mod Added
 pub mod Written
 pub mod Reading
 pub mod Fronts

@@ -1,6 +1,7 @@
 ghost use Rattle.mn_base.specs.Store.{empty_store};
 ghost use Rattle.mn_page.specs.Forest.{memory_of, base_forest};
 ghost use Rattle.mn_page.specs.Holds.{Holds};
+ghost use Rattle.mn_page.specs.Added.{SnapshotIsShown, BranchIsShown};
 ghost use Rattle.mn_page.specs.Laws.{LeafTells, LeafTellsGet, NoneTooHigh};
 
 /// The space of one fresh node holds the store with the empty version `main`.
@@ -22,4 +23,12 @@ pub fn leaf_tells_get()
 /// In a memory that holds a store no page is higher than 14.
 pub fn none_too_high()
     ensures { NoneTooHigh }
+{}
+
+/// A Snapshot and a Branch: where the root page of the parent is marked for the new version and its
+/// copy stands at a free address, the pages and the entries with the new one behind them are a tree
+/// that shows what the operation makes of the store. A Snapshot freezes the parent's entry.
+pub fn child_is_shown()
+    ensures snapshot { SnapshotIsShown }
+    ensures branch { BranchIsShown }
 {}
