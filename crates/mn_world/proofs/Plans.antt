@@ -8,7 +8,9 @@ pub mod Kept
 pub mod PutInPlace
 pub mod SplitRoot
 pub mod HoldsOne
+pub mod Entries
 pub mod Told
 pub mod NextSlots
 pub mod Grown
 pub mod Written
+pub mod WrittenVersions

@@ -1,16 +1,17 @@
--- Writes of pages and counts: when they leave the memory of a forest that has grown. What met compares tell of a forest, and which numbers the writes have.
-use Rattle.std.specs.Prelude.{ℕ, ◌≡◌, ◌+◌, ◌^◌, ◌<◌, not, nat_eq, List, [], ◌∷◌, ◌++◌, length, map, filter, Some, None, ⊤, if◌then◌else◌, Contains, slice_get, slice_set, slice_index_or}
+-- Writes of pages, entries and counts: when they leave the memory of a forest that has grown. What met compares tell of a forest, and which numbers the writes have.
+use Rattle.std.specs.Prelude.{ℕ, zero, suc, ◌≡◌, ◌+◌, ◌^◌, ◌<◌, ◌≤◌, not, nat_eq, List, [], ◌∷◌, ◌++◌, length, map, filter, replicate, Some, None, ⊤, if◌then◌else◌, Contains, slice_get, slice_set, slice_index_or}
 use Rattle.std.specs.List.{AllByRecursion, range_with_len}
 use Rattle.std.specs.Option.{option_or}
 use Rattle.mn_base.specs.Store.{Store, max_versions}
 use Rattle.mn_base.specs.declared.ids.Addr.{Addr}
 use Rattle.mn_base.specs.declared.ids.NodeNo.{NodeNo}
 use Rattle.mn_mini.specs.declared.item.Item.{Item}
+use Rattle.mn_mini.specs.declared.item.Item.TheVariants.{Compare, Write}
 use Rattle.mn_mini.specs.Flat.{mismatch_from, memory_after}
 use Rattle.mn_page.specs.declared.page.Page.{Page}
 use Rattle.mn_page.specs.declared.entry.CatEntry.{CatEntry}
-use Rattle.mn_page.specs.Space.{max_slots}
-use Rattle.mn_page.specs.Grammar.{IsPage, IsEntry}
+use Rattle.mn_page.specs.Space.{max_slots, entry_size, entry_start}
+use Rattle.mn_page.specs.Grammar.{IsPage, IsEntry, entry_bytes}
 use Rattle.mn_page.specs.Forest.{Forest, node_count, page_at}
 use Rattle.mn_page.specs.Holds.{PagesAt, Holds, IsTree, ShowsStore}
 use Rattle.mn_page.specs.Overlay.{Held, held_at}
@@ -84,12 +85,66 @@ WritesLeaveStore =
     → IsTree holds.forest.entries (over (changed ++ new) (page_at holds.forest)) → ShowsStore holds.forest.entries (over (changed ++ new) (page_at holds.forest)) after
     → Holds (memory_after memory (map write_held changed ++ map write_held new ++ count_writes counts (addrs_of new))) after
 
+-- Entries
+
+-- an entry with the number of its version
+abbrev pub Numbered : Type 0
+Numbered = ℕ × CatEntry
+
+abbrev pub write_entry : ℕ → CatEntry → Item
+write_entry v e = Write (node_no 0) (entry_start v) (entry_bytes e)
+
+abbrev pub write_numbered : Numbered → Item
+write_numbered w = write_entry w.0 w.1
+
+-- the entries with this one in its place, or behind them
+abbrev pub entries_with : List CatEntry → ℕ → CatEntry → List CatEntry
+entries_with [] v e = e ∷ []
+entries_with (d ∷ entries) zero e = e ∷ entries
+entries_with (d ∷ entries) (suc v) e = d ∷ entries_with entries v e
+
+-- with these, one after another
+abbrev pub entries_after : List CatEntry → List Numbered → List CatEntry
+entries_after entries [] = entries
+entries_after entries (w ∷ ws) = entries_after (entries_with entries w.0 w.1) ws
+
+-- each is of a version that is there then, or of the next one, for which there is room
+abbrev pub AreNextEntries : List CatEntry → List Numbered → Type 0
+AreNextEntries entries [] = ⊤
+AreNextEntries entries (w ∷ ws) =
+    (w.0 ≤ length entries) × (w.0 < max_versions) × IsEntry w.1
+    × AreNextEntries (entries_with entries w.0 w.1) ws
+
+-- the same where entries are written between the pages and the counts: if the pages and the entries
+-- are a tree then that shows a store, the memory holds it
+abbrev pub WritesLeaveVersions : Type 0
+WritesLeaveVersions =
+    (memory : List (List ℕ)) (store after : Store) (holds : Holds memory store)
+    (changed new : List Held) (entries : List Numbered) (counts : List ℕ)
+    → AllByRecursion (λ h. (was : Page) × (page_at holds.forest h.addr ≡ Some was)) changed
+    → AreDifferent (addrs_of changed) → AllByRecursion (λ h. IsPage h.page) (changed ++ new)
+    → AreCounts holds.forest counts (addrs_of new) → AreNextSlots counts (addrs_of new)
+    → AreNextEntries holds.forest.entries entries
+    → IsTree (entries_after holds.forest.entries entries)
+    (over (changed ++ new) (page_at holds.forest))
+    → ShowsStore (entries_after holds.forest.entries entries)
+    (over (changed ++ new) (page_at holds.forest)) after
+    → Holds
+    (memory_after memory
+    (map write_held changed ++ map write_held new ++ map write_numbered entries
+    ++ count_writes counts (addrs_of new))) after
+
 -- Compares
+
+-- the place of a version that isn't there
+abbrev pub compare_unused : ℕ → Item
+compare_unused v = Compare (node_no 0) (entry_start v) (replicate entry_size 0)
 
 -- where a plan's compares are met, the forest has just what they name
 pub record AreMet (f : Forest) (items : List Item) : Type 0 where
   pub pages : (addr : Addr) (p : Page) → Contains items (compare_page addr p) → addr.node.0 < node_count f → IsPage p → page_at f addr ≡ Some p
   pub entries : (v : ℕ) (e : CatEntry) → Contains items (compare_entry v e) → v < max_versions → IsEntry e → slice_get f.entries v ≡ Some e
+  pub unused : (v : ℕ) → Contains items (compare_unused v) → v < max_versions → length f.entries ≤ v
   pub counts : (n : NodeNo) (count : ℕ) → Contains items (compare_count n count) → n.0 < node_count f → count < 2 ^ 64 → count ≡ count_in f n.0
 
 abbrev pub ComparesTell : Type 0
@@ -97,10 +152,14 @@ ComparesTell = (memory : List (List ℕ)) (store : Store) (holds : Holds memory 
 
 -- Numbers
 
--- a page with the next number, a new one with the first, and any count
+-- a page or an entry with the next number, a new one with the first, and any count
 pub record GoOn (f : Forest) (memory : List (List ℕ)) : Type 0 where
   pub changed : (addr : Addr) (was now : Page) → page_at f addr ≡ Some was → IsPage now → now.seq ≡ was.seq + 1 → HasNextNumber memory (write_page addr now)
   pub new : (addr : Addr) (now : Page) → page_at f addr ≡ None → addr.node.0 < node_count f → addr.slot < max_slots → IsPage now → now.seq ≡ 1 → HasNextNumber memory (write_page addr now)
+  pub entries : (v : ℕ) (was now : CatEntry) → slice_get f.entries v ≡ Some was → IsEntry now
+      → now.seq ≡ was.seq + 1 → HasNextNumber memory (write_entry v now)
+  pub next : (now : CatEntry) → length f.entries < max_versions → IsEntry now → now.seq ≡ 1
+      → HasNextNumber memory (write_entry (length f.entries) now)
   pub counts : (n : NodeNo) (count : ℕ) → HasNextNumber memory (write_count n count)
 
 abbrev pub NumbersGoOn : Type 0

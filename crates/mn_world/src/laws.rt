@@ -8,7 +8,7 @@ ghost use Rattle.mn_world.specs.Run.{RunsFollowProtocol};
 ghost use Rattle.mn_page.specs.Holds.{HoldsOne};
 ghost use Rattle.mn_world.specs.Plans.{PutIsPlanned, SplitIsPlanned};
 ghost use Rattle.mn_world.specs.Growth.{ComparesTell, NumbersGoOn, NextSlotsAreFree};
-ghost use Rattle.mn_world.specs.Growth.{WritesLeaveStore};
+ghost use Rattle.mn_world.specs.Growth.{WritesLeaveStore, WritesLeaveVersions};
 ghost use Rattle.mn_world.specs.OneHistory.{RunsHaveHistory, RunsAreOneHistory};
 ghost use Rattle.mn_world.specs.Meaning.{HistoryIsOne, CommittedStands, OnlyThoseStand};
 ghost use Rattle.mn_world.specs.Meaning.{PlansLieBehind, OnePlanEach, HoldsThroughout, StaysOpened};
@@ -178,6 +178,12 @@ pub fn next_slots_are_free()
 /// store that they show.
 pub fn writes_leave_store()
     ensures { WritesLeaveStore }
+{}
+
+/// So do pages and counts with entries that are written between them, in their places or behind the
+/// others.
+pub fn writes_leave_versions()
+    ensures { WritesLeaveVersions }
 {}
 
 // The history of a run

@@ -47,7 +47,7 @@ pub space_in-laid : (l : Laid) (n : NodeNo) → n.0 < length l.pages → space_i
 space_in-laid l n in' = get_or-map-range_with_len (space_laid l) 0 (length l.pages) n.0 n.0 [] in' (omega arith)
 
 -- one space of a memory
-laid_set : (l k : Laid) (n : ℕ) → n < length l.pages → length k.pages ≡ length l.pages → ((m : ℕ) → (m ≡ n → ⊥) → space_laid l m ≡ space_laid k m) → (bytes : List ℕ) → bytes ≡ space_laid k n → slice_set (memory_laid l) n bytes ≡ memory_laid k
+pub laid_set : (l k : Laid) (n : ℕ) → n < length l.pages → length k.pages ≡ length l.pages → ((m : ℕ) → (m ≡ n → ⊥) → space_laid l m ≡ space_laid k m) → (bytes : List ℕ) → bytes ≡ space_laid k n → slice_set (memory_laid l) n bytes ≡ memory_laid k
 laid_set l k n in' nodes others bytes here =
     let z : n ≡ 0 + n = omega arith in
     ap (slice_set (memory_laid l) n) (here ∙ ap (space_laid k) z) ∙ (set_map (space_laid l) (space_laid k) 0 (length l.pages) n in' (λ m e. others m (λ h. e (h ∙ z))) ∙ ap (λ j. map (space_laid k) (range_with_len 0 j)) (sym nodes))

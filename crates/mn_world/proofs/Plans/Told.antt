@@ -1,17 +1,22 @@
 -- What met compares tell of a forest, and which numbers writes have.
-use Rattle.std.proofs.Common.{◌≡◌, ℕ, zero, suc, ◌+◌, ◌*◌, ◌<◌, ◌≤◌, ◌^◌, inl, inr, List, [], ◌∷◌, length, Option, Some, None, refl, subst, sym, ap, ◌∙◌, arith, slice_index_or, Contains}
+use Rattle.std.proofs.Common.{◌≡◌, ℕ, zero, suc, ◌+◌, ◌*◌, ◌<◌, ◌≤◌, ◌^◌, inl, inr, List, [], ◌∷◌, length, take, replicate, Option, Some, None, refl, subst, sym, ap, ◌∙◌, arith, slice_index_or, Contains}
 use Rattle.std.specs.List.{AllByRecursion}
 use Rattle.std.proofs.lemmas.Option.{slice_get_cases}
 use Rattle.mn_base.specs.declared.ids.Addr.{Addr}
 use Rattle.mn_mini.specs.Flat.{bytes_in, space_in}
 use Rattle.mn_page.specs.declared.page.Page.{Page}
+use Rattle.mn_page.specs.declared.entry.CatEntry.{CatEntry}
+use Rattle.mn_page.specs.Grammar.{entry_bytes}
 use Rattle.mn_page.specs.Forest.{Forest, page_at}
 use Rattle.mn_page.proofs.Spelled.{page_length, entry_length, big_bytes-inj}
 use Rattle.mn_page.proofs.Counted.{counted, IsCounted}
-use Rattle.mn_world.specs.Growth.{ComparesTell, NumbersGoOn, count_in}
+use Rattle.byteorder.specs.Endian.{big_bytes}
+use Rattle.mn_world.specs.Planned.{HasNextNumber}
+use Rattle.mn_world.specs.Growth.{ComparesTell, NumbersGoOn, count_in, compare_unused, write_entry}
 use Rattle.mn_world.specs.Plans.{compare_page, compare_entry, compare_count}
 use Rattle.mn_world.proofs.Plans.Laying.{laid_is}
-use Rattle.mn_world.proofs.Plans.Spaces.{memory_by_pages, page_there, page_read, page_node, entry_there, node_0, get_in-index}
+use Rattle.mn_world.proofs.Plans.Spaces.{memory_by_pages, page_there, page_read, page_node, entry_there, entry_read, node_0, get_in-index}
+use Rattle.mn_world.proofs.Plans.Entries.{none_there, unused_read}
 use Rattle.mn_world.proofs.Plans.Compares.{IsMet, all_met}
 use Rattle.mn_world.proofs.Plans.Sizes.{index_below}
 use Rattle.mn_world.proofs.Plans.PutInPlace.{put_numbers}
@@ -35,6 +40,9 @@ compares_tell memory store holds items met = record {
       entry_there holds.forest sound v e few spelled
       (ap (λ (m : List (List ℕ)). bytes_in (space_in m node_0) (64 + 64 * v) 64) (sym is_spelled)
       ∙ (ap (bytes_in (space_in memory node_0) (64 + 64 * v)) (sym (entry_length e spelled)) ∙ all_there (IsMet memory) items (compare_entry v e) mets there));
+  unused = λ v there few.
+      none_there holds.forest sound v few
+      (ap (λ (m : List (List ℕ)). bytes_in (space_in m node_0) (64 + 64 * v) 64) (sym is_spelled) ∙ all_there (IsMet memory) items (compare_unused v) mets there);
   counts = λ n count there in' low.
       let size : count_in holds.forest n.0 ≤ 4096 = index_below holds.forest.pages n.0 sound.counts in
       big_bytes-inj 8 count (count_in holds.forest n.0) low (omega arith)
@@ -51,6 +59,12 @@ compares_tell memory store holds items met = record {
     mets = all_met memory 0 items met
 
 -- Numbers
+
+-- an entry written over another one, or into an unused place
+entry_number : (memory : List (List ℕ)) (v k : ℕ) (old : List ℕ) (now : CatEntry) → bytes_in (space_in memory node_0) (64 + 64 * v) 64 ≡ old → take 8 old ≡ big_bytes 8 k → length (entry_bytes now) ≡ 64 → now.seq ≡ k + 1 → k + 1 < 2 ^ 64
+    → HasNextNumber memory (write_entry v now)
+entry_number memory v k old now read first long next low =
+    inr (k, low, ap (λ n. take 8 (bytes_in (space_in memory node_0) (64 + 64 * v) n)) long ∙ (ap (take 8) read ∙ first), ap (big_bytes 8) next)
 
 -- a slot with no page stands behind those of its node
 pub past_pages : (f : Forest) (addr : Addr) → page_at f addr ≡ None → length (slice_index_or f.pages addr.node.0 []) ≤ addr.slot
@@ -73,6 +87,14 @@ numbers_go_on memory store holds = record {
       new_number memory addr.node addr.slot now
       (ap (λ (m : List (List ℕ)). bytes_in (space_in m addr.node) (20480 + 1024 * addr.slot) 1024) is_spelled ∙ free_read holds.forest sound addr.node addr.slot in' (past_pages holds.forest addr free) room)
       (page_length now spelled) first;
+  entries = λ v was now there spelled next.
+      entry_number memory v was.seq (entry_bytes was) now
+      (ap (λ (m : List (List ℕ)). bytes_in (space_in m node_0) (64 + 64 * v) 64) is_spelled ∙ entry_read holds.forest sound v was there)
+      refl (entry_length now spelled) next (subst (λ k. k < 2 ^ 64) next spelled.seq_high);
+  next = λ now few spelled first.
+      entry_number memory (length holds.forest.entries) 0 (replicate 64 0) now
+      (ap (λ (m : List (List ℕ)). bytes_in (space_in m node_0) (64 + 64 * length holds.forest.entries) 64) is_spelled ∙ unused_read holds.forest sound (length holds.forest.entries) few (omega arith))
+      refl (entry_length now spelled) first (omega arith);
   counts = λ n count. inl (n, refl);
 }
   where
