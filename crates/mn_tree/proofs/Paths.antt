@@ -1,5 +1,5 @@
 -- A walk that reaches a leaf goes the way of the plain model.
-use Rattle.std.proofs.Common.{◌≡◌, ℕ, zero, suc, ◌<◌, ◌≤◌, Bool, true, false, ◌&&◌, List, [], ◌∷◌, Option, Some, None, refl, ap, ◌∙◌, arith, nat_eq, eq-eqb, ne_eqb, eqb-true}
+use Rattle.std.proofs.Common.{◌≡◌, ℕ, zero, suc, ◌<◌, Bool, true, false, ◌&&◌, List, [], ◌∷◌, Option, Some, None, refl, ap, ◌∙◌, arith, nat_eq, eq-eqb, ne_eqb, eqb-true}
 use Rattle.std.specs.Prelude.{if◌then◌else◌}
 use Rattle.std.specs.Option.{option_map_or, option_and_then}
 use Rattle.mn_base.specs.declared.ids.Addr.{Addr}
@@ -7,7 +7,7 @@ use Rattle.mn_page.specs.declared.page.Page.{Page}
 use Rattle.mn_page.specs.Grammar.{height_of}
 use Rattle.mn_page.specs.Forest.{children_of}
 use Rattle.mn_page.specs.Overlay.{Held, held_at, child_for, path_to, max_path}
-use Rattle.mn_tree.specs.Walk.{held, is_met, goes_on, Missing, Wrong, Reached, walk_down}
+use Rattle.mn_tree.specs.Walk.{held, is_met, goes_on, Missing, Wrong, Reached, walk_down, walk}
 use Rattle.mn_tree.specs.Laws.{WalksArePaths}
 
 both : (x y : Bool) → (x && y) ≡ true → x ≡ true
@@ -56,16 +56,23 @@ down parents v (suc height) (suc fuel) pages key addr p above path enough is the
     ap (option_and_then (path_step fuel pages key addr above)) there ∙ inner ∙ at_child parents v height fuel pages key addr (held addr p ∷ above) path later (child_for (children_of p) key) way
 
 module _ (parents : List (Option ℕ)) (v : ℕ) (pages : List Held) (root : Addr) (key : List ℕ) (path : List Held) where
-  covered : (p : Page) (covers : Bool) → held_at pages root ≡ Some p → (if covers then walk_down parents v (height_of p.body) pages key (held root p) [] else Wrong root) ≡ Reached path → height_of p.body ≤ 14
+  covered : (p : Page) (covers : Bool) → held_at pages root ≡ Some p → (if covers then walk_down parents v (height_of p.body) pages key (held root p) [] else Wrong root) ≡ Reached path → height_of p.body < max_path
       → path_to max_path pages root key [] ≡ Some path
-  covered p true there way low = down parents v (height_of p.body) max_path pages key root p [] path (omega (arith, low)) refl there way
+  covered p true there way low = down parents v (height_of p.body) max_path pages key root p [] path low refl there way
   covered p false there way low = absurd cc
 
   from_root : (o : Option Page) → held_at pages root ≡ o
       → option_map_or (λ p. if is_met parents v key p then walk_down parents v (height_of p.body) pages key (held root p) [] else Wrong root) o (Missing root None) ≡ Reached path
-      → option_map_or (λ p. height_of p.body) o 0 ≤ 14 → path_to max_path pages root key [] ≡ Some path
+      → option_map_or (λ p. height_of p.body) o 0 < max_path → path_to max_path pages root key [] ≡ Some path
   from_root None there way low = absurd cc
   from_root (Some p) there way low = covered p (is_met parents v key p) there way low
 
+-- where the root is lower than a path is long
+pub below_max : (parents : List (Option ℕ)) (v : ℕ) (pages : List Held) (root : Addr) (key : List ℕ) (path : List Held)
+    → walk parents v pages root key ≡ Reached path
+    → option_map_or (λ p. height_of p.body) (held_at pages root) 0 < max_path
+    → path_to max_path pages root key [] ≡ Some path
+below_max parents v pages root key path way low = from_root parents v pages root key path (held_at pages root) refl way low
+
 pub walks_are_paths : WalksArePaths
-walks_are_paths parents v pages root key path way low = from_root parents v pages root key path (held_at pages root) refl way low
+walks_are_paths parents v pages root key path way low = below_max parents v pages root key path way (omega (arith, low))

@@ -39,3 +39,5 @@ pub mod Sizes
 pub mod PlacedPages
 pub mod Tries
 pub mod Origins
+pub mod Heights
+pub mod Plain

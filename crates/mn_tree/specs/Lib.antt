@@ -13,3 +13,4 @@ pub mod Moves
 pub mod Laws
 pub mod MoveLaws
 pub mod Tries
+pub mod Plain

@@ -1,6 +1,7 @@
 ghost use Rattle.mn_tree.specs.Laws.{WalksArePaths, ReadsAreDraft, AddKeepsDraft, PathTells, StepKeepsTree, TransactionKeepsTree, TransactionTells, PlacingKeepsTree, StepReadsChanged, PlacedKeepsTree, SteppedKeepsTree};
 ghost use Rattle.mn_tree.specs.MoveLaws.{MovesKeepTree, MovesTell, MovesRead, PlacedArePages, MovesArePlaced, MovesComeOnce, QuietMoves};
 ghost use Rattle.mn_tree.specs.Tries.{MovesTakePages, MovesTakeSteps, MovesAreMet, NeedsAreAbsent, NeedsAreSlots, NeedsMayCome, BadPathsCame, PlacedHaveRoom};
+ghost use Rattle.mn_tree.specs.Plain.{MovesAreSteps, UnmetMovesChangeNothing, TriesShowNeeds, UnmetNeedsNothing};
 
 /// Where the root isn't too high, a walk that reaches a leaf goes the way of the plain model of the tree.
 pub fn walks_are_paths()
@@ -130,4 +131,26 @@ pub fn bad_paths_came()
 /// The pages that a plan writes are no larger than a slot.
 pub fn placed_have_room()
     ensures { PlacedHaveRoom }
+{}
+
+/// In the plain model, over the pages that came in, the steps of moves whose Checks are all met
+/// leave what the moves leave.
+pub fn moves_are_steps()
+    ensures { MovesAreSteps }
+{}
+
+/// There, steps with an unmet Check leave the pages as they came in.
+pub fn unmet_moves_change_nothing()
+    ensures { UnmetMovesChangeNothing }
+{}
+
+/// The new pages of a try are as many as the slots that its transaction takes, and the old pages
+/// that it changed are those that the transaction writes.
+pub fn tries_show_needs()
+    ensures { TriesShowNeeds }
+{}
+
+/// A transaction with an unmet Check takes no slot and writes no page.
+pub fn unmet_needs_nothing()
+    ensures { UnmetNeedsNothing }
 {}
