@@ -22,7 +22,8 @@ pub use laws::{
     prepares_read_nothing, put_is_planned, reads_are_flat, records_stay_sound, refused_is_never,
     runs_are_one_history, runs_follow_protocol, runs_have_history, seen_is_flat, spaces_agree,
     split_is_planned, stays_opened, stops_leave_opened, undisturbed_is_answered,
-    undisturbed_is_sure, unkept_is_never, up_is_sure, writes_leave_store, writes_leave_versions, yes_has_votes,
+    undisturbed_is_sure, unkept_is_never, up_is_sure, writes_leave_store, writes_leave_versions,
+    yes_has_votes,
 };
 pub use lists::{ClientList, EntryList, Log};
 
