@@ -13,6 +13,7 @@ pub mod Copy
 pub mod Descent
 pub mod Added
 pub mod AddedStore
+pub mod Copied
 pub mod Base
 pub mod Examples
 pub mod Scanned

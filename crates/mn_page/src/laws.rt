@@ -2,6 +2,7 @@ ghost use Rattle.mn_base.specs.Store.{empty_store};
 ghost use Rattle.mn_page.specs.Forest.{memory_of, base_forest};
 ghost use Rattle.mn_page.specs.Holds.{Holds};
 ghost use Rattle.mn_page.specs.Added.{SnapshotIsShown, BranchIsShown};
+ghost use Rattle.mn_page.specs.Copies.{CopiesArePages};
 ghost use Rattle.mn_page.specs.Laws.{LeafTells, LeafTellsGet, NoneTooHigh};
 
 /// The space of one fresh node holds the store with the empty version `main`.
@@ -23,6 +24,11 @@ pub fn leaf_tells_get()
 /// In a memory that holds a store no page is higher than 14.
 pub fn none_too_high()
     ensures { NoneTooHigh }
+{}
+
+/// A page that is copied for a later version, and its copy, are pages.
+pub fn copies_are_pages()
+    ensures { CopiesArePages }
 {}
 
 /// A Snapshot and a Branch: where the root page of the parent is marked for the new version and its

@@ -21,7 +21,10 @@ mod write;
 
 pub use entry::{CatEntry, Entries};
 pub use error::{BadPage, PageError};
-pub use laws::{base_holds_empty_store, child_is_shown, leaf_tells, leaf_tells_get, none_too_high};
+pub use laws::{
+    base_holds_empty_store, child_is_shown, copies_are_pages, leaf_tells, leaf_tells_get,
+    none_too_high,
+};
 pub use page::{Body, Branches, Child, Page, number_after};
 pub use page_ref::PageRef;
 pub use pages::Pages;

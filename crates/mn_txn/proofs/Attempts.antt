@@ -36,10 +36,10 @@ use Rattle.mn_txn.proofs.Lists.{contains_map, mapped_back, all_contained, noted_
 
 -- Places of images
 
-same_length : (node : NodeNo) (start n m : ℕ) → n ≡ m → ◌≡◌ {A = Place} (record { node = node; start = start; length = n }) (record { node = node; start = start; length = m })
+pub same_length : (node : NodeNo) (start n m : ℕ) → n ≡ m → ◌≡◌ {A = Place} (record { node = node; start = start; length = n }) (record { node = node; start = start; length = m })
 same_length node start n m e = ap (λ k. let r : Place = record { node = node; start = start; length = k } in r) e
 
-page_is : (addr : Addr) (p : Page) → IsPage p → image_place (page_image addr p) ≡ page_place addr
+pub page_is : (addr : Addr) (p : Page) → IsPage p → image_place (page_image addr p) ≡ page_place addr
 page_is addr p is = same_length addr.node (20480 + 1024 * addr.slot) (length (page_bytes p)) 1024 (page_length p is)
 
 -- a page's address by its place
@@ -50,7 +50,7 @@ addr_of a b e =
     let slot : a.slot ≡ b.slot = omega arith in
     ap (λ (n : NodeNo). let r : Addr = record { node = n; slot = a.slot } in r) node ∙ ap (λ s. let r : Addr = record { node = b.node; slot = s } in r) slot
 
-no_count : (a : Addr) (n : NodeNo) (place : Place) → page_place a ≡ place → place ≡ count_place n → ⊥
+pub no_count : (a : Addr) (n : NodeNo) (place : Place) → page_place a ≡ place → place ≡ count_place n → ⊥
 no_count a n place e f = let same : ◌≡◌ {A = ℕ} 1024 8 = ap (λ (p : Place). p.length) (e ∙ f) in absurd (omega arith)
 
 -- images at one place are not apart
@@ -63,7 +63,7 @@ not_same x y off e =
     clash t on off = absurd cc
 
 -- the places of images that are apart come once
-places_once : (xs : List Image) → AreApart xs → ComeOnce (map image_place xs)
+pub places_once : (xs : List Image) → AreApart xs → ComeOnce (map image_place xs)
 places_once [] apart = tt
 places_once (x ∷ xs) apart = (others xs apart.0, places_once xs apart.1)
   where

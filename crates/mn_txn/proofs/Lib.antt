@@ -9,4 +9,5 @@ mod Found
 mod Known
 mod Done
 mod Unmet
+mod Children
 mod Slots

@@ -3,4 +3,5 @@ pub mod Order
 pub mod Plan
 pub mod Laws
 pub mod Attempt
+pub mod Children
 pub mod Slots

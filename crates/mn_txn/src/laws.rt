@@ -3,6 +3,7 @@ ghost use Rattle.mn_txn.specs.State.{State};
 ghost use Rattle.mn_txn.specs.Plan.{plan_of};
 ghost use Rattle.mn_txn.specs.Laws.{PlansAreInOrder, PagesStay, PlansNameTheirPlaces, PlansNameNoOther, PlansHoldTheirBytes, PlansCountOn};
 ghost use Rattle.mn_txn.specs.Attempt.{DoneIsPlanned, UnmetIsPlanned};
+ghost use Rattle.mn_txn.specs.Children.{SnapshotIsPlanned, BranchIsPlanned};
 ghost use Rattle.mn_txn.specs.Slots.{NewSlotsAreNext};
 
 // Each law is the contract of a function that does nothing: what it says is proved, and may be used, by calling it.
@@ -56,6 +57,34 @@ pub fn unmet_is_planned()
     mn_tree::moves_read();
     mn_tree::moves_come_once();
     mn_tree::reads_are_draft();
+    mn_world::compares_tell();
+    mn_world::numbers_go_on();
+    plans_are_in_order();
+}
+
+/// The plan of a Snapshot that the kept catalog admits does what the Snapshot does, wherever its
+/// compares hold: it freezes the version, and its child has a copy of the version's root.
+pub fn snapshot_is_planned()
+    ensures { SnapshotIsPlanned }
+{
+    mn_page::child_is_shown();
+    mn_page::copies_are_pages();
+    mn_world::next_slots_are_free();
+    mn_world::writes_leave_versions();
+    mn_world::compares_tell();
+    mn_world::numbers_go_on();
+    plans_are_in_order();
+}
+
+/// The plan of a Branch that the kept catalog admits does what the Branch does, wherever its compares
+/// hold: the version's entry stays.
+pub fn branch_is_planned()
+    ensures { BranchIsPlanned }
+{
+    mn_page::child_is_shown();
+    mn_page::copies_are_pages();
+    mn_world::next_slots_are_free();
+    mn_world::writes_leave_versions();
     mn_world::compares_tell();
     mn_world::numbers_go_on();
     plans_are_in_order();
