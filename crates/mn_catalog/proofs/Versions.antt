@@ -17,7 +17,8 @@ use Rattle.mn_page.specs.Forest.{heads_in, entry_head}
 use Rattle.mn_page.specs.Grammar.{IsEntry, IsAddr}
 use Rattle.mn_page.specs.Overlay.{next_number}
 use Rattle.mn_catalog.specs.Grammar.{IsCatalog, IsFirstNamed, max_entries}
-use Rattle.mn_catalog.specs.Versions.{numbered, frozen_entry, child_entry, branch_entries, snapshot_entries, entries_with, AreEntries}
+use Rattle.mn_catalog.specs.Versions.{numbered, branch_entries, snapshot_entries, entries_with, AreEntries}
+use Rattle.mn_page.specs.Added.{frozen_entry, child_entry}
 
 -- Names
 

@@ -7,9 +7,9 @@ use Rattle.mn_base.specs.declared.ids.Addr.{Addr}
 use Rattle.mn_base.specs.declared.ids.VersionNo.{VersionNo}
 use Rattle.mn_base.specs.declared.op.Op.{Op}
 use Rattle.mn_page.specs.declared.entry.CatEntry.{CatEntry}
+use Rattle.mn_page.specs.Added.{frozen_entry, child_entry}
 use Rattle.mn_page.specs.Forest.{heads_in}
 use Rattle.mn_page.specs.Grammar.{IsEntry}
-use Rattle.mn_page.specs.Overlay.{next_number}
 use Rattle.mn_catalog.specs.Grammar.{max_entries}
 
 -- an entry with the number of its version
@@ -18,26 +18,6 @@ Numbered = VersionNo × CatEntry
 
 abbrev pub numbered : ℕ → CatEntry → Numbered
 numbered v e = (record { 0 = v }, e)
-
--- the entry, frozen, with the next sequence number
-abbrev pub frozen_entry : CatEntry → CatEntry
-frozen_entry e = record {
-  seq = next_number e.seq;
-  frozen = true;
-  parent = e.parent;
-  root = e.root;
-  name = e.name;
-}
-
--- the entry of a new writable child of a version
-abbrev pub child_entry : VersionNo → List ℕ → Addr → CatEntry
-child_entry v child root = record {
-  seq = 1;
-  frozen = false;
-  parent = Some v;
-  root = root;
-  name = child;
-}
 
 -- what a branch writes: the entry of the child, in the first unused place
 abbrev pub branch_entries : List CatEntry → VersionNo → List ℕ → Addr → List Numbered

@@ -10,8 +10,6 @@ use Rattle.mn_base.specs.Store.{max_versions}
 use Rattle.mn_base.specs.Tree.{is_ancestor, serves, has_version, versions_in}
 use Rattle.mn_base.specs.declared.ids.VersionNo.{VersionNo}
 use Rattle.mn_page.specs.declared.page.Page.{Page}
-use Rattle.mn_page.specs.Grammar.{IsPage}
-use Rattle.mn_page.specs.Overlay.{next_number}
 use Rattle.mn_page.proofs.Copy.{joined_bit, any_same, any_joined, all_joined, range_at}
 use Rattle.mn_page.specs.Copies.{marked_for, copy_for}
 use Rattle.mn_cow.specs.Serving.{ServesOthers, ServesItsOwn}
@@ -62,50 +60,3 @@ and_true false = refl
 
 pub copy_serves : (v : VersionNo) (p : Page) → ServesItsOwn v.0 (copy_for v p)
 copy_serves v p parents w = and_true (is_ancestor parents v.0 w)
-
--- Grammar
-
-all_as_list : (t : ℕ → Bool) (ws : List ℕ) → AllByRecursion (λ w. t w ≡ true) ws → list_all t ws ≡ true
-all_as_list t [] all = refl
-all_as_list t (w ∷ ws) all = and_from (t w) (list_all t ws) all.0 (all_as_list t ws all.1)
-
-list_as_all : (t : ℕ → Bool) (ws : List ℕ) → list_all t ws ≡ true → AllByRecursion (λ w. t w ≡ true) ws
-list_as_all t [] e = tt
-list_as_all t (w ∷ ws) e = let parts = and_parts (t w) (list_all t ws) e in (parts.0, list_as_all t ws parts.1)
-
-next_is_number : (seq : ℕ) → 1 ≤ seq → seq < 2 ^ 64 → (1 ≤ next_number seq) × (next_number seq < 2 ^ 64)
-next_is_number seq low high = go (nat_eq seq (2 ^ 64 - 1)) refl
-  where
-    go : (b : Bool) → nat_eq seq (2 ^ 64 - 1) ≡ b → (1 ≤ next_number seq) × (next_number seq < 2 ^ 64)
-    go true t = rw t (low, high)
-    go false t = rw t (omega arith, grind (arith, nat_tests))
-
-pub old_is_page : (v : VersionNo) (p : Page) → p.made.0 < v.0 → v.0 < 64 → IsPage p → IsPage (marked_for v p)
-old_is_page v p above few is =
-    let number = next_is_number p.seq is.seq_low is.seq_high in
-    record {
-      seq_low = number.0;
-      seq_high = number.1;
-      made = is.made;
-      copied = or_lt 64 p.copied (2 ^ v.0) is.copied (pow_below v.0 64 few);
-      copied_above = all_as_list (nat_lt p.made.0) (versions_in (bit_or p.copied (2 ^ v.0)))
-          (all_joined (λ w. nat_lt p.made.0 w ≡ true) (has_version (bit_or p.copied (2 ^ v.0))) (has_version p.copied) v.0 (joined_bit p.copied v.0)
-          (lt-ltb p.made.0 v.0 above) (range_with_len 0 max_versions) (list_as_all (nat_lt p.made.0) (versions_in p.copied) is.copied_above));
-      low = is.low;
-      high = is.high;
-      fences = is.fences;
-      body = is.body;
-    }
-
-pub copy_is_page : (v : VersionNo) (p : Page) → v.0 < 64 → IsPage p → IsPage (copy_for v p)
-copy_is_page v p few is = record {
-  seq_low = omega arith;
-  seq_high = search rules;
-  made = few;
-  copied = search rules;
-  copied_above = refl;
-  low = is.low;
-  high = is.high;
-  fences = is.fences;
-  body = is.body;
-}
