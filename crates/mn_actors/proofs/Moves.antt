@@ -13,8 +13,8 @@ use Rattle.mn_actors.specs.declared.clock.View.{View}
 use Rattle.mn_actors.specs.Lines.{Line, stands_in, same_actor, IsActor}
 use Rattle.mn_actors.specs.Lists.{held, grow, Owns, OwnsAll, IsSplit, MayAppend}
 use Rattle.mn_actors.specs.Log.{Ascends, IsManned, IsPlace, IsOneLog}
-use Rattle.mn_actors.specs.Rule.{list_of, node_list, client_list, first_view, appended, without, alone, joined, spent, Fits, Kept, adds, hears}
-use Rattle.mn_actors.specs.Look.{knowing, looks}
+use Rattle.mn_actors.specs.Rule.{list_of, node_list, client_list, first_view, appended, without, alone, joined, spent, Fits, Kept, adds}
+use Rattle.mn_actors.specs.Look.{knowing, hears, looks}
 use Rattle.mn_actors.proofs.Growing.{held_appended, own_node_is, own_client_is, replicate_at, replicate_here, replicate_past, same_true, same_itself, room_of, actor_of, held_without, held_alone, held_joined}
 use Rattle.mn_actors.proofs.Counting.{log_bound}
 use Rattle.mn_actors.proofs.Ordered.{ordered, length_ordered, ordered_list, ordered_manned, ordered_legal}
@@ -171,13 +171,13 @@ module _ {E : Type 0} (legal : List (ℕ × E) → List (ℕ × E) → Line E �
       }
 
   -- a step that looks
-  pub hears_moves : {S : Type 0} (slots id : ℕ) (me : Me S (View E)) → Allows (Kept legal nodes clients {S = S}) slots id me 0 (λ n. n) (hears (step slots 0 0 0 none) me)
+  pub hears_moves : {S : Type 0} (slots id : ℕ) (me : Me S (View E)) → Allows (Kept legal nodes clients {S = S}) slots id me 0 (λ n. n) (hears legal (step slots 0 0 0 none) me)
   hears_moves slots id me s r wide at small =
       let p : ℕ = get_or s.words 0 0 in
       let n : ℕ = length r.log in
       let is : p ≡ n = ap (λ ws. get_or ws 0 0) r.clock_is in
       let fits = r.views id me.0 at in
-      let w : View E = record { known = p; nodes = me.0.nodes; clients = me.0.clients } in
+      let w : View E = knowing p me.0 in
       let same : (a : Actor) → held w a ≡ held me.0 a = knowing_lists me.0 p in (
         w,
         keeps,
@@ -193,7 +193,14 @@ module _ {E : Type 0} (legal : List (ℕ × E) → List (ℕ × E) → Line E �
               record { known = omega arith; owned = λ a l e. fits.owned a l (sym (same a) ∙ e) };
           each_owned = λ a on. owned_set s.views id (r.owner a) me.0 w a at (λ o. (o.0, same a ∙ o.1)) (r.each_owned a on);
         },
-        (let k = fits.known in omega arith, refl),
+        (
+          let k = fits.known in omega arith,
+          refl,
+          record {
+            of_log = record { log = r.log; legal_log = r.legal_log; lists = λ a l e. (fits.owned a l (sym (same a) ∙ e)).1 };
+            count = sym is;
+          },
+        ),
       )
 
   -- a step that looks at the lists

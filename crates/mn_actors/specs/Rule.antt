@@ -103,7 +103,3 @@ module _ {E : Type 0} where
   abbrev pub adds : {S : Type 0} → Option (Line E) → Step S → Me S (View E) → ℕ → Me S (View E) → Type 0
   adds None st m p m' = Unit {0}
   adds (Some x) st m p m' = (m.0.known ≤ p) × (p < 2 ^ 63) × (m' ≡ (appended m.0 p x, m.1))
-
-  -- a step that looks
-  abbrev pub hears : {S : Type 0} → Step S → Me S (View E) → ℕ → Me S (View E) → Type 0
-  hears st m n m' = (m.0.known ≤ n) × (m' ≡ (record { known = n; nodes = m.0.nodes; clients = m.0.clients }, m.1))

@@ -59,12 +59,14 @@ impl<E, W: Said<E>> Play<(), View<E>> for Add<W> {
 }
 
 /// The step that looks at the clock.
-pub(crate) struct Hear;
+pub(crate) struct Hear<L> {
+    law: PhantomData<L>,
+}
 
-impl<E> Play<(), View<E>> for Hear {
-    ghost use Rattle.mn_actors.specs.Rule.{hears};
+impl<L: Law> Play<(), View<L::Entry>> for Hear<L> {
+    ghost use Rattle.mn_actors.specs.Look.{hears};
 
-    ghost then = { hears };
+    ghost then = { hears L.legal };
 }
 
 // The place that a look leaves known, for the proof alone. A call at `Brand` picks it.

@@ -1,4 +1,4 @@
-//! Two threads on one board.
+//! Two passes on one board, and two threads.
 ghost use Rattle.std.specs.Prelude.{◌≡◌, [], Some};
 ghost use Rattle.mn_actors.specs.declared.actor.Actor.{Actor as Who};
 ghost use Rattle.mn_actors.specs.declared.actor.Actor.TheVariants.{Node, Client};
@@ -68,6 +68,29 @@ fn both<R: Threads + Sync>(rt: &R, alloc: Global) -> Option<(bool, bool, u64)> {
     let beyond = board.hear(&mut one, 201);
     let clock = board.close(one);
     Some((reached, beyond, clock))
+}
+
+// A pass looks at the clock after another added an entry. The answer is what `hear` says of 1 and 2.
+fn late(alloc: Global) -> Option<(bool, bool)> {
+    let Ok((board, mut pass)) = Board::<Turns>::new(alloc, 1, 1) else {
+        return None;
+    };
+    let mut other = board.split(
+        &mut pass,
+        Actor::Client {
+            client: ClientNo(0),
+        },
+    );
+    board.append(&mut pass, 0, Some(NodeNo(0)), None);
+    let reached = board.hear(&mut other, 1);
+    let beyond = board.hear(&mut other, 2);
+    Some((reached, beyond))
+}
+
+#[test]
+fn a_look_tells_of_another_pass_entry(rt: HostRuntime) -> Result<(), Fail> {
+    assert!(rt; late(rt.alloc()) == Some((true, false)));
+    Ok(())
 }
 
 #[test]

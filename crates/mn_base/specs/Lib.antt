@@ -1,4 +1,5 @@
 pub mod Ids
+pub mod Ranges
 pub mod Name
 pub mod Refusal
 pub mod Order

@@ -1,5 +1,6 @@
 -- What each kind of entry leaves of what is known of a node.
 use Rattle.std.proofs.Common.{◌≡◌, ◌≢◌, ℕ, zero, suc, ◌+◌, ◌<◌, ◌≤◌, ◌⊎◌, Bool, true, false, Option, Some, None, List, [], ◌∷◌, ◌++◌, length, reverse, slice_index_or, refl, sym, ap, ◌∙◌, subst, inl, inr, arith, if◌then◌else◌}
+use Rattle.std.specs.Prelude.{is_some}
 use Rattle.std.proofs.lemmas.List.{length-append, reverse-append}
 use Rattle.mn_base.specs.declared.ids.NodeNo.{NodeNo}
 use Rattle.mn_base.specs.declared.ids.ClientNo.{ClientNo}
@@ -30,7 +31,7 @@ use Rattle.mn_world.specs.declared.entry.What.TheVariants.{Begin, Issue, Called,
 use Rattle.mn_world.specs.Nodes.{NodeAllows, added_by, is_down, node_records, stopped_request}
 use Rattle.mn_world.specs.Protocol.{Start, base_at, start_nodes, start_records}
 use Rattle.mn_cell.specs.Calls.{AddsNone, IsLarge, IsUndamaged, KeepsStop, entry_at, what_said}
-use Rattle.mn_cell.specs.Station.{HasMade, IsFirst, IsKeptAs, KeepsAs, KeepsAsAsked, RoseBy, StandsAs, asked_or, bases_from, last_asked, start_of, unasked, unasked_in}
+use Rattle.mn_cell.specs.Station.{HasMade, IsFirst, IsKeptAs, KeepsAs, KeepsAsAsked, RoseBy, StandsAs, StopsAsItAdds, asked_or, bases_from, last_asked, start_of, unasked, unasked_in}
 
 -- The base space of a node
 
@@ -81,7 +82,7 @@ rose_later before old new rose le = omega (arith, rose, le)
 rose_since : (by before old new : ℕ) → RoseBy by before old → Rose old new → Rose before new
 rose_since by before old new rose more = omega (arith, rose, more)
 
-one_fault : (by before old new : ℕ) → RoseBy by before old → Rose old new → RoseBy (by + 1) before new
+pub one_fault : (by before old new : ℕ) → RoseBy by before old → Rose old new → RoseBy (by + 1) before new
 one_fault by before old new rose more = omega (arith, rose, more)
 
 -- What a stop asked for
@@ -132,6 +133,8 @@ module _ {D : Type 0} (state : D → DiskState) (faults : D → ℕ) (start : St
     nodes = first.nodes;
     among = first.among;
     allowed = tt;
+    called = tt;
+    stops = tt;
     records = ap (λ (l : List Record). reverse l) first.records;
     down = first.up;
     pending = λ down. let no : true ≡ false = sym down ∙ first.up in absurd (cc);
@@ -178,6 +181,8 @@ module _ {D : Type 0} (state : D → DiskState) (faults : D → ℕ) (start : St
       nodes = goes.nodes ∙ made.nodes;
       among = made.among;
       allowed = made.allowed;
+      called = made.called;
+      stops = made.stops;
       records = ap (λ (l : List Record). reverse l) records ∙ made.records;
       down = down ∙ made.down;
       pending = λ is. pending is ∙ made.pending (sym down ∙ is);
@@ -189,15 +194,18 @@ module _ {D : Type 0} (state : D → DiskState) (faults : D → ℕ) (start : St
 
     -- an entry that leaves the node's disk and numbers
     entered : (c : ClientNo) (what : What) → NodeAllows (base_at start number) (start_records start number) es what
+        → StopsAsItAdds (base_at start number) (node_records (base_at start number) (start_records start number) es) what
         → reverse new.records ≡ node_records (base_at start number) (start_records start number) (entry_at number c what ∷ es) → new.down ≡ is_down (entry_at number c what ∷ es)
         → (new.down ≡ true → new.pending ≡ added_by (base_at start number) (node_records (base_at start number) (start_records start number) (entry_at number c what ∷ es)) (stopped_request (entry_at number c what ∷ es)))
         → RoseBy (unasked es + unasked_in what) before (faults new.disk) → ((state new.disk).honest → KeepsAs HasRisen what (last_asked es)) → (new.down ≡ true → StandsAs state HasRisen new (asked_or what (last_asked es)))
         → HasMade state faults start number before honest (entry_at number c what ∷ es) new
-    entered c what allowed records down pending counted kept left = record {
+    entered c what allowed stops records down pending counted kept left = record {
       node = goes.node ∙ made.node;
       nodes = goes.nodes ∙ made.nodes;
       among = made.among;
       allowed = (made.allowed, allowed);
+      called = (refl, made.called);
+      stops = (stops, made.stops);
       records = records;
       down = down;
       pending = pending;
@@ -224,6 +232,7 @@ module _ {D : Type 0} (state : D → DiskState) (faults : D → ℕ) (start : St
         ∙ ap (λ (x : Response). with_added x.added (reverse old.records)) r ∙ ap (λ (l : List Record). with_added (answer (base_at start number) (node_records (base_at start number) (start_records start number) es) request).added l) made.records in
         entered c (Called request reply)
         (rw up' (sym says ∙ ap (λ (x : Response). x.reply) r))
+        tt
         (rw up' added)
         (still_up ∙ sym up')
         (λ is. let no : true ≡ false = sym is ∙ still_up in absurd (cc))
@@ -237,6 +246,7 @@ module _ {D : Type 0} (state : D → DiskState) (faults : D → ℕ) (start : St
         let down' : is_down es ≡ true = sym made.down ∙ down in
         entered c (Called request Say.Down)
         (rw down' refl)
+        tt
         (rw down' (ap (λ (n : NodeState D). reverse n.records) same ∙ made.records))
         (ap (λ (n : NodeState D). n.down) same ∙ made.down)
         (λ is. rw down' (ap (λ (n : NodeState D). n.pending) same ∙ made.pending down))
@@ -252,8 +262,8 @@ module _ {D : Type 0} (state : D → DiskState) (faults : D → ℕ) (start : St
     -- what a stop that was asked for leaves
     stop_left : (r : Record) (stop : Option StopAt) → new.records ≡ old.records → new.pending ≡ Some r → StopsAt state faults old.disk new.disk old.node old.nodes (bodies_of old.records) (record_bytes r) stop → StandsAs state HasRisen new stop
     stop_left r None records pending at = tt
-    stop_left r (Some Before) records pending at = same_stands (state new.disk) old.node new.node old.nodes new.nodes old.records new.records goes.node goes.nodes records (λ h. at (goes.no_better h))
-    stop_left r (Some Half) records pending at = same_stands (state new.disk) old.node new.node old.nodes new.nodes old.records new.records goes.node goes.nodes records (λ h. at (goes.no_better h))
+    stop_left r (Some Before) records pending at = same_stands (state new.disk) old.node new.node old.nodes new.nodes old.records new.records goes.node goes.nodes records (λ h. (at (goes.no_better h)).0)
+    stop_left r (Some Half) records pending at = same_stands (state new.disk) old.node new.node old.nodes new.nodes old.records new.records goes.node goes.nodes records (λ h. at.0 (goes.no_better h))
     stop_left r (Some After) records pending (inl rose) = inl (rose_since (unasked es) before (faults old.disk) (faults new.disk) made.counted rose)
     stop_left r (Some After) records pending (inr at) =
         inr (
@@ -269,7 +279,9 @@ module _ {D : Type 0} (state : D → DiskState) (faults : D → ℕ) (start : St
         let up' : is_down es ≡ false = sym made.down ∙ told.0 in
         let records = ap (λ (l : List Record). reverse l) told.2 ∙ made.records in
         let r = told.3 in
-        entered c (Stopped (Some request) stop) up' records told.1
+        entered c (Stopped (Some request) stop) up'
+        (ap is_some (sym (ap (λ (x : Response). x.added) (responds request)) ∙ told.4))
+        records told.1
         (λ is. told.5 ∙ (sym told.4 ∙ ap (λ (x : Response). x.added) (responds request)))
         (stop_count old.node old.nodes (bodies_of old.records) (record_bytes r) request stop refl refl told.6.at)
         (λ h. tt)
@@ -337,7 +349,7 @@ module _ {D : Type 0} (state : D → DiskState) (faults : D → ℕ) (start : St
     pub made_halted : (c : ClientNo) → old.down ≡ false → new.down ≡ true → new.records ≡ old.records → new.pending ≡ None → HasMade state faults start number before honest (entry_at number c (Stopped None None) ∷ es) new
     made_halted c up down records pending =
         let up' : is_down es ≡ false = sym made.down ∙ up in
-        entered c (Stopped None None) up' (ap (λ (l : List Record). reverse l) records ∙ made.records) down (λ is. pending) no_more (λ h. tt) (λ is. tt)
+        entered c (Stopped None None) up' tt (ap (λ (l : List Record). reverse l) records ∙ made.records) down (λ is. pending) no_more (λ h. tt) (λ is. tt)
 
     -- the records that come back are those that each image stood for
     abbrev Finds : Type 0
@@ -359,11 +371,11 @@ module _ {D : Type 0} (state : D → DiskState) (faults : D → ℕ) (start : St
     restarted : (c : ClientNo) (kept : Bool) (pending : Option Record) → old.down ≡ true → new.down ≡ false → added_by (base_at start number) (node_records (base_at start number) (start_records start number) es) (stopped_request es) ≡ pending
         → Restarts old.records pending new.records kept → ((state new.disk).honest → IsKeptAs HasRisen (last_asked es) kept) → HasMade state faults start number before honest (entry_at number c (Restarted kept) ∷ es) new
     restarted c false pending down up is restarts keeps =
-        entered c (Restarted false) (sym made.down ∙ down) (ap (λ (l : List Record). reverse l) restarts ∙ made.records) up (λ now. let no : true ≡ false = sym now ∙ up in absurd (cc)) no_more keeps (none_left (last_asked es) up)
+        entered c (Restarted false) (sym made.down ∙ down) tt (ap (λ (l : List Record). reverse l) restarts ∙ made.records) up (λ now. let no : true ≡ false = sym now ∙ up in absurd (cc)) no_more keeps (none_left (last_asked es) up)
     restarted c true None down up is restarts keeps = absurd restarts
     restarted c true (Some r) down up is restarts keeps =
         let records = ap (λ (l : List Record). reverse l) restarts ∙ reverse-append old.records (r ∷ []) ∙ ap (λ (l : List Record). r ∷ l) made.records in
-        entered c (Restarted true) (sym made.down ∙ down, rw is refl) (rw is records) up (λ now. let no : true ≡ false = sym now ∙ up in absurd (cc)) no_more keeps (none_left (last_asked es) up)
+        entered c (Restarted true) (sym made.down ∙ down, rw is refl) tt (rw is records) up (λ now. let no : true ≡ false = sym now ∙ up in absurd (cc)) no_more keeps (none_left (last_asked es) up)
 
     -- a restart
     pub made_restarted : (c : ClientNo) (kept : Bool) → old.down ≡ true → new.down ≡ false → Restarts old.records old.pending new.records kept → Finds → HasMade state faults start number before honest (entry_at number c (Restarted kept) ∷ es) new

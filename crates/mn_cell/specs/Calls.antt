@@ -39,17 +39,21 @@ MaySend n c list request stop = (reply : NodeReply) → IsLegalBy (entries_of li
 abbrev pub IsLegalLine : List (ℕ × Entry) → List (ℕ × Entry) → Line Entry → Type 0
 IsLegalLine node client line = (line.entry.node ≡ line.node) × (line.entry.client ≡ line.client) × IsLegalBy (entries_of client) line.entry
 
--- an entry ends a list, at a place that is not below this one
-pub record EndsList (known : ℕ) (e : Entry) (old new : List (ℕ × Entry)) : Type 0 where
-  pub place : ℕ
-  pub later : known ≤ place
-  pub ends : new ≡ old ++ (place, e) ∷ []
-
--- an entry ends the node's list and the client's, at one place that is not below this one; the other is the place after it
-pub record EndsBoth (known after : ℕ) (e : Entry) (node node' client client' : List (ℕ × Entry)) : Type 0 where
+-- an entry ends a list, at a place that is not below this one; the other is the place after it
+pub record EndsList (known after : ℕ) (e : Entry) (old new : List (ℕ × Entry)) : Type 0 where
   pub place : ℕ
   pub later : known ≤ place
   pub next : after ≡ place + 1
+  pub ends : new ≡ old ++ (place, e) ∷ []
+
+-- an entry ends the node's list and the client's, at one place that is not below this one; both passes
+-- know the place after it
+pub record EndsBoth (known node_knows client_knows : ℕ) (e : Entry)
+    (node node' client client' : List (ℕ × Entry)) : Type 0 where
+  pub place : ℕ
+  pub later : known ≤ place
+  pub next : node_knows ≡ place + 1
+  pub client_next : client_knows ≡ place + 1
   pub ends_node : node' ≡ node ++ (place, e) ∷ []
   pub ends_client : client' ≡ client ++ (place, e) ∷ []
 

@@ -1,10 +1,13 @@
 -- What is known of a node with its list and its pass, whenever no call of it is under way.
-use Rattle.std.specs.Prelude.{ℕ, ◌+◌, ◌-◌, ◌^◌, ◌≡◌, ◌≤◌, ◌<◌, ◌⊎◌, min, Bool, true, false, List, [], ◌∷◌, ◌++◌, length, reverse, Option, Some, None, slice_index_or, ⊤}
+use Rattle.std.specs.Prelude.{ℕ, ◌+◌, ◌-◌, ◌^◌, ◌≡◌, ◌≤◌, ◌<◌, ◌⊎◌, min, Bool, true, false, List, [], ◌∷◌, ◌++◌, length, reverse, Option, Some, None, IsSome, slice_index_or, ⊤}
+use Rattle.std.specs.List.{AllByRecursion}
 use Rattle.atomic_table.specs.Seated.{TableId}
 use Rattle.mn_base.specs.declared.gate.StopAt.{StopAt}
 use Rattle.mn_base.specs.declared.gate.StopAt.TheVariants.{Before, Half, After}
 use Rattle.mn_base.specs.declared.ids.NodeNo.{NodeNo}
 use Rattle.mn_mini.specs.declared.record.Record.{Record}
+use Rattle.mn_mini.specs.declared.request.Request.{Request}
+use Rattle.mn_mini.specs.Node.{answer}
 use Rattle.mn_io.specs.DiskModel.{DiskState}
 use Rattle.mn_io.specs.Faults.{Rose}
 use Rattle.mn_node.specs.Memory.{base_of}
@@ -57,6 +60,24 @@ abbrev pub unasked : List Entry → ℕ
 unasked [] = 0
 unasked (e ∷ es) = unasked es + unasked_in e.what
 
+-- a client or a coordinator made the entry
+abbrev pub HasCaller : Entry → Type 0
+HasCaller e = IsSome e.client
+
+-- by these records the request, if there is one, adds one
+abbrev pub AddsIf : List ℕ → List Record → Option Request → Type 0
+AddsIf base records None = ⊤
+AddsIf base records (Some request) = IsSome (answer base records request).added
+
+abbrev pub StopsAsItAdds : List ℕ → List Record → What → Type 0
+StopsAsItAdds base records (Stopped request asked) = AddsIf base records request
+StopsAsItAdds base records what = ⊤
+
+-- each stop inside a request is inside one that would have added a record
+abbrev pub AllStopAsTheyAdd : List ℕ → List Record → List Entry → Type 0
+AllStopAsTheyAdd base start [] = ⊤
+AllStopAsTheyAdd base start (e ∷ es) = StopsAsItAdds base (node_records base start es) e.what × AllStopAsTheyAdd base start es
+
 -- a count has risen by so much since, or it stands at its last value
 abbrev pub RoseBy : ℕ → ℕ → ℕ → Type 0
 RoseBy by before now = min (before + by) (2 ^ 64 - 1) ≤ now
@@ -97,13 +118,16 @@ StandsAs state rose n (Some Half) = StandsForRecords (state n.disk) n.node n.nod
 StandsAs state rose n (Some After) = rose ⊎ ((r : Record) × (n.pending ≡ Some r) × StandsForRecords (state n.disk) n.node n.nodes (n.records ++ r ∷ []))
 
 -- The entries, newest first, are those of a node that started so: each is allowed by those before it, and the node has the records that they
--- leave. It stopped unasked in requests at most as often as its disk's count of faults has risen. A disk that was honest is, and then each
+-- leave. Each has a caller, and where one stopped it inside a request, that would have added a record.
+-- It stopped unasked in requests at most as often as its disk's count of faults has risen. A disk that was honest is, and then each
 -- restart kept what the stop before it had asked for; while the node is down, the disk says so of the next one.
 pub record HasMade {D : Type 0} (state : D → DiskState) (faults : D → ℕ) (start : Start) (number : NodeNo) (before : ℕ) (honest : Type 0) (es : List Entry) (n : NodeState D) : Type 0 where
   pub node : n.node ≡ number.0
   pub nodes : n.nodes ≡ start_nodes start
   pub among : number.0 < start_nodes start
   pub allowed : NodeListAllowed start number es
+  pub called : AllByRecursion HasCaller es
+  pub stops : AllStopAsTheyAdd (base_at start number) (start_records start number) es
   pub records : reverse n.records ≡ node_records (base_at start number) (start_records start number) es
   pub down : n.down ≡ is_down es
   pub pending : n.down ≡ true → n.pending ≡ added_by (base_at start number) (node_records (base_at start number) (start_records start number) es) (stopped_request es)

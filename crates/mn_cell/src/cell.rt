@@ -73,7 +73,7 @@ impl<N: Named, D: Disk + Drop, const NODE: u8> Cell<N, D, NODE> {
     ///
     /// NoMemory: there was none for the call; the pass and the client's list are as before. It never comes for the decision of an id whose vote
     /// the client's list shows here without the decision, where the list has room. Any other reply is the last entry of the client's
-    /// list, at this node and at a place that is not below the one that the client's pass knew. Where `stop` is given, a request that adds a
+    /// list, at this node and at a place that is not below the one that the client's pass knew, and the pass knows the place after it. Where `stop` is given, a request that adds a
     /// record isn't done.
     pub fn call<T: Wait>(
         &self,
@@ -95,7 +95,7 @@ impl<N: Named, D: Disk + Drop, const NODE: u8> Cell<N, D, NODE> {
         ensures board { board_of pass.new ≡ N.board }
         ensures owns { OwnsJust (view_of pass.new) (Client list.old.client) }
         ensures list { held (view_of pass.new) (Client list.old.client) ≡ Some list.new.entries }
-        ensures said { result ≢ Reply.NoMemory → EndsList (view_of pass.old).known (entry_at (numbered NODE) list.old.client (what_said request stop result)) list.old.entries list.new.entries }
+        ensures said { result ≢ Reply.NoMemory → EndsList (view_of pass.old).known (view_of pass.new).known (entry_at (numbered NODE) list.old.client (what_said request stop result)) list.old.entries list.new.entries }
         ensures pass_before { result ≡ Reply.NoMemory → IsSame (view_of pass.old) (view_of pass.new) }
         ensures list_before { result ≡ Reply.NoMemory → list.new.entries ≡ list.old.entries }
         ensures room { list.old.room ≤ list.new.room + 1 }
@@ -122,7 +122,7 @@ impl<N: Named, D: Disk + Drop, const NODE: u8> Cell<N, D, NODE> {
         ensures board { board_of pass.new ≡ N.board }
         ensures owns { OwnsJust (view_of pass.new) (Client list.old.client) }
         ensures list { held (view_of pass.new) (Client list.old.client) ≡ Some list.new.entries }
-        ensures halted { IfOk result (λ halted. halted ≡ true → EndsList (view_of pass.old).known (entry_at (numbered NODE) list.old.client (Stopped None None)) list.old.entries list.new.entries) }
+        ensures halted { IfOk result (λ halted. halted ≡ true → EndsList (view_of pass.old).known (view_of pass.new).known (entry_at (numbered NODE) list.old.client (Stopped None None)) list.old.entries list.new.entries) }
         ensures no_entry { IfOk result (λ halted. halted ≡ false → (pass.new ≡ pass.old) × (list.new ≡ list.old)) }
         ensures failed { OnErr result ((pass.new ≡ pass.old) × (list.new.entries ≡ list.old.entries)) }
         ensures room { list.old.room ≤ list.new.room + 1 }
@@ -149,7 +149,7 @@ impl<N: Named, D: Disk + Drop, const NODE: u8> Cell<N, D, NODE> {
         ensures board { board_of pass.new ≡ N.board }
         ensures owns { OwnsJust (view_of pass.new) (Client list.old.client) }
         ensures list { held (view_of pass.new) (Client list.old.client) ≡ Some list.new.entries }
-        ensures restarted { IfOk result (λ kept. IfSome kept (λ there. EndsList (view_of pass.old).known (entry_at (numbered NODE) list.old.client (Restarted there)) list.old.entries list.new.entries)) }
+        ensures restarted { IfOk result (λ kept. IfSome kept (λ there. EndsList (view_of pass.old).known (view_of pass.new).known (entry_at (numbered NODE) list.old.client (Restarted there)) list.old.entries list.new.entries)) }
         ensures no_entry { IfOk result (λ kept. IfNone kept ((pass.new ≡ pass.old) × (list.new ≡ list.old))) }
         ensures failed { OnErr result ((pass.new ≡ pass.old) × (list.new.entries ≡ list.old.entries)) }
         ensures undamaged { N.honest NODE → IfErr result IsUndamaged }

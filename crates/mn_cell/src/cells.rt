@@ -59,7 +59,7 @@ impl<N: Named, D: Disk + Drop> Cells<N, D> {
         ensures board { board_of pass.new ≡ N.board }
         ensures owns { OwnsJust (view_of pass.new) (Client list.old.client) }
         ensures list { held (view_of pass.new) (Client list.old.client) ≡ Some list.new.entries }
-        ensures said { result ≢ Reply.NoMemory → EndsList (view_of pass.old).known (entry_at node list.old.client (what_said request stop result)) list.old.entries list.new.entries }
+        ensures said { result ≢ Reply.NoMemory → EndsList (view_of pass.old).known (view_of pass.new).known (entry_at node list.old.client (what_said request stop result)) list.old.entries list.new.entries }
         ensures pass_before { result ≡ Reply.NoMemory → IsSame (view_of pass.old) (view_of pass.new) }
         ensures list_before { result ≡ Reply.NoMemory → list.new.entries ≡ list.old.entries }
         ensures room { list.old.room ≤ list.new.room + 1 }
@@ -120,7 +120,7 @@ impl<N: Named, D: Disk + Drop> Cells<N, D> {
         ensures board { board_of pass.new ≡ N.board }
         ensures owns { OwnsJust (view_of pass.new) (Client list.old.client) }
         ensures list { held (view_of pass.new) (Client list.old.client) ≡ Some list.new.entries }
-        ensures halted { IfOk result (λ halted. halted ≡ true → EndsList (view_of pass.old).known (entry_at node list.old.client (Stopped None None)) list.old.entries list.new.entries) }
+        ensures halted { IfOk result (λ halted. halted ≡ true → EndsList (view_of pass.old).known (view_of pass.new).known (entry_at node list.old.client (Stopped None None)) list.old.entries list.new.entries) }
         ensures no_entry { IfOk result (λ halted. halted ≡ false → (pass.new ≡ pass.old) × (list.new ≡ list.old)) }
         ensures failed { OnErr result ((pass.new ≡ pass.old) × (list.new.entries ≡ list.old.entries)) }
         ensures room { list.old.room ≤ list.new.room + 1 }
@@ -180,7 +180,7 @@ impl<N: Named, D: Disk + Drop> Cells<N, D> {
         ensures board { board_of pass.new ≡ N.board }
         ensures owns { OwnsJust (view_of pass.new) (Client list.old.client) }
         ensures list { held (view_of pass.new) (Client list.old.client) ≡ Some list.new.entries }
-        ensures restarted { IfOk result (λ kept. IfSome kept (λ there. EndsList (view_of pass.old).known (entry_at node list.old.client (Restarted there)) list.old.entries list.new.entries)) }
+        ensures restarted { IfOk result (λ kept. IfSome kept (λ there. EndsList (view_of pass.old).known (view_of pass.new).known (entry_at node list.old.client (Restarted there)) list.old.entries list.new.entries)) }
         ensures no_entry { IfOk result (λ kept. IfNone kept ((pass.new ≡ pass.old) × (list.new ≡ list.old))) }
         ensures failed { OnErr result ((pass.new ≡ pass.old) × (list.new.entries ≡ list.old.entries)) }
         ensures undamaged { N.honest node.0 → IfErr result IsUndamaged }

@@ -1,3 +1,4 @@
 pub mod Stages
 pub mod Order
 pub mod Legal
+pub mod Sound

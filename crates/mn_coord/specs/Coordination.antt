@@ -1,12 +1,14 @@
 -- How a coordinator goes on, by what it was answered so far.
-use Rattle.std.specs.Prelude.{ℕ, ◌+◌, Bool, true, false, not, ◌&&◌, nat_lt, nat_eq, List, length, Option, Some, None, if◌then◌else◌, slice_index_or, slice_set}
+use Rattle.std.specs.Prelude.{ℕ, ◌+◌, ◌<◌, ◌≤◌, Bool, true, false, not, ◌&&◌, nat_lt, nat_eq, List, length, Option, Some, None, if◌then◌else◌, slice_index_or, slice_set, ⊤}
 use Rattle.mn_base.specs.declared.ids.NodeNo.{NodeNo}
 use Rattle.mn_base.specs.declared.ids.Tid.{Tid}
 use Rattle.mn_mini.specs.declared.request.Request.{Request}
 use Rattle.mn_mini.specs.declared.request.Request.TheVariants as Ask
 use Rattle.mn_mini.specs.declared.reply.NodeReply.{NodeReply}
 use Rattle.mn_mini.specs.declared.reply.NodeReply.TheVariants as Say
-use Rattle.mn_mini.specs.Mini.{Mini, participants_of, part_of}
+use Rattle.mn_mini.specs.Mini.{Mini, IsSound, participants_of, part_of}
+use Rattle.mn_mini.specs.RecordGrammar.{IsTid}
+use Rattle.mn_mini.specs.Sound.{IsSoundRequest}
 use Rattle.mn_coord.specs.declared.stage.Stage.{Stage}
 use Rattle.mn_coord.specs.declared.stage.Stage.TheVariants as At
 use Rattle.mn_coord.specs.declared.step.CoordStep.{CoordStep}
@@ -28,6 +30,12 @@ pub record Coordination : Type 0 where
   pub decided : ℕ
   -- whether a request is out
   pub asked : Bool
+
+-- its id and its minitransaction are sound, and no more have answered than take part
+pub record IsSoundCoordination (c : Coordination) : Type 0 where
+  pub id : IsTid c.tid
+  pub mini : IsSound c.mini
+  pub done : c.done ≤ length (participants_of c.mini)
 
 -- its last participant stopped
 abbrev pub is_stopped_at_last : ℕ → ℕ → NodeReply → Bool
@@ -70,6 +78,11 @@ step_at c At.Doubt = Doubt (participant c c.done)
 -- what it wants next
 abbrev pub step_of : Coordination → CoordStep
 step_of c = step_at c (stage_in c)
+
+-- a request that it hands out is sound, and goes to one of so many nodes
+abbrev pub IsSoundStep : ℕ → CoordStep → Type 0
+IsSoundStep nodes (Send node request) = (node.0 < nodes) × IsSoundRequest request
+IsSoundStep nodes step = ⊤
 
 -- a step is told once, and a request handed out once
 abbrev pub after_step : Coordination → CoordStep → Coordination

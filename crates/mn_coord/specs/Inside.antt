@@ -1,7 +1,8 @@
 -- What the fields of a coordinator stand for.
 use Rattle.std.specs.Prelude.{◌≡◌, ℕ, ◌+◌, ◌<◌, ◌≤◌, Bool, ◌&&◌, nat_lt, length, drop, Option, Some, None, if◌then◌else◌, MatchOption}
 use Rattle.mn_mini.specs.declared.reply.NodeReply.{NodeReply}
-use Rattle.mn_mini.specs.Mini.{participants_of}
+use Rattle.mn_mini.specs.Mini.{IsSound, participants_of}
+use Rattle.mn_mini.specs.RecordGrammar.{IsTid}
 use Rattle.mn_coord.specs.Coordination.{Coordination}
 use Rattle.mn_coord.specs.Tries.{tries_of}
 use Rattle.mn_coord.specs.declared.coordinator.Coordinator.TheInside.{Inside}
@@ -14,8 +15,10 @@ abbrev pub sent_of : ℕ → ℕ → Option NodeReply → Bool → ℕ
 sent_of participants done (Some reply) asked = done + 1
 sent_of participants done None asked = if asked && nat_lt done participants then done + 1 else done
 
--- the requests that are left are those of the participants that were not asked
+-- the id and the minitransaction are sound, and the requests that are left are those of the participants that were not asked
 pub record IsSoundInside (c : Inside) : Type 0 where
+  pub id : IsTid c.tid
+  pub mini : IsSound c.mini
   pub some : 1 ≤ length (participants_of c.mini)
   pub done : MatchOption c.refused (c.done ≤ length (participants_of c.mini)) (λ reply. c.done < length (participants_of c.mini))
   pub reads : length c.reads.items ≡ length (participants_of c.mini)

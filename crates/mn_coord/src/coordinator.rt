@@ -1,13 +1,14 @@
 ghost use Rattle.std.specs.Prelude.{◌≡◌, ◌≢◌, ◌<◌, ◌≤◌, ◌-◌, Bool, true, false, None, List, [], ◌∷◌, length, replicate, slice_index_or, IfOk};
 ghost use Rattle.std.specs.Option.{option_map};
-ghost use Rattle.mn_mini.specs.Mini.{participants_of};
+ghost use Rattle.mn_mini.specs.Mini.{IsSound, participants_of};
+ghost use Rattle.mn_mini.specs.RecordGrammar.{IsTid};
 ghost use Rattle.mn_coord.specs.Coordination.{try_request};
 ghost use Rattle.mn_coord.specs.Tries.{tries_of};
 
 use crate::stage::stage_for;
 use crate::{CoordStep, Stage};
 use mn_base::{NoMemory, NodeNo, Tid, TryCopy};
-use mn_mini::{Minitransaction, NodeReply, Reads, Request};
+use mn_mini::{Minitransaction, NodeReply, Reads, Request, parts_sound};
 use std::alloc::Global;
 use std::collections::VecDeque;
 use std::marker::Model;
@@ -43,6 +44,7 @@ impl Model for Coordinator {
 fn participants_in(mini: &Minitransaction) -> usize
     ensures count { result ≡ length (participants_of mini.now) }
     ensures some { 1 ≤ result }
+    ensures sound { IsSound mini.now }
 {
     let _items = mini.items();
     mini.participants().as_slice().len()
@@ -105,11 +107,13 @@ impl Coordinator {
     ghost use Rattle.mn_world.specs.declared.entry.Entry.{Entry};
     ghost use Rattle.mn_world.specs.declared.entry.What.TheVariants as is;
     ghost use Rattle.mn_coord.specs.declared.step.CoordStep.TheVariants.{Send, Abandon};
-    ghost use Rattle.mn_coord.specs.Coordination.{stage_in, step_of, after_step, fed};
+    ghost use Rattle.mn_coord.specs.Coordination.{IsSoundCoordination, IsSoundStep, stage_in, step_of, after_step, fed};
     ghost use Rattle.mn_coord.specs.Legal.{Agrees, IsFresh, IsAnswered, MayMake};
 
-    /// The coordinator of the minitransaction under this id. NoMemory: there was no memory for all that it will need.
+    /// The coordinator of the minitransaction under this id, which has a run and a serial from 1 on and a
+    /// client from 0 to 20. NoMemory: there was no memory for all that it will need.
     pub fn new(alloc: Global, tid: Tid, mini: Minitransaction) -> Result<Self, NoMemory>
+        requires id { IsTid tid }
         ensures starts { IfOk result (λ c. c ≡ record { tid = tid; mini = mini; done = 0; reads = replicate (length (participants_of mini)) []; refused = None; told = false; decided = 0; asked = false }) }
         ensures agrees { (es : List Entry) (e : Entry) → IsFresh tid es → e.node ≡ None → e.what ≡ is.Issue tid mini → IfOk result (λ c. Agrees (e ∷ es) c) }
     {
@@ -126,6 +130,13 @@ impl Coordinator {
             decided: 0,
             asked: false,
         })
+    }
+
+    // What is so of each.
+    fn is_sound(&self)
+        ensures { IsSoundCoordination self.now }
+    {
+        let _items = self.mini.items();
     }
 
     fn stage(&self) -> Stage
@@ -146,10 +157,15 @@ impl Coordinator {
         requires idle { self.old.asked ≡ false }
         ensures step { result ≡ step_of self.old }
         ensures after { self.new ≡ after_step self.old result }
+
+        // A request is sound, and goes to a node that the minitransaction was made for.
+        ensures sound { IsSoundStep self.old.mini.nodes result }
         ensures legal { (es : List Entry) → Agrees es self.old → MayMake es self.old.tid result }
         ensures agrees { (es : List Entry) → Agrees es self.old → step_of self.old ≢ Abandon → Agrees es self.new }
         ensures abandoned { (es : List Entry) (e : Entry) → Agrees es self.old → step_of self.old ≡ Abandon → e.node ≡ None → e.what ≡ is.Abandoned self.old.tid → Agrees (e ∷ es) self.new }
     {
+        parts_sound();
+        self.is_sound();
         self.advance()
     }
 

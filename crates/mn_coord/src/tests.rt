@@ -1,5 +1,6 @@
 //! A coordinator over two nodes, fed each kind of reply; and the flat memory of two minitransactions.
-ghost use Rattle.std.specs.Prelude.{◌≡◌, true, false, MatchOption};
+ghost use Rattle.std.specs.Prelude.{◌≡◌, ◌≤◌, true, false, MatchOption};
+ghost use Rattle.mn_mini.specs.RecordGrammar.{IsTid};
 
 use crate::{CoordStep, Coordinator};
 use mn_base::{Bytes, ClientNo, NodeNo, Nodes, Tid};
@@ -9,7 +10,11 @@ use std::alloc::Global;
 use std::process::Abort;
 use std::test::Fail;
 
-fn tid(client: u8, serial: u32) -> Tid {
+fn tid(client: u8, serial: u32) -> Tid
+    requires client { client ≤ 20 }
+    requires serial { 1 ≤ serial }
+    ensures { IsTid result }
+{
     Tid {
         run: 1,
         client: ClientNo(client),
@@ -178,7 +183,9 @@ fn all_votes_commit_it(rt: HostRuntime) -> Result<(), Fail> {
     Ok(())
 }
 
-fn issue(client: u8, mini: Minitransaction) -> Entry {
+fn issue(client: u8, mini: Minitransaction) -> Entry
+    requires { client ≤ 20 }
+{
     Entry {
         node: None,
         client: Some(ClientNo(client)),

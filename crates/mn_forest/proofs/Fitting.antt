@@ -15,8 +15,7 @@ use Rattle.mn_base.specs.declared.ids.Tid.{Tid}
 use Rattle.mn_mini.specs.declared.part.PartItem.{PartItem}
 use Rattle.mn_mini.specs.declared.record.Record.{Record}
 use Rattle.mn_mini.specs.declared.record.Record.TheVariants.{Voted, Executed, Decided, Forced}
-use Rattle.mn_mini.specs.Node.{has_voted, has_executed, has_decided_yes, has_decided_no, is_held, is_vote_of, is_execution_of, is_yes_of, is_no_of}
-use Rattle.mn_world.specs.Protocol.{record_tid}
+use Rattle.mn_mini.specs.Node.{is_of, has_voted, has_executed, has_decided_yes, has_decided_no, is_held, is_vote_of, is_execution_of, is_yes_of, is_no_of}
 use Rattle.mn_world.specs.Opened.{AreSound, AreInPlace, IsInPlace, voted_participants, have_voted, is_committed, has_record}
 use Rattle.mn_world.proofs.Reading.Same.{tid_same-refl, tid_same-true, node_same-true, node_same-refl}
 use Rattle.mn_world.proofs.Votes.Start.{vote_names, named_record, held_has_vote, voted_executed, low_or_high}
@@ -76,16 +75,13 @@ some_node records p e =
 
 -- How many records an id has
 
-abbrev of_tid : Tid → Record → Bool
-of_tid tid r = tid_same (record_tid r) tid
-
 abbrev count_of : Tid → List Record → ℕ
 count_of tid [] = 0
-count_of tid (r ∷ rs) = (if of_tid tid r then 1 else 0) + count_of tid rs
+count_of tid (r ∷ rs) = (if is_of tid r then 1 else 0) + count_of tid rs
 
 has_counted : (tid : Tid) (rs : List Record) → has_record rs tid ≡ nat_lt 0 (count_of tid rs)
 has_counted tid [] = refl
-has_counted tid (r ∷ rs) = by (of_tid tid r) (has_counted tid rs)
+has_counted tid (r ∷ rs) = by (is_of tid r) (has_counted tid rs)
   where
     by : (b : Bool) → has_record rs tid ≡ nat_lt 0 (count_of tid rs) → (b || has_record rs tid) ≡ nat_lt 0 ((if b then 1 else 0) + count_of tid rs)
     by true ih = grind (arith, nat_tests)
@@ -93,7 +89,7 @@ has_counted tid (r ∷ rs) = by (of_tid tid r) (has_counted tid rs)
 
 several_counted : (tid : Tid) (rs : List Record) → has_several rs tid ≡ nat_lt 1 (count_of tid rs)
 several_counted tid [] = refl
-several_counted tid (r ∷ rs) = by (of_tid tid r) (several_counted tid rs)
+several_counted tid (r ∷ rs) = by (is_of tid r) (several_counted tid rs)
   where
     more : (k : ℕ) → (nat_lt 0 k || nat_lt 1 k) ≡ nat_lt 1 (1 + k)
     more zero = refl
@@ -113,7 +109,7 @@ count-reverse tid (x ∷ xs) =
     let e = reverse-append (x ∷ []) xs in
     let a = count-append tid (reverse xs) (x ∷ []) in
     let ih = count-reverse tid xs in
-    ap (λ (l : List Record). count_of tid l) e ∙ a ∙ (let goal : count_of tid (reverse xs) + ((if of_tid tid x then 1 else 0) + 0) ≡ (if of_tid tid x then 1 else 0) + count_of tid xs = omega (arith, ih) in goal)
+    ap (λ (l : List Record). count_of tid l) e ∙ a ∙ (let goal : count_of tid (reverse xs) + ((if is_of tid x then 1 else 0) + 0) ≡ (if is_of tid x then 1 else 0) + count_of tid xs = omega (arith, ih) in goal)
 
 -- each list has at most what all have
 count_at : (tid : Tid) (lists : List (List Record)) (n : ℕ) → count_of tid (get_or lists n []) ≤ count_of tid (flat_map (λ l. l) lists)

@@ -7,8 +7,8 @@ use Rattle.mn_base.specs.declared.ids.NodeNo.{NodeNo}
 use Rattle.mn_base.specs.declared.ids.Tid.{Tid}
 use Rattle.mn_mini.specs.declared.record.Record.{Record}
 use Rattle.mn_mini.specs.declared.record.Record.TheVariants.{Voted, Executed, Decided, Forced}
-use Rattle.mn_mini.specs.Node.{has_executed, has_decided_yes, has_decided_no}
-use Rattle.mn_world.specs.Protocol.{record_tid}
+use Rattle.mn_mini.specs.Node.{is_of, has_executed, has_decided_yes, has_decided_no}
+use Rattle.mn_mini.specs.RecordGrammar.{HasTid}
 use Rattle.mn_world.specs.Opened.{voted_participants, has_record}
 use Rattle.mn_world.proofs.Reading.Same.{tid_same-refl, tid_same-true}
 use Rattle.mn_forest.specs.declared.known.Known.{Known}
@@ -17,7 +17,7 @@ use Rattle.mn_forest.specs.Known.{IsKnown, Tells, Follows, known_at, id_key, key
 use Rattle.mn_forest.specs.Votes.{has_several}
 
 -- a record tells nothing of other ids
-pub of_others : (k : Known) (tid : Tid) (r : Record) (older : List Record) → tid_same (record_tid r) tid ≡ false → IsKnown k tid older → IsKnown k tid (r ∷ older)
+pub of_others : (k : Known) (tid : Tid) (r : Record) (older : List Record) → is_of tid r ≡ false → IsKnown k tid older → IsKnown k tid (r ∷ older)
 of_others k tid (Voted t participants part) older other is = record {
   seen = is.seen ∙ sym (ap (λ (b : Bool). b || has_record older tid) other);
   several = is.several ∙ sym (ap (λ (b : Bool). (b && has_record older tid) || has_several older tid) other);
@@ -65,78 +65,78 @@ of_others k tid (Forced t) older other is = record {
 }
 
 -- the record itself makes it so
-pub of_its_own : (before after : Known) (r : Record) (older : List Record) → Follows before after r → IsKnown before (record_tid r) older → IsKnown after (record_tid r) (r ∷ older)
-of_its_own before after (Voted t participants part) older f is =
-    let same = tid_same-refl t in
-    record {
-      seen = f.seen ∙ sym (ap (λ (b : Bool). b || has_record older t) same);
-      several = f.several ∙ (ap (λ (b : Bool). b || before.several) is.seen ∙ (ap (λ (b : Bool). has_record older t || b) is.several ∙ sym (ap (λ (b : Bool). (b && has_record older t) || has_several older t) same)));
-      participants = f.others.0 ∙ sym (ap (λ (b : Bool). if b then Some participants else voted_participants t older) same);
-      differ = f.others.1 ∙ (ap (λ (o : Option (List NodeNo)). differs_from o participants || before.differ) is.participants ∙ (ap (λ (b : Bool). differs_from (voted_participants t older) participants || b) is.differ ∙ sym (ap (λ (b : Bool). (b && differs_from (voted_participants t older) participants) || votes_differ t older) same)));
-      executed = f.others.2 ∙ is.executed;
-      agreed = f.others.3 ∙ is.agreed;
-      refused = f.others.4 ∙ is.refused;
-    }
-of_its_own before after (Executed t part) older f is =
-    let same = tid_same-refl t in
-    record {
-      seen = f.seen ∙ sym (ap (λ (b : Bool). b || has_record older t) same);
-      several = f.several ∙ (ap (λ (b : Bool). b || before.several) is.seen ∙ (ap (λ (b : Bool). has_record older t || b) is.several ∙ sym (ap (λ (b : Bool). (b && has_record older t) || has_several older t) same)));
-      participants = f.others.0 ∙ is.participants;
-      differ = f.others.1 ∙ is.differ;
-      executed = f.others.2 ∙ sym (ap (λ (b : Bool). b || has_executed older t) same);
-      agreed = f.others.3 ∙ is.agreed;
-      refused = f.others.4 ∙ is.refused;
-    }
-of_its_own before after (Decided t true) older f is =
-    let same = tid_same-refl t in
-    record {
-      seen = f.seen ∙ sym (ap (λ (b : Bool). b || has_record older t) same);
-      several = f.several ∙ (ap (λ (b : Bool). b || before.several) is.seen ∙ (ap (λ (b : Bool). has_record older t || b) is.several ∙ sym (ap (λ (b : Bool). (b && has_record older t) || has_several older t) same)));
-      participants = f.others.0 ∙ is.participants;
-      differ = f.others.1 ∙ is.differ;
-      executed = f.others.2 ∙ is.executed;
-      agreed = f.others.3 ∙ sym (ap (λ (b : Bool). b || has_decided_yes older t) same);
-      refused = f.others.4 ∙ is.refused;
-    }
-of_its_own before after (Decided t false) older f is =
-    let same = tid_same-refl t in
-    record {
-      seen = f.seen ∙ sym (ap (λ (b : Bool). b || has_record older t) same);
-      several = f.several ∙ (ap (λ (b : Bool). b || before.several) is.seen ∙ (ap (λ (b : Bool). has_record older t || b) is.several ∙ sym (ap (λ (b : Bool). (b && has_record older t) || has_several older t) same)));
-      participants = f.others.0 ∙ is.participants;
-      differ = f.others.1 ∙ is.differ;
-      executed = f.others.2 ∙ is.executed;
-      agreed = f.others.3 ∙ is.agreed;
-      refused = f.others.4 ∙ sym (ap (λ (b : Bool). b || has_decided_no older t) same);
-    }
-of_its_own before after (Forced t) older f is =
-    let same = tid_same-refl t in
-    record {
-      seen = f.seen ∙ sym (ap (λ (b : Bool). b || has_record older t) same);
-      several = f.several ∙ (ap (λ (b : Bool). b || before.several) is.seen ∙ (ap (λ (b : Bool). has_record older t || b) is.several ∙ sym (ap (λ (b : Bool). (b && has_record older t) || has_several older t) same)));
-      participants = f.others.0 ∙ is.participants;
-      differ = f.others.1 ∙ is.differ;
-      executed = f.others.2 ∙ is.executed;
-      agreed = f.others.3 ∙ is.agreed;
-      refused = f.others.4 ∙ is.refused;
-    }
+pub of_its_own : (before after : Known) (tid : Tid) (r : Record) (older : List Record) → is_of tid r ≡ true → Follows before after r
+    → IsKnown before tid older → IsKnown after tid (r ∷ older)
+of_its_own before after tid (Voted t participants part) older same f is = record {
+  seen = f.seen ∙ sym (ap (λ (b : Bool). b || has_record older tid) same);
+  several = f.several ∙ (ap (λ (b : Bool). b || before.several) is.seen ∙ (ap (λ (b : Bool). has_record older tid || b) is.several ∙ sym (ap (λ (b : Bool). (b && has_record older tid) || has_several older tid) same)));
+  participants = f.others.0 ∙ sym (ap (λ (b : Bool). if b then Some participants else voted_participants tid older) same);
+  differ = f.others.1 ∙ (ap (λ (o : Option (List NodeNo)). differs_from o participants || before.differ) is.participants ∙ (ap (λ (b : Bool). differs_from (voted_participants tid older) participants || b) is.differ ∙ sym (ap (λ (b : Bool). (b && differs_from (voted_participants tid older) participants) || votes_differ tid older) same)));
+  executed = f.others.2 ∙ is.executed;
+  agreed = f.others.3 ∙ is.agreed;
+  refused = f.others.4 ∙ is.refused;
+}
+of_its_own before after tid (Executed t part) older same f is = record {
+  seen = f.seen ∙ sym (ap (λ (b : Bool). b || has_record older tid) same);
+  several = f.several ∙ (ap (λ (b : Bool). b || before.several) is.seen ∙ (ap (λ (b : Bool). has_record older tid || b) is.several ∙ sym (ap (λ (b : Bool). (b && has_record older tid) || has_several older tid) same)));
+  participants = f.others.0 ∙ is.participants;
+  differ = f.others.1 ∙ is.differ;
+  executed = f.others.2 ∙ sym (ap (λ (b : Bool). b || has_executed older tid) same);
+  agreed = f.others.3 ∙ is.agreed;
+  refused = f.others.4 ∙ is.refused;
+}
+of_its_own before after tid (Decided t true) older same f is = record {
+  seen = f.seen ∙ sym (ap (λ (b : Bool). b || has_record older tid) same);
+  several = f.several ∙ (ap (λ (b : Bool). b || before.several) is.seen ∙ (ap (λ (b : Bool). has_record older tid || b) is.several ∙ sym (ap (λ (b : Bool). (b && has_record older tid) || has_several older tid) same)));
+  participants = f.others.0 ∙ is.participants;
+  differ = f.others.1 ∙ is.differ;
+  executed = f.others.2 ∙ is.executed;
+  agreed = f.others.3 ∙ sym (ap (λ (b : Bool). b || has_decided_yes older tid) same);
+  refused = f.others.4 ∙ is.refused;
+}
+of_its_own before after tid (Decided t false) older same f is = record {
+  seen = f.seen ∙ sym (ap (λ (b : Bool). b || has_record older tid) same);
+  several = f.several ∙ (ap (λ (b : Bool). b || before.several) is.seen ∙ (ap (λ (b : Bool). has_record older tid || b) is.several ∙ sym (ap (λ (b : Bool). (b && has_record older tid) || has_several older tid) same)));
+  participants = f.others.0 ∙ is.participants;
+  differ = f.others.1 ∙ is.differ;
+  executed = f.others.2 ∙ is.executed;
+  agreed = f.others.3 ∙ is.agreed;
+  refused = f.others.4 ∙ sym (ap (λ (b : Bool). b || has_decided_no older tid) same);
+}
+of_its_own before after tid (Forced t) older same f is = record {
+  seen = f.seen ∙ sym (ap (λ (b : Bool). b || has_record older tid) same);
+  several = f.several ∙ (ap (λ (b : Bool). b || before.several) is.seen ∙ (ap (λ (b : Bool). has_record older tid || b) is.several ∙ sym (ap (λ (b : Bool). (b && has_record older tid) || has_several older tid) same)));
+  participants = f.others.0 ∙ is.participants;
+  differ = f.others.1 ∙ is.differ;
+  executed = f.others.2 ∙ is.executed;
+  agreed = f.others.3 ∙ is.agreed;
+  refused = f.others.4 ∙ is.refused;
+}
 
 -- Tables
 
-pub noted : (old new : Table) (r : Record) (older : List Record) (after : Known) → Tells old older → Follows (known_at old (record_tid r)) after r
-    → ((q : Tid) → get keys_same new.known (id_key q) ≡ cond (tid_same (record_tid r) q) (Some after) (get keys_same old.known (id_key q))) → Tells new (r ∷ older)
-noted old new r older after tells f updates = λ q. by q (tid_same (record_tid r) q) refl
+-- a record of one id is of another just where the two are the same
+is_of-told : (tid q : Tid) (r : Record) → HasTid tid r → is_of q r ≡ tid_same tid q
+is_of-told tid q (Voted t participants part) of = ap (λ (u : Tid). tid_same u q) (sym of)
+is_of-told tid q (Executed t part) of = ap (λ (u : Tid). tid_same u q) (sym of)
+is_of-told tid q (Decided t verdict) of = ap (λ (u : Tid). tid_same u q) (sym of)
+is_of-told tid q (Forced t) of = ap (λ (u : Tid). tid_same u q) (sym of)
+
+pub noted : (old new : Table) (tid : Tid) (r : Record) (older : List Record) (after : Known) → HasTid tid r → Tells old older → Follows (known_at old tid) after r
+    → ((q : Tid) → get keys_same new.known (id_key q) ≡ cond (tid_same tid q) (Some after) (get keys_same old.known (id_key q))) → Tells new (r ∷ older)
+noted old new tid r older after of tells f updates = λ q. by q (tid_same tid q) refl
   where
-    own : (q : Tid) → record_tid r ≡ q → known_at new q ≡ after → IsKnown (known_at new q) q (r ∷ older)
+    own : (q : Tid) → tid ≡ q → known_at new q ≡ after → IsKnown (known_at new q) q (r ∷ older)
     own q same is =
-        subst (λ (k : Known). IsKnown k q (r ∷ older)) (sym is) (subst (λ (t : Tid). IsKnown after t (r ∷ older)) same (of_its_own (known_at old (record_tid r)) after r older f (tells (record_tid r))))
+        let known = of_its_own (known_at old tid) after tid r older (is_of-told tid tid r of ∙ tid_same-refl tid) f (tells tid) in
+        subst (λ (k : Known). IsKnown k q (r ∷ older)) (sym is) (subst (λ (t : Tid). IsKnown after t (r ∷ older)) same known)
 
-    other : (q : Tid) → tid_same (record_tid r) q ≡ false → known_at new q ≡ known_at old q → IsKnown (known_at new q) q (r ∷ older)
-    other q apart is = subst (λ (k : Known). IsKnown k q (r ∷ older)) (sym is) (of_others (known_at old q) q r older apart (tells q))
+    other : (q : Tid) → tid_same tid q ≡ false → known_at new q ≡ known_at old q → IsKnown (known_at new q) q (r ∷ older)
+    other q apart is =
+        subst (λ (k : Known). IsKnown k q (r ∷ older)) (sym is) (of_others (known_at old q) q r older (is_of-told tid q r of ∙ apart) (tells q))
 
-    by : (q : Tid) (b : Bool) → tid_same (record_tid r) q ≡ b → IsKnown (known_at new q) q (r ∷ older)
-    by q true e = own q (tid_same-true (record_tid r) q e) (ap (λ (o : Option Known). unwrap_or o unknown) (updates q ∙ ap (λ (b : Bool). cond b (Some after) (get keys_same old.known (id_key q))) e))
+    by : (q : Tid) (b : Bool) → tid_same tid q ≡ b → IsKnown (known_at new q) q (r ∷ older)
+    by q true e = own q (tid_same-true tid q e) (ap (λ (o : Option Known). unwrap_or o unknown) (updates q ∙ ap (λ (b : Bool). cond b (Some after) (get keys_same old.known (id_key q))) e))
     by q false e = other q e (ap (λ (o : Option Known). unwrap_or o unknown) (updates q ∙ ap (λ (b : Bool). cond b (Some after) (get keys_same old.known (id_key q))) e))
 
 pub nothing_noted : (t : Table) → ((q : Tid) → get keys_same t.known (id_key q) ≡ None) → Tells t []

@@ -8,8 +8,8 @@ use Rattle.mn_base.specs.declared.ids.NodeNo.{NodeNo}
 use Rattle.mn_base.specs.declared.ids.Tid.{Tid}
 use Rattle.mn_mini.specs.declared.record.Record.{Record}
 use Rattle.mn_mini.specs.declared.record.Record.TheVariants.{Voted, Executed, Decided, Forced}
-use Rattle.mn_mini.specs.Node.{has_decided_yes, has_decided_no}
-use Rattle.mn_world.specs.Protocol.{Start, record_tid, start_records}
+use Rattle.mn_mini.specs.Node.{is_of, has_decided_yes, has_decided_no}
+use Rattle.mn_world.specs.Protocol.{Start, start_records}
 use Rattle.mn_world.specs.Opened.{voted_participants, have_voted, is_committed, has_record, IsInPlace}
 use Rattle.mn_forest.specs.Base.{base_memory}
 
@@ -43,7 +43,7 @@ names_none_but tid participants r = true
 -- the id has more than one record
 abbrev pub has_several : List Record → Tid → Bool
 has_several [] tid = false
-has_several (r ∷ older) tid = (tid_same (record_tid r) tid && has_record older tid) || has_several older tid
+has_several (r ∷ older) tid = (is_of tid r && has_record older tid) || has_several older tid
 
 -- the participants that the vote names have voted
 abbrev pub has_all_votes : (NodeNo → List Record) → NodeNo → Tid → Bool

@@ -1,7 +1,8 @@
 ghost use Rattle.std.specs.Prelude.{◌≡◌, ◌+◌, ◌∷◌, [], not, List, map, option_map, IfOk, OnOk, vec_len};
 ghost use Rattle.std.specs.List.{list_any};
 ghost use Rattle.mn_mini.specs.declared.record.Record.{Record};
-ghost use Rattle.mn_mini.specs.Mini.{ranges_meet, items_conflict, item_conflicts_with, parts_conflict, range_of, is_write};
+ghost use Rattle.mn_base.specs.Ranges.{ranges_meet};
+ghost use Rattle.mn_mini.specs.Mini.{items_conflict, item_conflicts_with, parts_conflict, range_of, is_write};
 ghost use Rattle.mn_mini.specs.Node.{held_parts, held_part_of, without_tid};
 ghost use Rattle.mn_world.specs.Opened.{is_free};
 ghost use Rattle.mn_forest.specs.Known.{held_seen, parts_seen};
@@ -51,7 +52,7 @@ fn items_clash(one: &PartItem, other: &PartItem) -> bool
 {
     let (start, end) = bounds(one);
     let (other_start, other_end) = bounds(other);
-    start < other_end && other_start < end && (writes(one) || writes(other))
+    start.max(other_start) < end.min(other_end) && (writes(one) || writes(other))
 }
 
 fn item_clashes(item: &PartItem, part: &[PartItem]) -> bool

@@ -1,6 +1,6 @@
 ghost use Rattle.std.specs.Prelude.{◌≡◌, ◌∷◌, [], List, OnOk, option_map};
 ghost use Rattle.mn_mini.specs.declared.record.Record.{Record};
-ghost use Rattle.mn_world.specs.Protocol.{record_tid};
+ghost use Rattle.mn_mini.specs.RecordGrammar.{HasTid};
 ghost use Rattle.mn_forest.specs.Known.{id_key, known_at, unknown, Follows, Tells, differs_from};
 ghost use Rattle.mn_forest.specs.Votes.{same_nodes};
 
@@ -108,17 +108,6 @@ fn after<'a>(before: Known<'a>, record: &'a Record) -> Known<'a>
     known
 }
 
-fn tid_of(record: &Record) -> Tid
-    ensures { result ≡ record_tid record.now }
-{
-    match record {
-        Record::Voted { tid, .. } => *tid,
-        Record::Executed { tid, .. } => *tid,
-        Record::Decided { tid, .. } => *tid,
-        Record::Forced { tid } => *tid,
-    }
-}
-
 impl<'a> Table<'a> {
     /// No record tells anything.
     pub fn new(alloc: Global) -> Self
@@ -143,7 +132,19 @@ impl<'a> Table<'a> {
     pub fn note(&mut self, record: &'a Record) -> Result<(), NoMemory>
         ensures { (older : List Record) → Tells self.old older → OnOk result (Tells self.new (record.now ∷ older)) }
     {
-        let tid = tid_of(record);
+        match record {
+            Record::Voted { tid, .. } => self.note_of(*tid, record),
+            Record::Executed { tid, .. } => self.note_of(*tid, record),
+            Record::Decided { tid, .. } => self.note_of(*tid, record),
+            Record::Forced { tid } => self.note_of(*tid, record),
+        }
+    }
+
+    /// Notes a record of this id behind the others.
+    fn note_of(&mut self, tid: Tid, record: &'a Record) -> Result<(), NoMemory>
+        requires { HasTid tid record.now }
+        ensures { (older : List Record) → Tells self.old older → OnOk result (Tells self.new (record.now ∷ older)) }
+    {
         let known = after(self.of(tid), record);
         self.known.insert(id_key(tid), known)?;
         Ok(())

@@ -4,7 +4,8 @@ use Rattle.mn_base.specs.declared.ids.Tid.{Tid}
 use Rattle.mn_base.specs.declared.ids.Range.{Range}
 use Rattle.mn_locks.specs.declared.hold.Hold.{Hold}
 use Rattle.mn_locks.specs.declared.hold.Held.{Held}
-use Rattle.mn_locks.specs.Locks.{conflicts, holders, lesser_tid, least_tid, held_or, first_held}
+use Rattle.mn_base.specs.Ranges.{lesser_tid, least_tid}
+use Rattle.mn_locks.specs.Locks.{conflicts, holders, held_or, first_held}
 
 -- from the end on, these are left and the others have this least holder
 pub record Walked (tid : Tid) (alone : Bool) (range : Range) (holds left : List Hold) (least : Option Tid) : Type 0 where

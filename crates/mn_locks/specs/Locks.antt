@@ -1,6 +1,7 @@
 -- What is held, and when a range conflicts with it.
-use Rattle.std.specs.Prelude.{ℕ, ◌+◌, Bool, true, false, not, ◌&&◌, ◌||◌, nat_lt, List, [], ◌∷◌, ◌++◌, map, filter, Option, Some, None, if◌then◌else◌}
-use Rattle.mn_base.specs.Ids.{tid_same, tid_lt}
+use Rattle.std.specs.Prelude.{ℕ, Bool, true, false, not, ◌&&◌, ◌||◌, List, [], ◌∷◌, ◌++◌, map, filter, Option, Some, None, if◌then◌else◌}
+use Rattle.mn_base.specs.Ids.{tid_same}
+use Rattle.mn_base.specs.Ranges.{ranges_meet, least_tid}
 use Rattle.mn_base.specs.declared.ids.Tid.{Tid}
 use Rattle.mn_base.specs.declared.ids.Range.{Range}
 use Rattle.mn_locks.specs.declared.hold.Hold.{Hold}
@@ -11,10 +12,6 @@ pub record TableState : Type 0 where
   pub holds : List Hold
   pub spare : ℕ
 
--- the ranges have a byte in common
-abbrev pub ranges_meet : Range → Range → Bool
-ranges_meet a b = nat_lt a.start (b.start + b.length) && nat_lt b.start (a.start + a.length)
-
 -- a range, asked for alone or shared, meets one that another id holds, and one of the two is to be alone
 abbrev pub conflicts : Tid → Bool → Range → Hold → Bool
 conflicts tid alone range hold = not (tid_same hold.tid tid) && (ranges_meet range hold.range && (alone || hold.alone))
@@ -24,14 +21,6 @@ abbrev pub holders : Tid → Bool → Range → List Hold → List Tid
 holders tid alone range [] = []
 holders tid alone range (hold ∷ holds) =
     if conflicts tid alone range hold then hold.tid ∷ holders tid alone range holds else holders tid alone range holds
-
-abbrev pub lesser_tid : Tid → Option Tid → Tid
-lesser_tid t None = t
-lesser_tid t (Some u) = if tid_lt u t then u else t
-
-abbrev pub least_tid : List Tid → Option Tid
-least_tid [] = None
-least_tid (t ∷ ts) = Some (lesser_tid t (least_tid ts))
 
 abbrev pub held_or : Range → Option Tid → Option Held → Option Held
 held_or range None rest = rest

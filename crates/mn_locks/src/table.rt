@@ -1,6 +1,7 @@
 ghost use Rattle.std.specs.Prelude.{◌≡◌, ◌≤◌, ◌<◌, ◌+◌, ◌++◌, [], length, map, IfOk, OnOk, OnErr, MatchResult, Some, None, vec_len, vec_capacity};
 ghost use Rattle.mn_base.specs.Ids.{tid_same, tid_lt};
-ghost use Rattle.mn_locks.specs.Locks.{conflicts, holders, least_tid, first_held, held_of, lesser_tid, hold_of, holds_of, without, ranges_meet};
+ghost use Rattle.mn_base.specs.Ranges.{ranges_meet, least_tid, lesser_tid};
+ghost use Rattle.mn_locks.specs.Locks.{conflicts, holders, first_held, held_of, hold_of, holds_of, without};
 
 use crate::{Held, Hold};
 use mn_base::{NoMemory, Range, Tid};
@@ -46,13 +47,14 @@ fn precedes(a: Tid, b: Tid) -> bool
     a.serial < b.serial
 }
 
-/// The ranges have a byte in common.
+/// The ranges have a byte in common, which an empty range has with none.
 fn meet(a: Range, b: Range) -> bool
     ensures { result ≡ ranges_meet a b }
 {
+    let start = u64::from(a.start).max(u64::from(b.start));
     let a_end = u64::from(a.start) + u64::from(a.length);
     let b_end = u64::from(b.start) + u64::from(b.length);
-    u64::from(a.start) < b_end && u64::from(b.start) < a_end
+    start < a_end.min(b_end)
 }
 
 /// A range asked for conflicts with one that is held.

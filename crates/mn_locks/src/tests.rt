@@ -29,6 +29,8 @@ fn a_range_is_refused_where_it_meets(rt: HostRuntime) -> Result<(), Fail> {
         table.test(tid(3), &[range(15, 1)], &[range(24, 1)]),
         Ok(())
     );
+    // An empty range has no byte that is held.
+    assert_eq!(rt; table.test(tid(3), &[range(20, 0)], &[range(5, 0)]), Ok(()));
     let last = Held {
         range: range(23, 1),
         holder: tid(2),

@@ -11,7 +11,8 @@ use Rattle.mn_mini.specs.declared.request.Request.{Request}
 use Rattle.mn_mini.specs.declared.request.Request.TheVariants as Ask
 use Rattle.mn_mini.specs.Mini.{item_conflicts_with, parts_conflict, has_write}
 use Rattle.mn_mini.specs.Flat.{part_mismatch_from}
-use Rattle.mn_mini.specs.Node.{HeldPart, Clash, without_tid, held_parts, is_held, holders, least_tid, clash_of, has_voted, has_forced, after_locks, after_compares, space_of, answer, with_added}
+use Rattle.mn_base.specs.Ranges.{least_tid}
+use Rattle.mn_mini.specs.Node.{HeldPart, Clash, without_tid, held_parts, is_held, holders, clash_of, has_voted, has_forced, after_locks, after_compares, space_of, answer, with_added}
 use Rattle.mn_mini.specs.Laws.{AreApart, records_after, HeldPartsStayApart}
 
 -- on facts of each element

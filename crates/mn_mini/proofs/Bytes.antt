@@ -1,13 +1,14 @@
 -- Writes keep the length of a space, and the bytes of every range that they do not meet.
-use Rattle.std.proofs.Common.{◌≡◌, ℕ, zero, suc, ◌+◌, ◌≤◌, ◌⊎◌, inl, inr, Bool, true, false, ◌&&◌, ◌||◌, List, [], ◌∷◌, length, Option, Some, refl, sym, ap, ◌∙◌, arith, if◌then◌else◌}
-use Rattle.std.specs.Prelude.{nat_lt}
+use Rattle.std.proofs.Common.{◌≡◌, ℕ, zero, suc, ◌+◌, ◌≤◌, Bool, true, false, ◌&&◌, ◌||◌, List, [], ◌∷◌, length, Option, Some, refl, sym, ap, ◌∙◌, arith, if◌then◌else◌}
+use Rattle.std.specs.Prelude.{nat_lt, min, max}
 use Rattle.std.proofs.lemmas.Bool.Decides.{nat_tests}
 use Rattle.std.specs.List.{list_any}
 use Rattle.std.specs.Prelude.{bytes_eq}
 use Rattle.mn_base.specs.declared.ids.Range.{Range}
 use Rattle.mn_mini.specs.declared.part.PartItem.{PartItem}
 use Rattle.mn_mini.specs.declared.part.PartItem.TheVariants.{Compare, Read, Write}
-use Rattle.mn_mini.specs.Mini.{items_conflict, range_of, is_write, ranges_meet, item_conflicts_with, parts_conflict}
+use Rattle.mn_base.specs.Ranges.{ranges_meet}
+use Rattle.mn_mini.specs.Mini.{items_conflict, range_of, is_write, item_conflicts_with, parts_conflict}
 use Rattle.mn_mini.specs.Flat.{Mismatched, bytes_in, overwritten, part_mismatch_from, part_reads, space_after_part}
 
 pub length-overwritten : (space : List ℕ) (start : ℕ) (bytes : List ℕ) → length (overwritten space start bytes) ≡ length space
@@ -41,13 +42,26 @@ above_write (x ∷ space) zero (b ∷ bytes) (suc s) n le = above_write space ze
 above_write (x ∷ space) (suc start) bytes zero n le = absurd (omega arith)
 above_write (x ∷ space) (suc start) bytes (suc s) n le = above_write space start bytes s n (omega arith)
 
--- ranges that do not meet lie one below the other, where neither is empty
-apart : (s n t m : ℕ) → (nat_lt s (t + m) && nat_lt t (s + n)) ≡ false → (t + m ≤ s) ⊎ (s + n ≤ t)
-apart s n t m e =
-    elim (nat_lt s (t + m)) as (λ b. nat_lt s (t + m) ≡ b → (b && nat_lt t (s + n)) ≡ false → (t + m ≤ s) ⊎ (s + n ≤ t)) [
-      | true ↦ λ _ f. inr (grind (arith, nat_tests))
-      | false ↦ λ f _. inl (grind (arith, nat_tests))
-    ] refl e
+-- ranges that do not meet: one is empty, or they lie one below the other
+data Lie (s n t m : ℕ) : Type 0 where
+  NoneRead : n ≡ 0 → Lie s n t m
+  NoneWritten : m ≡ 0 → Lie s n t m
+  Above : t + m ≤ s → Lie s n t m
+  Below : s + n ≤ t → Lie s n t m
+
+apart : (s n t m : ℕ) → nat_lt (max s t) (min (s + n) (t + m)) ≡ false → Lie s n t m
+apart s n t m e = by (nat_lt 0 n) refl (nat_lt 0 m) refl (nat_lt s (t + m)) refl
+  where
+    by : (a : Bool) → nat_lt 0 n ≡ a → (b : Bool) → nat_lt 0 m ≡ b → (c : Bool) → nat_lt s (t + m) ≡ c → Lie s n t m
+    by false f b g c h = NoneRead (grind (arith, nat_tests))
+    by true f false g c h = NoneWritten (grind (arith, nat_tests))
+    by true f true g false h = Above (grind (arith, nat_tests))
+    by true f true g true h = Below (grind (arith, nat_tests))
+
+-- no bytes
+none : (bytes : List ℕ) → length bytes ≡ 0 → bytes ≡ []
+none [] e = refl
+none (b ∷ bytes) e = absurd (omega (arith, e))
 
 -- a part that writes nowhere in a range leaves its bytes
 abbrev pub WritesApart : Range → List PartItem → Type 0
@@ -68,10 +82,17 @@ range-after_part space range (Read start n ∷ part) e = range-after_part space 
 range-after_part space range (Write start bytes ∷ part) e =
     let s = or_split (ranges_meet range (range_of (Write start bytes)) && true) (list_any (λ item. ranges_meet range (range_of item) && is_write item) part) e in
     range-after_part (overwritten space start bytes) range part s.1
-    ∙ elim (apart range.start range.length start (length bytes) (and_true _ s.0)) as (λ _. bytes_in (overwritten space start bytes) range.start range.length ≡ bytes_in space range.start range.length) [
-      | inl above ↦ above_write space start bytes range.start range.length above
-      | inr below ↦ below_write space start bytes range.start range.length below
-    ]
+    ∙ kept (apart range.start range.length start (length bytes) (and_true _ s.0))
+  where
+    kept : Lie range.start range.length start (length bytes)
+        → bytes_in (overwritten space start bytes) range.start range.length ≡ bytes_in space range.start range.length
+    kept (NoneRead n) =
+        ap (bytes_in (overwritten space start bytes) range.start) n ∙ sym (ap (bytes_in space range.start) n)
+    kept (NoneWritten m) =
+        ap (λ (l : List ℕ). bytes_in l range.start range.length)
+        (ap (overwritten space start) (none bytes m) ∙ overwritten-nothing space start)
+    kept (Above above) = above_write space start bytes range.start range.length above
+    kept (Below below) = below_write space start bytes range.start range.length below
 
 -- Writes that do not meet commute
 
@@ -94,9 +115,20 @@ write-after_part space a bs (Write start bytes ∷ part) e =
     let s = or_split (ranges_meet range (range_of (Write start bytes)) && true) (list_any (λ item. ranges_meet range (range_of item) && is_write item) part) e in
     ap (λ (w : List ℕ). space_after_part w part) (swapped (apart a (length bs) start (length bytes) (and_true _ s.0))) ∙ write-after_part (overwritten space start bytes) a bs part s.1
   where
-    swapped : (start + length bytes ≤ a) ⊎ (a + length bs ≤ start) → overwritten (overwritten space a bs) start bytes ≡ overwritten (overwritten space start bytes) a bs
-    swapped (inl above) = sym (commute_below space start bytes a bs above)
-    swapped (inr below) = commute_below space a bs start bytes below
+    swapped : Lie a (length bs) start (length bytes)
+        → overwritten (overwritten space a bs) start bytes ≡ overwritten (overwritten space start bytes) a bs
+    swapped (NoneRead n) =
+        ap (λ (l : List ℕ). overwritten (overwritten space a l) start bytes) (none bs n)
+        ∙ (ap (λ (l : List ℕ). overwritten l start bytes) (overwritten-nothing space a)
+        ∙ (sym (overwritten-nothing (overwritten space start bytes) a)
+        ∙ ap (overwritten (overwritten space start bytes) a) (sym (none bs n))))
+    swapped (NoneWritten m) =
+        ap (overwritten (overwritten space a bs) start) (none bytes m)
+        ∙ (overwritten-nothing (overwritten space a bs) start
+        ∙ ap (λ (l : List ℕ). overwritten l a bs)
+        (sym (ap (overwritten space start) (none bytes m) ∙ overwritten-nothing space start)))
+    swapped (Above above) = sym (commute_below space start bytes a bs above)
+    swapped (Below below) = commute_below space a bs start bytes below
 
 -- an item that does not conflict with a part: the part writes nowhere in its range
 apart_from : (item : PartItem) (part : List PartItem) → item_conflicts_with item part ≡ false → WritesApart (range_of item) part
@@ -133,15 +165,18 @@ mismatch-after_part space (Write start bytes ∷ p) q i e = mismatch-after_part 
 -- Conflicts are the same both ways
 
 flipped : (a b : PartItem) → items_conflict a b ≡ false → items_conflict b a ≡ false
-flipped a b e = turn (nat_lt (range_of a).start ((range_of b).start + (range_of b).length)) (nat_lt (range_of b).start ((range_of a).start + (range_of a).length)) (is_write a) (is_write b) e
+flipped a b e =
+    let same = meet_turned (range_of b).start (range_of b).length (range_of a).start (range_of a).length in
+    ap (λ (m : Bool). m && (is_write b || is_write a)) same ∙ turn (ranges_meet (range_of a) (range_of b)) (is_write a) (is_write b) e
   where
-    turn : (x y v w : Bool) → ((x && y) && (v || w)) ≡ false → ((y && x) && (w || v)) ≡ false
-    turn true true true w e = absurd cc
-    turn true true false true e = absurd cc
-    turn true true false false e = refl
-    turn true false v w e = refl
-    turn false true v w e = refl
-    turn false false v w e = refl
+    meet_turned : (s n t m : ℕ) → nat_lt (max s t) (min (s + n) (t + m)) ≡ nat_lt (max t s) (min (t + m) (s + n))
+    meet_turned s n t m = grind (arith, nat_tests)
+
+    turn : (x v w : Bool) → (x && (v || w)) ≡ false → (x && (w || v)) ≡ false
+    turn true true w e = absurd cc
+    turn true false true e = absurd cc
+    turn true false false e = refl
+    turn false v w e = refl
 
 item_front : (b : PartItem) (p : List PartItem) (q : List PartItem) → parts_conflict p (b ∷ q) ≡ false → (item_conflicts_with b p ≡ false) × (parts_conflict p q ≡ false)
 item_front b [] q e = (refl, refl)

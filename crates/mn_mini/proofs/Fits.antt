@@ -16,7 +16,8 @@ use Rattle.mn_mini.specs.declared.reply.NodeReply.{NodeReply}
 use Rattle.mn_mini.specs.declared.reply.NodeReply.TheVariants as Say
 use Rattle.mn_mini.specs.Mini.{range_of, has_write, space_size}
 use Rattle.mn_mini.specs.Flat.{Mismatched, bytes_in, part_mismatch_from, part_reads, space_after_part}
-use Rattle.mn_mini.specs.Node.{HeldPart, Clash, held_parts, held_part_of, holders, least_tid, clash_or, clash_of, has_voted, has_forced, after_locks, after_compares, space_after_held, space_of, only_reply, tested, with_doubt, doubts_of}
+use Rattle.mn_base.specs.Ranges.{least_tid}
+use Rattle.mn_mini.specs.Node.{HeldPart, Clash, held_parts, held_part_of, holders, clash_or, clash_of, has_voted, has_forced, after_locks, after_compares, space_after_held, space_of, only_reply, tested, with_doubt, doubts_of}
 use Rattle.mn_mini.specs.RecordGrammar.{IsPartItem, IsRecord, IsTid, AreParticipants}
 use Rattle.mn_mini.specs.Sound.{AreReadsOf, Fits, IsDoubt, IsOtherThan, IsRangeIn}
 use Rattle.mn_mini.specs.Laws.{AnswersFit}

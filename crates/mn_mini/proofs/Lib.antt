@@ -8,3 +8,4 @@ pub mod RecordGrammar
 pub mod ItemLists
 pub mod RecordBytes
 pub mod Fits
+pub mod SoundParts

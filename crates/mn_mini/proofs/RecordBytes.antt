@@ -8,7 +8,7 @@ use Rattle.mn_mini.specs.declared.part.PartItem.{PartItem}
 use Rattle.mn_mini.specs.declared.record.Record.{Record}
 use Rattle.mn_mini.specs.declared.record.Record.TheVariants.{Voted, Executed, Decided, Forced}
 use Rattle.mn_mini.specs.Mini.{has_write}
-use Rattle.mn_mini.specs.RecordGrammar.{item_bytes, part_bytes, participants_bytes, numbers_of, verdict_byte, tid_bytes, record_kind, record_tid, behind_tid, record_bytes, IsPart, AreParticipants, MayFollow, IsRecord, Begins, NoneBegins, GoesOn, NoneGoesOn, Spells, SpellsNone, IsTid}
+use Rattle.mn_mini.specs.RecordGrammar.{item_bytes, part_bytes, participants_bytes, numbers_of, verdict_byte, tid_bytes, record_kind, head_bytes, behind_tid, record_bytes, IsPart, AreParticipants, MayBegin, MayFollow, HasTid, IsRecord, Begins, NoneBegins, GoesOn, NoneGoesOn, Spells, SpellsNone, IsTid}
 use Rattle.mn_mini.proofs.RecordGrammar.{cut, number_once, tid_once}
 use Rattle.mn_mini.proofs.ItemLists.{items_once}
 
@@ -85,52 +85,93 @@ verdict_once true false e = cc
 verdict_once false true e = cc
 verdict_once false false e = refl
 
-record_alike : (r s : Record) → record_kind r ≡ record_kind s → record_tid r ≡ record_tid s → MayFollow r → MayFollow s → behind_tid r ≡ behind_tid s → r ≡ s
-record_alike (Voted t ps p) (Voted u qs q) k i f g e =
+-- The id of a record
+
+-- a record has an id, with which its bytes begin
+record Named (r : Record) : Type 0 where
+  tid : Tid
+  of : HasTid tid r
+  may : MayBegin r → IsTid tid
+  head : head_bytes r ≡ tid_bytes tid
+
+named : (r : Record) → Named r
+named (Voted t participants part) = record { tid = t; of = refl; may = λ m. m; head = refl }
+named (Executed t part) = record { tid = t; of = refl; may = λ m. m; head = refl }
+named (Decided t verdict) = record { tid = t; of = refl; may = λ m. m; head = refl }
+named (Forced t) = record { tid = t; of = refl; may = λ m. m; head = refl }
+
+-- a record of this id begins with it
+begins_with : (tid : Tid) (r : Record) → HasTid tid r → IsTid tid → MayBegin r × (head_bytes r ≡ tid_bytes tid)
+begins_with tid (Voted t participants part) of is = (subst IsTid of is, ap tid_bytes (sym of))
+begins_with tid (Executed t part) of is = (subst IsTid of is, ap tid_bytes (sym of))
+begins_with tid (Decided t verdict) of is = (subst IsTid of is, ap tid_bytes (sym of))
+begins_with tid (Forced t) of is = (subst IsTid of is, ap tid_bytes (sym of))
+
+record_alike : (tid : Tid) (r s : Record) → record_kind r ≡ record_kind s → HasTid tid r → HasTid tid s
+    → MayFollow r → MayFollow s → behind_tid r ≡ behind_tid s → r ≡ s
+record_alike tid (Voted t ps p) (Voted u qs q) k h i f g e =
     let nodes = participants_once ps qs (part_bytes p) (part_bytes q) e in
     let parts = part_once p q [] [] f.1 g.1 (ap (λ (l : List ℕ). l ++ []) nodes.1) in
-    ap (λ (n : Tid). Voted n ps p) i ∙ ap (λ (l : List NodeNo). Voted u l p) nodes.0 ∙ ap (λ (l : List PartItem). Voted u qs l) parts.0
-record_alike (Executed t p) (Executed u q) k i f g e =
+    ap (λ (n : Tid). Voted n ps p) (sym h ∙ i) ∙ ap (λ (l : List NodeNo). Voted u l p) nodes.0 ∙ ap (λ (l : List PartItem). Voted u qs l) parts.0
+record_alike tid (Executed t p) (Executed u q) k h i f g e =
     let parts = part_once p q [] [] f.0 g.0 (ap (λ (l : List ℕ). l ++ []) e) in
-    ap (λ (n : Tid). Executed n p) i ∙ ap (λ (l : List PartItem). Executed u l) parts.0
-record_alike (Decided t v) (Decided u w) k i f g e = ap (λ (n : Tid). Decided n v) i ∙ ap (λ (b : Bool). Decided u b) (verdict_once v w e)
-record_alike (Forced t) (Forced u) k i f g e = ap (λ (n : Tid). Forced n) i
-record_alike (Voted t ps p) (Executed u q) k i f g e = absurd (omega (arith, k))
-record_alike (Voted t ps p) (Decided u w) k i f g e = absurd (omega (arith, k))
-record_alike (Voted t ps p) (Forced u) k i f g e = absurd (omega (arith, k))
-record_alike (Executed t p) (Voted u qs q) k i f g e = absurd (omega (arith, k))
-record_alike (Executed t p) (Decided u w) k i f g e = absurd (omega (arith, k))
-record_alike (Executed t p) (Forced u) k i f g e = absurd (omega (arith, k))
-record_alike (Decided t v) (Voted u qs q) k i f g e = absurd (omega (arith, k))
-record_alike (Decided t v) (Executed u q) k i f g e = absurd (omega (arith, k))
-record_alike (Decided t v) (Forced u) k i f g e = absurd (omega (arith, k))
-record_alike (Forced t) (Voted u qs q) k i f g e = absurd (omega (arith, k))
-record_alike (Forced t) (Executed u q) k i f g e = absurd (omega (arith, k))
-record_alike (Forced t) (Decided u w) k i f g e = absurd (omega (arith, k))
+    ap (λ (n : Tid). Executed n p) (sym h ∙ i) ∙ ap (λ (l : List PartItem). Executed u l) parts.0
+record_alike tid (Decided t v) (Decided u w) k h i f g e = ap (λ (n : Tid). Decided n v) (sym h ∙ i) ∙ ap (λ (b : Bool). Decided u b) (verdict_once v w e)
+record_alike tid (Forced t) (Forced u) k h i f g e = ap (λ (n : Tid). Forced n) (sym h ∙ i)
+record_alike tid (Voted t ps p) (Executed u q) k h i f g e = absurd (omega (arith, k))
+record_alike tid (Voted t ps p) (Decided u w) k h i f g e = absurd (omega (arith, k))
+record_alike tid (Voted t ps p) (Forced u) k h i f g e = absurd (omega (arith, k))
+record_alike tid (Executed t p) (Voted u qs q) k h i f g e = absurd (omega (arith, k))
+record_alike tid (Executed t p) (Decided u w) k h i f g e = absurd (omega (arith, k))
+record_alike tid (Executed t p) (Forced u) k h i f g e = absurd (omega (arith, k))
+record_alike tid (Decided t v) (Voted u qs q) k h i f g e = absurd (omega (arith, k))
+record_alike tid (Decided t v) (Executed u q) k h i f g e = absurd (omega (arith, k))
+record_alike tid (Decided t v) (Forced u) k h i f g e = absurd (omega (arith, k))
+record_alike tid (Forced t) (Voted u qs q) k h i f g e = absurd (omega (arith, k))
+record_alike tid (Forced t) (Executed u q) k h i f g e = absurd (omega (arith, k))
+record_alike tid (Forced t) (Decided u w) k h i f g e = absurd (omega (arith, k))
 
 pub record_once : (r s : Record) → IsRecord r → IsRecord s → record_bytes r ≡ record_bytes s → r ≡ s
 record_once r s is_r is_s e =
-    let both = cut (record_kind r ∷ []) (record_kind s ∷ []) (tid_bytes (record_tid r) ++ behind_tid r) (tid_bytes (record_tid s) ++ behind_tid s) refl e in
+    let of_r = named r in
+    let of_s = named s in
+    let both = cut (record_kind r ∷ []) (record_kind s ∷ []) (head_bytes r ++ behind_tid r) (head_bytes s ++ behind_tid s) refl e in
     let kinds : record_kind r ≡ record_kind s = (let told = both.0 in cc) in
-    let ids = tid_once (record_tid r) (record_tid s) (behind_tid r) (behind_tid s) is_r.id is_s.id both.1 in
-    record_alike r s kinds ids.0 is_r.follows is_s.follows ids.1
+    let ids = tid_once of_r.tid of_s.tid (behind_tid r) (behind_tid s) (of_r.may is_r.id) (of_s.may is_s.id)
+    (ap (λ (l : List ℕ). l ++ behind_tid r) (sym of_r.head) ∙ (both.1 ∙ ap (λ (l : List ℕ). l ++ behind_tid s) of_s.head)) in
+    record_alike of_r.tid r s kinds of_r.of (subst (λ (t : Tid). HasTid t s) (sym ids.0) of_s.of) is_r.follows is_s.follows ids.1
 
 -- what is behind the kind of a spelled record
-pub record_parts : (kind : ℕ) (behind : List ℕ) (r : Record) → Spells (kind ∷ behind) r → (kind ≡ record_kind r) × Begins IsTid tid_bytes behind (record_tid r) (behind_tid r)
+record Parted (kind : ℕ) (behind : List ℕ) (r : Record) : Type 0 where
+  kind_is : kind ≡ record_kind r
+  tid : Tid
+  of : HasTid tid r
+  begins : Begins IsTid tid_bytes behind tid (behind_tid r)
+
+record_parts : (kind : ℕ) (behind : List ℕ) (r : Record) → Spells (kind ∷ behind) r → Parted kind behind r
 record_parts kind behind r spells =
-    let both = cut (kind ∷ []) (record_kind r ∷ []) behind (tid_bytes (record_tid r) ++ behind_tid r) refl spells.spelled in
+    let of_r = named r in
+    let both = cut (kind ∷ []) (record_kind r ∷ []) behind (head_bytes r ++ behind_tid r) refl spells.spelled in
     let kinds : kind ≡ record_kind r = (let told = both.0 in cc) in
-    (kinds, record { may = spells.may.id; spelled = both.1 })
+    record {
+      kind_is = kinds;
+      tid = of_r.tid;
+      of = of_r.of;
+      begins = record { may = of_r.may spells.may.id; spelled = both.1 ∙ ap (λ (l : List ℕ). l ++ behind_tid r) of_r.head };
+    }
 
 -- where the bytes behind the id go on as no record of the kind, no record is spelled
 pub record_goes_on : (kind : ℕ) (behind rest : List ℕ) (tid : Tid) → Begins IsTid tid_bytes behind tid rest → NoneGoesOn kind tid rest → SpellsNone (kind ∷ behind)
 record_goes_on kind behind rest tid b none = λ r spells.
     let parts = record_parts kind behind r spells in
-    let once = tid_once tid (record_tid r) rest (behind_tid r) b.may spells.may.id (sym b.spelled ∙ parts.1.spelled) in
-    none r (record { kind_is = parts.0; tid_is = once.0; follows = spells.may.follows; spelled = once.1 })
+    let once = tid_once tid parts.tid rest (behind_tid r) b.may parts.begins.may (sym b.spelled ∙ parts.begins.spelled) in
+    none r (record { kind_is = parts.kind_is; tid_is = subst (λ (t : Tid). HasTid t r) (sym once.0) parts.of; follows = spells.may.follows; spelled = once.1 })
 
 pub record_spelled : (kind : ℕ) (behind rest : List ℕ) (tid : Tid) (r : Record) → Begins IsTid tid_bytes behind tid rest → GoesOn kind tid rest r → Spells (kind ∷ behind) r
-record_spelled kind behind rest tid r b g = record {
-  may = record { id = subst IsTid g.tid_is b.may; follows = g.follows };
-  spelled = ap (λ (k : ℕ). k ∷ behind) g.kind_is ∙ ap (λ (l : List ℕ). record_kind r ∷ l) (b.spelled ∙ ap (λ (t : Tid). tid_bytes t ++ rest) g.tid_is ∙ ap (λ (l : List ℕ). tid_bytes (record_tid r) ++ l) g.spelled);
-}
+record_spelled kind behind rest tid r b g =
+    let begun = begins_with tid r g.tid_is b.may in
+    record {
+      may = record { id = begun.0; follows = g.follows };
+      spelled = ap (λ (k : ℕ). k ∷ behind) g.kind_is
+          ∙ ap (λ (l : List ℕ). record_kind r ∷ l) (b.spelled ∙ (ap (λ (l : List ℕ). l ++ rest) (sym begun.1) ∙ ap (λ (l : List ℕ). head_bytes r ++ l) g.spelled));
+    }

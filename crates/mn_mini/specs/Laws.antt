@@ -1,13 +1,25 @@
--- Laws of a single node.
-use Rattle.std.specs.Prelude.{ℕ, ◌≡◌, false, List, [], ◌∷◌, length, ⊤}
+-- Laws of minitransactions and of a single node.
+use Rattle.std.specs.Prelude.{ℕ, ◌≡◌, ◌≤◌, false, List, [], ◌∷◌, length, ⊤}
 use Rattle.std.specs.List.{AllByRecursion}
 use Rattle.mn_base.specs.Ids.{tid_same}
 use Rattle.mn_mini.specs.declared.record.Record.{Record}
 use Rattle.mn_mini.specs.declared.request.Request.{Request}
-use Rattle.mn_mini.specs.Mini.{parts_conflict, space_size}
+use Rattle.mn_base.specs.declared.ids.NodeNo.{NodeNo}
+use Rattle.mn_mini.specs.Mini.{Mini, IsNodeOf, IsSound, parts_conflict, part_of, participants_of, space_size}
 use Rattle.mn_mini.specs.Node.{HeldPart, held_parts, answer, with_added}
-use Rattle.mn_mini.specs.RecordGrammar.{IsRecord}
+use Rattle.mn_mini.specs.RecordGrammar.{AreParticipants, IsPart, IsRecord}
 use Rattle.mn_mini.specs.Sound.{Fits, IsSoundRequest}
+
+-- the node is one of those that it was made for, and its part is such as there may be
+pub record TakesPart (mini : Mini) (n : NodeNo) : Type 0 where
+  pub node : IsNodeOf mini.nodes n
+  pub part : IsPart (part_of mini n)
+
+-- each participant of a sound minitransaction is such a node, and where there are several, they are such as may vote together
+abbrev pub PartsAreSound : Type 0
+PartsAreSound =
+    (mini : Mini) → IsSound mini
+    → AllByRecursion (TakesPart mini) (participants_of mini) × (2 ≤ length (participants_of mini) → AreParticipants (participants_of mini))
 
 -- the records after these requests, the newest first, in a node that began with these records
 abbrev pub records_after : List ℕ → List Record → List Request → List Record

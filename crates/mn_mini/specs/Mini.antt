@@ -1,7 +1,8 @@
 -- Minitransactions: their items, and the part of each node.
-use Rattle.std.specs.Prelude.{ℕ, ◌+◌, ◌<◌, ◌≤◌, Bool, true, false, ◌&&◌, ◌||◌, nat_lt, List, [], ◌∷◌, ◌++◌, length, filter, if◌then◌else◌}
+use Rattle.std.specs.Prelude.{ℕ, ◌+◌, ◌<◌, ◌≤◌, Bool, true, false, ◌&&◌, ◌||◌, List, [], ◌∷◌, ◌++◌, length, filter, if◌then◌else◌}
 use Rattle.std.specs.List.{list_any, flat_map, AllByRecursion}
 use Rattle.mn_base.specs.Ids.{node_same, node_numbers}
+use Rattle.mn_base.specs.Ranges.{ranges_meet}
 use Rattle.mn_base.specs.declared.ids.NodeNo.{NodeNo}
 use Rattle.mn_base.specs.declared.ids.Range.{Range}
 use Rattle.mn_mini.specs.declared.item.Item.{Item}
@@ -54,10 +55,6 @@ range_of (Bare.Write start bytes) = record { start = start; length = length byte
 abbrev pub is_write : PartItem → Bool
 is_write (Bare.Write start bytes) = true
 is_write item = false
-
--- the ranges have a byte in common
-abbrev pub ranges_meet : Range → Range → Bool
-ranges_meet a b = nat_lt a.start (b.start + b.length) && nat_lt b.start (a.start + a.length)
 
 -- one of the two writes where the other reads, compares or writes
 abbrev pub items_conflict : PartItem → PartItem → Bool

@@ -1,8 +1,9 @@
 -- A memory node is a list of records, and each answer follows from it. Lists of records stand newest first here:
 -- what a record changes is said of the records before it.
-use Rattle.std.specs.Prelude.{ℕ, Bool, true, false, not, ◌&&◌, List, [], ◌∷◌, length, Option, Some, None, is_some, if◌then◌else◌}
+use Rattle.std.specs.Prelude.{ℕ, max, Bool, true, false, not, ◌&&◌, List, [], ◌∷◌, length, Option, Some, None, is_some, if◌then◌else◌}
 use Rattle.std.specs.List.{list_any}
 use Rattle.mn_base.specs.Ids.{tid_same, tid_lt}
+use Rattle.mn_base.specs.Ranges.{least_tid}
 use Rattle.mn_base.specs.declared.ids.NodeNo.{NodeNo}
 use Rattle.mn_base.specs.declared.ids.Tid.{Tid}
 use Rattle.mn_base.specs.declared.ids.Range.{Range}
@@ -18,6 +19,25 @@ use Rattle.mn_mini.specs.Mini.{range_of, item_conflicts_with, has_write}
 use Rattle.mn_mini.specs.Flat.{Mismatched, bytes_in, part_mismatch_from, part_reads, space_after_part}
 
 -- Which records there are
+
+-- the run in which the record was made
+abbrev pub record_run : Record → ℕ
+record_run (Voted tid participants part) = tid.run
+record_run (Executed tid part) = tid.run
+record_run (Decided tid verdict) = tid.run
+record_run (Forced tid) = tid.run
+
+-- the greatest run of the records, or 0 where there are none
+abbrev pub greatest_run : List Record → ℕ
+greatest_run [] = 0
+greatest_run (r ∷ records) = max (record_run r) (greatest_run records)
+
+-- the record is of this id
+abbrev pub is_of : Tid → Record → Bool
+is_of tid (Voted t participants part) = tid_same t tid
+is_of tid (Executed t part) = tid_same t tid
+is_of tid (Decided t verdict) = tid_same t tid
+is_of tid (Forced t) = tid_same t tid
 
 abbrev pub is_vote_of : Tid → Record → Bool
 is_vote_of tid (Voted t participants part) = tid_same t tid
@@ -104,14 +124,6 @@ abbrev pub holders : List HeldPart → Tid → PartItem → List Tid
 holders [] tid item = []
 holders (h ∷ hs) tid item =
     if not (tid_same h.tid tid) && item_conflicts_with item h.part then h.tid ∷ holders hs tid item else holders hs tid item
-
-abbrev pub lesser_tid : Tid → Option Tid → Tid
-lesser_tid t None = t
-lesser_tid t (Some u) = if tid_lt u t then u else t
-
-abbrev pub least_tid : List Tid → Option Tid
-least_tid [] = None
-least_tid (t ∷ ts) = Some (lesser_tid t (least_tid ts))
 
 -- a range that is held, and by whom
 pub record Clash : Type 0 where

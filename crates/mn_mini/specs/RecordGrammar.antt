@@ -60,11 +60,12 @@ record_kind (Executed tid part) = 2
 record_kind (Decided tid verdict) = 3
 record_kind (Forced tid) = 4
 
-abbrev pub record_tid : Record → Tid
-record_tid (Voted tid participants part) = tid
-record_tid (Executed tid part) = tid
-record_tid (Decided tid verdict) = tid
-record_tid (Forced tid) = tid
+-- the id, which stands behind the kind
+abbrev pub head_bytes : Record → List ℕ
+head_bytes (Voted tid participants part) = tid_bytes tid
+head_bytes (Executed tid part) = tid_bytes tid
+head_bytes (Decided tid verdict) = tid_bytes tid
+head_bytes (Forced tid) = tid_bytes tid
 
 -- what stands behind the id
 abbrev pub behind_tid : Record → List ℕ
@@ -75,7 +76,7 @@ behind_tid (Forced tid) = []
 
 -- the kind, the id, and what the kind goes on with
 abbrev pub record_bytes : Record → List ℕ
-record_bytes r = record_kind r ∷ (tid_bytes (record_tid r) ++ behind_tid r)
+record_bytes r = record_kind r ∷ (head_bytes r ++ behind_tid r)
 
 -- Rules
 
@@ -111,6 +112,13 @@ are_ascending (a ∷ (b ∷ cs)) = nat_lt a b && are_ascending (b ∷ cs)
 abbrev pub AreParticipants : List NodeNo → Type 0
 AreParticipants participants = (2 ≤ length participants) × (length participants ≤ 8) × IsTrue (are_ascending (numbers_of participants))
 
+-- the id is one that there may be
+abbrev pub MayBegin : Record → Type 0
+MayBegin (Voted tid participants part) = IsTid tid
+MayBegin (Executed tid part) = IsTid tid
+MayBegin (Decided tid verdict) = IsTid tid
+MayBegin (Forced tid) = IsTid tid
+
 -- what may stand behind the id
 abbrev pub MayFollow : Record → Type 0
 MayFollow (Voted tid participants part) = AreParticipants participants × IsPart part
@@ -120,7 +128,7 @@ MayFollow (Forced tid) = ⊤
 
 -- the record is in the grammar
 pub record IsRecord (r : Record) : Type 0 where
-  pub id : IsTid (record_tid r)
+  pub id : MayBegin r
   pub follows : MayFollow r
 
 -- Reading
@@ -151,10 +159,17 @@ pub record AreItems (count kind : ℕ) (items : List PartItem) : Type 0 where
   pub order : IsTrue (are_in_order kind items)
   pub inside : AllByRecursion IsPartItem items
 
+-- the record is of this id
+abbrev pub HasTid : Tid → Record → Type 0
+HasTid tid (Voted t participants part) = tid ≡ t
+HasTid tid (Executed t part) = tid ≡ t
+HasTid tid (Decided t verdict) = tid ≡ t
+HasTid tid (Forced t) = tid ≡ t
+
 -- the bytes behind the id are those of a record of this kind and id
 pub record GoesOn (kind : ℕ) (tid : Tid) (bytes : List ℕ) (r : Record) : Type 0 where
   pub kind_is : kind ≡ record_kind r
-  pub tid_is : tid ≡ record_tid r
+  pub tid_is : HasTid tid r
   pub follows : MayFollow r
   pub spelled : bytes ≡ behind_tid r
 

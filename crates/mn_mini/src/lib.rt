@@ -19,7 +19,7 @@ mod spaces;
 pub use doubt::{Doubt, Doubts};
 pub use error::MiniError;
 pub use item::{Item, Items};
-pub use laws::{answers_fit, held_parts_apart};
+pub use laws::{answers_fit, held_parts_apart, parts_sound};
 pub use minitransaction::{MAX_ITEMS, MAX_NODES, Minitransaction};
 pub use part::{Part, PartItem};
 pub use record::{Record, Records};

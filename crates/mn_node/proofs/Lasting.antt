@@ -11,7 +11,8 @@ use Rattle.mn_mini.specs.declared.record.Record.{Record}
 use Rattle.mn_mini.specs.declared.record.Record.TheVariants.{Voted, Executed, Decided, Forced}
 use Rattle.mn_mini.specs.Laws.{AreApart}
 use Rattle.mn_mini.specs.Mini.{item_conflicts_with, parts_conflict}
-use Rattle.mn_mini.specs.Node.{HeldPart, held_parts, without_tid, holders, least_tid, clash_of, clash_or}
+use Rattle.mn_base.specs.Ranges.{least_tid}
+use Rattle.mn_mini.specs.Node.{HeldPart, held_parts, without_tid, holders, clash_of, clash_or}
 use Rattle.mn_mini.specs.RecordGrammar.{IsRecord, IsPart}
 use Rattle.mn_locks.specs.declared.hold.Hold.{Hold}
 use Rattle.mn_locks.specs.declared.hold.Held.{Held}

@@ -9,7 +9,8 @@ pub mod Listing
 pub mod Lasting
 pub mod Replayed
 pub mod BaseSpace
-pub mod Replies
+pub mod Resting
+mod Replies
 pub mod Found
 pub mod Apart
 pub mod Restarts

@@ -1,6 +1,6 @@
 -- What a crash leaves at the moments of a call.
 use Rattle.std.proofs.Common.{◌≡◌, ◌++◌, ◌∷◌, [], ◌∙◌, inl, inr, ⊎_elim, ℕ, Bool, List, Option, Some, None, true, false, refl, ap, sym, subst, arith}
-use Rattle.mn_io.specs.DiskModel.{DiskState, IsDisk, LeavesOnly, Stays}
+use Rattle.mn_io.specs.DiskModel.{DiskState, IsDisk, LeavesOnly, NoneNew, Stays, WritesNothing}
 use Rattle.mn_redo.specs.Grammar.{IsBeforeOrAfter, Stands}
 use Rattle.mn_redo.specs.Redo.{RedoState, StandsFor}
 use Rattle.mn_mini.specs.declared.record.Record.{Record}
@@ -133,3 +133,12 @@ woken state old mid new records pending there e f listed stands first second =
     only_trans (state old.disk) (state mid.disk) (state new) P (reopened state old mid.disk records pending stands first)
     (only_weaker (state mid.disk) (state new) (λ c. Stands mid.node mid.nodes c mid.bodies) P
     (λ c told. moved mid.node old.node mid.nodes old.nodes records records pending e f refl c (listed_stands mid.node mid.nodes mid.bodies records pending there listed c told)) second)
+
+-- where nothing was written, and then nothing has changed
+pub writes_nothing : (old mid new : DiskState) → IsDisk mid → WritesNothing old mid → NoneNew old mid → Stays mid new
+    → WritesNothing old new
+writes_nothing old mid new is_disk first images stays =
+    only_trans old mid new old.images first (only_rests mid new old.images is_disk images stays)
+
+pub none_new : (old mid new : DiskState) → NoneNew old mid → Stays mid new → NoneNew old new
+none_new old mid new images stays = λ c image. images c (stays.images c image)

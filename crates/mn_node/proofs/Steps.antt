@@ -15,9 +15,10 @@ use Rattle.mn_mini.specs.Node.{HeldPart, Response, only_reply, answer, has_voted
 use Rattle.mn_node.specs.Held.{IsPartOf}
 use Rattle.mn_base.specs.declared.gate.StopAt.{StopAt}
 use Rattle.mn_base.specs.declared.gate.StopAt.TheVariants.{Before, Half, After}
-use Rattle.mn_node.specs.Node.{StandsWithOrWithout, StopsAt, HasStopped, Continues, IsUnasked, IsLogged, IsPut, added_to}
+use Rattle.mn_node.specs.Node.{StandsWithOrWithout, StopsAt, HasStopped, Continues, IsUnasked, IsLogged, IsPut, RestsAt, added_to}
+use Rattle.mn_node.proofs.Resting.{rests_then}
 use Rattle.std.proofs.lemmas.List.{map-append}
-use Rattle.mn_io.specs.DiskModel.{DiskState}
+use Rattle.mn_io.specs.DiskModel.{DiskState, IsDisk}
 use Rattle.mn_redo.specs.Grammar.{Stands}
 use Rattle.mn_redo.specs.Redo.{RedoState, StandsFor}
 use Rattle.mn_redo.specs.declared.redo.Phase.TheVariants.{Started}
@@ -108,6 +109,10 @@ pub stopped_after : {T E : Type 0} (r : Result T E) (Failed Honest Told : Type 0
 stopped_after (Ok x) Failed Honest Told e o = inr o
 stopped_after (Err x) Failed Honest Told e o = inl e
 
+pub ok_both : {T E : Type 0} (r : Result T E) (P Q R : Type 0) → (P → Q → R) → OnOk r P → OnOk r Q → OnOk r R
+ok_both (Ok x) P Q R f p q = f p q
+ok_both (Err x) P Q R f p q = tt
+
 pub unasked : (stop : Option StopAt) (added : Option Record) → stop ≡ None → IsUnasked stop added
 unasked stop added e = subst (λ (o : Option StopAt). IsUnasked o added) (sym e) tt
 
@@ -124,19 +129,26 @@ stops_here state faults old new records r body stop bodies spelled images told =
 
 -- the same, since an earlier time
 stops_since : {D : Type 0} (state : D → DiskState) (faults : D → ℕ) (old mid new : D) (node nodes : ℕ) (bodies : List (List ℕ)) (body : List ℕ) (stop : Option StopAt)
-    → faults old ≤ faults mid → ((state old).honest → (state mid).honest) → StopsAt state faults mid new node nodes bodies body stop → StopsAt state faults old new node nodes bodies body stop
-stops_since state faults old mid new node nodes bodies body None later honest told = rose_later (faults old) (faults mid) (faults new) later told
-stops_since state faults old mid new node nodes bodies body (Some Before) later honest told = λ h. told (honest h)
-stops_since state faults old mid new node nodes bodies body (Some Half) later honest told = λ h. told (honest h)
-stops_since state faults old mid new node nodes bodies body (Some After) later honest (inl rose) = inl (rose_later (faults old) (faults mid) (faults new) later rose)
-stops_since state faults old mid new node nodes bodies body (Some After) later honest (inr told) = inr (λ h. told (honest h))
+    → faults old ≤ faults mid → ((state old).honest → (state mid).honest) → ((state old).honest → IsDisk (state old)) → RestsAt state old mid
+    → StopsAt state faults mid new node nodes bodies body stop → StopsAt state faults old new node nodes bodies body stop
+stops_since state faults old mid new node nodes bodies body None later honest is_disk rests told = rose_later (faults old) (faults mid) (faults new) later told
+stops_since state faults old mid new node nodes bodies body (Some Before) later honest is_disk rests told =
+    λ h. ((told (honest h)).0, rests_then state old mid new is_disk honest rests (λ g. (told g).1) h)
+stops_since state faults old mid new node nodes bodies body (Some Half) later honest is_disk rests (stands, inl rose) =
+    (λ h. stands (honest h), inl (rose_later (faults old) (faults mid) (faults new) later rose))
+stops_since state faults old mid new node nodes bodies body (Some Half) later honest is_disk rests (stands, inr half) =
+    (λ h. stands (honest h), inr (λ h. half (honest h)))
+stops_since state faults old mid new node nodes bodies body (Some After) later honest is_disk rests (inl rose) =
+    inl (rose_later (faults old) (faults mid) (faults new) later rose)
+stops_since state faults old mid new node nodes bodies body (Some After) later honest is_disk rests (inr told) = inr (λ h. told (honest h))
 
 pub stops_earlier : {D : Type 0} (state : D → DiskState) (faults : D → ℕ) (old mid : RedoState D) (new : D) (records before : List Record) (r : Record) (stop : Option StopAt)
-    → Continues state faults old mid → records ≡ before → HasStopped state faults mid.disk new mid.node mid.nodes records r stop → HasStopped state faults old.disk new old.node old.nodes before r stop
-stops_earlier state faults old mid new records before r stop goes same told = record {
+    → Continues state faults old mid → ((state old.disk).honest → IsDisk (state old.disk)) → RestsAt state old.disk mid.disk → records ≡ before
+    → HasStopped state faults mid.disk new mid.node mid.nodes records r stop → HasStopped state faults old.disk new old.node old.nodes before r stop
+stops_earlier state faults old mid new records before r stop goes is_disk rests same told = record {
   stands = λ h. same_stands (state new) mid.node old.node mid.nodes old.nodes records before (Some r) goes.node goes.nodes same (told.stands (goes.honest h));
   at =
-      let since = stops_since state faults old.disk mid.disk new mid.node mid.nodes (bodies_of records) (record_bytes r) stop goes.later goes.honest told.at in
+      let since = stops_since state faults old.disk mid.disk new mid.node mid.nodes (bodies_of records) (record_bytes r) stop goes.later goes.honest is_disk rests told.at in
       let with_node = subst (λ (n : ℕ). StopsAt state faults old.disk new n mid.nodes (bodies_of records) (record_bytes r) stop) goes.node since in
       let with_nodes = subst (λ (n : ℕ). StopsAt state faults old.disk new old.node n (bodies_of records) (record_bytes r) stop) goes.nodes with_node in
       subst (λ (l : List Record). StopsAt state faults old.disk new old.node old.nodes (bodies_of l) (record_bytes r) stop) same with_nodes;

@@ -10,7 +10,8 @@ use Rattle.mn_base.specs.declared.ids.Range.{Range}
 use Rattle.mn_mini.specs.declared.part.PartItem.{PartItem}
 use Rattle.mn_mini.specs.declared.part.PartItem.TheVariants.{Compare, Read, Write}
 use Rattle.mn_mini.specs.Mini.{range_of, is_write, items_conflict, item_conflicts_with}
-use Rattle.mn_mini.specs.Node.{HeldPart, lesser_tid, least_tid, Clash, clash_or, clash_of, holders}
+use Rattle.mn_base.specs.Ranges.{lesser_tid, least_tid}
+use Rattle.mn_mini.specs.Node.{HeldPart, Clash, clash_or, clash_of, holders}
 use Rattle.mn_mini.specs.RecordGrammar.{are_in_order}
 use Rattle.mn_locks.specs.declared.hold.Hold.{Hold}
 use Rattle.mn_locks.specs.declared.hold.Held.{Held}
@@ -62,14 +63,6 @@ least_with-assoc None y z = refl
 least_with-assoc (Some a) None z = refl
 least_with-assoc (Some a) (Some b) None = refl
 least_with-assoc (Some a) (Some b) (Some c) = ap (λ (t : Tid). Some t) (lesser-assoc a b c (tid_lt b a) (tid_lt c b) (tid_lt c a) refl refl refl)
-
-lesser_same : (t : Tid) (x : Option Tid) → Table.lesser_tid t x ≡ lesser_tid t x
-lesser_same t None = refl
-lesser_same t (Some u) = refl
-
-least_is : (ts : List Tid) → Table.least_tid ts ≡ least_tid ts
-least_is [] = refl
-least_is (t ∷ ts) = ap (λ (u : Tid). Some u) (lesser_same t (Table.least_tid ts) ∙ ap (λ (x : Option Tid). lesser_tid t x) (least_is ts))
 
 least-append : (xs ys : List Tid) → least_tid (xs ++ ys) ≡ least_with (least_tid xs) (least_tid ys)
 least-append [] ys = refl
@@ -183,9 +176,9 @@ told item None rest clash e = e
 told item (Some t) rest clash e = refl
 
 told_least : (item : PartItem) (tid : Tid) (hs : List HeldPart) (rest : Option Held) (clash : Option Clash) → as_clash rest ≡ clash
-    → as_clash (Table.held_or (range_of item) (Table.least_tid (Table.holders tid (is_write item) (range_of item) (holds_by hs))) rest) ≡ clash_or item (least_tid (holders hs tid item)) clash
+    → as_clash (Table.held_or (range_of item) (least_tid (Table.holders tid (is_write item) (range_of item) (holds_by hs))) rest) ≡ clash_or item (least_tid (holders hs tid item)) clash
 told_least item tid hs rest clash e =
-    ap (λ (t : Option Tid). as_clash (Table.held_or (range_of item) t rest)) (least_is (Table.holders tid (is_write item) (range_of item) (holds_by hs)) ∙ least_same item tid hs)
+    ap (λ (t : Option Tid). as_clash (Table.held_or (range_of item) t rest)) (least_same item tid hs)
     ∙ told item (least_tid (holders hs tid item)) rest clash e
 
 -- behind a write stand writes alone

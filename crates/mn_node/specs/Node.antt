@@ -1,8 +1,8 @@
 -- A node: its log, its memory, and what it does with a request.
 use Rattle.std.specs.Prelude.{◌≡◌, ◌≤◌, ◌<◌, ◌⊎◌, ◌+◌, ◌-◌, ◌*◌, ◌^◌, ℕ, List, [], ◌∷◌, ◌++◌, length, map, reverse, Option, Some, None, ⊤, vec_len, vec_capacity}
-use Rattle.mn_io.specs.DiskModel.{DiskState, LeavesOnly, Stays}
+use Rattle.mn_io.specs.DiskModel.{DiskState, IsStable, LeavesOnly, Stays}
 use Rattle.mn_io.specs.Faults.{Rose}
-use Rattle.mn_redo.specs.Grammar.{Stands}
+use Rattle.mn_redo.specs.Grammar.{header, IsStaged, Stands}
 use Rattle.mn_redo.specs.Redo.{HasHeader, RedoState, StandsFor}
 use Rattle.mn_redo.specs.declared.redo.Phase.TheVariants.{Started}
 use Rattle.mn_mini.specs.declared.record.Record.{Record}
@@ -81,13 +81,21 @@ LeavesAt state old new P = (new ≡ old) ⊎ ((state old).honest → LeavesOnly 
 abbrev pub RestsAt : {D : Type 0} → (D → DiskState) → D → D → Type 0
 RestsAt state old new = (new ≡ old) ⊎ ((state old).honest → Stays (state old) (state new))
 
--- where a record was to be put into the log and wasn't: the disk failed, or a stop was asked for. Then an honest disk stands for the list from
--- before where the stop was before the log or at half of the record, and, unless the disk failed, for the list with the record where it was
--- after it
+-- the body's record stands behind its closed gate, and is stable
+pub record IsHalf (disk : DiskState) (node nodes : ℕ) (bodies : List (List ℕ)) (body : List ℕ) : Type 0 where
+  pub staged : IsStaged (header node nodes) bodies body disk.content
+  pub stable : IsStable disk
+
+-- Where a record was to be put into the log and wasn't, the disk failed, or a stop was asked for. Of an honest disk: a stop before the log
+-- leaves it as it was; one at half of the record leaves the list from before, and, unless the disk failed, the record behind its closed gate;
+-- one after the record leaves, unless the disk failed, the list with the record.
 abbrev pub StopsAt : {D : Type 0} → (D → DiskState) → (D → ℕ) → D → D → ℕ → ℕ → List (List ℕ) → List ℕ → Option StopAt → Type 0
 StopsAt state faults old new node nodes bodies body None = Rose (faults old) (faults new)
-StopsAt state faults old new node nodes bodies body (Some Before) = (state old).honest → StandsFor (state new) node nodes bodies
-StopsAt state faults old new node nodes bodies body (Some Half) = (state old).honest → StandsFor (state new) node nodes bodies
+StopsAt state faults old new node nodes bodies body (Some Before) =
+    (state old).honest → StandsFor (state new) node nodes bodies × Stays (state old) (state new)
+StopsAt state faults old new node nodes bodies body (Some Half) =
+    ((state old).honest → StandsFor (state new) node nodes bodies)
+    × (Rose (faults old) (faults new) ⊎ ((state old).honest → IsHalf (state new) node nodes bodies body))
 StopsAt state faults old new node nodes bodies body (Some After) = Rose (faults old) (faults new) ⊎ ((state old).honest → StandsFor (state new) node nodes (bodies ++ body ∷ []))
 
 -- the log has one body more, stable on an honest disk

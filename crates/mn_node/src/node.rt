@@ -5,10 +5,10 @@ ghost use Rattle.mn_mini.specs.declared.record.Record.{Record};
 ghost use Rattle.mn_mini.specs.declared.reply.NodeReply.{NodeReply};
 ghost use Rattle.mn_redo.specs.Grammar.{Stands};
 ghost use Rattle.mn_redo.specs.Redo.{StandsFor};
-ghost use Rattle.mn_redo.specs.declared.redo.Phase.TheVariants.{Closing};
+ghost use Rattle.mn_redo.specs.declared.redo.Phase.TheVariants.{Closing, Started};
 ghost use Rattle.mn_mini.specs.RecordGrammar.{IsRecord};
 ghost use Rattle.mn_mini.specs.Sound.{Fits, IsDecide, IsSoundRequest};
-ghost use Rattle.mn_io.specs.DiskModel.{LeavesOnly};
+ghost use Rattle.mn_io.specs.DiskModel.{LeavesOnly, NoneNew, Stays, WritesNothing};
 ghost use Rattle.mn_node.specs.Node.{IsWithOrWithout, StandsWithOrWithout, bodies_of};
 ghost use Rattle.mn_node.specs.Restart.{FailsRestart, Restarts};
 ghost use Rattle.mn_node.specs.State.{Answers, GoesOn, IsFirstBad, IsStarted, MayStart, StandsForRecords, response_to};
@@ -75,6 +75,12 @@ impl<D: Disk> Node<D> {
         // Where each image stands for the bodies, as `Redo::open` says, a crash at any moment of the call leaves the same bodies.
         ensures moments_ok { (D.state redo.disk).honest → StandsFor (D.state redo.disk) redo.node redo.nodes redo.bodies → IfOk result (λ node. LeavesOnly (D.state redo.disk) (D.state node.disk) (λ c. Stands redo.node redo.nodes c redo.bodies)) }
         ensures moments_err { (D.state redo.disk).honest → StandsFor (D.state redo.disk) redo.node redo.nodes redo.bodies → IfErr result (λ failed. LeavesOnly (D.state redo.disk) (D.state failed.disk) (λ c. Stands redo.node redo.nodes c redo.bodies)) }
+
+        // Of a disk that has its header nothing changes but its room.
+        ensures unwritten_ok { redo.phase ≡ Started → (D.state redo.disk).honest
+            → IfOk result (λ node. Stays (D.state redo.disk) (D.state node.disk)) }
+        ensures unwritten_err { redo.phase ≡ Started → (D.state redo.disk).honest
+            → IfErr result (λ failed. Stays (D.state redo.disk) (D.state failed.disk)) }
         ensures later_ok { IfOk result (λ node. D.faults redo.disk ≤ D.faults node.disk) }
         ensures later_err { IfErr result (λ failed. D.faults redo.disk ≤ D.faults failed.disk) }
         ensures honest_ok { (D.state redo.disk).honest → IfOk result (λ node. (D.state node.disk).honest) }
@@ -107,9 +113,11 @@ impl<D: Disk> Node<D> {
 
     /// What the node replies to a request, by its records alone. A record that the answer adds is stable on the disk before the reply.
     ///
-    /// `Stopped`, where the disk failed or a stop was asked for and there was a record to stop at: the node is down, and the record may stand
-    /// on the disk or not. `Down` exactly where the node was down, and `NoMemory` where there was no memory: nothing has changed. A Decide
-    /// takes no memory. What is replied fits the request.
+    /// `Stopped`, where the disk failed or a stop was asked for and there was a record to stop at: the
+    /// node is down, and the record may stand on the disk or not, as far as the stop says. A stop before
+    /// the record leaves the log as it was, and one at half of it leaves it behind its closed gate, synced,
+    /// unless the disk failed. `Down` exactly where the node was down, and `NoMemory` where there was no
+    /// memory: nothing has changed. A Decide takes no memory. What is replied fits the request.
     pub fn handle(&mut self, alloc: Global, request: &Request, stop: Option<StopAt>) -> NodeReply
         requires sound { IsSoundRequest request.now }
         ensures answers { Answers D.state D.faults self.old request.now stop result self.new }
@@ -168,6 +176,12 @@ impl<D: Disk> Node<D> {
         // A crash at any moment of the call leaves the records, with the one that may have been there or without.
         ensures moments { (D.state self.old.disk).honest → LeavesOnly (D.state self.old.disk) (D.state self.new.disk) (IsWithOrWithout self.old.node self.old.nodes self.old.records self.old.pending) }
 
+        // Nothing was written.
+        ensures unwritten { (D.state self.old.disk).honest
+            → WritesNothing (D.state self.old.disk) (D.state self.new.disk) }
+        ensures images { (D.state self.old.disk).honest
+            → NoneNew (D.state self.old.disk) (D.state self.new.disk) }
+
         // What each image stood for before the call it stands for after it, and the records that come back are those.
         ensures keeps { (records : List Record) → StandsForRecords (D.state self.old.disk) self.old.node self.old.nodes records → StandsForRecords (D.state self.new.disk) self.old.node self.old.nodes records }
         ensures found { (D.state self.old.disk).honest → (records : List Record) → StandsForRecords (D.state self.old.disk) self.old.node self.old.nodes records → OnOk result (bodies_of self.new.records ≡ bodies_of records) }
@@ -193,9 +207,13 @@ impl<D: Disk> Node<D> {
         &self.memory.records
     }
 
-    /// Whether it is down.
+    /// Whether it is down. It tells what the disk stands for.
     pub fn is_down(&self) -> bool
         ensures down { result ≡ self.now.down }
+        ensures up { result ≡ false
+            → StandsForRecords (D.state self.now.disk) self.now.node self.now.nodes self.now.records }
+        ensures stands { (D.state self.now.disk).honest
+            → StandsWithOrWithout (D.state self.now.disk) self.now.node self.now.nodes self.now.records self.now.pending }
     {
         self.is_down
     }

@@ -1,9 +1,9 @@
 ghost use Rattle.std.specs.Prelude.{◌≡◌, ◌≢◌, ◌<◌, ◌++◌, ◌∷◌, [], ℕ, List, Option, length, reverse, get_or, Some, None, true, false, IfOk, IfErr, OnOk, OnErr, MatchOption};
 ghost use Rattle.std.specs.List.{AllByRecursion};
-ghost use Rattle.mn_io.specs.DiskModel.{LeavesOnly};
+ghost use Rattle.mn_io.specs.DiskModel.{LeavesOnly, NoneNew, Stays, WritesNothing};
 ghost use Rattle.mn_redo.specs.Grammar.{Stands};
 ghost use Rattle.mn_redo.specs.Redo.{HasHeader, StandsFor};
-ghost use Rattle.mn_redo.specs.declared.redo.Phase.TheVariants.{Closing};
+ghost use Rattle.mn_redo.specs.declared.redo.Phase.TheVariants.{Closing, Started};
 ghost use Rattle.mn_mini.specs.Laws.{AreApart};
 ghost use Rattle.mn_mini.specs.Node.{held_parts};
 ghost use Rattle.mn_mini.specs.RecordGrammar.{IsRecord, record_bytes};
@@ -225,6 +225,8 @@ fn wake<D: Disk>(alloc: Global, redo: &mut Redo<D>, memory: &mut Memory) -> Resu
     ensures records { memory.new.records.items ≡ memory.old.records.items }
     ensures stands { (D.state redo.new.disk).honest → StandsFor (D.state redo.new.disk) redo.old.node redo.old.nodes redo.old.bodies }
     ensures moments { (D.state redo.old.disk).honest → LeavesOnly (D.state redo.old.disk) (D.state redo.new.disk) (λ c. Stands redo.old.node redo.old.nodes c redo.old.bodies) }
+    ensures rests { redo.old.phase ≡ Started → (D.state redo.old.disk).honest
+        → Stays (D.state redo.old.disk) (D.state redo.new.disk) }
     ensures continues { Continues D.state D.faults redo.old redo.new }
     ensures same { SameNode memory.old memory.new }
     ensures cause { IfErr result (IsCause D.faults redo.old.disk redo.new.disk) }
@@ -255,6 +257,8 @@ fn wake_with<D: Disk>(
     ensures before { OnErr result (memory.new.records.items ≡ memory.old.records.items) }
     ensures stands { (D.state redo.new.disk).honest → StandsFor (D.state redo.new.disk) redo.old.node redo.old.nodes redo.old.bodies }
     ensures moments { (D.state redo.old.disk).honest → LeavesOnly (D.state redo.old.disk) (D.state redo.new.disk) (λ c. Stands redo.old.node redo.old.nodes c redo.old.bodies) }
+    ensures rests { redo.old.phase ≡ Started → (D.state redo.old.disk).honest
+        → Stays (D.state redo.old.disk) (D.state redo.new.disk) }
     ensures continues { Continues D.state D.faults redo.old redo.new }
     ensures same { SameNode memory.old memory.new }
     ensures cause { IfErr result (IsCause D.faults redo.old.disk redo.new.disk) }
@@ -290,6 +294,8 @@ fn wake_found<D: Disk>(
     ensures before { OnErr result (memory.new.records.items ≡ memory.old.records.items) }
     ensures stands { (D.state redo.new.disk).honest → StandsFor (D.state redo.new.disk) redo.old.node redo.old.nodes redo.old.bodies }
     ensures moments { (D.state redo.old.disk).honest → LeavesOnly (D.state redo.old.disk) (D.state redo.new.disk) (λ c. Stands redo.old.node redo.old.nodes c redo.old.bodies) }
+    ensures rests { redo.old.phase ≡ Started → (D.state redo.old.disk).honest
+        → Stays (D.state redo.old.disk) (D.state redo.new.disk) }
     ensures continues { Continues D.state D.faults redo.old redo.new }
     ensures same { SameNode memory.old memory.new }
     ensures cause { IfErr result (IsCause D.faults redo.old.disk redo.new.disk) }
@@ -324,6 +330,10 @@ pub fn back<D: Disk>(
     ensures before { OnErr result (memory.new.records.items ≡ memory.old.records.items) }
     ensures stands { (D.state redo.new.disk).honest → StandsWithOrWithout (D.state redo.new.disk) redo.old.node redo.old.nodes memory.old.records.items pending.now }
     ensures moments { (D.state redo.old.disk).honest → LeavesOnly (D.state redo.old.disk) (D.state redo.new.disk) (IsWithOrWithout redo.old.node redo.old.nodes memory.old.records.items pending.now) }
+    ensures unwritten { (D.state redo.old.disk).honest
+        → WritesNothing (D.state redo.old.disk) (D.state redo.new.disk) }
+    ensures images { (D.state redo.old.disk).honest
+        → NoneNew (D.state redo.old.disk) (D.state redo.new.disk) }
     ensures keeps { (D.state redo.old.disk).honest → (bodies : List (List ℕ)) → StandsFor (D.state redo.old.disk) redo.old.node redo.old.nodes bodies → StandsFor (D.state redo.new.disk) redo.old.node redo.old.nodes bodies }
     ensures continues { Continues D.state D.faults redo.old redo.new }
     ensures same { SameNode memory.old memory.new }

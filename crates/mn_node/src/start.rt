@@ -1,6 +1,6 @@
 ghost use Rattle.std.specs.Prelude.{◌≡◌, ◌≢◌, ◌≤◌, ◌<◌, ◌*◌, ℕ, IfOk, OnOk, IsErrOf};
 ghost use Rattle.mn_io.specs.Faults.{Rose};
-ghost use Rattle.mn_io.specs.DiskModel.{LeavesOnly};
+ghost use Rattle.mn_io.specs.DiskModel.{LeavesOnly, Stays};
 ghost use Rattle.mn_redo.specs.Grammar.{Stands};
 ghost use Rattle.mn_redo.specs.Redo.{HasHeader, StandsFor};
 ghost use Rattle.mn_redo.specs.declared.redo.Phase.TheVariants.{Started, Closing};
@@ -93,6 +93,8 @@ pub fn start_log<D: Disk>(redo: &mut Redo<D>, held: u32) -> Result<(), StartCaus
     ensures keeps { ((D.state redo.old.disk).honest → StandsFor (D.state redo.old.disk) redo.old.node redo.old.nodes redo.old.bodies) → (D.state redo.new.disk).honest → StandsFor (D.state redo.new.disk) redo.old.node redo.old.nodes redo.old.bodies }
     ensures moments { (D.state redo.old.disk).honest → StandsFor (D.state redo.old.disk) redo.old.node redo.old.nodes redo.old.bodies → LeavesOnly (D.state redo.old.disk) (D.state redo.new.disk) (λ c. Stands redo.old.node redo.old.nodes c redo.old.bodies) }
     ensures stands_closing { redo.new.phase ≡ Closing → (D.state redo.new.disk).honest → StandsFor (D.state redo.new.disk) redo.old.node redo.old.nodes redo.old.bodies }
+    ensures rests { redo.old.phase ≡ Started → (D.state redo.old.disk).honest
+        → Stays (D.state redo.old.disk) (D.state redo.new.disk) }
     ensures continues { Continues D.state D.faults redo.old redo.new }
     ensures fault { IsErrOf result causes.Fault → Rose (D.faults redo.old.disk) (D.faults redo.new.disk) }
     ensures not_damaged { (at : ℕ) → IsErrOf result (causes.Damaged at) → ⊥ }
@@ -117,6 +119,8 @@ pub fn ready<D: Disk>(alloc: Global, redo: &mut Redo<D>) -> Result<Memory, Start
     ensures bodies { redo.new.bodies ≡ redo.old.bodies }
     ensures stands { redo.new.phase ≡ Closing → (D.state redo.new.disk).honest → StandsFor (D.state redo.new.disk) redo.old.node redo.old.nodes redo.old.bodies }
     ensures moments { (D.state redo.old.disk).honest → StandsFor (D.state redo.old.disk) redo.old.node redo.old.nodes redo.old.bodies → LeavesOnly (D.state redo.old.disk) (D.state redo.new.disk) (λ c. Stands redo.old.node redo.old.nodes c redo.old.bodies) }
+    ensures rests { redo.old.phase ≡ Started → (D.state redo.old.disk).honest
+        → Stays (D.state redo.old.disk) (D.state redo.new.disk) }
     ensures continues { Continues D.state D.faults redo.old redo.new }
     ensures fault { IsErrOf result causes.Fault → Rose (D.faults redo.old.disk) (D.faults redo.new.disk) }
     ensures damaged { (at : ℕ) → IsErrOf result (causes.Damaged at) → IsFirstBad redo.old.bodies at }

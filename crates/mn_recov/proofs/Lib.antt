@@ -1,2 +1,3 @@
 pub mod Doubts
 pub mod Legal
+pub mod Sound

@@ -1,11 +1,13 @@
 -- How a recovery goes on, by what it was answered so far.
-use Rattle.std.specs.Prelude.{ℕ, ◌+◌, Bool, true, ◌&&◌, nat_lt, List, length, Option, Some, None, if◌then◌else◌, slice_index_or}
-use Rattle.std.specs.List.{list_all}
+use Rattle.std.specs.Prelude.{ℕ, ◌+◌, ◌<◌, Bool, true, ◌&&◌, nat_lt, List, length, Option, Some, None, if◌then◌else◌, slice_index_or, ⊤}
+use Rattle.std.specs.List.{list_all, AllByRecursion}
 use Rattle.mn_base.specs.declared.ids.NodeNo.{NodeNo}
 use Rattle.mn_base.specs.declared.ids.Tid.{Tid}
 use Rattle.mn_mini.specs.declared.request.Request.TheVariants as Ask
 use Rattle.mn_mini.specs.declared.reply.NodeReply.{NodeReply}
 use Rattle.mn_mini.specs.declared.reply.NodeReply.TheVariants as Say
+use Rattle.mn_mini.specs.RecordGrammar.{IsTid}
+use Rattle.mn_mini.specs.Sound.{IsSoundRequest}
 use Rattle.mn_world.specs.Calls.{lists_doubt}
 use Rattle.mn_recov.specs.declared.stage.RecovStage.{RecovStage}
 use Rattle.mn_recov.specs.declared.stage.RecovStage.TheVariants.{Looking, Found}
@@ -17,6 +19,16 @@ pub record Recovery : Type 0 where
   pub tid : Tid
   pub nodes : ℕ
   pub stage : RecovStage
+
+-- the participants that were found are among so many nodes
+abbrev pub AreBelow : ℕ → RecovStage → Type 0
+AreBelow nodes (Looking node) = ⊤
+AreBelow nodes (Found participants voted verdict decided) = AllByRecursion (λ n. n.0 < nodes) participants
+
+-- its id is sound, and so are the participants
+pub record IsSoundRecovery (r : Recovery) : Type 0 where
+  pub id : IsTid r.tid
+  pub found : AreBelow r.nodes r.stage
 
 abbrev pub participant : List NodeNo → ℕ → NodeNo
 participant ps i = slice_index_or ps i (record { 0 = 0 })
@@ -30,6 +42,11 @@ step_at tid nodes (Found participants voted verdict decided) =
 
 abbrev pub step_of : Recovery → RecovStep
 step_of r = step_at r.tid r.nodes r.stage
+
+-- a request that it gives is sound, and goes to one of so many nodes
+abbrev pub IsSoundStep : ℕ → RecovStep → Type 0
+IsSoundStep nodes (Send node request) = (node.0 < nodes) × IsSoundRequest request
+IsSoundStep nodes (Ended verdict) = ⊤
 
 -- a list that gives the id with participants of the space
 abbrev pub found_or : ℕ → RecovStage → Option (List NodeNo) → RecovStage

@@ -4,6 +4,7 @@ ghost use Rattle.std.specs.Option.{option_map};
 ghost use Rattle.mn_mini.specs.declared.doubt.Doubt.{Doubt};
 ghost use Rattle.mn_world.specs.Calls.{lists_doubt};
 ghost use Rattle.mn_recov.specs.declared.stage.RecovStage.TheVariants.{Looking};
+ghost use Rattle.mn_mini.specs.RecordGrammar.{IsTid};
 ghost use Rattle.mn_recov.specs.Recovery.{found_or, after_list, stage_after};
 
 use crate::{RecovStage, RecovStep};
@@ -21,11 +22,13 @@ pub struct Recoverer {
 }
 
 impl Model for Recoverer {
-    ghost use Rattle.mn_recov.specs.Recovery.{Recovery};
+    ghost use Rattle.mn_recov.specs.Recovery.{IsSoundRecovery, Recovery};
 
     ghost Value = { Recovery };
 
     ghost view = { λ r. record { tid = r.tid; nodes = r.nodes; stage = r.stage } };
+
+    ghost invariant = { λ r. IsSoundRecovery (record { tid = r.tid; nodes = r.nodes; stage = r.stage }) };
 }
 
 /// Where the list has the id.
@@ -82,11 +85,13 @@ impl Recoverer {
     ghost use Rattle.mn_mini.specs.declared.request.Request.{Request};
     ghost use Rattle.mn_world.specs.declared.entry.Entry.{Entry};
     ghost use Rattle.mn_recov.specs.declared.step.RecovStep.TheVariants.{Send};
-    ghost use Rattle.mn_recov.specs.Recovery.{step_of, fed, IsSend};
+    ghost use Rattle.mn_recov.specs.Recovery.{step_of, fed, IsSend, IsSoundRecovery, IsSoundStep};
     ghost use Rattle.mn_recov.specs.Legal.{Agrees, MayMake, IsAnswered};
 
-    /// The recovery of the id among so many nodes. NoMemory: there was no memory for it.
+    /// The recovery of the id among so many nodes. It has a run and a serial from 1 on and a client from 0
+    /// to 20. NoMemory: there was no memory for it.
     pub fn new(_alloc: Global, tid: Tid, nodes: u8) -> Result<Self, NoMemory>
+        requires id { IsTid tid }
         ensures { IfOk result (λ r. r ≡ record { tid = tid; nodes = nodes; stage = Looking 0 }) }
     {
         Ok(Recoverer {
@@ -100,9 +105,20 @@ impl Recoverer {
     /// list holds the calls so far.
     pub fn next(&self) -> RecovStep
         ensures step { result ≡ step_of self.now }
+
+        // A request is sound, and goes to one of the nodes.
+        ensures sound { IsSoundStep self.now.nodes result }
         ensures legal { (es : List Entry) → Agrees es self.now → MayMake es result }
     {
+        self.is_sound();
         self.step()
+    }
+
+    // What is so of each.
+    fn is_sound(&self)
+        ensures { IsSoundRecovery self.now }
+    {
+        let _nodes = self.nodes;
     }
 
     fn step(&self) -> RecovStep

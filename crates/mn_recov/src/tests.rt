@@ -1,5 +1,6 @@
 //! A coordinator and two recoveries race over one id and two nodes.
 ghost use Rattle.std.specs.Prelude.{◌≡◌, false, IfOk, OnOk};
+ghost use Rattle.mn_mini.specs.RecordGrammar.{IsTid};
 
 use crate::{RecovStep, Recoverer};
 use mn_base::{Bytes, ClientNo, NodeNo, Nodes, Tid};
@@ -23,7 +24,9 @@ const NOTHING: OneId = OneId {
     decided: None,
 };
 
-fn tid() -> Tid {
+fn tid() -> Tid
+    ensures { IsTid result }
+{
     Tid {
         run: 1,
         client: ClientNo(0),

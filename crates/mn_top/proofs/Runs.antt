@@ -18,7 +18,8 @@ use Rattle.mn_report.specs.declared.lines.Ranked.{Ranked}
 use Rattle.mn_script.specs.declared.elements.ScriptClient.{ScriptClient}
 use Rattle.mn_top.specs.declared.caller.Stop.{Stop}
 use Rattle.mn_top.specs.declared.caller.Stop.TheVariants.{Fault, NoMemory}
-use Rattle.mn_top.specs.Disk.{Grew, IsBetween, Keeps, run_of}
+use Rattle.mn_mini.specs.Node.{record_run}
+use Rattle.mn_top.specs.Disk.{Grew, IsBetween, Keeps}
 use Rattle.mn_report.specs.Answers.{CanTellLine}
 use Rattle.mn_report.specs.Report.{report_text}
 use Rattle.mn_top.specs.Report.{answers_from, answers_of, history_of, ranks_from, report_on, versions_told}
@@ -69,7 +70,7 @@ pub grew_more : (run : ℕ) (a b c : List Record) → Grew run a b → Grew run 
 grew_more run a b c p q = record {
   added = p.added ++ q.added;
   new_is = q.new_is ∙ ap (λ (l : List Record). l ++ q.added) p.new_is ∙ append_assoc a p.added q.added;
-  of_run = all_split (λ r. run_of r ≡ run) p.added q.added p.of_run q.of_run;
+  of_run = all_split (λ r. record_run r ≡ run) p.added q.added p.of_run q.of_run;
 }
 
 pub grew_none : (run : ℕ) (a : List Record) → Grew run a a

@@ -1,5 +1,5 @@
 -- What the disk of the one node holds before a run and behind it.
-use Rattle.std.specs.Prelude.{◌≡◌, ◌⊎◌, ◌<◌, ◌+◌, ℕ, List, [], ◌∷◌, ◌++◌, max, take}
+use Rattle.std.specs.Prelude.{◌≡◌, ◌⊎◌, ◌<◌, ◌+◌, ℕ, List, [], ◌∷◌, ◌++◌, take}
 use Rattle.std.specs.List.{AllByRecursion}
 use Rattle.mn_base.specs.declared.op.Op.{Op}
 use Rattle.mn_base.specs.declared.reply.Pair.{Pair}
@@ -7,7 +7,7 @@ use Rattle.mn_base.specs.History.{store_after_ops}
 use Rattle.mn_base.specs.Store.{Store, main_store}
 use Rattle.mn_io.specs.DiskModel.{DiskState, NoneNew, WritesNothing}
 use Rattle.mn_mini.specs.declared.record.Record.{Record}
-use Rattle.mn_mini.specs.RecordGrammar.{record_tid}
+use Rattle.mn_mini.specs.Node.{record_run, greatest_run}
 use Rattle.mn_node.specs.Node.{bodies_of}
 use Rattle.mn_node.specs.State.{AreRecords, IsFirstBad}
 use Rattle.mn_redo.specs.Grammar.{AreInFront, IsDamaged, Stands}
@@ -17,14 +17,6 @@ use Rattle.mn_script.specs.declared.elements.ScriptClient.{ScriptClient}
 use Rattle.mn_top.specs.Leaf.{MakesLeaf}
 use Rattle.mn_top.specs.Report.{report_on}
 use Rattle.mn_top.specs.Served.{IsServed, ops_of}
-
-abbrev pub run_of : Record → ℕ
-run_of r = (record_tid r).run
-
--- the greatest number of a run in the ids of the records, or 0
-abbrev pub greatest_run : List Record → ℕ
-greatest_run [] = 0
-greatest_run (r ∷ records) = max (run_of r) (greatest_run records)
 
 -- there is a number for a further run, which is one above the greatest: 4,294,967,294 is the last one that a run may have
 abbrev pub HasNext : List Record → Type 0
@@ -62,7 +54,7 @@ pub record IsUnwritten (old new : DiskState) : Type 0 where
 pub record Grew (run : ℕ) (old new : List Record) : Type 0 where
   pub added : List Record
   pub new_is : new ≡ old ++ added
-  pub of_run : AllByRecursion (λ r. run_of r ≡ run) added
+  pub of_run : AllByRecursion (λ r. record_run r ≡ run) added
 
 -- the bytes of a disk stand for records that make the leaf of a store of one version
 pub record Keeps (content : List ℕ) (store : Store) : Type 0 where

@@ -7,7 +7,8 @@ use Rattle.mn_node.specs.State.{AreRecords, IsFirstBad}
 use Rattle.mn_top.specs.declared.due.DamageRule.TheVariants.{Log, Runs}
 use Rattle.mn_top.specs.declared.due.Due.{Due}
 use Rattle.mn_top.specs.declared.due.Due.TheVariants.{Damaged, NoMemory, Unbuilt}
-use Rattle.mn_top.specs.Disk.{HasNext, greatest_run}
+use Rattle.mn_mini.specs.Node.{greatest_run}
+use Rattle.mn_top.specs.Disk.{HasNext}
 use Rattle.mn_top.specs.Served.{IsServed, IsUnservedDisk}
 
 -- the bodies are records on which the operations are served, by a run of this number

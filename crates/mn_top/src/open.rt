@@ -6,7 +6,7 @@ ghost use Rattle.mn_redo.specs.declared.redo.Phase.TheVariants.{Closing};
 ghost use Rattle.mn_top.specs.Leaf.{MakesLeaf, is_executed};
 ghost use Rattle.mn_top.specs.Open.{IsJudged, IsOpen};
 ghost use Rattle.mn_top.specs.Served.{is_of_versions, most_writes, ops_of};
-ghost use Rattle.mn_top.specs.Disk.{greatest_run, run_of};
+ghost use Rattle.mn_mini.specs.Node.{greatest_run, record_run};
 
 use crate::due::{DamageRule, Due};
 use crate::leaf::{Leaf, leaf_in};
@@ -27,7 +27,7 @@ const MOST_WRITES: u64 = 9_223_372_036_854_775_808;
 
 /// The number of the run that made a record.
 fn run_number(written: &Record) -> u32
-    ensures { result ≡ run_of written.now }
+    ensures { result ≡ record_run written.now }
 {
     match written {
         Record::Voted { tid, .. } => tid.run,

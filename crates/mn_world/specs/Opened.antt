@@ -11,9 +11,9 @@ use Rattle.mn_mini.specs.declared.record.Record.{Record}
 use Rattle.mn_mini.specs.declared.record.Record.TheVariants.{Voted, Executed, Decided, Forced}
 use Rattle.mn_mini.specs.Mini.{parts_conflict}
 use Rattle.mn_mini.specs.Flat.{space_after_part}
-use Rattle.mn_mini.specs.Node.{HeldPart, held_parts, is_held, has_voted, has_executed, has_decided_yes, has_decided_no, space_of}
+use Rattle.mn_mini.specs.Node.{is_of, HeldPart, held_parts, is_held, has_voted, has_executed, has_decided_yes, has_decided_no, space_of}
 use Rattle.mn_page.specs.Holds.{Holds}
-use Rattle.mn_world.specs.Protocol.{Start, start_nodes, base_at, start_records, record_tid}
+use Rattle.mn_world.specs.Protocol.{Start, start_nodes, base_at, start_records}
 
 -- Committed
 
@@ -33,8 +33,9 @@ is_committed nodes lists tid = list_any (λ n. has_executed (lists n) tid || opt
 
 -- Records in place
 
+-- some record is of the id
 abbrev pub has_record : List Record → Tid → Bool
-has_record records tid = list_any (λ r. tid_same (record_tid r) tid) records
+has_record records tid = list_any (is_of tid) records
 
 -- the part conflicts with no part that is held
 abbrev pub is_free : List HeldPart → List PartItem → Bool

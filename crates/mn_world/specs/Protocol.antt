@@ -1,11 +1,10 @@
 -- Runs: each entry is allowed by what its actors' lists held before it.
-use Rattle.std.specs.Prelude.{ℕ, ◌+◌, ◌≡◌, ◌<◌, ◌≤◌, max, List, [], ◌∷◌, length, reverse, Option, Some, None, ⊤, slice_index_or}
+use Rattle.std.specs.Prelude.{ℕ, ◌+◌, ◌≡◌, ◌<◌, ◌≤◌, List, [], ◌∷◌, length, reverse, Option, Some, None, ⊤, slice_index_or}
 use Rattle.std.specs.List.{flat_map}
 use Rattle.mn_base.specs.declared.ids.NodeNo.{NodeNo}
 use Rattle.mn_base.specs.declared.ids.ClientNo.{ClientNo}
-use Rattle.mn_base.specs.declared.ids.Tid.{Tid}
 use Rattle.mn_mini.specs.declared.record.Record.{Record}
-use Rattle.mn_mini.specs.declared.record.Record.TheVariants.{Voted, Executed, Decided, Forced}
+use Rattle.mn_mini.specs.Node.{greatest_run}
 use Rattle.mn_world.specs.declared.entry.Entry.{Entry}
 use Rattle.mn_world.specs.declared.entry.What.{What}
 use Rattle.mn_world.specs.declared.entry.What.TheVariants.{Issue, Called, Stopped, Restarted}
@@ -27,16 +26,6 @@ base_at start n = slice_index_or start.bases n.0 []
 -- newest first
 abbrev pub start_records : Start → NodeNo → List Record
 start_records start n = reverse (slice_index_or start.records n.0 [])
-
-abbrev pub record_tid : Record → Tid
-record_tid (Voted tid participants part) = tid
-record_tid (Executed tid part) = tid
-record_tid (Decided tid verdict) = tid
-record_tid (Forced tid) = tid
-
-abbrev pub greatest_run : List Record → ℕ
-greatest_run [] = 0
-greatest_run (r ∷ rs) = max (record_tid r).run (greatest_run rs)
 
 -- one above the greatest run of the records, or 1 where there is none
 abbrev pub run_number : Start → ℕ

@@ -3,7 +3,7 @@ ghost use Rattle.std.specs.Prelude.{◌≡◌, ◌≤◌, ◌↔◌, [], Some, N
 ghost use Rattle.mn_actors.specs.Lines.{line, IsActor};
 ghost use Rattle.mn_actors.specs.Lists.{held, MayAppend, IsAppended, IsJoined, IsSplit, IsSameLists, Owns, OwnsAll};
 ghost use Rattle.mn_actors.specs.Log.{IsOneLog};
-ghost use Rattle.mn_actors.specs.Look.{IsOfLog, knowing};
+ghost use Rattle.mn_actors.specs.Look.{IsOfLog, KnowsAll, knowing};
 ghost use Rattle.mn_actors.specs.Rule.{appended};
 ghost use Rattle.mn_actors.specs.Sight.{id_of, nodes_of, clients_of, board_of, view_of};
 
@@ -134,16 +134,30 @@ impl<L: Law> Board<L> {
         pass.known
     }
 
-    /// Looks at the clock, whose value the pass then knows, and says whether it has reached the place.
+    // Loads the clock, which the pass then knows.
+    fn clock(&self, pass: &mut Pass<L>) -> u64
+        requires board { board_of pass.old ≡ id_of self.now }
+        ensures board { board_of pass.new ≡ board_of pass.old }
+        ensures known { (view_of pass.old).known ≤ result }
+        ensures view { view_of pass.new ≡ knowing result (view_of pass.old) }
+        ensures clock { KnowsAll L.legal (view_of pass.new) }
+    {
+        let clock = self.table.shared.load::<Hear<L>>(&mut pass.seat, 0);
+        pass.known = clock;
+        clock
+    }
+
+    /// Looks at the clock, whose value the pass then knows, and says whether it has reached the place. The clock's value is the number
+    /// of lines of the log.
     pub fn hear(&self, pass: &mut Pass<L>, place: u64) -> bool
         requires board { board_of pass.old ≡ id_of self.now }
         ensures board { board_of pass.new ≡ board_of pass.old }
         ensures known { (view_of pass.old).known ≤ (view_of pass.new).known }
+        ensures clock { KnowsAll L.legal (view_of pass.new) }
         ensures reached { IsTrue result ↔ (place ≤ (view_of pass.new).known) }
         ensures lists { IsSameLists (view_of pass.old) (view_of pass.new) }
     {
-        let clock = self.table.shared.load::<Hear>(&mut pass.seat, 0);
-        pass.known = clock;
+        let clock = self.clock(pass);
         place <= clock
     }
 

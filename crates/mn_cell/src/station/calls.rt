@@ -5,14 +5,17 @@ ghost use Rattle.mn_mini.specs.declared.reply.NodeReply.{NodeReply as Reply};
 ghost use Rattle.mn_actors.specs.declared.actor.Actor.TheVariants.{Node as AtNode, Client};
 ghost use Rattle.mn_actors.specs.Lists.{held};
 ghost use Rattle.mn_actors.specs.Sight.{board_of, id_of, view_of};
+ghost use Rattle.mn_io.specs.DiskModel.{LeavesOnly};
+ghost use Rattle.mn_node.specs.Node.{IsWithOrWithout};
 ghost use Rattle.mn_node.specs.Restart.{FailsRestart};
+ghost use Rattle.mn_node.specs.State.{response_to};
 ghost use Rattle.mn_world.specs.declared.entry.What.TheVariants.{Stopped, Restarted};
 ghost use Rattle.mn_world.specs.declared.entry.Entry.{Entry};
 ghost use Rattle.mn_world.specs.Run.{IsLegalBy, entries_of};
 ghost use Rattle.mn_cell.specs.Calls.{EndsBoth, HasLengths, IsLarge, IsLegalLine, IsUndamaged, KeepsStop, MaySend, entry_at, lengths_by, lengths_of, what_said};
 ghost use Rattle.mn_cell.specs.Passes.{AreOfOneLog, IsSame, OwnsJust};
 ghost use Rattle.mn_cell.specs.Promises.{HasPlace, IsOwed, IsOwedAt, decided_by, decided_in};
-ghost use Rattle.mn_cell.specs.Station.{IsAsBefore};
+ghost use Rattle.mn_cell.specs.Station.{IsAsBefore, RoseBy, unasked};
 
 use super::Station;
 use crate::add::{add, compare};
@@ -188,7 +191,7 @@ fn enter(
     ensures board { (board_of result ≡ id_of board.now) × (board_of pass.new ≡ id_of board.now) }
     ensures owns { OwnsJust (view_of result) (AtNode number) × OwnsJust (view_of pass.new) (Client list.old.client) }
     ensures lists { (held (view_of result) (AtNode number) ≡ Some node_list.new.entries) × (held (view_of pass.new) (Client list.old.client) ≡ Some list.new.entries) }
-    ensures ends { EndsBoth (view_of pass.old).known (view_of result).known entries.0 node_list.old.entries node_list.new.entries list.old.entries list.new.entries }
+    ensures ends { EndsBoth (view_of pass.old).known (view_of result).known (view_of pass.new).known entries.0 node_list.old.entries node_list.new.entries list.old.entries list.new.entries }
     ensures client { list.new.client ≡ list.old.client }
     ensures room { list.old.room ≤ list.new.room + 1 }
 {
@@ -220,7 +223,7 @@ impl<N: Named, D: Disk> Station<N, D> {
     ///
     /// NoMemory: there was none for the call; the node, the pass and both lists are as before. It never comes for the decision of an id whose
     /// vote the client has got here and hasn't decided, where the client's list has room, whether the node is up or down. Any other reply is
-    /// the last entry of both lists, at a place that is not below the one that the client's pass knew, and the node's pass knows the place after
+    /// the last entry of both lists, at a place that is not below the one that the client's pass knew, and both passes know the place after
     /// it. Where `stop` is given, a request that adds a record isn't done.
     pub fn call(
         &mut self,
@@ -242,15 +245,21 @@ impl<N: Named, D: Disk> Station<N, D> {
         ensures board { board_of pass.new ≡ N.board }
         ensures owns { OwnsJust (view_of pass.new) (Client list.old.client) }
         ensures list { held (view_of pass.new) (Client list.old.client) ≡ Some list.new.entries }
-        ensures said { result ≢ Reply.NoMemory → EndsBoth (view_of pass.old).known self.new.known (entry_at self.old.number list.old.client (what_said request stop result)) self.old.list self.new.list list.old.entries list.new.entries }
+        ensures said { result ≢ Reply.NoMemory → EndsBoth (view_of pass.old).known self.new.known (view_of pass.new).known (entry_at self.old.number list.old.client (what_said request stop result)) self.old.list self.new.list list.old.entries list.new.entries }
         ensures before { result ≡ Reply.NoMemory → IsAsBefore self.old self.new }
         ensures pass_before { result ≡ Reply.NoMemory → IsSame (view_of pass.old) (view_of pass.new) }
         ensures list_before { result ≡ Reply.NoMemory → list.new.entries ≡ list.old.entries }
         ensures room { list.old.room ≤ list.new.room + 1 }
         ensures owed { IsOwedAt self.old.number (decided_by request) (entries_of list.old.entries) → 0 < list.old.room → result ≢ Reply.NoMemory }
         ensures stop { KeepsStop stop request result }
+
+        // A crash at any moment of the call leaves the node's records from before it, with the answer's one record or without.
+        ensures moments { self.old.node.down ≡ false → (D.state self.old.node.disk).honest
+            → LeavesOnly (D.state self.old.node.disk) (D.state self.new.node.disk)
+                (IsWithOrWithout self.old.node.node self.old.node.nodes self.old.node.records (response_to self.old.node request).added) }
     {
         let client = list.client();
+        let _down = self.node.is_down();
         let Ok(spare) = prepare(alloc, &mut self.list, list, &request) else {
             self.compare(board, pass, client);
             return NodeReply::NoMemory;
@@ -286,7 +295,7 @@ impl<N: Named, D: Disk> Station<N, D> {
         ensures list { held (view_of pass.new) (Client list.old.client) ≡ Some list.new.entries }
         ensures exactly { IfOk result (λ halted. halted ≡ not self.old.node.down) }
         ensures down { OnOk result (self.new.node.down ≡ true) }
-        ensures halted { IfOk result (λ halted. halted ≡ true → EndsBoth (view_of pass.old).known self.new.known (entry_at self.old.number list.old.client (Stopped None None)) self.old.list self.new.list list.old.entries list.new.entries) }
+        ensures halted { IfOk result (λ halted. halted ≡ true → EndsBoth (view_of pass.old).known self.new.known (view_of pass.new).known (entry_at self.old.number list.old.client (Stopped None None)) self.old.list self.new.list list.old.entries list.new.entries) }
         ensures no_entry { IfOk result (λ halted. halted ≡ false → (self.new ≡ self.old) × (pass.new ≡ pass.old) × (list.new ≡ list.old)) }
         ensures failed { OnErr result ((self.new ≡ self.old) × (pass.new ≡ pass.old) × (list.new.entries ≡ list.old.entries)) }
         ensures room { list.old.room ≤ list.new.room + 1 }
@@ -310,7 +319,8 @@ impl<N: Named, D: Disk> Station<N, D> {
 
     /// Starts the node again, and adds that to both lists, with whether the record of the request inside which it had stopped is there. The
     /// answer is None exactly where the node is up; then no entry is made. The causes are those of the node's own restart, or want of memory
-    /// for the entry; after an error no entry is made, and the node is still down.
+    /// for the entry; after an error no entry is made, and the node is still down. At Fault the disk's count
+    /// has risen by one more since the run began than the node has stopped unasked in requests.
     pub fn restart(
         &mut self,
         alloc: Global,
@@ -329,10 +339,17 @@ impl<N: Named, D: Disk> Station<N, D> {
         ensures was_up { IfOk result (λ kept. IfNone kept (self.old.node.down ≡ false)) }
         ensures was_down { IfOk result (λ kept. OnSome kept (self.old.node.down ≡ true)) }
         ensures up { OnOk result (self.new.node.down ≡ false) }
-        ensures restarted { IfOk result (λ kept. IfSome kept (λ there. EndsBoth (view_of pass.old).known self.new.known (entry_at self.old.number list.old.client (Restarted there)) self.old.list self.new.list list.old.entries list.new.entries)) }
+        ensures restarted { IfOk result (λ kept. IfSome kept (λ there. EndsBoth (view_of pass.old).known self.new.known (view_of pass.new).known (entry_at self.old.number list.old.client (Restarted there)) self.old.list self.new.list list.old.entries list.new.entries)) }
         ensures no_entry { IfOk result (λ kept. IfNone kept ((self.new ≡ self.old) × (pass.new ≡ pass.old) × (list.new ≡ list.old))) }
         ensures cause { IfErr result (FailsRestart D.state D.faults self.old.node.disk self.new.node.disk self.old.node.records self.old.node.pending) }
+        ensures fault { IfErr result (λ e. e ≡ RestartError.Fault
+            → RoseBy (unasked (entries_of self.new.list) + 1) (N.faults self.old.number.0) (D.faults self.new.node.disk)) }
         ensures undamaged { N.honest self.old.number.0 → IfErr result IsUndamaged }
+
+        // A crash at any moment of the call leaves the node's records, with the one that may have been there or without.
+        ensures moments { (D.state self.old.node.disk).honest
+            → LeavesOnly (D.state self.old.node.disk) (D.state self.new.node.disk)
+                (IsWithOrWithout self.old.node.node self.old.node.nodes self.old.node.records self.old.node.pending) }
         ensures failed { OnErr result (IsAsBefore self.old self.new × (self.old.node.down ≡ true) × (pass.new ≡ pass.old) × (list.new.entries ≡ list.old.entries)) }
         ensures room { list.old.room ≤ list.new.room + 1 }
     {

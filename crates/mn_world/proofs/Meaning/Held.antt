@@ -16,7 +16,8 @@ use Rattle.mn_mini.specs.declared.reply.NodeReply.{NodeReply}
 use Rattle.mn_mini.specs.declared.reply.NodeReply.TheVariants as Say
 use Rattle.mn_mini.specs.Mini.{range_of, item_conflicts_with, has_write}
 use Rattle.mn_mini.specs.Flat.{Mismatched, part_mismatch_from}
-use Rattle.mn_mini.specs.Node.{HeldPart, held_parts, has_forced, has_voted, holders, least_tid, lesser_tid, Clash, clash_or, clash_of, only_reply, after_compares, after_locks, tested, answer, space_of}
+use Rattle.mn_base.specs.Ranges.{least_tid, lesser_tid}
+use Rattle.mn_mini.specs.Node.{HeldPart, held_parts, has_forced, has_voted, holders, Clash, clash_or, clash_of, only_reply, after_compares, after_locks, tested, answer, space_of}
 use Rattle.mn_world.specs.declared.entry.Entry.{Entry}
 use Rattle.mn_world.specs.declared.entry.What.{What}
 use Rattle.mn_world.specs.declared.entry.What.TheVariants.{Called}

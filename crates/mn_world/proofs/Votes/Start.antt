@@ -13,8 +13,8 @@ use Rattle.mn_base.specs.declared.ids.NodeNo.{NodeNo}
 use Rattle.mn_base.specs.declared.ids.Tid.{Tid}
 use Rattle.mn_mini.specs.declared.record.Record.{Record}
 use Rattle.mn_mini.specs.declared.record.Record.TheVariants.{Voted, Executed, Decided, Forced}
-use Rattle.mn_mini.specs.Node.{HeldPart, without_tid, held_part_of, held_parts, is_held, has_voted, has_executed, has_decided_yes, has_decided_no}
-use Rattle.mn_world.specs.Protocol.{Start, start_nodes, start_records, record_tid, greatest_run, run_number}
+use Rattle.mn_mini.specs.Node.{record_run, greatest_run, is_of, HeldPart, without_tid, held_part_of, held_parts, is_held, has_voted, has_executed, has_decided_yes, has_decided_no}
+use Rattle.mn_world.specs.Protocol.{Start, start_nodes, start_records, run_number}
 use Rattle.mn_world.specs.Opened.{voted_participants, have_voted, is_committed, has_record, AreInPlace}
 use Rattle.mn_world.specs.Laws.{StartsSound, StartsFresh}
 use Rattle.mn_world.proofs.Reading.Same.{tid_same-true, tid_same-refl, node_same-true}
@@ -33,12 +33,18 @@ clash b p q = absurd cc
 
 -- Runs of ids
 
+run_of : (tid : Tid) (r : Record) → is_of tid r ≡ true → record_run r ≡ tid.run
+run_of tid (Voted t ps part) e = ap (λ (u : Tid). u.run) (tid_same-true t tid e)
+run_of tid (Executed t part) e = ap (λ (u : Tid). u.run) (tid_same-true t tid e)
+run_of tid (Decided t verdict) e = ap (λ (u : Tid). u.run) (tid_same-true t tid e)
+run_of tid (Forced t) e = ap (λ (u : Tid). u.run) (tid_same-true t tid e)
+
 run_in : (records : List Record) (tid : Tid) → has_record records tid ≡ true → tid.run ≤ greatest_run records
 run_in [] tid e = absurd cc
 run_in (r ∷ rs) tid e =
-    elim (or_cases (tid_same (record_tid r) tid) (has_record rs tid) e) as (λ _. tid.run ≤ max (record_tid r).run (greatest_run rs)) [
-      | inl same ↦ let eq : (record_tid r).run ≡ tid.run = ap (λ (t : Tid). t.run) (tid_same-true (record_tid r) tid same) in subst (λ (k : ℕ). k ≤ max (record_tid r).run (greatest_run rs)) eq (left (record_tid r).run (greatest_run rs))
-      | inr there ↦ let low = run_in rs tid there in right (record_tid r).run (greatest_run rs) tid.run low
+    elim (or_cases (is_of tid r) (has_record rs tid) e) as (λ _. tid.run ≤ max (record_run r) (greatest_run rs)) [
+      | inl same ↦ subst (λ (k : ℕ). k ≤ max (record_run r) (greatest_run rs)) (run_of tid r same) (left (record_run r) (greatest_run rs))
+      | inr there ↦ let low = run_in rs tid there in right (record_run r) (greatest_run rs) tid.run low
     ]
   where
     left : (a b : ℕ) → a ≤ max a b
@@ -49,14 +55,14 @@ run_in (r ∷ rs) tid e =
 
 greatest_left : (xs ys : List Record) → greatest_run xs ≤ greatest_run (xs ++ ys)
 greatest_left [] ys = omega arith
-greatest_left (x ∷ xs) ys = let low = greatest_left xs ys in more (record_tid x).run (greatest_run xs) (greatest_run (xs ++ ys)) low
+greatest_left (x ∷ xs) ys = let low = greatest_left xs ys in more (record_run x) (greatest_run xs) (greatest_run (xs ++ ys)) low
   where
     more : (a b c : ℕ) → b ≤ c → max a b ≤ max a c
     more a b c low = grind (arith, nat_tests)
 
 greatest_right : (xs ys : List Record) → greatest_run ys ≤ greatest_run (xs ++ ys)
 greatest_right [] ys = omega arith
-greatest_right (x ∷ xs) ys = let low = greatest_right xs ys in more (record_tid x).run (greatest_run ys) (greatest_run (xs ++ ys)) low
+greatest_right (x ∷ xs) ys = let low = greatest_right xs ys in more (record_run x) (greatest_run ys) (greatest_run (xs ++ ys)) low
   where
     more : (a b c : ℕ) → b ≤ c → b ≤ max a c
     more a b c low = grind (arith, nat_tests)
@@ -73,7 +79,7 @@ greatest_at (x ∷ xs) (suc i) =
 pub old_below : (start : Start) (tid : Tid) → IsOld start tid → tid.run < run_number start
 old_below start tid (m, low, has) =
     let list = get_or start.records m.0 [] in
-    let there : has_record list tid ≡ true = list_any-IsPermutation (λ r. tid_same (record_tid r) tid) list (reverse list) (IsPermutation-reverse list) ∙ has in
+    let there : has_record list tid ≡ true = list_any-IsPermutation (is_of tid) list (reverse list) (IsPermutation-reverse list) ∙ has in
     let one = run_in list tid there in
     let two = greatest_at start.records m.0 in
     omega (arith, one, two)

@@ -1,12 +1,15 @@
-use Rattle.std.proofs.Common.{[], ◌∷◌, nat_eq, if◌then◌else◌}
+use Rattle.std.proofs.Common.{[], ◌∷◌, refl, nat_eq, if◌then◌else◌}
 use Rattle.mn_actors.specs.Sight.{id_of}
+use Rattle.mn_world.specs.Protocol.{run_number}
+use Rattle.mn_cell.specs.Station.{start_of}
 use Rattle.mn_hist.proofs.tests.run.Given as goal
 
 abbrev pub ghosts-meet : goal.ghosts-meet
 ghosts-meet g a = record {
   board = id_of a.board;
-  run = 1;
+  run = run_number (start_of (a.first.records ∷ a.second.records ∷ []));
   records = a.first.records ∷ a.second.records ∷ [];
+  numbered = refl;
   faults = λ n. if nat_eq n 0 then g.D.Disk.faults a.first.disk else g.D.Disk.faults a.second.disk;
   honest = λ n. ⊥;
 }

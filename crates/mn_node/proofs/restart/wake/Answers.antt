@@ -6,6 +6,7 @@ returns-in-Err g c = record {
   records = c.rebuild.ensures.records;
   stands = c.start_log.ensures.keeps c.requires.stands;
   moments = λ honest. c.start_log.ensures.moments honest (c.requires.stands honest);
+  rests = c.start_log.ensures.rests;
   continues = c.start_log.ensures.continues;
   same = (c.rebuild.ensures.node, c.rebuild.ensures.nodes);
   cause = tt;

@@ -11,7 +11,8 @@ returns-then-not-put-clause-kept g c = λ r spelled.
     let memory = c.make_room.new.memory in
     let here = stops_here g.D.Disk.state g.D.Disk.faults mid c.put.new.redo memory.records.items r c.args.body.now c.args.stop c.make_room.ensures.up.bodies spelled c.put.ensures.images (c.put.ensures.stopped c.if-not-put.true) in (
       c.make_room.ensures.records,
-      stops_earlier g.D.Disk.state g.D.Disk.faults c.args.redo.now mid c.put.new.redo.disk memory.records.items c.args.memory.now.records.items r c.args.stop c.make_room.ensures.continues c.make_room.ensures.records here,
+      stops_earlier g.D.Disk.state g.D.Disk.faults c.args.redo.now mid c.put.new.redo.disk memory.records.items c.args.memory.now.records.items r c.args.stop c.make_room.ensures.continues (g.D.Disk.is_disk c.args.redo.now.disk)
+          c.make_room.ensures.rests c.make_room.ensures.records here,
     )
 
 pub returns-then-is_err-clause-moments : goal.returns-then-is_err-clause-moments

@@ -1,13 +1,36 @@
 use Rattle.std.proofs.Common.{inl, inr, ◌≡◌, ◌++◌, ◌∷◌, [], Option, Some, sym, subst, rules}
 use Rattle.mn_base.specs.declared.gate.StopAt.{StopAt}
-use Rattle.mn_base.specs.declared.gate.StopAt.TheVariants.{After}
+use Rattle.mn_base.specs.declared.gate.StopAt.TheVariants.{Before, Half, After}
 use Rattle.mn_io.specs.Faults.{Rose}
 use Rattle.mn_redo.specs.Redo.{StandsFor}
-use Rattle.mn_node.specs.Node.{StopsAt}
-use Rattle.mn_node.proofs.Steps.{stopped_after}
-use Rattle.mn_redo.specs.Grammar.{IsBeforeOrAfter, Stands}
+use Rattle.mn_node.specs.Node.{IsHalf, StopsAt}
+use Rattle.mn_node.proofs.Steps.{ok_both, stopped_after}
+use Rattle.mn_node.proofs.Resting.{stays_same}
+use Rattle.mn_redo.specs.Grammar.{header, IsBeforeOrAfter, IsStaged, Stands}
+use Rattle.mn_io.specs.DiskModel.{IsStable}
 use Rattle.mn_node.proofs.Moments.{only_weaker}
 use Rattle.mn_node.proofs.step.put.Goals as goal
+
+pub returns-in-Some-Before-clause-stopped : goal.returns-in-Some-Before-clause-stopped
+returns-in-Some-Before-clause-stopped g c _ =
+    let old = c.args.redo.now in
+    let before : c.args.stop ≡ Some Before = search rules in
+    subst (λ (o : Option StopAt). StopsAt g.D.Disk.state g.D.Disk.faults old.disk old.disk old.node old.nodes old.bodies c.args.body.now o) (sym before)
+    (λ h. (c.requires.stands h, stays_same (g.D.Disk.state old.disk) h))
+
+pub returns-in-Some-Half-clause-stopped : goal.returns-in-Some-Half-clause-stopped
+returns-in-Some-Half-clause-stopped g c _ =
+    let old = c.args.redo.now in
+    let new = c.write_half-half.new.self in
+    let done = c.write_half-half.ensures in
+    let half : c.args.stop ≡ Some Half = search rules in
+    let staged = IsStaged (header old.node old.nodes) old.bodies c.args.body.now (g.D.Disk.state new.disk).content in
+    let told = stopped_after c.write_half-half.result (Rose (g.D.Disk.faults old.disk) (g.D.Disk.faults new.disk)) (g.D.Disk.state old.disk).honest
+    (IsHalf (g.D.Disk.state new.disk) old.node old.nodes old.bodies c.args.body.now) done.cause.failed
+    (λ h. ok_both c.write_half-half.result staged (IsStable (g.D.Disk.state new.disk)) (IsHalf (g.D.Disk.state new.disk) old.node old.nodes old.bodies c.args.body.now)
+    (λ s t. record { staged = s; stable = t }) (done.half h) (done.stable h)) in
+    subst (λ (o : Option StopAt). StopsAt g.D.Disk.state g.D.Disk.faults old.disk new.disk old.node old.nodes old.bodies c.args.body.now o) (sym half)
+    (done.stands, told)
 
 pub returns-in-Some-After-clause-stopped : goal.returns-in-Some-After-clause-stopped
 returns-in-Some-After-clause-stopped g c _ =

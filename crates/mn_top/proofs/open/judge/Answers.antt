@@ -3,7 +3,7 @@ use Rattle.std.proofs.lemmas.Bool.{false≢true}
 use Rattle.mn_base.specs.declared.reply.Pair.{Pair}
 use Rattle.mn_base.specs.Store.{main_store}
 use Rattle.mn_mini.specs.declared.record.Record.{Record}
-use Rattle.mn_top.specs.Disk.{greatest_run}
+use Rattle.mn_mini.specs.Node.{greatest_run}
 use Rattle.mn_top.specs.Leaf.{MakesLeaf}
 use Rattle.mn_top.specs.Served.{ops_of, ops_overfill}
 use Rattle.mn_top.proofs.Leaves.{leaf_once}

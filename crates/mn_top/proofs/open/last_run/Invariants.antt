@@ -1,6 +1,6 @@
 use Rattle.std.proofs.Common.{◌≡◌, drop}
 use Rattle.std.specs.Prelude.{max}
-use Rattle.mn_top.specs.Disk.{greatest_run}
+use Rattle.mn_mini.specs.Node.{greatest_run}
 use Rattle.mn_top.proofs.open.last_run.Given as goal
 
 -- the greatest so far, and that of the rest

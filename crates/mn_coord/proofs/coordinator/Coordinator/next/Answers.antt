@@ -1,8 +1,14 @@
 use Rattle.std.proofs.Common.{◌∷◌, subst, sym, ap, ◌∙◌}
-use Rattle.mn_coord.specs.Coordination.{after_step}
+use Rattle.mn_coord.specs.Coordination.{IsSoundStep, after_step}
 use Rattle.mn_coord.specs.Legal.{Agrees, MayMake}
+use Rattle.mn_coord.proofs.Sound.{step_sound}
 use Rattle.mn_coord.proofs.Legal.{steps_are_allowed, handed_out_agrees, abandoned_agrees}
 use Rattle.mn_coord.proofs.coordinator.Coordinator.next.Goals as goal
+
+pub returns-clause-sound : goal.returns-clause-sound
+returns-clause-sound c =
+    let old = c.args.self.now in
+    subst (IsSoundStep old.mini.nodes) (sym c.advance.ensures.step) (step_sound old c.parts_sound.ensures c.is_sound.ensures)
 
 pub returns-clause-legal : goal.returns-clause-legal
 returns-clause-legal c = λ es a. subst (MayMake es c.args.self.now.tid) (sym c.advance.ensures.step) (steps_are_allowed es c.args.self.now a)
