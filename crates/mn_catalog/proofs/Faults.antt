@@ -32,7 +32,8 @@ either (suc w) (suc k) = elim (either w k) [ inl h ↦ inl (omega (arith, h)) | 
 pub none_read : (bytes : List ℕ) → AreRead 0 bytes []
 none_read bytes = (omega arith, λ w lt. absurd (omega (arith, lt)))
 
-pub unused_read : (bytes : List ℕ) (m : ℕ) (es : List CatEntry) → AreRead m bytes es → IsRead (place_bytes m bytes) None → AreRead (m + 1) bytes es
+pub unused_read : (bytes : List ℕ) (m : ℕ) (es : List CatEntry) → AreRead m bytes es
+    → IsRead (place_bytes m bytes) None → AreRead (m + 1) bytes es
 unused_read bytes m es a r = (omega (arith, a.0), λ w lt. by w lt (either w m))
   where
     by : (w : ℕ) → w < m + 1 → (w < m) ⊎ (m ≤ w) → IsRead (place_bytes w bytes) (slice_get es w)
@@ -41,7 +42,8 @@ unused_read bytes m es a r = (omega (arith, a.0), λ w lt. by w lt (either w m))
         let here : m ≡ w = omega (arith, lt, high) in
         subst (λ k. IsRead (place_bytes k bytes) (slice_get es k)) here (subst (IsRead (place_bytes m bytes)) (sym (past es m a.0)) r)
 
-pushed_old : (es : List CatEntry) (e : CatEntry) (w : ℕ) → w < length es → slice_get (es ++ e ∷ []) w ≡ slice_get es w
+pushed_old : (es : List CatEntry) (e : CatEntry) (w : ℕ) → w < length es
+    → slice_get (es ++ e ∷ []) w ≡ slice_get es w
 pushed_old [] e w h = absurd (omega (arith, h))
 pushed_old (x ∷ es) e zero h = refl
 pushed_old (x ∷ es) e (suc w) h = pushed_old es e w (omega (arith, h))
@@ -50,12 +52,14 @@ pushed_new : (es : List CatEntry) (e : CatEntry) → slice_get (es ++ e ∷ []) 
 pushed_new [] e = refl
 pushed_new (x ∷ es) e = pushed_new es e
 
-pub used_read : (bytes : List ℕ) (m : ℕ) (es : List CatEntry) (e : CatEntry) → AreRead m bytes es → m ≤ length es → IsRead (place_bytes m bytes) (Some e) → AreRead (m + 1) bytes (es ++ e ∷ [])
+pub used_read : (bytes : List ℕ) (m : ℕ) (es : List CatEntry) (e : CatEntry) → AreRead m bytes es
+    → m ≤ length es → IsRead (place_bytes m bytes) (Some e) → AreRead (m + 1) bytes (es ++ e ∷ [])
 used_read bytes m es e a full r =
     let all : length es ≡ m = omega (arith, a.0, full) in
     (omega (arith, all, length-append es (e ∷ [])), λ w lt. by all w lt (either w m))
   where
-    by : length es ≡ m → (w : ℕ) → w < m + 1 → (w < m) ⊎ (m ≤ w) → IsRead (place_bytes w bytes) (slice_get (es ++ e ∷ []) w)
+    by : length es ≡ m → (w : ℕ) → w < m + 1 → (w < m) ⊎ (m ≤ w)
+        → IsRead (place_bytes w bytes) (slice_get (es ++ e ∷ []) w)
     by all w lt (inl low) = subst (IsRead (place_bytes w bytes)) (sym (pushed_old es e w (omega (arith, all, low)))) (a.1 w low)
     by all w lt (inr high) =
         let here : m ≡ w = omega (arith, lt, high) in
@@ -65,10 +69,12 @@ used_read bytes m es e a full r =
 -- Faults
 
 -- no place that was read is at fault
-sound : (bytes : List ℕ) (m : ℕ) (es : List CatEntry) → AreRead m bytes es → (w : ℕ) → w < m → IsAtFault bytes w → ⊥
+sound : (bytes : List ℕ) (m : ℕ) (es : List CatEntry) → AreRead m bytes es → (w : ℕ) → w < m
+    → IsAtFault bytes w → ⊥
 sound bytes m es a w lt (inl none) = by (slice_get es w) (a.1 w lt).told
   where
-    by : (o : Option CatEntry) → MatchOption o (IsUnused (place_bytes w bytes)) (SpellsEntry (place_bytes w bytes)) → ⊥
+    by : (o : Option CatEntry)
+        → MatchOption o (IsUnused (place_bytes w bytes)) (SpellsEntry (place_bytes w bytes)) → ⊥
     by None t = none.0 t
     by (Some e) t = none.1 e t
 sound bytes m es a w lt (inr behind) =
@@ -78,11 +84,13 @@ sound bytes m es a w lt (inr behind) =
     behind.0 (subst (λ o. MatchOption o (IsUnused (place_bytes w bytes)) (SpellsEntry (place_bytes w bytes))) none (a.1 w lt).told)
 
 -- the next place is outside the grammar of entries
-pub bad_place : (bytes : List ℕ) (m : ℕ) (es : List CatEntry) → AreRead m bytes es → m < 64 → SpellsNoEntry (place_bytes m bytes) → IsFirstAtFault bytes m
+pub bad_place : (bytes : List ℕ) (m : ℕ) (es : List CatEntry) → AreRead m bytes es → m < 64
+    → SpellsNoEntry (place_bytes m bytes) → IsFirstAtFault bytes m
 bad_place bytes m es a lt none = record { place = lt; fault = inl none; first = sound bytes m es a }
 
 -- the next place is used behind an unused one
-pub used_behind : (bytes : List ℕ) (m : ℕ) (es : List CatEntry) (e : CatEntry) → AreRead m bytes es → m < 64 → length es < m → IsRead (place_bytes m bytes) (Some e) → IsFirstAtFault bytes m
+pub used_behind : (bytes : List ℕ) (m : ℕ) (es : List CatEntry) (e : CatEntry) → AreRead m bytes es
+    → m < 64 → length es < m → IsRead (place_bytes m bytes) (Some e) → IsFirstAtFault bytes m
 used_behind bytes m es e a lt gap r =
     record { place = lt; fault = inr ((λ u. none_some e (sym (r.unused u))), (length es, gap, hole)); first = sound bytes m es a }
   where
@@ -90,31 +98,38 @@ used_behind bytes m es e a lt gap r =
     hole = subst (λ o. MatchOption o (IsUnused (place_bytes (length es) bytes)) (SpellsEntry (place_bytes (length es) bytes))) (past es (length es) (omega arith)) (a.1 (length es) gap).told
 
 -- no catalog has a place outside the grammar of entries
-pub none_with : (bytes : List ℕ) (w : ℕ) → w < 64 → SpellsNoEntry (place_bytes w bytes) → SpellsNoCatalog bytes
+pub none_with : (bytes : List ℕ) (w : ℕ) → w < 64 → SpellsNoEntry (place_bytes w bytes)
+    → SpellsNoCatalog bytes
 none_with bytes w lt none es s = by (slice_get es w) (told_at bytes es w s lt)
   where
-    by : (o : Option CatEntry) → MatchOption o (IsUnused (place_bytes w bytes)) (SpellsEntry (place_bytes w bytes)) → ⊥
+    by : (o : Option CatEntry)
+        → MatchOption o (IsUnused (place_bytes w bytes)) (SpellsEntry (place_bytes w bytes)) → ⊥
     by None t = none.0 t
     by (Some e) t = none.1 e t
 
 -- nor one that is used behind an unused one
-pub none_behind : (bytes : List ℕ) (m : ℕ) (es : List CatEntry) (e : CatEntry) → AreRead m bytes es → m < 64 → length es < m → IsRead (place_bytes m bytes) (Some e) → SpellsNoCatalog bytes
+pub none_behind : (bytes : List ℕ) (m : ℕ) (es : List CatEntry) (e : CatEntry) → AreRead m bytes es
+    → m < 64 → length es < m → IsRead (place_bytes m bytes) (Some e) → SpellsNoCatalog bytes
 none_behind bytes m es e a lt gap r others s = used (slice_get others m) refl (told_at bytes others m s lt)
   where
-    unused : (o : Option CatEntry) → slice_get others (length es) ≡ o → MatchOption o (IsUnused (place_bytes (length es) bytes)) (SpellsEntry (place_bytes (length es) bytes)) → m < length others → ⊥
+    unused : (o : Option CatEntry) → slice_get others (length es) ≡ o
+        → MatchOption o (IsUnused (place_bytes (length es) bytes)) (SpellsEntry (place_bytes (length es) bytes)) → m < length others → ⊥
     unused None h t more = let ended = past_none others (length es) h in absurd (omega (arith, ended, gap, more))
     unused (Some x) h t more = none_some x (sym (past es (length es) (omega arith)) ∙ (a.1 (length es) gap).entry x t)
 
-    used : (o : Option CatEntry) → slice_get others m ≡ o → MatchOption o (IsUnused (place_bytes m bytes)) (SpellsEntry (place_bytes m bytes)) → ⊥
+    used : (o : Option CatEntry) → slice_get others m ≡ o
+        → MatchOption o (IsUnused (place_bytes m bytes)) (SpellsEntry (place_bytes m bytes)) → ⊥
     used None h t = none_some e (sym (r.unused t))
     used (Some x) h t = unused (slice_get others (length es)) refl (told_at bytes others (length es) s (omega (arith, gap, lt))) (within others m x h)
 
 -- Whole catalogs
 
-pub whole : (bytes : List ℕ) (es : List CatEntry) → length bytes ≡ 4096 → AreRead 64 bytes es → SpellsCatalog bytes es
+pub whole : (bytes : List ℕ) (es : List CatEntry) → length bytes ≡ 4096 → AreRead 64 bytes es
+    → SpellsCatalog bytes es
 whole bytes es long a = spelled bytes es long a.0 (λ w lt. (a.1 w lt).told)
 
-same_places : (n : ℕ) (xs ys : List CatEntry) → length xs ≤ n → length ys ≤ n → ((w : ℕ) → w < n → slice_get xs w ≡ slice_get ys w) → xs ≡ ys
+same_places : (n : ℕ) (xs ys : List CatEntry) → length xs ≤ n → length ys ≤ n
+    → ((w : ℕ) → w < n → slice_get xs w ≡ slice_get ys w) → xs ≡ ys
 same_places n [] [] h k f = refl
 same_places zero (x ∷ xs) ys h k f = absurd (omega (arith, h))
 same_places zero [] (y ∷ ys) h k f = absurd (omega (arith, k))
@@ -127,20 +142,26 @@ same_places (suc n) (x ∷ xs) (y ∷ ys) h k f =
     some_same : {a b : CatEntry} → Some a ≡ Some b → a ≡ b
     some_same e = cc
 
-pub one_catalog : (bytes : List ℕ) (es others : List CatEntry) → AreRead 64 bytes es → SpellsCatalog bytes others → es ≡ others
+pub one_catalog : (bytes : List ℕ) (es others : List CatEntry) → AreRead 64 bytes es
+    → SpellsCatalog bytes others → es ≡ others
 one_catalog bytes es others a s = same_places 64 es others a.0 s.0.0 (λ w lt. by w lt (slice_get others w) refl (told_at bytes others w s lt))
   where
-    by : (w : ℕ) → w < 64 → (o : Option CatEntry) → slice_get others w ≡ o → MatchOption o (IsUnused (place_bytes w bytes)) (SpellsEntry (place_bytes w bytes)) → slice_get es w ≡ slice_get others w
+    by : (w : ℕ) → w < 64 → (o : Option CatEntry) → slice_get others w ≡ o
+        → MatchOption o (IsUnused (place_bytes w bytes)) (SpellsEntry (place_bytes w bytes))
+        → slice_get es w ≡ slice_get others w
     by w lt None h t = (a.1 w lt).unused t ∙ sym h
     by w lt (Some e) h t = (a.1 w lt).entry e t ∙ sym h
 
 -- Answers
 
-pub refused : (bytes : List ℕ) (m : ℕ) (es : List CatEntry) → length bytes ≡ 4096 → AreRead m bytes es → m < 64 → (e : CatError) → RefusesPlace m (place_bytes m bytes) e → RefusesCatalog bytes e
+pub refused : (bytes : List ℕ) (m : ℕ) (es : List CatEntry) → length bytes ≡ 4096
+    → AreRead m bytes es → m < 64 → (e : CatError) → RefusesPlace m (place_bytes m bytes) e
+    → RefusesCatalog bytes e
 refused bytes m es long a lt (BadCatalog entry) r = inl (long, subst (IsFirstAtFault bytes) (sym r.0) (bad_place bytes m es a lt r.1))
 refused bytes m es long a lt NoMemory r = tt
 
-pub outside : (bytes : List ℕ) (m : ℕ) → m < 64 → (e : CatError) → RefusesPlace m (place_bytes m bytes) e → (IsWantOfMemory e → ⊥) → SpellsNoCatalog bytes
+pub outside : (bytes : List ℕ) (m : ℕ) → m < 64 → (e : CatError)
+    → RefusesPlace m (place_bytes m bytes) e → (IsWantOfMemory e → ⊥) → SpellsNoCatalog bytes
 outside bytes m lt (BadCatalog entry) r other = none_with bytes m lt r.1
 outside bytes m lt NoMemory r other = absurd (other refl)
 

@@ -16,7 +16,8 @@ decides xs ys = slice_eq-Decides Decides-eqb xs ys (pointwise nat_eq xs ys) refl
 abbrev pub NoneBelow : ℕ → List CatEntry → List ℕ → Type 0
 NoneBelow m es name = (w : ℕ) (e : CatEntry) → w < m → slice_get es w ≡ Some e → e.name ≡ name → ⊥
 
-pub none_next : (m : ℕ) (es : List CatEntry) (name : List ℕ) (e : CatEntry) → NoneBelow m es name → e ≡ get_or es m e → m < length es → (e.name ≡ name → ⊥) → NoneBelow (m + 1) es name
+pub none_next : (m : ℕ) (es : List CatEntry) (name : List ℕ) (e : CatEntry) → NoneBelow m es name
+    → e ≡ get_or es m e → m < length es → (e.name ≡ name → ⊥) → NoneBelow (m + 1) es name
 none_next m es name e none here there other w x lt at named = by (either w m)
   where
     by : (w < m) ⊎ (m ≤ w) → ⊥

@@ -48,7 +48,8 @@ next_place a b w h =
     ap (take 64) (ap (λ n. drop n (a ++ b)) at ∙ drop-append-add a b (64 * w))
 
 -- each place has the bytes of its entry
-place_of : (m : ℕ) (es : List CatEntry) (w : ℕ) → All IsEntry es → w < m → place_bytes w (spread m es) ≡ block (slice_get es w)
+place_of : (m : ℕ) (es : List CatEntry) (w : ℕ) → All IsEntry es → w < m
+    → place_bytes w (spread m es) ≡ block (slice_get es w)
 place_of zero es w a lt = absurd (omega (arith, lt))
 place_of (suc m) es zero a lt = first_place (block (slice_get es 0)) (spread m (drop 1 es)) (block_length es a)
 place_of (suc m) es (suc w) a lt =
@@ -61,7 +62,8 @@ no_bytes [] h = refl
 no_bytes (b ∷ bytes) h = absurd (omega (arith, h))
 
 -- bytes whose places are those of the entries
-built : (m : ℕ) (bytes : List ℕ) (es : List CatEntry) → length bytes ≡ 64 * m → ((w : ℕ) → w < m → place_bytes w bytes ≡ block (slice_get es w)) → bytes ≡ spread m es
+built : (m : ℕ) (bytes : List ℕ) (es : List CatEntry) → length bytes ≡ 64 * m
+    → ((w : ℕ) → w < m → place_bytes w bytes ≡ block (slice_get es w)) → bytes ≡ spread m es
 built zero bytes es h f = no_bytes bytes (omega (arith, h))
 built (suc m) bytes es h f =
     let long : 64 ≤ length bytes = omega (arith, h) in let front = length-take-le 64 bytes long in
@@ -81,7 +83,8 @@ spread_none (suc m) =
     ap (λ l. replicate 64 0 ++ l) (spread_none m) ∙ replicate-append-replicate 64 (64 * m) 0 ∙ ap (λ n. replicate n 0) whole
 
 -- the places are the entries, then zeros
-spread_is : (m : ℕ) (es : List CatEntry) → All IsEntry es → length es ≤ m → spread m es ≡ padded (64 * m) (flat_map entry_bytes es)
+spread_is : (m : ℕ) (es : List CatEntry) → All IsEntry es → length es ≤ m
+    → spread m es ≡ padded (64 * m) (flat_map entry_bytes es)
 spread_is m [] a h = let all : 64 * m ≡ 64 * m - 0 = omega arith in spread_none m ∙ ap (λ n. replicate n 0) all
 spread_is zero (e ∷ es) a h = absurd (omega (arith, h))
 spread_is (suc m) (e ∷ es) a h =
@@ -94,19 +97,23 @@ spread_is (suc m) (e ∷ es) a h =
 -- The catalog
 
 -- what a catalog has at a place
-pub told_at : (bytes : List ℕ) (es : List CatEntry) (w : ℕ) → SpellsCatalog bytes es → w < 64 → MatchOption (slice_get es w) (IsUnused (place_bytes w bytes)) (SpellsEntry (place_bytes w bytes))
+pub told_at : (bytes : List ℕ) (es : List CatEntry) (w : ℕ) → SpellsCatalog bytes es → w < 64
+    → MatchOption (slice_get es w) (IsUnused (place_bytes w bytes)) (SpellsEntry (place_bytes w bytes))
 told_at bytes es w s lt = by (slice_get es w) refl (ap (place_bytes w) (s.1 ∙ sym (spread_is 64 es s.0.1 s.0.0)) ∙ place_of 64 es w s.0.1 lt)
   where
-    entry_at : (xs : List CatEntry) (k : ℕ) (e : CatEntry) → All IsEntry xs → slice_get xs k ≡ Some e → IsEntry e
+    entry_at : (xs : List CatEntry) (k : ℕ) (e : CatEntry) → All IsEntry xs
+        → slice_get xs k ≡ Some e → IsEntry e
     entry_at [] k e a h = cc
     entry_at (x ∷ xs) zero e a h = let same : x ≡ e = cc in subst IsEntry same (All-head IsEntry x xs a)
     entry_at (x ∷ xs) (suc k) e a h = entry_at xs k e (All-tail IsEntry x xs a) h
 
-    by : (o : Option CatEntry) → slice_get es w ≡ o → place_bytes w bytes ≡ block (slice_get es w) → MatchOption o (IsUnused (place_bytes w bytes)) (SpellsEntry (place_bytes w bytes))
+    by : (o : Option CatEntry) → slice_get es w ≡ o → place_bytes w bytes ≡ block (slice_get es w)
+        → MatchOption o (IsUnused (place_bytes w bytes)) (SpellsEntry (place_bytes w bytes))
     by None h p = p ∙ ap block h
     by (Some e) h p = (entry_at es w e s.0.1 h, p ∙ ap block h)
 
-all_from : (es : List CatEntry) → ((w : ℕ) (e : CatEntry) → slice_get es w ≡ Some e → IsEntry e) → All IsEntry es
+all_from : (es : List CatEntry) → ((w : ℕ) (e : CatEntry) → slice_get es w ≡ Some e → IsEntry e)
+    → All IsEntry es
 all_from [] f = All-nil IsEntry
 all_from (e ∷ es) f = All-cons IsEntry e es (f 0 e refl) (all_from es (λ w x h. f (suc w) x h))
 
@@ -122,11 +129,14 @@ spelled bytes es long few told =
     let all = all_from es (λ w e h. (subst (λ o. MatchOption o (IsUnused (place_bytes w bytes)) (SpellsEntry (place_bytes w bytes))) h (told w (omega (arith, few, within es w e h)))).0) in
     ((few, all), built 64 bytes es long (λ w lt. by w (slice_get es w) refl (told w lt)) ∙ spread_is 64 es all few)
   where
-    by : (w : ℕ) (o : Option CatEntry) → slice_get es w ≡ o → MatchOption o (IsUnused (place_bytes w bytes)) (SpellsEntry (place_bytes w bytes)) → place_bytes w bytes ≡ block (slice_get es w)
+    by : (w : ℕ) (o : Option CatEntry) → slice_get es w ≡ o
+        → MatchOption o (IsUnused (place_bytes w bytes)) (SpellsEntry (place_bytes w bytes))
+        → place_bytes w bytes ≡ block (slice_get es w)
     by w None h t = t ∙ sym (ap block h)
     by w (Some e) h t = t.1 ∙ sym (ap block h)
 
-fits : (m : ℕ) (es : List CatEntry) → All IsEntry es → length es ≤ m → length (flat_map entry_bytes es) ≤ 64 * m
+fits : (m : ℕ) (es : List CatEntry) → All IsEntry es → length es ≤ m
+    → length (flat_map entry_bytes es) ≤ 64 * m
 fits m [] a h = omega arith
 fits zero (e ∷ es) a h = absurd (omega (arith, h))
 fits (suc m) (e ∷ es) a h =

@@ -22,7 +22,8 @@ use Rattle.mn_page.specs.Added.{frozen_entry, child_entry}
 
 -- Names
 
-abbrev behind : (e : CatEntry) (es : List CatEntry) (name : List ℕ) (v : ℕ) → IsFirstNamed (e ∷ es) name (suc v) → IsFirstNamed es name v
+abbrev behind : (e : CatEntry) (es : List CatEntry) (name : List ℕ) (v : ℕ)
+    → IsFirstNamed (e ∷ es) name (suc v) → IsFirstNamed es name v
 behind e es name v f = record {
   entry = f.entry;
   there = f.there;
@@ -31,7 +32,8 @@ behind e es name v f = record {
 }
 
 pub first_is_named : (es : List CatEntry) (name : List ℕ) (v : ℕ) (f : IsFirstNamed es name v)
-    → (number_named (heads_in es) name ≡ Some v) × (head_named (heads_in es) name ≡ Some (entry_head f.entry))
+    → (number_named (heads_in es) name ≡ Some v)
+    × (head_named (heads_in es) name ≡ Some (entry_head f.entry))
 first_is_named [] name v f = let there = f.there in absurd cc
 first_is_named (e ∷ es) name zero f =
     let same : e ≡ f.entry = let there = f.there in cc in
@@ -40,26 +42,33 @@ first_is_named (e ∷ es) name zero f =
 first_is_named (e ∷ es) name (suc v) f = go (bytes_eq e.name name) refl (first_is_named es name v (behind e es name v f))
   where
     go : (b : Bool) → bytes_eq e.name name ≡ b
-        → (number_named (heads_in es) name ≡ Some v) × (head_named (heads_in es) name ≡ Some (entry_head f.entry))
-        → (number_named (heads_in (e ∷ es)) name ≡ Some (suc v)) × (head_named (heads_in (e ∷ es)) name ≡ Some (entry_head f.entry))
+        → (number_named (heads_in es) name ≡ Some v)
+        × (head_named (heads_in es) name ≡ Some (entry_head f.entry))
+        → (number_named (heads_in (e ∷ es)) name ≡ Some (suc v))
+        × (head_named (heads_in (e ∷ es)) name ≡ Some (entry_head f.entry))
     go true t rest = absurd (f.first 0 e (omega arith) refl (bytes_eq-true e.name name t))
     go false t rest =
         let number = rest.0 in
         (rw (t, number) (ap (λ (n : ℕ). Some n) (add-one v)), rw t rest.1)
 
-pub none_is_named : (es : List CatEntry) (name : List ℕ) → ((v : ℕ) (e : CatEntry) → slice_get es v ≡ Some e → e.name ≡ name → ⊥)
+pub none_is_named : (es : List CatEntry) (name : List ℕ)
+    → ((v : ℕ) (e : CatEntry) → slice_get es v ≡ Some e → e.name ≡ name → ⊥)
     → (number_named (heads_in es) name ≡ None) × (head_named (heads_in es) name ≡ None)
 none_is_named [] name none = (refl, refl)
 none_is_named (e ∷ es) name none = go (bytes_eq e.name name) refl (none_is_named es name (λ v d at. none (suc v) d at))
   where
-    go : (b : Bool) → bytes_eq e.name name ≡ b → (number_named (heads_in es) name ≡ None) × (head_named (heads_in es) name ≡ None) → (number_named (heads_in (e ∷ es)) name ≡ None) × (head_named (heads_in (e ∷ es)) name ≡ None)
+    go : (b : Bool) → bytes_eq e.name name ≡ b
+        → (number_named (heads_in es) name ≡ None) × (head_named (heads_in es) name ≡ None)
+        → (number_named (heads_in (e ∷ es)) name ≡ None)
+        × (head_named (heads_in (e ∷ es)) name ≡ None)
     go true t rest = absurd (none 0 e refl (bytes_eq-true e.name name t))
     go false t rest =
         let number = rest.0 in
         (rw (t, number) refl, rw t rest.1)
 
 -- no entry has the name
-pub no_such : (es : List CatEntry) (name : List ℕ) → All (λ e. e.name ≡ name → ⊥) es → (v : ℕ) (e : CatEntry) → slice_get es v ≡ Some e → e.name ≡ name → ⊥
+pub no_such : (es : List CatEntry) (name : List ℕ) → All (λ e. e.name ≡ name → ⊥) es
+    → (v : ℕ) (e : CatEntry) → slice_get es v ≡ Some e → e.name ≡ name → ⊥
 no_such es name all v e at named =
     let is : get_or es v e ≡ e = get_or_from_slice_get es v e e at in
     all v e (slice_get_within es v e at) (ap (λ (x : CatEntry). x.name) is ∙ named)
@@ -67,15 +76,18 @@ no_such es name all v e at named =
 -- A version frozen
 
 -- where a name is the first one's, and where it is one behind
-number_cases : (b : Bool) (rest : Option ℕ) (v : ℕ) → (if b then Some 0 else option_map (λ n. n + 1) rest) ≡ Some v
+number_cases : (b : Bool) (rest : Option ℕ) (v : ℕ)
+    → (if b then Some 0 else option_map (λ n. n + 1) rest) ≡ Some v
     → ((b ≡ true) × (v ≡ 0)) ⊎ ((b ≡ false) × ((w : ℕ) × (rest ≡ Some w) × (v ≡ w + 1)))
 number_cases true rest v is = inl (refl, cc)
 number_cases false None v is = absurd cc
 number_cases false (Some w) v is = inr (refl, (w, refl, cc))
 
 -- freezing a version in a store freezes its entry
-pub frozen_heads : (store : Store) (es : List CatEntry) (v : ℕ) (e : CatEntry) (name : List ℕ) → heads_of store ≡ heads_in es → slice_get es v ≡ Some e
-    → number_named (heads_in es) name ≡ Some v → heads_of (with_frozen store name) ≡ heads_in (set es v (frozen_entry e))
+pub frozen_heads : (store : Store) (es : List CatEntry) (v : ℕ) (e : CatEntry) (name : List ℕ)
+    → heads_of store ≡ heads_in es → slice_get es v ≡ Some e
+    → number_named (heads_in es) name ≡ Some v
+    → heads_of (with_frozen store name) ≡ heads_in (set es v (frozen_entry e))
 frozen_heads store [] v e name same at named = absurd cc
 frozen_heads [] (d ∷ es) v e name same at named = absurd cc
 frozen_heads (s ∷ ss) (d ∷ es) v e name same at named =
@@ -92,7 +104,8 @@ frozen_heads (s ∷ ss) (d ∷ es) v e name same at named =
     of_store = ap (λ (h : Head). bytes_eq h.name name) head
 
     go : (v : ℕ) → slice_get (d ∷ es) v ≡ Some e
-        → ((bytes_eq d.name name ≡ true) × (v ≡ 0)) ⊎ ((bytes_eq d.name name ≡ false) × ((w : ℕ) × (number_named (heads_in es) name ≡ Some w) × (v ≡ w + 1)))
+        → ((bytes_eq d.name name ≡ true) × (v ≡ 0))
+        ⊎ ((bytes_eq d.name name ≡ false) × ((w : ℕ) × (number_named (heads_in es) name ≡ Some w) × (v ≡ w + 1)))
         → ((w : ℕ) → slice_get es w ≡ Some e → number_named (heads_in es) name ≡ Some w → heads_of (with_frozen ss name) ≡ heads_in (set es w (frozen_entry e)))
         → heads_of (with_frozen (s ∷ ss) name) ≡ heads_in (set (d ∷ es) v (frozen_entry e))
     go zero at (inl c) more =
@@ -114,52 +127,63 @@ child_head store name child = (child_of store name child).head
 
 -- What admits a child
 
-room_behind : (taken : Bool) (full : Bool) → (if taken then Some NameTaken else (if full then Some VersionsFull else None)) ≡ None → full ≡ false
+room_behind : (taken : Bool) (full : Bool)
+    → (if taken then Some NameTaken else (if full then Some VersionsFull else None)) ≡ None
+    → full ≡ false
 room_behind true full is = absurd cc
 room_behind false true is = absurd cc
 room_behind false false is = refl
 
 -- where a child is not refused, the catalog has room
-pub child_room : (es : List CatEntry) (child : List ℕ) → child_refusal (heads_in es) child ≡ None → length es < max_entries
+pub child_room : (es : List CatEntry) (child : List ℕ) → child_refusal (heads_in es) child ≡ None
+    → length es < max_entries
 child_room es child none =
     let few = room_behind (is_some (head_named (heads_in es) child)) (nat_le 64 (length (heads_in es))) none in
     let long = length-map es entry_head in
     let below : length (heads_in es) < 64 = grind (arith, nat_tests) in
     omega (arith, below, long)
 
-unfrozen : (b : Bool) (hs : List Head) (child : List ℕ) → (if b then Some Frozen else child_refusal hs child) ≡ None → child_refusal hs child ≡ None
+unfrozen : (b : Bool) (hs : List Head) (child : List ℕ)
+    → (if b then Some Frozen else child_refusal hs child) ≡ None → child_refusal hs child ≡ None
 unfrozen true hs child is = absurd cc
 unfrozen false hs child is = is
 
 -- a snapshot that is not refused has room for its child
-pub snapshot_room : (es : List CatEntry) (name child : List ℕ) → refusal (heads_in es) (Snapshot name child) ≡ None → length es < max_entries
+pub snapshot_room : (es : List CatEntry) (name child : List ℕ)
+    → refusal (heads_in es) (Snapshot name child) ≡ None → length es < max_entries
 snapshot_room es name child none = go (head_named (heads_in es) name) none
   where
-    go : (h : Option Head) → refusal_at (heads_in es) (Snapshot name child) h ≡ None → length es < max_entries
+    go : (h : Option Head) → refusal_at (heads_in es) (Snapshot name child) h ≡ None
+        → length es < max_entries
     go None is = absurd cc
     go (Some h) is = child_room es child (unfrozen h.frozen (heads_in es) child is)
 
-refrozen : (b : Bool) (hs : List Head) (child : List ℕ) → (if b then child_refusal hs child else Some NotFrozen) ≡ None → child_refusal hs child ≡ None
+refrozen : (b : Bool) (hs : List Head) (child : List ℕ)
+    → (if b then child_refusal hs child else Some NotFrozen) ≡ None → child_refusal hs child ≡ None
 refrozen false hs child is = absurd cc
 refrozen true hs child is = is
 
-pub branch_room : (es : List CatEntry) (name child : List ℕ) → refusal (heads_in es) (Branch name child) ≡ None → length es < max_entries
+pub branch_room : (es : List CatEntry) (name child : List ℕ)
+    → refusal (heads_in es) (Branch name child) ≡ None → length es < max_entries
 branch_room es name child none = go (head_named (heads_in es) name) none
   where
-    go : (h : Option Head) → refusal_at (heads_in es) (Branch name child) h ≡ None → length es < max_entries
+    go : (h : Option Head) → refusal_at (heads_in es) (Branch name child) h ≡ None
+        → length es < max_entries
     go None is = absurd cc
     go (Some h) is = child_room es child (refrozen h.frozen (heads_in es) child is)
 
 -- What a new version's entries make
 
 -- an entry written behind the last
-pub child_behind : (es : List CatEntry) (e : CatEntry) → entries_with es (numbered (length es) e ∷ []) ≡ es ++ e ∷ []
+pub child_behind : (es : List CatEntry) (e : CatEntry)
+    → entries_with es (numbered (length es) e ∷ []) ≡ es ++ e ∷ []
 child_behind es e =
     let no : nat_lt (length es) (length es) ≡ false = grind (arith, nat_tests) in
     rw no refl
 
 -- an entry written in its place, and one behind the last
-pub child_after : (es : List CatEntry) (v : ℕ) (d e : CatEntry) → v < length es → entries_with es (numbered v d ∷ numbered (length es) e ∷ []) ≡ set es v d ++ e ∷ []
+pub child_after : (es : List CatEntry) (v : ℕ) (d e : CatEntry) → v < length es
+    → entries_with es (numbered v d ∷ numbered (length es) e ∷ []) ≡ set es v d ++ e ∷ []
 child_after es v d e lt =
     let yes : nat_lt v (length es) ≡ true = grind (arith, nat_tests) in
     let long = length-set es v d in
@@ -168,7 +192,8 @@ child_after es v d e lt =
 
 -- the entries of a snapshot are the versions that it makes
 pub snapshot_makes : (es : List CatEntry) (v : VersionNo) (child : List ℕ) (root : Addr) (e : CatEntry) (store : Store) → slice_get es v.0 ≡ Some e
-    → number_named (heads_in es) e.name ≡ Some v.0 → heads_of store ≡ heads_in es → refusal (heads_in es) (Snapshot e.name child) ≡ None
+    → number_named (heads_in es) e.name ≡ Some v.0 → heads_of store ≡ heads_in es
+    → refusal (heads_in es) (Snapshot e.name child) ≡ None
     → heads_of (applied store (Snapshot e.name child)).store ≡ heads_in (entries_with es (snapshot_entries es v child root))
 snapshot_makes es v child root e store at named same none =
     let open_ : refusal (heads_of store) (Snapshot e.name child) ≡ None = ap (λ (hs : List Head). refusal hs (Snapshot e.name child)) same ∙ none in
@@ -185,7 +210,8 @@ snapshot_makes es v child root e store at named same none =
 
 -- that of a branch too
 pub branch_makes : (es : List CatEntry) (v : VersionNo) (child : List ℕ) (root : Addr) (e : CatEntry) (store : Store)
-    → number_named (heads_in es) e.name ≡ Some v.0 → heads_of store ≡ heads_in es → refusal (heads_in es) (Branch e.name child) ≡ None
+    → number_named (heads_in es) e.name ≡ Some v.0 → heads_of store ≡ heads_in es
+    → refusal (heads_in es) (Branch e.name child) ≡ None
     → heads_of (applied store (Branch e.name child)).store ≡ heads_in (entries_with es (branch_entries es v child root))
 branch_makes es v child root e store named same none =
     let open_ : refusal (heads_of store) (Branch e.name child) ≡ None = ap (λ (hs : List Head). refusal hs (Branch e.name child)) same ∙ none in
@@ -224,7 +250,8 @@ frozen_is_entry e is = record {
   name = is.name;
 }
 
-child_is_entry : (v : VersionNo) (child : List ℕ) (root : Addr) → v.0 < 64 → IsName child → IsAddr root → IsEntry (child_entry v child root)
+child_is_entry : (v : VersionNo) (child : List ℕ) (root : Addr) → v.0 < 64 → IsName child
+    → IsAddr root → IsEntry (child_entry v child root)
 child_is_entry v child root few name addr = record {
   seq_low = omega arith;
   seq_high = search rules;
@@ -233,7 +260,8 @@ child_is_entry v child root few name addr = record {
   name = name;
 }
 
-pub branch_are_entries : (es : List CatEntry) (v : VersionNo) (child : List ℕ) (root : Addr) → v.0 < length es → length es < max_entries → IsName child → IsAddr root
+pub branch_are_entries : (es : List CatEntry) (v : VersionNo) (child : List ℕ) (root : Addr)
+    → v.0 < length es → length es < max_entries → IsName child → IsAddr root
     → AreEntries (branch_entries es v child root)
 branch_are_entries es v child root there room name addr = ((room, child_is_entry v child root (omega (arith, there, room)) name addr), tt)
 
@@ -245,20 +273,23 @@ snapshot_are_entries es v child root e at is room name addr =
 
 -- Places
 
-pub entry_there : (es : List CatEntry) (v : ℕ) → v < length es → (e : CatEntry) × (slice_get es v ≡ Some e)
+pub entry_there : (es : List CatEntry) (v : ℕ) → v < length es
+    → (e : CatEntry) × (slice_get es v ≡ Some e)
 entry_there [] v lt = absurd (omega (arith, lt))
 entry_there (e ∷ es) zero lt = (e, refl)
 entry_there (e ∷ es) (suc v) lt = entry_there es v (omega (arith, lt))
 
 -- the entry of a version is one
-pub entry_right : (es : List CatEntry) (v : ℕ) (e : CatEntry) → IsCatalog es → slice_get es v ≡ Some e → IsEntry e
+pub entry_right : (es : List CatEntry) (v : ℕ) (e : CatEntry) → IsCatalog es
+    → slice_get es v ≡ Some e → IsEntry e
 entry_right es v e is at =
     let found = get_or_from_slice_get es v e e at in
     subst IsEntry found (is.1 v e (slice_get_within es v e at))
 
 -- Refusals, as the code comes to them
 
-both_named : (hs : List Head) (name : List ℕ) → is_some (head_named hs name) ≡ is_some (number_named hs name)
+both_named : (hs : List Head) (name : List ℕ)
+    → is_some (head_named hs name) ≡ is_some (number_named hs name)
 both_named [] name = refl
 both_named (h ∷ hs) name = go (bytes_eq h.name name) (both_named hs name)
   where
@@ -276,17 +307,20 @@ numbers_some None = refl
 numbers_some (Some v) = refl
 
 -- why no child of this name can be made, where its name was looked up
-pub child_refused : (es : List CatEntry) (child : List ℕ) (found : Option VersionNo) → option_map (λ v. v.0) found ≡ number_named (heads_in es) child
+pub child_refused : (es : List CatEntry) (child : List ℕ) (found : Option VersionNo)
+    → option_map (λ v. v.0) found ≡ number_named (heads_in es) child
     → child_refusal (heads_in es) child ≡ (if is_some found then Some NameTaken else (if nat_le 64 (length es) then Some VersionsFull else None))
 child_refused es child found number =
     let taken : is_some (head_named (heads_in es) child) ≡ is_some found =
     both_named (heads_in es) child ∙ ap is_some (sym number) ∙ numbers_some found in
     let long = length-map es entry_head in
-    let reply : Bool → ℕ → Option Reply = λ b n. if b then Some NameTaken else (if nat_le 64 n then Some VersionsFull else None) in
+    let reply : Bool → ℕ
+    → Option Reply = λ b n. if b then Some NameTaken else (if nat_le 64 n then Some VersionsFull else None) in
     ap (λ b. reply b (length (heads_in es))) taken ∙ ap (λ n. reply (is_some found) n) long
 
 -- the state of the first entry of a name
-pub frozen_state : (es : List CatEntry) (name : List ℕ) (v : ℕ) (d : CatEntry) → IsFirstNamed es name v → slice_get es v ≡ Some d
+pub frozen_state : (es : List CatEntry) (name : List ℕ) (v : ℕ) (d : CatEntry)
+    → IsFirstNamed es name v → slice_get es v ≡ Some d
     → Some d.frozen ≡ option_map (λ (h : Head). h.frozen) (head_named (heads_in es) name)
 frozen_state es name v d f at =
     let both : Some f.entry ≡ Some d = sym f.there ∙ at in
@@ -295,7 +329,8 @@ frozen_state es name v d f at =
 
 -- the entries of a snapshot, as the code puts them together
 pub snapshot_is : (es : List CatEntry) (v : VersionNo) (child : List ℕ) (root : Addr) (e written made : CatEntry) (n : ℕ) → slice_get es v.0 ≡ Some e → written ≡ frozen_entry e
-    → made ≡ child_entry v child root → n ≡ length es → numbered v.0 written ∷ numbered n made ∷ [] ≡ snapshot_entries es v child root
+    → made ≡ child_entry v child root → n ≡ length es
+    → numbered v.0 written ∷ numbered n made ∷ [] ≡ snapshot_entries es v child root
 snapshot_is es v child root e written made n at is child_is number =
     ap (λ (x : CatEntry). numbered v.0 x ∷ numbered n made ∷ []) is
     ∙ ap (λ (x : CatEntry). numbered v.0 (frozen_entry e) ∷ numbered n x ∷ []) child_is

@@ -59,4 +59,5 @@ pub record IsFirstNamed (entries : List CatEntry) (name : List ℕ) (version : �
   pub entry : CatEntry
   pub there : slice_get entries version ≡ Some entry
   pub named : entry.name ≡ name
-  pub first : (w : ℕ) → (e : CatEntry) → w < version → slice_get entries w ≡ Some e → e.name ≡ name → ⊥
+  pub first : (w : ℕ) → (e : CatEntry) → w < version → slice_get entries w ≡ Some e → e.name ≡ name
+      → ⊥

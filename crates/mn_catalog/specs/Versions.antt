@@ -45,10 +45,13 @@ AreEntries written = AllByRecursion (λ w. (w.0.0 < max_entries) × IsEntry w.1)
 -- a Snapshot or a Branch of the version, by its name, with this child is not refused
 abbrev pub AdmitsChild : (List ℕ → List ℕ → Op) → List CatEntry → ℕ → List ℕ → Type 0
 AdmitsChild op entries v child =
-    (e : CatEntry) → slice_get entries v ≡ Some e → refusal (heads_in entries) (op e.name child) ≡ None
+    (e : CatEntry) → slice_get entries v ≡ Some e
+    → refusal (heads_in entries) (op e.name child) ≡ None
 
--- in a store of these versions, where no earlier one has the version's name, they are the versions that the operation makes
-abbrev pub MakesVersion : (List ℕ → List ℕ → Op) → List CatEntry → ℕ → List ℕ → List Numbered → Type 0
+-- in a store of these versions, where no earlier one has the version's name, they are the versions
+-- that the operation makes
+abbrev pub MakesVersion : (List ℕ → List ℕ → Op) → List CatEntry → ℕ → List ℕ → List Numbered
+    → Type 0
 MakesVersion op entries v child written =
     (e : CatEntry) (store : Store) → slice_get entries v ≡ Some e
     → number_named (heads_in entries) e.name ≡ Some v → heads_of store ≡ heads_in entries

@@ -1,5 +1,5 @@
--- No page of a forest is higher than 14: a page of height h has 2^h leaves below it, which stand at different addresses since their ranges lie apart,
--- and all nodes together have 2^15 slots.
+-- No page of a forest is higher than 14: a page of height h has 2^h leaves below it, which stand at
+-- different addresses since their ranges lie apart, and all nodes together have 2^15 slots.
 use Rattle.std.proofs.Common.{◌≡◌, ℕ, zero, suc, ◌+◌, ◌*◌, ◌<◌, ◌≤◌, ◌⊎◌, inl, inr, Bool, true, false, ◌||◌, List, [], ◌∷◌, ◌++◌, length, Option, Some, None, refl, subst, sym, ap, ◌∙◌, arith, slice_get}
 use Rattle.std.specs.Prelude.{nat_lt}
 use Rattle.std.specs.List.{AllByRecursion, IsDistinct, list_any}
@@ -29,11 +29,13 @@ abbrev BelowBound : List ℕ → Option (List ℕ) → Type 0
 BelowBound key None = Unit {0}
 BelowBound key (Some bound) = Below key bound
 
-below_bound_is : (key : List ℕ) (high : Option (List ℕ)) → below_bound key high ≡ true → BelowBound key high
+below_bound_is : (key : List ℕ) (high : Option (List ℕ)) → below_bound key high ≡ true
+    → BelowBound key high
 below_bound_is key None is = tt
 below_bound_is key (Some bound) is = lt_below key bound is
 
-bound_up : (key mid : List ℕ) (high : Option (List ℕ)) → Below key mid → BelowBound mid high → BelowBound key high
+bound_up : (key mid : List ℕ) (high : Option (List ℕ)) → Below key mid → BelowBound mid high
+    → BelowBound key high
 bound_up key mid None low up = tt
 bound_up key mid (Some bound) low up = below_at_most key mid bound low (below_is_at_most mid bound up)
 
@@ -53,7 +55,8 @@ record LeafAt (f : Forest) (low : List ℕ) (high : Option (List ℕ)) (number :
   pub from : AtMost low page.low
   pub to : BelowBound page.low high
 
-in_slots : (f : Forest) → IsForest f → (addr : Addr) (p : Page) → page_at f addr ≡ Some p → (addr.node.0 < 8) × (addr.slot < 4096)
+in_slots : (f : Forest) → IsForest f → (addr : Addr) (p : Page) → page_at f addr ≡ Some p
+    → (addr.node.0 < 8) × (addr.slot < 4096)
 in_slots f s addr p there = option_and_then_some (λ (pages : List Page). slice_get pages addr.slot) (slice_get f.pages addr.node.0) p there (λ pages at here. (
   (let few = s.laid.nodes.1 in let low = slice_get_within f.pages addr.node.0 pages at in omega arith),
   (let few : length pages ≤ 4096 = all_at_place (λ (ps : List Page). length ps ≤ 4096) f.pages addr.node.0 pages s.laid.counts at in let low = slice_get_within pages addr.slot p here in omega arith),
@@ -63,7 +66,8 @@ in_slots f s addr p there = option_and_then_some (λ (pages : List Page). slice_
 same_number : (n s m t : ℕ) → s < 4096 → t < 4096 → 4096 * n + s ≡ 4096 * m + t → (n ≡ m) × (s ≡ t)
 same_number n s m t low below is = (omega arith, omega arith)
 
-one_page : (f : Forest) (s : IsForest f) (a b : Addr) (p q : Page) → page_at f a ≡ Some p → page_at f b ≡ Some q → slot_number a ≡ slot_number b → p ≡ q
+one_page : (f : Forest) (s : IsForest f) (a b : Addr) (p q : Page) → page_at f a ≡ Some p
+    → page_at f b ≡ Some q → slot_number a ≡ slot_number b → p ≡ q
 one_page f s a b p q there here is =
     let same : a ≡ b = same_addr a b (same_number a.node.0 a.slot b.node.0 b.slot (in_slots f s a p there).1 (in_slots f s b q here).1 is) in
     some (sym there ∙ (ap (page_at f) same ∙ here))
@@ -72,7 +76,8 @@ one_page f s a b p q there here is =
     some e = cc
 
 -- leaves of ranges that lie apart stand in different slots
-apart_slots : (f : Forest) → IsForest f → (low mid : List ℕ) (high : Option (List ℕ)) (a b : ℕ) → LeafAt f low (Some mid) a → LeafAt f mid high b → eqb a b ≡ false
+apart_slots : (f : Forest) → IsForest f → (low mid : List ℕ) (high : Option (List ℕ)) (a b : ℕ)
+    → LeafAt f low (Some mid) a → LeafAt f mid high b → eqb a b ≡ false
 apart_slots f s low mid high a b x y = by (eqb_tells a b)
   where
     by : ((eqb a b ≡ true) × (a ≡ b)) ⊎ ((eqb a b ≡ false) × (a ≡ b → ⊥)) → eqb a b ≡ false
@@ -81,11 +86,14 @@ apart_slots f s low mid high a b x y = by (eqb_tells a b)
         absurd (apart mid y.page.low y.from (subst (λ (p : Page). Below p.low mid) one x.to))
     by (inr differ) = differ.0
 
-all_more : {X : Type 0} (P Q : X → Type 0) → ((x : X) → P x → Q x) → (xs : List X) → AllByRecursion P xs → AllByRecursion Q xs
+all_more : {X : Type 0} (P Q : X → Type 0) → ((x : X) → P x → Q x) → (xs : List X)
+    → AllByRecursion P xs → AllByRecursion Q xs
 all_more P Q f [] all = tt
 all_more P Q f (x ∷ xs) all = (f x all.0, all_more P Q f xs all.1)
 
-distinct_append : (P Q : ℕ → Type 0) → ((a b : ℕ) → P a → Q b → eqb a b ≡ false) → (xs ys : List ℕ) → AllByRecursion P xs → AllByRecursion Q ys → IsDistinct eqb xs → IsDistinct eqb ys → IsDistinct eqb (xs ++ ys)
+distinct_append : (P Q : ℕ → Type 0) → ((a b : ℕ) → P a → Q b → eqb a b ≡ false) → (xs ys : List ℕ)
+    → AllByRecursion P xs → AllByRecursion Q ys → IsDistinct eqb xs → IsDistinct eqb ys
+    → IsDistinct eqb (xs ++ ys)
 unfolding IsDistinct
 distinct_append P Q differ [] ys all those one other = other
 distinct_append P Q differ (x ∷ xs) ys all those one other = (
@@ -104,12 +112,17 @@ record LeavesBelow (f : Forest) (low : List ℕ) (high : Option (List ℕ)) (hei
   pub leaves : AllByRecursion (LeafAt f low high) numbers
   pub distinct : IsDistinct eqb numbers
 
-wider : (f : Forest) (low from : List ℕ) (high to : Option (List ℕ)) → AtMost low from → ((key : List ℕ) → BelowBound key to → BelowBound key high) → (n : ℕ) → LeafAt f from to n → LeafAt f low high n
+wider : (f : Forest) (low from : List ℕ) (high to : Option (List ℕ)) → AtMost low from
+    → ((key : List ℕ) → BelowBound key to → BelowBound key high) → (n : ℕ) → LeafAt f from to n
+    → LeafAt f low high n
 wider f low from high to down up n l = record { addr = l.addr; page = l.page; there = l.there; number_is = l.number_is; leaf = l.leaf; from = at_most_all low from l.page.low down l.from; to = up l.page.low l.to }
 
 -- the leaves below two ranges, one after the other
-both : (f : Forest) → IsForest f → (low mid : List ℕ) (high to : Option (List ℕ)) (height : ℕ) → AtMost low mid → BelowBound mid high → ((key : List ℕ) → BelowBound key to → BelowBound key high)
-    → LeavesBelow f low (Some mid) height → LeavesBelow f mid to height → LeavesBelow f low high (suc height)
+both : (f : Forest) → IsForest f → (low mid : List ℕ) (high to : Option (List ℕ)) (height : ℕ)
+    → AtMost low mid → BelowBound mid high
+    → ((key : List ℕ) → BelowBound key to → BelowBound key high)
+    → LeavesBelow f low (Some mid) height → LeavesBelow f mid to height
+    → LeavesBelow f low high (suc height)
 both f s low mid high to height down here up one other = record {
   numbers = one.numbers ++ other.numbers;
   many = length-append one.numbers other.numbers ∙ (ap (λ k. k + length other.numbers) one.many ∙ ap (λ k. doubled height + k) other.many);
@@ -119,7 +132,8 @@ both f s low mid high to height down here up one other = record {
   distinct = distinct_append (LeafAt f low (Some mid)) (LeafAt f mid to) (apart_slots f s low mid to) one.numbers other.numbers one.leaves other.leaves one.distinct other.distinct;
 }
 
-leaves_below : (f : Forest) → IsForest f → (height : ℕ) (addr : Addr) (p : Page) → page_at f addr ≡ Some p → height_of p.body ≡ height → LeavesBelow f p.low p.high height
+leaves_below : (f : Forest) → IsForest f → (height : ℕ) (addr : Addr) (p : Page)
+    → page_at f addr ≡ Some p → height_of p.body ≡ height → LeavesBelow f p.low p.high height
 unfolding IsDistinct
 leaves_below f s zero addr p there level = record {
   numbers = slot_number addr ∷ [];
@@ -164,11 +178,13 @@ many_leaves (suc n) high = by (low_or_high n 15) (λ more. many_leaves n more)
     by (inl last) deeper = let is : n ≡ 14 = omega arith in subst (λ (k : ℕ). 32768 ≤ doubled k + doubled k) (sym is) (omega arith)
     by (inr more) deeper = let most = deeper more in omega arith
 
-all_below : (f : Forest) → IsForest f → (low : List ℕ) (high : Option (List ℕ)) (ns : List ℕ) → AllByRecursion (LeafAt f low high) ns → (q : ℕ) → list_any (eqb q) ns ≡ true → q < 32768
+all_below : (f : Forest) → IsForest f → (low : List ℕ) (high : Option (List ℕ)) (ns : List ℕ)
+    → AllByRecursion (LeafAt f low high) ns → (q : ℕ) → list_any (eqb q) ns ≡ true → q < 32768
 all_below f s low high [] all q is = absurd cc
 all_below f s low high (n ∷ ns) all q is = by (eqb q n) refl is (λ h. all_below f s low high ns all.1 q h)
   where
-    by : (t : Bool) → eqb q n ≡ t → (t || list_any (eqb q) ns) ≡ true → (list_any (eqb q) ns ≡ true → q < 32768) → q < 32768
+    by : (t : Bool) → eqb q n ≡ t → (t || list_any (eqb q) ns) ≡ true
+        → (list_any (eqb q) ns ≡ true → q < 32768) → q < 32768
     by true e h deeper =
         let same = eqb-true q n e in
         let here = in_slots f s all.0.addr all.0.page all.0.there in
@@ -179,20 +195,26 @@ all_below f s low high (n ∷ ns) all q is = by (eqb q n) refl is (λ h. all_bel
     by false e h deeper = deeper h
 
 -- the page stands in none of its leaves' slots
-other_slots : (f : Forest) → IsForest f → (addr : Addr) (p : Page) → page_at f addr ≡ Some p → 1 ≤ height_of p.body → (low : List ℕ) (high : Option (List ℕ)) (ns : List ℕ) → AllByRecursion (LeafAt f low high) ns → AllByRecursion (λ n. eqb (slot_number addr) n ≡ false) ns
+other_slots : (f : Forest) → IsForest f → (addr : Addr) (p : Page) → page_at f addr ≡ Some p
+    → 1 ≤ height_of p.body → (low : List ℕ) (high : Option (List ℕ)) (ns : List ℕ)
+    → AllByRecursion (LeafAt f low high) ns
+    → AllByRecursion (λ n. eqb (slot_number addr) n ≡ false) ns
 other_slots f s addr p there inner low high ns all = all_more (LeafAt f low high) (λ n. eqb (slot_number addr) n ≡ false) differ ns all
   where
     differ : (n : ℕ) → LeafAt f low high n → eqb (slot_number addr) n ≡ false
     differ n l = by (eqb_tells (slot_number addr) n)
       where
-        by : ((eqb (slot_number addr) n ≡ true) × (slot_number addr ≡ n)) ⊎ ((eqb (slot_number addr) n ≡ false) × (slot_number addr ≡ n → ⊥)) → eqb (slot_number addr) n ≡ false
+        by : ((eqb (slot_number addr) n ≡ true) × (slot_number addr ≡ n))
+            ⊎ ((eqb (slot_number addr) n ≡ false) × (slot_number addr ≡ n → ⊥))
+            → eqb (slot_number addr) n ≡ false
         by (inl same) =
             let one : p ≡ l.page = one_page f s addr l.addr p l.page there l.there (same.1 ∙ l.number_is) in
             let level : height_of p.body ≡ 0 = ap (λ (q : Page). height_of q.body) one ∙ l.leaf in
             absurd (omega arith)
         by (inr differ) = differ.0
 
-pub forest_low : (f : Forest) → IsForest f → (addr : Addr) (p : Page) → page_at f addr ≡ Some p → height_of p.body ≤ 14
+pub forest_low : (f : Forest) → IsForest f → (addr : Addr) (p : Page) → page_at f addr ≡ Some p
+    → height_of p.body ≤ 14
 unfolding IsDistinct
 forest_low f s addr p there = by (low_or_high (height_of p.body) 15)
   where
@@ -209,10 +231,13 @@ forest_low f s addr p there = by (low_or_high (height_of p.body) 15)
         let most = many_leaves (height_of p.body) high in
         absurd (omega arith)
       where
-        within : (ns : List ℕ) → slot_number addr < 32768 → ((q : ℕ) → list_any (eqb q) ns ≡ true → q < 32768) → (q : ℕ) → list_any (eqb q) (slot_number addr ∷ ns) ≡ true → q < 32768
+        within : (ns : List ℕ) → slot_number addr < 32768
+            → ((q : ℕ) → list_any (eqb q) ns ≡ true → q < 32768) → (q : ℕ)
+            → list_any (eqb q) (slot_number addr ∷ ns) ≡ true → q < 32768
         within ns own rest q is = at (eqb q (slot_number addr)) refl is
           where
-            at : (t : Bool) → eqb q (slot_number addr) ≡ t → (t || list_any (eqb q) ns) ≡ true → q < 32768
+            at : (t : Bool) → eqb q (slot_number addr) ≡ t → (t || list_any (eqb q) ns) ≡ true
+                → q < 32768
             at true e h = let same : q ≡ slot_number addr = eqb-true q (slot_number addr) e in omega arith
             at false e h = rest q h
 

@@ -24,7 +24,8 @@ node_count f = length f.pages
 
 -- Memories
 
--- what the spaces of all nodes have: the entries, and for each node its count and its pages, which need not be as many yet
+-- what the spaces of all nodes have: the entries, and for each node its count and its pages, which
+-- need not be as many yet
 pub record Laid : Type 0 where
   pub entries : List CatEntry
   pub counts : List ℕ

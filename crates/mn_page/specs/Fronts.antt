@@ -26,7 +26,8 @@ abbrev pub NamesLongest : (List ℕ → Type 0) → List ℕ → PageError → T
 NamesLongest IsFront bytes (BadPage at) = IsLongest IsFront bytes at
 NamesLongest IsFront bytes NoMemory = ⊤
 
--- the byte at this place of an entry may be this one: `some` says whether a byte before it isn't zero, `count` how long the name is
+-- the byte at this place of an entry may be this one: `some` says whether a byte before it isn't
+-- zero, `count` how long the name is
 abbrev pub entry_goes_on : ℕ → Bool → ℕ → ℕ → Bool
 entry_goes_on at some count b =
     if nat_lt at 7 then true

@@ -1,5 +1,5 @@
--- When pages make a tree, and when a memory holds a store. Where a page stands is a function of addresses, so that the pages of a
--- memory and pages that were read share every word.
+-- When pages make a tree, and when a memory holds a store. Where a page stands is a function of
+-- addresses, so that the pages of a memory and pages that were read share every word.
 use Rattle.std.specs.Prelude.{◌≡◌, ℕ, ◌+◌, ◌<◌, ◌≤◌, Bool, IsTrue, List, [], length, filter, Option, Some, None, slice_get}
 use Rattle.std.specs.List.{AllByRecursion}
 use Rattle.std.specs.Option.{option_map_or, option_and_then}
@@ -47,7 +47,8 @@ pub record IsRoot (entries : List CatEntry) (at : PagesAt) (v : ℕ) : Type 0 wh
   pub low : page.low ≡ []
   pub high : page.high ≡ None
 
--- a page's versions are versions, and those that it was copied for descend from the one that it was made in
+-- a page's versions are versions, and those that it was copied for descend from the one that it was
+-- made in
 pub record HasVersions (entries : List CatEntry) (p : Page) : Type 0 where
   pub made : p.made.0 < length entries
   pub copied : AllByRecursion (λ w. (w < length entries) × IsTrue (is_ancestor (parents_of (heads_in entries)) p.made.0 w)) (versions_in p.copied)
@@ -59,7 +60,8 @@ pub record IsChild (entries : List CatEntry) (at : PagesAt) (p : Page) (c : Chil
   pub low : page.low ≡ c.low
   pub high : page.high ≡ c.high
   pub height : height_of page.body + 1 ≡ height_of p.body
-  pub serves : (v : ℕ) → v < length entries → IsTrue (page_serves entries v p) → IsTrue (page_serves entries v page)
+  pub serves : (v : ℕ) → v < length entries → IsTrue (page_serves entries v p)
+      → IsTrue (page_serves entries v page)
 
 -- the page at this address serves the version at this height, and covers the key
 pub record IsOnPath (entries : List CatEntry) (at : PagesAt) (v height : ℕ) (key : List ℕ) (addr : Addr) (page : Page) : Type 0 where
@@ -80,16 +82,22 @@ pub record IsTree (entries : List CatEntry) (at : PagesAt) : Type 0 where
   pub roots : (v : ℕ) → v < length entries → IsRoot entries at v
   pub pages : (addr : Addr) (p : Page) → at addr ≡ Some p → HasVersions entries p
   -- up to the root's height, each key is covered by exactly one page that serves the version
-  pub partition : (v height : ℕ) → v < length entries → height ≤ root_height entries at v → (key : List ℕ) → OneOnPath entries at v height key
-  pub no_higher : (v : ℕ) (addr : Addr) (p : Page) → v < length entries → at addr ≡ Some p → IsTrue (page_serves entries v p) → height_of p.body ≤ root_height entries at v
-  pub children : (addr : Addr) (p : Page) → at addr ≡ Some p → AllByRecursion (IsChild entries at p) (children_of p)
+  pub partition : (v height : ℕ) → v < length entries → height ≤ root_height entries at v
+      → (key : List ℕ) → OneOnPath entries at v height key
+  pub no_higher : (v : ℕ) (addr : Addr) (p : Page) → v < length entries → at addr ≡ Some p
+      → IsTrue (page_serves entries v p) → height_of p.body ≤ root_height entries at v
+  pub children : (addr : Addr) (p : Page) → at addr ≡ Some p
+      → AllByRecursion (IsChild entries at p) (children_of p)
 
--- the tree shows the store: its versions, and in each leaf that serves a version just the version's pairs of its range
+-- the tree shows the store: its versions, and in each leaf that serves a version just the version's
+-- pairs of its range
 pub record ShowsStore (entries : List CatEntry) (at : PagesAt) (store : Store) : Type 0 where
   pub heads : heads_of store ≡ heads_in entries
   pub ascending : AllByRecursion (λ v. IsTrue (is_ascending v.pairs)) store
-  pub leaves : (v : ℕ) (version : StoreVersion) (addr : Addr) (p : Page) → slice_get store v ≡ Some version → at addr ≡ Some p → height_of p.body ≡ 0
-      → IsTrue (page_serves entries v p) → filter (λ pair. page_covers pair.key p) version.pairs ≡ pairs_in p.body
+  pub leaves : (v : ℕ) (version : StoreVersion) (addr : Addr) (p : Page)
+      → slice_get store v ≡ Some version → at addr ≡ Some p → height_of p.body ≡ 0
+      → IsTrue (page_serves entries v p)
+      → filter (λ pair. page_covers pair.key p) version.pairs ≡ pairs_in p.body
 
 -- Memories
 

@@ -1,4 +1,5 @@
--- The plain model of the tree: what the steps of a transaction make of the pages of their paths, and which new slots that takes.
+-- The plain model of the tree: what the steps of a transaction make of the pages of their paths,
+-- and which new slots that takes.
 use Rattle.std.specs.Prelude.{ℕ, zero, suc, ◌+◌, ◌-◌, ◌*◌, ◌^◌, Bool, ◌||◌, nat_lt, nat_le, nat_eq, List, [], ◌∷◌, ◌++◌, length, map, sum, Option, Some, None, if◌then◌else◌, slice_index_or, slice_set, bit_or}
 use Rattle.std.specs.List.{list_any, flat_map, range_with_len}
 use Rattle.std.specs.Option.{is_some, option_map, option_and_then, option_to_list}
@@ -40,7 +41,8 @@ abbrev pub held_with : List Held → Addr → Page → List Held
 held_with [] addr page = record { addr = addr; page = page } ∷ []
 held_with (h ∷ hs) addr page = if addr_same h.addr addr then record { addr = addr; page = page } ∷ hs else h ∷ held_with hs addr page
 
--- the pages as the steps left them, the old ones that were changed as they were first changed, and how many new ones there are
+-- the pages as the steps left them, the old ones that were changed as they were first changed, and
+-- how many new ones there are
 pub record Overlay : Type 0 where
   pub pages : List Held
   pub changed : List Addr
@@ -108,7 +110,8 @@ body_with (Leaf pairs) addr now more = Leaf pairs
 body_with (Inner height first rest) addr now more =
     if addr_same first addr then Inner height now (option_to_list more ++ rest) else Inner height first (rest_with rest addr now more)
 
--- what a page's change asks of its parent: nothing, or another child in its place, and perhaps a further one after it
+-- what a page's change asks of its parent: nothing, or another child in its place, and perhaps a
+-- further one after it
 pub data Asked : Type 0 where
   Nothing : Asked
   Child_is : (now : Addr) → (more : Option Child) → Asked
@@ -196,7 +199,8 @@ abbrev pub path_pairs : List Held → List Pair
 path_pairs [] = []
 path_pairs (h ∷ above) = pairs_in h.page.body
 
--- the steps of a transaction on the version with this root; none where a page of a path isn't there. A Check that isn't met brings the old pages back
+-- the steps of a transaction on the version with this root; none where a page of a path isn't
+-- there. A Check that isn't met brings the old pages back
 abbrev pub steps_on : VersionNo → Addr → Overlay → Overlay → List Step → Option Overlay
 steps_on v root old o [] = Some o
 steps_on v root old o (step ∷ steps) =
@@ -263,6 +267,7 @@ placed_old slots pages addr = option_to_list (option_map (λ p. record { addr = 
 abbrev pub placed_new : List Addr → List Held → ℕ → List Held
 placed_new slots pages n = option_to_list (option_map (λ p. record { addr = placed_addr slots (new_addr n); page = placed_page slots p.seq p }) (held_at pages (new_addr n)))
 
--- what a plan writes into slots: the changed pages as they joined, then the new ones as they were asked for
+-- what a plan writes into slots: the changed pages as they joined, then the new ones as they were
+-- asked for
 abbrev pub placed_pages : List Addr → Overlay → List Held
 placed_pages slots o = flat_map (placed_old slots o.pages) o.changed ++ flat_map (placed_new slots o.pages) (range_with_len 0 o.fresh)

@@ -18,7 +18,8 @@ child_from found [] key = found
 child_from found (c ∷ cs) key = if key_lt key c.separator then found else child_from c.addr cs key
 
 -- how a walk goes on behind a page that is one higher than `left`
-abbrev pub walk_after : List (Option ℕ) → ℕ → List Held → List ℕ → ℕ → Held → List Held → Next → Walk
+abbrev pub walk_after : List (Option ℕ) → ℕ → List Held → List ℕ → ℕ → Held → List Held → Next
+    → Walk
 walk_after parents v pages key left h above (next.Missing addr) = Missing addr (Some (left + 1))
 walk_after parents v pages key left h above (next.Wrong addr) = Wrong addr
 walk_after parents v pages key left h above (next.Down held) = walk_down parents v left pages key (held_of held.now) (h ∷ above)

@@ -1,4 +1,5 @@
--- The laws of a transaction: what its moves find and leave, though pages that it only passed may be out of date.
+-- The laws of a transaction: what its moves find and leave, though pages that it only passed may be
+-- out of date.
 use Rattle.std.specs.Prelude.{ℕ, ◌≡◌, ◌≤◌, ◌<◌, ◌⊎◌, ◌&&◌, ◌||◌, true, false, List, [], ◌∷◌, ◌++◌, length, map, Option, Some, None, slice_get, slice_set, IsTrue, ⊤}
 use Rattle.std.specs.List.{AllByRecursion, list_any}
 use Rattle.mn_base.specs.Store.{Store, StoreVersion, is_change, step_key, ran, steps_run}
@@ -26,11 +27,15 @@ Agrees parents entries v = (p : Page) → is_live parents v p ≡ page_serves en
 
 -- What is left
 
--- where the pages of the read set stand in the memory as they came in, the steps leave a draft of the store with the steps done; other pages that came in may be out of date
+-- where the pages of the read set stand in the memory as they came in, the steps leave a draft of
+-- the store with the steps done; other pages that came in may be out of date
 abbrev pub MovesKeepTree : Type 0
 MovesKeepTree =
     (entries : List CatEntry) (at : PagesAt) (store : Store) (parents : List (Option ℕ)) (v : VersionNo) (version : StoreVersion) (entry : CatEntry) (moves : List Move) (d : Drafted) → IsShown entries at store → ((n : ℕ) → at (new_addr n) ≡ None)
-    → Agrees parents entries v.0 → slice_get store v.0 ≡ Some version → slice_get entries v.0 ≡ Some entry → (entry.frozen && list_any is_change (done_in moves)) ≡ false → LeadsTo parents v entry.root no_pages moves d
+    → Agrees parents entries v.0 → slice_get store v.0 ≡ Some version
+    → slice_get entries v.0 ≡ Some entry
+    → (entry.frozen && list_any is_change (done_in moves)) ≡ false
+    → LeadsTo parents v entry.root no_pages moves d
     → AllByRecursion (λ h. is_noted d.read h.addr ≡ true → at h.addr ≡ Some h.page) (comes_in moves)
     → IsDraft entries at (slice_set store v.0 (record version { pairs = pairs_after version.pairs (done_in moves) })) (only_at d.read d.overlay)
 
@@ -42,16 +47,23 @@ pub record AreTold (entries : List CatEntry) (at : PagesAt) (v : VersionNo) (pai
   pub run : done_in moves ≡ steps_run pairs steps
   -- the leaves of the read set are the version's leaves of the keys of these steps
   pub leaves : (addr : Addr) → is_noted (leaves_at moves d.read) addr ≡ true
-      → (page : Page) × (at addr ≡ Some page) × (height_of page.body ≡ 0) × IsTrue (page_serves entries v.0 page) × IsTrue (list_any (λ step. page_covers (step_key step) page) (done_in moves))
-  pub all : (addr : Addr) (page : Page) → at addr ≡ Some page → height_of page.body ≡ 0 → IsTrue (page_serves entries v.0 page)
-      → IsTrue (list_any (λ step. page_covers (step_key step) page) (done_in moves)) → is_noted (leaves_at moves d.read) addr ≡ true
+      → (page : Page) × (at addr ≡ Some page) × (height_of page.body ≡ 0)
+      × IsTrue (page_serves entries v.0 page)
+      × IsTrue (list_any (λ step. page_covers (step_key step) page) (done_in moves))
+  pub all : (addr : Addr) (page : Page) → at addr ≡ Some page → height_of page.body ≡ 0
+      → IsTrue (page_serves entries v.0 page)
+      → IsTrue (list_any (λ step. page_covers (step_key step) page) (done_in moves))
+      → is_noted (leaves_at moves d.read) addr ≡ true
 
 -- where the leaves of the read set stand in the memory as they came in
 abbrev pub MovesTell : Type 0
 MovesTell =
     (entries : List CatEntry) (at : PagesAt) (store : Store) (parents : List (Option ℕ)) (v : VersionNo) (version : StoreVersion) (root : Addr) (moves : List Move) (d : Drafted) (steps : List Step) (reply : Reply) → IsShown entries at store
-    → ((n : ℕ) → at (new_addr n) ≡ None) → Agrees parents entries v.0 → slice_get store v.0 ≡ Some version → LeadsTo parents v root no_pages moves d → AreAnswered parents v root no_pages moves 1 [] steps reply
-    → AllByRecursion (λ a. at a ≡ came_at moves a) (leaves_at moves d.read) → AreTold entries at v version.pairs moves d steps reply
+    → ((n : ℕ) → at (new_addr n) ≡ None) → Agrees parents entries v.0
+    → slice_get store v.0 ≡ Some version → LeadsTo parents v root no_pages moves d
+    → AreAnswered parents v root no_pages moves 1 [] steps reply
+    → AllByRecursion (λ a. at a ≡ came_at moves a) (leaves_at moves d.read)
+    → AreTold entries at v version.pairs moves d steps reply
 
 -- The read set
 
@@ -63,11 +75,17 @@ AreOnce (a ∷ addrs) = (is_noted addrs a ≡ false) × AreOnce addrs
 -- each page of the read set came in, and is a leaf that a step touched or was changed
 pub record AreReads (moves : List Move) (d : Drafted) : Type 0 where
   pub once : AreOnce d.read
-  pub came : (addr : Addr) → is_noted d.read addr ≡ true → (page : Page) × (came_at moves addr ≡ Some page) × IsPage page × IsAddr addr × ((height_of page.body ≡ 0) ⊎ (is_noted d.overlay.changed addr ≡ true))
+  pub came : (addr : Addr) → is_noted d.read addr ≡ true
+      → (page : Page) × (came_at moves addr ≡ Some page) × IsPage page × IsAddr addr
+      × ((height_of page.body ≡ 0) ⊎ (is_noted d.overlay.changed addr ≡ true))
   pub changed : (addr : Addr) → is_noted d.overlay.changed addr ≡ true → is_noted d.read addr ≡ true
-  -- each page that was changed, and each new one, is held; a changed one has the number with which it came
-  pub held : (addr : Addr) → is_noted d.overlay.changed addr ≡ true → (was now : Page) × (came_at moves addr ≡ Some was) × (held_at d.overlay.pages addr ≡ Some now) × (now.seq ≡ was.seq)
-  pub new : (n : ℕ) → n < d.overlay.fresh → (page : Page) × (held_at d.overlay.pages (new_addr n) ≡ Some page) × (page.seq ≡ 1)
+  -- each page that was changed, and each new one, is held; a changed one has the number with which
+  -- it came
+  pub held : (addr : Addr) → is_noted d.overlay.changed addr ≡ true
+      → (was now : Page) × (came_at moves addr ≡ Some was)
+      × (held_at d.overlay.pages addr ≡ Some now) × (now.seq ≡ was.seq)
+  pub new : (n : ℕ) → n < d.overlay.fresh
+      → (page : Page) × (held_at d.overlay.pages (new_addr n) ≡ Some page) × (page.seq ≡ 1)
 
 abbrev pub MovesRead : Type 0
 MovesRead = (parents : List (Option ℕ)) (v : VersionNo) (root : Addr) (moves : List Move) (d : Drafted) → LeadsTo parents v root no_pages moves d → AreReads moves d
@@ -95,7 +113,8 @@ PlacedArePages =
 
 -- The plan's pages
 
--- the pages that a plan writes: changed ones as they joined the read set, then new ones in the slots given; they are in the grammar, and over the memory's pages they show the store
+-- the pages that a plan writes: changed ones as they joined the read set, then new ones in the
+-- slots given; they are in the grammar, and over the memory's pages they show the store
 pub record ArePlaced (entries : List CatEntry) (at : PagesAt) (after : Store) (moves : List Move) (d : Drafted) (slots : List Addr) : Type 0 where
   pub changed : List Held
   pub new : List Held
@@ -111,8 +130,12 @@ pub record ArePlaced (entries : List CatEntry) (at : PagesAt) (after : Store) (m
 abbrev pub MovesArePlaced : Type 0
 MovesArePlaced =
     (entries : List CatEntry) (at : PagesAt) (store : Store) (parents : List (Option ℕ)) (v : VersionNo) (version : StoreVersion) (entry : CatEntry) (moves : List Move) (d : Drafted) (slots : List Addr) → IsShown entries at store → ((n : ℕ) → at (new_addr n) ≡ None)
-    → Agrees parents entries v.0 → slice_get store v.0 ≡ Some version → slice_get entries v.0 ≡ Some entry → (entry.frozen && list_any is_change (done_in moves)) ≡ false → LeadsTo parents v entry.root no_pages moves d
-    → AllByRecursion (λ h. is_noted d.read h.addr ≡ true → at h.addr ≡ Some h.page) (comes_in moves) → v.0 < 64 → AllByRecursion IsStep (done_in moves) → length (done_in moves) ≤ 16
+    → Agrees parents entries v.0 → slice_get store v.0 ≡ Some version
+    → slice_get entries v.0 ≡ Some entry
+    → (entry.frozen && list_any is_change (done_in moves)) ≡ false
+    → LeadsTo parents v entry.root no_pages moves d
+    → AllByRecursion (λ h. is_noted d.read h.addr ≡ true → at h.addr ≡ Some h.page) (comes_in moves)
+    → v.0 < 64 → AllByRecursion IsStep (done_in moves) → length (done_in moves) ≤ 16
     → length slots ≡ d.overlay.fresh → AllByRecursion IsAddr slots → AreFreeSlots slots at
     → ArePlaced entries at (slice_set store v.0 (record version { pairs = pairs_after version.pairs (done_in moves) })) moves d slots
 

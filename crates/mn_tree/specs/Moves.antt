@@ -1,4 +1,5 @@
--- How a transaction comes to its pages: a page comes in where a step asks for it, and steps are done on the pages of their paths.
+-- How a transaction comes to its pages: a page comes in where a step asks for it, and steps are
+-- done on the pages of their paths.
 use Rattle.std.specs.Prelude.{ℕ, ◌≡◌, ◌+◌, ◌≤◌, ◌⊎◌, ◌||◌, Bool, true, false, nat_eq, List, [], ◌∷◌, ◌++◌, filter, Option, None}
 use Rattle.std.specs.Option.{option_map_or}
 use Rattle.mn_base.specs.Store.{value_at, is_unmet, step_key, pairs_after_step, noted_by}
@@ -20,7 +21,8 @@ pub data Move : Type 0 where
   Comes : (held : Held) → Move
   Does : (step : Step) → Move
 
--- a page that may come in: it is in its grammar, serves the version, isn't too high, and isn't held yet
+-- a page that may come in: it is in its grammar, serves the version, isn't too high, and isn't held
+-- yet
 pub record MayCome (parents : List (Option ℕ)) (v : VersionNo) (d : Drafted) (h : Held) : Type 0 where
   pub page : IsPage h.page
   pub addr : IsAddr h.addr
@@ -28,7 +30,8 @@ pub record MayCome (parents : List (Option ℕ)) (v : VersionNo) (d : Drafted) (
   pub height : height_of h.page.body ≤ max_height
   pub absent : held_at d.overlay.pages h.addr ≡ None
 
--- the moves lead from one draft to the other, where these are the parents of the versions; each step reaches the leaf of its key
+-- the moves lead from one draft to the other, where these are the parents of the versions; each
+-- step reaches the leaf of its key
 abbrev pub LeadsTo : List (Option ℕ) → VersionNo → Addr → Drafted → List Move → Drafted → Type 0
 LeadsTo parents v root d [] after = d ≡ after
 LeadsTo parents v root d (Comes h ∷ moves) after = MayCome parents v d h × LeadsTo parents v root (drafted_with d h.addr h.page) moves after
@@ -46,8 +49,10 @@ done_in [] = []
 done_in (Comes h ∷ moves) = done_in moves
 done_in (Does step ∷ moves) = step ∷ done_in moves
 
--- these steps are run one after another, up to the first Check that isn't met, and this is what they find: the first is the n-th, and this was found before
-abbrev pub AreAnswered : List (Option ℕ) → VersionNo → Addr → Drafted → List Move → ℕ → List (Option (List ℕ)) → List Step → Reply → Type 0
+-- these steps are run one after another, up to the first Check that isn't met, and this is what
+-- they find: the first is the n-th, and this was found before
+abbrev pub AreAnswered : List (Option ℕ) → VersionNo → Addr → Drafted → List Move → ℕ
+    → List (Option (List ℕ)) → List Step → Reply → Type 0
 AreAnswered parents v root d [] n found steps reply = (steps ≡ []) × (reply ≡ Values found)
 AreAnswered parents v root d (Comes h ∷ moves) n found steps reply = AreAnswered parents v root (drafted_with d h.addr h.page) moves n found steps reply
 AreAnswered parents v root d (Does step ∷ moves) n found [] reply = ⊥

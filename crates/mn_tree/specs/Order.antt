@@ -32,7 +32,8 @@ abbrev pub with_numbers : List Held → List ℕ → List ℕ → List ℕ
 with_numbers pages order [] = order
 with_numbers pages order (n ∷ ns) = with_numbers pages (with_number pages n order) ns
 
--- the new pages by number, in the order in which slots are asked for: from the leaves upwards, at one height from left to right
+-- the new pages by number, in the order in which slots are asked for: from the leaves upwards, at
+-- one height from left to right
 abbrev pub new_order : Drafted → List ℕ
 new_order d = with_numbers d.overlay.pages [] (range_with_len 0 d.overlay.fresh)
 

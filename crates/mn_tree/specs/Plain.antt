@@ -1,4 +1,5 @@
--- The moves of a try in the plain model of the tree, which has all pages that came in from the start.
+-- The moves of a try in the plain model of the tree, which has all pages that came in from the
+-- start.
 use Rattle.std.specs.Prelude.{ℕ, ◌≡◌, ◌≤◌, List, [], ◌∷◌, ◌++◌, length, Option, Some}
 use Rattle.mn_base.specs.declared.ids.Addr.{Addr}
 use Rattle.mn_base.specs.declared.ids.VersionNo.{VersionNo}

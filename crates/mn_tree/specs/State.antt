@@ -22,8 +22,9 @@ use Rattle.mn_tree.specs.declared.write.Write.{Write}
 use Rattle.mn_tree.specs.Walk.{Walk, Missing, Wrong, Reached, helds, walk}
 use Rattle.mn_tree.specs.Writes.{origins_in, step_writes, joined, all_joined, written}
 
--- the pages as the steps left them; the old pages of the read set in the order in which they joined, a leaf when it is first touched
--- and another page when it is first changed; and for each new page where the page was read that it was made of
+-- the pages as the steps left them; the old pages of the read set in the order in which they
+-- joined, a leaf when it is first touched and another page when it is first changed; and for each
+-- new page where the page was read that it was made of
 pub record Drafted : Type 0 where
   pub overlay : Overlay
   pub read : List Addr
@@ -45,7 +46,8 @@ all_drafted d (w ∷ ws) = all_drafted (draft_written d w) ws
 abbrev pub touched : Drafted → Addr → Drafted
 touched d leaf = record { overlay = d.overlay; read = joined d.read leaf; origins = d.origins }
 
--- the version tree by its parents, the version that is read and changed, its root, the pages, and what the last step asked for
+-- the version tree by its parents, the version that is read and changed, its root, the pages, and
+-- what the last step asked for
 pub record TreeState : Type 0 where
   pub parents : List (Option ℕ)
   pub version : VersionNo
@@ -71,7 +73,8 @@ abbrev pub is_below : Option ℕ → ℕ → Bool
 is_below None height = true
 is_below (Some above) height = nat_eq (height + 1) above
 
--- it serves the version, covers the key, is one height below the page that names it, and isn't too high
+-- it serves the version, covers the key, is one height below the page that names it, and isn't too
+-- high
 abbrev pub may_come_in : TreeState → Page → Wanted → Bool
 may_come_in s p w = serves s.parents p.made.0 p.copied s.version.0 && (page_covers w.key p && (is_below w.above (height_of p.body) && nat_le (height_of p.body) max_height))
 

@@ -1,4 +1,5 @@
--- Trees whose pages a transaction changes in memory: the pages that it holds, over those of the memory.
+-- Trees whose pages a transaction changes in memory: the pages that it holds, over those of the
+-- memory.
 use Rattle.std.specs.Prelude.{◌≡◌, ℕ, ◌≤◌, nat_lt, false, IsTrue, List, [], ◌∷◌, Option, Some, None, slice_get, Bool, true}
 use Rattle.std.specs.List.{list_all, list_any}
 use Rattle.std.specs.Option.{option_or}
@@ -28,7 +29,8 @@ abbrev pub children_after : Body → List Child
 children_after (Leaf pairs) = []
 children_after (Inner height first rest) = rest
 
--- what the grammar asks of a page's order: its fences and separators ascend, and it was copied for later versions alone
+-- what the grammar asks of a page's order: its fences and separators ascend, and it was copied for
+-- later versions alone
 pub record IsOrdered (p : Page) : Type 0 where
   pub rising : AreRising p.low (children_after p.body) p.high
   pub copied_above : IsTrue (list_all (nat_lt p.made.0) (versions_in p.copied))
@@ -64,5 +66,6 @@ pub record IsDraft (entries : List CatEntry) (at : PagesAt) (store : Store) (o :
   pub none_new : (n : ℕ) → at (new_addr n) ≡ None
   pub fresh : (n : ℕ) → o.fresh ≤ n → laid_over o.pages at (new_addr n) ≡ None
   -- old pages are as they were, but for those noted as changed
-  pub same : (x : Addr) → is_new x ≡ false → is_noted o.changed x ≡ false → laid_over o.pages at x ≡ at x
+  pub same : (x : Addr) → is_new x ≡ false → is_noted o.changed x ≡ false
+      → laid_over o.pages at x ≡ at x
   pub changed : (x : Addr) → is_noted o.changed x ≡ true → IsChanged at o x

@@ -1,4 +1,5 @@
--- The laws of a try that is made move by move: each page that comes in and each step that is done follows the moves before it.
+-- The laws of a try that is made move by move: each page that comes in and each step that is done
+-- follows the moves before it.
 use Rattle.std.specs.Prelude.{ℕ, ◌≡◌, ◌+◌, ◌<◌, ◌≤◌, true, false, List, [], ◌∷◌, ◌++◌, length, Option, Some, None}
 use Rattle.std.specs.List.{AllByRecursion}
 use Rattle.mn_base.specs.Store.{is_unmet, step_key, noted_by}
@@ -19,15 +20,19 @@ use Rattle.mn_tree.specs.MoveLaws.{IsStep}
 
 -- Moves one by one
 
--- the Checks among the steps that are done are met; this was found before, and that is found behind them
-abbrev pub HaveFound : List (Option ℕ) → VersionNo → Addr → Drafted → List Move → List (Option (List ℕ)) → List (Option (List ℕ)) → Type 0
+-- the Checks among the steps that are done are met; this was found before, and that is found behind
+-- them
+abbrev pub HaveFound : List (Option ℕ) → VersionNo → Addr → Drafted → List Move
+    → List (Option (List ℕ)) → List (Option (List ℕ)) → Type 0
 HaveFound parents v root d [] before found = before ≡ found
 HaveFound parents v root d (Comes h ∷ moves) before found = HaveFound parents v root (drafted_with d h.addr h.page) moves before found
 HaveFound parents v root d (Does step ∷ moves) before found =
     (path : List Held) → walk parents v.0 d.overlay.pages root (step_key step) ≡ Reached path
-    → (is_unmet (path_pairs path) step ≡ false) × HaveFound parents v root (drafted_after v d step path) moves (before ++ noted_by (path_pairs path) step) found
+    → (is_unmet (path_pairs path) step ≡ false)
+    × HaveFound parents v root (drafted_after v d step path) moves (before ++ noted_by (path_pairs path) step) found
 
--- a try so far: its moves lead to the draft; these pages came in, these steps are done, and have found this
+-- a try so far: its moves lead to the draft; these pages came in, these steps are done, and have
+-- found this
 pub record ComeTo (parents : List (Option ℕ)) (v : VersionNo) (root : Addr) (moves : List Move) (d : Drafted) (came : List Held) (done : List Step) (found : List (Option (List ℕ))) : Type 0 where
   pub leads : LeadsTo parents v root no_pages moves d
   pub have : HaveFound parents v root no_pages moves [] found
@@ -37,7 +42,8 @@ pub record ComeTo (parents : List (Option ℕ)) (v : VersionNo) (root : Addr) (m
 -- a try that ends with an unmet Check, whatever steps were to follow
 pub record EndsUnmet (parents : List (Option ℕ)) (v : VersionNo) (root : Addr) (moves : List Move) (d : Drafted) (came : List Held) (done : List Step) (step : Step) (x : Option (List ℕ)) : Type 0 where
   pub leads : LeadsTo parents v root no_pages moves d
-  pub answered : (later : List Step) → AreAnswered parents v root no_pages moves 1 [] (done ++ step ∷ later) (reply.Unmet (1 + length done) x)
+  pub answered : (later : List Step)
+      → AreAnswered parents v root no_pages moves 1 [] (done ++ step ∷ later) (reply.Unmet (1 + length done) x)
   pub pages : comes_in moves ≡ came
 
 -- a page may come in next
@@ -47,7 +53,8 @@ MovesTakePages =
     → ComeTo parents v root (moves ++ Comes h ∷ []) (drafted_with d h.addr h.page) (came ++ h ∷ []) done found
 
 -- how a try goes on with a step, by the step's answer and the draft that it leaves
-abbrev pub GoesOn : TreeState → Step → List Move → List Held → List Step → List (Option (List ℕ)) → Drafted → Stepped → Type 0
+abbrev pub GoesOn : TreeState → Step → List Move → List Held → List Step → List (Option (List ℕ))
+    → Drafted → Stepped → Type 0
 GoesOn s step moves came done found d (answer.Need addr) = d ≡ s.draft
 GoesOn s step moves came done found d (answer.BadPath addr) = d ≡ s.draft
 GoesOn s step moves came done found d (answer.Found value) = ComeTo s.parents s.version s.root (moves ++ Does step ∷ []) d came (done ++ step ∷ []) (found ++ value ∷ [])
@@ -75,19 +82,27 @@ NeedsAreAbsent = (s : TreeState) (step : Step) (addr : Addr) → (stepped s step
 -- it stands in a slot, where the root does
 abbrev pub NeedsAreSlots : Type 0
 NeedsAreSlots =
-    (s : TreeState) (step : Step) (moves : List Move) (addr : Addr) → s.version.0 < 64 → IsAddr s.root → AllByRecursion IsStep (done_in moves) → LeadsTo s.parents s.version s.root no_pages moves s.draft → (stepped s step).answer ≡ answer.Need addr
+    (s : TreeState) (step : Step) (moves : List Move) (addr : Addr) → s.version.0 < 64
+    → IsAddr s.root → AllByRecursion IsStep (done_in moves)
+    → LeadsTo s.parents s.version s.root no_pages moves s.draft
+    → (stepped s step).answer ≡ answer.Need addr
     → IsAddr addr
 
 -- and so, where it fits, it may come in
 abbrev pub NeedsMayCome : Type 0
 NeedsMayCome =
-    (s : TreeState) (step : Step) (h : Held) → (stepped s step).answer ≡ answer.Need h.addr → fits (stepped s step).state h.page ≡ true → IsPage h.page → IsAddr h.addr
-    → MayCome s.parents s.version s.draft h × ((with_page (stepped s step).state h.addr h.page).draft ≡ drafted_with s.draft h.addr h.page)
+    (s : TreeState) (step : Step) (h : Held) → (stepped s step).answer ≡ answer.Need h.addr
+    → fits (stepped s step).state h.page ≡ true → IsPage h.page → IsAddr h.addr
+    → MayCome s.parents s.version s.draft h
+    × ((with_page (stepped s step).state h.addr h.page).draft ≡ drafted_with s.draft h.addr h.page)
 
 -- the page at fault was read at the address that a step names
 abbrev pub BadPathsCame : Type 0
 BadPathsCame =
-    (s : TreeState) (step : Step) (moves : List Move) (addr : Addr) → LeadsTo s.parents s.version s.root no_pages moves s.draft → (stepped s step).answer ≡ answer.BadPath addr → (page : Page) × (came_at moves addr ≡ Some page)
+    (s : TreeState) (step : Step) (moves : List Move) (addr : Addr)
+    → LeadsTo s.parents s.version s.root no_pages moves s.draft
+    → (stepped s step).answer ≡ answer.BadPath addr
+    → (page : Page) × (came_at moves addr ≡ Some page)
 
 -- What may be written
 

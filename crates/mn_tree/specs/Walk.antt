@@ -20,14 +20,16 @@ held_of h = held h.addr h.page
 abbrev pub helds : List HeldPage → List Held
 helds hs = map held_of hs
 
--- where a walk ends: before a page that isn't there, with the height of the page that names it; at a page that doesn't serve the version,
--- doesn't cover the key or isn't one height below; or at the leaf, where the leaf stands first and the root last
+-- where a walk ends: before a page that isn't there, with the height of the page that names it; at
+-- a page that doesn't serve the version, doesn't cover the key or isn't one height below; or at the
+-- leaf, where the leaf stands first and the root last
 pub data Walk : Type 0 where
   Missing : (addr : Addr) → (above : Option ℕ) → Walk
   Wrong : (addr : Addr) → Walk
   Reached : (path : List Held) → Walk
 
--- the page serves the version, where these are the parents of the versions: one that the transaction has copied for the version doesn't
+-- the page serves the version, where these are the parents of the versions: one that the
+-- transaction has copied for the version doesn't
 unfoldable pub is_live : List (Option ℕ) → ℕ → Page → Bool
 is_live parents v p = serves parents p.made.0 p.copied v
 

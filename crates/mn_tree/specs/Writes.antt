@@ -74,7 +74,8 @@ abbrev pub writes_if : Asked → (Addr → Option Child → List Write) → List
 writes_if Nothing more = []
 writes_if (Child_is now child) more = more now child
 
--- a page of a path has this body now; behind it stands the path above, up to the root. There were n new pages before
+-- a page of a path has this body now; behind it stands the path above, up to the root. There were n
+-- new pages before
 abbrev pub writes_up : VersionNo → ℕ → List Addr → Held → List Held → Body → List Write
 writes_up v n origins h [] body = root_writes v n (placed_addr origins h.addr) h body (halves_of body)
 writes_up v n origins h (parent ∷ above) body =

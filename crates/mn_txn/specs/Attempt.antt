@@ -27,7 +27,8 @@ use Rattle.mn_txn.specs.State.{State, image, AreApart}
 use Rattle.mn_txn.specs.Order.{in_item_order}
 use Rattle.mn_txn.specs.Plan.{plan_of}
 
--- the version and its entry as they were read, the steps, how they came to their pages and what they found; the counts of the nodes, and slots for the new pages
+-- the version and its entry as they were read, the steps, how they came to their pages and what
+-- they found; the counts of the nodes, and slots for the new pages
 pub record Attempt : Type 0 where
   pub name : List ℕ
   pub version : VersionNo
@@ -39,7 +40,8 @@ pub record Attempt : Type 0 where
   pub counts : List ℕ
   pub slots : List Addr
 
--- the kept catalog has the version; the steps may run on it, and came to this draft and reply over pages of these nodes, each of which serves the version by that catalog
+-- the kept catalog has the version; the steps may run on it, and came to this draft and reply over
+-- pages of these nodes, each of which serves the version by that catalog
 pub record IsAttempt (kept : List Head) (nodes : ℕ) (a : Attempt) : Type 0 where
   pub named : number_named kept a.name ≡ Some a.version.0
   pub few : a.version.0 < max_versions
@@ -51,13 +53,15 @@ pub record IsAttempt (kept : List Head) (nodes : ℕ) (a : Attempt) : Type 0 whe
   pub answered : AreAnswered (parents_of kept) a.version a.entry.root no_pages a.moves 1 [] a.steps a.reply
   pub within : AllByRecursion (λ h. h.addr.node.0 < nodes) (comes_in a.moves)
 
--- no Check is unmet; each new page has a slot, the next of its node, and no page to be changed was read with the last number
+-- no Check is unmet; each new page has a slot, the next of its node, and no page to be changed was
+-- read with the last number
 pub record IsDone (nodes : ℕ) (a : Attempt) : Type 0 where
   pub found : List (Option (List ℕ))
   pub reply : a.reply ≡ Values found
   pub counts : (length a.counts ≡ nodes) × AllByRecursion (λ count. count ≤ max_slots) a.counts
   pub slots : AreNextSlots a.counts a.slots × (length a.slots ≡ a.draft.overlay.fresh)
-  pub numbers : (addr : Addr) (page : Page) → is_noted a.draft.overlay.changed addr ≡ true → came_at a.moves addr ≡ Some page → page.seq + 1 < 2 ^ 64
+  pub numbers : (addr : Addr) (page : Page) → is_noted a.draft.overlay.changed addr ≡ true
+      → came_at a.moves addr ≡ Some page → page.seq + 1 < 2 ^ 64
 
 -- a Check is unmet
 pub record IsUnmet (a : Attempt) : Type 0 where
@@ -104,10 +108,13 @@ unmet_reads a = came_images a.moves (leaves_at a.moves a.draft.read) ++ entry_im
 -- a transaction that read and is to write just this is planned
 abbrev pub DoneIsPlanned : Type 0
 DoneIsPlanned =
-    (kept : List Head) (t : State) (a : Attempt) → IsAttempt kept t.nodes a → IsDone t.nodes a → AreApart t.reads → AreApart t.writes → in_item_order t.reads ≡ done_reads a → in_item_order t.writes ≡ done_writes a
+    (kept : List Head) (t : State) (a : Attempt) → IsAttempt kept t.nodes a → IsDone t.nodes a
+    → AreApart t.reads → AreApart t.writes → in_item_order t.reads ≡ done_reads a
+    → in_item_order t.writes ≡ done_writes a
     → IsPlanned kept (Tx a.name a.steps) (plan_of t) a.reply
 
 abbrev pub UnmetIsPlanned : Type 0
 UnmetIsPlanned =
-    (kept : List Head) (t : State) (a : Attempt) → IsAttempt kept t.nodes a → IsUnmet a → AreApart t.reads → in_item_order t.reads ≡ unmet_reads a → t.writes ≡ []
+    (kept : List Head) (t : State) (a : Attempt) → IsAttempt kept t.nodes a → IsUnmet a
+    → AreApart t.reads → in_item_order t.reads ≡ unmet_reads a → t.writes ≡ []
     → IsPlanned kept (Tx a.name a.steps) (plan_of t) a.reply

@@ -36,8 +36,8 @@ pub record ChildTry : Type 0 where
   pub slot : Addr
 
 -- the kept catalog has the version with this entry, and the child's number is the first that it
--- doesn't use; the root is a page of these nodes that wasn't read with the last number, and the slot
--- is the next of its node
+-- doesn't use; the root is a page of these nodes that wasn't read with the last number, and the
+-- slot is the next of its node
 pub record IsChildTry (kept : List Head) (nodes : ℕ) (c : ChildTry) : Type 0 where
   pub named : number_named kept c.name ≡ Some c.version.0
   pub head : slice_get kept c.version.0 ≡ Some (entry_head c.entry)

@@ -1,4 +1,5 @@
--- The laws of plans that follow from what a plan is. Each public law function has one of these as its contract.
+-- The laws of plans that follow from what a plan is. Each public law function has one of these as
+-- its contract.
 use Rattle.std.specs.Prelude.{Bool, nat_eq, filter, ℕ, ◌≡◌, ◌↔◌, IsTrue, List, length, map, Contains}
 use Rattle.std.specs.List.{AllByRecursion}
 use Rattle.mn_base.specs.declared.ids.NodeNo.{NodeNo}
@@ -33,11 +34,13 @@ PagesStay = (images : List Image) → filter is_page (in_item_order images) ≡ 
 -- what is compared is what was read, and what is written is what is to be written
 abbrev pub PlansNameTheirPlaces : Type 0
 PlansNameTheirPlaces =
-    (t : State) → (compare_places (plan_of t) ≡ map image_place (in_item_order t.reads)) × (write_places (plan_of t) ≡ map image_place (in_item_order t.writes))
+    (t : State) → (compare_places (plan_of t) ≡ map image_place (in_item_order t.reads))
+    × (write_places (plan_of t) ≡ map image_place (in_item_order t.writes))
 
 abbrev pub PlansNameNoOther : Type 0
 PlansNameNoOther =
-    (t : State) (place : Place) → (Contains (compare_places (plan_of t)) place ↔ Contains (map image_place t.reads) place)
+    (t : State) (place : Place)
+    → (Contains (compare_places (plan_of t)) place ↔ Contains (map image_place t.reads) place)
     × (Contains (write_places (plan_of t)) place ↔ Contains (map image_place t.writes) place)
 
 -- Items
@@ -56,12 +59,15 @@ PlansHoldTheirBytes = (t : State) → AllByRecursion (IsItemOf t) (plan_of t).it
 -- each page or entry that was read and is to be written gets the next number
 abbrev pub HasNextNumbers : State → Type 0
 HasNextNumbers t =
-    (node : NodeNo) (start : ℕ) (old new : List ℕ) → Contains t.reads (image node start old) → Contains t.writes (image node start new) → (start ≡ count_start → ⊥)
+    (node : NodeNo) (start : ℕ) (old new : List ℕ) → Contains t.reads (image node start old)
+    → Contains t.writes (image node start new) → (start ≡ count_start → ⊥)
     → IsNextNumber old new
 
 -- so does each that the plan compares and writes
 abbrev pub PlansCountOn : Type 0
 PlansCountOn =
     (t : State) → HasNextNumbers t
-    → (node : NodeNo) (start : ℕ) (old new : List ℕ) → Contains (plan_of t).items (Compare node start old) → Contains (plan_of t).items (Write node start new) → (start ≡ count_start → ⊥)
+    → (node : NodeNo) (start : ℕ) (old new : List ℕ)
+    → Contains (plan_of t).items (Compare node start old)
+    → Contains (plan_of t).items (Write node start new) → (start ≡ count_start → ⊥)
     → IsNextNumber old new

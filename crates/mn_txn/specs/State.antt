@@ -5,7 +5,8 @@ use Rattle.mn_base.specs.declared.ids.NodeNo.{NodeNo}
 use Rattle.mn_txn.specs.declared.image.Image.{Image}
 use Rattle.mn_txn.specs.declared.place.Place.{Place}
 
--- over so many nodes: the pages that were read dirty, the read set, and the writes, each in the order in which its places came in
+-- over so many nodes: the pages that were read dirty, the read set, and the writes, each in the
+-- order in which its places came in
 pub record State : Type 0 where
   pub nodes : ℕ
   pub dirty : List Image

@@ -62,7 +62,8 @@ are_settled now = list_all (λ i. is_read i.mini.items || is_settled now i) (iss
 abbrev pub IsPlanBy : List Entry → Op → Mini → Reply → Type 0
 IsPlanBy es op mini reply = (entries : List CatEntry) × ShowsCatalog es entries × IsPlanned (heads_in entries) op mini reply
 
--- the last issue of the operation under way, with the entries before it; `now` are the entries since its Begin
+-- the last issue of the operation under way, with the entries before it; `now` are the entries
+-- since its Begin
 pub record LastIssue (es now : List Entry) (i : Issued) (before : List Entry) : Type 0 where
   pub entry : Entry
   pub later : List Entry
@@ -103,12 +104,17 @@ RefusedAs seens n (Ask.Exec tid part) (Say.BadCompare item found) busy = Differs
 RefusedAs seens n (Ask.Prepare tid participants part) Say.BadForced busy = busy ≡ Forced tid
 RefusedAs seens n request reply busy = ⊥
 
--- an address that one key reaches by the reads of a try: the root that its catalog gives, or the child of a page that it reached; with the height that a page there must have
+-- an address that one key reaches by the reads of a try: the root that its catalog gives, or the
+-- child of a page that it reached; with the height that a page there must have
 pub data Reached (seens : List Seen) (op : Op) (key : List ℕ) : Addr → Option ℕ → Type 0 where
-  by_root : (seen : Seen) (entries : List CatEntry) (v : ℕ) (e : CatEntry) → Contains seens seen → SeesCatalog seen entries
-      → number_named (heads_in entries) (op_version op) ≡ Some v → slice_get entries v ≡ Some e → Reached seens op key e.root None
-  by_child : (addr : Addr) (height : Option ℕ) (seen : Seen) (page : Page) (child : ChildRange) → Reached seens op key addr height → Contains seens seen
-      → SeesPage seen addr page → Contains (children_of page) child → covers_key child.low child.high key ≡ true
+  by_root : (seen : Seen) (entries : List CatEntry) (v : ℕ) (e : CatEntry) → Contains seens seen
+      → SeesCatalog seen entries
+      → number_named (heads_in entries) (op_version op) ≡ Some v → slice_get entries v ≡ Some e
+      → Reached seens op key e.root None
+  by_child : (addr : Addr) (height : Option ℕ) (seen : Seen) (page : Page) (child : ChildRange)
+      → Reached seens op key addr height → Contains seens seen
+      → SeesPage seen addr page → Contains (children_of page) child
+      → covers_key child.low child.high key ≡ true
       → Reached seens op key child.addr (Some (height_of page.body - 1))
 
 -- a page of this height may not stand here
@@ -149,7 +155,8 @@ ReachesAddr seens op entries key addr height = (catalog : Seen) × Contains seen
 abbrev pub MeetsBadPage : List Seen → Op → Addr → ℕ → Type 0
 MeetsBadPage seens op addr seq =
     (seen : Seen) × (key : List ℕ) × (height : Option ℕ) × (entries : List CatEntry)
-    × Contains seens seen × ReachesAddr seens op entries key addr height × (seen.place ≡ page_place addr) × IsAtFault entries op key height seen.bytes seq
+    × Contains seens seen × ReachesAddr seens op entries key addr height
+    × (seen.place ≡ page_place addr) × IsAtFault entries op key height seen.bytes seq
 
 -- the reads name an address on a node that there is not
 abbrev pub MeetsBadAddr : ℕ → List Seen → Op → Addr → ℕ → Type 0
@@ -178,7 +185,8 @@ abbrev pub MeetsFault : ℕ → List Seen → Op → Busy → Type 0
 MeetsFault nodes seens op (Path addr seq) = MeetsBadPage seens op addr seq ⊎ MeetsBadAddr nodes seens op addr seq ⊎ MeetsBadPlace seens addr seq
 MeetsFault nodes seens op busy = ⊥
 
--- a try, its entries newest first, failed so: its last call was refused, or a read of it met a fault
+-- a try, its entries newest first, failed so: its last call was refused, or a read of it met a
+-- fault
 abbrev pub FailsAs : ℕ → Op → List Entry → Busy → Type 0
 FailsAs nodes op [] busy = ⊥
 FailsAs nodes op (e ∷ es) busy =
@@ -238,7 +246,8 @@ abbrev pub EndsWithLeaf : Op → List Entry → Type 0
 EndsWithLeaf op [] = ⊤
 EndsWithLeaf op (e ∷ es) =
     (seen : Seen) × (addr : Addr) × (page : Page) × (entries : List CatEntry)
-    × Contains (seen_at e) seen × SeesPage seen addr page × (height_of page.body ≡ 0) × ShowsCatalog es entries × ServesNamed entries (op_version op) page
+    × Contains (seen_at e) seen × SeesPage seen addr page × (height_of page.body ≡ 0)
+    × ShowsCatalog es entries × ServesNamed entries (op_version op) page
 
 -- in a try of a scan no read but the newest brings a leaf: a leaf that was taken begins a new count
 abbrev pub BringsNone : List Entry → Type 0
@@ -249,14 +258,16 @@ abbrev pub LeafIsNewest : Op → List Entry → Type 0
 LeafIsNewest (Scan version low high limit) try = BringsNone try
 LeafIsNewest op try = ⊤
 
--- a transaction, and a scan that took leaves, may fail by what was kept, with no call; each other try asks for the catalog
+-- a transaction, and a scan that took leaves, may fail by what was kept, with no call; each other
+-- try asks for the catalog
 abbrev pub MayBeKept : Op → List Entry → List Entry → Type 0
 MayBeKept (Tx version steps) taken first = ⊤
 MayBeKept (Scan version low high limit) (e ∷ es) first = ⊤
 MayBeKept op taken first = IsTrue (asks_for_catalog first)
 
--- eight tries failed, each from the second on anew and by a cause, and the last by this one. A scan counts from the leaf that it took last. The first may have
--- no entry, where what it used was kept from earlier operations
+-- eight tries failed, each from the second on anew and by a cause, and the last by this one. A scan
+-- counts from the leaf that it took last. The first may have no entry, where what it used was kept
+-- from earlier operations
 pub record FailedTries (nodes : ℕ) (op : Op) (now : List Entry) (busy : Busy) : Type 0 where
   pub rest : List Entry
   pub last : List Entry
@@ -272,7 +283,8 @@ pub record FailedTries (nodes : ℕ) (op : Op) (now : List Entry) (busy : Busy) 
   pub anew : IsTrue (reads_anew last && list_all reads_anew middle)
   pub whole : IsWhole op taken
   pub took : EndsWithLeaf op taken
-  pub leaves : LeafIsNewest op last × AllByRecursion (LeafIsNewest op) middle × LeafIsNewest op first
+  pub leaves : LeafIsNewest op last × AllByRecursion (LeafIsNewest op) middle
+      × LeafIsNewest op first
   pub may_be_kept : MayBeKept op taken first
 
 -- Answers
@@ -293,7 +305,8 @@ abbrev pub ends_refused : List Entry → Bool
 ends_refused [] = false
 ends_refused (e ∷ es) = list_any (λ c. is_refusal c.reply) (call_in e.node e.what)
 
--- a later try begins after one that failed: after a refusal or a fault; that the first failed may not be seen, where it was not refused
+-- a later try begins after one that failed: after a refusal or a fault; that the first failed may
+-- not be seen, where it was not refused
 abbrev pub BeginsAfter : ℕ → Op → List Entry → Type 0
 BeginsAfter nodes op earlier = IsTrue (none_refused earlier || ends_refused earlier) ⊎ ((fault : Busy) × MeetsFault nodes (seen_in earlier) op fault)
 
@@ -306,11 +319,13 @@ pub record LastTry (nodes : ℕ) (op : Op) (now : List Entry) (try : List Entry)
   pub begins : BeginsAfter nodes op earlier
   pub is_try : IsTrue (reads_anew try && none_refused try)
 
--- a node answered Down to a request that is no Decide, or stopped inside a Prepare that was not the last
+-- a node answered Down to a request that is no Decide, or stopped inside a Prepare that was not the
+-- last
 abbrev pub is_down_cause : NodeNo → Call → Bool
 is_down_cause n c = node_same c.node n && ((is_down_reply c.reply && not (is_any_decide c.request)) || (is_stopped c.reply && (is_any_prepare c.request && not (is_last_of c.node c.request))))
 
--- a read since Begin shows the reply, by what the list held before it; `now` are the entries since Begin
+-- a read since Begin shows the reply, by what the list held before it; `now` are the entries since
+-- Begin
 pub record SomeReadShows (es now : List Entry) (op : Op) (reply : Reply) : Type 0 where
   pub entry : Entry
   pub newer : List Entry

@@ -1,4 +1,5 @@
--- Reading a log. Lists of entries stand newest first: what an entry may be is said of the entries before it.
+-- Reading a log. Lists of entries stand newest first: what an entry may be is said of the entries
+-- before it.
 use Rattle.std.specs.Prelude.{ℕ, ◌≡◌, Bool, true, false, not, ◌&&◌, ◌||◌, List, [], ◌∷◌, ◌++◌, length, filter, Option, Some, None, if◌then◌else◌, Contains}
 use Rattle.std.specs.List.{list_any}
 use Rattle.std.specs.Option.{option_map_or}

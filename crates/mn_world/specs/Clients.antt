@@ -1,4 +1,5 @@
--- What a client's own list allows it: the calls of a minitransaction in their order, and decisions that its list backs.
+-- What a client's own list allows it: the calls of a minitransaction in their order, and decisions
+-- that its list backs.
 use Rattle.std.specs.Prelude.{ℕ, ◌+◌, ◌≡◌, ◌<◌, ◌≤◌, ◌⊎◌, Bool, true, false, not, ◌&&◌, ◌||◌, IsTrue, List, [], ◌∷◌, length, Option, Some, None, IsSome, ⊤, Contains}
 use Rattle.std.specs.List.{list_any, list_all, AllByRecursion}
 use Rattle.mn_base.specs.declared.ids.NodeNo.{NodeNo}
@@ -39,7 +40,8 @@ abbrev pub last_number : List Begun → ℕ
 last_number [] = 0
 last_number (b ∷ bs) = b.number
 
--- after it another may be issued: it was abandoned, with no Prepare answered Down or Stopped; or its Exec was refused; or it was a read that was done
+-- after it another may be issued: it was abandoned, with no Prepare answered Down or Stopped; or
+-- its Exec was refused; or it was a read that was done
 abbrev pub is_over : List Entry → Issued → Bool
 is_over now i =
     (was_abandoned i.tid now && not (was_told_somewhere (is_prepare i.tid) (λ reply. is_down_reply reply || is_stopped reply) now))
@@ -61,7 +63,8 @@ pub record AllowsIssue (c : ClientNo) (es : List Entry) (tid : Tid) (mini : Mini
 
 -- Calls
 
--- a Prepare of an issue of the operation under way: its part, once to each participant, after all lower ones are done
+-- a Prepare of an issue of the operation under way: its part, once to each participant, after all
+-- lower ones are done
 pub record AllowsPrepare (es : List Entry) (n : NodeNo) (tid : Tid) (participants : List NodeNo) (part : List PartItem) : Type 0 where
   pub mini : Mini
   pub issued : issue_named tid (issues_of (since_begin es)) ≡ Some mini
@@ -86,7 +89,8 @@ pub record AllowsExec (es : List Entry) (n : NodeNo) (tid : Tid) (part : List Pa
 abbrev pub Knows : List Entry → Tid → List NodeNo → Type 0
 Knows es tid participants = ((mini : Mini) × (issue_named tid (issues_of es) ≡ Some mini) × (participants ≡ participants_of mini)) ⊎ WasListed tid participants es
 
--- yes after a yes of every participant; no after the client's own Abandoned, or a Force that was voted no
+-- yes after a yes of every participant; no after the client's own Abandoned, or a Force that was
+-- voted no
 abbrev pub AllowsDecide : List Entry → Tid → Bool → Type 0
 AllowsDecide es tid true = (participants : List NodeNo) × Knows es tid participants × AllByRecursion (λ n. has_yes tid n es ≡ true) participants
 AllowsDecide es tid false = IsTrue (was_abandoned tid es || has_no tid es)
@@ -95,7 +99,8 @@ AllowsDecide es tid false = IsTrue (was_abandoned tid es || has_no tid es)
 abbrev pub AllowsForce : List Entry → NodeNo → Tid → Type 0
 AllowsForce es n tid = (participants : List NodeNo) × WasListed tid participants es × Contains participants n
 
--- a request to a node. After the node stopped inside an id's last Prepare or its Exec nothing more is sent for it
+-- a request to a node. After the node stopped inside an id's last Prepare or its Exec nothing more
+-- is sent for it
 abbrev pub Sends : List Entry → Option NodeNo → Request → Type 0
 Sends es None request = ⊥
 Sends es (Some n) (Ask.Prepare tid participants part) = AllowsPrepare es n tid participants part

@@ -14,7 +14,8 @@ use Rattle.mn_world.specs.declared.entry.What.TheVariants.{Called, Restarted}
 use Rattle.mn_world.specs.Calls.{is_at, node_entries, is_prepare, is_done, Issued, issues_of, issue_named}
 use Rattle.mn_world.specs.Nodes.{stopped_request}
 
--- the request that takes effect at an entry of a node: a Prepare or Exec that is answered Done, or the stopped one whose record a restart kept
+-- the request that takes effect at an entry of a node: a Prepare or Exec that is answered Done, or
+-- the stopped one whose record a restart kept
 abbrev pub effect_of : List Entry → What → Option Request
 effect_of es (Called request reply) = if is_done reply then Some request else None
 effect_of es (Restarted true) = stopped_request es
@@ -33,7 +34,8 @@ has_vote tid n (e ∷ past) = (is_at n e && is_vote_effect tid (effect_of (node_
 abbrev pub issued_as : Tid → List Entry → Option Issued
 issued_as tid past = option_map (λ mini. record { tid = tid; mini = mini }) (issue_named tid (issues_of past))
 
--- what commits by a request that takes effect at the node: with the last vote of its participants, or with its Exec
+-- what commits by a request that takes effect at the node: with the last vote of its participants,
+-- or with its Exec
 abbrev pub committed_with : List Entry → NodeNo → Option Request → Option Issued
 committed_with past n (Some (Ask.Prepare tid participants part)) = if list_all (λ m. node_same m n || has_vote tid m past) participants then issued_as tid past else None
 committed_with past n (Some (Ask.Exec tid part)) = issued_as tid past

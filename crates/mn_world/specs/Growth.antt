@@ -1,4 +1,5 @@
--- Writes of pages, entries and counts: when they leave the memory of a forest that has grown. What met compares tell of a forest, and which numbers the writes have.
+-- Writes of pages, entries and counts: when they leave the memory of a forest that has grown. What
+-- met compares tell of a forest, and which numbers the writes have.
 use Rattle.std.specs.Prelude.{ℕ, zero, suc, ◌≡◌, ◌+◌, ◌^◌, ◌<◌, ◌≤◌, not, nat_eq, List, [], ◌∷◌, ◌++◌, length, map, filter, replicate, Some, None, ⊤, if◌then◌else◌, Contains, slice_get, slice_set, slice_index_or}
 use Rattle.std.specs.List.{AllByRecursion, range_with_len}
 use Rattle.std.specs.Option.{option_or}
@@ -76,13 +77,16 @@ over pages at addr = option_or (held_at pages addr) (at addr)
 abbrev pub write_held : Held → Item
 write_held h = write_page h.addr h.page
 
--- pages of the memory that are written again, each once, new ones in next slots, and the counts: if the pages over those of the memory are a tree that shows a store, the memory holds it then
+-- pages of the memory that are written again, each once, new ones in next slots, and the counts: if
+-- the pages over those of the memory are a tree that shows a store, the memory holds it then
 abbrev pub WritesLeaveStore : Type 0
 WritesLeaveStore =
     (memory : List (List ℕ)) (store after : Store) (holds : Holds memory store) (changed new : List Held) (counts : List ℕ)
-    → AllByRecursion (λ h. (was : Page) × (page_at holds.forest h.addr ≡ Some was)) changed → AreDifferent (addrs_of changed) → AllByRecursion (λ h. IsPage h.page) (changed ++ new)
+    → AllByRecursion (λ h. (was : Page) × (page_at holds.forest h.addr ≡ Some was)) changed
+    → AreDifferent (addrs_of changed) → AllByRecursion (λ h. IsPage h.page) (changed ++ new)
     → AreCounts holds.forest counts (addrs_of new) → AreNextSlots counts (addrs_of new)
-    → IsTree holds.forest.entries (over (changed ++ new) (page_at holds.forest)) → ShowsStore holds.forest.entries (over (changed ++ new) (page_at holds.forest)) after
+    → IsTree holds.forest.entries (over (changed ++ new) (page_at holds.forest))
+    → ShowsStore holds.forest.entries (over (changed ++ new) (page_at holds.forest)) after
     → Holds (memory_after memory (map write_held changed ++ map write_held new ++ count_writes counts (addrs_of new))) after
 
 -- Entries
@@ -142,10 +146,13 @@ compare_unused v = Compare (node_no 0) (entry_start v) (replicate entry_size 0)
 
 -- where a plan's compares are met, the forest has just what they name
 pub record AreMet (f : Forest) (items : List Item) : Type 0 where
-  pub pages : (addr : Addr) (p : Page) → Contains items (compare_page addr p) → addr.node.0 < node_count f → IsPage p → page_at f addr ≡ Some p
-  pub entries : (v : ℕ) (e : CatEntry) → Contains items (compare_entry v e) → v < max_versions → IsEntry e → slice_get f.entries v ≡ Some e
+  pub pages : (addr : Addr) (p : Page) → Contains items (compare_page addr p)
+      → addr.node.0 < node_count f → IsPage p → page_at f addr ≡ Some p
+  pub entries : (v : ℕ) (e : CatEntry) → Contains items (compare_entry v e) → v < max_versions
+      → IsEntry e → slice_get f.entries v ≡ Some e
   pub unused : (v : ℕ) → Contains items (compare_unused v) → v < max_versions → length f.entries ≤ v
-  pub counts : (n : NodeNo) (count : ℕ) → Contains items (compare_count n count) → n.0 < node_count f → count < 2 ^ 64 → count ≡ count_in f n.0
+  pub counts : (n : NodeNo) (count : ℕ) → Contains items (compare_count n count)
+      → n.0 < node_count f → count < 2 ^ 64 → count ≡ count_in f n.0
 
 abbrev pub ComparesTell : Type 0
 ComparesTell = (memory : List (List ℕ)) (store : Store) (holds : Holds memory store) (items : List Item) → mismatch_from memory 0 items ≡ None → AreMet holds.forest items
@@ -154,8 +161,11 @@ ComparesTell = (memory : List (List ℕ)) (store : Store) (holds : Holds memory 
 
 -- a page or an entry with the next number, a new one with the first, and any count
 pub record GoOn (f : Forest) (memory : List (List ℕ)) : Type 0 where
-  pub changed : (addr : Addr) (was now : Page) → page_at f addr ≡ Some was → IsPage now → now.seq ≡ was.seq + 1 → HasNextNumber memory (write_page addr now)
-  pub new : (addr : Addr) (now : Page) → page_at f addr ≡ None → addr.node.0 < node_count f → addr.slot < max_slots → IsPage now → now.seq ≡ 1 → HasNextNumber memory (write_page addr now)
+  pub changed : (addr : Addr) (was now : Page) → page_at f addr ≡ Some was → IsPage now
+      → now.seq ≡ was.seq + 1 → HasNextNumber memory (write_page addr now)
+  pub new : (addr : Addr) (now : Page) → page_at f addr ≡ None → addr.node.0 < node_count f
+      → addr.slot < max_slots → IsPage now → now.seq ≡ 1
+      → HasNextNumber memory (write_page addr now)
   pub entries : (v : ℕ) (was now : CatEntry) → slice_get f.entries v ≡ Some was → IsEntry now
       → now.seq ≡ was.seq + 1 → HasNextNumber memory (write_entry v now)
   pub next : (now : CatEntry) → length f.entries < max_versions → IsEntry now → now.seq ≡ 1

@@ -1,4 +1,5 @@
--- The history of a log: each operation that was replied to, and each one of whose plans is committed, in order of place.
+-- The history of a log: each operation that was replied to, and each one of whose plans is
+-- committed, in order of place.
 use Rattle.std.specs.Prelude.{ℕ, ◌≡◌, ◌⊎◌, Bool, false, ◌&&◌, nat_lt, nat_eq, IsTrue, List, [], ◌∷◌, ◌++◌, length, map, Option, Some, None, if◌then◌else◌, Contains, MatchBool}
 use Rattle.std.specs.List.{list_any, AllByRecursion}
 use Rattle.mn_base.specs.Ids.{client_same}
@@ -83,7 +84,8 @@ abbrev pub has_past : ClientNo → ℕ → List Placed → Bool
 has_past c number placed = list_any (λ p. client_same p.past.client c && nat_eq p.past.number number) placed
 
 -- what an answer puts into the history: a replied operation that no plan has put there
-abbrev pub AnswerPuts : List Entry → ClientNo → Option Begun → Answer → List Placed → List Placed → Type 0
+abbrev pub AnswerPuts : List Entry → ClientNo → Option Begun → Answer → List Placed → List Placed
+    → Type 0
 AnswerPuts past c (Some begun) (Replied reply) old new =
     MatchBool (has_past c begun.number old) (new ≡ old)
     ((place : ℕ) × ReadPlace c past begun.op reply place × (new ≡ placed_in (record { place = place; past = record { client = c; number = begun.number; op = begun.op; reply = reply } }) old))
@@ -94,7 +96,8 @@ abbrev pub StepPuts : List Entry → Option ClientNo → What → List Placed �
 StepPuts past (Some c) (Answered number answer) old new = AnswerPuts past c (under_way (client_entries c past)) answer old new
 StepPuts past by what old new = new ≡ old
 
--- what an entry puts into the history: the operation of a plan that it commits, at its end; or what an answer puts there
+-- what an entry puts into the history: the operation of a plan that it commits, at its end; or what
+-- an answer puts there
 abbrev pub EntryPuts : List Entry → Entry → Option Issued → List Placed → List Placed → Type 0
 EntryPuts past e None old new = StepPuts past e.client e.what old new
 EntryPuts past e (Some i) old new =

@@ -9,7 +9,8 @@ pub record ClientState : Type 0 where
   pub entries : List (ℕ × Entry)
   pub room : ℕ
 
--- clients have the numbers 0 to 20; the memory has the room, and within it the list stays as short as a log's may be
+-- clients have the numbers 0 to 20; the memory has the room, and within it the list stays as short
+-- as a log's may be
 pub record IsClientList (client : ClientNo) (size capacity room : ℕ) : Type 0 where
   pub known : client.0 ≤ 20
   pub there : room ≤ capacity - size

@@ -1,4 +1,5 @@
--- What an operation needs on the pages that a try read: new slots, and the pages and entries that it writes.
+-- What an operation needs on the pages that a try read: new slots, and the pages and entries that
+-- it writes.
 use Rattle.std.specs.Prelude.{ℕ, ◌≡◌, ◌⊎◌, List, Some, None, Contains, slice_get}
 use Rattle.std.specs.List.{AllByRecursion}
 use Rattle.mn_base.specs.Store.{number_named, op_version, refusal}
@@ -12,8 +13,8 @@ use Rattle.mn_page.specs.Overlay.{Held, needed_slots, changed_pages}
 use Rattle.mn_world.specs.Planned.{Place, page_place, entry_place}
 use Rattle.mn_world.specs.Shown.{Seen, SeesCatalog, SeesPage}
 
--- what a try read of its version: the entry by a catalog that doesn't refuse the operation, and pages
--- at their addresses
+-- what a try read of its version: the entry by a catalog that doesn't refuse the operation, and
+-- pages at their addresses
 pub record ReadsTree (seens : List Seen) (op : Op) : Type 0 where
   pub entries : List CatEntry
   pub catalog : Seen

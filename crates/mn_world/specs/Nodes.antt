@@ -32,7 +32,8 @@ abbrev pub added_by : List ℕ → List Record → Option Request → Option Rec
 added_by base records None = None
 added_by base records (Some request) = (answer base records request).added
 
--- what an entry adds: a call while the node is up, or a restart that kept the stopped request's record
+-- what an entry adds: a call while the node is up, or a restart that kept the stopped request's
+-- record
 abbrev pub entry_adds : List ℕ → List Record → Bool → Option Request → What → Option Record
 entry_adds base records down stopped (Called request reply) = if down then None else (answer base records request).added
 entry_adds base records down stopped (Restarted true) = added_by base records stopped
@@ -43,7 +44,8 @@ abbrev pub node_records : List ℕ → List Record → List Entry → List Recor
 node_records base start [] = start
 node_records base start (e ∷ es) = with_added (entry_adds base (node_records base start es) (is_down es) (stopped_request es) e.what) (node_records base start es)
 
--- a call is answered as the records say, or Down while the node is down; it stops only while up, and restarts only while down
+-- a call is answered as the records say, or Down while the node is down; it stops only while up,
+-- and restarts only while down
 abbrev pub NodeAllows : List ℕ → List Record → List Entry → What → Type 0
 NodeAllows base start es (Called request reply) = reply ≡ (if is_down es then Say.Down else (answer base (node_records base start es) request).reply)
 NodeAllows base start es (Stopped request asked) = is_down es ≡ false

@@ -1,4 +1,5 @@
--- Which records a run may start from, and which it leaves at each place. Each node's records stand newest first.
+-- Which records a run may start from, and which it leaves at each place. Each node's records stand
+-- newest first.
 use Rattle.std.specs.Prelude.{ℕ, ◌≡◌, ◌<◌, Bool, true, false, not, ◌||◌, List, [], ◌∷◌, map, Option, Some, None, ⊤, if◌then◌else◌, Contains}
 use Rattle.std.specs.List.{list_any, list_all, AllByRecursion}
 use Rattle.std.specs.Option.{option_map_or}
@@ -41,7 +42,8 @@ has_record records tid = list_any (is_of tid) records
 abbrev pub is_free : List HeldPart → List PartItem → Bool
 is_free hs part = not (list_any (λ h. parts_conflict part h.part) hs)
 
--- a record after the older ones of its node: a vote, an execution and a Forced are the first of their id, and a decision has its id held
+-- a record after the older ones of its node: a vote, an execution and a Forced are the first of
+-- their id, and a decision has its id held
 abbrev pub IsInPlace : ℕ → NodeNo → List Record → Record → Type 0
 IsInPlace nodes n older (Voted tid participants part) =
     (has_record older tid ≡ false) × AllByRecursion (λ m. m.0 < nodes) participants × Contains participants n × (is_free (held_parts older) part ≡ true)
@@ -58,14 +60,19 @@ pub record AreSound (nodes : ℕ) (lists : NodeNo → List Record) : Type 0 wher
   pub in_place : (n : NodeNo) → n.0 < nodes → AreInPlace nodes n (lists n)
   -- the votes for an id name the same participants
   pub same : (n m : NodeNo) (tid : Tid) (one other : List NodeNo) → n.0 < nodes → m.0 < nodes
-      → voted_participants tid (lists n) ≡ Some one → voted_participants tid (lists m) ≡ Some other → one ≡ other
+      → voted_participants tid (lists n) ≡ Some one → voted_participants tid (lists m) ≡ Some other
+      → one ≡ other
   -- an execution is the only record of its id
-  pub alone : (n m : NodeNo) (tid : Tid) → n.0 < nodes → m.0 < nodes → has_executed (lists n) tid ≡ true → has_record (lists m) tid ≡ true → n ≡ m
+  pub alone : (n m : NodeNo) (tid : Tid) → n.0 < nodes → m.0 < nodes
+      → has_executed (lists n) tid ≡ true → has_record (lists m) tid ≡ true → n ≡ m
   -- a decided yes has the vote of each participant
-  pub yes : (n : NodeNo) (tid : Tid) (participants : List NodeNo) → n.0 < nodes → has_decided_yes (lists n) tid ≡ true
-      → voted_participants tid (lists n) ≡ Some participants → have_voted lists tid participants ≡ true
+  pub yes : (n : NodeNo) (tid : Tid) (participants : List NodeNo) → n.0 < nodes
+      → has_decided_yes (lists n) tid ≡ true
+      → voted_participants tid (lists n) ≡ Some participants
+      → have_voted lists tid participants ≡ true
   -- an id with a decided no is not committed, and has no decided yes
-  pub no : (n m : NodeNo) (tid : Tid) → n.0 < nodes → m.0 < nodes → has_decided_no (lists n) tid ≡ true
+  pub no : (n m : NodeNo) (tid : Tid) → n.0 < nodes → m.0 < nodes
+      → has_decided_no (lists n) tid ≡ true
       → (is_committed nodes lists tid ≡ false) × (has_decided_yes (lists m) tid ≡ false)
 
 -- The memory

@@ -72,7 +72,8 @@ write_places mini = flat_map write_place mini.items
 abbrev pub IsLeafOf : Forest → ℕ → List Step → Place → Type 0
 IsLeafOf f v steps place =
     (addr : Addr) × (page : Page) × (place ≡ page_place addr) × (page_at f addr ≡ Some page) × (height_of page.body ≡ 0)
-    × IsTrue (page_serves f.entries v page) × IsTrue (list_any (λ step. page_covers (step_key step) page) steps)
+    × IsTrue (page_serves f.entries v page)
+    × IsTrue (list_any (λ step. page_covers (step_key step) page) steps)
 
 -- a page that is there and is written
 abbrev pub IsOldPage : Forest → Mini → Place → Type 0
@@ -166,7 +167,8 @@ HasPlans (Scan version low high limit) = ⊥
 HasPlans Versions = ⊥
 HasPlans op = ⊤
 
--- the catalog's versions are the first ones, with their names and parents; what it has frozen stays frozen
+-- the catalog's versions are the first ones, with their names and parents; what it has frozen stays
+-- frozen
 abbrev pub Continues : List Head → List Head → Type 0
 Continues [] heads = ⊤
 Continues (k ∷ kept) [] = ⊥
@@ -177,7 +179,8 @@ pub record PlanActs (memory : List (List ℕ)) (store : Store) (holds : Holds me
   pub effect : Holds (memory_after memory mini.items) (applied store op).store
   pub replies : reply ≡ (applied store op).reply
   pub compares : (v : ℕ) → number_named (heads_of store) (op_version op) ≡ Some v
-      → (place : Place) → Contains (compare_places mini) place ↔ IsCompared holds.forest store v op mini place
+      → (place : Place)
+      → Contains (compare_places mini) place ↔ IsCompared holds.forest store v op mini place
   -- where there is no such version it compares nothing
   pub nowhere : number_named (heads_of store) (op_version op) ≡ None → compare_places mini ≡ []
   -- each write is of a whole page, entry or count, each of which is written once
@@ -186,10 +189,13 @@ pub record PlanActs (memory : List (List ℕ)) (store : Store) (holds : Holds me
   pub numbers : AllByRecursion (HasNextNumber memory) mini.items
   pub pages : WritesPages holds.forest mini
 
--- wherever its compares hold, in a memory that holds a store that continues the kept catalog, it does what the operation does
+-- wherever its compares hold, in a memory that holds a store that continues the kept catalog, it
+-- does what the operation does
 pub record IsPlanned (kept : List Head) (op : Op) (mini : Mini) (reply : Reply) : Type 0 where
-  pub acts : (memory : List (List ℕ)) (store : Store) → length memory ≡ mini.nodes → AllByRecursion (λ space. length space ≡ space_size) memory
-      → (holds : Holds memory store) → Continues kept (heads_of store) → mismatch_from memory 0 mini.items ≡ None
+  pub acts : (memory : List (List ℕ)) (store : Store) → length memory ≡ mini.nodes
+      → AllByRecursion (λ space. length space ≡ space_size) memory
+      → (holds : Holds memory store) → Continues kept (heads_of store)
+      → mismatch_from memory 0 mini.items ≡ None
       → PlanActs memory store holds op mini reply
   pub order : IsTrue (are_in_order mini.items)
   pub kind : HasPlans op

@@ -81,7 +81,8 @@ right_half p highs sep = record { seq = 1; made = p.made; copied = 0; low = sep;
 abbrev pub parent_of_halves : Page → List ℕ → Addr → Addr → Page
 parent_of_halves p sep left right = record { seq = p.seq + 1; made = p.made; copied = p.copied; low = []; high = None; body = Inner 1 left (record { separator = sep; addr = right } ∷ []) }
 
--- the root of the version, a leaf, as it was read, with a node's count; and the leaf's new pairs in two parts
+-- the root of the version, a leaf, as it was read, with a node's count; and the leaf's new pairs in
+-- two parts
 pub record HasSplit (kept : List Head) (nodes : ℕ) (name key value : List ℕ) (v : ℕ) (e : CatEntry) (p : Page) (pairs : List Pair) (n : NodeNo) (count : ℕ) (lows : List Pair) (first : Pair) (more : List Pair) : Type 0 where
   pub named : number_named kept name ≡ Some v
   pub few : v < max_versions

@@ -32,12 +32,14 @@ abbrev pub HasNode : Option NodeNo → What → Type 0
 HasNode None what = IsOwnStep what
 HasNode (Some n) what = ⊤
 
--- a step with no client is one that a node takes with no caller; any other is allowed by the client's own list, and means what it says
+-- a step with no client is one that a node takes with no caller; any other is allowed by the
+-- client's own list, and means what it says
 abbrev pub IsCallersStep : List Entry → Option ClientNo → Option NodeNo → What → Type 0
 IsCallersStep es None at what = IsNodeStep what
 IsCallersStep es (Some c) at what = ClientAllows c es at what × MeansBy es what
 
--- an entry is legal by what its client's own list held, whatever the records, the number of nodes and the run's number
+-- an entry is legal by what its client's own list held, whatever the records, the number of nodes
+-- and the run's number
 pub record IsLegalBy (es : List Entry) (e : Entry) : Type 0 where
   pub actor : IsActor e.client
   pub node : HasNode e.node e.what

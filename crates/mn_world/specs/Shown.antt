@@ -1,4 +1,5 @@
--- What a client's own list shows: bytes that were read, catalogs, pages, and the replies that follow from them.
+-- What a client's own list shows: bytes that were read, catalogs, pages, and the replies that
+-- follow from them.
 use Rattle.std.specs.Prelude.{ℕ, ◌≡◌, ◌≤◌, ◌⊎◌, true, IsTrue, List, [], ◌∷◌, ◌++◌, length, take, Option, Some, None, ⊤, Contains, unwrap_or}
 use Rattle.std.specs.List.{flat_map, AllByRecursion}
 use Rattle.mn_base.specs.Order.{key_le}
@@ -64,11 +65,13 @@ ServesNamed entries name page = (v : ℕ) × (number_named (heads_in entries) na
 
 -- Replies that a read shows
 
--- a leaf shows a lone Get's reply, where the list before its read shows a catalog by which it serves the version
+-- a leaf shows a lone Get's reply, where the list before its read shows a catalog by which it
+-- serves the version
 abbrev pub LeafShows : List Entry → Seen → Op → Reply → Type 0
 LeafShows es seen (Tx version (Get key ∷ [])) reply =
     (entries : List CatEntry) × (addr : Addr) × (page : Page) × ShowsCatalog es entries × SeesPage seen addr page × (height_of page.body ≡ 0)
-    × ServesNamed entries version page × IsTrue (page_covers key page) × (reply ≡ Values (value_at (pairs_in page.body) key ∷ []))
+    × ServesNamed entries version page × IsTrue (page_covers key page)
+    × (reply ≡ Values (value_at (pairs_in page.body) key ∷ []))
 LeafShows es seen op reply = ⊥
 
 -- a catalog shows a refusing reply, or the listing
@@ -132,10 +135,12 @@ pub record FirstCatalog (seens : List Seen) (seen : Seen) (later : List Seen) : 
   pub catalog : IsCatalogRead seen
   pub none_before : AllByRecursion (λ s. IsCatalogRead s → ⊥) earlier
 
--- an operation's first catalog read shows the version as frozen, and leaves read after it show the pairs
+-- an operation's first catalog read shows the version as frozen, and leaves read after it show the
+-- pairs
 abbrev pub ScanShows : List Seen → Op → Reply → Type 0
 ScanShows seens (Scan version low high limit) (Pairs pairs) =
     (seen : Seen) × (later : List Seen) × (entries : List CatEntry) × (head : Head)
-    × FirstCatalog seens seen later × SeesCatalog seen entries × (head_named (heads_in entries) version ≡ Some head) × (head.frozen ≡ true)
+    × FirstCatalog seens seen later × SeesCatalog seen entries
+    × (head_named (heads_in entries) version ≡ Some head) × (head.frozen ≡ true)
     × ShowsPairs entries later version low high limit pairs
 ScanShows seens op reply = ⊥

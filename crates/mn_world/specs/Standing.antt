@@ -1,4 +1,5 @@
--- What the program that computes the flat memory keeps of the entries so far, and what that tells of them.
+-- What the program that computes the flat memory keeps of the entries so far, and what that tells
+-- of them.
 use Rattle.std.specs.Prelude.{◌≡◌, ℕ, ◌<◌, Bool, true, ◌&&◌, nat_eq, List, length, Option, Some, None, slice_index_or, bytes_eq, if◌then◌else◌}
 use Rattle.std.specs.Option.{option_map}
 use Rattle.std.specs.HashMap.{get}
@@ -45,7 +46,8 @@ keeps_vote s tid n = contains votes_same s.voted (vote_key tid n)
 abbrev pub kept_request : Standing → NodeNo → Option Request
 kept_request s n = option_map (λ r. r.now) (slice_index_or s.stopped.items n.0 None)
 
--- it tells the last minitransaction of each id, the votes, and the request inside which each node last stopped
+-- it tells the last minitransaction of each id, the votes, and the request inside which each node
+-- last stopped
 pub record Tells (s : Standing) (past : List Entry) : Type 0 where
   pub issued : (tid : Tid) → kept_mini s tid ≡ issue_named tid (issues_of past)
   pub voted : (tid : Tid) (n : NodeNo) → keeps_vote s tid n ≡ has_vote tid n past

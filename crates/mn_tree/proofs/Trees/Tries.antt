@@ -40,12 +40,15 @@ path_same xs ys e = cc
 
 module _ (parents : List (Option ℕ)) (v : VersionNo) (root : Addr) where
   -- moves behind moves
-  leads_on : (moves more : List Move) (d mid after : Drafted) → LeadsTo parents v root d moves mid → LeadsTo parents v root mid more after → LeadsTo parents v root d (moves ++ more) after
+  leads_on : (moves more : List Move) (d mid after : Drafted) → LeadsTo parents v root d moves mid
+      → LeadsTo parents v root mid more after → LeadsTo parents v root d (moves ++ more) after
   leads_on [] more d mid after leads rest = subst (λ (x : Drafted). LeadsTo parents v root x more after) (sym leads) rest
   leads_on (Comes h ∷ moves) more d mid after leads rest = (leads.0, leads_on moves more (drafted_with d h.addr h.page) mid after leads.1 rest)
   leads_on (Does step ∷ moves) more d mid after leads rest = (leads.0, leads.1, leads_on moves more (drafted_after v d step leads.0) mid after leads.2 rest)
 
-  found_on : (moves more : List Move) (d mid : Drafted) (before found last : List (Option (List ℕ))) → LeadsTo parents v root d moves mid → HaveFound parents v root d moves before found → HaveFound parents v root mid more found last
+  found_on : (moves more : List Move) (d mid : Drafted) (before found last : List (Option (List ℕ)))
+      → LeadsTo parents v root d moves mid → HaveFound parents v root d moves before found
+      → HaveFound parents v root mid more found last
       → HaveFound parents v root d (moves ++ more) before last
   found_on [] more d mid before found last leads have rest =
       subst (λ (l : List (Option (List ℕ))). HaveFound parents v root d more l last) (sym have) (subst (λ (x : Drafted). HaveFound parents v root x more found last) (sym leads) rest)
@@ -56,7 +59,8 @@ module _ (parents : List (Option ℕ)) (v : VersionNo) (root : Addr) where
       (now.0, found_on moves more (drafted_after v d step path) mid (before ++ noted_by (path_pairs path) step) found last (subst (λ (p : List Held). LeadsTo parents v root (drafted_after v d step p) moves mid) same leads.2) now.1 rest)
 
   -- what was found is the answer
-  met : (moves : List Move) (d after : Drafted) (n : ℕ) (before found : List (Option (List ℕ))) → LeadsTo parents v root d moves after → HaveFound parents v root d moves before found
+  met : (moves : List Move) (d after : Drafted) (n : ℕ) (before found : List (Option (List ℕ)))
+      → LeadsTo parents v root d moves after → HaveFound parents v root d moves before found
       → AreAnswered parents v root d moves n before (done_in moves) (Say.Values found)
   met [] d after n before found leads have = (refl, ap Say.Values (sym have))
   met (Comes h ∷ moves) d after n before found leads have = met moves (drafted_with d h.addr h.page) after n before found leads.1 have
@@ -70,7 +74,9 @@ module _ (parents : List (Option ℕ)) (v : VersionNo) (root : Addr) where
 
   -- up to an unmet Check
   unmet : (moves : List Move) (d mid : Drafted) (n k : ℕ) (before found : List (Option (List ℕ))) (step : Step) (path : List Held) (later : List Step) → n + length (done_in moves) ≡ k → LeadsTo parents v root d moves mid
-      → HaveFound parents v root d moves before found → walk parents v.0 mid.overlay.pages root (step_key step) ≡ Reached path → is_unmet (path_pairs path) step ≡ true
+      → HaveFound parents v root d moves before found
+      → walk parents v.0 mid.overlay.pages root (step_key step) ≡ Reached path
+      → is_unmet (path_pairs path) step ≡ true
       → AreAnswered parents v root d (moves ++ Does step ∷ []) n before (done_in moves ++ step ∷ later) (Say.Unmet k (value_at (path_pairs path) (step_key step)))
   unmet [] d mid n k before found step path later count leads have way fails = (
     refl,
@@ -110,7 +116,8 @@ module _ (parents : List (Option ℕ)) (v : VersionNo) (root : Addr) where
   done_on (Does step ∷ moves) more = ap (λ (l : List Step). step ∷ l) (done_on moves more)
 
   module _ (moves : List Move) (d : Drafted) (came : List Held) (done : List Step) (found : List (Option (List ℕ))) (come : ComeTo parents v root moves d came done found) where
-    takes_page : (h : Held) → MayCome parents v d h → ComeTo parents v root (moves ++ Comes h ∷ []) (drafted_with d h.addr h.page) (came ++ h ∷ []) done found
+    takes_page : (h : Held) → MayCome parents v d h
+        → ComeTo parents v root (moves ++ Comes h ∷ []) (drafted_with d h.addr h.page) (came ++ h ∷ []) done found
     takes_page h may = record {
       leads = leads_on moves (Comes h ∷ []) no_pages d (drafted_with d h.addr h.page) come.leads (may, refl);
       have = found_on moves (Comes h ∷ []) no_pages d [] found found come.leads come.have refl;
@@ -119,7 +126,9 @@ module _ (parents : List (Option ℕ)) (v : VersionNo) (root : Addr) where
     }
 
     module _ (step : Step) (path : List Held) (way : walk parents v.0 d.overlay.pages root (step_key step) ≡ Reached path) where
-      takes_step : is_unmet (path_pairs path) step ≡ false → (more : List (Option (List ℕ))) → noted_by (path_pairs path) step ≡ more → ComeTo parents v root (moves ++ Does step ∷ []) (drafted_after v d step path) came (done ++ step ∷ []) (found ++ more)
+      takes_step : is_unmet (path_pairs path) step ≡ false → (more : List (Option (List ℕ)))
+          → noted_by (path_pairs path) step ≡ more
+          → ComeTo parents v root (moves ++ Does step ∷ []) (drafted_after v d step path) came (done ++ step ∷ []) (found ++ more)
       takes_step met more noted = record {
         leads = leads_on moves (Does step ∷ []) no_pages d (drafted_after v d step path) come.leads (path, way, refl);
         have = found_on moves (Does step ∷ []) no_pages d [] found (found ++ more) come.leads come.have last;
@@ -127,12 +136,17 @@ module _ (parents : List (Option ℕ)) (v : VersionNo) (root : Addr) where
         steps = done_on moves (Does step ∷ []) ∙ ap (λ (l : List Step). l ++ step ∷ []) come.steps;
       }
         where
-          last : (other : List Held) → walk parents v.0 d.overlay.pages root (step_key step) ≡ Reached other → (is_unmet (path_pairs other) step ≡ false) × (found ++ noted_by (path_pairs other) step ≡ found ++ more)
+          last : (other : List Held)
+              → walk parents v.0 d.overlay.pages root (step_key step) ≡ Reached other
+              → (is_unmet (path_pairs other) step ≡ false)
+              × (found ++ noted_by (path_pairs other) step ≡ found ++ more)
           last other way' =
               let same : path ≡ other = path_same path other (sym way ∙ way') in
               (ap (λ (p : List Held). is_unmet (path_pairs p) step) (sym same) ∙ met, ap (λ (p : List Held). found ++ noted_by (path_pairs p) step) (sym same) ∙ ap (λ (l : List (Option (List ℕ))). found ++ l) noted)
 
-      ends_unmet : is_unmet (path_pairs path) step ≡ true → (x : Option (List ℕ)) → value_at (path_pairs path) (step_key step) ≡ x → EndsUnmet parents v root (moves ++ Does step ∷ []) (drafted_after v d step path) came done step x
+      ends_unmet : is_unmet (path_pairs path) step ≡ true → (x : Option (List ℕ))
+          → value_at (path_pairs path) (step_key step) ≡ x
+          → EndsUnmet parents v root (moves ++ Does step ∷ []) (drafted_after v d step path) came done step x
       ends_unmet fails x value = record {
         leads = leads_on moves (Does step ∷ []) no_pages d (drafted_after v d step path) come.leads (path, way, refl);
         answered = λ later.
@@ -148,31 +162,42 @@ moves_take_pages parents v root moves d came done found h come may = takes_page 
 pub moves_take_steps : MovesTakeSteps
 moves_take_steps s step moves came done found come = by_walk (walk s.parents s.version.0 s.draft.overlay.pages s.root (step_key step)) refl
   where
-    takes : (st : Step) (path : List Held) → walk s.parents s.version.0 s.draft.overlay.pages s.root (step_key st) ≡ Reached path → is_unmet (path_pairs path) st ≡ false → (more : List (Option (List ℕ))) → noted_by (path_pairs path) st ≡ more
+    takes : (st : Step) (path : List Held)
+        → walk s.parents s.version.0 s.draft.overlay.pages s.root (step_key st) ≡ Reached path
+        → is_unmet (path_pairs path) st ≡ false → (more : List (Option (List ℕ)))
+        → noted_by (path_pairs path) st ≡ more
         → ComeTo s.parents s.version s.root (moves ++ Does st ∷ []) (drafted_after s.version s.draft st path) came (done ++ st ∷ []) (found ++ more)
     takes st path way met more noted = takes_step s.parents s.version s.root moves s.draft came done found come st path way met more noted
 
     -- a step that finds nothing
-    plain : (st : Step) (path : List Held) → walk s.parents s.version.0 s.draft.overlay.pages s.root (step_key st) ≡ Reached path → is_unmet (path_pairs path) st ≡ false → noted_by (path_pairs path) st ≡ []
+    plain : (st : Step) (path : List Held)
+        → walk s.parents s.version.0 s.draft.overlay.pages s.root (step_key st) ≡ Reached path
+        → is_unmet (path_pairs path) st ≡ false → noted_by (path_pairs path) st ≡ []
         → ComeTo s.parents s.version s.root (moves ++ Does st ∷ []) (drafted_after s.version s.draft st path) came (done ++ st ∷ []) found
     plain st path way met noted =
         subst (λ (l : List (Option (List ℕ))). ComeTo s.parents s.version s.root (moves ++ Does st ∷ []) (drafted_after s.version s.draft st path) came (done ++ st ∷ []) l) (append-nil found) (takes st path way met [] noted)
 
-    by_step : (st : Step) (path : List Held) → walk s.parents s.version.0 s.draft.overlay.pages s.root (step_key st) ≡ Reached path → GoesOn s st moves came done found (drafted_after s.version s.draft st path) (told st (path_pairs path))
+    by_step : (st : Step) (path : List Held)
+        → walk s.parents s.version.0 s.draft.overlay.pages s.root (step_key st) ≡ Reached path
+        → GoesOn s st moves came done found (drafted_after s.version s.draft st path) (told st (path_pairs path))
     by_step (Get key) path way = takes (Get key) path way refl (value_at (path_pairs path) key ∷ []) refl
     by_step (Put key value) path way = plain (Put key value) path way refl refl
     by_step (Del key) path way = by_some (is_some (value_at (path_pairs path) key))
       where
-        by_some : (t : Bool) → GoesOn s (Del key) moves came done found (drafted_after s.version s.draft (Del key) path) (if t then Tell.Changed else Tell.Same)
+        by_some : (t : Bool)
+            → GoesOn s (Del key) moves came done found (drafted_after s.version s.draft (Del key) path) (if t then Tell.Changed else Tell.Same)
         by_some true = plain (Del key) path way refl refl
         by_some false = plain (Del key) path way refl refl
     by_step (Check key want) path way = by_unmet (is_unmet (path_pairs path) (Check key want)) refl
       where
-        by_unmet : (t : Bool) → is_unmet (path_pairs path) (Check key want) ≡ t → GoesOn s (Check key want) moves came done found (drafted_after s.version s.draft (Check key want) path) (if t then Tell.Unmet (value_at (path_pairs path) key) else Tell.Same)
+        by_unmet : (t : Bool) → is_unmet (path_pairs path) (Check key want) ≡ t
+            → GoesOn s (Check key want) moves came done found (drafted_after s.version s.draft (Check key want) path) (if t then Tell.Unmet (value_at (path_pairs path) key) else Tell.Same)
         by_unmet true e = ends_unmet s.parents s.version s.root moves s.draft came done found come (Check key want) path way e (value_at (path_pairs path) key) refl
         by_unmet false e = plain (Check key want) path way e refl
 
-    by_walk : (w : Walk) → walk s.parents s.version.0 s.draft.overlay.pages s.root (step_key step) ≡ w → GoesOn s step moves came done found (stepping s step w).state.draft (stepping s step w).answer
+    by_walk : (w : Walk)
+        → walk s.parents s.version.0 s.draft.overlay.pages s.root (step_key step) ≡ w
+        → GoesOn s step moves came done found (stepping s step w).state.draft (stepping s step w).answer
     by_walk (Missing addr above) is = refl
     by_walk (Wrong addr) is = refl
     by_walk (Reached path) is = by_step step path is
@@ -188,14 +213,16 @@ module _ (parents : List (Option ℕ)) (v : ℕ) (pages : List Held) (root : Add
   addr_same' : (a b : Addr) (x y : Option ℕ) → Missing a x ≡ Missing b y → a ≡ b
   addr_same' a b x y e = cc
 
-  down_absent : (height : ℕ) (h : Held) (hs : List Held) → walk_down parents v height pages key h hs ≡ Missing addr above → held_at pages addr ≡ None
+  down_absent : (height : ℕ) (h : Held) (hs : List Held)
+      → walk_down parents v height pages key h hs ≡ Missing addr above → held_at pages addr ≡ None
   down_absent zero h hs e = absurd cc
   down_absent (suc height) h hs e = by_child (child_for (children_of h.page) key) e (λ next p f. down_absent height (held next p) (h ∷ hs) f)
     where
       Further : Type 0
       Further = (next : Addr) (p : Page) → walk_down parents v height pages key (held next p) (h ∷ hs) ≡ Missing addr above → held_at pages addr ≡ None
 
-      by_goes : (next : Addr) (p : Page) (t : Bool) → (if t then walk_down parents v height pages key (held next p) (h ∷ hs) else Wrong next) ≡ Missing addr above → Further → held_at pages addr ≡ None
+      by_goes : (next : Addr) (p : Page) (t : Bool)
+          → (if t then walk_down parents v height pages key (held next p) (h ∷ hs) else Wrong next) ≡ Missing addr above → Further → held_at pages addr ≡ None
       by_goes next p true f rest = rest next p f
       by_goes next p false f rest = absurd cc
 
@@ -214,11 +241,13 @@ module _ (parents : List (Option ℕ)) (v : ℕ) (pages : List Held) (root : Add
   walk_absent : walk parents v pages root key ≡ Missing addr above → held_at pages addr ≡ None
   walk_absent e = by_page (held_at pages root) refl e
     where
-      by_met : (p : Page) (t : Bool) → (if t then walk_down parents v (height_of p.body) pages key (held root p) [] else Wrong root) ≡ Missing addr above → held_at pages addr ≡ None
+      by_met : (p : Page) (t : Bool)
+          → (if t then walk_down parents v (height_of p.body) pages key (held root p) [] else Wrong root) ≡ Missing addr above → held_at pages addr ≡ None
       by_met p true f = down_absent (height_of p.body) (held root p) [] f
       by_met p false f = absurd cc
 
-      by_page : (o : Option Page) → held_at pages root ≡ o → option_map_or (λ p. if is_met parents v key p then walk_down parents v (height_of p.body) pages key (held root p) [] else Wrong root) o (Missing root None) ≡ Missing addr above
+      by_page : (o : Option Page) → held_at pages root ≡ o
+          → option_map_or (λ p. if is_met parents v key p then walk_down parents v (height_of p.body) pages key (held root p) [] else Wrong root) o (Missing root None) ≡ Missing addr above
           → held_at pages addr ≡ None
       by_page None there f = ap (held_at pages) (sym (addr_same' root addr None above f)) ∙ there
       by_page (Some p) there f = by_met p (is_met parents v key p) f
@@ -229,18 +258,21 @@ module _ (parents : List (Option ℕ)) (v : ℕ) (pages : List Held) (root : Add
   same_addr : (a b : Addr) (x y : Option ℕ) → Missing a x ≡ Missing b y → a ≡ b
   same_addr a b x y e = cc
 
-  down_place : (height : ℕ) (h : Held) (hs : List Held) → held_at pages h.addr ≡ Some h.page → walk_down parents v height pages key h hs ≡ Missing addr above → P addr
+  down_place : (height : ℕ) (h : Held) (hs : List Held) → held_at pages h.addr ≡ Some h.page
+      → walk_down parents v height pages key h hs ≡ Missing addr above → P addr
   down_place zero h hs there e = absurd cc
   down_place (suc height) h hs there e = by_child (child_for (children_of h.page) key) refl e (λ next p at f. down_place height (held next p) (h ∷ hs) at f)
     where
       Further : Type 0
       Further = (next : Addr) (p : Page) → held_at pages next ≡ Some p → walk_down parents v height pages key (held next p) (h ∷ hs) ≡ Missing addr above → P addr
 
-      by_goes : (next : Addr) (p : Page) (t : Bool) → held_at pages next ≡ Some p → (if t then walk_down parents v height pages key (held next p) (h ∷ hs) else Wrong next) ≡ Missing addr above → Further → P addr
+      by_goes : (next : Addr) (p : Page) (t : Bool) → held_at pages next ≡ Some p
+          → (if t then walk_down parents v height pages key (held next p) (h ∷ hs) else Wrong next) ≡ Missing addr above → Further → P addr
       by_goes next p true at f rest = rest next p at f
       by_goes next p false at f rest = absurd cc
 
-      by_page : (next : Addr) (o : Option Page) → child_for (children_of h.page) key ≡ Some next → held_at pages next ≡ o
+      by_page : (next : Addr) (o : Option Page) → child_for (children_of h.page) key ≡ Some next
+          → held_at pages next ≡ o
           → option_map_or (λ p. if goes_on parents v height key p then walk_down parents v height pages key (held next p) (h ∷ hs) else Wrong next) o (Missing next (Some (suc height))) ≡ Missing addr above → Further → P addr
       by_page next None chosen at f rest = subst P (same_addr next addr (Some (suc height)) above f) (each h.addr h.page next there chosen)
       by_page next (Some p) chosen at f rest = by_goes next p (goes_on parents v height key p) at f rest
@@ -255,11 +287,13 @@ module _ (parents : List (Option ℕ)) (v : ℕ) (pages : List Held) (root : Add
   walk_place : walk parents v pages root key ≡ Missing addr above → P addr
   walk_place e = by_page (held_at pages root) refl e
     where
-      by_met : (p : Page) (t : Bool) → held_at pages root ≡ Some p → (if t then walk_down parents v (height_of p.body) pages key (held root p) [] else Wrong root) ≡ Missing addr above → P addr
+      by_met : (p : Page) (t : Bool) → held_at pages root ≡ Some p
+          → (if t then walk_down parents v (height_of p.body) pages key (held root p) [] else Wrong root) ≡ Missing addr above → P addr
       by_met p true at f = down_place (height_of p.body) (held root p) [] at f
       by_met p false at f = absurd cc
 
-      by_page : (o : Option Page) → held_at pages root ≡ o → option_map_or (λ p. if is_met parents v key p then walk_down parents v (height_of p.body) pages key (held root p) [] else Wrong root) o (Missing root None) ≡ Missing addr above → P addr
+      by_page : (o : Option Page) → held_at pages root ≡ o
+          → option_map_or (λ p. if is_met parents v key p then walk_down parents v (height_of p.body) pages key (held root p) [] else Wrong root) o (Missing root None) ≡ Missing addr above → P addr
       by_page None at f = subst P (same_addr root addr None above f) at_root
       by_page (Some p) at f = by_met p (is_met parents v key p) at f
 
@@ -268,7 +302,8 @@ record Needs (s : TreeState) (step : Step) (addr : Addr) : Type 0 where
   above : Option ℕ
   way : walk s.parents s.version.0 s.draft.overlay.pages s.root (step_key step) ≡ Missing addr above
 
-needs : (s : TreeState) (step : Step) (addr : Addr) → (stepping s step (walk s.parents s.version.0 s.draft.overlay.pages s.root (step_key step))).answer ≡ Tell.Need addr → Needs s step addr
+needs : (s : TreeState) (step : Step) (addr : Addr)
+    → (stepping s step (walk s.parents s.version.0 s.draft.overlay.pages s.root (step_key step))).answer ≡ Tell.Need addr → Needs s step addr
 needs s step addr e = by_walk (walk s.parents s.version.0 s.draft.overlay.pages s.root (step_key step)) refl e
   where
     need_same : (a b : Addr) → Tell.Need a ≡ Tell.Need b → a ≡ b
@@ -284,11 +319,14 @@ needs s step addr e = by_walk (walk s.parents s.version.0 s.draft.overlay.pages 
         by_some false g = absurd cc
     no_told (Check key want) ps f = by_unmet (is_unmet ps (Check key want)) f
       where
-        by_unmet : (t : Bool) → (if t then Tell.Unmet (value_at ps key) else Tell.Same) ≡ Tell.Need addr → ⊥
+        by_unmet : (t : Bool)
+            → (if t then Tell.Unmet (value_at ps key) else Tell.Same) ≡ Tell.Need addr → ⊥
         by_unmet true g = absurd cc
         by_unmet false g = absurd cc
 
-    by_walk : (w : Walk) → walk s.parents s.version.0 s.draft.overlay.pages s.root (step_key step) ≡ w → (stepping s step w).answer ≡ Tell.Need addr → Needs s step addr
+    by_walk : (w : Walk)
+        → walk s.parents s.version.0 s.draft.overlay.pages s.root (step_key step) ≡ w
+        → (stepping s step w).answer ≡ Tell.Need addr → Needs s step addr
     by_walk (Missing at above) is f = record { above = above; way = is ∙ ap (λ (a : Addr). Missing a above) (need_same at addr f) }
     by_walk (Wrong at) is f = absurd cc
     by_walk (Reached path) is f = absurd (no_told step (path_pairs path) f)
@@ -313,7 +351,8 @@ child_place P first low (c ∷ cs) high key next one all e = by_cover (covers_ke
     same : (a b : Addr) → Some a ≡ Some b → a ≡ b
     same a b f = cc
 
-    by_cover : (t : Bool) → (if t then Some first else child_for (ranges_from c.addr c.separator cs high) key) ≡ Some next → (child_for (ranges_from c.addr c.separator cs high) key ≡ Some next → P next) → P next
+    by_cover : (t : Bool)
+        → (if t then Some first else child_for (ranges_from c.addr c.separator cs high) key) ≡ Some next → (child_for (ranges_from c.addr c.separator cs high) key ≡ Some next → P next) → P next
     by_cover true f rest = subst P (same first next f) one
     by_cover false f rest = rest f
 
@@ -333,17 +372,20 @@ needs_are_slots s step moves addr few root steps leads e =
     sized : AreSized top s.draft.overlay
     sized = moves_sized s.parents s.version s.root moves s.draft few steps leads
 
-    numbered : (node slot : ℕ) → node ≡ 8 → ◌≡◌ {A = Addr} (record { node = record { 0 = node }; slot = slot }) (new_addr slot)
+    numbered : (node slot : ℕ) → node ≡ 8
+        → ◌≡◌ {A = Addr} (record { node = record { 0 = node }; slot = slot }) (new_addr slot)
     numbered node slot is = ap (λ k. let a : Addr = record { node = record { 0 = k }; slot = slot } in a) is
 
-    by_place : IsPlace s.draft.overlay.fresh addr → held_at s.draft.overlay.pages addr ≡ None → IsAddr addr
+    by_place : IsPlace s.draft.overlay.fresh addr → held_at s.draft.overlay.pages addr ≡ None
+        → IsAddr addr
     by_place (inl is) none = is
     by_place (inr fresh) none =
         let new = (moves_read s.parents s.version s.root moves s.draft leads).new addr.slot fresh.1 in
         absurd (nothing new.0 (held_at s.draft.overlay.pages addr) none (ap (held_at s.draft.overlay.pages) (numbered addr.node.0 addr.slot (eqb-true addr.node.0 8 fresh.0)) ∙ new.1))
 
 -- and so, where it fits, it may come in
-may_come : (s : TreeState) (step : Step) (h : Held) (above : Option ℕ) → walk s.parents s.version.0 s.draft.overlay.pages s.root (step_key step) ≡ Missing h.addr above
+may_come : (s : TreeState) (step : Step) (h : Held) (above : Option ℕ)
+    → walk s.parents s.version.0 s.draft.overlay.pages s.root (step_key step) ≡ Missing h.addr above
     → fits (stepping s step (walk s.parents s.version.0 s.draft.overlay.pages s.root (step_key step))).state h.page ≡ true → IsPage h.page → IsAddr h.addr → held_at s.draft.overlay.pages h.addr ≡ None → MayCome s.parents s.version s.draft h
 unfolding is_live
 may_come s step h above way fit page addr absent =
@@ -364,18 +406,21 @@ placed_count : (by : List Addr) (b : Body) → count_in (placed_body by b) ≡ c
 placed_count by (Leaf pairs) = refl
 placed_count by (Inner height first rest) = ap (λ n. n + 1) (mapped rest)
   where
-    mapped : (cs : List Child) → length (map (λ c. child_at c.separator (placed_addr by c.addr)) cs) ≡ length cs
+    mapped : (cs : List Child)
+        → length (map (λ c. child_at c.separator (placed_addr by c.addr)) cs) ≡ length cs
     mapped [] = refl
     mapped (c ∷ cs) = ap suc (mapped cs)
 
-filled_count : (most fresh top : ℕ) (low : List ℕ) (high : Option (List ℕ)) (b : Body) → IsFilled most fresh top low high b → count_in b ≤ most
+filled_count : (most fresh top : ℕ) (low : List ℕ) (high : Option (List ℕ)) (b : Body)
+    → IsFilled most fresh top low high b → count_in b ≤ most
 filled_count most fresh top low high (Leaf pairs) is = is.0
 filled_count most fresh top low high (Inner height first rest) is = is.3
 
 abbrev HasRoom : Addr × Page → Type 0
 HasRoom h = (count_in h.1.body ≤ 8) × (length h.1.low ≤ 32)
 
-room_of : (fresh top seq : ℕ) (by : List Addr) (x : Addr) (p : Page) → IsSized fresh top p → HasRoom (x, placed_page by seq p)
+room_of : (fresh top seq : ℕ) (by : List Addr) (x : Addr) (p : Page) → IsSized fresh top p
+    → HasRoom (x, placed_page by seq p)
 room_of fresh top seq by x p is = (subst (λ n. n ≤ 8) (sym (placed_count by p.body)) (filled_count 8 fresh top p.low p.high p.body is.body), is.low.0)
 
 pub placed_have_room : PlacedHaveRoom
@@ -390,20 +435,24 @@ placed_have_room parents v root moves d slots few steps leads = all_append HasRo
     sized : AreSized top d.overlay
     sized = moves_sized parents v root moves d few steps leads
 
-    olds : (xs : List Addr) → AllByRecursion HasRoom (map pair_of (flat_map (placed_old by d.overlay.pages) xs))
+    olds : (xs : List Addr)
+        → AllByRecursion HasRoom (map pair_of (flat_map (placed_old by d.overlay.pages) xs))
     olds [] = tt
     olds (x ∷ xs) = cases (held_at d.overlay.pages x) refl (olds xs)
       where
-        cases : (o : Option Page) → held_at d.overlay.pages x ≡ o → AllByRecursion HasRoom (map pair_of (flat_map (placed_old by d.overlay.pages) xs))
+        cases : (o : Option Page) → held_at d.overlay.pages x ≡ o
+            → AllByRecursion HasRoom (map pair_of (flat_map (placed_old by d.overlay.pages) xs))
             → AllByRecursion HasRoom (map pair_of (option_to_list (option_map (λ p. record { addr = x; page = placed_page by (next_number p.seq) p }) o) ++ flat_map (placed_old by d.overlay.pages) xs))
         cases None there rest = rest
         cases (Some p) there rest = (room_of d.overlay.fresh top (next_number p.seq) by x p (sized.each x p there).1, rest)
 
-    news : (ns : List ℕ) → AllByRecursion HasRoom (map pair_of (flat_map (placed_new by d.overlay.pages) ns))
+    news : (ns : List ℕ)
+        → AllByRecursion HasRoom (map pair_of (flat_map (placed_new by d.overlay.pages) ns))
     news [] = tt
     news (n ∷ ns) = cases (held_at d.overlay.pages (new_addr n)) refl (news ns)
       where
-        cases : (o : Option Page) → held_at d.overlay.pages (new_addr n) ≡ o → AllByRecursion HasRoom (map pair_of (flat_map (placed_new by d.overlay.pages) ns))
+        cases : (o : Option Page) → held_at d.overlay.pages (new_addr n) ≡ o
+            → AllByRecursion HasRoom (map pair_of (flat_map (placed_new by d.overlay.pages) ns))
             → AllByRecursion HasRoom (map pair_of (option_to_list (option_map (λ p. record { addr = placed_addr by (new_addr n); page = placed_page by p.seq p }) o) ++ flat_map (placed_new by d.overlay.pages) ns))
         cases None there rest = rest
         cases (Some p) there rest = (room_of d.overlay.fresh top p.seq by (placed_addr by (new_addr n)) p (sized.each (new_addr n) p there).1, rest)

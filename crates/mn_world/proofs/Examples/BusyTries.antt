@@ -16,19 +16,24 @@ use Rattle.mn_world.proofs.Examples.Tries.{leaf_bytes, catalog_seen, leaf_seen, 
 
 -- How each kind fails
 
-locked_fails : (s : ℕ) (before : List Entry) → FailsAs 2 put (locked.made s ++ before) (Lock (node 0) 128 64 (id 1 1))
+locked_fails : (s : ℕ) (before : List Entry)
+    → FailsAs 2 put (locked.made s ++ before) (Lock (node 0) 128 64 (id 1 1))
 locked_fails s before = inl (_, refl, refl)
 
-moved_fails : (found : List ℕ) (s : ℕ) (before : List Entry) → FailsAs 2 put ((moved found).made s ++ before) (Moved (node 1) 21504 leaf_bytes found)
+moved_fails : (found : List ℕ) (s : ℕ) (before : List Entry)
+    → FailsAs 2 put ((moved found).made s ++ before) (Moved (node 1) 21504 leaf_bytes found)
 moved_fails found s before = inl (_, refl, (21504, leaf_bytes, refl, (leaf_seen, (0, omega arith, refl), refl, lit≤ tt, leaf_shown), refl))
 
-entry_moved_fails : (found : List ℕ) (s : ℕ) (before : List Entry) → FailsAs 2 put ((entry_moved found).made s ++ before) (Moved (node 0) 128 (entry_bytes m2) found)
+entry_moved_fails : (found : List ℕ) (s : ℕ) (before : List Entry)
+    → FailsAs 2 put ((entry_moved found).made s ++ before) (Moved (node 0) 128 (entry_bytes m2) found)
 entry_moved_fails found s before = inl (_, refl, (128, entry_bytes m2, refl, (catalog_seen, (1, omega arith, refl), refl, lit≤ tt, entry_shown), refl))
 
-forced_fails : (s : ℕ) (before : List Entry) → FailsAs 2 put (forced.made s ++ before) (Forced (id 0 (s + 2)))
+forced_fails : (s : ℕ) (before : List Entry)
+    → FailsAs 2 put (forced.made s ++ before) (Forced (id 0 (s + 2)))
 forced_fails s before = inl (_, refl, refl)
 
-strayed_fails : (s : ℕ) (before : List Entry) → FailsAs 2 put (strayed.made s ++ before) (Path (at 0 1) 6)
+strayed_fails : (s : ℕ) (before : List Entry)
+    → FailsAs 2 put (strayed.made s ++ before) (Path (at 0 1) 6)
 strayed_fails s before = inr (inl (
   child_seen,
   key 7,
@@ -48,7 +53,8 @@ strayed_fails s before = inr (inl (
 
 -- Eight tries
 
-six_fail : (first : Kind) → AllByRecursion (λ try. (cause : Busy) × FailsAs 2 put try cause) (six_after first)
+six_fail : (first : Kind)
+    → AllByRecursion (λ try. (cause : Busy) × FailsAs 2 put try cause) (six_after first)
 six_fail first = (
   (_, locked_fails 18 (strayed.after 15)),
   (

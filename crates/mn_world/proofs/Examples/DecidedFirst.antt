@@ -1,4 +1,5 @@
--- A client that decides an id at a node before it prepares it there meets its own lock: each step keeps the protocol, and the id counts as settled.
+-- A client that decides an id at a node before it prepares it there meets its own lock: each step
+-- keeps the protocol, and the id counts as settled.
 use Rattle.std.proofs.Common.{◌≡◌, ℕ, false, true, List, [], ◌∷◌, replicate, Some, None, refl, arith, lit<, lit≤}
 use Rattle.mn_base.specs.declared.op.Op.TheVariants.{Versions}
 use Rattle.mn_mini.specs.declared.item.Item.TheVariants.{Read, Write}

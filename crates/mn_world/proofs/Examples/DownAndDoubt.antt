@@ -1,4 +1,5 @@
--- Down and InDoubt: a participant that is down, and stops inside a Prepare that is and that isn't the last.
+-- Down and InDoubt: a participant that is down, and stops inside a Prepare that is and that isn't
+-- the last.
 use Rattle.std.proofs.Common.{false, List, [], ◌∷◌, Some, None, refl, arith, lit<, lit≤}
 use Rattle.mn_base.specs.declared.answer.Answer.TheVariants as Gives
 use Rattle.mn_mini.specs.declared.request.Request.TheVariants as Ask
@@ -70,7 +71,8 @@ legal_given_up = (
 stopped_answered : IsLegalBy given_up (own (Did.Answered 2 (Gives.Down (node 0))))
 stopped_answered = record { actor = lit≤ tt; node = tt; step = ((put, refl), (refl, (refl, refl))) }
 
-first_leaves_no_doubt : Shows given_up (since_begin given_up) put (Gives.InDoubt (id 0 2) (node 0)) → ⊥
+first_leaves_no_doubt : Shows given_up (since_begin given_up) put (Gives.InDoubt (id 0 2) (node 0))
+    → ⊥
 first_leaves_no_doubt shown = let e = shown.4 in cc
 
 -- Node 1 stops inside the last Prepare: whether the plan is committed is not known

@@ -1,4 +1,5 @@
--- Entries of one client over two nodes, for worked examples: a list is put together of them, newest first.
+-- Entries of one client over two nodes, for worked examples: a list is put together of them, newest
+-- first.
 use Rattle.std.proofs.Common.{◌≡◌, ℕ, zero, suc, ◌+◌, ◌⊎◌, inl, inr, Bool, true, false, ◌&&◌, List, [], ◌∷◌, ◌++◌, Option, Some, None, if◌then◌else◌, refl, subst, sym, ap, ◌∙◌, arith, lit<, lit≤, Contains}
 use Rattle.std.specs.Prelude.{⊤}
 use Rattle.std.specs.List.{flat_map}
@@ -108,14 +109,17 @@ one_of_two x y z (zero, in', is) = inl cc
 one_of_two x y z (suc zero, in', is) = inr cc
 one_of_two x y z (suc (suc k), in', is) = absurd (omega arith)
 
-pub one_of_three : {A : Type 0} (x y z w : A) → Contains (x ∷ y ∷ z ∷ []) w → (x ≡ w) ⊎ (y ≡ w) ⊎ (z ≡ w)
+pub one_of_three : {A : Type 0} (x y z w : A) → Contains (x ∷ y ∷ z ∷ []) w
+    → (x ≡ w) ⊎ (y ≡ w) ⊎ (z ≡ w)
 one_of_three x y z w (zero, in', is) = inl cc
 one_of_three x y z w (suc zero, in', is) = inr (inl cc)
 one_of_three x y z w (suc (suc zero), in', is) = inr (inr cc)
 one_of_three x y z w (suc (suc (suc k)), in', is) = absurd (omega arith)
 
 -- an operation whose last issue is a read is answered by no plan
-pub read_is_no_plan : (es now before : List Entry) (i j : Issued) (js : List Issued) → issues_of now ≡ j ∷ js → is_plan j.mini.items ≡ false → LastIssue es now i before → is_plan i.mini.items ≡ true → ⊥
+pub read_is_no_plan : (es now before : List Entry) (i j : Issued) (js : List Issued)
+    → issues_of now ≡ j ∷ js → is_plan j.mini.items ≡ false → LastIssue es now i before
+    → is_plan i.mini.items ≡ true → ⊥
 read_is_no_plan es now before i j js issued reads last plans =
     let same : j ≡ i = let e : j ∷ js ≡ i ∷ last.earlier = sym issued ∙ last.of_operation in cc in
     false_not_true (sym reads ∙ (ap (λ (x : Issued). is_plan x.mini.items) same ∙ plans))
@@ -124,7 +128,8 @@ read_is_no_plan es now before i j js issued reads last plans =
     false_not_true e = cc
 
 -- no catalog refuses a lone Get with values
-pub values_refuse_nothing : (heads : List Head) (name k : List ℕ) (found : List (Option (List ℕ))) → refusal heads (Tx name (Get k ∷ [])) ≡ Some (Values found) → ⊥
+pub values_refuse_nothing : (heads : List Head) (name k : List ℕ) (found : List (Option (List ℕ)))
+    → refusal heads (Tx name (Get k ∷ [])) ≡ Some (Values found) → ⊥
 values_refuse_nothing heads name k found e = at (head_named heads name) e
   where
     frozen : (b : Bool) → (if b && false then Some Frozen else None) ≡ Some (Values found) → ⊥
@@ -149,7 +154,8 @@ calls_append [] ys = refl
 calls_append (x ∷ xs) ys = ap (λ (l : List Call). call_in x.node x.what ++ l) (calls_append xs ys) ∙ sym (append_assoc (call_in x.node x.what) (calls_of xs) (calls_of ys))
 
 -- what a part of a list has seen, the whole has seen
-pub seen_in_part : (now rest part earlier : List Entry) (s : Seen) → now ≡ rest ++ part ++ earlier → Contains (seen_in part) s → Contains (seen_in now) s
+pub seen_in_part : (now rest part earlier : List Entry) (s : Seen) → now ≡ rest ++ part ++ earlier
+    → Contains (seen_in part) s → Contains (seen_in now) s
 seen_in_part now rest part earlier s split has =
     let parts : seen_in (rest ++ part ++ earlier) ≡ seen_in rest ++ seen_in part ++ seen_in earlier =
     seen_append (rest ++ part) earlier ∙ ap (λ (l : List Seen). l ++ seen_in earlier) (seen_append rest part) in

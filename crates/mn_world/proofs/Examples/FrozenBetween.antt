@@ -1,4 +1,5 @@
--- A version is frozen between the tries of a transaction that would change it: the first try finds its entry changed, and the second is answered by the catalog that it reads.
+-- A version is frozen between the tries of a transaction that would change it: the first try finds
+-- its entry changed, and the second is answered by the catalog that it reads.
 use Rattle.std.proofs.Common.{◌≡◌, ℕ, true, false, List, [], ◌∷◌, ◌++◌, replicate, Some, None, inl, inr, refl, lit<, lit≤}
 use Rattle.mn_base.specs.declared.op.Step.TheVariants.{Check, Put}
 use Rattle.mn_base.specs.declared.op.Op.{Op}

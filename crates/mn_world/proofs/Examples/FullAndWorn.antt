@@ -1,4 +1,5 @@
--- Want of slots and want of numbers: what a later try read of a full leaf, of counts and of a last number shows Full and Worn.
+-- Want of slots and want of numbers: what a later try read of a full leaf, of counts and of a last
+-- number shows Full and Worn.
 use Rattle.std.proofs.Common.{◌≡◌, ℕ, zero, suc, ◌^◌, ◌-◌, inl, inr, List, [], ◌∷◌, ◌++◌, Some, None, refl, subst, slice_get, lit<, lit≤}
 use Rattle.byteorder.specs.Endian.{big_bytes}
 use Rattle.mn_base.specs.declared.op.Op.{Op}
@@ -111,7 +112,8 @@ last_number_shown = refl
 
 -- Full
 
--- the first try was refused by a lock; the second reads the catalog, the leaf and both counts, which leave one slot
+-- the first try was refused by a lock; the second reads the catalog, the leaf and both counts,
+-- which leave one slot
 abbrev full_try : List Entry
 full_try =
     read 6 (count_place (node 1)) (big_bytes 8 4096) ++ read 5 (count_place (node 0)) (big_bytes 8 4095) ++ read 4 (page_place (at 1 1)) full_bytes ++ read 3 catalog_place catalog_bytes ++ locked.after 0
@@ -139,7 +141,8 @@ two_slots = (
 one_free : FreeSlots 2 (seen_in full_try) 1
 one_free = (4095 ∷ 4096 ∷ [], refl, refl, λ n count is. by n.0 count is)
   where
-    by : (k count : ℕ) → slice_get (4095 ∷ 4096 ∷ []) k ≡ Some count → ShowsBytes (seen_in full_try) (node k) 16 (big_bytes 8 count)
+    by : (k count : ℕ) → slice_get (4095 ∷ 4096 ∷ []) k ≡ Some count
+        → ShowsBytes (seen_in full_try) (node k) 16 (big_bytes 8 count)
     by zero count is =
         let same : ◌≡◌ {A = ℕ} 4095 count = cc in
         subst (λ (c : ℕ). ShowsBytes (seen_in full_try) (node 0) 16 (big_bytes 8 c)) same (seen (count_place (node 0)) (big_bytes 8 4095), (1, lit< tt, refl), refl, lit≤ tt, refl)

@@ -1,4 +1,5 @@
--- Lists that show neither Full nor Worn: one that looked at the counts, and one whose leaf has the number before the last.
+-- Lists that show neither Full nor Worn: one that looked at the counts, and one whose leaf has the
+-- number before the last.
 use Rattle.std.proofs.Common.{◌≡◌, ℕ, ◌-◌, ◌^◌, ◌≤◌, ◌⊎◌, inl, inr, List, [], ◌∷◌, ◌++◌, length, get_or, None, refl, subst, sym, ap, ◌∙◌, arith, Contains, Bool, true, false, ◌&&◌}
 use Rattle.std.specs.Prelude.{IsTrue}
 use Rattle.std.specs.List.{list_all}
@@ -23,7 +24,8 @@ use Rattle.mn_world.proofs.Examples.Tries.{catalog_bytes, catalog_seen, put, loc
 use Rattle.mn_world.proofs.Examples.FullAndWorn.{full_bytes, snapshot, snapshot_first}
 
 -- no seen bytes of a list stand where these do
-none_shows : (x y z : Seen) (seens : List Seen) (n : NodeNo) (start : ℕ) (bytes : List ℕ) → ((s : Seen) → Contains seens s → Contains (x ∷ y ∷ z ∷ []) s)
+none_shows : (x y z : Seen) (seens : List Seen) (n : NodeNo) (start : ℕ) (bytes : List ℕ)
+    → ((s : Seen) → Contains seens s → Contains (x ∷ y ∷ z ∷ []) s)
     → ((s : Seen) → (x ≡ s) ⊎ (y ≡ s) ⊎ (z ≡ s) → s.place.node ≡ n → s.place.start ≤ start → bytes_in s.bytes (start - s.place.start) (length bytes) ≡ bytes → ⊥) → ShowsBytes seens n start bytes → ⊥
 none_shows x y z seens n start bytes inside apart (s, has, here, low, are) = apart s (one_of_three x y z s (inside s has)) here low are
 
@@ -37,16 +39,21 @@ peeked_counts =
 abbrev full_seen : Seen
 full_seen = seen (page_place (at 1 1)) full_bytes
 
-no_count : (bytes : List ℕ) (s : Seen) → (full_seen ≡ s) ⊎ (catalog_seen ≡ s) ⊎ (catalog_seen ≡ s) → s.place.node ≡ node 0 → s.place.start ≤ 16 → bytes_in s.bytes (16 - s.place.start) (length bytes) ≡ bytes → ⊥
+no_count : (bytes : List ℕ) (s : Seen) → (full_seen ≡ s) ⊎ (catalog_seen ≡ s) ⊎ (catalog_seen ≡ s)
+    → s.place.node ≡ node 0 → s.place.start ≤ 16
+    → bytes_in s.bytes (16 - s.place.start) (length bytes) ≡ bytes → ⊥
 no_count bytes s (inl is) here low are = let e = ap (λ (x : Seen). x.place.start) is in absurd (omega arith)
 no_count bytes s (inr (inl is)) here low are = let e = ap (λ (x : Seen). x.place.start) is in absurd (omega arith)
 no_count bytes s (inr (inr is)) here low are = let e = ap (λ (x : Seen). x.place.start) is in absurd (omega arith)
 
-no_free_slots : (seens : List Seen) (free : ℕ) → ((s : Seen) → Contains seens s → Contains (full_seen ∷ catalog_seen ∷ catalog_seen ∷ []) s) → FreeSlots 2 seens free → ⊥
+no_free_slots : (seens : List Seen) (free : ℕ)
+    → ((s : Seen) → Contains seens s → Contains (full_seen ∷ catalog_seen ∷ catalog_seen ∷ []) s)
+    → FreeSlots 2 seens free → ⊥
 no_free_slots seens free inside ([], many, sum, shown) = absurd (omega arith)
 no_free_slots seens free inside (c ∷ cs, many, sum, shown) = none_shows full_seen catalog_seen catalog_seen seens (node 0) 16 (big_bytes 8 c) inside (no_count (big_bytes 8 c)) (shown (node 0) c refl)
 
-peeked_shows_no_full : (es : List Entry) (need free : ℕ) → Shows es peeked_counts put (Gives.Full need free) → ⊥
+peeked_shows_no_full : (es : List Entry) (need free : ℕ)
+    → Shows es peeked_counts put (Gives.Full need free) → ⊥
 peeked_shows_no_full es need free (given_up, try, last, below, needs, slots) =
     no_free_slots (seen_in try) free (λ s has. seen_in_part peeked_counts last.rest try last.earlier s last.split has) slots
 
@@ -77,7 +84,9 @@ lesser_try = read 4 (page_place (at 1 1)) lesser_bytes ++ read 3 catalog_place c
 nodes_differ : catalog_seen.place.node ≡ node 1 → ⊥
 nodes_differ e = let n = ap (λ (x : NodeNo). x.0) e in absurd (omega arith)
 
-no_last_number : (s : Seen) → (lesser_seen ≡ s) ⊎ (catalog_seen ≡ s) ⊎ (catalog_seen ≡ s) → s.place.node ≡ node 1 → s.place.start ≤ 21504 → bytes_in s.bytes (21504 - s.place.start) 8 ≡ big_bytes 8 (2 ^ 64 - 1) → ⊥
+no_last_number : (s : Seen) → (lesser_seen ≡ s) ⊎ (catalog_seen ≡ s) ⊎ (catalog_seen ≡ s)
+    → s.place.node ≡ node 1 → s.place.start ≤ 21504
+    → bytes_in s.bytes (21504 - s.place.start) 8 ≡ big_bytes 8 (2 ^ 64 - 1) → ⊥
 no_last_number s (inl is) here low are = numbers_differ (sym lesser_number ∙ subst (λ (x : Seen). bytes_in x.bytes (21504 - x.place.start) 8 ≡ big_bytes 8 (2 ^ 64 - 1)) (sym is) are)
 no_last_number s (inr (inl is)) here low are = nodes_differ (ap (λ (x : Seen). x.place.node) is ∙ here)
 no_last_number s (inr (inr is)) here low are = nodes_differ (ap (λ (x : Seen). x.place.node) is ∙ here)
@@ -88,10 +97,12 @@ lesser_shows_no_worn es (given_up, try, place, last, on, from, writes, shown) =
 
 -- A first try shows no Worn
 
-peek_is_no_decide : (es : List Entry) → IsTrue (list_all (λ c. is_any_decide c.request) (calls_of (called 1 (Ask.Peek 16 8) (Say.Peeked (big_bytes 8 7)) ∷ es))) → ⊥
+peek_is_no_decide : (es : List Entry)
+    → IsTrue (list_all (λ c. is_any_decide c.request) (calls_of (called 1 (Ask.Peek 16 8) (Say.Peeked (big_bytes 8 7)) ∷ es))) → ⊥
 peek_is_no_decide es over = absurd cc
 
-peek_is_not_anew : (es : List Entry) → (reads_anew (called 1 (Ask.Peek 16 8) (Say.Peeked (big_bytes 8 7)) ∷ es) && none_refused (called 1 (Ask.Peek 16 8) (Say.Peeked (big_bytes 8 7)) ∷ es)) ≡ true → ⊥
+peek_is_not_anew : (es : List Entry)
+    → (reads_anew (called 1 (Ask.Peek 16 8) (Say.Peeked (big_bytes 8 7)) ∷ es) && none_refused (called 1 (Ask.Peek 16 8) (Say.Peeked (big_bytes 8 7)) ∷ es)) ≡ true → ⊥
 peek_is_not_anew es anew = by _ _ anew
   where
     by : (a b : Bool) → ((a && false) && b) ≡ true → ⊥
@@ -101,7 +112,9 @@ peek_is_not_anew es anew = by _ _ anew
 first_is_no_last : (nodes : ℕ) (try : List Entry) → LastTry nodes snapshot snapshot_first try → ⊥
 first_is_no_last nodes try last = by last.rest try last.earlier last.split last.over last.is_try
   where
-    by : (rest t earlier : List Entry) → snapshot_first ≡ rest ++ t ++ earlier → IsTrue (list_all (λ c. is_any_decide c.request) (calls_of rest)) → (reads_anew t && none_refused t) ≡ true → ⊥
+    by : (rest t earlier : List Entry) → snapshot_first ≡ rest ++ t ++ earlier
+        → IsTrue (list_all (λ c. is_any_decide c.request) (calls_of rest))
+        → (reads_anew t && none_refused t) ≡ true → ⊥
     by [] [] earlier split over anew = absurd cc
     by [] (a ∷ t) earlier split over anew = peek_is_not_anew t (subst (λ (x : Entry). (reads_anew (x ∷ t) && none_refused (x ∷ t)) ≡ true) (sym same) anew)
       where
@@ -112,5 +125,6 @@ first_is_no_last nodes try last = by last.rest try last.earlier last.split last.
         same : called 1 (Ask.Peek 16 8) (Say.Peeked (big_bytes 8 7)) ≡ a
         same = cc
 
-first_shows_no_worn : (es : List Entry) (n : NodeNo) (start : ℕ) → Shows es snapshot_first snapshot (Gives.Worn n start) → ⊥
+first_shows_no_worn : (es : List Entry) (n : NodeNo) (start : ℕ)
+    → Shows es snapshot_first snapshot (Gives.Worn n start) → ⊥
 first_shows_no_worn es n start (given_up, try, place, last, on, from, writes, shown) = first_is_no_last _ try last

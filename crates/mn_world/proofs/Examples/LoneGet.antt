@@ -1,4 +1,5 @@
--- A lone Get answered by the leaf that it read: what shows the reply, and lists that don't show one.
+-- A lone Get answered by the leaf that it read: what shows the reply, and lists that don't show
+-- one.
 use Rattle.std.proofs.Common.{◌≡◌, ℕ, ◌⊎◌, inl, inr, List, [], ◌∷◌, ◌++◌, Option, Some, None, refl, sym, ap, ◌∙◌, lit<, lit≤, Contains}
 use Rattle.mn_base.specs.Store.{value_at}
 use Rattle.mn_base.specs.declared.op.Step.TheVariants.{Get}
@@ -84,7 +85,8 @@ leaf_read = exec_read 2 (page_place (at 0 0)) (Say.Done (page_bytes leaf ∷ [])
 shows_catalog : (n : ℕ) → ShowsCatalog (before n) (main_entry ∷ [])
 shows_catalog n = (seen catalog_place (catalog_of (main_entry ∷ [])), (0, lit< tt, refl), sees_main)
 
-shown_by_leaf : (n : ℕ) (reply : Reply) → LeafShows (before n) leaf_seen (get n) reply → SomeReadShows (reads n) (since_begin (reads n)) (get n) reply
+shown_by_leaf : (n : ℕ) (reply : Reply) → LeafShows (before n) leaf_seen (get n) reply
+    → SomeReadShows (reads n) (since_begin (reads n)) (get n) reply
 shown_by_leaf n reply shown = record { entry = leaf_read; newer = []; older = since; before = before n; since = refl; split = refl; seen = leaf_seen; brought = (0, lit< tt, refl); shows = inl shown }
 
 -- the value of a key that is there
@@ -105,23 +107,29 @@ none_answered = record {
 -- Lists that show no such reply
 
 -- another value than the leaf's
-other_value : (n : ℕ) (other : Option (List ℕ)) → (value_at (pair 1 ∷ pair 3 ∷ []) (key n) ≡ other → ⊥) → SomeReadShows (reads n) (since_begin (reads n)) (get n) (Values (other ∷ [])) → ⊥
+other_value : (n : ℕ) (other : Option (List ℕ))
+    → (value_at (pair 1 ∷ pair 3 ∷ []) (key n) ≡ other → ⊥)
+    → SomeReadShows (reads n) (since_begin (reads n)) (get n) (Values (other ∷ [])) → ⊥
 other_value n other differs shown = shows shown.seen (brought_since (reads n) (since_begin (reads n)) (get n) _ shown) shown.before shown.shows
   where
     same_values : (a b : Option (List ℕ)) → Values (a ∷ []) ≡ Values (b ∷ []) → a ≡ b
     same_values a b e = cc
 
-    by : (s : Seen) (addr : Addr) (page : Page) → SeesPage s addr page → Values (other ∷ []) ≡ Values (value_at (pairs_in page.body) (key n) ∷ []) → (leaf_seen ≡ s) ⊎ (seen catalog_place (catalog_of (main_entry ∷ [])) ≡ s) → ⊥
+    by : (s : Seen) (addr : Addr) (page : Page) → SeesPage s addr page
+        → Values (other ∷ []) ≡ Values (value_at (pairs_in page.body) (key n) ∷ [])
+        → (leaf_seen ≡ s) ⊎ (seen catalog_place (catalog_of (main_entry ∷ [])) ≡ s) → ⊥
     by s addr page sees reply (inl is) =
         let same : leaf ≡ page = page_spelled_once leaf page leaf_is_page sees.1.0 (ap (λ (x : Seen). x.bytes) is ∙ sees.1.1) in
         differs (sym (same_values other _ (reply ∙ ap (λ (p : Page). Values (value_at (pairs_in p.body) (key n) ∷ [])) (sym same))))
     by s addr page sees reply (inr is) = page_is_no_catalog addr (ap (λ (x : Seen). x.place) is ∙ sees.0)
 
-    shows : (s : Seen) → Contains (seen_in (since_begin (reads n))) s → (es : List Entry) → ReadShows es s (get n) (Values (other ∷ [])) → ⊥
+    shows : (s : Seen) → Contains (seen_in (since_begin (reads n))) s → (es : List Entry)
+        → ReadShows es s (get n) (Values (other ∷ [])) → ⊥
     shows s has es (inr (entries, sees, refused)) = values_refuse_nothing (heads_in entries) main (key n) (other ∷ []) refused
     shows s has es (inl (entries, addr, page, shown, sees, flat, serves, covers, reply)) = by s addr page sees reply (one_of_two leaf_seen (seen catalog_place (catalog_of (main_entry ∷ []))) s has)
 
-other_value_refused : Shows (reads 1) (since_begin (reads 1)) (get 1) (Replied (Values (None ∷ []))) → ⊥
+other_value_refused : Shows (reads 1) (since_begin (reads 1)) (get 1) (Replied (Values (None ∷ [])))
+    → ⊥
 other_value_refused (inl (i, before, last, plans, planned, done)) = read_is_no_plan (reads 1) (since_begin (reads 1)) before i _ _ refl refl last plans
 other_value_refused (inr (inl (given_up, shown))) = other_value 1 None (λ e. cc) shown
 other_value_refused (inr (inr (given_up, scanned))) = scanned
@@ -130,11 +138,13 @@ other_value_refused (inr (inr (given_up, scanned))) = scanned
 abbrev peeked : List Entry
 peeked = called 0 (Ask.Peek 20480 1024) (Say.Peeked (page_bytes leaf)) ∷ read 1 catalog_place (catalog_of (main_entry ∷ [])) ++ begin (get 1) ∷ []
 
-peeked_shows_nothing : (found : List (Option (List ℕ))) → Shows peeked (since_begin peeked) (get 1) (Replied (Values found)) → ⊥
+peeked_shows_nothing : (found : List (Option (List ℕ)))
+    → Shows peeked (since_begin peeked) (get 1) (Replied (Values found)) → ⊥
 peeked_shows_nothing found (inl (i, before, last, plans, planned, done)) = read_is_no_plan peeked (since_begin peeked) before i _ _ refl refl last plans
 peeked_shows_nothing found (inr (inl (given_up, shown))) = shows shown.seen (brought_since peeked (since_begin peeked) (get 1) _ shown) shown.before shown.shows
   where
-    shows : (s : Seen) → Contains (seen_in (since_begin peeked)) s → (es : List Entry) → ReadShows es s (get 1) (Values found) → ⊥
+    shows : (s : Seen) → Contains (seen_in (since_begin peeked)) s → (es : List Entry)
+        → ReadShows es s (get 1) (Values found) → ⊥
     shows s has es (inr (entries, sees, refused)) = values_refuse_nothing (heads_in entries) main (key 1) found refused
     shows s has es (inl (entries, addr, page, shown, sees, flat, serves, covers, reply)) =
         page_is_no_catalog addr (ap (λ (x : Seen). x.place) (only (seen catalog_place (catalog_of (main_entry ∷ []))) s has) ∙ sees.0)

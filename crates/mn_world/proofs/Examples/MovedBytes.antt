@@ -256,7 +256,8 @@ over_example : is_over (since_begin (client_entries (client 0) refused)) (record
 }) ≡ true
 over_example = refl
 
--- both plans are committed where they are done, and each read at its own place: b's lies between a's first read and its refusal
+-- both plans are committed where they are done, and each read at its own place: b's lies between
+-- a's first read and its refusal
 commits_example : commits a_told ≡ (12, id 0 4) ∷ (10, id 0 3) ∷ (6, id 1 1) ∷ (2, id 0 1) ∷ []
 commits_example = refl
 

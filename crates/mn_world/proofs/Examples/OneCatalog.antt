@@ -20,7 +20,8 @@ no_zeros a e rest same = by e.frozen (sym (zero_there a 8) ∙ ap (λ (l : List 
     by true z = absurd (omega arith)
     by false z = absurd (omega arith)
 
-same_entries : (es fs : List CatEntry) → AllByRecursion IsEntry es → AllByRecursion IsEntry fs → (a b : ℕ) → flat_map entry_bytes es ++ replicate a 0 ≡ flat_map entry_bytes fs ++ replicate b 0 → es ≡ fs
+same_entries : (es fs : List CatEntry) → AllByRecursion IsEntry es → AllByRecursion IsEntry fs
+    → (a b : ℕ) → flat_map entry_bytes es ++ replicate a 0 ≡ flat_map entry_bytes fs ++ replicate b 0 → es ≡ fs
 same_entries [] [] all of a b same = refl
 same_entries [] (f ∷ fs) all of a b same = absurd (no_zeros a f (flat_map entry_bytes fs ++ replicate b 0) (same ∙ append_assoc (entry_bytes f) (flat_map entry_bytes fs) (replicate b 0)))
 same_entries (e ∷ es) [] all of a b same = absurd (no_zeros b e (flat_map entry_bytes es ++ replicate a 0) (sym same ∙ append_assoc (entry_bytes e) (flat_map entry_bytes es) (replicate a 0)))
@@ -32,5 +33,6 @@ same_entries (e ∷ es) (f ∷ fs) all of a b same =
     let others = same_entries es fs all.1 of.1 a b both.1 in
     ap (λ (x : CatEntry). x ∷ es) first ∙ ap (λ (xs : List CatEntry). f ∷ xs) others
 
-pub one_catalog : (seen : Seen) (es fs : List CatEntry) → SeesCatalog seen es → SeesCatalog seen fs → es ≡ fs
+pub one_catalog : (seen : Seen) (es fs : List CatEntry) → SeesCatalog seen es → SeesCatalog seen fs
+    → es ≡ fs
 one_catalog seen es fs sees other = same_entries es fs sees.2 other.2 (4096 - length (flat_map entry_bytes es)) (4096 - length (flat_map entry_bytes fs)) (sym sees.3 ∙ other.3)

@@ -36,7 +36,9 @@ no_page p spelled = by p.body (ap (λ (l : List ℕ). get_or l 8 0) spelled.1)
     by (Leaf pairs) e = absurd (omega arith)
     by (Inner height first rest) e = absurd (omega arith)
 
-root_of_m2 : (seens : List Seen) (op : Op) → Contains seens catalog_seen → number_named (heads_in entries) (op_version op) ≡ Some 1 → Reached seens op (key 7) (at 1 1) None
+root_of_m2 : (seens : List Seen) (op : Op) → Contains seens catalog_seen
+    → number_named (heads_in entries) (op_version op) ≡ Some 1
+    → Reached seens op (key 7) (at 1 1) None
 root_of_m2 seens op has named = Reached.by_root catalog_seen entries 1 m2 has sees_catalog named refl
 
 free_slot_met : MeetsFault 2 (free_slot ∷ catalog_seen ∷ []) put (Path (at 1 1) 0)
@@ -103,7 +105,8 @@ high_met = inl (
 -- A child at fault
 
 -- the child of k7 by the root, where this was read
-child_of_root : (seens : List Seen) → Contains seens catalog_seen → Contains seens inner_seen → Reached seens put (key 7) (at 0 1) (Some 0)
+child_of_root : (seens : List Seen) → Contains seens catalog_seen → Contains seens inner_seen
+    → Reached seens put (key 7) (at 0 1) (Some 0)
 child_of_root seens has_catalog has_root =
     Reached.by_child (at 1 1) None inner_seen inner (record { addr = at 0 1; low = key 5; high = None }) (root_of_m2 seens put has_catalog refl) has_root (refl, inner_spelled) (1, lit< tt, refl) refl
 
@@ -165,7 +168,8 @@ looped_seen = seen catalog_place (catalog_of (frozen_main ∷ looped_m2 ∷ []))
 sees_looped : SeesCatalog looped_seen (frozen_main ∷ looped_m2 ∷ [])
 sees_looped = (refl, lit≤ tt, (entry_rules.0, (record { seq_low = lit≤ tt; seq_high = lit< tt; parent = lit< tt; root = (lit< tt, lit< tt); name = (lit≤ tt, lit≤ tt, refl) }, tt)), refl)
 
-looped_is_bad : (es : List CatEntry) → SeesCatalog looped_seen es → AreBelow (reverse (parents_of (heads_in es))) → ⊥
+looped_is_bad : (es : List CatEntry) → SeesCatalog looped_seen es
+    → AreBelow (reverse (parents_of (heads_in es))) → ⊥
 looped_is_bad es sees below = by (subst (λ (l : List CatEntry). AreBelow (reverse (parents_of (heads_in l)))) (sym (one_catalog looped_seen (frozen_main ∷ looped_m2 ∷ []) es sees_looped sees)) below)
   where
     by : AreBelow (reverse (parents_of (heads_in (frozen_main ∷ looped_m2 ∷ [])))) → ⊥

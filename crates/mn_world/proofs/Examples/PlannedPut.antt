@@ -1,4 +1,5 @@
--- A Put in place answered by its plan, of two participants, by a catalog that an earlier operation read; and lists that don't answer it so.
+-- A Put in place answered by its plan, of two participants, by a catalog that an earlier operation
+-- read; and lists that don't answer it so.
 use Rattle.std.proofs.Common.{◌≡◌, inl, inr, true, false, List, [], ◌∷◌, ◌++◌, refl, ap, ◌∙◌, arith, lit<, lit≤}
 use Rattle.mn_base.specs.Store.{Head, listing_of}
 use Rattle.mn_base.specs.declared.op.Step.TheVariants.{Put}
@@ -54,7 +55,8 @@ has_room = record {
 planned : IsPlanned heads put plan (Values [])
 planned = put_is_planned heads 2 main (key 2) (119 ∷ []) 0 main_entry (at 1 0) left (pair 3 ∷ pair 4 ∷ []) has_room
 
--- the catalog was read for a listing; then the Put looks at the root and the leaf, and issues its plan
+-- the catalog was read for a listing; then the Put looks at the root and the leaf, and issues its
+-- plan
 abbrev listed : List Entry
 listed = answered (Replied (Listing (listing_of heads))) ∷ read 1 catalog_place (catalog_of (main_entry ∷ [])) ++ begin Versions ∷ []
 

@@ -1,4 +1,5 @@
--- A worked run that keeps the protocol: two recovery coordinators race a client, whose minitransaction is abandoned.
+-- A worked run that keeps the protocol: two recovery coordinators race a client, whose
+-- minitransaction is abandoned.
 use Rattle.std.proofs.Common.{◌≡◌, Bool, true, false, List, [], ◌∷◌, ◌++◌, replicate, Some, None, refl, arith, lit<, lit≤}
 use Rattle.mn_base.specs.declared.op.Op.TheVariants.{Versions}
 use Rattle.mn_mini.specs.declared.request.Request.TheVariants as Ask

@@ -1,4 +1,5 @@
--- A worked run from records in place: an id that all have voted for is decided by a recovery coordinator.
+-- A worked run from records in place: an id that all have voted for is decided by a recovery
+-- coordinator.
 use Rattle.std.proofs.Common.{◌≡◌, ℕ, zero, suc, ◌<◌, true, false, List, [], ◌∷◌, ◌++◌, replicate, Some, None, refl, sym, ap, ◌∙◌, inr, arith, lit<, lit≤, if◌then◌else◌}
 use Rattle.mn_base.specs.Ids.{tid_same}
 use Rattle.mn_base.specs.declared.ids.NodeNo.{NodeNo}
@@ -92,7 +93,8 @@ keeps_decision = (
 run_example : run_number start ≡ 2
 run_example = refl
 
--- the id is committed from the start on: the opened memory has its writes, and a decision changes nothing of it
+-- the id is committed from the start on: the opened memory has its writes, and a decision changes
+-- nothing of it
 committed_example : is_committed 2 (start_records start) (id 0 1) ≡ true
 committed_example = refl
 

@@ -1,4 +1,5 @@
--- A scan that took its first leaf and gives up at the second: the eight tries count from the leaf taken.
+-- A scan that took its first leaf and gives up at the second: the eight tries count from the leaf
+-- taken.
 use Rattle.std.proofs.Common.{◌≡◌, ℕ, ◌+◌, inl, List, [], ◌∷◌, ◌++◌, refl, ap, ◌∙◌, arith, lit<, lit≤}
 use Rattle.std.specs.List.{flat_map, AllByRecursion}
 use Rattle.mn_base.specs.declared.answer.Busy.{Busy}
@@ -50,7 +51,8 @@ took = (left_seen, at 1 0, left, entries, (0, lit< tt, refl), (refl, (left_is_pa
 issue_is_no_leaf : (serial : ℕ) (place : Place) → BringsLeaf (issue_read serial place) → ⊥
 issue_is_no_leaf serial place (s, addr, page, has, sees, flat) = nothing s has
 
-root_is_no_leaf : (serial : ℕ) → BringsLeaf (exec_read serial (page_place (at 0 0)) (Say.Done (page_bytes root ∷ []))) → ⊥
+root_is_no_leaf : (serial : ℕ)
+    → BringsLeaf (exec_read serial (page_place (at 0 0)) (Say.Done (page_bytes root ∷ []))) → ⊥
 root_is_no_leaf serial (s, addr, page, has, sees, flat) =
     let same : root ≡ page = page_spelled_once root page root_is_page sees.1.0 (ap (λ (x : Seen). x.bytes) (only root_seen s has) ∙ sees.1.1) in
     not_flat (ap (λ (x : Page). height_of x.body) same ∙ flat)
@@ -58,7 +60,8 @@ root_is_no_leaf serial (s, addr, page, has, sees, flat) =
     not_flat : height_of root.body ≡ 0 → ⊥
     not_flat e = absurd (omega arith)
 
-catalog_is_no_leaf : (serial : ℕ) → BringsLeaf (exec_read serial catalog_place (Say.Done (catalog_seen.bytes ∷ []))) → ⊥
+catalog_is_no_leaf : (serial : ℕ)
+    → BringsLeaf (exec_read serial catalog_place (Say.Done (catalog_seen.bytes ∷ []))) → ⊥
 catalog_is_no_leaf serial (s, addr, page, has, sees, flat) = page_is_no_catalog addr (ap (λ (x : Seen). x.place) (only catalog_seen s has) ∙ sees.0)
 
 held_brings_none : (s : ℕ) → BringsNone (held s)

@@ -1,4 +1,5 @@
--- Scans answered by the leaves that they read: up to a leaf that reaches the end, and up to the limit; and lists that show no such reply.
+-- Scans answered by the leaves that they read: up to a leaf that reaches the end, and up to the
+-- limit; and lists that show no such reply.
 use Rattle.std.proofs.Common.{ℕ, inl, inr, true, false, List, [], ◌∷◌, ◌++◌, Some, None, refl, lit<, lit≤}
 use Rattle.mn_base.specs.declared.op.Op.{Op}
 use Rattle.mn_base.specs.declared.op.Op.TheVariants.{Scan}

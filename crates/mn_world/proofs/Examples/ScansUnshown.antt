@@ -1,4 +1,5 @@
--- Lists that show no reply of a scan: one that stops before the end, one that read a leaf before the catalog, one whose catalog shows the version as writable.
+-- Lists that show no reply of a scan: one that stops before the end, one that read a leaf before
+-- the catalog, one whose catalog shows the version as writable.
 use Rattle.std.proofs.Common.{◌≡◌, ℕ, ◌⊎◌, inl, inr, Bool, true, false, List, [], ◌∷◌, ◌++◌, length, Option, Some, None, if◌then◌else◌, refl, subst, sym, ap, ◌∙◌, arith, lit<, Contains}
 use Rattle.std.specs.Prelude.{◌≤◌}
 use Rattle.std.specs.List.{AllByRecursion}
@@ -40,7 +41,9 @@ pairs_refuse_nothing heads name low high limit pairs e = by (head_named heads na
     by (Some h) e = frozen h.frozen e
 
 -- where no plan was issued, leaves alone show pairs
-leaves_alone : (es : List Entry) (j : Issued) (js : List Issued) (pairs : List Pair) → issues_of (since_begin es) ≡ j ∷ js → is_plan j.mini.items ≡ false → (ScanShows (seen_in (since_begin es)) scan (Pairs pairs) → ⊥)
+leaves_alone : (es : List Entry) (j : Issued) (js : List Issued) (pairs : List Pair)
+    → issues_of (since_begin es) ≡ j ∷ js → is_plan j.mini.items ≡ false
+    → (ScanShows (seen_in (since_begin es)) scan (Pairs pairs) → ⊥)
     → Shows es (since_begin es) scan (Replied (Pairs pairs)) → ⊥
 leaves_alone es j js pairs issued reads none (inl (i, before, last, plans, planned, done)) = read_is_no_plan es (since_begin es) before i j js issued reads last plans
 leaves_alone es j js pairs issued reads none (inr (inl (given_up, shown))) = no_read shown.before shown.seen shown.shows
@@ -56,7 +59,9 @@ abbrev stopped_early : List Entry
 stopped_early = read_seen 3 left_seen ++ read_seen 2 root_seen ++ read_seen 1 catalog_seen ++ begin scan ∷ []
 
 -- a leaf that was read is the first one
-is_left : (s : Seen) (addr : Addr) (p : Page) → Contains (left_seen ∷ root_seen ∷ catalog_seen ∷ []) s → SeesPage s addr p → height_of p.body ≡ 0 → left ≡ p
+is_left : (s : Seen) (addr : Addr) (p : Page)
+    → Contains (left_seen ∷ root_seen ∷ catalog_seen ∷ []) s → SeesPage s addr p
+    → height_of p.body ≡ 0 → left ≡ p
 is_left s addr p has sees flat = by (one_of_three left_seen root_seen catalog_seen s has)
   where
     not_flat : height_of root.body ≡ 0 → ⊥
@@ -70,7 +75,8 @@ is_left s addr p has sees flat = by (one_of_three left_seen root_seen catalog_se
     by (inr (inr is)) = absurd (page_is_no_catalog addr (ap (λ (x : Seen). x.place) is ∙ sees.0))
 
 -- a chain of leaves that are all the first one is that leaf
-one_left : (leaves : List Page) → AllByRecursion (λ p. left ≡ p) leaves → IsChain leaves → left ∷ [] ≡ leaves
+one_left : (leaves : List Page) → AllByRecursion (λ p. left ≡ p) leaves → IsChain leaves
+    → left ∷ [] ≡ leaves
 one_left [] all chain = absurd chain
 one_left (p ∷ []) all chain = ap (λ (x : Page). x ∷ []) all.0
 one_left (p ∷ (q ∷ ps)) all chain = absurd (apart (ap (λ (x : Page). x.high) all.0 ∙ (chain.0 ∙ ap (λ (x : Page). Some x.low) (sym all.1.0))))
@@ -81,7 +87,9 @@ one_left (p ∷ (q ∷ ps)) all chain = absurd (apart (ap (λ (x : Page). x.high
 abbrev WasRead : List CatEntry → List Seen → Page → Type 0
 WasRead entries later p = (s : Seen) × (addr : Addr) × Contains later s × SeesPage s addr p × (height_of p.body ≡ 0) × ServesNamed entries main p
 
-all_left : (entries : List CatEntry) (later earlier : List Seen) (c : Seen) → left_seen ∷ root_seen ∷ catalog_seen ∷ [] ≡ later ++ c ∷ [] ++ earlier → (leaves : List Page) → AllByRecursion (WasRead entries later) leaves → AllByRecursion (λ p. left ≡ p) leaves
+all_left : (entries : List CatEntry) (later earlier : List Seen) (c : Seen)
+    → left_seen ∷ root_seen ∷ catalog_seen ∷ [] ≡ later ++ c ∷ [] ++ earlier → (leaves : List Page)
+    → AllByRecursion (WasRead entries later) leaves → AllByRecursion (λ p. left ≡ p) leaves
 all_left entries later earlier c split [] all = tt
 all_left entries later earlier c split (p ∷ ps) ((s, addr, has, sees, flat, serves), all) =
     (is_left s addr p (subst (λ (l : List Seen). Contains l s) (sym split) (Contains-append_left (later ++ c ∷ []) earlier s (Contains-append_left later (c ∷ []) s has))) sees flat, all_left entries later earlier c split ps all)
@@ -90,12 +98,14 @@ left_is_not_enough : (10 ≤ length (pairs_within (leaf_pairs (left ∷ [])) (So
 left_is_not_enough (inl e) = absurd (omega arith)
 left_is_not_enough (inr e) = cc
 
-stopped_early_scan : (pairs : List Pair) → ScanShows (seen_in (since_begin stopped_early)) scan (Pairs pairs) → ⊥
+stopped_early_scan : (pairs : List Pair)
+    → ScanShows (seen_in (since_begin stopped_early)) scan (Pairs pairs) → ⊥
 stopped_early_scan pairs (s, later, entries, head, first, sees, named, frozen, shown) =
     let one = one_left shown.leaves (all_left entries later first.earlier s first.split shown.leaves shown.seen) shown.chain in
     left_is_not_enough (subst (λ (l : List Page). (10 ≤ length (pairs_within (leaf_pairs l) (Some (key 4)) (Some (key 7)))) ⊎ ReachesEnd (Some (key 7)) l) (sym one) shown.enough)
 
-stopped_early_shows_nothing : (pairs : List Pair) → Shows stopped_early (since_begin stopped_early) scan (Replied (Pairs pairs)) → ⊥
+stopped_early_shows_nothing : (pairs : List Pair)
+    → Shows stopped_early (since_begin stopped_early) scan (Replied (Pairs pairs)) → ⊥
 stopped_early_shows_nothing pairs shown = leaves_alone stopped_early _ _ pairs refl refl (stopped_early_scan pairs) shown
 
 -- The first leaf was read before the catalog
@@ -104,7 +114,9 @@ abbrev leaf_before : List Entry
 leaf_before = read_seen 3 right_seen ++ read_seen 2 catalog_seen ++ read_seen 1 left_seen ++ begin scan ∷ []
 
 -- only the other leaf was read after the catalog
-later_is_right : (later earlier : List Seen) (s : Seen) → right_seen ∷ catalog_seen ∷ left_seen ∷ [] ≡ later ++ s ∷ [] ++ earlier → IsCatalogRead s → right_seen ∷ [] ≡ later
+later_is_right : (later earlier : List Seen) (s : Seen)
+    → right_seen ∷ catalog_seen ∷ left_seen ∷ [] ≡ later ++ s ∷ [] ++ earlier → IsCatalogRead s
+    → right_seen ∷ [] ≡ later
 later_is_right [] earlier s split catalog = absurd (page_is_no_catalog (at 0 1) (sym catalog ∙ ap (λ (x : Seen). x.place) (sym same)))
   where
     same : right_seen ≡ s
@@ -119,24 +131,29 @@ later_is_right (a ∷ (b ∷ (c ∷ ls))) earlier s split catalog = absurd (too_
     too_long : 3 ≡ length (a ∷ b ∷ c ∷ ((ls ++ s ∷ []) ++ earlier)) → ⊥
     too_long e = absurd (omega (arith, length-append (ls ++ s ∷ []) earlier, length-append ls (s ∷ [])))
 
-right_begins_above : (leaves : List Page) → AllByRecursion (λ p. right ≡ p) leaves → BeginsAt (Some (key 4)) leaves → ⊥
+right_begins_above : (leaves : List Page) → AllByRecursion (λ p. right ≡ p) leaves
+    → BeginsAt (Some (key 4)) leaves → ⊥
 right_begins_above [] all begins = begins
 right_begins_above (p ∷ ps) all begins = apart (ap (page_covers (key 4)) all.0 ∙ begins)
   where
     apart : false ≡ true → ⊥
     apart e = cc
 
-all_right : (entries : List CatEntry) (leaves : List Page) → AllByRecursion (WasRead entries (right_seen ∷ [])) leaves → AllByRecursion (λ p. right ≡ p) leaves
+all_right : (entries : List CatEntry) (leaves : List Page)
+    → AllByRecursion (WasRead entries (right_seen ∷ [])) leaves
+    → AllByRecursion (λ p. right ≡ p) leaves
 all_right entries [] all = tt
 all_right entries (p ∷ ps) ((s, addr, has, sees, flat, serves), all) =
     (page_spelled_once right p right_is_page sees.1.0 (ap (λ (x : Seen). x.bytes) (only right_seen s has) ∙ sees.1.1), all_right entries ps all)
 
-leaf_before_scan : (pairs : List Pair) → ScanShows (seen_in (since_begin leaf_before)) scan (Pairs pairs) → ⊥
+leaf_before_scan : (pairs : List Pair)
+    → ScanShows (seen_in (since_begin leaf_before)) scan (Pairs pairs) → ⊥
 leaf_before_scan pairs (s, later, entries, head, first, sees, named, frozen, shown) =
     let is = later_is_right later first.earlier s first.split first.catalog in
     right_begins_above shown.leaves (all_right entries shown.leaves (subst (λ (l : List Seen). AllByRecursion (WasRead entries l) shown.leaves) (sym is) shown.seen)) shown.first
 
-leaf_before_shows_nothing : (pairs : List Pair) → Shows leaf_before (since_begin leaf_before) scan (Replied (Pairs pairs)) → ⊥
+leaf_before_shows_nothing : (pairs : List Pair)
+    → Shows leaf_before (since_begin leaf_before) scan (Replied (Pairs pairs)) → ⊥
 leaf_before_shows_nothing pairs shown = leaves_alone leaf_before _ _ pairs refl refl (leaf_before_scan pairs) shown
 
 -- The catalog shows main as writable
@@ -144,25 +161,31 @@ leaf_before_shows_nothing pairs shown = leaves_alone leaf_before _ _ pairs refl 
 abbrev of_writable : List Entry
 of_writable = read_seen 3 right_seen ++ read_seen 2 left_seen ++ read_seen 1 (seen catalog_place (catalog_of (main_entry ∷ []))) ++ begin scan ∷ []
 
-main_head_writable : (head : Head) → Some (entry_head main_entry) ≡ Some head → head.frozen ≡ true → ⊥
+main_head_writable : (head : Head) → Some (entry_head main_entry) ≡ Some head → head.frozen ≡ true
+    → ⊥
 main_head_writable head e frozen = cc
 
 -- the one catalog read of the list
-the_catalog : (later earlier : List Seen) (s : Seen) → right_seen ∷ left_seen ∷ seen catalog_place (catalog_of (main_entry ∷ [])) ∷ [] ≡ later ++ s ∷ [] ++ earlier → IsCatalogRead s → seen catalog_place (catalog_of (main_entry ∷ [])) ≡ s
+the_catalog : (later earlier : List Seen) (s : Seen)
+    → right_seen ∷ left_seen ∷ seen catalog_place (catalog_of (main_entry ∷ [])) ∷ [] ≡ later ++ s ∷ [] ++ earlier → IsCatalogRead s → seen catalog_place (catalog_of (main_entry ∷ [])) ≡ s
 the_catalog later earlier s split catalog =
     by (one_of_three right_seen left_seen (seen catalog_place (catalog_of (main_entry ∷ []))) s (subst (λ (l : List Seen). Contains l s) (sym split) (Contains-append_left (later ++ s ∷ []) earlier s (Contains-append_right later (s ∷ []) s (0, lit< tt, refl)))))
   where
-    by : (right_seen ≡ s) ⊎ (left_seen ≡ s) ⊎ (seen catalog_place (catalog_of (main_entry ∷ [])) ≡ s) → seen catalog_place (catalog_of (main_entry ∷ [])) ≡ s
+    by : (right_seen ≡ s) ⊎ (left_seen ≡ s)
+        ⊎ (seen catalog_place (catalog_of (main_entry ∷ [])) ≡ s)
+        → seen catalog_place (catalog_of (main_entry ∷ [])) ≡ s
     by (inl is) = absurd (page_is_no_catalog (at 0 1) (sym catalog ∙ ap (λ (x : Seen). x.place) (sym is)))
     by (inr (inl is)) = absurd (page_is_no_catalog (at 1 0) (sym catalog ∙ ap (λ (x : Seen). x.place) (sym is)))
     by (inr (inr is)) = is
 
-of_writable_scan : (pairs : List Pair) → ScanShows (seen_in (since_begin of_writable)) scan (Pairs pairs) → ⊥
+of_writable_scan : (pairs : List Pair)
+    → ScanShows (seen_in (since_begin of_writable)) scan (Pairs pairs) → ⊥
 of_writable_scan pairs (s, later, entries, head, first, sees, named, frozen, shown) =
     let writable : Seen = seen catalog_place (catalog_of (main_entry ∷ [])) in
     let is = the_catalog later first.earlier s first.split first.catalog in
     let same = one_catalog writable (main_entry ∷ []) entries sees_main (subst (λ (x : Seen). SeesCatalog x entries) (sym is) sees) in
     main_head_writable head (subst (λ (l : List CatEntry). head_named (heads_in l) main ≡ Some head) (sym same) named) frozen
 
-of_writable_shows_nothing : (pairs : List Pair) → Shows of_writable (since_begin of_writable) scan (Replied (Pairs pairs)) → ⊥
+of_writable_shows_nothing : (pairs : List Pair)
+    → Shows of_writable (since_begin of_writable) scan (Replied (Pairs pairs)) → ⊥
 of_writable_shows_nothing pairs shown = leaves_alone of_writable _ _ pairs refl refl (of_writable_scan pairs) shown

@@ -1,4 +1,5 @@
--- Seven failed tries are not enough for Busy, where the first used the kept catalog: each later one asks for it.
+-- Seven failed tries are not enough for Busy, where the first used the kept catalog: each later one
+-- asks for it.
 use Rattle.std.proofs.Common.{◌≡◌, ℕ, ◌+◌, ◌≤◌, Bool, true, false, ◌&&◌, ◌||◌, nat_eq, List, [], ◌∷◌, ◌++◌, length, filter, if◌then◌else◌, refl, ap, ◌∙◌, arith}
 use Rattle.std.specs.List.{list_any, list_all, flat_map}
 use Rattle.std.proofs.lemmas.List.{length-append}
@@ -33,7 +34,9 @@ asked_once : (cs : List Call) → list_any asks cs ≡ true → 1 ≤ length (fi
 asked_once [] e = absurd cc
 asked_once (c ∷ cs) e = by (asked_once cs) (asks c) e
   where
-    by : (list_any asks cs ≡ true → 1 ≤ length (filter asks cs)) → (b : Bool) → (b || list_any asks cs) ≡ true → 1 ≤ length (if b then c ∷ filter asks cs else filter asks cs)
+    by : (list_any asks cs ≡ true → 1 ≤ length (filter asks cs)) → (b : Bool)
+        → (b || list_any asks cs) ≡ true
+        → 1 ≤ length (if b then c ∷ filter asks cs else filter asks cs)
     by more true f = omega arith
     by more false f = more f
 
@@ -48,7 +51,8 @@ both_right false b e = absurd cc
 pub anew_asks : (try : List Entry) → reads_anew try ≡ true → 1 ≤ times_asked try
 anew_asks try e = asked_once (calls_of try) (both_left (list_any asks (calls_of try)) _ e)
 
-pub all_ask : (tries : List (List Entry)) → list_all reads_anew tries ≡ true → length tries ≤ times_asked (flat_map (λ try. try) tries)
+pub all_ask : (tries : List (List Entry)) → list_all reads_anew tries ≡ true
+    → length tries ≤ times_asked (flat_map (λ try. try) tries)
 all_ask [] e = omega arith
 all_ask (try ∷ tries) e =
     let here = anew_asks try (both_left (reads_anew try) _ e) in
@@ -57,7 +61,8 @@ all_ask (try ∷ tries) e =
     omega arith
 
 -- eight failed tries ask for the catalog seven times
-eight_ask : (nodes : ℕ) (op : Op) (now : List Entry) (busy : Busy) → FailedTries nodes op now busy → 7 ≤ times_asked now
+eight_ask : (nodes : ℕ) (op : Op) (now : List Entry) (busy : Busy) → FailedTries nodes op now busy
+    → 7 ≤ times_asked now
 eight_ask nodes op now busy failed =
     let last = anew_asks failed.last (both_left (reads_anew failed.last) _ failed.anew) in
     let middle = all_ask failed.middle (both_right (reads_anew failed.last) _ failed.anew) in
@@ -78,7 +83,8 @@ kept_try = called 0 (prepare 0 2 plan 0) (Say.BadLock 128 64 (id 1 1)) ∷ own (
 abbrev seven_tries : List Entry
 seven_tries = locked.after 18 ++ flat_map (λ try. try) six_tries ++ kept_try
 
-seven_are_not_enough : (es : List Entry) (busy : Busy) → Shows es seven_tries put (Gives.Busy busy) → ⊥
+seven_are_not_enough : (es : List Entry) (busy : Busy) → Shows es seven_tries put (Gives.Busy busy)
+    → ⊥
 seven_are_not_enough es busy shown = six_asked (eight_ask _ put seven_tries busy shown.1)
   where
     six_asked : 7 ≤ times_asked seven_tries → ⊥

@@ -1,4 +1,5 @@
--- Nor are seven failed tries enough where the first read the catalog: it then looked at the leaf, as no later try does.
+-- Nor are seven failed tries enough where the first read the catalog: it then looked at the leaf,
+-- as no later try does.
 use Rattle.std.proofs.Common.{◌≡◌, ℕ, ◌+◌, ◌≤◌, ◌⊎◌, inl, inr, Bool, true, false, not, ◌&&◌, List, [], ◌∷◌, ◌++◌, length, filter, if◌then◌else◌, refl, subst, sym, ap, ◌∙◌, arith}
 use Rattle.std.specs.List.{list_any, list_all, flat_map, AllByRecursion}
 use Rattle.std.proofs.lemmas.List.{append_assoc, append-nil, length-append}
@@ -30,7 +31,8 @@ peeked_append xs ys =
     ap (λ (l : List Call). length (filter (λ c. is_peek c.request) l)) (calls_append xs ys)
     ∙ (ap (λ (l : List Call). length l) (filter-append (λ (c : Call). is_peek c.request) (calls_of xs) (calls_of ys)) ∙ length-append (filter (λ (c : Call). is_peek c.request) (calls_of xs)) (filter (λ (c : Call). is_peek c.request) (calls_of ys)))
 
-none_peeks : (cs : List Call) → list_all (λ c. not (is_peek c.request)) cs ≡ true → length (filter (λ (c : Call). is_peek c.request) cs) ≡ 0
+none_peeks : (cs : List Call) → list_all (λ c. not (is_peek c.request)) cs ≡ true
+    → length (filter (λ (c : Call). is_peek c.request) cs) ≡ 0
 none_peeks [] e = refl
 none_peeks (c ∷ cs) e = by (none_peeks cs) (is_peek c.request) e
   where
@@ -44,7 +46,8 @@ anew_peeks try e = none_peeks (calls_of try) (both_right (list_any _ (calls_of t
 
 -- Where a list is cut in two ways
 
-cut_twice : (z tail y s : List Entry) → z ++ tail ≡ y ++ s → ((k : List Entry) × (y ≡ z ++ k) × (tail ≡ k ++ s)) ⊎ ((w : List Entry) × (s ≡ w ++ tail))
+cut_twice : (z tail y s : List Entry) → z ++ tail ≡ y ++ s
+    → ((k : List Entry) × (y ≡ z ++ k) × (tail ≡ k ++ s)) ⊎ ((w : List Entry) × (s ≡ w ++ tail))
 cut_twice [] tail y s e = inl (y, refl, e)
 cut_twice (a ∷ z) tail [] s e = inr (a ∷ z, sym e)
 cut_twice (a ∷ z) tail (b ∷ y) s e =
@@ -66,7 +69,9 @@ record Oldest (nodes : ℕ) (tries : List (List Entry)) : Type 0 where
   fails : FailsAs nodes put try cause
   asked : length tries ≤ times_asked newer + 1
 
-oldest_of : (nodes : ℕ) (tries : List (List Entry)) → 1 ≤ length tries → list_all reads_anew tries ≡ true → AllByRecursion (λ t. (cause : Busy) × FailsAs nodes put t cause) tries → Oldest nodes tries
+oldest_of : (nodes : ℕ) (tries : List (List Entry)) → 1 ≤ length tries
+    → list_all reads_anew tries ≡ true
+    → AllByRecursion (λ t. (cause : Busy) × FailsAs nodes put t cause) tries → Oldest nodes tries
 oldest_of nodes [] some anew fail = absurd (omega arith)
 oldest_of nodes (t ∷ []) some anew fail =
     record { newer = []; try = t; cause = fail.0.0; split = append-nil t; anew = both_left (reads_anew t) _ anew; fails = fail.0.1; asked = omega arith }
@@ -106,7 +111,8 @@ abbrev read_call : Call
 read_call = record { node = node 0; request = Ask.Exec (id 0 1) (part_of (read_of catalog_place) (node 0)); reply = Say.Done (catalog_bytes ∷ []) }
 
 -- the read of the catalog alone fails by nothing
-catalog_fails_not : (m first : List Entry) (cause : Busy) → reads ∷ issues ∷ [] ≡ (reads ∷ m) ++ first → FailsAs 2 put (reads ∷ m) cause → ⊥
+catalog_fails_not : (m first : List Entry) (cause : Busy)
+    → reads ∷ issues ∷ [] ≡ (reads ∷ m) ++ first → FailsAs 2 put (reads ∷ m) cause → ⊥
 catalog_fails_not m first cause split (inl (call, here, refused)) = by (subst (λ (c : Call). RefusedAs (seen_in m) c.node c.request c.reply cause) (sym same) refused)
   where
     same : read_call ≡ call
@@ -116,8 +122,11 @@ catalog_fails_not m first cause split (inl (call, here, refused)) = by (subst (�
     by r = r
 catalog_fails_not m first cause split (inr fault) = no_fault (seen_in (reads ∷ m)) (λ s has. inr (only catalog_seen s (seen_in_part (reads ∷ issues ∷ []) [] (reads ∷ m) first s split has))) cause fault
 
--- a later try that reached no further back than the look at the leaf has read no catalog, or that alone
-small_fails_not : (k m first : List Entry) (cause : Busy) → looks ∷ reads ∷ issues ∷ [] ≡ k ++ (m ++ first) → reads_anew m ≡ true → FailsAs 2 put m cause → ⊥
+-- a later try that reached no further back than the look at the leaf has read no catalog, or that
+-- alone
+small_fails_not : (k m first : List Entry) (cause : Busy)
+    → looks ∷ reads ∷ issues ∷ [] ≡ k ++ (m ++ first) → reads_anew m ≡ true → FailsAs 2 put m cause
+    → ⊥
 small_fails_not [] [] first cause split anew fails = absurd cc
 small_fails_not [] (a ∷ m) first cause split anew fails = peeked (subst (λ (x : Entry). times_peeked (x ∷ m) ≡ 0) (sym same) (anew_peeks (a ∷ m) anew))
   where
@@ -141,11 +150,13 @@ small_fails_not (a ∷ (b ∷ k)) m first cause split anew fails =
     tails : issues ∷ [] ≡ k ++ (m ++ first)
     tails = cc
 
-    none_asked : ◌≡◌ {A = ℕ} 0 (times_asked k + (times_asked m + times_asked first)) → 1 ≤ times_asked m → ⊥
+    none_asked : ◌≡◌ {A = ℕ} 0 (times_asked k + (times_asked m + times_asked first))
+        → 1 ≤ times_asked m → ⊥
     none_asked e some = absurd (omega arith)
 
 -- one that reached further back has looked at the leaf, or has left the catalog's read to the first
-long_fails_not : (w m first : List Entry) → m ++ first ≡ w ++ looks ∷ reads ∷ issues ∷ [] → reads_anew m ≡ true → times_asked first ≡ 0 → ⊥
+long_fails_not : (w m first : List Entry) → m ++ first ≡ w ++ looks ∷ reads ∷ issues ∷ []
+    → reads_anew m ≡ true → times_asked first ≡ 0 → ⊥
 long_fails_not w m first split anew none = by (cut_twice w (looks ∷ reads ∷ issues ∷ []) m first (sym split))
   where
     later : (k : List Entry) → m ≡ w ++ k → looks ∷ reads ∷ issues ∷ [] ≡ k ++ first → ⊥
@@ -158,11 +169,13 @@ long_fails_not w m first split anew none = by (cut_twice w (looks ∷ reads ∷ 
         peeked : times_peeked (w ++ looks ∷ k) ≡ 0 → ⊥
         peeked e = let sum = peeked_append w (looks ∷ k) in absurd (omega arith)
 
-    by : ((k : List Entry) × (m ≡ w ++ k) × (looks ∷ reads ∷ issues ∷ [] ≡ k ++ first)) ⊎ ((v : List Entry) × (first ≡ v ++ looks ∷ reads ∷ issues ∷ [])) → ⊥
+    by : ((k : List Entry) × (m ≡ w ++ k) × (looks ∷ reads ∷ issues ∷ [] ≡ k ++ first))
+        ⊎ ((v : List Entry) × (first ≡ v ++ looks ∷ reads ∷ issues ∷ [])) → ⊥
     by (inl (k, is, tail)) = later k is tail
     by (inr (v, is)) = let asked = ap times_asked is in let sum = asked_append v (looks ∷ reads ∷ issues ∷ []) in absurd (omega arith)
 
-seven_are_not_enough : (es : List Entry) (busy : Busy) → Shows es seven_tries put (Gives.Busy busy) → ⊥
+seven_are_not_enough : (es : List Entry) (busy : Busy) → Shows es seven_tries put (Gives.Busy busy)
+    → ⊥
 seven_are_not_enough es busy (given_up, failed) =
     let oldest = oldest_of 2 failed.middle (let six = failed.six in omega arith) (both_right (reads_anew failed.last) _ failed.anew) failed.others_fail in
     let before : List Entry = failed.rest ++ failed.last in
@@ -183,7 +196,9 @@ seven_are_not_enough es busy (given_up, failed) =
     let none : times_asked failed.first ≡ 0 = omega arith in
     by (before ++ oldest.newer) oldest.try failed.first oldest.cause oldest.anew oldest.fails none (cut_twice newest (looks ∷ reads ∷ issues ∷ []) (before ++ oldest.newer) (oldest.try ++ failed.first) (sym seven_are ∙ parts))
   where
-    by : (y m first : List Entry) (cause : Busy) → reads_anew m ≡ true → FailsAs 2 put m cause → times_asked first ≡ 0
-        → ((k : List Entry) × (y ≡ newest ++ k) × (looks ∷ reads ∷ issues ∷ [] ≡ k ++ (m ++ first))) ⊎ ((w : List Entry) × (m ++ first ≡ w ++ looks ∷ reads ∷ issues ∷ [])) → ⊥
+    by : (y m first : List Entry) (cause : Busy) → reads_anew m ≡ true → FailsAs 2 put m cause
+        → times_asked first ≡ 0
+        → ((k : List Entry) × (y ≡ newest ++ k) × (looks ∷ reads ∷ issues ∷ [] ≡ k ++ (m ++ first)))
+        ⊎ ((w : List Entry) × (m ++ first ≡ w ++ looks ∷ reads ∷ issues ∷ [])) → ⊥
     by y m first cause anew fails none (inl (k, is, tail)) = small_fails_not k m first cause tail anew fails
     by y m first cause anew fails none (inr (w, is)) = long_fails_not w m first is anew none

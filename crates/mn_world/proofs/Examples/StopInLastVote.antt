@@ -1,4 +1,5 @@
--- A node stops inside the last Prepare of a plan: its client is told a doubt, and what the restart finds decides it. A recovery coordinator then brings the decision to the nodes.
+-- A node stops inside the last Prepare of a plan: its client is told a doubt, and what the restart
+-- finds decides it. A recovery coordinator then brings the decision to the nodes.
 use Rattle.std.proofs.Common.{◌≡◌, Bool, true, false, List, [], ◌∷◌, ◌++◌, replicate, Some, None, inr, refl, lit<, lit≤}
 use Rattle.mn_base.specs.declared.op.Op.TheVariants.{Versions}
 use Rattle.mn_base.specs.declared.answer.Answer.TheVariants.{InDoubt}
@@ -186,7 +187,8 @@ told_example = (
 ended_example : under_way (client_entries (client 0) told) ≡ None
 ended_example = refl
 
--- nothing is committed at the stop. With the vote kept the plan is committed at the restart, after the client was told; else never
+-- nothing is committed at the stop. With the vote kept the plan is committed at the restart, after
+-- the client was told; else never
 stop_example : commits told ≡ []
 stop_example = refl
 

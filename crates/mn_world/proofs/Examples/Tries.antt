@@ -1,4 +1,5 @@
--- Tries of one Put, for worked examples: how a later try may end, and eight tries one after another. The catalog and the pages stand behind names.
+-- Tries of one Put, for worked examples: how a later try may end, and eight tries one after
+-- another. The catalog and the pages stand behind names.
 use Rattle.std.proofs.Common.{◌≡◌, ℕ, ◌+◌, ◌-◌, false, List, [], ◌∷◌, ◌++◌, length, None, refl, lit<, lit≤, subst, sym}
 use Rattle.std.specs.List.{flat_map}
 use Rattle.mn_base.specs.declared.op.Step.TheVariants.{Put}

@@ -1,4 +1,5 @@
--- Two recovery coordinators force an id while its client still asks for votes: its first plan is abandoned, and its second, with both votes, is committed.
+-- Two recovery coordinators force an id while its client still asks for votes: its first plan is
+-- abandoned, and its second, with both votes, is committed.
 use Rattle.std.proofs.Common.{◌≡◌, true, false, List, [], ◌∷◌, ◌++◌, replicate, Some, None, inl, refl, arith, lit<, lit≤}
 use Rattle.mn_mini.specs.declared.record.Record.TheVariants.{Voted, Decided, Forced}
 use Rattle.mn_mini.specs.declared.request.Request.TheVariants as Ask
@@ -198,7 +199,8 @@ replies_example : replies late
     ∷ []
 replies_example = refl
 
--- the refused vote leaves the id with no yes of node 1; a Decide where it is decided changes nothing
+-- the refused vote leaves the id with no yes of node 1; a Decide where it is decided changes
+-- nothing
 records_example : records_of start late (node 0) ≡ Decided (id 0 1) false ∷ Voted (id 0 1) (participants_of a_writes) (part_of a_writes (node 0)) ∷ []
 records_example = refl
 
@@ -222,7 +224,8 @@ forced_by_example = record {
   said = inl refl;
 }
 
--- until its own Force was refused the second one may not decide no; the client itself forced nothing
+-- until its own Force was refused the second one may not decide no; the client itself forced
+-- nothing
 no_example : has_no (id 0 1) (client_entries (client 18) refused) ≡ false
 no_example = refl
 

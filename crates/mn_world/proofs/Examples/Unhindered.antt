@@ -1,4 +1,5 @@
--- An operation that nothing disturbs: its client has all entries from its Begin to its answer, its node is up, and nothing is held.
+-- An operation that nothing disturbs: its client has all entries from its Begin to its answer, its
+-- node is up, and nothing is held.
 use Rattle.std.proofs.Common.{◌≡◌, ℕ, zero, suc, ◌<◌, false, List, [], ◌∷◌, ◌++◌, Some, None, refl, subst, arith}
 use Rattle.mn_base.specs.declared.ids.NodeNo.{NodeNo}
 use Rattle.mn_base.specs.declared.op.Op.TheVariants.{Versions}
@@ -22,7 +23,8 @@ one P a n low = by n.0 low
     by zero l = a
     by (suc k) l = absurd (omega (arith, l))
 
-up_on : (older : List Entry) → is_down (node_entries (node 0) (older ++ begun)) ≡ false → AreUp start (older ++ begun)
+up_on : (older : List Entry) → is_down (node_entries (node 0) (older ++ begun)) ≡ false
+    → AreUp start (older ++ begun)
 up_on older up = one (λ n. is_down (node_entries n (older ++ begun)) ≡ false) up
 
 up : UpThroughout start (the_read ∷ (the_issue ∷ [])) begun

@@ -43,7 +43,8 @@ pub record ShownAnswer (past : List Entry) (c : ClientNo) (number : ℕ) (answer
 pub shown_answer : (start : Start) (past : List Entry) (c : ClientNo) (number : ℕ) (answer : Answer) (e : AnswerAt past c number answer) → IsRun start past → ShownAnswer past c number answer e
 shown_answer start past c number answer e run = record { op = op.0; now = op.1; shows = subst (λ (o : Option Begun). IsShownFor (client_entries c e.at.before) o answer) op.1 means.1 }
   where
-    op : (op : Op) × (under_way (client_entries c e.at.before) ≡ Some (record { number = number; op = op }))
+    op : (op : Op)
+        × (under_way (client_entries c e.at.before) ≡ Some (record { number = number; op = op }))
     op = answered_op start past c number answer e (runs_follow_protocol start past run)
 
     step : Means e.at.before e.at.entry.client e.at.entry.what
@@ -53,7 +54,8 @@ shown_answer start past c number answer e run = record { op = op.0; now = op.1; 
     means = subst (λ (w : What). MeansBy (client_entries c e.at.before) w) e.answers (subst (λ (o : Option ClientNo). Means e.at.before o e.at.entry.what) e.at.by step)
 
 -- neither a reply nor a doubt: the plans are given up
-pub gives_up : (es now : List Entry) (op : Op) (answer : Answer) → MeansNoEffect answer → Shows es now op answer → are_given_up now ≡ true
+pub gives_up : (es now : List Entry) (op : Op) (answer : Answer) → MeansNoEffect answer
+    → Shows es now op answer → are_given_up now ≡ true
 gives_up es now op (Replied reply) means shows = absurd means
 gives_up es now op (InDoubt tid n) means shows = absurd means
 gives_up es now op (GaveUp busy) means shows = shows.0
@@ -62,14 +64,16 @@ gives_up es now op (Full need free) means shows = shows.0
 gives_up es now op (Worn n place) means shows = shows.0
 gives_up es now op NoMemory means shows = shows
 
--- the committed plan of an operation that was replied to is committed before the answer, and its reply is by a plan of that issue
+-- the committed plan of an operation that was replied to is committed before the answer, and its
+-- reply is by a plan of that issue
 pub record PlanReplied (past : List Entry) (a : ℕ) (c : ClientNo) (number : ℕ) (reply : Reply) (e : AnswerAt past c number (Replied reply)) (x : PlanIn past a c number) : Type 0 where
   pub before : a < length e.at.before
   pub op : Op
   pub now : under_way (client_entries c e.at.before) ≡ Some (record { number = number; op = op })
   pub planned : IsPlanBy (client_entries c x.issue.at.before) op x.issued.mini reply
 
-pub all_of : (f : NodeNo → Bool) (xs : List NodeNo) → list_all f xs ≡ true → AllByRecursion (λ x. f x ≡ true) xs
+pub all_of : (f : NodeNo → Bool) (xs : List NodeNo) → list_all f xs ≡ true
+    → AllByRecursion (λ x. f x ≡ true) xs
 all_of f [] e = tt
 all_of f (x ∷ xs) e = (first (f x) (list_all f xs) e, all_of f xs (second (f x) (list_all f xs) e))
   where
@@ -81,7 +85,8 @@ all_of f (x ∷ xs) e = (first (f x) (list_all f xs) e, all_of f xs (second (f x
     second true b h = h
     second false b h = absurd cc
 
-first_named : (items : List Item) → 1 ≤ length items → (n : NodeNo) × (list_any (λ i. node_same (item_node i) n) items ≡ true)
+first_named : (items : List Item) → 1 ≤ length items
+    → (n : NodeNo) × (list_any (λ i. node_same (item_node i) n) items ≡ true)
 first_named [] few = absurd (omega arith)
 first_named (i ∷ items) few = (item_node i, ap (λ (b : Bool). b || list_any (λ j. node_same (item_node j) (item_node i)) items) (node_same-refl (item_node i)))
 
@@ -89,12 +94,15 @@ any_some : (ps : List NodeNo) (n : NodeNo) → list_any (λ m. node_same m n) ps
 any_some [] n e = absurd cc
 any_some (p ∷ ps) n e = omega arith
 
-pub some_participant : (start : Start) (mini : Mini) → IsMade start mini → 1 ≤ length (participants_of mini)
+pub some_participant : (start : Start) (mini : Mini) → IsMade start mini
+    → 1 ≤ length (participants_of mini)
 some_participant start mini made =
     let first = first_named mini.items made.1.some in
     any_some (participants_of mini) first.0 (named_part start mini first.0 made first.1)
 
-pub plan_replied : (start : Start) (past : List Entry) → StartsSound start → HasSpaces start → IsRun start past → (c : ClientNo) (number : ℕ) (reply : Reply) (e : AnswerAt past c number (Replied reply)) (a : ℕ) (x : PlanIn past a c number)
+pub plan_replied : (start : Start) (past : List Entry) → StartsSound start → HasSpaces start
+    → IsRun start past
+    → (c : ClientNo) (number : ℕ) (reply : Reply) (e : AnswerAt past c number (Replied reply)) (a : ℕ) (x : PlanIn past a c number)
     → PlanReplied past a c number reply e x
 plan_replied start past sound spaces run c number reply e a x = by s.shows
   where
@@ -123,7 +131,8 @@ plan_replied start past sound spaces run c number reply e a x = by s.shows
     mine : mini_of e.at.before x.issued.tid ≡ Some x.issued.mini
     mine = subst (λ (d : ClientNo). issue_named x.issued.tid (issues_of (client_entries d e.at.before)) ≡ Some x.issued.mini) (sym own) named
 
-    committed : all_done (client_entries c e.at.before) x.issued ≡ true → CommittedIn e.at.before x.issued.tid
+    committed : all_done (client_entries c e.at.before) x.issued ≡ true
+        → CommittedIn e.at.before x.issued.tid
     committed done =
         let made = (whole_run start e.at.before sound spaces before).even.minis x.issued.tid x.issued.mini mine in
         done_committed start e.at.before x.issued.tid x.issued.mini sound spaces before mine (some_participant start x.issued.mini made)

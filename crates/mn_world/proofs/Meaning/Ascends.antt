@@ -30,28 +30,33 @@ use Rattle.mn_world.proofs.Meaning.Between.{none_begun, read_low}
 
 -- Lists
 
-above_all : (m n : ℕ) → m < n → (ps : List Placed) → AllByRecursion (λ q. n < q.place) ps → AllByRecursion (λ q. m < q.place) ps
+above_all : (m n : ℕ) → m < n → (ps : List Placed) → AllByRecursion (λ q. n < q.place) ps
+    → AllByRecursion (λ q. m < q.place) ps
 above_all m n less [] all = tt
 above_all m n less (q ∷ qs) all = let high : n < q.place = all.0 in (omega arith, above_all m n less qs all.1)
 
-ascend_put : (p : Placed) (ps : List Placed) → AllByRecursion (λ q. p.place ≡ q.place → ⊥) ps → Ascend ps → Ascend (placed_in p ps)
+ascend_put : (p : Placed) (ps : List Placed) → AllByRecursion (λ q. p.place ≡ q.place → ⊥) ps
+    → Ascend ps → Ascend (placed_in p ps)
 ascend_put p [] other up = (tt, tt)
 ascend_put p (x ∷ xs) other up = by (nat_lt p.place x.place) refl (ascend_put p xs other.1 up.1)
   where
-    by : (b : Bool) → nat_lt p.place x.place ≡ b → Ascend (placed_in p xs) → Ascend (if b then p ∷ x ∷ xs else x ∷ placed_in p xs)
+    by : (b : Bool) → nat_lt p.place x.place ≡ b → Ascend (placed_in p xs)
+        → Ascend (if b then p ∷ x ∷ xs else x ∷ placed_in p xs)
     by true e rest = let low : p.place < x.place = grind (arith, nat_tests) in ((low, above_all p.place x.place low xs up.0), up)
     by false e rest =
         let differs : p.place ≡ x.place → ⊥ = other.0 in
         let high : x.place < p.place = grind (arith, nat_tests) in
         (all_put (λ q. x.place < q.place) p xs high up.0, rest)
 
-ascend_push : (ps : List Placed) (p : Placed) → AllByRecursion (λ q. q.place < p.place) ps → Ascend ps → Ascend (ps ++ p ∷ [])
+ascend_push : (ps : List Placed) (p : Placed) → AllByRecursion (λ q. q.place < p.place) ps
+    → Ascend ps → Ascend (ps ++ p ∷ [])
 ascend_push [] p low up = (tt, tt)
 ascend_push (x ∷ xs) p low up = (all_append (λ q. x.place < q.place) xs (p ∷ []) up.0 (low.0, tt), ascend_push xs p low.1 up.1)
 
 -- Where a reply was read, its operation was under way
 
-no_begin_under : (what : What) (u : Option Begun) (b : Begun) → begun_in what ≡ [] → under_way_after what u ≡ Some b → u ≡ Some b
+no_begin_under : (what : What) (u : Option Begun) (b : Begun) → begun_in what ≡ []
+    → under_way_after what u ≡ Some b → u ≡ Some b
 no_begin_under (Begin number op) u b none now = absurd (some none)
   where
     some : ◌≡◌ {A = List Begun} (record { number = number; op = op } ∷ []) [] → ⊥
@@ -66,7 +71,9 @@ no_begin_under (Stopped request asked) u b none now = now
 no_begin_under (Restarted kept) u b none now = now
 no_begin_under (Abandoned tid) u b none now = now
 
-pub under_since : (xs ys : List Entry) (b : Begun) → AllByRecursion (λ (e : Entry). begun_in e.what ≡ []) xs → under_way (xs ++ ys) ≡ Some b → under_way ys ≡ Some b
+pub under_since : (xs ys : List Entry) (b : Begun)
+    → AllByRecursion (λ (e : Entry). begun_in e.what ≡ []) xs → under_way (xs ++ ys) ≡ Some b
+    → under_way ys ≡ Some b
 under_since [] ys b none now = now
 under_since (x ∷ xs) ys b none now = under_since xs ys b none.1 (no_begin_under x.what (under_way (xs ++ ys)) b none.0 now)
 
@@ -82,24 +89,31 @@ record ReadThere (past : List Entry) (c : ClientNo) (b : Begun) (place : ℕ) : 
   has : Contains (seen_at entry) seen
   under : under_way (client_entries c before) ≡ Some b
 
-there_more : (e : Entry) (past : List Entry) (c : ClientNo) (b : Begun) (place : ℕ) → ReadThere past c b place → ReadThere (e ∷ past) c b place
+there_more : (e : Entry) (past : List Entry) (c : ClientNo) (b : Begun) (place : ℕ)
+    → ReadThere past c b place → ReadThere (e ∷ past) c b place
 there_more e past c b place t = record { later = e ∷ t.later; entry = t.entry; before = t.before; split = ap (λ (l : List Entry). e ∷ l) t.split; is_place = t.is_place; by = t.by; seen = t.seen; has = t.has; under = t.under }
 
-under_read : (x : Entry) (seen : Seen) (u : Option Begun) (b : Begun) → Contains (seen_at x) seen → under_way_after x.what u ≡ Some b → u ≡ Some b
+under_read : (x : Entry) (seen : Seen) (u : Option Begun) (b : Begun) → Contains (seen_at x) seen
+    → under_way_after x.what u ≡ Some b → u ≡ Some b
 under_read x seen u b has now = sym (ap (λ (w : What). under_way_after w u) (read_call x.client x.node x.what seen has).call) ∙ now
 
-under_older : (c : ClientNo) (e : Entry) (past : List Entry) (b : Begun) → (is_by c e ≡ false) ⊎ (begun_in e.what ≡ []) → under_way (client_entries c (e ∷ past)) ≡ Some b → under_way (client_entries c past) ≡ Some b
+under_older : (c : ClientNo) (e : Entry) (past : List Entry) (b : Begun)
+    → (is_by c e ≡ false) ⊎ (begun_in e.what ≡ [])
+    → under_way (client_entries c (e ∷ past)) ≡ Some b → under_way (client_entries c past) ≡ Some b
 under_older c e past b since now =
     elim (is_by c e) as (λ x. (x ≡ false) ⊎ (begun_in e.what ≡ []) → under_way (if x then e ∷ client_entries c past else client_entries c past) ≡ Some b → under_way (client_entries c past) ≡ Some b) [
       | true ↦ λ s h. own s h
       | false ↦ λ s h. h
     ] since now
   where
-    own : (true ≡ false) ⊎ (begun_in e.what ≡ []) → under_way (e ∷ client_entries c past) ≡ Some b → under_way (client_entries c past) ≡ Some b
+    own : (true ≡ false) ⊎ (begun_in e.what ≡ []) → under_way (e ∷ client_entries c past) ≡ Some b
+        → under_way (client_entries c past) ≡ Some b
     own (inl never) h = absurd cc
     own (inr none) h = no_begin_under e.what (under_way (client_entries c past)) b none h
 
-shown_there : (c : ClientNo) (op : Op) (reply : Reply) (past : List Entry) (place : ℕ) (b : Begun) → LastShown c op reply past place → under_way (client_entries c past) ≡ Some b → ReadThere past c b place
+shown_there : (c : ClientNo) (op : Op) (reply : Reply) (past : List Entry) (place : ℕ) (b : Begun)
+    → LastShown c op reply past place → under_way (client_entries c past) ≡ Some b
+    → ReadThere past c b place
 shown_there c op reply [] place b none now = absurd none
 shown_there c op reply (e ∷ past) place b (inl (here, at)) now = record {
   later = [];
@@ -114,11 +128,14 @@ shown_there c op reply (e ∷ past) place b (inl (here, at)) now = record {
 }
 shown_there c op reply (e ∷ past) place b (inr (not_here, since, older)) now = there_more e past c b place (shown_there c op reply past place b older (under_older c e past b since now))
 
-pub all_front : (P : Entry → Type 0) (xs ys : List Entry) → AllByRecursion P (xs ++ ys) → AllByRecursion P xs
+pub all_front : (P : Entry → Type 0) (xs ys : List Entry) → AllByRecursion P (xs ++ ys)
+    → AllByRecursion P xs
 all_front P [] ys all = tt
 all_front P (x ∷ xs) ys all = (all.0, all_front P xs ys all.1)
 
-catalog_there : (c : ClientNo) (past : List Entry) (place : ℕ) (b : Begun) → FirstCatalogAt c past place → under_way (client_entries c past) ≡ Some b → ReadThere past c b place
+catalog_there : (c : ClientNo) (past : List Entry) (place : ℕ) (b : Begun)
+    → FirstCatalogAt c past place → under_way (client_entries c past) ≡ Some b
+    → ReadThere past c b place
 catalog_there c past place b first now =
     let none : AllByRecursion (λ (e : Entry). begun_in e.what ≡ []) (client_entries c first.later) =
     all_front (λ (e : Entry). begun_in e.what ≡ []) (client_entries c first.later) (first.entry ∷ since_begin (client_entries c first.before)) (subst (AllByRecursion (λ (e : Entry). begun_in e.what ≡ [])) first.since (none_begun (client_entries c past))) in
@@ -136,12 +153,15 @@ catalog_there c past place b first now =
       under = under_read first.entry first.here.1.0 (under_way (client_entries c first.before)) b first.here.1.1 here;
     }
 
-read_there : (c : ClientNo) (past : List Entry) (op : Op) (reply : Reply) (place : ℕ) (b : Begun) → ReadPlace c past op reply place → under_way (client_entries c past) ≡ Some b → ReadThere past c b place
+read_there : (c : ClientNo) (past : List Entry) (op : Op) (reply : Reply) (place : ℕ) (b : Begun)
+    → ReadPlace c past op reply place → under_way (client_entries c past) ≡ Some b
+    → ReadThere past c b place
 read_there c past (Scan name low high limit) (Say.Pairs pairs) place b at now = catalog_there c past place b at now
 read_there c past op reply place b at now = shown_there c op reply past place b at now
 
 -- in the whole log
-replied_there : (past : List Entry) (p : Placed) → RepliedAt past p → ReadThere past p.past.client (begun_as p.past) p.place
+replied_there : (past : List Entry) (p : Placed) → RepliedAt past p
+    → ReadThere past p.past.client (begun_as p.past) p.place
 replied_there past p r =
     let t = read_there p.past.client r.answer.at.before p.past.op p.past.reply p.place (begun_as p.past) r.read r.of in
     record {
@@ -164,7 +184,9 @@ same_client a b e = cc
 same_begun : (a b : Begun) → Some a ≡ Some b → a ≡ b
 same_begun a b e = cc
 
-apart : (start : Start) (past : List Entry) → StartsSound start → HasSpaces start → FollowsProtocol start past → (p q : Placed) → RepliedAt past p → Origin past q → Differs q p → p.place ≡ q.place → ⊥
+apart : (start : Start) (past : List Entry) → StartsSound start → HasSpaces start
+    → FollowsProtocol start past → (p q : Placed) → RepliedAt past p → Origin past q → Differs q p
+    → p.place ≡ q.place → ⊥
 apart start past sound spaces run p q r (by_plan a) differs same =
     let t = replied_there past p r in
     let equal : length t.before ≡ length a.before = sym t.is_place ∙ (same ∙ a.is_place) in
@@ -182,11 +204,13 @@ apart start past sound spaces run p q r (by_answer s) differs same =
     let begun = same_begun (begun_as p.past) (begun_as q.past) (sym under ∙ (ap (λ (d : ClientNo). under_way (client_entries d u.before)) client ∙ u.under)) in
     differs (sym client) (ap (λ (b : Begun). b.number) (sym begun))
 
-all_apart : (P Q : Placed → Type 0) (R : Placed → Type 0) → ((q : Placed) → P q → Q q → R q) → (ps : List Placed) → AllByRecursion P ps → AllByRecursion Q ps → AllByRecursion R ps
+all_apart : (P Q : Placed → Type 0) (R : Placed → Type 0) → ((q : Placed) → P q → Q q → R q)
+    → (ps : List Placed) → AllByRecursion P ps → AllByRecursion Q ps → AllByRecursion R ps
 all_apart P Q R f [] p q = tt
 all_apart P Q R f (x ∷ xs) p q = (f x p.0 q.0, all_apart P Q R f xs p.1 q.1)
 
-all_map : (P R : Placed → Type 0) → ((q : Placed) → P q → R q) → (ps : List Placed) → AllByRecursion P ps → AllByRecursion R ps
+all_map : (P R : Placed → Type 0) → ((q : Placed) → P q → R q) → (ps : List Placed)
+    → AllByRecursion P ps → AllByRecursion R ps
 all_map P R f [] p = tt
 all_map P R f (x ∷ xs) p = (f x p.0, all_map P R f xs p.1)
 
@@ -203,11 +227,13 @@ origin_more : (e : Entry) (past : List Entry) (q : Placed) → Origin past q →
 origin_more e past q (by_plan a) = by_plan (Rattle.mn_world.proofs.Meaning.Once.plan_more e past q.place q.past a)
 origin_more e past q (by_answer r) = by_answer (record { answer = Rattle.mn_world.proofs.Meaning.Once.answer_more e past q.past.client q.past.number (Rattle.mn_base.specs.declared.answer.Answer.TheVariants.Replied q.past.reply) r.answer; of = r.of; read = r.read })
 
-pub ascending : (start : Start) (past : List Entry) (placed : List Placed) → StartsSound start → HasSpaces start → FollowsProtocol start past → IsHistory past placed → Ascend placed
+pub ascending : (start : Start) (past : List Entry) (placed : List Placed) → StartsSound start
+    → HasSpaces start → FollowsProtocol start past → IsHistory past placed → Ascend placed
 ascending start [] placed sound spaces run none = subst Ascend (sym none) tt
 ascending start (e ∷ past) placed sound spaces run history = by (puts_of start past e placed run history) (ascending start past history.0 sound spaces run.0 history.1) (origins start past history.0 run.0 history.1)
   where
-    by : Puts past e history.0 placed → Ascend history.0 → AllByRecursion (Origin past) history.0 → Ascend placed
+    by : Puts past e history.0 placed → Ascend history.0 → AllByRecursion (Origin past) history.0
+        → Ascend placed
     by (nothing_new same) up all = subst Ascend (sym same) up
     by (read_new p replied none same) up all =
         subst Ascend (sym same)

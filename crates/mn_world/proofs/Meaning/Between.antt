@@ -36,20 +36,25 @@ use Rattle.mn_world.proofs.Meaning.Once.{answer_at, plan_of}
 
 -- A read is no Begin
 
-brings_no_begin : (x : Entry) (seen : Seen) (number : ℕ) (op : Op) → Contains (seen_at x) seen → x.what ≡ Begin number op → ⊥
+brings_no_begin : (x : Entry) (seen : Seen) (number : ℕ) (op : Op) → Contains (seen_at x) seen
+    → x.what ≡ Begin number op → ⊥
 brings_no_begin x seen number op has is = clash (sym (read_call x.client x.node x.what seen has).call ∙ is)
   where
     clash : {q : Rattle.mn_mini.specs.declared.request.Request.Request} {r : Rattle.mn_mini.specs.declared.reply.NodeReply.NodeReply} → Called q r ≡ Begin number op → ⊥
     clash e = cc
 
-begun_there : (x : Entry) (number : ℕ) (op : Op) → x.what ≡ Begin number op → begun_in x.what ≡ [] → ⊥
+begun_there : (x : Entry) (number : ℕ) (op : Op) → x.what ≡ Begin number op → begun_in x.what ≡ []
+    → ⊥
 begun_there x number op is none = some (ap begun_in (sym is) ∙ none)
   where
     some : ◌≡◌ {A = List Begun} (record { number = number; op = op } ∷ []) [] → ⊥
     some e = cc
 
 -- the last read that shows a reply stands behind the operation's Begin
-shown_behind : (c : ClientNo) (op : Op) (reply : Reply) (past : List Entry) (place : ℕ) → LastShown c op reply past place → (later : List Entry) (f : Entry) (before : List Entry) (number : ℕ) (begun : Op) → past ≡ later ++ f ∷ before → is_by c f ≡ true → f.what ≡ Begin number begun
+shown_behind : (c : ClientNo) (op : Op) (reply : Reply) (past : List Entry) (place : ℕ)
+    → LastShown c op reply past place
+    → (later : List Entry) (f : Entry) (before : List Entry) (number : ℕ) (begun : Op)
+    → past ≡ later ++ f ∷ before → is_by c f ≡ true → f.what ≡ Begin number begun
     → length before < place
 shown_behind c op reply [] place none later f before number begun split by is = absurd none
 shown_behind c op reply (e ∷ past) place (inl (here, at)) [] f before number begun split by is =
@@ -72,7 +77,9 @@ shown_behind c op reply (e ∷ past) place (inr (not_here, since, older)) (x ∷
     let rest : past ≡ later ++ f ∷ before = cc in shown_behind c op reply past place older later f before number begun rest by is
 
 -- no entry since Begin begins anything
-none_step : (at : Option NodeNo) (by : Option ClientNo) (what : What) (es : List Entry) → AllByRecursion (λ (e : Entry). begun_in e.what ≡ []) es → AllByRecursion (λ (e : Entry). begun_in e.what ≡ []) (since_begin_after what (record { node = at; client = by; what = what }) es)
+none_step : (at : Option NodeNo) (by : Option ClientNo) (what : What) (es : List Entry)
+    → AllByRecursion (λ (e : Entry). begun_in e.what ≡ []) es
+    → AllByRecursion (λ (e : Entry). begun_in e.what ≡ []) (since_begin_after what (record { node = at; client = by; what = what }) es)
 none_step at by (Begin number op) es all = tt
 none_step at by (Answered number answer) es all = tt
 none_step at by (Issue tid mini) es all = (refl, all)
@@ -81,11 +88,13 @@ none_step at by (Stopped request asked) es all = (refl, all)
 none_step at by (Restarted kept) es all = (refl, all)
 none_step at by (Abandoned tid) es all = (refl, all)
 
-pub none_begun : (es : List Entry) → AllByRecursion (λ (e : Entry). begun_in e.what ≡ []) (since_begin es)
+pub none_begun : (es : List Entry)
+    → AllByRecursion (λ (e : Entry). begun_in e.what ≡ []) (since_begin es)
 none_begun [] = tt
 none_begun (e ∷ es) = none_step e.node e.client e.what (since_begin es) (none_begun es)
 
-all_mid : (P : Entry → Type 0) (xs : List Entry) (x : Entry) (ys : List Entry) → AllByRecursion P (xs ++ x ∷ ys) → P x
+all_mid : (P : Entry → Type 0) (xs : List Entry) (x : Entry) (ys : List Entry)
+    → AllByRecursion P (xs ++ x ∷ ys) → P x
 all_mid P [] x ys all = all.0
 all_mid P (z ∷ xs) x ys all = all_mid P xs x ys all.1
 
@@ -95,7 +104,9 @@ catalog_behind c past place first later f before number begun split by is = case
     at : place ≡ length first.before
     at = first.is_place
 
-    cases : (length before < length first.before) ⊎ ((length before ≡ length first.before) ⊎ (length first.before < length before)) → length before < place
+    cases : (length before < length first.before)
+        ⊎ ((length before ≡ length first.before) ⊎ (length first.before < length before))
+        → length before < place
     cases (inl less) = omega arith
     cases (inr (inl equal)) =
         let here : SameSplit f first.entry before first.before = same_split later first.later f first.entry before first.before (sym split ∙ first.split) equal in
@@ -111,18 +122,24 @@ catalog_behind c past place first later f before number begun split by is = case
         absurd (begun_there f number begun is (all_mid (λ (e : Entry). begun_in e.what ≡ []) (client_entries c later) f (client_entries c inner.between ++ first.entry ∷ since_begin (client_entries c first.before))
         (subst (AllByRecursion (λ (e : Entry). begun_in e.what ≡ [])) since (none_begun (client_entries c past)))))
 
-read_behind : (c : ClientNo) (past : List Entry) (op : Op) (reply : Reply) (place : ℕ) → ReadPlace c past op reply place → (later : List Entry) (f : Entry) (before : List Entry) (number : ℕ) (begun : Op) → past ≡ later ++ f ∷ before → is_by c f ≡ true → f.what ≡ Begin number begun → length before < place
+read_behind : (c : ClientNo) (past : List Entry) (op : Op) (reply : Reply) (place : ℕ)
+    → ReadPlace c past op reply place
+    → (later : List Entry) (f : Entry) (before : List Entry) (number : ℕ) (begun : Op)
+    → past ≡ later ++ f ∷ before → is_by c f ≡ true → f.what ≡ Begin number begun
+    → length before < place
 read_behind c past (Scan name low high limit) (Say.Pairs pairs) place at later f before number begun split by is = catalog_behind c past place at later f before number begun split by is
 read_behind c past op reply place at later f before number begun split by is = shown_behind c op reply past place at later f before number begun split by is
 
 -- and it stands before the answer
-shown_low : (past : List Entry) (c : ClientNo) (op : Op) (reply : Reply) (place : ℕ) → LastShown c op reply past place → place < length past
+shown_low : (past : List Entry) (c : ClientNo) (op : Op) (reply : Reply) (place : ℕ)
+    → LastShown c op reply past place → place < length past
 shown_low past c op reply place shown =
     let at = last_shown_at past c op reply place shown in
     let less = shorter_by past at.later at.entry at.before at.split in
     let is : place ≡ length at.before = at.is_place in omega arith
 
-pub read_low : (c : ClientNo) (past : List Entry) (op : Op) (reply : Reply) (place : ℕ) → ReadPlace c past op reply place → place < length past
+pub read_low : (c : ClientNo) (past : List Entry) (op : Op) (reply : Reply) (place : ℕ)
+    → ReadPlace c past op reply place → place < length past
 read_low c past (Scan name low high limit) (Say.Pairs pairs) place at =
     let less = shorter_by past at.later at.entry at.before at.split in
     let is : place ≡ length at.before = at.is_place in omega arith
@@ -130,19 +147,23 @@ read_low c past op reply place at = shown_low past c op reply place at
 
 -- Places
 
-pub issue_no_begin : (what : What) (i : Issued) (number : ℕ) (op : Op) → issue_in what ≡ i ∷ [] → what ≡ Begin number op → ⊥
+pub issue_no_begin : (what : What) (i : Issued) (number : ℕ) (op : Op) → issue_in what ≡ i ∷ []
+    → what ≡ Begin number op → ⊥
 issue_no_begin what i number op is begins = none (ap issue_in (sym begins) ∙ is)
   where
     none : [] ≡ i ∷ [] → ⊥
     none e = cc
 
-answer_no_begin : (what : What) (number k : ℕ) (answer : Answer) (op : Op) → what ≡ Answered number answer → what ≡ Begin k op → ⊥
+answer_no_begin : (what : What) (number k : ℕ) (answer : Answer) (op : Op)
+    → what ≡ Answered number answer → what ≡ Begin k op → ⊥
 answer_no_begin what number k answer op is begins = none (sym is ∙ begins)
   where
     none : Answered number answer ≡ Begin k op → ⊥
     none e = cc
 
-pub begins_before : (start : Start) (past : List Entry) → FollowsProtocol start past → (p : Placed) → Origin past p → (op : Op) (f : BeginAt past p.past.client p.past.number op) → length f.at.before < p.place
+pub begins_before : (start : Start) (past : List Entry) → FollowsProtocol start past → (p : Placed)
+    → Origin past p → (op : Op) (f : BeginAt past p.past.client p.past.number op)
+    → length f.at.before < p.place
 begins_before start past run p (by_plan a) op f =
     let x = issue_of past p.place p.past a in
     let before = begin_before start past p.past.client p.past.number op f x.at (begun_as p.past) run x.of refl (issue_no_begin x.at.entry.what a.issued p.past.number op x.issues) in
@@ -152,7 +173,10 @@ begins_before start past run p (by_answer r) op f =
     let inner = inner_split f.at.later r.answer.at.later f.at.entry r.answer.at.entry f.at.before r.answer.at.before (sym f.at.split ∙ r.answer.at.split) before in
     read_behind p.past.client r.answer.at.before p.past.op p.past.reply p.place r.read inner.between f.at.entry f.at.before p.past.number op inner.split (is_own p.past.client f.at.entry f.at.by) f.begins
 
-pub answered_behind : (start : Start) (past : List Entry) → StartsSound start → HasSpaces start → IsRun start past → (p : Placed) → Origin past p → (reply : Reply) (e : AnswerAt past p.past.client p.past.number (Replied reply)) → p.place < length e.at.before
+pub answered_behind : (start : Start) (past : List Entry) → StartsSound start → HasSpaces start
+    → IsRun start past → (p : Placed) → Origin past p
+    → (reply : Reply) (e : AnswerAt past p.past.client p.past.number (Replied reply))
+    → p.place < length e.at.before
 answered_behind start past sound spaces run p (by_plan a) reply e = (plan_replied start past sound spaces run p.past.client p.past.number reply e p.place (plan_in past p.place p.past a)).before
 answered_behind start past sound spaces run p (by_answer r) reply e =
     let same = answered_once start past p.past.client p.past.number (Replied reply) (Replied p.past.reply) e r.answer (runs_follow_protocol start past run) in
@@ -162,7 +186,9 @@ answered_behind start past sound spaces run p (by_answer r) reply e =
 abbrev pub begin_at : (past : List Entry) (place : ℕ) (e : Entry) (c : ClientNo) (number : ℕ) (op : Op) → StandsAt past place e → BeginsOp e c number op → BeginAt past c number op
 begin_at past place e c number op (later, before, split, is) begins = record { at = record { entry = e; later = later; before = before; split = split; by = begins.0 }; begins = begins.1 }
 
-pub origin_of : (start : Start) (past : List Entry) (placed : List Placed) (p : Placed) → IsRun start past → Rattle.mn_world.specs.History.IsHistory past placed → Contains placed p → Origin past p
+pub origin_of : (start : Start) (past : List Entry) (placed : List Placed) (p : Placed)
+    → IsRun start past → Rattle.mn_world.specs.History.IsHistory past placed → Contains placed p
+    → Origin past p
 origin_of start past placed p run history has = All-contains (Origin past) placed p (All-from_recursion (Origin past) placed (origins start past placed (runs_follow_protocol start past run) history)) has
 
 -- an operation takes its place after its Begin and, where it is replied to, before its answer
@@ -185,7 +211,8 @@ places_lie_between start store past placed p place e h has stands = (begins, ans
         let less = begins_before start past (runs_follow_protocol start past h.opened.run) p origin op (begin_at past place e p.past.client p.past.number op stands is) in
         let at : place ≡ length stands.1 = stands.3 in omega arith
 
-    answers : (reply : Reply) → AnswersOp e p.past.client p.past.number (Replied reply) → p.place < place
+    answers : (reply : Reply) → AnswersOp e p.past.client p.past.number (Replied reply)
+        → p.place < place
     answers reply is =
         let less = answered_behind start past h.opened.opened.sound h.opened.spaces h.opened.run p origin reply (answer_at past place e p.past.client p.past.number (Replied reply) stands is) in
         let at : place ≡ length stands.1 = stands.3 in omega arith
@@ -224,7 +251,9 @@ same_begun a b e = cc
 no_begun : (b : Begun) → None ≡ Some b → ⊥
 no_begun b e = cc
 
-began_step : (at : Option NodeNo) (by : Option ClientNo) (what : What) (es : List Entry) (b : Begun) → (under_way es ≡ Some b → Began es b) → under_way_after what (under_way es) ≡ Some b → Began (record { node = at; client = by; what = what } ∷ es) b
+began_step : (at : Option NodeNo) (by : Option ClientNo) (what : What) (es : List Entry) (b : Begun)
+    → (under_way es ≡ Some b → Began es b) → under_way_after what (under_way es) ≡ Some b
+    → Began (record { node = at; client = by; what = what } ∷ es) b
 began_step at by (Begin number op) es b older is =
     let same : record { number = number; op = op } ≡ b = same_begun _ b is in
     record { newer = []; entry = record { node = at; client = by; what = Begin number op }; older = es; split = refl; begins = ap (λ (x : Begun). Begin x.number x.op) same }
@@ -240,7 +269,8 @@ began [] b is = absurd (no_begun b is)
 began (e ∷ es) b is = began_step e.node e.client e.what es b (began es b) is
 
 -- the Begin of an operation under way, in the whole log
-begin_of : (past : List Entry) (c : ClientNo) (y : OwnAt past c) (b : Begun) → under_way (client_entries c y.before) ≡ Some b → BeginAt past c b.number b.op
+begin_of : (past : List Entry) (c : ClientNo) (y : OwnAt past c) (b : Begun)
+    → under_way (client_entries c y.before) ≡ Some b → BeginAt past c b.number b.op
 begin_of past c y b is =
     let g = began (client_entries c y.before) b is in
     let l : Lifted c y.before g.entry g.older = lift c y.before g.newer g.entry g.older g.split in
@@ -261,10 +291,14 @@ only_those_stand start store past placed p h has = (begun (origin_of start past 
     run : FollowsProtocol start past
     run = runs_follow_protocol start past h.opened.run
 
-    stands : (f : BeginAt past p.past.client p.past.number p.past.op) → Origin past p → (place : ℕ) × (e : Entry) × StandsAt past place e × BeginsOp e p.past.client p.past.number p.past.op × (place < p.place)
+    stands : (f : BeginAt past p.past.client p.past.number p.past.op) → Origin past p
+        → (place : ℕ) × (e : Entry) × StandsAt past place e
+        × BeginsOp e p.past.client p.past.number p.past.op × (place < p.place)
     stands f origin = (length f.at.before, f.at.entry, (f.at.later, f.at.before, f.at.split, refl), (f.at.by, f.begins), begins_before start past run p origin p.past.op f)
 
-    begun : Origin past p → (place : ℕ) × (e : Entry) × StandsAt past place e × BeginsOp e p.past.client p.past.number p.past.op × (place < p.place)
+    begun : Origin past p
+        → (place : ℕ) × (e : Entry) × StandsAt past place e
+        × BeginsOp e p.past.client p.past.number p.past.op × (place < p.place)
     begun (by_plan a) = let x = issue_of past p.place p.past a in stands (begin_of past p.past.client x.at (begun_as p.past) x.of) (by_plan a)
     begun (by_answer r) = stands (begin_of past p.past.client r.answer.at (begun_as p.past) r.of) (by_answer r)
 

@@ -1,4 +1,5 @@
--- The bytes of a catalog are those of one list of entries; what is read of a memory that holds a store is its forest's.
+-- The bytes of a catalog are those of one list of entries; what is read of a memory that holds a
+-- store is its forest's.
 use Rattle.std.proofs.Common.{◌≡◌, ℕ, zero, suc, ◌+◌, ◌*◌, ◌<◌, ◌≤◌, ◌⊎◌, inl, inr, List, [], ◌++◌, length, map, refl, subst, sym, ap, ◌∙◌, arith, slice_get, slice_index_or, Some}
 use Rattle.std.specs.List.{AllByRecursion, flat_map, range_with_len}
 use Rattle.std.proofs.lemmas.List.{take_all, get_or_past}
@@ -25,18 +26,23 @@ use Rattle.mn_world.proofs.Plans.HoldsOne.{same_by_places}
 
 -- One list of entries
 
-long : (es : List CatEntry) → AllByRecursion IsEntry es → length (flat_map entry_bytes es) ≡ 64 * length es
+long : (es : List CatEntry) → AllByRecursion IsEntry es
+    → length (flat_map entry_bytes es) ≡ 64 * length es
 long es all = length-pieces entry_bytes 64 es (entry_sizes es all)
 
-entry_in : (es : List CatEntry) → AllByRecursion IsEntry es → (v : ℕ) (e : CatEntry) → slice_get es v ≡ Some e → bytes_in (padded 4096 (flat_map entry_bytes es)) (64 * v) 64 ≡ entry_bytes e
+entry_in : (es : List CatEntry) → AllByRecursion IsEntry es → (v : ℕ) (e : CatEntry)
+    → slice_get es v ≡ Some e
+    → bytes_in (padded 4096 (flat_map entry_bytes es)) (64 * v) 64 ≡ entry_bytes e
 entry_in es all v e at =
     let in' = slice_get_within es v e at in
     bytes_in-padded 4096 (flat_map entry_bytes es) (64 * v) 64 (subst (λ k. 64 * v + 64 ≤ k) (sym (long es all)) (omega arith)) ∙ read_piece entry_bytes 64 es v (64 * v) e (entry_sizes es all) at refl
 
-unused_in : (es : List CatEntry) → AllByRecursion IsEntry es → (v : ℕ) → length es ≤ v → AreZeros (bytes_in (padded 4096 (flat_map entry_bytes es)) (64 * v) 64)
+unused_in : (es : List CatEntry) → AllByRecursion IsEntry es → (v : ℕ) → length es ≤ v
+    → AreZeros (bytes_in (padded 4096 (flat_map entry_bytes es)) (64 * v) 64)
 unused_in es all v past = zeros_behind 4096 (flat_map entry_bytes es) (64 * v) 64 (subst (λ k. k ≤ 64 * v) (sym (long es all)) (omega arith))
 
-one_way : (es fs : List CatEntry) → AllByRecursion IsEntry es → AllByRecursion IsEntry fs → padded 4096 (flat_map entry_bytes es) ≡ padded 4096 (flat_map entry_bytes fs)
+one_way : (es fs : List CatEntry) → AllByRecursion IsEntry es → AllByRecursion IsEntry fs
+    → padded 4096 (flat_map entry_bytes es) ≡ padded 4096 (flat_map entry_bytes fs)
     → (v : ℕ) (e : CatEntry) → slice_get es v ≡ Some e → slice_get fs v ≡ Some e
 one_way es fs alle allf same v e at =
     elim ((slice_get_cases fs v).1) as (λ _. slice_get fs v ≡ Some e) [
@@ -48,7 +54,8 @@ one_way es fs alle allf same v e at =
           (subst AreZeros (ap (λ (b : List ℕ). bytes_in b (64 * v) 64) (sym same) ∙ entry_in es alle v e at) (unused_in fs allf v past.0)))
     ]
 
-pub catalog_once : (es fs : List CatEntry) → AllByRecursion IsEntry es → AllByRecursion IsEntry fs → padded 4096 (flat_map entry_bytes es) ≡ padded 4096 (flat_map entry_bytes fs) → es ≡ fs
+pub catalog_once : (es fs : List CatEntry) → AllByRecursion IsEntry es → AllByRecursion IsEntry fs
+    → padded 4096 (flat_map entry_bytes es) ≡ padded 4096 (flat_map entry_bytes fs) → es ≡ fs
 catalog_once es fs alle allf same = same_by_places es fs (one_way es fs alle allf same) (fewer (length fs) refl)
   where
     fewer : (k : ℕ) → length fs ≡ k → length fs ≤ length es
@@ -62,7 +69,8 @@ catalog_once es fs alle allf same = same_by_places es fs (one_way es fs alle all
 whole : (n : ℕ) (xs : List ℕ) → length xs ≡ n → bytes_in xs 0 n ≡ xs
 whole n xs l = take_all n xs (omega arith)
 
-pub catalog_stands : (f : Forest) → IsCounted f → bytes_in (space_in (memory_by_pages f) node_0) 64 4096 ≡ padded 4096 (flat_map entry_bytes f.entries)
+pub catalog_stands : (f : Forest) → IsCounted f
+    → bytes_in (space_in (memory_by_pages f) node_0) 64 4096 ≡ padded 4096 (flat_map entry_bytes f.entries)
 catalog_stands f sound =
     let one = sound.nodes.0 in
     let fits = entries_length f sound in
@@ -73,7 +81,8 @@ catalog_stands f sound =
 
 -- a catalog that was read is the forest's
 pub catalog_tells : (memory : List (List ℕ)) (store : Store) (holds : Holds memory store) (entries : List CatEntry) → AllByRecursion IsEntry entries
-    → bytes_in (space_in memory node_0) 64 4096 ≡ padded 4096 (flat_map entry_bytes entries) → entries ≡ holds.forest.entries
+    → bytes_in (space_in memory node_0) 64 4096 ≡ padded 4096 (flat_map entry_bytes entries)
+    → entries ≡ holds.forest.entries
 catalog_tells memory store holds entries all read =
     let sound = counted holds.forest holds.sound in
     let spelled : memory ≡ memory_by_pages holds.forest = holds.spelled ∙ laid_is holds.forest in
@@ -90,7 +99,8 @@ nothing_in (suc s) (suc k) = refl
 
 -- a page that was read stands in the forest
 pub page_tells : (memory : List (List ℕ)) (store : Store) (holds : Holds memory store) (addr : Addr) (p : Page) → IsPage p
-    → bytes_in (space_in memory addr.node) (20480 + 1024 * addr.slot) 1024 ≡ page_bytes p → page_at holds.forest addr ≡ Some p
+    → bytes_in (space_in memory addr.node) (20480 + 1024 * addr.slot) 1024 ≡ page_bytes p
+    → page_at holds.forest addr ≡ Some p
 page_tells memory store holds addr p is read = by (low_or_high addr.node.0 (node_count holds.forest))
   where
     spelled : memory ≡ memory_by_pages holds.forest
@@ -99,7 +109,8 @@ page_tells memory store holds addr p is read = by (low_or_high addr.node.0 (node
     empty : length (page_bytes p) ≡ 1024 → page_bytes p ≡ [] → ⊥
     empty l e = let none : length (page_bytes p) ≡ 0 = ap (λ (b : List ℕ). length b) e in absurd (omega arith)
 
-    by : (addr.node.0 < node_count holds.forest) ⊎ (node_count holds.forest ≤ addr.node.0) → page_at holds.forest addr ≡ Some p
+    by : (addr.node.0 < node_count holds.forest) ⊎ (node_count holds.forest ≤ addr.node.0)
+        → page_at holds.forest addr ≡ Some p
     by (inl in') = page_there holds.forest (counted holds.forest holds.sound) addr p in' is (ap (λ (m : List (List ℕ)). bytes_in (space_in m addr.node) (20480 + 1024 * addr.slot) 1024) (sym spelled) ∙ read)
     by (inr out) =
         let nodes : length memory ≡ node_count holds.forest = ap (λ (m : List (List ℕ)). length m) spelled ∙ memory_length holds.forest in
@@ -116,12 +127,14 @@ space_bytes_length f sound n =
     length-padded 4214784 (front_of (node_count f) n (length (slice_index_or f.pages n [])) (catalog_bytes f n) ++ flat_map page_bytes (slice_index_or f.pages n []))
     (subst (λ k. k ≤ 4214784) (sym text) (omega arith))
 
-all_range : {X : Type 0} (P : X → Type 0) (g : ℕ → X) → ((n : ℕ) → P (g n)) → (a k : ℕ) → AllByRecursion P (map g (range_with_len a k))
+all_range : {X : Type 0} (P : X → Type 0) (g : ℕ → X) → ((n : ℕ) → P (g n)) → (a k : ℕ)
+    → AllByRecursion P (map g (range_with_len a k))
 all_range P g all a zero = tt
 all_range P g all a (suc k) = (all a, all_range P g all (a + 1) k)
 
 -- each space of a memory that holds a store has a space's length
-pub holds_sizes : (memory : List (List ℕ)) (store : Store) → Holds memory store → AllByRecursion (λ space. length space ≡ space_size) memory
+pub holds_sizes : (memory : List (List ℕ)) (store : Store) → Holds memory store
+    → AllByRecursion (λ space. length space ≡ space_size) memory
 holds_sizes memory store holds =
     subst (λ (m : List (List ℕ)). AllByRecursion (λ space. length space ≡ space_size) m) (sym (holds.spelled ∙ laid_is holds.forest))
     (all_range (λ (space : List ℕ). length space ≡ space_size) (space_bytes holds.forest) (space_bytes_length holds.forest (counted holds.forest holds.sound)) 0 (node_count holds.forest))

@@ -1,4 +1,5 @@
--- Operations at their places: up to each place the store holds that those before it leave, and each reply is the store's there.
+-- Operations at their places: up to each place the store holds that those before it leave, and each
+-- reply is the store's there.
 use Rattle.std.proofs.Common.{◌≡◌, ℕ, suc, ◌+◌, ◌<◌, ◌≤◌, ◌⊎◌, inl, inr, Bool, true, false, List, [], ◌∷◌, ◌++◌, refl, subst, sym, arith, if◌then◌else◌}
 use Rattle.std.specs.Prelude.{nat_lt}
 use Rattle.std.proofs.lemmas.Bool.Decides.{nat_tests}
@@ -8,12 +9,14 @@ use Rattle.mn_base.specs.declared.history.Past.{Past}
 use Rattle.mn_world.specs.History.{Placed, placed_in, pasts_of}
 use Rattle.mn_world.proofs.Votes.Start.{low_or_high}
 
--- from a place on, with this store there: it holds up to the next operation, whose reply is the store's, and behind that the store that it leaves goes on, at
--- the same place, or at the next one where a plan is committed
+-- from a place on, with this store there: it holds up to the next operation, whose reply is the
+-- store's, and behind that the store that it leaves goes on, at the same place, or at the next one
+-- where a plan is committed
 abbrev pub Chain : (ℕ → Store → Type 0) → (ℕ → Type 0) → ℕ → Store → ℕ → List Placed → Type 0
 Chain H P end store from [] = (m : ℕ) → from ≤ m → m ≤ end → H m store
 Chain H P end store from (p ∷ ps) =
-    (from ≤ p.place) × (p.place < end) × ((m : ℕ) → from ≤ m → m ≤ p.place → H m store) × (p.past.reply ≡ (applied store p.past.op).reply)
+    (from ≤ p.place) × (p.place < end) × ((m : ℕ) → from ≤ m → m ≤ p.place → H m store)
+    × (p.past.reply ≡ (applied store p.past.op).reply)
     × ((after : ℕ) × (p.place ≤ after) × (after ≤ p.place + 1) × (p.place < after → P p.place) × Chain H P end (applied store p.past.op).store after ps)
 
 pub chain_legal : (H : ℕ → Store → Type 0) (P : ℕ → Type 0) (end : ℕ) (store : Store) (from : ℕ) (ps : List Placed) → Chain H P end store from ps → IsLegal store (pasts_of ps)
@@ -34,7 +37,8 @@ pub chain_at : (H : ℕ → Store → Type 0) (P : ℕ → Type 0) (end : ℕ) (
 chain_at H P end store from [] n low high c = ([], c n low high)
 chain_at H P end store from (p ∷ ps) n low high c = by (low_or_high p.place n) (λ fits. chain_at H P end (applied store p.past.op).store c.4.0 ps n fits high c.4.4)
   where
-    by : (p.place < n) ⊎ (n ≤ p.place) → (c.4.0 ≤ n → (history : List Past) × H n (store_after (applied store p.past.op).store history)) → (history : List Past) × H n (store_after store history)
+    by : (p.place < n) ⊎ (n ≤ p.place)
+        → (c.4.0 ≤ n → (history : List Past) × H n (store_after (applied store p.past.op).store history)) → (history : List Past) × H n (store_after store history)
     by (inl behind) rest =
         let next : c.4.0 ≤ p.place + 1 = c.4.2 in
         let r = rest (omega arith) in (p.past ∷ r.0, r.1)
@@ -55,7 +59,8 @@ chain_between H P end store from (p ∷ ps) m n low up high c = by (low_or_high 
 -- a read that leaves the store alone is put in by its place, which is no plan's
 pub chain_put : (H : ℕ → Store → Type 0) (P : ℕ → Type 0) (end : ℕ) (store : Store) (from : ℕ) (ps : List Placed) (read : Placed)
     → ((s : Store) → H read.place s → (read.past.reply ≡ (applied s read.past.op).reply) × ((applied s read.past.op).store ≡ s))
-    → (P read.place → ⊥) → from ≤ read.place → read.place < end → Chain H P end store from ps → Chain H P end store from (placed_in read ps)
+    → (P read.place → ⊥) → from ≤ read.place → read.place < end → Chain H P end store from ps
+    → Chain H P end store from (placed_in read ps)
 chain_put H P end store from [] read silent free low high c =
     let here = silent store (c read.place low (omega arith)) in (
       low,
@@ -74,7 +79,8 @@ chain_put H P end store from (x ∷ xs) read silent free low high c =
         let same : x.place ≡ read.place = omega arith in
         absurd (free (subst P same (c.4.3 (omega arith))))
 
-    by : (b : Bool) → nat_lt read.place x.place ≡ b → (c.4.0 ≤ read.place → Chain H P end (applied store x.past.op).store c.4.0 (placed_in read xs))
+    by : (b : Bool) → nat_lt read.place x.place ≡ b
+        → (c.4.0 ≤ read.place → Chain H P end (applied store x.past.op).store c.4.0 (placed_in read xs))
         → Chain H P end store from (if b then read ∷ x ∷ xs else x ∷ placed_in read xs)
     by true e rest =
         let first : read.place < x.place = grind (arith, nat_tests) in
@@ -96,8 +102,11 @@ chain_put H P end store from (x ∷ xs) read silent free low high c =
         (c.0, c.1, c.2, c.3, (c.4.0, c.4.1, c.4.2, c.4.3, rest (next (low_or_high read.place c.4.0) behind)))
 
 -- the log goes on by an entry that leaves the memory's store
-pub chain_quiet : (H H' : ℕ → Store → Type 0) (P P' : ℕ → Type 0) (end : ℕ) → ((m : ℕ) (s : Store) → m ≤ end → H m s → H' m s) → ((k : ℕ) → P k → P' k) → ((s : Store) → H end s → H' (suc end) s)
-    → (store : Store) (from : ℕ) (ps : List Placed) → from ≤ end → Chain H P end store from ps → Chain H' P' (suc end) store from ps
+pub chain_quiet : (H H' : ℕ → Store → Type 0) (P P' : ℕ → Type 0) (end : ℕ)
+    → ((m : ℕ) (s : Store) → m ≤ end → H m s → H' m s) → ((k : ℕ) → P k → P' k)
+    → ((s : Store) → H end s → H' (suc end) s)
+    → (store : Store) (from : ℕ) (ps : List Placed) → from ≤ end → Chain H P end store from ps
+    → Chain H' P' (suc end) store from ps
 chain_quiet H H' P P' end older plans newest store from [] fits c = λ m lo hi. by m lo hi (low_or_high m (suc end))
   where
     by : (m : ℕ) → from ≤ m → m ≤ suc end → (m < suc end) ⊎ (suc end ≤ m) → H' m store
@@ -114,9 +123,11 @@ chain_quiet H H' P P' end older plans newest store from (p ∷ ps) fits c =
     )
 
 -- the log goes on by an entry that commits a plan
-pub chain_commit : (H H' : ℕ → Store → Type 0) (P P' : ℕ → Type 0) (end : ℕ) (past : Past) → ((m : ℕ) (s : Store) → m ≤ end → H m s → H' m s) → ((k : ℕ) → P k → P' k)
+pub chain_commit : (H H' : ℕ → Store → Type 0) (P P' : ℕ → Type 0) (end : ℕ) (past : Past)
+    → ((m : ℕ) (s : Store) → m ≤ end → H m s → H' m s) → ((k : ℕ) → P k → P' k)
     → ((s : Store) → H end s → (past.reply ≡ (applied s past.op).reply) × H' (suc end) (applied s past.op).store) → P' end
-    → (store : Store) (from : ℕ) (ps : List Placed) → from ≤ end → Chain H P end store from ps → Chain H' P' (suc end) store from (ps ++ record { place = end; past = past } ∷ [])
+    → (store : Store) (from : ℕ) (ps : List Placed) → from ≤ end → Chain H P end store from ps
+    → Chain H' P' (suc end) store from (ps ++ record { place = end; past = past } ∷ [])
 chain_commit H H' P P' end past older plans commit is store from [] fits c =
     let here = commit store (c end fits (omega arith)) in (
       fits,

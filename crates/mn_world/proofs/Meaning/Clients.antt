@@ -1,4 +1,5 @@
--- The list of one client: its operations have ascending numbers, and an operation's issues but the last are over.
+-- The list of one client: its operations have ascending numbers, and an operation's issues but the
+-- last are over.
 use Rattle.std.proofs.Common.{◌≡◌, ℕ, suc, ◌+◌, ◌<◌, ◌≤◌, ◌⊎◌, inl, inr, Bool, true, false, List, [], ◌∷◌, ◌++◌, length, Option, Some, None, refl, subst, sym, ap, ◌∙◌, arith, if◌then◌else◌}
 use Rattle.std.proofs.lemmas.List.{length-append}
 use Rattle.mn_base.specs.Ids.{tid_same}
@@ -24,7 +25,8 @@ Allowed c (e ∷ es) = Allowed c es × ClientAllows c es e.node e.what
 allowed_here : (past : List Entry) (c : ClientNo) (by : Option ClientNo) (at : Option NodeNo) (what : What) → by ≡ Some c → Rattle.mn_world.specs.Protocol.AllowedBy past by at what → ClientAllows c (client_entries c past) at what
 allowed_here past c by at what is allowed = subst (λ (o : Option ClientNo). Rattle.mn_world.specs.Protocol.AllowedBy past o at what) is allowed
 
-pub client_allowed : (start : Start) (past : List Entry) (c : ClientNo) → FollowsProtocol start past → Allowed c (client_entries c past)
+pub client_allowed : (start : Start) (past : List Entry) (c : ClientNo) → FollowsProtocol start past
+    → Allowed c (client_entries c past)
 client_allowed start [] c run = tt
 client_allowed start (e ∷ past) c run =
     elim (is_by c e) as (λ b. is_by c e ≡ b → Allowed c (if b then e ∷ client_entries c past else client_entries c past)) [
@@ -32,13 +34,16 @@ client_allowed start (e ∷ past) c run =
       | false ↦ λ _. client_allowed start past c run.0
     ] refl
 
-pub allowed_older : (c : ClientNo) (newer older : List Entry) → Allowed c (newer ++ older) → Allowed c older
+pub allowed_older : (c : ClientNo) (newer older : List Entry) → Allowed c (newer ++ older)
+    → Allowed c older
 allowed_older c [] older a = a
 allowed_older c (e ∷ newer) older a = allowed_older c newer older a.0
 
 -- Numbers
 
-begun_rises : (at : Option NodeNo) (c : ClientNo) (what : What) (es : List Entry) → ClientAllows c es at what → last_number (begun_of es) ≤ last_number (begun_in what ++ begun_of es)
+begun_rises : (at : Option NodeNo) (c : ClientNo) (what : What) (es : List Entry)
+    → ClientAllows c es at what
+    → last_number (begun_of es) ≤ last_number (begun_in what ++ begun_of es)
 begun_rises at c (Begin number op) es a = let is : number ≡ last_number (begun_of es) + 1 = a.1 in omega arith
 begun_rises at c (Issue tid mini) es a = omega arith
 begun_rises at c (Called request reply) es a = omega arith
@@ -47,7 +52,8 @@ begun_rises at c (Restarted kept) es a = omega arith
 begun_rises at c (Abandoned tid) es a = omega arith
 begun_rises at c (Answered number answer) es a = omega arith
 
-pub numbers_rise : (c : ClientNo) (newer older : List Entry) → Allowed c (newer ++ older) → last_number (begun_of older) ≤ last_number (begun_of (newer ++ older))
+pub numbers_rise : (c : ClientNo) (newer older : List Entry) → Allowed c (newer ++ older)
+    → last_number (begun_of older) ≤ last_number (begun_of (newer ++ older))
 numbers_rise c [] older a = omega arith
 numbers_rise c (e ∷ newer) older a =
     let one : last_number (begun_of older) ≤ last_number (begun_of (newer ++ older)) = numbers_rise c newer older a.0 in
@@ -57,7 +63,9 @@ numbers_rise c (e ∷ newer) older a =
 same_begun : (a b : Begun) → Some a ≡ Some b → a ≡ b
 same_begun a b e = cc
 
-numbered_step : (at : Option NodeNo) (c : ClientNo) (what : What) (es : List Entry) (b : Begun) → ((d : Begun) → under_way es ≡ Some d → d.number ≡ last_number (begun_of es)) → under_way_after what (under_way es) ≡ Some b
+numbered_step : (at : Option NodeNo) (c : ClientNo) (what : What) (es : List Entry) (b : Begun)
+    → ((d : Begun) → under_way es ≡ Some d → d.number ≡ last_number (begun_of es))
+    → under_way_after what (under_way es) ≡ Some b
     → b.number ≡ last_number (begun_in what ++ begun_of es)
 numbered_step at c (Begin number op) es b older is = sym (ap (λ (x : Begun). x.number) (same_begun (record { number = number; op = op }) b is))
 numbered_step at c (Answered number answer) es b older is = absurd (none b is)
@@ -71,7 +79,8 @@ numbered_step at c (Restarted kept) es b older is = older b is
 numbered_step at c (Abandoned tid) es b older is = older b is
 
 -- the operation under way has the last number
-pub numbered : (c : ClientNo) (es : List Entry) (b : Begun) → under_way es ≡ Some b → b.number ≡ last_number (begun_of es)
+pub numbered : (c : ClientNo) (es : List Entry) (b : Begun) → under_way es ≡ Some b
+    → b.number ≡ last_number (begun_of es)
 numbered c [] b is = absurd (none b is)
   where
     none : (b : Begun) → None ≡ Some b → ⊥
@@ -100,7 +109,8 @@ none_begun : (b : Begun) → None ≡ Some b → ⊥
 none_begun b e = cc
 
 still_step : (at : Option NodeNo) (by : Option ClientNo) (c : ClientNo) (what : What) (b : Begun) (newer older : List Entry) → ClientAllows c (newer ++ older) at what → Still b newer older
-    → Still b (record { node = at; client = by; what = what } ∷ newer) older ⊎ Ended b (record { node = at; client = by; what = what } ∷ newer) older
+    → Still b (record { node = at; client = by; what = what } ∷ newer) older
+    ⊎ Ended b (record { node = at; client = by; what = what } ∷ newer) older
 still_step at by c (Begin number op) b newer older a s = absurd (none_begun b (sym a.0 ∙ s.under_way))
 still_step at by c (Answered number answer) b newer older a s =
     let same : record { number = number; op = a.0 } ≡ b = same_begun _ b (sym a.1 ∙ s.under_way) in
@@ -120,7 +130,9 @@ still_step at by c (Stopped request asked) b newer older a s = inl (record { und
 still_step at by c (Restarted kept) b newer older a s = inl (record { under_way = s.under_way; since = ap (λ (l : List Entry). record { node = at; client = by; what = Restarted kept } ∷ l) s.since })
 still_step at by c (Abandoned tid) b newer older a s = inl (record { under_way = s.under_way; since = ap (λ (l : List Entry). record { node = at; client = by; what = Abandoned tid } ∷ l) s.since })
 
-next_step : (at : Option NodeNo) (c : ClientNo) (what : What) (n : ℕ) (es : List Entry) → ClientAllows c es at what → n ≤ last_number (begun_of es) → ((d : Begun) → under_way es ≡ Some d → n < d.number)
+next_step : (at : Option NodeNo) (c : ClientNo) (what : What) (n : ℕ) (es : List Entry)
+    → ClientAllows c es at what → n ≤ last_number (begun_of es)
+    → ((d : Begun) → under_way es ≡ Some d → n < d.number)
     → (d : Begun) → under_way_after what (under_way es) ≡ Some d → n < d.number
 next_step at c (Begin number op) n es a low older d is =
     let same : number ≡ d.number = ap (λ (x : Begun). x.number) (same_begun (record { number = number; op = op }) d is) in
@@ -132,11 +144,13 @@ next_step at c (Stopped request asked) n es a low older d is = older d is
 next_step at c (Restarted kept) n es a low older d is = older d is
 next_step at c (Abandoned tid) n es a low older d is = older d is
 
-pub since_op : (c : ClientNo) (b : Begun) (newer older : List Entry) → Allowed c (newer ++ older) → under_way older ≡ Some b → Still b newer older ⊎ Ended b newer older
+pub since_op : (c : ClientNo) (b : Begun) (newer older : List Entry) → Allowed c (newer ++ older)
+    → under_way older ≡ Some b → Still b newer older ⊎ Ended b newer older
 since_op c b [] older a is = inl (record { under_way = is; since = refl })
 since_op c b (e ∷ newer) older a is = by (since_op c b newer older a.0 is)
   where
-    by : Still b newer older ⊎ Ended b newer older → Still b (e ∷ newer) older ⊎ Ended b (e ∷ newer) older
+    by : Still b newer older ⊎ Ended b newer older
+        → Still b (e ∷ newer) older ⊎ Ended b (e ∷ newer) older
     by (inl s) = still_step e.node e.client c e.what b newer older a.1 s
     by (inr o) =
         let own : b.number ≡ last_number (begun_of older) = numbered c older b is in
@@ -153,7 +167,9 @@ since_op c b (e ∷ newer) older a is = by (since_op c b newer older a.0 is)
         })
 
 -- where the number is the same, so is the operation
-pub same_op : (c : ClientNo) (b d : Begun) (newer older : List Entry) → Allowed c (newer ++ older) → under_way older ≡ Some b → under_way (newer ++ older) ≡ Some d → b.number ≡ d.number → Still b newer older
+pub same_op : (c : ClientNo) (b d : Begun) (newer older : List Entry) → Allowed c (newer ++ older)
+    → under_way older ≡ Some b → under_way (newer ++ older) ≡ Some d → b.number ≡ d.number
+    → Still b newer older
 same_op c b d newer older a is now same = by (since_op c b newer older a is)
   where
     by : Still b newer older ⊎ Ended b newer older → Still b newer older
@@ -185,7 +201,8 @@ begin_higher c newer older at number op b a is begins =
 
 -- Issues
 
-issue_serial : (at : Option NodeNo) (c : ClientNo) (what : What) (es : List Entry) (j : Issued) → ClientAllows c es at what → issue_in what ≡ j ∷ [] → j.tid.serial ≡ length (issues_of es) + 1
+issue_serial : (at : Option NodeNo) (c : ClientNo) (what : What) (es : List Entry) (j : Issued)
+    → ClientAllows c es at what → issue_in what ≡ j ∷ [] → j.tid.serial ≡ length (issues_of es) + 1
 issue_serial at c (Issue tid mini) es j a is =
     let same : record { tid = tid; mini = mini } ≡ j = head _ j is in ap (λ (i : Issued). i.tid.serial) (sym same) ∙ a.serial
   where
@@ -198,10 +215,12 @@ issue_serial at c (Stopped request asked) es j a is = absurd cc
 issue_serial at c (Restarted kept) es j a is = absurd cc
 issue_serial at c (Abandoned tid) es j a is = absurd cc
 
-pub serial_of : (c : ClientNo) (x : Entry) (es : List Entry) (j : Issued) → Allowed c (x ∷ es) → issue_in x.what ≡ j ∷ [] → j.tid.serial ≡ length (issues_of es) + 1
+pub serial_of : (c : ClientNo) (x : Entry) (es : List Entry) (j : Issued) → Allowed c (x ∷ es)
+    → issue_in x.what ≡ j ∷ [] → j.tid.serial ≡ length (issues_of es) + 1
 serial_of c x es j a is = issue_serial x.node c x.what es j a.1 is
 
-pub issues_grow : (newer older : List Entry) → length (issues_of older) ≤ length (issues_of (newer ++ older))
+pub issues_grow : (newer older : List Entry)
+    → length (issues_of older) ≤ length (issues_of (newer ++ older))
 issues_grow [] older = omega arith
 issues_grow (e ∷ newer) older =
     let one = issues_grow newer older in

@@ -71,7 +71,8 @@ dec_pair a b = by (dec_bytes a.key b.key) (dec_bytes a.value b.value)
 dec_version : DecidesEqual Version
 dec_version a b = by (dec_bytes a.name b.name) (dec_option dec_bytes a.parent b.parent) (dec_bool a.frozen b.frozen)
   where
-    by : Decided (a.name ≡ b.name) → Decided (a.parent ≡ b.parent) → Decided (a.frozen ≡ b.frozen) → Decided (a ≡ b)
+    by : Decided (a.name ≡ b.name) → Decided (a.parent ≡ b.parent) → Decided (a.frozen ≡ b.frozen)
+        → Decided (a ≡ b)
     by (inl e) (inl f) (inl g) = inl (λ i. record { name = e i; parent = f i; frozen = g i })
     by (inl e) (inl f) (inr g) = inr (λ h. g (ap (λ (v : Version). v.frozen) h))
     by (inl e) (inr f) d = inr (λ h. f (ap (λ (v : Version). v.parent) h))
@@ -125,7 +126,8 @@ dec_reply _ _ = inr (λ e. cc)
 pub dec_place : (a b : Place) → Decided (a ≡ b)
 dec_place a b = by (dec_nat a.node.0 b.node.0) (dec_nat a.start b.start) (dec_nat a.length b.length)
   where
-    by : Decided (a.node.0 ≡ b.node.0) → Decided (a.start ≡ b.start) → Decided (a.length ≡ b.length) → Decided (a ≡ b)
+    by : Decided (a.node.0 ≡ b.node.0) → Decided (a.start ≡ b.start) → Decided (a.length ≡ b.length)
+        → Decided (a ≡ b)
     by (inl e) (inl f) (inl g) = inl (λ i. record { node = record { 0 = e i }; start = f i; length = g i })
     by (inl e) (inl f) (inr g) = inr (λ h. g (ap (λ (p : Place). p.length) h))
     by (inl e) (inr f) d = inr (λ h. f (ap (λ (p : Place). p.start) h))
@@ -138,12 +140,15 @@ SlotAt begins = (k : ℕ) × (20480 + 1024 * k ≡ begins)
 find_slot : (begins fuel : ℕ) → SlotAt begins ⊎ ((k : ℕ) → k ≤ fuel → 20480 + 1024 * k ≡ begins → ⊥)
 find_slot begins zero = by (dec_nat 20480 begins)
   where
-    by : Decided (20480 ≡ begins) → SlotAt begins ⊎ ((k : ℕ) → k ≤ zero → 20480 + 1024 * k ≡ begins → ⊥)
+    by : Decided (20480 ≡ begins)
+        → SlotAt begins ⊎ ((k : ℕ) → k ≤ zero → 20480 + 1024 * k ≡ begins → ⊥)
     by (inl e) = inl (0, omega arith)
     by (inr f) = inr (λ k low e. f (omega arith))
 find_slot begins (suc n) = by (find_slot begins n) (dec_nat (20480 + 1024 * suc n) begins)
   where
-    by : SlotAt begins ⊎ ((k : ℕ) → k ≤ n → 20480 + 1024 * k ≡ begins → ⊥) → Decided (20480 + 1024 * suc n ≡ begins) → SlotAt begins ⊎ ((k : ℕ) → k ≤ suc n → 20480 + 1024 * k ≡ begins → ⊥)
+    by : SlotAt begins ⊎ ((k : ℕ) → k ≤ n → 20480 + 1024 * k ≡ begins → ⊥)
+        → Decided (20480 + 1024 * suc n ≡ begins)
+        → SlotAt begins ⊎ ((k : ℕ) → k ≤ suc n → 20480 + 1024 * k ≡ begins → ⊥)
     by (inl s) d = inl s
     by (inr none) (inl e) = inl (suc n, e)
     by (inr none) (inr f) = inr (λ k low e. each k low e (Rattle.mn_world.proofs.Votes.Start.low_or_high n k))
@@ -155,6 +160,7 @@ find_slot begins (suc n) = by (find_slot begins n) (dec_nat (20480 + 1024 * suc 
 pub dec_slot : (begins : ℕ) → Decided (SlotAt begins)
 dec_slot begins = by (find_slot begins begins)
   where
-    by : SlotAt begins ⊎ ((k : ℕ) → k ≤ begins → 20480 + 1024 * k ≡ begins → ⊥) → Decided (SlotAt begins)
+    by : SlotAt begins ⊎ ((k : ℕ) → k ≤ begins → 20480 + 1024 * k ≡ begins → ⊥)
+        → Decided (SlotAt begins)
     by (inl s) = inl s
     by (inr none) = inr (λ s. let e : 20480 + 1024 * s.0 ≡ begins = s.1 in none s.0 (omega arith) e)

@@ -46,7 +46,8 @@ pub record CommittedIn (past : List Entry) (tid : Tid) : Type 0 where
   pub commits : committed_by before entry ≡ Some issued
   pub same : issued.tid ≡ tid
 
-pub committed_more : (e : Entry) (past : List Entry) (tid : Tid) → CommittedIn past tid → CommittedIn (e ∷ past) tid
+pub committed_more : (e : Entry) (past : List Entry) (tid : Tid) → CommittedIn past tid
+    → CommittedIn (e ∷ past) tid
 committed_more e past tid c = record { entry = c.entry; later = e ∷ c.later; before = c.before; issued = c.issued; split = ap (λ (l : List Entry). e ∷ l) c.split; commits = c.commits; same = c.same }
 
 -- By an Exec
@@ -80,7 +81,8 @@ or_false true e = refl
 or_false false e = absurd cc
 
 exec_entry : (start : Start) (past : List Entry) (by : Option ClientNo) (at : Option NodeNo) (what : What) (tid : Tid) → StartsSound start → HasSpaces start → FollowsProtocol start (record { node = at; client = by; what = what } ∷ past)
-    → list_any (is_exec_done tid) (call_in at what) ≡ true → CommittedIn (record { node = at; client = by; what = what } ∷ past) tid
+    → list_any (is_exec_done tid) (call_in at what) ≡ true
+    → CommittedIn (record { node = at; client = by; what = what } ∷ past) tid
 exec_entry start past by None what tid sound spaces run any = absurd cc
 exec_entry start past by (Some k) (Called request reply) tid sound spaces run any =
     let both = or_false (is_exec tid request && is_done reply) any in
@@ -96,10 +98,13 @@ exec_entry start past by (Some k) (Issue t mini) tid sound spaces run any = absu
 exec_entry start past by (Some k) (Abandoned t) tid sound spaces run any = absurd cc
 exec_entry start past by (Some k) (Answered number answer) tid sound spaces run any = absurd cc
 
-exec_done : (start : Start) (past : List Entry) (c : ClientNo) (tid : Tid) → StartsSound start → HasSpaces start → FollowsProtocol start past → list_any (is_exec_done tid) (calls_of (client_entries c past)) ≡ true → CommittedIn past tid
+exec_done : (start : Start) (past : List Entry) (c : ClientNo) (tid : Tid) → StartsSound start
+    → HasSpaces start → FollowsProtocol start past
+    → list_any (is_exec_done tid) (calls_of (client_entries c past)) ≡ true → CommittedIn past tid
 exec_done start [] c tid sound spaces run any = absurd cc
 exec_done start (e ∷ past) c tid sound spaces run any =
-    let older : list_any (is_exec_done tid) (calls_of (client_entries c past)) ≡ true → CommittedIn (e ∷ past) tid = λ h. committed_more e past tid (exec_done start past c tid sound spaces run.0 h) in
+    let older : list_any (is_exec_done tid) (calls_of (client_entries c past)) ≡ true
+    → CommittedIn (e ∷ past) tid = λ h. committed_more e past tid (exec_done start past c tid sound spaces run.0 h) in
     elim (is_by c e) as (λ b. list_any (is_exec_done tid) (calls_of (if b then e ∷ client_entries c past else client_entries c past)) ≡ true → CommittedIn (e ∷ past) tid) [
       | true ↦ λ h. by older (or_cases (list_any (is_exec_done tid) (call_in e.node e.what)) (list_any (is_exec_done tid) (calls_of (client_entries c past))) (sym (list_any-append (is_exec_done tid) (call_in e.node e.what) (calls_of (client_entries c past))) ∙ h))
       | false ↦ older
@@ -120,12 +125,15 @@ vote_not_idle tid (Some (Ask.Force t)) none e = cc
 vote_not_idle tid (Some Ask.List) none e = cc
 vote_not_idle tid (Some (Ask.Peek at length)) none e = cc
 
-pass_all : (f : NodeNo → Bool) (xs : List NodeNo) → AllByRecursion (λ x. f x ≡ true) xs → list_all f xs ≡ true
+pass_all : (f : NodeNo → Bool) (xs : List NodeNo) → AllByRecursion (λ x. f x ≡ true) xs
+    → list_all f xs ≡ true
 pass_all f [] all = refl
 pass_all f (x ∷ xs) all = ap (λ (b : Bool). b && list_all f xs) all.0 ∙ pass_all f xs all.1
 
 vote_commits : (start : Start) (past : List Entry) (m : NodeNo) (tid : Tid) (ps : List NodeNo) (eff : Option Request) (added : Option Record) → Whole start past → Act start past m eff added → is_vote_effect tid eff ≡ true
-    → ((mini : Mini) → mini_of past tid ≡ Some mini → participants_of mini ≡ ps) → AllByRecursion (λ n. (node_same n m || has_vote tid n past) ≡ true) ps → (i : Issued) × (committed_with past m eff ≡ Some i) × (i.tid ≡ tid)
+    → ((mini : Mini) → mini_of past tid ≡ Some mini → participants_of mini ≡ ps)
+    → AllByRecursion (λ n. (node_same n m || has_vote tid n past) ≡ true) ps
+    → (i : Issued) × (committed_with past m eff ≡ Some i) × (i.tid ≡ tid)
 vote_commits start past m tid ps eff added w (idle q none) vote named all = absurd (vote_not_idle tid q none vote)
 vote_commits start past m tid ps eff added w (decides q t verdict none held) vote named all = absurd (vote_not_idle tid q none vote)
 vote_commits start past m tid ps eff added w (forces q t none unvoted unforced qs may) vote named all = absurd (vote_not_idle tid q none vote)
@@ -146,11 +154,15 @@ record NewVote (past : List Entry) (e : Entry) (tid : Tid) : Type 0 where
   here : is_at node e ≡ true
   vote : is_vote_effect tid (effect_of (node_entries node past) e.what) ≡ true
 
-old_or_new : (past : List Entry) (e : Entry) (tid : Tid) (ps : List NodeNo) → AllByRecursion (λ n. has_vote tid n (e ∷ past) ≡ true) ps → AllByRecursion (λ n. has_vote tid n past ≡ true) ps ⊎ NewVote past e tid
+old_or_new : (past : List Entry) (e : Entry) (tid : Tid) (ps : List NodeNo)
+    → AllByRecursion (λ n. has_vote tid n (e ∷ past) ≡ true) ps
+    → AllByRecursion (λ n. has_vote tid n past ≡ true) ps ⊎ NewVote past e tid
 old_or_new past e tid [] all = inl tt
 old_or_new past e tid (n ∷ ps) all = by (or_cases (is_at n e && is_vote_effect tid (effect_of (node_entries n past) e.what)) (has_vote tid n past) all.0) (old_or_new past e tid ps all.1)
   where
-    by : ((is_at n e && is_vote_effect tid (effect_of (node_entries n past) e.what)) ≡ true) ⊎ (has_vote tid n past ≡ true) → AllByRecursion (λ n. has_vote tid n past ≡ true) ps ⊎ NewVote past e tid
+    by : ((is_at n e && is_vote_effect tid (effect_of (node_entries n past) e.what)) ≡ true)
+        ⊎ (has_vote tid n past ≡ true)
+        → AllByRecursion (λ n. has_vote tid n past ≡ true) ps ⊎ NewVote past e tid
         → AllByRecursion (λ n. has_vote tid n past ≡ true) (n ∷ ps) ⊎ NewVote past e tid
     by (inl new) rest = inr (record { node = n; here = and_left (is_at n e) _ new; vote = and_right (is_at n e) _ new })
     by (inr old) (inl olds) = inl (old, olds)
@@ -160,12 +172,14 @@ all_at : (past : List Entry) (m : NodeNo) (by : Option ClientNo) (what : What) (
 all_at past m by what tid [] all = tt
 all_at past m by what tid (n ∷ ps) all = (one (or_cases (node_same n m && is_vote_effect tid (effect_of (node_entries n past) what)) (has_vote tid n past) all.0), all_at past m by what tid ps all.1)
   where
-    one : ((node_same n m && is_vote_effect tid (effect_of (node_entries n past) what)) ≡ true) ⊎ (has_vote tid n past ≡ true) → (node_same n m || has_vote tid n past) ≡ true
+    one : ((node_same n m && is_vote_effect tid (effect_of (node_entries n past) what)) ≡ true)
+        ⊎ (has_vote tid n past ≡ true) → (node_same n m || has_vote tid n past) ≡ true
     one (inl h) = or_left (node_same n m) (has_vote tid n past) (and_left (node_same n m) _ h)
     one (inr h) = or_right (node_same n m) (has_vote tid n past) h
 
 new_vote : (start : Start) (past : List Entry) (by : Option ClientNo) (at : Option NodeNo) (what : What) (m : NodeNo) (tid : Tid) (ps : List NodeNo) → Whole start past → KeepsProtocol start past (record { node = at; client = by; what = what }) → at ≡ Some m
-    → is_vote_effect tid (effect_of (node_entries m past) what) ≡ true → ((mini : Mini) → mini_of past tid ≡ Some mini → participants_of mini ≡ ps)
+    → is_vote_effect tid (effect_of (node_entries m past) what) ≡ true
+    → ((mini : Mini) → mini_of past tid ≡ Some mini → participants_of mini ≡ ps)
     → AllByRecursion (λ n. has_vote tid n (record { node = at; client = by; what = what } ∷ past) ≡ true) ps → CommittedIn (record { node = at; client = by; what = what } ∷ past) tid
 new_vote start past by None what m tid ps w keeps here vote named all = absurd (never here)
   where
@@ -180,11 +194,14 @@ new_vote start past by (Some k) what m tid ps w keeps here vote named all =
     some : Some k ≡ Some m → m ≡ k
     some e = cc
 
-some_first : (P : NodeNo → Type 0) (ps : List NodeNo) → 1 ≤ length ps → AllByRecursion P ps → (n : NodeNo) × P n
+some_first : (P : NodeNo → Type 0) (ps : List NodeNo) → 1 ≤ length ps → AllByRecursion P ps
+    → (n : NodeNo) × P n
 some_first P [] few all = absurd (omega arith)
 some_first P (p ∷ ps) few all = (p, all.0)
 
-pub votes_commit : (start : Start) (past : List Entry) (tid : Tid) (ps : List NodeNo) → StartsSound start → HasSpaces start → FollowsProtocol start past → 1 ≤ length ps → ((mini : Mini) → mini_of past tid ≡ Some mini → participants_of mini ≡ ps)
+pub votes_commit : (start : Start) (past : List Entry) (tid : Tid) (ps : List NodeNo)
+    → StartsSound start → HasSpaces start → FollowsProtocol start past → 1 ≤ length ps
+    → ((mini : Mini) → mini_of past tid ≡ Some mini → participants_of mini ≡ ps)
     → AllByRecursion (λ n. has_vote tid n past ≡ true) ps → CommittedIn past tid
 votes_commit start [] tid ps sound spaces run few named all = absurd (never (some_first (λ n. has_vote tid n [] ≡ true) ps few all).1)
   where
@@ -193,7 +210,9 @@ votes_commit start [] tid ps sound spaces run few named all = absurd (never (som
 votes_commit start (e ∷ past) tid ps sound spaces run few named all = by (old_or_new past e tid ps all)
     (λ olds. committed_more e past tid (votes_commit start past tid ps sound spaces run.0 few (λ mini is. named mini (issue_stays start past e tid.client tid mini (kept_run start past sound run.0) run.1 is)) olds))
   where
-    by : AllByRecursion (λ n. has_vote tid n past ≡ true) ps ⊎ NewVote past e tid → (AllByRecursion (λ n. has_vote tid n past ≡ true) ps → CommittedIn (e ∷ past) tid) → CommittedIn (e ∷ past) tid
+    by : AllByRecursion (λ n. has_vote tid n past ≡ true) ps ⊎ NewVote past e tid
+        → (AllByRecursion (λ n. has_vote tid n past ≡ true) ps → CommittedIn (e ∷ past) tid)
+        → CommittedIn (e ∷ past) tid
     by (inl olds) older = older olds
     by (inr new) older =
         new_vote start past e.client e.node e.what new.node tid ps (whole_run start past sound spaces run.0) run.1 (at_some new.node e.node e.client e.what new.here) new.vote
@@ -201,7 +220,8 @@ votes_commit start (e ∷ past) tid ps sound spaces run few named all = by (old_
 
 -- By what its client was told
 
-told_two : (f g h : Call → Bool) → ((c : Call) → f c ≡ true → (g c ≡ true) ⊎ (h c ≡ true)) → (cs : List Call) → list_any f cs ≡ true → (list_any g cs ≡ true) ⊎ (list_any h cs ≡ true)
+told_two : (f g h : Call → Bool) → ((c : Call) → f c ≡ true → (g c ≡ true) ⊎ (h c ≡ true))
+    → (cs : List Call) → list_any f cs ≡ true → (list_any g cs ≡ true) ⊎ (list_any h cs ≡ true)
 told_two f g h w [] e = absurd cc
 told_two f g h w (c ∷ cs) e = by (or_cases (f c) (list_any f cs) e) (told_two f g h w cs)
   where
@@ -209,30 +229,42 @@ told_two f g h w (c ∷ cs) e = by (or_cases (f c) (list_any f cs) e) (told_two 
     here (inl a) = inl (or_left (g c) (list_any g cs) a)
     here (inr b) = inr (or_left (h c) (list_any h cs) b)
 
-    there : (list_any g cs ≡ true) ⊎ (list_any h cs ≡ true) → (list_any g (c ∷ cs) ≡ true) ⊎ (list_any h (c ∷ cs) ≡ true)
+    there : (list_any g cs ≡ true) ⊎ (list_any h cs ≡ true)
+        → (list_any g (c ∷ cs) ≡ true) ⊎ (list_any h (c ∷ cs) ≡ true)
     there (inl a) = inl (or_right (g c) (list_any g cs) a)
     there (inr b) = inr (or_right (h c) (list_any h cs) b)
 
-    by : (f c ≡ true) ⊎ (list_any f cs ≡ true) → (list_any f cs ≡ true → (list_any g cs ≡ true) ⊎ (list_any h cs ≡ true)) → (list_any g (c ∷ cs) ≡ true) ⊎ (list_any h (c ∷ cs) ≡ true)
+    by : (f c ≡ true) ⊎ (list_any f cs ≡ true)
+        → (list_any f cs ≡ true → (list_any g cs ≡ true) ⊎ (list_any h cs ≡ true))
+        → (list_any g (c ∷ cs) ≡ true) ⊎ (list_any h (c ∷ cs) ≡ true)
     by (inl a) rest = here (w c a)
     by (inr b) rest = there (rest b)
 
-prepare_or_exec : (tid : Tid) (n : NodeNo) (c : Call) → (node_same c.node n && (is_try tid c.request && is_done c.reply)) ≡ true → ((node_same c.node n && (is_prepare tid c.request && is_done c.reply)) ≡ true) ⊎ (is_exec_done tid c ≡ true)
+prepare_or_exec : (tid : Tid) (n : NodeNo) (c : Call)
+    → (node_same c.node n && (is_try tid c.request && is_done c.reply)) ≡ true
+    → ((node_same c.node n && (is_prepare tid c.request && is_done c.reply)) ≡ true)
+    ⊎ (is_exec_done tid c ≡ true)
 prepare_or_exec tid n c e = by (node_same c.node n) (is_prepare tid c.request) (is_exec tid c.request) (is_done c.reply) e
   where
-    by : (a p q d : Bool) → (a && ((p || q) && d)) ≡ true → ((a && (p && d)) ≡ true) ⊎ ((q && d) ≡ true)
+    by : (a p q d : Bool) → (a && ((p || q) && d)) ≡ true
+        → ((a && (p && d)) ≡ true) ⊎ ((q && d) ≡ true)
     by true true q d e = inl e
     by true false q d e = inr e
     by false p q d e = absurd cc
 
-done_votes : (start : Start) (past : List Entry) (tid : Tid) (mini : Mini) → StartsSound start → HasSpaces start → FollowsProtocol start past → mini_of past tid ≡ Some mini → (ps : List NodeNo) → AllByRecursion (λ n. was_done tid n (client_entries tid.client past) ≡ true) ps
+done_votes : (start : Start) (past : List Entry) (tid : Tid) (mini : Mini) → StartsSound start
+    → HasSpaces start → FollowsProtocol start past → mini_of past tid ≡ Some mini
+    → (ps : List NodeNo)
+    → AllByRecursion (λ n. was_done tid n (client_entries tid.client past) ≡ true) ps
     → CommittedIn past tid ⊎ AllByRecursion (λ n. has_vote tid n past ≡ true) ps
 done_votes start past tid mini sound spaces run is [] all = inr tt
 done_votes start past tid mini sound spaces run is (n ∷ ps) all =
     by (told_two (λ c. node_same c.node n && (is_try tid c.request && is_done c.reply)) (λ c. node_same c.node n && (is_prepare tid c.request && is_done c.reply)) (is_exec_done tid) (prepare_or_exec tid n) (calls_of (client_entries tid.client past)) all.0)
     (done_votes start past tid mini sound spaces run is ps all.1)
   where
-    by : (was_told (is_prepare tid) is_done n (client_entries tid.client past) ≡ true) ⊎ (list_any (is_exec_done tid) (calls_of (client_entries tid.client past)) ≡ true) → CommittedIn past tid ⊎ AllByRecursion (λ n. has_vote tid n past ≡ true) ps
+    by : (was_told (is_prepare tid) is_done n (client_entries tid.client past) ≡ true)
+        ⊎ (list_any (is_exec_done tid) (calls_of (client_entries tid.client past)) ≡ true)
+        → CommittedIn past tid ⊎ AllByRecursion (λ n. has_vote tid n past ≡ true) ps
         → CommittedIn past tid ⊎ AllByRecursion (λ n. has_vote tid n past ≡ true) (n ∷ ps)
     by (inr exec) rest = inl (exec_done start past tid.client tid sound spaces run exec)
     by (inl prepared) (inl committed) = inl committed
@@ -241,13 +273,17 @@ done_votes start past tid mini sound spaces run is (n ∷ ps) all =
         let has : has_voted (records_of start past n) tid ≡ true = w.kept.yes tid.client n tid (or_left (was_told (is_prepare tid) is_done n (client_entries tid.client past)) (was_told (is_force tid) is_yes n (client_entries tid.client past)) prepared) in
         inr (w.in_log n tid mini is ∙ has, voted)
 
-pub done_committed : (start : Start) (past : List Entry) (tid : Tid) (mini : Mini) → StartsSound start → HasSpaces start → FollowsProtocol start past → mini_of past tid ≡ Some mini → 1 ≤ length (participants_of mini)
+pub done_committed : (start : Start) (past : List Entry) (tid : Tid) (mini : Mini)
+    → StartsSound start → HasSpaces start → FollowsProtocol start past
+    → mini_of past tid ≡ Some mini → 1 ≤ length (participants_of mini)
     → AllByRecursion (λ n. was_done tid n (client_entries tid.client past) ≡ true) (participants_of mini) → CommittedIn past tid
 done_committed start past tid mini sound spaces run is few all = by (done_votes start past tid mini sound spaces run is (participants_of mini) all)
   where
     same : (a b : Mini) → Some a ≡ Some b → a ≡ b
     same a b e = cc
 
-    by : CommittedIn past tid ⊎ AllByRecursion (λ n. has_vote tid n past ≡ true) (participants_of mini) → CommittedIn past tid
+    by : CommittedIn past tid
+        ⊎ AllByRecursion (λ n. has_vote tid n past ≡ true) (participants_of mini)
+        → CommittedIn past tid
     by (inl committed) = committed
     by (inr voted) = votes_commit start past tid (participants_of mini) sound spaces run few (λ other other_is. ap participants_of (same other mini (sym other_is ∙ is))) voted

@@ -1,4 +1,5 @@
--- What the entries of a run do to the flat memory: reads leave it, and where something was read no plan is committed.
+-- What the entries of a run do to the flat memory: reads leave it, and where something was read no
+-- plan is committed.
 use Rattle.std.proofs.Common.{◌≡◌, ℕ, Bool, true, false, ◌||◌, List, [], ◌∷◌, Option, Some, None, refl, subst, sym, ap, ◌∙◌, if◌then◌else◌, Contains}
 use Rattle.std.specs.List.{list_all}
 use Rattle.std.specs.Option.{option_map}
@@ -35,20 +36,24 @@ use Rattle.mn_world.proofs.Bytes.Seen.{IsSeenBy, lone, nothing, stopped_unseen}
 
 -- What commits was issued
 
-issued_named : (tid : Tid) (past : List Entry) (i : Issued) → issued_as tid past ≡ Some i → issue_named i.tid (issues_of past) ≡ Some i.mini
+issued_named : (tid : Tid) (past : List Entry) (i : Issued) → issued_as tid past ≡ Some i
+    → issue_named i.tid (issues_of past) ≡ Some i.mini
 issued_named tid past i is = by (issue_named tid (issues_of past)) refl is
   where
-    by : (o : Option Mini) → issue_named tid (issues_of past) ≡ o → option_map (λ (mini : Mini). let r : Issued = record { tid = tid; mini = mini } in r) o ≡ Some i → issue_named i.tid (issues_of past) ≡ Some i.mini
+    by : (o : Option Mini) → issue_named tid (issues_of past) ≡ o
+        → option_map (λ (mini : Mini). let r : Issued = record { tid = tid; mini = mini } in r) o ≡ Some i → issue_named i.tid (issues_of past) ≡ Some i.mini
     by None e f = absurd (none_some i f)
     by (Some mini) e f =
         let this : record { tid = tid; mini = mini } ≡ i = same_issued _ i f in
         subst (λ (j : Issued). issue_named j.tid (issues_of past) ≡ Some j.mini) this e
 
-with_named : (past : List Entry) (n : NodeNo) (request : Option Request) (i : Issued) → committed_with past n request ≡ Some i → issue_named i.tid (issues_of past) ≡ Some i.mini
+with_named : (past : List Entry) (n : NodeNo) (request : Option Request) (i : Issued)
+    → committed_with past n request ≡ Some i → issue_named i.tid (issues_of past) ≡ Some i.mini
 with_named past n None i is = absurd (none_some i is)
 with_named past n (Some (Ask.Prepare tid ps part)) i is = by (list_all (λ m. node_same m n || has_vote tid m past) ps) is
   where
-    by : (b : Bool) → (if b then issued_as tid past else None) ≡ Some i → issue_named i.tid (issues_of past) ≡ Some i.mini
+    by : (b : Bool) → (if b then issued_as tid past else None) ≡ Some i
+        → issue_named i.tid (issues_of past) ≡ Some i.mini
     by true e = issued_named tid past i e
     by false e = absurd (none_some i e)
 with_named past n (Some (Ask.Exec tid part)) i is = issued_named tid past i is
@@ -57,38 +62,50 @@ with_named past n (Some (Ask.Force tid)) i is = absurd (none_some i is)
 with_named past n (Some Ask.List) i is = absurd (none_some i is)
 with_named past n (Some (Ask.Peek at length)) i is = absurd (none_some i is)
 
-at_named : (past : List Entry) (at : Option NodeNo) (what : What) (i : Issued) → committed_at past at what ≡ Some i → issue_named i.tid (issues_of past) ≡ Some i.mini
+at_named : (past : List Entry) (at : Option NodeNo) (what : What) (i : Issued)
+    → committed_at past at what ≡ Some i → issue_named i.tid (issues_of past) ≡ Some i.mini
 at_named past None what i is = absurd (none_some i is)
 at_named past (Some n) what i is = with_named past n (effect_of (node_entries n past) what) i is
 
-pub committed_named : (past : List Entry) (e : Entry) (i : Issued) → committed_by past e ≡ Some i → issue_named i.tid (issues_of past) ≡ Some i.mini
+pub committed_named : (past : List Entry) (e : Entry) (i : Issued) → committed_by past e ≡ Some i
+    → issue_named i.tid (issues_of past) ≡ Some i.mini
 committed_named past e i is = at_named past e.node e.what i is
 
-pub committed_mini : (start : Start) (past : List Entry) (e : Entry) (i : Issued) → Whole start past → committed_by past e ≡ Some i → mini_of past i.tid ≡ Some i.mini
+pub committed_mini : (start : Start) (past : List Entry) (e : Entry) (i : Issued) → Whole start past
+    → committed_by past e ≡ Some i → mini_of past i.tid ≡ Some i.mini
 committed_mini start past e i w is = sym (w.issued i.tid) ∙ committed_named past e i is
 
-pub committed_made : (start : Start) (past : List Entry) (e : Entry) (i : Issued) → Whole start past → committed_by past e ≡ Some i → IsMade start i.mini
+pub committed_made : (start : Start) (past : List Entry) (e : Entry) (i : Issued) → Whole start past
+    → committed_by past e ≡ Some i → IsMade start i.mini
 committed_made start past e i w is = w.even.minis i.tid i.mini (committed_mini start past e i w is)
 
 -- The flat memory
 
-read_leaves : (memory : List (List ℕ)) (nodes : ℕ) (items : List Item) → is_read items ≡ true → memory_of_outcome memory (outcome_on memory (record { nodes = nodes; items = items })) ≡ memory
+read_leaves : (memory : List (List ℕ)) (nodes : ℕ) (items : List Item) → is_read items ≡ true
+    → memory_of_outcome memory (outcome_on memory (record { nodes = nodes; items = items })) ≡ memory
 read_leaves memory nodes [] e = absurd cc
 read_leaves memory nodes (Compare node start bytes ∷ items) e = absurd cc
 read_leaves memory nodes (Write node start bytes ∷ items) e = absurd cc
 read_leaves memory nodes (Read node start length ∷ []) e = refl
 read_leaves memory nodes (Read node start length ∷ (i ∷ items)) e = absurd cc
 
-pub flat_none : (start : Start) (past : List Entry) (e : Entry) → committed_by past e ≡ None → flat start (e ∷ past) ≡ flat start past
+pub flat_none : (start : Start) (past : List Entry) (e : Entry) → committed_by past e ≡ None
+    → flat start (e ∷ past) ≡ flat start past
 flat_none start past e none = ap (λ (o : Option Issued). memory_after_commit (flat start past) o) none
 
-pub flat_read : (start : Start) (past : List Entry) (e : Entry) (i : Issued) → committed_by past e ≡ Some i → is_read i.mini.items ≡ true → flat start (e ∷ past) ≡ flat start past
+pub flat_read : (start : Start) (past : List Entry) (e : Entry) (i : Issued)
+    → committed_by past e ≡ Some i → is_read i.mini.items ≡ true
+    → flat start (e ∷ past) ≡ flat start past
 flat_read start past e i is read = ap (λ (o : Option Issued). memory_after_commit (flat start past) o) is ∙ read_leaves (flat start past) i.mini.nodes i.mini.items read
 
-pub commit_met : (start : Start) (past : List Entry) (e : Entry) (i : Issued) → StartsSound start → HasSpaces start → FollowsProtocol start (e ∷ past) → committed_by past e ≡ Some i → mismatch_from (flat start past) 0 i.mini.items ≡ None
+pub commit_met : (start : Start) (past : List Entry) (e : Entry) (i : Issued) → StartsSound start
+    → HasSpaces start → FollowsProtocol start (e ∷ past) → committed_by past e ≡ Some i
+    → mismatch_from (flat start past) 0 i.mini.items ≡ None
 commit_met start past e i sound spaces run is = commit_holds start past e i (whole_run start past sound spaces run.0) (kept_run start (e ∷ past) sound run) run.1 is
 
-pub flat_plan : (start : Start) (past : List Entry) (e : Entry) (i : Issued) → committed_by past e ≡ Some i → mismatch_from (flat start past) 0 i.mini.items ≡ None → flat start (e ∷ past) ≡ memory_after (flat start past) i.mini.items
+pub flat_plan : (start : Start) (past : List Entry) (e : Entry) (i : Issued)
+    → committed_by past e ≡ Some i → mismatch_from (flat start past) 0 i.mini.items ≡ None
+    → flat start (e ∷ past) ≡ memory_after (flat start past) i.mini.items
 flat_plan start past e i is met =
     ap (λ (o : Option Issued). memory_after_commit (flat start past) o) is ∙ ap (λ (o : Option Mismatched). memory_of_outcome (flat start past) (unless_mismatched (flat start past) i.mini o)) met
 
@@ -104,7 +121,8 @@ pub record ReadCall (at : Option NodeNo) (what : What) (seen : Seen) : Type 0 wh
   pub call : what ≡ Called (Ask.Exec tid (Bare.Read begins size ∷ [])) (Say.Done (bytes ∷ []))
   pub is : seen ≡ record { place = record { node = node; start = begins; length = size }; bytes = bytes }
 
-called_read : (k : NodeNo) (request : Request) (reply : NodeReply) (seen : Seen) → IsSeenBy k request reply seen → ReadCall (Some k) (Called request reply) seen
+called_read : (k : NodeNo) (request : Request) (reply : NodeReply) (seen : Seen)
+    → IsSeenBy k request reply seen → ReadCall (Some k) (Called request reply) seen
 called_read k request reply seen (tid, at, size, bytes, asked, said, is) = record {
   node = k;
   tid = tid;
@@ -116,7 +134,9 @@ called_read k request reply seen (tid, at, size, bytes, asked, said, is) = recor
   is = is;
 }
 
-pub read_call : (by : Option ClientNo) (at : Option NodeNo) (what : What) (seen : Seen) → Contains (seen_at (record { node = at; client = by; what = what })) seen → ReadCall at what seen
+pub read_call : (by : Option ClientNo) (at : Option NodeNo) (what : What) (seen : Seen)
+    → Contains (seen_at (record { node = at; client = by; what = what })) seen
+    → ReadCall at what seen
 read_call by None what seen h = absurd (nothing seen h)
 read_call by (Some k) (Called request reply) seen h = called_read k request reply seen (lone k request reply seen h)
 read_call by (Some k) (Stopped (Some request) asked) seen h = absurd (stopped_unseen k request seen (lone k request Say.Stopped seen h))
@@ -127,13 +147,15 @@ read_call by (Some k) (Issue t mini) seen h = absurd (nothing seen h)
 read_call by (Some k) (Abandoned t) seen h = absurd (nothing seen h)
 read_call by (Some k) (Answered number answer) seen h = absurd (nothing seen h)
 
-plan_reads_nothing : (memory : List (List ℕ)) (items : List Item) → list_all is_compare_or_write items ≡ true → reads_in memory items ≡ []
+plan_reads_nothing : (memory : List (List ℕ)) (items : List Item)
+    → list_all is_compare_or_write items ≡ true → reads_in memory items ≡ []
 plan_reads_nothing memory [] e = refl
 plan_reads_nothing memory (Compare node start bytes ∷ items) e = plan_reads_nothing memory items e
 plan_reads_nothing memory (Read node start length ∷ items) e = absurd cc
 plan_reads_nothing memory (Write node start bytes ∷ items) e = plan_reads_nothing memory items e
 
-reads_something : (memory after : List (List ℕ)) (mini : Mini) (bytes : List ℕ) → is_plan mini.items ≡ true → outcome_on memory mini ≡ Committed (bytes ∷ []) after → ⊥
+reads_something : (memory after : List (List ℕ)) (mini : Mini) (bytes : List ℕ)
+    → is_plan mini.items ≡ true → outcome_on memory mini ≡ Committed (bytes ∷ []) after → ⊥
 reads_something memory after mini bytes plan is = by (mismatch_from memory 0 mini.items) is
   where
     none : reads_in memory mini.items ≡ bytes ∷ [] → ⊥
@@ -142,7 +164,8 @@ reads_something memory after mini bytes plan is = by (mismatch_from memory 0 min
     same : (a b c d : List (List ℕ)) → Committed a b ≡ Committed c d → a ≡ c
     same a b c d e = cc
 
-    by : (o : Option Mismatched) → unless_mismatched memory mini o ≡ Committed (bytes ∷ []) after → ⊥
+    by : (o : Option Mismatched) → unless_mismatched memory mini o ≡ Committed (bytes ∷ []) after
+        → ⊥
     by None e = none (same _ _ _ _ e)
     by (Some at) e = cc
 
@@ -151,7 +174,9 @@ either true b e f = absurd cc
 either false b e f = e
 
 -- no plan is committed where something was read
-pub no_plan_at_read : (start : Start) (before : List Entry) (x : Entry) (seen : Seen) (i : Issued) → StartsSound start → HasSpaces start → FollowsProtocol start (x ∷ before) → Contains (seen_at x) seen
+pub no_plan_at_read : (start : Start) (before : List Entry) (x : Entry) (seen : Seen) (i : Issued)
+    → StartsSound start → HasSpaces start → FollowsProtocol start (x ∷ before)
+    → Contains (seen_at x) seen
     → committed_by before x ≡ Some i → is_read i.mini.items ≡ false → ⊥
 no_plan_at_read start before x seen i sound spaces run has is not_read =
     let call = read_call x.client x.node x.what seen has in

@@ -44,7 +44,9 @@ use Rattle.mn_world.proofs.Meaning.Tell.{one_read, dec_shows}
 use Rattle.mn_world.proofs.Meaning.Found.{plan_exists, plan_stands}
 
 -- what is known at an older place
-known_before : (start : Start) (store : Store) (past : List Entry) (placed : List Placed) → StartsSound start → HasSpaces start → Holds (opened_memory start) store → IsRun start past → IsHistory past placed → (later before : List Entry) → past ≡ later ++ before
+known_before : (start : Start) (store : Store) (past : List Entry) (placed : List Placed)
+    → StartsSound start → HasSpaces start → Holds (opened_memory start) store → IsRun start past
+    → IsHistory past placed → (later before : List Entry) → past ≡ later ++ before
     → (ps : List Placed) × Known start store before ps
 known_before start store past placed sound spaces opened run history later before split =
     let here : IsRun start (later ++ before) = subst (IsRun start) split run in
@@ -56,8 +58,13 @@ known_before start store past placed sound spaces opened run history later befor
 abbrev NoBegin : ClientNo → Entry → Type 0
 NoBegin c e = (is_by c e ≡ false) ⊎ (begun_in e.what ≡ [])
 
-find_last : (start : Start) (store : Store) (past : List Entry) (placed : List Placed) → StartsSound start → HasSpaces start → Holds (opened_memory start) store → IsRun start past → IsHistory past placed → (c : ClientNo) (op : Op) (reply : Reply)
-    → (front later : List Entry) (x : Entry) (before : List Entry) → past ≡ front ++ (later ++ x ∷ before) → ShowsHere c before x op reply → AllByRecursion (NoBegin c) later → (place : ℕ) × LastShown c op reply (later ++ x ∷ before) place
+find_last : (start : Start) (store : Store) (past : List Entry) (placed : List Placed)
+    → StartsSound start → HasSpaces start → Holds (opened_memory start) store → IsRun start past
+    → IsHistory past placed → (c : ClientNo) (op : Op) (reply : Reply)
+    → (front later : List Entry) (x : Entry) (before : List Entry)
+    → past ≡ front ++ (later ++ x ∷ before) → ShowsHere c before x op reply
+    → AllByRecursion (NoBegin c) later
+    → (place : ℕ) × LastShown c op reply (later ++ x ∷ before) place
 find_last start store past placed sound spaces opened run history c op reply front [] x before split here none = (length before, inl (here, refl))
 find_last start store past placed sound spaces opened run history c op reply front (z ∷ later) x before split here none =
     by (dec_shows start store (later ++ x ∷ before) known.0 known.1 z (follows_before start past front (z ∷ (later ++ x ∷ before)) split (runs_follow_protocol start past run)) c op reply)
@@ -69,12 +76,16 @@ find_last start store past placed sound spaces opened run history c op reply fro
     known : (ps : List Placed) × Known start store (later ++ x ∷ before) ps
     known = known_before start store past placed sound spaces opened run history (front ++ z ∷ []) (later ++ x ∷ before) deeper
 
-    by : Decided (ShowsHere c (later ++ x ∷ before) z op reply) → (place : ℕ) × LastShown c op reply (later ++ x ∷ before) place → (place : ℕ) × LastShown c op reply (z ∷ (later ++ x ∷ before)) place
+    by : Decided (ShowsHere c (later ++ x ∷ before) z op reply)
+        → (place : ℕ) × LastShown c op reply (later ++ x ∷ before) place
+        → (place : ℕ) × LastShown c op reply (z ∷ (later ++ x ∷ before)) place
     by (inl shows) rest = (length (later ++ x ∷ before), inl (shows, refl))
     by (inr not_here) rest = (rest.0, inr (not_here, none.0, rest.1))
 
 -- what a client's entries begin, the log's entries do
-no_begin : (c : ClientNo) (later : List Entry) → AllByRecursion (λ (e : Entry). begun_in e.what ≡ []) (client_entries c later) → AllByRecursion (NoBegin c) later
+no_begin : (c : ClientNo) (later : List Entry)
+    → AllByRecursion (λ (e : Entry). begun_in e.what ≡ []) (client_entries c later)
+    → AllByRecursion (NoBegin c) later
 no_begin c [] all = tt
 no_begin c (e ∷ later) all =
     elim (is_by c e) as (λ b. is_by c e ≡ b → AllByRecursion (λ (x : Entry). begun_in x.what ≡ []) (if b then e ∷ client_entries c later else client_entries c later) → AllByRecursion (NoBegin c) (e ∷ later)) [
@@ -91,15 +102,19 @@ pub record LiftedPart (c : ClientNo) (past newer : List Entry) (y : Entry) (olde
   pub list : client_entries c before ≡ older
   pub by : is_by c y ≡ true
 
-pub lift_part : (c : ClientNo) (past newer : List Entry) (y : Entry) (older : List Entry) → client_entries c past ≡ newer ++ y ∷ older → LiftedPart c past newer y older
+pub lift_part : (c : ClientNo) (past newer : List Entry) (y : Entry) (older : List Entry)
+    → client_entries c past ≡ newer ++ y ∷ older → LiftedPart c past newer y older
 lift_part c past newer y older same =
     let l : Lifted c past y older = lift c past newer y older same in
     let by = is_own c y l.by in
     let parts : client_entries c l.later ++ y ∷ older ≡ newer ++ y ∷ older = ap (λ (es : List Entry). client_entries c l.later ++ y ∷ es) (sym l.list) ∙ (sym (client_split c past l.later y l.before l.split by) ∙ same) in
     record { later = l.later; before = l.before; split = l.split; own = append_cancel_right (client_entries c l.later) newer (y ∷ older) parts; list = l.list; by = by }
 
-some_read : (start : Start) (store : Store) (past : List Entry) (placed : List Placed) → StartsSound start → HasSpaces start → Holds (opened_memory start) store → IsRun start past → IsHistory past placed → (c : ClientNo) (op : Op) (reply : Reply)
-    → SomeReadShows (client_entries c past) (since_begin (client_entries c past)) op reply → (place : ℕ) × LastShown c op reply past place
+some_read : (start : Start) (store : Store) (past : List Entry) (placed : List Placed)
+    → StartsSound start → HasSpaces start → Holds (opened_memory start) store → IsRun start past
+    → IsHistory past placed → (c : ClientNo) (op : Op) (reply : Reply)
+    → SomeReadShows (client_entries c past) (since_begin (client_entries c past)) op reply
+    → (place : ℕ) × LastShown c op reply past place
 some_read start store past placed sound spaces opened run history c op reply shown =
     let l = lift_part c past shown.newer shown.entry shown.before shown.split in
     let none : AllByRecursion (λ (e : Entry). begun_in e.what ≡ []) shown.newer =
@@ -120,7 +135,8 @@ record BroughtBy (es : List Entry) (seen : Seen) (earlier : List Seen) : Type 0 
   brought : Contains (seen_at entry) seen
   rest : seen_in older ≡ earlier
 
-locate : (es : List Entry) (later : List Seen) (seen : Seen) (earlier : List Seen) → seen_in es ≡ later ++ seen ∷ earlier → BroughtBy es seen earlier
+locate : (es : List Entry) (later : List Seen) (seen : Seen) (earlier : List Seen)
+    → seen_in es ≡ later ++ seen ∷ earlier → BroughtBy es seen earlier
 locate [] later seen earlier same = absurd (none later same)
   where
     none : (l : List Seen) → [] ≡ l ++ seen ∷ earlier → ⊥
@@ -131,14 +147,18 @@ locate (e ∷ es) later seen earlier same = by (one_read e) (λ l h. locate es l
     further : BroughtBy es seen earlier → BroughtBy (e ∷ es) seen earlier
     further b = record { newer = e ∷ b.newer; entry = b.entry; older = b.older; split = ap (λ (l : List Entry). e ∷ l) b.split; brought = b.brought; rest = b.rest }
 
-    at : (s : Seen) → seen_at e ≡ s ∷ [] → (l : List Seen) → s ∷ seen_in es ≡ l ++ seen ∷ earlier → ((l : List Seen) → seen_in es ≡ l ++ seen ∷ earlier → BroughtBy es seen earlier) → BroughtBy (e ∷ es) seen earlier
+    at : (s : Seen) → seen_at e ≡ s ∷ [] → (l : List Seen) → s ∷ seen_in es ≡ l ++ seen ∷ earlier
+        → ((l : List Seen) → seen_in es ≡ l ++ seen ∷ earlier → BroughtBy es seen earlier)
+        → BroughtBy (e ∷ es) seen earlier
     at s is [] h older =
         let here : s ≡ seen = cc in
         let rest : seen_in es ≡ earlier = cc in
         record { newer = []; entry = e; older = es; split = refl; brought = subst (λ (x : List Seen). Contains x seen) (sym (is ∙ ap (λ (x : Seen). x ∷ []) here)) (0, omega arith, refl); rest = rest }
     at s is (x ∷ l) h older = let rest : seen_in es ≡ l ++ seen ∷ earlier = cc in further (older l rest)
 
-    by : (seen_at e ≡ []) ⊎ ((s : Seen) × (seen_at e ≡ s ∷ [])) → ((l : List Seen) → seen_in es ≡ l ++ seen ∷ earlier → BroughtBy es seen earlier) → BroughtBy (e ∷ es) seen earlier
+    by : (seen_at e ≡ []) ⊎ ((s : Seen) × (seen_at e ≡ s ∷ []))
+        → ((l : List Seen) → seen_in es ≡ l ++ seen ∷ earlier → BroughtBy es seen earlier)
+        → BroughtBy (e ∷ es) seen earlier
     by (inl empty) older = further (older later (ap (λ (x : List Seen). x ++ seen_in es) (sym empty) ∙ (sym (seen_in-cons e es) ∙ same)))
     by (inr (s, is)) older = at s is later (ap (λ (x : List Seen). x ++ seen_in es) (sym is) ∙ (sym (seen_in-cons e es) ∙ same)) older
 
@@ -148,7 +168,10 @@ pub record SinceSplit (es newer : List Entry) (y : Entry) (older : List Entry) :
   pub split : es ≡ newer ++ y ∷ before
   pub rest : older ≡ since_begin before
 
-since_more : (e : Entry) (es newer : List Entry) (y : Entry) (older : List Entry) → e ∷ since_begin es ≡ newer ++ y ∷ older → ((newer : List Entry) → since_begin es ≡ newer ++ y ∷ older → SinceSplit es newer y older) → SinceSplit (e ∷ es) newer y older
+since_more : (e : Entry) (es newer : List Entry) (y : Entry) (older : List Entry)
+    → e ∷ since_begin es ≡ newer ++ y ∷ older
+    → ((newer : List Entry) → since_begin es ≡ newer ++ y ∷ older → SinceSplit es newer y older)
+    → SinceSplit (e ∷ es) newer y older
 since_more e es [] y older same deeper =
     let here : e ≡ y = cc in
     let rest : since_begin es ≡ older = cc in
@@ -161,7 +184,8 @@ since_more e es (x ∷ newer) y older same deeper =
     record { before = d.before; split = cc; rest = d.rest }
 
 since_step : (at : Option NodeNo) (by : Option ClientNo) (what : What) (es newer : List Entry) (y : Entry) (older : List Entry) → since_begin_after what (record { node = at; client = by; what = what }) (since_begin es) ≡ newer ++ y ∷ older
-    → ((newer : List Entry) → since_begin es ≡ newer ++ y ∷ older → SinceSplit es newer y older) → SinceSplit (record { node = at; client = by; what = what } ∷ es) newer y older
+    → ((newer : List Entry) → since_begin es ≡ newer ++ y ∷ older → SinceSplit es newer y older)
+    → SinceSplit (record { node = at; client = by; what = what } ∷ es) newer y older
 since_step at by (Begin number op) es newer y older same deeper = absurd (none newer same)
   where
     none : (l : List Entry) → [] ≡ l ++ y ∷ older → ⊥
@@ -178,7 +202,8 @@ since_step at by (Stopped request asked) es newer y older same deeper = since_mo
 since_step at by (Restarted kept) es newer y older same deeper = since_more (record { node = at; client = by; what = Restarted kept }) es newer y older same deeper
 since_step at by (Abandoned tid) es newer y older same deeper = since_more (record { node = at; client = by; what = Abandoned tid }) es newer y older same deeper
 
-pub since_split : (es newer : List Entry) (y : Entry) (older : List Entry) → since_begin es ≡ newer ++ y ∷ older → SinceSplit es newer y older
+pub since_split : (es newer : List Entry) (y : Entry) (older : List Entry)
+    → since_begin es ≡ newer ++ y ∷ older → SinceSplit es newer y older
 since_split [] newer y older same = absurd (none newer same)
   where
     none : (l : List Entry) → [] ≡ l ++ y ∷ older → ⊥
@@ -186,7 +211,9 @@ since_split [] newer y older same = absurd (none newer same)
     none (x ∷ l) e = cc
 since_split (e ∷ es) newer y older same = since_step e.node e.client e.what es newer y older same (λ l h. since_split es l y older h)
 
-first_exists : (c : ClientNo) (past : List Entry) (seen : Seen) (later : List Seen) → FirstCatalog (seen_in (since_begin (client_entries c past))) seen later → (place : ℕ) × FirstCatalogAt c past place
+first_exists : (c : ClientNo) (past : List Entry) (seen : Seen) (later : List Seen)
+    → FirstCatalog (seen_in (since_begin (client_entries c past))) seen later
+    → (place : ℕ) × FirstCatalogAt c past place
 first_exists c past seen later first =
     let b : BroughtBy (since_begin (client_entries c past)) seen first.earlier = locate (since_begin (client_entries c past)) later seen first.earlier (first.split ∙ append_assoc later (seen ∷ []) first.earlier) in
     let s : SinceSplit (client_entries c past) b.newer b.entry b.older = since_split (client_entries c past) b.newer b.entry b.older b.split in
@@ -214,8 +241,11 @@ no_read_of_pairs : (before : List Entry) (seen : Seen) (name : List ℕ) (low hi
 no_read_of_pairs before seen name low high limit pairs (inl leaf) = leaf
 no_read_of_pairs before seen name low high limit pairs (inr (entries, sees, refused)) = pairs_refuse_nothing (heads_in entries) name low high limit pairs refused
 
-place_exists : (start : Start) (store : Store) (past : List Entry) (placed : List Placed) → StartsSound start → HasSpaces start → Holds (opened_memory start) store → IsRun start past → IsHistory past placed → (c : ClientNo) (op : Op) (reply : Reply)
-    → ByRead (client_entries c past) (since_begin (client_entries c past)) op reply → (place : ℕ) × ReadPlace c past op reply place
+place_exists : (start : Start) (store : Store) (past : List Entry) (placed : List Placed)
+    → StartsSound start → HasSpaces start → Holds (opened_memory start) store → IsRun start past
+    → IsHistory past placed → (c : ClientNo) (op : Op) (reply : Reply)
+    → ByRead (client_entries c past) (since_begin (client_entries c past)) op reply
+    → (place : ℕ) × ReadPlace c past op reply place
 place_exists start store past placed sound spaces opened run history c (Scan name low high limit) (Say.Pairs pairs) (inl shown) = absurd (no_read_of_pairs shown.before shown.seen name low high limit pairs shown.shows)
 place_exists start store past placed sound spaces opened run history c (Scan name low high limit) (Say.Pairs pairs) (inr scanned) = first_exists c past scanned.0 scanned.1 scanned.4
 place_exists start store past placed sound spaces opened run history c op reply (inl shown) = some_read start store past placed sound spaces opened run history c op reply shown
@@ -223,16 +253,23 @@ place_exists start store past placed sound spaces opened run history c op reply 
 
 -- What each entry puts there
 
-answer_exists : (start : Start) (store : Store) (past : List Entry) (old : List Placed) → StartsSound start → HasSpaces start → Holds (opened_memory start) store → IsRun start past → IsHistory past old → (c : ClientNo) (begun : Option Begun) (answer : Answer)
-    → under_way (client_entries c past) ≡ begun → IsShownFor (client_entries c past) begun answer → (new : List Placed) × AnswerPuts past c begun answer old new
+answer_exists : (start : Start) (store : Store) (past : List Entry) (old : List Placed)
+    → StartsSound start → HasSpaces start → Holds (opened_memory start) store → IsRun start past
+    → IsHistory past old → (c : ClientNo) (begun : Option Begun) (answer : Answer)
+    → under_way (client_entries c past) ≡ begun → IsShownFor (client_entries c past) begun answer
+    → (new : List Placed) × AnswerPuts past c begun answer old new
 answer_exists start store past old sound spaces opened run history c None answer now shown = (old, refl)
 answer_exists start store past old sound spaces opened run history c (Some begun) (Replied reply) now shown = by (has_past c begun.number old) refl shown
   where
-    put : ((place : ℕ) × ReadPlace c past begun.op reply place) → (new : List Placed) × ((place : ℕ) × ReadPlace c past begun.op reply place × (new ≡ placed_in (record { place = place; past = record { client = c; number = begun.number; op = begun.op; reply = reply } }) old))
+    put : ((place : ℕ) × ReadPlace c past begun.op reply place)
+        → (new : List Placed)
+        × ((place : ℕ) × ReadPlace c past begun.op reply place × (new ≡ placed_in (record { place = place; past = record { client = c; number = begun.number; op = begun.op; reply = reply } }) old))
     put (place, at) = (placed_in (record { place = place; past = record { client = c; number = begun.number; op = begun.op; reply = reply } }) old, (place, at, refl))
 
-    by : (b : Bool) → has_past c begun.number old ≡ b → Shows (client_entries c past) (since_begin (client_entries c past)) begun.op (Replied reply)
-        → (new : List Placed) × MatchBool b (new ≡ old) ((place : ℕ) × ReadPlace c past begun.op reply place × (new ≡ placed_in (record { place = place; past = record { client = c; number = begun.number; op = begun.op; reply = reply } }) old))
+    by : (b : Bool) → has_past c begun.number old ≡ b
+        → Shows (client_entries c past) (since_begin (client_entries c past)) begun.op (Replied reply)
+        → (new : List Placed)
+        × MatchBool b (new ≡ old) ((place : ℕ) × ReadPlace c past begun.op reply place × (new ≡ placed_in (record { place = place; past = record { client = c; number = begun.number; op = begun.op; reply = reply } }) old))
     by true there shows = (old, refl)
     by false none (inl (i, bef, last, plan, planned, done)) = absurd (plan_stands start past old sound spaces run history c begun.number begun.op now i bef last plan done none)
     by false none (inr (inl (given_up, shows))) = put (place_exists start store past old sound spaces opened run history c begun.op reply (inl shows))
@@ -244,7 +281,9 @@ answer_exists start store past old sound spaces opened run history c (Some begun
 answer_exists start store past old sound spaces opened run history c (Some begun) (Worn n place) now shown = (old, refl)
 answer_exists start store past old sound spaces opened run history c (Some begun) NoMemory now shown = (old, refl)
 
-step_exists : (start : Start) (store : Store) (past : List Entry) (old : List Placed) → StartsSound start → HasSpaces start → Holds (opened_memory start) store → IsRun start past → IsHistory past old → (by : Option ClientNo) (what : What)
+step_exists : (start : Start) (store : Store) (past : List Entry) (old : List Placed)
+    → StartsSound start → HasSpaces start → Holds (opened_memory start) store → IsRun start past
+    → IsHistory past old → (by : Option ClientNo) (what : What)
     → Means past by what → (new : List Placed) × StepPuts past by what old new
 step_exists start store past old sound spaces opened run history None what means = (old, refl)
 step_exists start store past old sound spaces opened run history (Some c) (Answered number answer) means = answer_exists start store past old sound spaces opened run history c (under_way (client_entries c past)) answer refl means.1
@@ -255,16 +294,22 @@ step_exists start store past old sound spaces opened run history (Some c) (Stopp
 step_exists start store past old sound spaces opened run history (Some c) (Restarted kept) means = (old, refl)
 step_exists start store past old sound spaces opened run history (Some c) (Abandoned tid) means = (old, refl)
 
-entry_exists : (start : Start) (store : Store) (past : List Entry) (e : Entry) (old : List Placed) → StartsSound start → HasSpaces start → Holds (opened_memory start) store → IsRun start (e ∷ past) → IsHistory past old → (o : Option Issued) → committed_by past e ≡ o
+entry_exists : (start : Start) (store : Store) (past : List Entry) (e : Entry) (old : List Placed)
+    → StartsSound start → HasSpaces start → Holds (opened_memory start) store
+    → IsRun start (e ∷ past) → IsHistory past old → (o : Option Issued) → committed_by past e ≡ o
     → (new : List Placed) × EntryPuts past e o old new
 entry_exists start store past e old sound spaces opened run history None none = step_exists start store past old sound spaces opened run.0 history e.client e.what run.1.means
 entry_exists start store past e old sound spaces opened run history (Some i) is = by (is_read i.mini.items) refl
   where
-    by : (b : Bool) → is_read i.mini.items ≡ b → (new : List Placed) × MatchBool b (new ≡ old) ((p : Past) × PlanOf past i p × (new ≡ old ++ record { place = length past; past = p } ∷ []))
+    by : (b : Bool) → is_read i.mini.items ≡ b
+        → (new : List Placed)
+        × MatchBool b (new ≡ old) ((p : Past) × PlanOf past i p × (new ≡ old ++ record { place = length past; past = p } ∷ []))
     by true read = (old, refl)
     by false not_read = let plan = plan_exists start past e i run.0 is not_read in (old ++ record { place = length past; past = plan.0 } ∷ [], (plan.0, plan.1, refl))
 
-exists_run : (start : Start) (store : Store) (past : List Entry) → StartsSound start → HasSpaces start → Holds (opened_memory start) store → IsRun start past → (placed : List Placed) × IsHistory past placed
+exists_run : (start : Start) (store : Store) (past : List Entry) → StartsSound start
+    → HasSpaces start → Holds (opened_memory start) store → IsRun start past
+    → (placed : List Placed) × IsHistory past placed
 exists_run start store [] sound spaces opened run = ([], refl)
 exists_run start store (e ∷ past) sound spaces opened run =
     let old = exists_run start store past sound spaces opened run.0 in

@@ -1,4 +1,5 @@
--- Where all that was read stands in one memory that holds a store, nothing is at fault, but for pages that are too high.
+-- Where all that was read stands in one memory that holds a store, nothing is at fault, but for
+-- pages that are too high.
 use Rattle.std.proofs.Common.{◌≡◌, ℕ, zero, suc, ◌+◌, ◌-◌, ◌*◌, ◌^◌, ◌<◌, ◌≤◌, ◌⊎◌, inl, inr, Bool, true, false, not, ◌&&◌, ◌||◌, List, [], ◌∷◌, length, reverse, Option, Some, None, refl, subst, sym, ap, ◌∙◌, arith, slice_get, slice_index_or, Contains}
 use Rattle.std.specs.Prelude.{IsTrue, nat_eq, nat_lt}
 use Rattle.std.specs.List.{AllByRecursion, range_with_len}
@@ -84,7 +85,9 @@ root_of memory store holds op key v e named at =
     no_height : (h : ℕ) → ◌≡◌ {A = Option ℕ} None (Some h) → ⊥
     no_height h e = cc
 
-reached : (memory : List (List ℕ)) (store : Store) (holds : Holds memory store) (seens : List Seen) → ((seen : Seen) → Contains seens seen → IsSeenIn memory seen) → (op : Op) (key : List ℕ) (addr : Addr) (height : Option ℕ) → Reached seens op key addr height
+reached : (memory : List (List ℕ)) (store : Store) (holds : Holds memory store) (seens : List Seen)
+    → ((seen : Seen) → Contains seens seen → IsSeenIn memory seen)
+    → (op : Op) (key : List ℕ) (addr : Addr) (height : Option ℕ) → Reached seens op key addr height
     → OnTree memory store holds op key addr height
 reached memory store holds seens all op key _ _ (by_root seen entries v e has sees named at) =
     let same = sees_those memory store holds seen entries (all seen has).0 sees in
@@ -111,7 +114,8 @@ reached memory store holds seens all op key _ _ (by_child addr height seen page 
 no_bit : (copied : ℕ) → copied < 2 ^ 64 → has_version copied 64 ≡ false
 no_bit copied low = rw (bit_at_above copied 64 64 low (omega arith)) refl
 
-in_range : (P : ℕ → Type 0) (a k w : ℕ) → AllByRecursion P (range_with_len a k) → a ≤ w → w < a + k → P w
+in_range : (P : ℕ → Type 0) (a k w : ℕ) → AllByRecursion P (range_with_len a k) → a ≤ w → w < a + k
+    → P w
 in_range P a zero w all low high = absurd (omega arith)
 in_range P a (suc k) w all low high = by (low_or_high a w) (λ l. in_range P (a + 1) k w all.1 l (omega arith))
   where
@@ -145,12 +149,15 @@ and_right true b e = e
 and_right false b e = absurd cc
 
 -- a root that was copied for the new version has it in its copied set
-copied_root : (entries : List CatEntry) (op : Op) (height : Option ℕ) (page : Page) → is_copied_root entries op height page ≡ true
+copied_root : (entries : List CatEntry) (op : Op) (height : Option ℕ) (page : Page)
+    → is_copied_root entries op height page ≡ true
     → has_version page.copied (length entries) ≡ true
 copied_root entries op None page copied = and_right (is_copying op) (has_version page.copied (length entries)) copied
 copied_root entries op (Some height) page copied = absurd cc
 
-bad_page : (memory : List (List ℕ)) (store : Store) (holds : Holds memory store) (seens : List Seen) → ((seen : Seen) → Contains seens seen → IsSeenIn memory seen) → (op : Op) (addr : Addr) (seq : ℕ) → MeetsBadPage seens op addr seq → TooHigh seens
+bad_page : (memory : List (List ℕ)) (store : Store) (holds : Holds memory store) (seens : List Seen)
+    → ((seen : Seen) → Contains seens seen → IsSeenIn memory seen)
+    → (op : Op) (addr : Addr) (seq : ℕ) → MeetsBadPage seens op addr seq → TooHigh seens
 bad_page memory store holds seens all op addr seq (seen, key, height, entries, has, (catalog, in', sees, way), place, fault) = by fault
   where
     on : OnTree memory store holds op key addr height
@@ -172,19 +179,22 @@ bad_page memory store holds seens all op addr seq (seen, key, height, entries, h
     clash : (b : Bool) → b ≡ true → b ≡ false → ⊥
     clash b f g = cc
 
-    too_high : (page : Page) → SpellsPage seen.bytes page → nat_lt 14 (height_of page.body) ≡ true → TooHigh seens
+    too_high : (page : Page) → SpellsPage seen.bytes page → nat_lt 14 (height_of page.body) ≡ true
+        → TooHigh seens
     too_high page is e = (seen, addr, page, has, (place, is), Rattle.std.proofs.lemmas.Bool.ltb-true 14 (height_of page.body) e)
 
     page_is : (page : Page) → SpellsPage seen.bytes page → on.page ≡ page
     page_is page is = same_page on.page page (sym on.there ∙ page_seen memory store holds seen addr page (all seen has).0 (place, is))
 
-    wrong : (h : Option ℕ) → height ≡ h → (page : Page) → SpellsPage seen.bytes page → is_wrong_height h (height_of page.body) ≡ true → TooHigh seens
+    wrong : (h : Option ℕ) → height ≡ h → (page : Page) → SpellsPage seen.bytes page
+        → is_wrong_height h (height_of page.body) ≡ true → TooHigh seens
     wrong None e page is f = too_high page is f
     wrong (Some h) e page is f =
         let level : height_of page.body ≡ h = ap (λ (p : Page). height_of p.body) (sym (page_is page is)) ∙ on.level h e in
         too_high page is (sym (ap (λ (b : Bool). not b || nat_lt 14 (height_of page.body)) (ap (λ (k : ℕ). nat_eq (height_of page.body) k) (sym level) ∙ Rattle.mn_world.proofs.Reading.Same.nat_eq-refl (height_of page.body))) ∙ f)
 
-    at_fault : (page : Page) → SpellsPage seen.bytes page → IsPageAtFault entries op key height page → TooHigh seens
+    at_fault : (page : Page) → SpellsPage seen.bytes page → IsPageAtFault entries op key height page
+        → TooHigh seens
     at_fault page is (inl not_served) =
         absurd (not_served (
           on.version,
@@ -208,7 +218,8 @@ below (None ∷ []) have = tt
 below (None ∷ (parent ∷ older)) have = absurd have
 below (Some p ∷ older) have = (have.0, below older have.1)
 
-bad_place : (memory : List (List ℕ)) (store : Store) (holds : Holds memory store) (seen : Seen) → IsSeenIn memory seen → IsBadCatalog seen ⊎ IsBadCount seen → ⊥
+bad_place : (memory : List (List ℕ)) (store : Store) (holds : Holds memory store) (seen : Seen)
+    → IsSeenIn memory seen → IsBadCatalog seen ⊎ IsBadCount seen → ⊥
 bad_place memory store holds seen in' (inl (place, none)) = none holds.forest.entries (sees_entries memory store holds seen in'.0 place) (below (reverse (parents_of (heads_in holds.forest.entries))) holds.sound.tree.versions.parents)
 bad_place memory store holds seen in' (inr (place, none)) =
     none (length (slice_index_or holds.forest.pages seen.place.node.0 [])) (index_below holds.forest.pages seen.place.node.0 (counted holds.forest holds.sound).counts)

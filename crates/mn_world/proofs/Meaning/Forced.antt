@@ -51,24 +51,30 @@ forced_refused seens m request reply tid is = absurd is
 forced_by : (base : List ℕ) (records : List Record) (tid : Tid) (ps : List NodeNo) (part : List PartItem) → (answer base records (Ask.Prepare tid ps part)).reply ≡ Say.BadForced → has_forced records tid ≡ true
 forced_by base records tid ps part is = by (has_forced records tid) refl is
   where
-    compares : (o : Option Mismatched) → (after_compares (space_of base records) part (Some (Rec.Voted tid ps part)) o).reply ≡ Say.BadForced → ⊥
+    compares : (o : Option Mismatched)
+        → (after_compares (space_of base records) part (Some (Rec.Voted tid ps part)) o).reply ≡ Say.BadForced → ⊥
     compares (Some at) e = cc
     compares None e = cc
 
-    locks : (o : Option Clash) → (after_locks (space_of base records) part (Some (Rec.Voted tid ps part)) o).reply ≡ Say.BadForced → ⊥
+    locks : (o : Option Clash)
+        → (after_locks (space_of base records) part (Some (Rec.Voted tid ps part)) o).reply ≡ Say.BadForced → ⊥
     locks (Some at) e = cc
     locks None e = compares (part_mismatch_from (space_of base records) 0 part) e
 
-    by : (b : Bool) → has_forced records tid ≡ b → (if b then only_reply Say.BadForced else tested base records tid part (Some (Rec.Voted tid ps part))).reply ≡ Say.BadForced → has_forced records tid ≡ true
+    by : (b : Bool) → has_forced records tid ≡ b
+        → (if b then only_reply Say.BadForced else tested base records tid part (Some (Rec.Voted tid ps part))).reply ≡ Say.BadForced → has_forced records tid ≡ true
     by true e f = e
     by false e f = absurd (locks (clash_of (held_parts records) tid part) f)
 
 -- a Forced is a record of its id
-forced_recorded : (records : List Record) (tid : Tid) → has_forced records tid ≡ true → has_record records tid ≡ true
+forced_recorded : (records : List Record) (tid : Tid) → has_forced records tid ≡ true
+    → has_record records tid ≡ true
 forced_recorded [] tid has = absurd cc
 forced_recorded (Rec.Forced t ∷ records) tid has = by (or_cases (tid_same t tid) (has_forced records tid) has) (λ f. forced_recorded records tid f)
   where
-    by : (tid_same t tid ≡ true) ⊎ (has_forced records tid ≡ true) → (has_forced records tid ≡ true → has_record records tid ≡ true) → (tid_same t tid || has_record records tid) ≡ true
+    by : (tid_same t tid ≡ true) ⊎ (has_forced records tid ≡ true)
+        → (has_forced records tid ≡ true → has_record records tid ≡ true)
+        → (tid_same t tid || has_record records tid) ≡ true
     by (inl here) rest = or_left (tid_same t tid) (has_record records tid) here
     by (inr older) rest = or_right (tid_same t tid) (has_record records tid) (rest older)
 forced_recorded (Rec.Voted t ps part ∷ records) tid has = or_right (tid_same t tid) (has_record records tid) (forced_recorded records tid has)
@@ -76,7 +82,9 @@ forced_recorded (Rec.Executed t part ∷ records) tid has = or_right (tid_same t
 forced_recorded (Rec.Decided t verdict ∷ records) tid has = or_right (tid_same t tid) (has_record records tid) (forced_recorded records tid has)
 
 -- a record of Forced stays
-forced_on : (start : Start) (later before : List Entry) (n : NodeNo) (tid : Tid) → has_forced (records_of start before n) tid ≡ true → has_forced (records_of start (later ++ before) n) tid ≡ true
+forced_on : (start : Start) (later before : List Entry) (n : NodeNo) (tid : Tid)
+    → has_forced (records_of start before n) tid ≡ true
+    → has_forced (records_of start (later ++ before) n) tid ≡ true
 forced_on start [] before n tid forced = forced
 forced_on start (e ∷ later) before n tid forced = record_stays start (later ++ before) e n (is_force_of tid) (forced_on start later before n tid forced)
 
@@ -99,7 +107,8 @@ forced_stands start store past place e c number tid h stands answers = record {
     r : LastRefused t
     r = last_refused t (λ nodes seens op f. f)
 
-    is : (ps : List NodeNo) × (part : List PartItem) × (r.request ≡ Ask.Prepare tid ps part) × (r.reply ≡ Say.BadForced)
+    is : (ps : List NodeNo) × (part : List PartItem) × (r.request ≡ Ask.Prepare tid ps part)
+        × (r.reply ≡ Say.BadForced)
     is = forced_refused (seen_in r.try) r.node r.request r.reply tid r.refused
 
     not_down : Say.BadForced ≡ Say.Down → ⊥
@@ -134,13 +143,17 @@ forced_stands start store past place e c number tid h stands answers = record {
         low : r.node.0 < start_nodes start
         low = (subst (λ (o : Option NodeNo). AllowedAt start r.there.before o r.entry.what) r.at_node to_call.1.at_node).0
 
-        by : (has_forced (start_records start r.node) tid ≡ true) ⊎ ((sender : ClientNo) × WasForcedBy r.there.before r.node tid sender) → (sender : ClientNo) × WasForcedBy r.there.before r.node tid sender
+        by : (has_forced (start_records start r.node) tid ≡ true)
+            ⊎ ((sender : ClientNo) × WasForcedBy r.there.before r.node tid sender)
+            → (sender : ClientNo) × WasForcedBy r.there.before r.node tid sender
         by (inl old) =
             absurd (new_not_old start r.there.before c tid asked.mini (kept_run start r.there.before h.opened.sound to_call.0)
             (current_issue (client_entries c r.there.before) tid asked.mini asked.issued) (r.node, low, forced_recorded (start_records start r.node) tid old))
         by (inr f) = f
 
-    later : (newer older : List Entry) → past ≡ newer ++ older → length r.there.before ≤ length older → has_forced (records_of start older r.node) tid ≡ true
+    later : (newer older : List Entry) → past ≡ newer ++ older
+        → length r.there.before ≤ length older
+        → has_forced (records_of start older r.node) tid ≡ true
     later newer older whole low =
         let f : Front older r.there.before =
         front newer ((t.later ++ (t.answer ∷ r.there.later)) ++ r.entry ∷ []) older r.there.before

@@ -1,4 +1,5 @@
--- What a history needs at each entry is there: the issue of a plan that commits, and the place of a reply.
+-- What a history needs at each entry is there: the issue of a plan that commits, and the place of a
+-- reply.
 use Rattle.std.proofs.Common.{◌≡◌, ℕ, ◌⊎◌, inl, inr, Bool, true, false, List, [], ◌∷◌, ◌++◌, length, Option, Some, None, refl, subst, sym, ap, ◌∙◌, if◌then◌else◌, Contains}
 use Rattle.std.specs.Prelude.{IsTrue}
 use Rattle.std.specs.List.{AllByRecursion}
@@ -51,7 +52,8 @@ record IssueEntry (past : List Entry) (i : Issued) : Type 0 where
   split : past ≡ later ++ entry ∷ before
   issues : issue_in entry.what ≡ i ∷ []
 
-entry_more : (e : Entry) (past : List Entry) (i : Issued) → IssueEntry past i → IssueEntry (e ∷ past) i
+entry_more : (e : Entry) (past : List Entry) (i : Issued) → IssueEntry past i
+    → IssueEntry (e ∷ past) i
 entry_more e past i x = record { entry = x.entry; later = e ∷ x.later; before = x.before; split = ap (λ (l : List Entry). e ∷ l) x.split; issues = x.issues }
 
 find_step : (at : Option NodeNo) (by : Option ClientNo) (what : What) (past : List Entry) (tid : Tid) (mini : Mini) → (issue_named tid (issues_of past) ≡ Some mini → IssueEntry past (record { tid = tid; mini = mini })) → issue_named tid (issue_in what ++ issues_of past) ≡ Some mini
@@ -61,10 +63,13 @@ find_step at by (Issue t m) past tid mini older is = here (tid_same t tid) refl 
     some : (a b : Mini) → Some a ≡ Some b → a ≡ b
     some a b e = cc
 
-    same : (t : Tid) (m : Mini) → t ≡ tid → m ≡ mini → ◌≡◌ {A = List Issued} (record { tid = t; mini = m } ∷ []) (record { tid = tid; mini = mini } ∷ [])
+    same : (t : Tid) (m : Mini) → t ≡ tid → m ≡ mini
+        → ◌≡◌ {A = List Issued} (record { tid = t; mini = m } ∷ []) (record { tid = tid; mini = mini } ∷ [])
     same t m e f = λ i. record { tid = e i; mini = f i } ∷ []
 
-    here : (b : Bool) → tid_same t tid ≡ b → (if b then Some m else issue_named tid (issues_of past)) ≡ Some mini → IssueEntry (record { node = at; client = by; what = Issue t m } ∷ past) (record { tid = tid; mini = mini })
+    here : (b : Bool) → tid_same t tid ≡ b
+        → (if b then Some m else issue_named tid (issues_of past)) ≡ Some mini
+        → IssueEntry (record { node = at; client = by; what = Issue t m } ∷ past) (record { tid = tid; mini = mini })
     here true e h = record { entry = record { node = at; client = by; what = Issue t m }; later = []; before = past; split = refl; issues = same t m (tid_same-true t tid e) (some m mini h) }
     here false e h = entry_more (record { node = at; client = by; what = Issue t m }) past (record { tid = tid; mini = mini }) (older h)
 find_step at by (Begin number op) past tid mini older is = entry_more (record { node = at; client = by; what = Begin number op }) past (record { tid = tid; mini = mini }) (older is)
@@ -74,7 +79,9 @@ find_step at by (Stopped request asked) past tid mini older is = entry_more (rec
 find_step at by (Restarted kept) past tid mini older is = entry_more (record { node = at; client = by; what = Restarted kept }) past (record { tid = tid; mini = mini }) (older is)
 find_step at by (Abandoned t) past tid mini older is = entry_more (record { node = at; client = by; what = Abandoned t }) past (record { tid = tid; mini = mini }) (older is)
 
-find_issue : (past : List Entry) (tid : Tid) (mini : Mini) → issue_named tid (issues_of past) ≡ Some mini → IssueEntry past (record { tid = tid; mini = mini })
+find_issue : (past : List Entry) (tid : Tid) (mini : Mini)
+    → issue_named tid (issues_of past) ≡ Some mini
+    → IssueEntry past (record { tid = tid; mini = mini })
 find_issue [] tid mini is = absurd cc
 find_issue (e ∷ past) tid mini is = find_step e.node e.client e.what past tid mini (find_issue past tid mini) is
 
@@ -100,11 +107,14 @@ issue_facts before (Some c) at (Issue tid mini) i allowed means is not_read = ki
         head : {a b : Issued} → a ∷ [] ≡ b ∷ [] → a ≡ b
         head e = cc
 
-    by_op : (o : Option Begun) → under_way (client_entries c before) ≡ o → IsPlanOfOp (client_entries c before) o mini → IssueFacts before (Some c) i
+    by_op : (o : Option Begun) → under_way (client_entries c before) ≡ o
+        → IsPlanOfOp (client_entries c before) o mini → IssueFacts before (Some c) i
     by_op None e none = absurd none
     by_op (Some b) e (reply, planned) = record { client = c; own = refl; begun = b; of = e; reply = reply; planned = subst (λ (j : Issued). IsPlanBy (client_entries c before) b.op j.mini reply) this planned }
 
-    kind : IsTrue (is_read mini.items) ⊎ IsPlanOfOp (client_entries c before) (under_way (client_entries c before)) mini → IssueFacts before (Some c) i
+    kind : IsTrue (is_read mini.items)
+        ⊎ IsPlanOfOp (client_entries c before) (under_way (client_entries c before)) mini
+        → IssueFacts before (Some c) i
     kind (inl read) = absurd (clash (is_read i.mini.items) (subst (λ (j : Issued). is_read j.mini.items ≡ true) this read) not_read)
     kind (inr plan) = by_op (under_way (client_entries c before)) refl plan
 issue_facts before by at (Begin number op) i allowed means is not_read = absurd cc
@@ -114,7 +124,8 @@ issue_facts before by at (Stopped request asked) i allowed means is not_read = a
 issue_facts before by at (Restarted kept) i allowed means is not_read = absurd cc
 issue_facts before by at (Abandoned tid) i allowed means is not_read = absurd cc
 
-pub plan_exists : (start : Start) (past : List Entry) (e : Entry) (i : Issued) → IsRun start past → committed_by past e ≡ Some i → is_read i.mini.items ≡ false → (p : Past) × PlanOf past i p
+pub plan_exists : (start : Start) (past : List Entry) (e : Entry) (i : Issued) → IsRun start past
+    → committed_by past e ≡ Some i → is_read i.mini.items ≡ false → (p : Past) × PlanOf past i p
 plan_exists start past e i run is not_read =
     let x : IssueEntry past i = find_issue past i.tid i.mini (committed_named past e i is) in
     let step = (older_run start x.later (x.entry ∷ x.before) (subst (IsRun start) x.split run)).1 in
@@ -126,7 +137,9 @@ plan_exists start past e i run is not_read =
 -- A reply by the last plan: the operation stands there already
 
 last_under_step : (at : Option NodeNo) (by : Option ClientNo) (what : What) (es rest : List Entry) (i : Issued) (earlier : List Issued) → issue_in what ++ issues_of rest ≡ [] → issues_of (since_begin_after what (record { node = at; client = by; what = what }) (since_begin es)) ≡ i ∷ earlier
-    → (o : Option Begun) → (issues_of rest ≡ [] → issues_of (since_begin es) ≡ i ∷ earlier → under_way es ≡ o) → under_way_after what (under_way es) ≡ o
+    → (o : Option Begun)
+    → (issues_of rest ≡ [] → issues_of (since_begin es) ≡ i ∷ earlier → under_way es ≡ o)
+    → under_way_after what (under_way es) ≡ o
 last_under_step at by (Begin number op) es rest i earlier none now o older = absurd cc
 last_under_step at by (Answered number answer) es rest i earlier none now o older = absurd cc
 last_under_step at by (Issue tid mini) es rest i earlier none now o older = absurd cc
@@ -147,12 +160,20 @@ plan_no_read (Write node start bytes ∷ items) e = refl
 plan_no_read (Read node start length ∷ []) e = absurd cc
 plan_no_read (Read node start length ∷ (i ∷ items)) e = refl
 
-issue_later : (start : Start) (later before : List Entry) (tid : Tid) (mini : Mini) → StartsSound start → FollowsProtocol start (later ++ before) → mini_of before tid ≡ Some mini → mini_of (later ++ before) tid ≡ Some mini
+issue_later : (start : Start) (later before : List Entry) (tid : Tid) (mini : Mini)
+    → StartsSound start → FollowsProtocol start (later ++ before) → mini_of before tid ≡ Some mini
+    → mini_of (later ++ before) tid ≡ Some mini
 issue_later start [] before tid mini sound run is = is
 issue_later start (e ∷ later) before tid mini sound run is = issue_stays start (later ++ before) e tid.client tid mini (kept_run start (later ++ before) sound run.0) run.1 (issue_later start later before tid mini sound run.0 is)
 
-pub plan_stands : (start : Start) (past : List Entry) (old : List Placed) → StartsSound start → HasSpaces start → IsRun start past → IsHistory past old → (c : ClientNo) (number : ℕ) (op : Op) → under_way (client_entries c past) ≡ Some (record { number = number; op = op })
-    → (i : Issued) (bef : List Entry) → LastIssue (client_entries c past) (since_begin (client_entries c past)) i bef → is_plan i.mini.items ≡ true → all_done (client_entries c past) i ≡ true → has_past c number old ≡ false → ⊥
+pub plan_stands : (start : Start) (past : List Entry) (old : List Placed) → StartsSound start
+    → HasSpaces start → IsRun start past → IsHistory past old
+    → (c : ClientNo) (number : ℕ) (op : Op)
+    → under_way (client_entries c past) ≡ Some (record { number = number; op = op })
+    → (i : Issued) (bef : List Entry)
+    → LastIssue (client_entries c past) (since_begin (client_entries c past)) i bef
+    → is_plan i.mini.items ≡ true → all_done (client_entries c past) i ≡ true
+    → has_past c number old ≡ false → ⊥
 plan_stands start past old sound spaces run history c number op now i bef last plan done none =
     differ client number_is
   where
@@ -212,7 +233,8 @@ plan_stands start past old sound spaces run history c number op now i bef last p
     older : OlderHistory (co.entry ∷ co.before) old
     older = older_history start co.later (co.entry ∷ co.before) old (subst (FollowsProtocol start) co.split follows) (subst (λ (es : List Entry). IsHistory es old) co.split history)
 
-    put : (p : Past) × PlanOf co.before co.issued p × (older.older ≡ older.history.0 ++ record { place = length co.before; past = p } ∷ [])
+    put : (p : Past) × PlanOf co.before co.issued p
+        × (older.older ≡ older.history.0 ++ record { place = length co.before; past = p } ∷ [])
     put = put_plan co.before co.entry co.issued older.history.0 older.older (committed_by co.before co.entry) co.commits not_read older.history.2
 
     there : (q : Placed) × Contains old q × (q.past ≡ put.0)

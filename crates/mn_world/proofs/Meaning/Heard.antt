@@ -43,7 +43,8 @@ clash b p q = cc
 abbrev pub NotHeld : List Record → Tid → Type 0
 NotHeld records t = AllByRecursion (λ (h : HeldPart). tid_same h.tid t ≡ false) (held_parts records)
 
-without_none : (t : Tid) (hs : List HeldPart) → AllByRecursion (λ (h : HeldPart). tid_same h.tid t ≡ false) (without_tid t hs)
+without_none : (t : Tid) (hs : List HeldPart)
+    → AllByRecursion (λ (h : HeldPart). tid_same h.tid t ≡ false) (without_tid t hs)
 without_none t [] = tt
 without_none t (h ∷ hs) =
     elim (tid_same h.tid t) as (λ b. tid_same h.tid t ≡ b → AllByRecursion (λ (g : HeldPart). tid_same g.tid t ≡ false) (if b then without_tid t hs else h ∷ without_tid t hs)) [
@@ -51,7 +52,8 @@ without_none t (h ∷ hs) =
       | false ↦ λ e. (e, without_none t hs)
     ] refl
 
-pub none_found : (t : Tid) (hs : List HeldPart) → is_some (held_part_of t hs) ≡ false → AllByRecursion (λ (h : HeldPart). tid_same h.tid t ≡ false) hs
+pub none_found : (t : Tid) (hs : List HeldPart) → is_some (held_part_of t hs) ≡ false
+    → AllByRecursion (λ (h : HeldPart). tid_same h.tid t ≡ false) hs
 none_found t [] e = tt
 none_found t (h ∷ hs) e =
     elim (tid_same h.tid t) as (λ b. tid_same h.tid t ≡ b → is_some (if b then Some h else held_part_of t hs) ≡ false → AllByRecursion (λ (g : HeldPart). tid_same g.tid t ≡ false) (h ∷ hs)) [
@@ -60,18 +62,23 @@ none_found t (h ∷ hs) e =
     ] refl e
 
 -- behind a decision it is not held
-after_decide : (records : List Record) (t : Tid) (verdict : Bool) → NotHeld (with_added (if is_held records t then Some (Decided t verdict) else None) records) t
+after_decide : (records : List Record) (t : Tid) (verdict : Bool)
+    → NotHeld (with_added (if is_held records t then Some (Decided t verdict) else None) records) t
 after_decide records t verdict = by (is_held records t) refl
   where
-    by : (b : Bool) → is_held records t ≡ b → NotHeld (with_added (if b then Some (Decided t verdict) else None) records) t
+    by : (b : Bool) → is_held records t ≡ b
+        → NotHeld (with_added (if b then Some (Decided t verdict) else None) records) t
     by true e = without_none t (held_parts records)
     by false e = none_found t (held_parts records) e
 
-voted_recorded : (records : List Record) (t : Tid) → has_voted records t ≡ true → has_record records t ≡ true
+voted_recorded : (records : List Record) (t : Tid) → has_voted records t ≡ true
+    → has_record records t ≡ true
 voted_recorded records t voted = let v = vote_names t records voted in named_record t v.0 records v.1
 
 -- and it never is again, where it was voted
-none_more : (nodes : ℕ) (n : NodeNo) (records : List Record) (o : Option Record) (t : Tid) → AreInPlace nodes n (with_added o records) → has_voted records t ≡ true → NotHeld records t → NotHeld (with_added o records) t
+none_more : (nodes : ℕ) (n : NodeNo) (records : List Record) (o : Option Record) (t : Tid)
+    → AreInPlace nodes n (with_added o records) → has_voted records t ≡ true → NotHeld records t
+    → NotHeld (with_added o records) t
 none_more nodes n records None t place voted none = none
 none_more nodes n records (Some (Voted u ps part)) t place voted none = (by (tid_same u t) refl, none)
   where
@@ -82,10 +89,14 @@ none_more nodes n records (Some (Executed u part)) t place voted none = none
 none_more nodes n records (Some (Decided u verdict)) t place voted none = All-without (λ (h : HeldPart). tid_same h.tid t ≡ false) u (held_parts records) none
 none_more nodes n records (Some (Forced u)) t place voted none = none
 
-none_stays : (start : Start) (past : List Entry) (e : Entry) (n : NodeNo) (t : Tid) → AreInPlace (start_nodes start) n (records_of start (e ∷ past) n) → has_voted (records_of start past n) t ≡ true → NotHeld (records_of start past n) t → NotHeld (records_of start (e ∷ past) n) t
+none_stays : (start : Start) (past : List Entry) (e : Entry) (n : NodeNo) (t : Tid)
+    → AreInPlace (start_nodes start) n (records_of start (e ∷ past) n)
+    → has_voted (records_of start past n) t ≡ true → NotHeld (records_of start past n) t
+    → NotHeld (records_of start (e ∷ past) n) t
 none_stays start past e n t place voted none = by (records_grow start past e n)
   where
-    by : Grows (base_at start n) (records_of start past n) (records_of start (e ∷ past) n) → NotHeld (records_of start (e ∷ past) n) t
+    by : Grows (base_at start n) (records_of start past n) (records_of start (e ∷ past) n)
+        → NotHeld (records_of start (e ∷ past) n) t
     by (inl same) = subst (λ (r : List Record). NotHeld r t) (sym same) none
     by (inr (request, is)) =
         subst (λ (r : List Record). NotHeld r t) (sym is)
@@ -101,17 +112,24 @@ is_heard reply = not (is_lost reply)
 abbrev pub Rests : List Entry → Tid → NodeNo → Type 0 → Type 0
 Rests es t n P = P ⊎ ((was_decided t n es ≡ true) × ((was_told (is_prepare t) is_done n es ≡ false) ⊎ (prepared_after_decide t n es ≡ true)))
 
-decision_rests : (start : Start) (past : List Entry) (t : Tid) (n : NodeNo) → Kept start past → (has_voted (records_of start past n) t ≡ true) ⊎ (was_told (is_prepare t) is_done n (client_entries t.client past) ≡ false)
+decision_rests : (start : Start) (past : List Entry) (t : Tid) (n : NodeNo) → Kept start past
+    → (has_voted (records_of start past n) t ≡ true)
+    ⊎ (was_told (is_prepare t) is_done n (client_entries t.client past) ≡ false)
 decision_rests start past t n kept = by (was_told (is_prepare t) is_done n (client_entries t.client past)) refl
   where
-    by : (b : Bool) → was_told (is_prepare t) is_done n (client_entries t.client past) ≡ b → (has_voted (records_of start past n) t ≡ true) ⊎ (was_told (is_prepare t) is_done n (client_entries t.client past) ≡ false)
+    by : (b : Bool) → was_told (is_prepare t) is_done n (client_entries t.client past) ≡ b
+        → (has_voted (records_of start past n) t ≡ true)
+        ⊎ (was_told (is_prepare t) is_done n (client_entries t.client past) ≡ false)
     by true e = inl (kept.yes t.client n t (or_left (was_told (is_prepare t) is_done n (client_entries t.client past)) (was_told (is_force t) is_yes n (client_entries t.client past)) e))
     by false e = inr e
 
 -- It stays so
 
 -- an entry of the list
-own_rests : (e : Entry) (es : List Entry) (t : Tid) (n : NodeNo) → was_decided t n es ≡ true → (was_told (is_prepare t) is_done n es ≡ false) ⊎ (prepared_after_decide t n es ≡ true) → (was_told (is_prepare t) is_done n (e ∷ es) ≡ false) ⊎ (prepared_after_decide t n (e ∷ es) ≡ true)
+own_rests : (e : Entry) (es : List Entry) (t : Tid) (n : NodeNo) → was_decided t n es ≡ true
+    → (was_told (is_prepare t) is_done n es ≡ false) ⊎ (prepared_after_decide t n es ≡ true)
+    → (was_told (is_prepare t) is_done n (e ∷ es) ≡ false)
+    ⊎ (prepared_after_decide t n (e ∷ es) ≡ true)
 own_rests e es t n decided (inr after) = inr (or_right (list_any (λ (c : Call). node_same c.node n && is_prepare t c.request) (call_in e.node e.what) && was_decided t n es) (prepared_after_decide t n es) after)
 own_rests e es t n decided (inl untold) = by (was_told (is_prepare t) is_done n (e ∷ es)) refl
   where
@@ -130,11 +148,14 @@ own_rests e es t n decided (inl untold) = by (was_told (is_prepare t) is_done n 
         (told_weaker (λ (c : Call). node_same c.node n && (is_prepare t c.request && is_done c.reply)) (λ (c : Call). node_same c.node n && is_prepare t c.request) (λ c h. one (node_same c.node n) (is_prepare t c.request) (is_done c.reply) h) (call_in e.node e.what) here) decided)
     told (inr old) = absurd (clash (was_told (is_prepare t) is_done n es) old untold)
 
-    by : (b : Bool) → was_told (is_prepare t) is_done n (e ∷ es) ≡ b → (was_told (is_prepare t) is_done n (e ∷ es) ≡ false) ⊎ (prepared_after_decide t n (e ∷ es) ≡ true)
+    by : (b : Bool) → was_told (is_prepare t) is_done n (e ∷ es) ≡ b
+        → (was_told (is_prepare t) is_done n (e ∷ es) ≡ false)
+        ⊎ (prepared_after_decide t n (e ∷ es) ≡ true)
     by false h = inl h
     by true h = inr (told (or_cases _ _ (sym (list_any-append (λ (c : Call). node_same c.node n && (is_prepare t c.request && is_done c.reply)) (call_in e.node e.what) (calls_of es)) ∙ h)))
 
-rests_on : (past : List Entry) (e : Entry) (t : Tid) (n : NodeNo) (P Q : Type 0) → (P → Q) → Rests (client_entries t.client past) t n P → Rests (client_entries t.client (e ∷ past)) t n Q
+rests_on : (past : List Entry) (e : Entry) (t : Tid) (n : NodeNo) (P Q : Type 0) → (P → Q)
+    → Rests (client_entries t.client past) t n P → Rests (client_entries t.client (e ∷ past)) t n Q
 rests_on past e t n P Q on (inl p) = inl (on p)
 rests_on past e t n P Q on (inr (decided, rest)) =
     inr (
@@ -151,7 +172,8 @@ rests_on past e t n P Q on (inr (decided, rest)) =
 abbrev pub Released : Start → List Entry → Tid → NodeNo → Type 0
 Released start past t n = NotHeld (records_of start past n) t × (has_voted (records_of start past n) t ≡ true)
 
-pub decide_is : (t : Tid) (request : Request) → is_decide t request ≡ true → (verdict : Bool) × (request ≡ Ask.Decide t verdict)
+pub decide_is : (t : Tid) (request : Request) → is_decide t request ≡ true
+    → (verdict : Bool) × (request ≡ Ask.Decide t verdict)
 decide_is t (Ask.Decide u verdict) e = (verdict, ap (λ (x : Tid). Ask.Decide x verdict) (tid_same-true u t e))
 decide_is t (Ask.Prepare u ps part) e = absurd cc
 decide_is t (Ask.Exec u part) e = absurd cc
@@ -159,7 +181,8 @@ decide_is t (Ask.Force u) e = absurd cc
 decide_is t Ask.List e = absurd cc
 decide_is t (Ask.Peek at size) e = absurd cc
 
-heard_up : (reply : NodeReply) (P : Type 0) → is_heard reply ≡ true → (reply ≡ Say.Stopped) ⊎ ((reply ≡ Say.Down) ⊎ P) → P
+heard_up : (reply : NodeReply) (P : Type 0) → is_heard reply ≡ true
+    → (reply ≡ Say.Stopped) ⊎ ((reply ≡ Say.Down) ⊎ P) → P
 heard_up reply P heard (inl stopped) = absurd (never (subst (λ (r : NodeReply). is_heard r ≡ true) stopped heard))
   where
     never : is_heard Say.Stopped ≡ true → ⊥
@@ -170,7 +193,8 @@ heard_up reply P heard (inr (inl down)) = absurd (never (subst (λ (r : NodeRepl
     never e = cc
 heard_up reply P heard (inr (inr p)) = p
 
-heard_decided : (t : Tid) (n : NodeNo) (es : List Entry) → was_told (is_decide t) is_heard n es ≡ true → was_decided t n es ≡ true
+heard_decided : (t : Tid) (n : NodeNo) (es : List Entry)
+    → was_told (is_decide t) is_heard n es ≡ true → was_decided t n es ≡ true
 heard_decided t n es told =
     told_weaker (λ (c : Call). node_same c.node n && (is_decide t c.request && is_heard c.reply)) (λ (c : Call). node_same c.node n && (is_decide t c.request && true)) (λ c h. one (node_same c.node n) (is_decide t c.request) (is_heard c.reply) h) (calls_of es) told
   where
@@ -179,18 +203,23 @@ heard_decided t n es told =
     one true false d h = absurd cc
     one false b d h = absurd cc
 
-pub heard : (start : Start) (past : List Entry) (t : Tid) (n : NodeNo) → StartsSound start → FollowsProtocol start past → n.0 < start_nodes start
-    → was_told (is_decide t) is_heard n (client_entries t.client past) ≡ true → Rests (client_entries t.client past) t n (Released start past t n)
+pub heard : (start : Start) (past : List Entry) (t : Tid) (n : NodeNo) → StartsSound start
+    → FollowsProtocol start past → n.0 < start_nodes start
+    → was_told (is_decide t) is_heard n (client_entries t.client past) ≡ true
+    → Rests (client_entries t.client past) t n (Released start past t n)
 heard start [] t n sound run low told = absurd cc
 heard start (e ∷ past) t n sound run low told = by (new_call start past t.client e (λ (c : Call). node_same c.node n && (is_decide t c.request && is_heard c.reply)) run.1 told) (λ old. heard start past t n sound run.0 low old)
   where
     place : AreInPlace (start_nodes start) n (records_of start (e ∷ past) n)
     place = (records_stay_sound start (e ∷ past) sound run).in_place n low
 
-    voted_on : has_voted (records_of start past n) t ≡ true → has_voted (records_of start (e ∷ past) n) t ≡ true
+    voted_on : has_voted (records_of start past n) t ≡ true
+        → has_voted (records_of start (e ∷ past) n) t ≡ true
     voted_on voted = record_stays start past e n (Rattle.mn_mini.specs.Node.is_vote_of t) voted
 
-    here : (call : Call) → IsCallOf start past t.client e call → (node_same call.node n && (is_decide t call.request && is_heard call.reply)) ≡ true → Rests (client_entries t.client (e ∷ past)) t n (Released start (e ∷ past) t n)
+    here : (call : Call) → IsCallOf start past t.client e call
+        → (node_same call.node n && (is_decide t call.request && is_heard call.reply)) ≡ true
+        → Rests (client_entries t.client (e ∷ past)) t n (Released start (e ∷ past) t n)
     here call is passes =
         let node : call.node ≡ n = node_same-true call.node n (and_left (node_same call.node n) _ passes) in
         let ask = decide_is t call.request (and_left (is_decide t call.request) _ (and_right (node_same call.node n) _ passes)) in
@@ -201,7 +230,10 @@ heard start (e ∷ past) t n sound run low told = by (new_call start past t.clie
         let none : NotHeld (records_of start (e ∷ past) n) t = subst (λ (r : List Record). NotHeld r t) (sym records) (after_decide (records_of start past n) t ask.0) in
         finish none (decision_rests start (e ∷ past) t n (kept_run start (e ∷ past) sound run))
       where
-        finish : NotHeld (records_of start (e ∷ past) n) t → (has_voted (records_of start (e ∷ past) n) t ≡ true) ⊎ (was_told (is_prepare t) is_done n (client_entries t.client (e ∷ past)) ≡ false) → Rests (client_entries t.client (e ∷ past)) t n (Released start (e ∷ past) t n)
+        finish : NotHeld (records_of start (e ∷ past) n) t
+            → (has_voted (records_of start (e ∷ past) n) t ≡ true)
+            ⊎ (was_told (is_prepare t) is_done n (client_entries t.client (e ∷ past)) ≡ false)
+            → Rests (client_entries t.client (e ∷ past)) t n (Released start (e ∷ past) t n)
         finish none (inl voted) = inl (none, voted)
         finish none (inr untold) = inr (heard_decided t n (client_entries t.client (e ∷ past)) told, inl untold)
 

@@ -62,7 +62,8 @@ least_there t (u ∷ ts) is = by (least_tid ts) refl is (λ v e. least_there v t
     some : (a b : Tid) → Some a ≡ Some b → a ≡ b
     some a b e = cc
 
-    by : (o : Option Tid) → least_tid ts ≡ o → Some (lesser_tid u o) ≡ Some t → ((v : Tid) → least_tid ts ≡ Some v → Contains ts v) → Contains (u ∷ ts) t
+    by : (o : Option Tid) → least_tid ts ≡ o → Some (lesser_tid u o) ≡ Some t
+        → ((v : Tid) → least_tid ts ≡ Some v → Contains ts v) → Contains (u ∷ ts) t
     by None e f rest = subst (λ (x : Tid). Contains (u ∷ ts) x) (some u t f) (contains_here u ts)
     by (Some v) e f rest = less (tid_lt v u) (some (lesser_tid u (Some v)) t f)
       where
@@ -70,18 +71,25 @@ least_there t (u ∷ ts) is = by (least_tid ts) refl is (λ v e. least_there v t
         less true g = subst (λ (x : Tid). Contains (u ∷ ts) x) g (contains_more u ts v (rest v e))
         less false g = subst (λ (x : Tid). Contains (u ∷ ts) x) g (contains_here u ts)
 
-holder_there : (hs : List HeldPart) (tid : Tid) (item : PartItem) (t : Tid) → Contains (holders hs tid item) t → HeldBy hs tid item t
+holder_there : (hs : List HeldPart) (tid : Tid) (item : PartItem) (t : Tid)
+    → Contains (holders hs tid item) t → HeldBy hs tid item t
 holder_there [] tid item t (k, in', is) = absurd (omega arith)
 holder_there (h ∷ hs) tid item t has = by (tid_same h.tid tid) (item_conflicts_with item h.part) refl refl has (λ g. further (holder_there hs tid item t g))
   where
     further : HeldBy hs tid item t → HeldBy (h ∷ hs) tid item t
     further x = record { held = x.held; there = contains_more h hs x.held x.there; holder_is = x.holder_is; other = x.other; conflicts = x.conflicts }
 
-    first : tid_same h.tid tid ≡ false → item_conflicts_with item h.part ≡ true → Contains (h.tid ∷ holders hs tid item) t → (Contains (holders hs tid item) t → HeldBy (h ∷ hs) tid item t) → HeldBy (h ∷ hs) tid item t
+    first : tid_same h.tid tid ≡ false → item_conflicts_with item h.part ≡ true
+        → Contains (h.tid ∷ holders hs tid item) t
+        → (Contains (holders hs tid item) t → HeldBy (h ∷ hs) tid item t)
+        → HeldBy (h ∷ hs) tid item t
     first a b (zero, in', is) rest = record { held = h; there = contains_here h hs; holder_is = is; other = ap (λ (x : Tid). tid_same x tid) (sym is) ∙ a; conflicts = b }
     first a b (suc k, in', is) rest = rest (k, omega arith, is)
 
-    by : (a b : Bool) → tid_same h.tid tid ≡ a → item_conflicts_with item h.part ≡ b → Contains (if not a && b then h.tid ∷ holders hs tid item else holders hs tid item) t → (Contains (holders hs tid item) t → HeldBy (h ∷ hs) tid item t) → HeldBy (h ∷ hs) tid item t
+    by : (a b : Bool) → tid_same h.tid tid ≡ a → item_conflicts_with item h.part ≡ b
+        → Contains (if not a && b then h.tid ∷ holders hs tid item else holders hs tid item) t
+        → (Contains (holders hs tid item) t → HeldBy (h ∷ hs) tid item t)
+        → HeldBy (h ∷ hs) tid item t
     by true b e f g rest = rest g
     by false true e f g rest = first e f g rest
     by false false e f g rest = rest g
@@ -93,7 +101,8 @@ record ClashAt (hs : List HeldPart) (tid : Tid) (part : List PartItem) (clash : 
   pub range_is : range_of item ≡ clash.range
   pub holds : HeldBy hs tid item clash.holder
 
-clash_at : (hs : List HeldPart) (tid : Tid) (part : List PartItem) (clash : Clash) → clash_of hs tid part ≡ Some clash → ClashAt hs tid part clash
+clash_at : (hs : List HeldPart) (tid : Tid) (part : List PartItem) (clash : Clash)
+    → clash_of hs tid part ≡ Some clash → ClashAt hs tid part clash
 clash_at hs tid [] clash is = absurd cc
 clash_at hs tid (item ∷ part) clash is = by (least_tid (holders hs tid item)) refl is (λ e. further (clash_at hs tid part clash e))
   where
@@ -103,7 +112,10 @@ clash_at hs tid (item ∷ part) clash is = by (least_tid (holders hs tid item)) 
     same : (a b : Clash) → Some a ≡ Some b → a ≡ b
     same a b e = cc
 
-    by : (o : Option Tid) → least_tid (holders hs tid item) ≡ o → clash_or item o (clash_of hs tid part) ≡ Some clash → (clash_of hs tid part ≡ Some clash → ClashAt hs tid (item ∷ part) clash) → ClashAt hs tid (item ∷ part) clash
+    by : (o : Option Tid) → least_tid (holders hs tid item) ≡ o
+        → clash_or item o (clash_of hs tid part) ≡ Some clash
+        → (clash_of hs tid part ≡ Some clash → ClashAt hs tid (item ∷ part) clash)
+        → ClashAt hs tid (item ∷ part) clash
     by None e f rest = rest f
     by (Some t) e f rest =
         let this : record { range = range_of item; holder = t } ≡ clash = same _ clash f in
@@ -128,14 +140,17 @@ record LockedBy (records : List Record) (request : Request) (clash : Clash) : Ty
 tested_lock : (base : List ℕ) (records : List Record) (tid : Tid) (part : List PartItem) (added : Option Record) (clash : Clash) → (tested base records tid part added).reply ≡ Say.BadLock clash.range.start clash.range.length clash.holder → clash_of (held_parts records) tid part ≡ Some clash
 tested_lock base records tid part added clash is = locks (clash_of (held_parts records) tid part) is
   where
-    compares : (o : Option Mismatched) → (after_compares (space_of base records) part added o).reply ≡ Say.BadLock clash.range.start clash.range.length clash.holder → ⊥
+    compares : (o : Option Mismatched)
+        → (after_compares (space_of base records) part added o).reply ≡ Say.BadLock clash.range.start clash.range.length clash.holder → ⊥
     compares (Some at) e = cc
     compares None e = cc
 
-    same : (a b c d : ℕ) (s t : Tid) → Say.BadLock a b s ≡ Say.BadLock c d t → (a ≡ c) × (b ≡ d) × (s ≡ t)
+    same : (a b c d : ℕ) (s t : Tid) → Say.BadLock a b s ≡ Say.BadLock c d t
+        → (a ≡ c) × (b ≡ d) × (s ≡ t)
     same a b c d s t e = (cc, cc, cc)
 
-    locks : (o : Option Clash) → (after_locks (space_of base records) part added o).reply ≡ Say.BadLock clash.range.start clash.range.length clash.holder → o ≡ Some clash
+    locks : (o : Option Clash)
+        → (after_locks (space_of base records) part added o).reply ≡ Say.BadLock clash.range.start clash.range.length clash.holder → o ≡ Some clash
     locks (Some at) e =
         let parts = same at.range.start at.range.length clash.range.start clash.range.length at.holder clash.holder e in
         λ i. Some (record { range = record { start = parts.0 i; length = parts.1 i }; holder = parts.2 i })
@@ -151,20 +166,23 @@ not_same t u e = by (tid_same u t) refl
     by true f = absurd (clash (tid_same t u) (subst (λ (x : Tid). tid_same t x ≡ true) (sym (tid_same-true u t f)) (Rattle.mn_world.proofs.Reading.Same.tid_same-refl t)) e)
     by false f = f
 
-locked_by : (base : List ℕ) (records : List Record) (request : Request) (clash : Clash) → (answer base records request).reply ≡ Say.BadLock clash.range.start clash.range.length clash.holder → LockedBy records request clash
+locked_by : (base : List ℕ) (records : List Record) (request : Request) (clash : Clash)
+    → (answer base records request).reply ≡ Say.BadLock clash.range.start clash.range.length clash.holder → LockedBy records request clash
 locked_by base records (Ask.Prepare tid ps part) clash is = by (has_forced records tid) is
   where
     own : (t : Tid) → tid_same t tid ≡ false → (tid_same tid t || false) ≡ false
     own t e = ap (λ (b : Bool). b || false) (not_same t tid e)
 
-    by : (b : Bool) → (if b then only_reply Say.BadForced else tested base records tid part (Some (Voted tid ps part))).reply ≡ Say.BadLock clash.range.start clash.range.length clash.holder → LockedBy records (Ask.Prepare tid ps part) clash
+    by : (b : Bool)
+        → (if b then only_reply Say.BadForced else tested base records tid part (Some (Voted tid ps part))).reply ≡ Say.BadLock clash.range.start clash.range.length clash.holder → LockedBy records (Ask.Prepare tid ps part) clash
     by true e = absurd cc
     by false e = record { tid = tid; part = part; asked = refl; clashes = tested_lock base records tid part (Some (Voted tid ps part)) clash e; own = own; tries = ap (λ (b : Bool). b || false) (Rattle.mn_world.proofs.Reading.Same.tid_same-refl tid) }
 locked_by base records (Ask.Exec tid part) clash is = record { tid = tid; part = part; asked = refl; clashes = tested_lock base records tid part (if has_write part then Some (Executed tid part) else None) clash is; own = λ t e. not_same t tid e; tries = Rattle.mn_world.proofs.Reading.Same.tid_same-refl tid }
 locked_by base records (Ask.Decide tid verdict) clash is = absurd cc
 locked_by base records (Ask.Force tid) clash is = absurd (by (has_voted records tid) is)
   where
-    by : (b : Bool) → (if b then only_reply (Say.Vote true) else record { reply = Say.Vote false; added = if has_forced records tid then None else Some (Rattle.mn_mini.specs.declared.record.Record.TheVariants.Forced tid) }).reply ≡ Say.BadLock clash.range.start clash.range.length clash.holder → ⊥
+    by : (b : Bool)
+        → (if b then only_reply (Say.Vote true) else record { reply = Say.Vote false; added = if has_forced records tid then None else Some (Rattle.mn_mini.specs.declared.record.Record.TheVariants.Forced tid) }).reply ≡ Say.BadLock clash.range.start clash.range.length clash.holder → ⊥
     by true e = cc
     by false e = cc
 locked_by base records Ask.List clash is = absurd cc
@@ -186,7 +204,8 @@ call_answer start before x n request reply keeps node what other =
 lock_refused : (seens : List Seen) (m : NodeNo) (request : Request) (reply : NodeReply) (n : NodeNo) (begins size : ℕ) (holder : Tid) → RefusedAs seens m request reply (Lock n begins size holder) → (m ≡ n) × (reply ≡ Say.BadLock begins size holder)
 lock_refused seens m request (Say.BadLock b s h) n begins size holder is = parts n m begins b size s holder h is
   where
-    parts : (n m : NodeNo) (a b c d : ℕ) (s t : Tid) → Lock n a c s ≡ Lock m b d t → (m ≡ n) × (Say.BadLock b d t ≡ Say.BadLock a c s)
+    parts : (n m : NodeNo) (a b c d : ℕ) (s t : Tid) → Lock n a c s ≡ Lock m b d t
+        → (m ≡ n) × (Say.BadLock b d t ≡ Say.BadLock a c s)
     parts n m a b c d s t e = (cc, cc)
 lock_refused seens m (Ask.Prepare tid ps part) (Say.BadCompare item found) n begins size holder (at, expected, has, shows, is) = absurd cc
 lock_refused seens m (Ask.Exec tid part) (Say.BadCompare item found) n begins size holder (at, expected, has, shows, is) = absurd cc
@@ -195,7 +214,8 @@ lock_refused seens m request reply n begins size holder is = absurd is
 
 -- where the last try was refused by a lock, the records held it
 pub held_there : (start : Start) (store : Store) (past : List Entry) (c : ClientNo) (number place : ℕ) (n : NodeNo) (begins size : ℕ) (holder : Tid) → OpenedRun start store past
-    → BusyTries past c number place (Lock n begins size holder) → WasHeld missed_or_early start past c number place n (record { start = begins; length = size }) holder
+    → BusyTries past c number place (Lock n begins size holder)
+    → WasHeld missed_or_early start past c number place n (record { start = begins; length = size }) holder
 held_there start store past c number place n begins size holder h t =
     record {
       tries = t;
@@ -284,13 +304,16 @@ lock_of_other start store past place e c number n begins size holder h stands an
         recovers_before c ((w.tries.later ++ (w.tries.answer ∷ w.call.there.later)) ++ w.call.entry ∷ []) w.call.there.before
         (subst (λ (l : List Entry). recovers_nothing (client_entries c l) ≡ true) split recovers)
 
-    missed : holder.client ≡ c → missed_or_early holder n (client_entries c w.call.there.before) ≡ true → missed_decision holder n (client_entries c w.call.there.before) ≡ true
+    missed : holder.client ≡ c
+        → missed_or_early holder n (client_entries c w.call.there.before) ≡ true
+        → missed_decision holder n (client_entries c w.call.there.before) ≡ true
     missed own is = lost (or_cases (missed_decision holder n (client_entries c w.call.there.before)) (prepared_after_decide holder n (client_entries c w.call.there.before)) is)
       where
         not_both : (b : Bool) → b ≡ true → b ≡ false → ⊥
         not_both b p q = cc
 
-        lost : (missed_decision holder n (client_entries c w.call.there.before) ≡ true) ⊎ (prepared_after_decide holder n (client_entries c w.call.there.before) ≡ true)
+        lost : (missed_decision holder n (client_entries c w.call.there.before) ≡ true)
+            ⊎ (prepared_after_decide holder n (client_entries c w.call.there.before) ≡ true)
             → missed_decision holder n (client_entries c w.call.there.before) ≡ true
         lost (inl m) = m
         lost (inr early) =
@@ -298,9 +321,11 @@ lock_of_other start store past place e c number n begins size holder h stands an
             (subst (λ (d : ClientNo). prepared_after_decide holder n (client_entries d w.call.there.before) ≡ false) own
             (early_none start w.call.there.before holder n h.opened.sound follows (subst (λ (d : ClientNo). recovers_nothing (client_entries d w.call.there.before) ≡ true) (sym own) recovered))))
 
-    by : IsOfAnother missed_or_early start w.call.there.before c number n holder → IsOfAnother missed_decision start w.call.there.before c number n holder
+    by : IsOfAnother missed_or_early start w.call.there.before c number n holder
+        → IsOfAnother missed_decision start w.call.there.before c number n holder
     by (inl old) = inl old
     by (inr (other, its, issue, excepted)) = inr (other, its, issue, λ one same. missed (issuer other its issue ∙ one) (excepted one same))
       where
-        issuer : (d : ClientNo) (k : ℕ) → IssuedBefore w.call.there.before holder d k → holder.client ≡ d
+        issuer : (d : ClientNo) (k : ℕ) → IssuedBefore w.call.there.before holder d k
+            → holder.client ≡ d
         issuer d k i = issue_by start w.call.there.before d k holder i follows

@@ -30,11 +30,15 @@ use Rattle.mn_world.proofs.Meaning.Splits.{split_deeper, shorter}
 use Rattle.mn_world.proofs.Meaning.Prefixes.{HoldsAt, PlansAt, follows_before}
 
 -- a read that stands in a memory, said of its place
-pub at_place : (memory : List (List ℕ)) (seen : Seen) (place : Place) → seen.place ≡ place → StandsIn memory seen → seen.bytes ≡ bytes_in (space_in memory place.node) place.start place.length
+pub at_place : (memory : List (List ℕ)) (seen : Seen) (place : Place) → seen.place ≡ place
+    → StandsIn memory seen
+    → seen.bytes ≡ bytes_in (space_in memory place.node) place.start place.length
 at_place memory seen place is stands = subst (λ (p : Place). seen.bytes ≡ bytes_in (space_in memory p.node) p.start p.length) is stands
 
 -- a catalog that was seen where the memory holds a store has the store's heads
-pub catalog_heads : (memory : List (List ℕ)) (store : Store) (seen : Seen) (entries : List CatEntry) → Holds memory store → StandsIn memory seen → SeesCatalog seen entries → heads_in entries ≡ heads_of store
+pub catalog_heads : (memory : List (List ℕ)) (store : Store) (seen : Seen) (entries : List CatEntry)
+    → Holds memory store → StandsIn memory seen → SeesCatalog seen entries
+    → heads_in entries ≡ heads_of store
 catalog_heads memory store seen entries holds stands sees =
     let same = catalog_tells memory store holds entries sees.2 (sym (at_place memory seen catalog_place sees.0 stands) ∙ sees.3) in
     ap heads_in same ∙ sym holds.shown.heads
@@ -43,15 +47,19 @@ catalog_heads memory store seen entries holds stands sees =
 pub page_seen : (memory : List (List ℕ)) (store : Store) (holds : Holds memory store) (seen : Seen) (addr : Addr) (page : Page) → StandsIn memory seen → SeesPage seen addr page → page_at holds.forest addr ≡ Some page
 page_seen memory store holds seen addr page stands sees = page_tells memory store holds addr page sees.1.0 (sym (at_place memory seen (page_place addr) sees.0 stands) ∙ sees.1.1)
 
-pub number_within : (hs : List Head) (name : List ℕ) (v : ℕ) → number_named hs name ≡ Some v → v < length hs
+pub number_within : (hs : List Head) (name : List ℕ) (v : ℕ) → number_named hs name ≡ Some v
+    → v < length hs
 number_within [] name v e = absurd cc
 number_within (h ∷ hs) name v e = by (bytes_eq h.name name) e (number_within hs name)
   where
-    below : (o : Option ℕ) → number_named hs name ≡ o → option_map (λ n. n + 1) o ≡ Some v → ((w : ℕ) → number_named hs name ≡ Some w → w < length hs) → v < suc (length hs)
+    below : (o : Option ℕ) → number_named hs name ≡ o → option_map (λ n. n + 1) o ≡ Some v
+        → ((w : ℕ) → number_named hs name ≡ Some w → w < length hs) → v < suc (length hs)
     below None f g rest = absurd cc
     below (Some w) f g rest = let less = rest w f in let is : w + 1 ≡ v = cc in omega arith
 
-    by : (b : Bool) → (if b then Some 0 else option_map (λ n. n + 1) (number_named hs name)) ≡ Some v → ((w : ℕ) → number_named hs name ≡ Some w → w < length hs) → v < suc (length hs)
+    by : (b : Bool)
+        → (if b then Some 0 else option_map (λ n. n + 1) (number_named hs name)) ≡ Some v
+        → ((w : ℕ) → number_named hs name ≡ Some w → w < length hs) → v < suc (length hs)
     by true f rest = let is : 0 ≡ v = cc in omega arith
     by false f rest = below (number_named hs name) refl f rest
 
@@ -67,7 +75,9 @@ pub record Later (one other : Store) : Type 0 where
   pub history : List Past
   pub is : store_after one history ≡ other
 
-pub stores_go_on : (start : Start) (store : Store) (past : List Entry) (placed : List Placed) → Known start store past placed → (later before later' target : List Entry) → past ≡ later ++ before → past ≡ later' ++ target → length before ≤ length target
+pub stores_go_on : (start : Start) (store : Store) (past : List Entry) (placed : List Placed)
+    → Known start store past placed → (later before later' target : List Entry)
+    → past ≡ later ++ before → past ≡ later' ++ target → length before ≤ length target
     → (s t : Store) → Holds (flat start before) s → Holds (flat start target) t → Later s t
 stores_go_on start store past placed known later before later' target split split' up s t holds holds' =
     let b : Between (HoldsAt start past) (length before) (length target) =
@@ -77,15 +87,21 @@ stores_go_on start store past placed known later before later' target split spli
     record { history = b.1; is = ap (λ (x : Store). store_after x b.1) (sym first) ∙ last }
 
 -- some store holds at each place
-pub some_store : (start : Start) (store : Store) (past : List Entry) (placed : List Placed) → Known start store past placed → (later before : List Entry) → past ≡ later ++ before → (s : Store) × Holds (flat start before) s
+pub some_store : (start : Start) (store : Store) (past : List Entry) (placed : List Placed)
+    → Known start store past placed → (later before : List Entry) → past ≡ later ++ before
+    → (s : Store) × Holds (flat start before) s
 some_store start store past placed known later before split =
     let b : Between (HoldsAt start past) (length before) (length before) =
     chain_between (HoldsAt start past) (PlansAt past) (length past) store 0 placed (length before) (length before) (omega arith) (omega arith) (shorter past later before split) known.chain in
     (b.0, b.2 later before split refl)
 
 -- a catalog that a client's list shows is continued by every later store
-pub catalog_continued : (start : Start) (store : Store) (past : List Entry) (placed : List Placed) → Known start store past placed → (later before later' target : List Entry) → past ≡ later ++ before → past ≡ later' ++ target
-    → length before ≤ length target → (c : ClientNo) (entries : List CatEntry) → ShowsCatalog (client_entries c before) entries → (t : Store) → Holds (flat start target) t → Continues (heads_in entries) (heads_of t)
+pub catalog_continued : (start : Start) (store : Store) (past : List Entry) (placed : List Placed)
+    → Known start store past placed → (later before later' target : List Entry)
+    → past ≡ later ++ before → past ≡ later' ++ target
+    → length before ≤ length target → (c : ClientNo) (entries : List CatEntry)
+    → ShowsCatalog (client_entries c before) entries → (t : Store) → Holds (flat start target) t
+    → Continues (heads_in entries) (heads_of t)
 catalog_continued start store past placed known later before later' target split split' up c entries (seen, has, sees) t holds =
     let read = seen_is_flat start before c seen known.sound known.spaces (follows_before start past later before split known.follows) has in
     let newer : List Entry = later ++ (read.1 ++ read.0 ∷ []) in

@@ -1,4 +1,5 @@
--- An operation that was replied to by its last plan: that plan is committed before the answer, and no other one.
+-- An operation that was replied to by its last plan: that plan is committed before the answer, and
+-- no other one.
 use Rattle.std.proofs.Common.{◌≡◌, ℕ, ◌<◌, ◌⊎◌, inl, inr, true, false, List, [], ◌∷◌, ◌++◌, length, Some, refl, subst, sym, ap, ◌∙◌, arith, if◌then◌else◌}
 use Rattle.std.proofs.lemmas.List.{append_assoc, append_cancel_right, length-append}
 use Rattle.mn_base.specs.declared.ids.ClientNo.{ClientNo}
@@ -23,7 +24,8 @@ pub record Lifted (c : ClientNo) (past : List Entry) (y : Entry) (older : List E
   pub list : client_entries c before ≡ older
   pub by : y.client ≡ Some c
 
-pub lift : (c : ClientNo) (past newer : List Entry) (y : Entry) (older : List Entry) → client_entries c past ≡ newer ++ y ∷ older → Lifted c past y older
+pub lift : (c : ClientNo) (past newer : List Entry) (y : Entry) (older : List Entry)
+    → client_entries c past ≡ newer ++ y ∷ older → Lifted c past y older
 lift c [] newer y older same = absurd (none newer same)
   where
     none : (newer : List Entry) → [] ≡ newer ++ y ∷ older → ⊥
@@ -38,14 +40,17 @@ lift c (e ∷ past) newer y older same =
     further : Lifted c past y older → Lifted c (e ∷ past) y older
     further l = record { later = e ∷ l.later; before = l.before; split = ap (λ (es : List Entry). e ∷ es) l.split; list = l.list; by = l.by }
 
-    own : is_by c e ≡ true → (newer : List Entry) → e ∷ client_entries c past ≡ newer ++ y ∷ older → ((rest : List Entry) → client_entries c past ≡ rest ++ y ∷ older → Lifted c past y older) → Lifted c (e ∷ past) y older
+    own : is_by c e ≡ true → (newer : List Entry) → e ∷ client_entries c past ≡ newer ++ y ∷ older
+        → ((rest : List Entry) → client_entries c past ≡ rest ++ y ∷ older → Lifted c past y older)
+        → Lifted c (e ∷ past) y older
     own by [] h deeper =
         let here : e ≡ y = cc in
         let list : client_entries c past ≡ older = cc in
         record { later = []; before = past; split = ap (λ (x : Entry). x ∷ past) here; list = list; by = ap (λ (x : Entry). x.client) (sym here) ∙ by_of c e.client e.node e.what by }
     own by (x ∷ newer) h deeper = let rest : client_entries c past ≡ newer ++ y ∷ older = cc in further (deeper newer rest)
 
-none_issued : (newer : List Entry) (x : Entry) (older : List Entry) (i : Issued) → issue_in x.what ≡ i ∷ [] → issues_of (newer ++ x ∷ older) ≡ [] → ⊥
+none_issued : (newer : List Entry) (x : Entry) (older : List Entry) (i : Issued)
+    → issue_in x.what ≡ i ∷ [] → issues_of (newer ++ x ∷ older) ≡ [] → ⊥
 none_issued [] x older i is none = let e : i ∷ issues_of older ≡ [] = ap (λ (js : List Issued). js ++ issues_of older) (sym is) ∙ none in cc
 none_issued (e ∷ newer) x older i is none = none_issued newer x older i is (behind (issue_in e.what) (issues_of (newer ++ x ∷ older)) none)
   where
@@ -58,8 +63,10 @@ pub record IsLast (past : List Entry) (a : ℕ) (c : ClientNo) (number : ℕ) (x
   pub issued : x.issued ≡ i
   pub list : client_entries c x.issue.at.before ≡ before
 
-pub last_is : (start : Start) (past : List Entry) → StartsSound start → FollowsProtocol start past → (c : ClientNo) (number : ℕ) (answer : Answer) (e : AnswerAt past c number answer) (a : ℕ) (x : PlanIn past a c number) (i : Issued) (before : List Entry)
-    → LastIssue (client_entries c e.at.before) (since_begin (client_entries c e.at.before)) i before → IsLast past a c number x i before
+pub last_is : (start : Start) (past : List Entry) → StartsSound start → FollowsProtocol start past
+    → (c : ClientNo) (number : ℕ) (answer : Answer) (e : AnswerAt past c number answer) (a : ℕ) (x : PlanIn past a c number) (i : Issued) (before : List Entry)
+    → LastIssue (client_entries c e.at.before) (since_begin (client_entries c e.at.before)) i before
+    → IsLast past a c number x i before
 last_is start past sound run c number answer e a x i before last = by (ordered (length (client_entries c x.issue.at.before)) (length before))
   where
     es : List Entry
@@ -100,7 +107,8 @@ last_is start past sound run c number answer e a x i before last = by (ordered (
         deeper : Inner x.issue.at.entry (client_entries c x.issue.at.before) before
         deeper = inner_split inner.between last.later x.issue.at.entry last.entry (client_entries c x.issue.at.before) before both less
 
-        now : (op : Op) × (under_way (client_entries c e.at.before) ≡ Some (record { number = number; op = op }))
+        now : (op : Op)
+            × (under_way (client_entries c e.at.before) ≡ Some (record { number = number; op = op }))
         now = answered_op start past c number answer e run
 
         lower : length x.issue.at.before < length y.before
@@ -109,7 +117,8 @@ last_is start past sound run c number answer e a x i before last = by (ordered (
             lists : client_entries c y.before ≡ before
             lists = lifted.list
 
-            by_place : (length x.issue.at.before < length y.before) ⊎ ((length x.issue.at.before ≡ length y.before) ⊎ (length y.before < length x.issue.at.before)) → length x.issue.at.before < length y.before
+            by_place : (length x.issue.at.before < length y.before)
+                ⊎ ((length x.issue.at.before ≡ length y.before) ⊎ (length y.before < length x.issue.at.before)) → length x.issue.at.before < length y.before
             by_place (inl h) = h
             by_place (inr (inl equal)) =
                 let here : SameSplit x.issue.at.entry y.entry x.issue.at.before y.before = same_split x.issue.at.later y.later x.issue.at.entry y.entry x.issue.at.before y.before (sym x.issue.at.split ∙ y.split) equal in
@@ -135,7 +144,8 @@ last_is start past sound run c number answer e a x i before last = by (ordered (
             (subst (Allowed c) whole (allowed_at start past c e.at run).0) ended.answers (ap under_way (sym whole) ∙ now.1) in
             absurd (omega arith)
 
-    by : (length (client_entries c x.issue.at.before) < length before) ⊎ ((length (client_entries c x.issue.at.before) ≡ length before) ⊎ (length before < length (client_entries c x.issue.at.before))) → IsLast past a c number x i before
+    by : (length (client_entries c x.issue.at.before) < length before)
+        ⊎ ((length (client_entries c x.issue.at.before) ≡ length before) ⊎ (length before < length (client_entries c x.issue.at.before))) → IsLast past a c number x i before
     by (inl less) = absurd (older_case less)
     by (inr (inl equal)) =
         let here : SameSplit x.issue.at.entry last.entry (client_entries c x.issue.at.before) before = same_split inner.between last.later x.issue.at.entry last.entry (client_entries c x.issue.at.before) before both equal in

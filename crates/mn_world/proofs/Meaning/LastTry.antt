@@ -22,13 +22,16 @@ use Rattle.mn_world.proofs.Meaning.Once.{answer_at}
 use Rattle.mn_world.proofs.Meaning.Exists.{SinceSplit, since_split, LiftedPart, lift_part}
 
 -- the operation of an entry since Begin is the one under way
-pub since_under : (newer : List Entry) (y : Entry) (before older : List Entry) → since_begin (newer ++ y ∷ before) ≡ newer ++ y ∷ older → under_way (newer ++ y ∷ before) ≡ under_way before
+pub since_under : (newer : List Entry) (y : Entry) (before older : List Entry)
+    → since_begin (newer ++ y ∷ before) ≡ newer ++ y ∷ older
+    → under_way (newer ++ y ∷ before) ≡ under_way before
 since_under [] y before older same = step y.node y.client y.what same
   where
     none : [] ≡ y ∷ older → ⊥
     none e = cc
 
-    step : (at : Option NodeNo) (by : Option ClientNo) (what : What) → since_begin_after what (record { node = at; client = by; what = what }) (since_begin before) ≡ y ∷ older → under_way_after what (under_way before) ≡ under_way before
+    step : (at : Option NodeNo) (by : Option ClientNo) (what : What)
+        → since_begin_after what (record { node = at; client = by; what = what }) (since_begin before) ≡ y ∷ older → under_way_after what (under_way before) ≡ under_way before
     step at by (Begin number op) e = absurd (none e)
     step at by (Answered number answer) e = absurd (none e)
     step at by (Issue tid mini) e = refl
@@ -41,10 +44,12 @@ since_under (z ∷ newer) y before older same = step z.node z.client z.what same
     none : [] ≡ z ∷ (newer ++ y ∷ older) → ⊥
     none e = cc
 
-    rest : (e : Entry) → e ∷ since_begin (newer ++ y ∷ before) ≡ z ∷ (newer ++ y ∷ older) → since_begin (newer ++ y ∷ before) ≡ newer ++ y ∷ older
+    rest : (e : Entry) → e ∷ since_begin (newer ++ y ∷ before) ≡ z ∷ (newer ++ y ∷ older)
+        → since_begin (newer ++ y ∷ before) ≡ newer ++ y ∷ older
     rest e h = cc
 
-    step : (at : Option NodeNo) (by : Option ClientNo) (what : What) → since_begin_after what (record { node = at; client = by; what = what }) (since_begin (newer ++ y ∷ before)) ≡ z ∷ (newer ++ y ∷ older)
+    step : (at : Option NodeNo) (by : Option ClientNo) (what : What)
+        → since_begin_after what (record { node = at; client = by; what = what }) (since_begin (newer ++ y ∷ before)) ≡ z ∷ (newer ++ y ∷ older)
         → (since_begin (newer ++ y ∷ before) ≡ newer ++ y ∷ older → under_way (newer ++ y ∷ before) ≡ under_way before) → under_way_after what (under_way (newer ++ y ∷ before)) ≡ under_way before
     step at by (Begin number op) e deeper = absurd (none e)
     step at by (Answered number answer) e deeper = absurd (none e)
@@ -56,7 +61,8 @@ since_under (z ∷ newer) y before older same = step z.node z.client z.what same
 
 -- The tries of an answer
 
-pub busy_tries : (start : Start) (past : List Entry) → IsRun start past → (c : ClientNo) (number place : ℕ) (busy : Busy) (e : Entry) → StandsAt past place e
+pub busy_tries : (start : Start) (past : List Entry) → IsRun start past
+    → (c : ClientNo) (number place : ℕ) (busy : Busy) (e : Entry) → StandsAt past place e
     → AnswersOp e c number (GaveUp busy) → BusyTries past c number place busy
 busy_tries start past run c number place busy e stands answers =
     let s : ShownAnswer past c number (GaveUp busy) (answer_at past place e c number (GaveUp busy) stands answers) =
@@ -74,14 +80,16 @@ busy_tries start past run c number place busy e stands answers =
     }
 
 -- the tries before the last one
-abbrev pub tries_before : {past : List Entry} {c : ClientNo} {number place : ℕ} {busy : Busy} → BusyTries past c number place busy → List Entry
+abbrev pub tries_before : {past : List Entry} {c : ClientNo} {number place : ℕ} {busy : Busy}
+    → BusyTries past c number place busy → List Entry
 tries_before t = flat_map (λ try. try) t.failed.middle ++ (t.failed.first ++ t.failed.taken)
 
 assoc_four : (a b m f t : List Entry) → a ++ b ++ m ++ f ++ t ≡ a ++ (b ++ (m ++ (f ++ t)))
 assoc_four a b m f t = append_assoc (a ++ b ++ m) f t ∙ (append_assoc (a ++ b) m (f ++ t) ∙ append_assoc a b (m ++ (f ++ t)))
 
 pub since_whole : {past : List Entry} {c : ClientNo} {number place : ℕ} {busy : Busy} (t : BusyTries past c number place busy) (newer : List Entry) (y : Entry) (older : List Entry)
-    → t.failed.last ≡ newer ++ y ∷ older → since_begin (client_entries c t.before) ≡ (t.failed.rest ++ newer) ++ y ∷ (older ++ tries_before t)
+    → t.failed.last ≡ newer ++ y ∷ older
+    → since_begin (client_entries c t.before) ≡ (t.failed.rest ++ newer) ++ y ∷ (older ++ tries_before t)
 since_whole t newer y older is =
     t.failed.split ∙ (assoc_four t.failed.rest t.failed.last (flat_map (λ try. try) t.failed.middle) t.failed.first t.failed.taken
     ∙ (ap (λ (l : List Entry). t.failed.rest ++ (l ++ tries_before t)) is
@@ -130,7 +138,8 @@ pub record Deeper {past : List Entry} {c : ClientNo} {number place : ℕ} {busy 
   pub own : client_entries c between ≡ next
 
 pub deeper : {past : List Entry} {c : ClientNo} {number place : ℕ} {busy : Busy} (t : BusyTries past c number place busy) (newer : List Entry) (y : Entry) (older : List Entry)
-    (i : InLast t newer y older) (next : List Entry) (z : Entry) (oldest : List Entry) → older ≡ next ++ z ∷ oldest → Deeper t newer y older i next z oldest
+    (i : InLast t newer y older) (next : List Entry) (z : Entry) (oldest : List Entry)
+    → older ≡ next ++ z ∷ oldest → Deeper t newer y older i next z oldest
 deeper {past} {c} {number} {place} {busy} t newer y older i next z oldest is = record {
   between = l.later;
   is = record {

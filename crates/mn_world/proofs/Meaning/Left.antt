@@ -86,7 +86,8 @@ sent_at : (es : List Entry) (o : Option NodeNo) (tid : Tid) (ps : List NodeNo) (
 sent_at es None tid ps part s = absurd s
 sent_at es (Some k) tid ps part s = (k, refl, s)
 
-voter : (start : Start) (past : List Entry) (c : ClientNo) → FollowsProtocol start past → EndsWithVote (client_entries c past) → Voter start past c
+voter : (start : Start) (past : List Entry) (c : ClientNo) → FollowsProtocol start past
+    → EndsWithVote (client_entries c past) → Voter start past c
 voter start past c run ends = by (client_entries c past) refl ends
   where
     by : (es : List Entry) → client_entries c past ≡ es → EndsWithVote es → Voter start past c
@@ -117,7 +118,8 @@ told_yes k tid ps part reads by es =
     or_left _ _ (or_left _ _ test)
 
 -- the voter's list has the vote
-list_yes : (start : Start) (past : List Entry) (c : ClientNo) (v : Voter start past c) → has_yes v.vote.tid v.node (client_entries c past) ≡ true
+list_yes : (start : Start) (past : List Entry) (c : ClientNo) (v : Voter start past c)
+    → has_yes v.vote.tid v.node (client_entries c past) ≡ true
 list_yes start past c v =
     let e = v.at.entry in
     let es = client_entries c v.at.before in
@@ -127,7 +129,8 @@ list_yes start past c v =
     (told_yes v.node v.vote.tid v.vote.participants v.vote.part v.vote.reads v.at.entry.client (client_entries c v.at.before))))
 
 -- the minitransaction that it voted for
-voted_mini : (start : Start) (past : List Entry) (c : ClientNo) (v : Voter start past c) → issue_named v.vote.tid (issues_of (client_entries c past)) ≡ Some v.allows.mini
+voted_mini : (start : Start) (past : List Entry) (c : ClientNo) (v : Voter start past c)
+    → issue_named v.vote.tid (issues_of (client_entries c past)) ≡ Some v.allows.mini
 voted_mini start past c v =
     ap (λ (l : List Entry). issue_named v.vote.tid (issues_of l)) v.list
     ∙ (ap (λ (w : What). issue_named v.vote.tid (issue_in w ++ issues_of (client_entries c v.at.before))) v.vote.is ∙ current_issue (client_entries c v.at.before) v.vote.tid v.allows.mini v.allows.issued)
@@ -137,16 +140,23 @@ under_before start past c d v now = sym (ap under_way v.list ∙ ap (λ (w : Wha
 
 -- The id that was voted for
 
-issue_later : (start : Start) (past later : List Entry) (c : ClientNo) (tid : Tid) (mini : Mini) → StartsSound start → FollowsProtocol start (later ++ past) → issue_named tid (issues_of (client_entries c past)) ≡ Some mini → issue_named tid (issues_of (client_entries c (later ++ past))) ≡ Some mini
+issue_later : (start : Start) (past later : List Entry) (c : ClientNo) (tid : Tid) (mini : Mini)
+    → StartsSound start → FollowsProtocol start (later ++ past)
+    → issue_named tid (issues_of (client_entries c past)) ≡ Some mini
+    → issue_named tid (issues_of (client_entries c (later ++ past))) ≡ Some mini
 issue_later start past [] c tid mini sound run is = is
 issue_later start past (e ∷ later) c tid mini sound run is = issue_stays start (later ++ past) e c tid mini (kept_run start (later ++ past) sound run.0) run.1 (issue_later start past later c tid mini sound run.0 is)
 
-lost_later : (start : Start) (past later : List Entry) (tid : Tid) → StartsSound start → FollowsProtocol start (later ++ past) → IsLost start past tid → IsLost start (later ++ past) tid
+lost_later : (start : Start) (past later : List Entry) (tid : Tid) → StartsSound start
+    → FollowsProtocol start (later ++ past) → IsLost start past tid
+    → IsLost start (later ++ past) tid
 lost_later start past [] tid sound run lost = lost
 lost_later start past (e ∷ later) tid sound run lost = IsLost_stays start (later ++ past) e tid (kept_run start (later ++ past) sound run.0) run.1 (lost_later start past later tid sound run.0 lost)
 
 -- what is lost, and has several participants, is never committed
-lost_never : (start : Start) (past : List Entry) (tid : Tid) (mini : Mini) → StartsSound start → FollowsProtocol start past → mini_of past tid ≡ Some mini → 2 ≤ length (participants_of mini) → IsLost start past tid → IsNeverCommitted tid past
+lost_never : (start : Start) (past : List Entry) (tid : Tid) (mini : Mini) → StartsSound start
+    → FollowsProtocol start past → mini_of past tid ≡ Some mini → 2 ≤ length (participants_of mini)
+    → IsLost start past tid → IsNeverCommitted tid past
 lost_never start past tid mini sound run is several lost = never_from start past tid sound run backed
   where
     backed : IsBacked start past tid → ⊥
@@ -156,17 +166,24 @@ lost_never start past tid mini sound run is several lost = never_from start past
         let one : length (participants_of mini) ≡ length (k ∷ []) = ap (λ (m : Mini). length (participants_of m)) (sym same) ∙ ap (λ (l : List NodeNo). length l) alone in
         absurd (omega arith)
 
-all_in_log : (start : Start) (past : List Entry) (tid : Tid) (mini : Mini) → Whole start past → mini_of past tid ≡ Some mini → (ps : List NodeNo) → AllByRecursion (λ k. has_voted (records_of start past k) tid ≡ true) ps → AllByRecursion (λ n. has_vote tid n past ≡ true) ps
+all_in_log : (start : Start) (past : List Entry) (tid : Tid) (mini : Mini) → Whole start past
+    → mini_of past tid ≡ Some mini → (ps : List NodeNo)
+    → AllByRecursion (λ k. has_voted (records_of start past k) tid ≡ true) ps
+    → AllByRecursion (λ n. has_vote tid n past ≡ true) ps
 all_in_log start past tid mini w is [] all = tt
 all_in_log start past tid mini w is (p ∷ ps) all = (w.in_log p tid mini is ∙ all.0, all_in_log start past tid mini w is ps all.1)
 
-held_nothing : (tid : Tid) (hs : List HeldPart) (g : HeldPart) → hs ≡ [] → held_part_of tid hs ≡ Some g → ⊥
+held_nothing : (tid : Tid) (hs : List HeldPart) (g : HeldPart) → hs ≡ []
+    → held_part_of tid hs ≡ Some g → ⊥
 held_nothing tid hs g none is = no (ap (held_part_of tid) (sym none) ∙ is)
   where
     no : ◌≡◌ {A = Option HeldPart} None (Some g) → ⊥
     no e = cc
 
-voted_never : (start : Start) (past later : List Entry) (c : ClientNo) → StartsSound start → HasSpaces start → FollowsProtocol start past → FollowsProtocol start (later ++ past) → AreFree start past → (v : Voter start past c) → (CommittedIn past v.vote.tid → ⊥) → IsNeverCommitted v.vote.tid (later ++ past)
+voted_never : (start : Start) (past later : List Entry) (c : ClientNo) → StartsSound start
+    → HasSpaces start → FollowsProtocol start past → FollowsProtocol start (later ++ past)
+    → AreFree start past → (v : Voter start past c) → (CommittedIn past v.vote.tid → ⊥)
+    → IsNeverCommitted v.vote.tid (later ++ past)
 voted_never start past later c sound spaces run run' free v not_yet = by (voted_held tid (records_of start past v.node) voted)
   where
     tid : Tid
@@ -198,7 +215,8 @@ voted_never start past later c sound spaces run run' free v not_yet = by (voted_
         let some : 2 ≤ length (participants_of v.allows.mini) = several in
         not_yet (votes_commit start past tid ps sound spaces run (omega arith) (λ m m_is. ap participants_of (same_mini m mini (sym m_is ∙ is)) ∙ sym all) (all_in_log start past tid mini (whole_run start past sound spaces run) is ps votes))
 
-    by : ((g : HeldPart) × (held_part_of tid (held_parts (records_of start past v.node)) ≡ Some g)) ⊎ ((has_decided_yes (records_of start past v.node) tid ≡ true) ⊎ (has_decided_no (records_of start past v.node) tid ≡ true)) → IsNeverCommitted tid (later ++ past)
+    by : ((g : HeldPart) × (held_part_of tid (held_parts (records_of start past v.node)) ≡ Some g))
+        ⊎ ((has_decided_yes (records_of start past v.node) tid ≡ true) ⊎ (has_decided_no (records_of start past v.node) tid ≡ true)) → IsNeverCommitted tid (later ++ past)
     by (inl (g, is)) = absurd (held_nothing tid (held_parts (records_of start past v.node)) g (free v.node v.low) is)
     by (inr (inl agreed)) = absurd (committed (decided_yes_voted start past v.node tid (records_of start past v.node) (kept.records v.node) agreed))
     by (inr (inr against)) =
@@ -206,7 +224,8 @@ voted_never start past later c sound spaces run run' free v not_yet = by (voted_
 
 -- The other issues of its operation are gone
 
-named_all : (P : Issued → Type 0) (tid : Tid) (mini : Mini) (js : List Issued) → AllByRecursion P js → issue_named tid js ≡ Some mini → P (record { tid = tid; mini = mini })
+named_all : (P : Issued → Type 0) (tid : Tid) (mini : Mini) (js : List Issued) → AllByRecursion P js
+    → issue_named tid js ≡ Some mini → P (record { tid = tid; mini = mini })
 named_all P tid mini [] all is = absurd cc
 named_all P tid mini (j ∷ js) all is =
     elim (tid_same j.tid tid) as (λ b. tid_same j.tid tid ≡ b → (if b then Some j.mini else issue_named tid js) ≡ Some mini → P (record { tid = tid; mini = mini })) [
@@ -214,7 +233,9 @@ named_all P tid mini (j ∷ js) all is =
       | false ↦ λ _ there. named_all P tid mini js all.1 there
     ] refl is
 
-other_gone : (now : List Entry) (tid : Tid) (mini : Mini) (i : Issued) (js : List Issued) → AllByRecursion (GoneIn now) (behind js) → (GoneIn now (record { tid = tid; mini = mini }) → ⊥) → issue_named tid js ≡ Some mini → (i.tid ≡ tid → ⊥) → Contains js i → GoneIn now i
+other_gone : (now : List Entry) (tid : Tid) (mini : Mini) (i : Issued) (js : List Issued)
+    → AllByRecursion (GoneIn now) (behind js) → (GoneIn now (record { tid = tid; mini = mini }) → ⊥)
+    → issue_named tid js ≡ Some mini → (i.tid ≡ tid → ⊥) → Contains js i → GoneIn now i
 other_gone now tid mini i [] over stays is differs has = absurd cc
 other_gone now tid mini i (j ∷ js) over stays is differs (suc k, in', there) = all_there (GoneIn now) js i over (k, omega arith, there)
 other_gone now tid mini i (j ∷ js) over stays is differs (zero, in', there) =
@@ -224,7 +245,9 @@ other_gone now tid mini i (j ∷ js) over stays is differs (zero, in', there) =
     ] refl is
 
 -- what is voted for is not gone
-vote_stays : (start : Start) (past : List Entry) (c : ClientNo) → StartsSound start → FollowsProtocol start past → (v : Voter start past c) → GoneIn (since_begin (client_entries c v.at.before)) (record { tid = v.vote.tid; mini = v.allows.mini }) → ⊥
+vote_stays : (start : Start) (past : List Entry) (c : ClientNo) → StartsSound start
+    → FollowsProtocol start past → (v : Voter start past c)
+    → GoneIn (since_begin (client_entries c v.at.before)) (record { tid = v.vote.tid; mini = v.allows.mini }) → ⊥
 vote_stays start past c sound run v gone = by gone
   where
     es : List Entry
@@ -254,10 +277,13 @@ vote_stays start past c sound run v gone = by gone
 issue_lower : (start : Start) (past : List Entry) (c : ClientNo) (v : Voter start past c) (b : Begun) (i : Issued) (x : IssueAt past c b i) → length x.at.before < length v.at.before
 issue_lower start past c v b i x = by (ordered (length x.at.before) (length v.at.before))
   where
-    no_issue : (what : What) → issue_in what ≡ i ∷ [] → (q : Request) (r : NodeReply) → what ≡ Called q r → ⊥
+    no_issue : (what : What) → issue_in what ≡ i ∷ [] → (q : Request) (r : NodeReply)
+        → what ≡ Called q r → ⊥
     no_issue what is q r w = let none : [] ≡ i ∷ [] = ap issue_in (sym w) ∙ is in cc
 
-    by : (length x.at.before < length v.at.before) ⊎ ((length x.at.before ≡ length v.at.before) ⊎ (length v.at.before < length x.at.before)) → length x.at.before < length v.at.before
+    by : (length x.at.before < length v.at.before)
+        ⊎ ((length x.at.before ≡ length v.at.before) ⊎ (length v.at.before < length x.at.before))
+        → length x.at.before < length v.at.before
     by (inl less) = less
     by (inr (inl equal)) =
         let here : SameSplit x.at.entry v.at.entry x.at.before v.at.before = same_split x.at.later v.at.later x.at.entry v.at.entry x.at.before v.at.before (sym x.at.split ∙ v.at.split) equal in
@@ -272,8 +298,12 @@ issue_lower start past c v b i x = by (ordered (length x.at.before) (length v.at
         let five : length (inner.between ++ v.at.entry ∷ client_entries c v.at.before) ≡ length inner.between + suc (length (client_entries c v.at.before)) = length-append inner.between (v.at.entry ∷ client_entries c v.at.before) in
         absurd (omega arith)
 
-other_never : (start : Start) (past later : List Entry) (c : ClientNo) (d : Begun) → StartsSound start → FollowsProtocol start past → FollowsProtocol start (later ++ past) → under_way (client_entries c past) ≡ Some d → (v : Voter start past c)
-    → (b : Begun) (i : Issued) (x : IssueAt past c b i) → b.number ≡ d.number → is_read i.mini.items ≡ false → (i.tid ≡ v.vote.tid → ⊥) → IsNeverCommitted i.tid (later ++ past)
+other_never : (start : Start) (past later : List Entry) (c : ClientNo) (d : Begun)
+    → StartsSound start → FollowsProtocol start past → FollowsProtocol start (later ++ past)
+    → under_way (client_entries c past) ≡ Some d → (v : Voter start past c)
+    → (b : Begun) (i : Issued) (x : IssueAt past c b i) → b.number ≡ d.number
+    → is_read i.mini.items ≡ false → (i.tid ≡ v.vote.tid → ⊥)
+    → IsNeverCommitted i.tid (later ++ past)
 other_never start past later c d sound run run' now v b i x same not_read differs =
     let since = issued_since start past c b d i x run v.at (issue_lower start past c v b i x) (under_before start past c d v now) same in
     let over = all_over c (client_entries c v.at.before) (allowed_at start past c v.at run).0 in
@@ -286,18 +316,21 @@ other_never start past later c d sound run run' now v b i x same not_read differ
 -- The operation
 
 -- no issue stands in what no step of its client is in
-issue_old : (past later : List Entry) (c : ClientNo) (b : Begun) (i : Issued) → client_entries c later ≡ [] → IssueAt (later ++ past) c b i → IssueAt past c b i
+issue_old : (past later : List Entry) (c : ClientNo) (b : Begun) (i : Issued)
+    → client_entries c later ≡ [] → IssueAt (later ++ past) c b i → IssueAt past c b i
 issue_old past later c b i quiet x = by (where_is later past x.at.later x.at.entry x.at.before x.at.split)
   where
     no_more : (xs : List Entry) (y : Entry) (ys : List Entry) → [] ≡ xs ++ y ∷ ys → ⊥
     no_more [] y ys e = cc
     no_more (x ∷ xs) y ys e = cc
 
-    by : InOlder past x.at.entry x.at.before ⊎ InLater past later x.at.entry x.at.before → IssueAt past c b i
+    by : InOlder past x.at.entry x.at.before ⊎ InLater past later x.at.entry x.at.before
+        → IssueAt past c b i
     by (inl old) = record { at = record { entry = x.at.entry; later = old.later; before = x.at.before; split = old.split; by = x.at.by }; issues = x.issues; of = x.of }
     by (inr new) = absurd (no_more (client_entries c new.newer) x.at.entry (client_entries c new.older) (sym quiet ∙ client_split c later new.newer x.at.entry new.older new.split (is_own c x.at.entry x.at.by)))
 
-pub left_settled : (start : Start) (store : Store) (past : List Entry) (placed : List Placed) → HistoryRun start store past placed → AreFree start past → LeftAreSettled start past placed
+pub left_settled : (start : Start) (store : Store) (past : List Entry) (placed : List Placed)
+    → HistoryRun start store past placed → AreFree start past → LeftAreSettled start past placed
 left_settled start store past placed h free c number (op, now, ends) = by (stands_or_not c number placed)
   where
     run : FollowsProtocol start past
@@ -320,7 +353,9 @@ left_settled start store past placed h free c number (op, now, ends) = by (stand
         let l = commits_later start store past placed h later run' c number none place plan in
         never_later past later c number l (which l (tid_same l.x.issued.tid v.vote.tid) refl)
       where
-        which : (l : CommitsLater past later c number) (b : Bool) → tid_same l.x.issued.tid v.vote.tid ≡ b → IsNeverCommitted l.x.issued.tid (later ++ past)
+        which : (l : CommitsLater past later c number) (b : Bool)
+            → tid_same l.x.issued.tid v.vote.tid ≡ b
+            → IsNeverCommitted l.x.issued.tid (later ++ past)
         which l true same =
             let eq : l.x.issued.tid ≡ v.vote.tid = tid_same-true l.x.issued.tid v.vote.tid same in
             subst (λ (t : Tid). IsNeverCommitted t (later ++ past)) (sym eq)
@@ -329,6 +364,8 @@ left_settled start store past placed h free c number (op, now, ends) = by (stand
             other_never start past later c (record { number = number; op = op }) h.opened.opened.sound run run' now v (record { number = number; op = l.x.op }) l.x.issued (issue_old past later c (record { number = number; op = l.x.op }) l.x.issued quiet l.x.issue) refl l.x.no_read
             (λ eq. clash (tid_same l.x.issued.tid v.vote.tid) (subst (λ (t : Tid). tid_same l.x.issued.tid t ≡ true) eq (tid_same-refl l.x.issued.tid)) other)
 
-    by : Stands placed c number ⊎ StandsNowhere placed c number → TookEffect past placed c number ⊎ (StandsNowhere placed c number × IsNeverAlone start past c number)
+    by : Stands placed c number ⊎ StandsNowhere placed c number
+        → TookEffect past placed c number
+        ⊎ (StandsNowhere placed c number × IsNeverAlone start past c number)
     by (inl s) = inl (effect s (origin_of start past placed s.p h.opened.run h.history s.there))
     by (inr none) = inr (none, never none)

@@ -51,7 +51,9 @@ pub record ReadAt (start : Start) (past : List Entry) (op : Op) (reply : Reply) 
   pub brought : Contains (seen_at entry) seen
   pub leaves : (s : Store) → Holds (flat start before) s → Leaves s op reply
 
-by_last : (start : Start) (store : Store) (past : List Entry) (placed : List Placed) → Known start store past placed → (c : ClientNo) (op : Op) (reply : Reply) (place : ℕ) → ShownAt past c op reply place → ReadAt start past op reply place
+by_last : (start : Start) (store : Store) (past : List Entry) (placed : List Placed)
+    → Known start store past placed → (c : ClientNo) (op : Op) (reply : Reply) (place : ℕ)
+    → ShownAt past c op reply place → ReadAt start past op reply place
 by_last start store past placed known c op reply place at = record {
   entry = at.entry;
   later = at.later;
@@ -71,16 +73,20 @@ pairs_refuse_nothing heads name low high limit pairs e = by (head_named heads na
     frozen true e = cc
     frozen false e = cc
 
-    by : (h : Option Head) → refusal_at heads (Scan name low high limit) h ≡ Some (Say.Pairs pairs) → ⊥
+    by : (h : Option Head) → refusal_at heads (Scan name low high limit) h ≡ Some (Say.Pairs pairs)
+        → ⊥
     by None e = cc
     by (Some h) e = frozen h.frozen e
 
-by_scan : (start : Start) (store : Store) (past : List Entry) (placed : List Placed) → Known start store past placed → (c : ClientNo) (name : List ℕ) (low high : Option (List ℕ)) (limit : ℕ) (pairs : List Pair) (place : ℕ)
+by_scan : (start : Start) (store : Store) (past : List Entry) (placed : List Placed)
+    → Known start store past placed
+    → (c : ClientNo) (name : List ℕ) (low high : Option (List ℕ)) (limit : ℕ) (pairs : List Pair) (place : ℕ)
     → Shows (client_entries c past) (since_begin (client_entries c past)) (Scan name low high limit) (Replied (Say.Pairs pairs)) → FirstCatalogAt c past place → ReadAt start past (Scan name low high limit) (Say.Pairs pairs) place
 by_scan start store past placed known c name low high limit pairs place (inl (i, before, last, plan, (entries, catalog, planned), done)) first = absurd planned.kind
 by_scan start store past placed known c name low high limit pairs place (inr (inl (given_up, shown))) first = absurd (no_read shown.before shown.seen shown.shows)
   where
-    no_read : (before : List Entry) (seen : Seen) → ReadShows before seen (Scan name low high limit) (Say.Pairs pairs) → ⊥
+    no_read : (before : List Entry) (seen : Seen)
+        → ReadShows before seen (Scan name low high limit) (Say.Pairs pairs) → ⊥
     no_read before seen (inl leaf) = leaf
     no_read before seen (inr (entries, sees, refused)) = pairs_refuse_nothing (heads_in entries) name low high limit pairs refused
 by_scan start store past placed known c name low high limit pairs place (inr (inr (given_up, scanned))) first = record {
@@ -94,8 +100,10 @@ by_scan start store past placed known c name low high limit pairs place (inr (in
   leaves = λ s holds. scan_leaves start store past placed known c place first name low high limit pairs scanned s holds;
 }
 
-pub read_at : (start : Start) (store : Store) (past : List Entry) (placed : List Placed) → Known start store past placed → (c : ClientNo) (op : Op) (reply : Reply) (place : ℕ)
-    → Shows (client_entries c past) (since_begin (client_entries c past)) op (Replied reply) → ReadPlace c past op reply place → ReadAt start past op reply place
+pub read_at : (start : Start) (store : Store) (past : List Entry) (placed : List Placed)
+    → Known start store past placed → (c : ClientNo) (op : Op) (reply : Reply) (place : ℕ)
+    → Shows (client_entries c past) (since_begin (client_entries c past)) op (Replied reply)
+    → ReadPlace c past op reply place → ReadAt start past op reply place
 read_at start store past placed known c (Scan name low high limit) (Say.Pairs pairs) place shown at = by_scan start store past placed known c name low high limit pairs place shown at
 read_at start store past placed known c op reply place shown at = by_last start store past placed known c op reply place (last_shown_at past c op reply place at)
 
@@ -104,14 +112,17 @@ read_at start store past placed known c op reply place shown at = by_last start 
 abbrev NextChain : Start → Store → List Entry → Entry → List Placed → Type 0
 NextChain start store past e placed = Chain (HoldsAt start (e ∷ past)) (PlansAt (e ∷ past)) (suc (length past)) store 0 placed
 
-quiet : (start : Start) (store : Store) (past : List Entry) (e : Entry) (placed : List Placed) → Known start store past placed → flat start (e ∷ past) ≡ flat start past → NextChain start store past e placed
+quiet : (start : Start) (store : Store) (past : List Entry) (e : Entry) (placed : List Placed)
+    → Known start store past placed → flat start (e ∷ past) ≡ flat start past
+    → NextChain start store past e placed
 quiet start store past e placed known same =
     chain_quiet (HoldsAt start past) (HoldsAt start (e ∷ past)) (PlansAt past) (PlansAt (e ∷ past)) (length past) (λ m s fits h. older_holds start past e m s fits h) (λ k plan. older_plans past e k plan)
     (λ s h. newest_holds start past e s (subst (λ m. Holds m s) (sym same) (h [] past refl refl))) store 0 placed (omega arith) known.chain
 
 -- a read is put in
 put_read : (start : Start) (store : Store) (past : List Entry) (e : Entry) (old : List Placed) (past_op : Past) (place : ℕ) → Known start store past old → flat start (e ∷ past) ≡ flat start past
-    → ReadAt start past past_op.op past_op.reply place → NextChain start store past e (placed_in (record { place = place; past = past_op }) old)
+    → ReadAt start past past_op.op past_op.reply place
+    → NextChain start store past e (placed_in (record { place = place; past = past_op }) old)
 put_read start store past e old past_op place known same at =
     let fits : suc (length at.before) ≤ length past = shorter_by past at.later at.entry at.before at.split in
     let is : place ≡ length at.before = at.is_place in
@@ -128,11 +139,13 @@ put_read start store past e old past_op place known same at =
 
 -- an answer
 answer_puts : (start : Start) (store : Store) (past : List Entry) (e : Entry) (old new : List Placed) → Known start store past old → flat start (e ∷ past) ≡ flat start past → (c : ClientNo) (begun : Option Begun) (answer : Answer)
-    → IsShownFor (client_entries c past) begun answer → AnswerPuts past c begun answer old new → NextChain start store past e new
+    → IsShownFor (client_entries c past) begun answer → AnswerPuts past c begun answer old new
+    → NextChain start store past e new
 answer_puts start store past e old new known same c None answer shown puts = subst (NextChain start store past e) (sym puts) (quiet start store past e old known same)
 answer_puts start store past e old new known same c (Some begun) (Replied reply) shown puts = by (has_past c begun.number old) puts
   where
-    by : (b : Bool) → MatchBool b (new ≡ old) ((place : ℕ) × ReadPlace c past begun.op reply place × (new ≡ placed_in (record { place = place; past = record { client = c; number = begun.number; op = begun.op; reply = reply } }) old))
+    by : (b : Bool)
+        → MatchBool b (new ≡ old) ((place : ℕ) × ReadPlace c past begun.op reply place × (new ≡ placed_in (record { place = place; past = record { client = c; number = begun.number; op = begun.op; reply = reply } }) old))
         → NextChain start store past e new
     by true is = subst (NextChain start store past e) (sym is) (quiet start store past e old known same)
     by false (place, at, is) =
@@ -146,7 +159,9 @@ answer_puts start store past e old new known same c (Some begun) (Worn n at) sho
 answer_puts start store past e old new known same c (Some begun) NoMemory shown puts = subst (NextChain start store past e) (sym puts) (quiet start store past e old known same)
 
 -- an entry that commits nothing
-step_puts : (start : Start) (store : Store) (past : List Entry) (e : Entry) (old new : List Placed) → Known start store past old → flat start (e ∷ past) ≡ flat start past → (by : Option ClientNo) (what : What)
+step_puts : (start : Start) (store : Store) (past : List Entry) (e : Entry) (old new : List Placed)
+    → Known start store past old → flat start (e ∷ past) ≡ flat start past
+    → (by : Option ClientNo) (what : What)
     → Means past by what → StepPuts past by what old new → NextChain start store past e new
 step_puts start store past e old new known same None what means puts = subst (NextChain start store past e) (sym puts) (quiet start store past e old known same)
 step_puts start store past e old new known same (Some c) (Answered number answer) means puts = answer_puts start store past e old new known same c (under_way (client_entries c past)) answer means.1 puts
@@ -158,8 +173,11 @@ step_puts start store past e old new known same (Some c) (Restarted kept) means 
 step_puts start store past e old new known same (Some c) (Abandoned tid) means puts = subst (NextChain start store past e) (sym puts) (quiet start store past e old known same)
 
 -- what a committed plan does to the store that the flat memory holds there
-pub plan_acts : (start : Start) (store : Store) (past : List Entry) (e : Entry) (old : List Placed) → Known start store past old → FollowsProtocol start (e ∷ past) → (i : Issued) (p : Past) → committed_by past e ≡ Some i → PlanOf past i p
-    → (s : Store) → Holds (flat start past) s → (p.reply ≡ (applied s p.op).reply) × Holds (flat start (e ∷ past)) (applied s p.op).store
+pub plan_acts : (start : Start) (store : Store) (past : List Entry) (e : Entry) (old : List Placed)
+    → Known start store past old → FollowsProtocol start (e ∷ past) → (i : Issued) (p : Past)
+    → committed_by past e ≡ Some i → PlanOf past i p
+    → (s : Store) → Holds (flat start past) s
+    → (p.reply ≡ (applied s p.op).reply) × Holds (flat start (e ∷ past)) (applied s p.op).store
 plan_acts start store past e old known run i p is plan s holds =
     let whole = whole_run start past known.sound known.spaces known.follows in
     let made = committed_made start past e i whole is in
@@ -170,12 +188,15 @@ plan_acts start store past e old known run i p is plan s holds =
     (acts.replies, subst (λ m. Holds m (applied s p.op).store) (sym (flat_plan start past e i is met)) acts.effect)
 
 -- an entry that commits
-entry_puts : (start : Start) (store : Store) (past : List Entry) (e : Entry) (old new : List Placed) → Known start store past old → FollowsProtocol start (e ∷ past) → Means past e.client e.what
-    → (o : Option Issued) → committed_by past e ≡ o → EntryPuts past e o old new → NextChain start store past e new
+entry_puts : (start : Start) (store : Store) (past : List Entry) (e : Entry) (old new : List Placed)
+    → Known start store past old → FollowsProtocol start (e ∷ past) → Means past e.client e.what
+    → (o : Option Issued) → committed_by past e ≡ o → EntryPuts past e o old new
+    → NextChain start store past e new
 entry_puts start store past e old new known run means None none puts = step_puts start store past e old new known (flat_none start past e none) e.client e.what means puts
 entry_puts start store past e old new known run means (Some i) is puts = by (is_read i.mini.items) refl puts
   where
-    by : (b : Bool) → is_read i.mini.items ≡ b → MatchBool b (new ≡ old) ((p : Past) × PlanOf past i p × (new ≡ old ++ record { place = length past; past = p } ∷ [])) → NextChain start store past e new
+    by : (b : Bool) → is_read i.mini.items ≡ b
+        → MatchBool b (new ≡ old) ((p : Past) × PlanOf past i p × (new ≡ old ++ record { place = length past; past = p } ∷ [])) → NextChain start store past e new
     by true read same = subst (NextChain start store past e) (sym same) (quiet start store past e old known (flat_read start past e i is read))
     by false not_read (p, plan, same) =
         subst (NextChain start store past e) (sym same)
@@ -184,7 +205,9 @@ entry_puts start store past e old new known run means (Some i) is puts = by (is_
         ([], e, past, refl, refl, (i, is, not_read)) store 0 old (omega arith) known.chain)
 
 -- at every place of a run
-pub known_run : (start : Start) (store : Store) (past : List Entry) (placed : List Placed) → StartsSound start → HasSpaces start → Holds (opened_memory start) store → IsRun start past → IsHistory past placed → Known start store past placed
+pub known_run : (start : Start) (store : Store) (past : List Entry) (placed : List Placed)
+    → StartsSound start → HasSpaces start → Holds (opened_memory start) store → IsRun start past
+    → IsHistory past placed → Known start store past placed
 known_run start store [] placed sound spaces opened run none = record { sound = sound; spaces = spaces; follows = tt; chain = subst (Chain (HoldsAt start []) (PlansAt []) 0 store 0) (sym none) (λ m lo hi later before split is. first later before split) }
   where
     first : (later before : List Entry) → [] ≡ later ++ before → Holds (flat start before) store

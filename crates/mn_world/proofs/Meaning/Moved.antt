@@ -1,4 +1,5 @@
--- Bytes that an operation had read and did not find again were changed by another operation's plan, within one try.
+-- Bytes that an operation had read and did not find again were changed by another operation's plan,
+-- within one try.
 use Rattle.std.proofs.Common.{◌≡◌, ℕ, zero, suc, ◌+◌, ◌-◌, ◌≤◌, ◌⊎◌, inl, inr, Bool, true, false, not, ◌&&◌, List, [], ◌∷◌, ◌++◌, length, take, drop, Option, Some, None, refl, subst, sym, ap, ◌∙◌, arith, if◌then◌else◌, slice_get, Contains}
 use Rattle.std.specs.Prelude.{bytes_eq}
 use Rattle.std.specs.List.{list_all}
@@ -59,7 +60,8 @@ use Rattle.mn_world.proofs.Meaning.Held.{call_answer}
 
 -- Bytes of a range of a range
 
-window : (xs : List ℕ) (m d k : ℕ) → length (take k (drop d (take m xs))) ≡ k → take k (drop d (take m xs)) ≡ take k (drop d xs)
+window : (xs : List ℕ) (m d k : ℕ) → length (take k (drop d (take m xs))) ≡ k
+    → take k (drop d (take m xs)) ≡ take k (drop d xs)
 window xs m d zero e = refl
 window xs zero zero (suc k) e = absurd (omega arith)
 window [] (suc m) zero (suc k) e = absurd (omega arith)
@@ -71,7 +73,9 @@ window (x ∷ xs) (suc m) (suc d) (suc k) e = window xs m d (suc k) e
 drops : (a d : ℕ) (xs : List ℕ) → drop d (drop a xs) ≡ drop (a + d) xs
 drops a d xs = Rattle.std.proofs.lemmas.List.drop-drop d a xs
 
-range_of_range : (space : List ℕ) (a m b k : ℕ) → a ≤ b → length (bytes_in (bytes_in space a m) (b - a) k) ≡ k → bytes_in (bytes_in space a m) (b - a) k ≡ bytes_in space b k
+range_of_range : (space : List ℕ) (a m b k : ℕ) → a ≤ b
+    → length (bytes_in (bytes_in space a m) (b - a) k) ≡ k
+    → bytes_in (bytes_in space a m) (b - a) k ≡ bytes_in space b k
 range_of_range space a m b k low long =
     let sum : a + (b - a) ≡ b = omega arith in
     window (drop a space) m (b - a) k long ∙ (ap (take k) (drops a (b - a) space) ∙ ap (λ (j : ℕ). take k (drop j space)) sum)
@@ -87,7 +91,8 @@ record MismatchAt (space : List ℕ) (i : ℕ) (part : List PartItem) (at : Mism
   pub found_is : bytes_in space begins (length expected) ≡ at.found
   pub differs : bytes_eq at.found expected ≡ false
 
-mismatch_at : (space : List ℕ) (i : ℕ) (part : List PartItem) (at : Mismatched) → part_mismatch_from space i part ≡ Some at → MismatchAt space i part at
+mismatch_at : (space : List ℕ) (i : ℕ) (part : List PartItem) (at : Mismatched)
+    → part_mismatch_from space i part ≡ Some at → MismatchAt space i part at
 mismatch_at space i [] at is = absurd cc
 mismatch_at space i (Bare.Read begins size ∷ part) at is =
     let m = mismatch_at space i part at is in record { number = m.number; begins = m.begins; expected = m.expected; item_is = m.item_is; there = m.there; found_is = m.found_is; differs = m.differs }
@@ -98,8 +103,10 @@ mismatch_at space i (Bare.Compare begins bytes ∷ part) at is = by (bytes_eq (b
     some : (a b : Mismatched) → Some a ≡ Some b → a ≡ b
     some a b e = cc
 
-    by : (b : Bool) → bytes_eq (bytes_in space begins (length bytes)) bytes ≡ b → (if b then part_mismatch_from space (i + 1) part else Some (record { item = i; found = bytes_in space begins (length bytes) })) ≡ Some at
-        → (part_mismatch_from space (i + 1) part ≡ Some at → MismatchAt space (i + 1) part at) → MismatchAt space i (Bare.Compare begins bytes ∷ part) at
+    by : (b : Bool) → bytes_eq (bytes_in space begins (length bytes)) bytes ≡ b
+        → (if b then part_mismatch_from space (i + 1) part else Some (record { item = i; found = bytes_in space begins (length bytes) })) ≡ Some at
+        → (part_mismatch_from space (i + 1) part ≡ Some at → MismatchAt space (i + 1) part at)
+        → MismatchAt space i (Bare.Compare begins bytes ∷ part) at
     by true e f rest =
         let m = rest f in
         let is : at.item ≡ i + 1 + m.number = m.item_is in
@@ -118,21 +125,27 @@ record Compared (base : List ℕ) (records : List Record) (tid : Tid) (part : Li
 tested_compare : (base : List ℕ) (records : List Record) (tid : Tid) (part : List PartItem) (added : Option Record) (item : ℕ) (found : List ℕ) → (tested base records tid part added).reply ≡ Say.BadCompare item found → Compared base records tid part item found
 tested_compare base records tid part added item found is = locks (clash_of (held_parts records) tid part) refl is
   where
-    compares : (o : Option Mismatched) → part_mismatch_from (space_of base records) 0 part ≡ o → (after_compares (space_of base records) part added o).reply ≡ Say.BadCompare item found → part_mismatch_from (space_of base records) 0 part ≡ Some (record { item = item; found = found })
+    compares : (o : Option Mismatched) → part_mismatch_from (space_of base records) 0 part ≡ o
+        → (after_compares (space_of base records) part added o).reply ≡ Say.BadCompare item found
+        → part_mismatch_from (space_of base records) 0 part ≡ Some (record { item = item; found = found })
     compares (Some at) e f = e ∙ same at.item item at.found found f
       where
-        same : (a b : ℕ) (x y : List ℕ) → Say.BadCompare a x ≡ Say.BadCompare b y → ◌≡◌ {A = Option Mismatched} (Some (record { item = a; found = x })) (Some (record { item = b; found = y }))
+        same : (a b : ℕ) (x y : List ℕ) → Say.BadCompare a x ≡ Say.BadCompare b y
+            → ◌≡◌ {A = Option Mismatched} (Some (record { item = a; found = x })) (Some (record { item = b; found = y }))
         same a b x y h = let p : a ≡ b = cc in let q : x ≡ y = cc in λ i. Some (record { item = p i; found = q i })
     compares None e f = absurd cc
 
-    locks : (o : Option Clash) → clash_of (held_parts records) tid part ≡ o → (after_locks (space_of base records) part added o).reply ≡ Say.BadCompare item found → Compared base records tid part item found
+    locks : (o : Option Clash) → clash_of (held_parts records) tid part ≡ o
+        → (after_locks (space_of base records) part added o).reply ≡ Say.BadCompare item found
+        → Compared base records tid part item found
     locks (Some at) e f = absurd cc
     locks None e f = record { free = e; differs = compares (part_mismatch_from (space_of base records) 0 part) refl f }
 
 prepare_compare : (base : List ℕ) (records : List Record) (tid : Tid) (ps : List NodeNo) (part : List PartItem) (item : ℕ) (found : List ℕ) → (answer base records (Ask.Prepare tid ps part)).reply ≡ Say.BadCompare item found → Compared base records tid part item found
 prepare_compare base records tid ps part item found is = by (has_forced records tid) is
   where
-    by : (b : Bool) → (if b then only_reply Say.BadForced else tested base records tid part (Some (Voted tid ps part))).reply ≡ Say.BadCompare item found → Compared base records tid part item found
+    by : (b : Bool)
+        → (if b then only_reply Say.BadForced else tested base records tid part (Some (Voted tid ps part))).reply ≡ Say.BadCompare item found → Compared base records tid part item found
     by true e = absurd cc
     by false e = tested_compare base records tid part (Some (Voted tid ps part)) item found e
 
@@ -144,7 +157,8 @@ differ_flat start past n tid part item found w free c =
     ∙ (mismatch_below (comm start past) (space_of (base_at start n) (records_of start past n)) (held_parts (records_of start past n)) part free ∙ c.differs)
 
 call_differs : (start : Start) (past : List Entry) (c : ClientNo) (n : NodeNo) (request : Request) (part : List PartItem) (item : ℕ) (found : List ℕ) → Whole start past → Sends (client_entries c past) (Some n) request → part_of_request request ≡ Some part
-    → (answer (base_at start n) (records_of start past n) request).reply ≡ Say.BadCompare item found → part_mismatch_from (space_in (flat start past) n) 0 part ≡ Some (record { item = item; found = found })
+    → (answer (base_at start n) (records_of start past n) request).reply ≡ Say.BadCompare item found
+    → part_mismatch_from (space_in (flat start past) n) 0 part ≡ Some (record { item = item; found = found })
 call_differs start past c n (Ask.Prepare t ps own) part item found w sends is said =
     let compared = prepare_compare (base_at start n) (records_of start past n) t ps own item found said in
     let first = (sent_unvoted start past c n (Ask.Prepare t ps own) w.kept sends).unvoted t ps own refl in
@@ -158,7 +172,8 @@ call_differs start past c n (Ask.Exec t own) part item found w sends is said =
     subst (λ (p : List PartItem). part_mismatch_from (space_in (flat start past) n) 0 p ≡ Some (record { item = item; found = found })) same
     (differ_flat start past n t own item found w (exec_free first.1 compared.free) compared)
   where
-    exec_free : ExecAt past t n own → clash_of (held_parts (records_of start past n)) t own ≡ None → IsFree own (held_parts (records_of start past n))
+    exec_free : ExecAt past t n own → clash_of (held_parts (records_of start past n)) t own ≡ None
+        → IsFree own (held_parts (records_of start past n))
     exec_free (mini, has, its, alone) free =
         free_of (held_parts (records_of start past n)) t own free
         (exec_unheld start past n t mini n (new_not_old start past t.client t mini w.kept has) has alone (held_parts (records_of start past n)) (held_at start past n (records_of start past n) (w.kept.records n)))
@@ -178,7 +193,8 @@ record Differed (seens : List Seen) (m n : NodeNo) (request : Request) (reply : 
   pub there : slice_get (part_compares part) item ≡ Some (begins, expected)
   pub shows : ShowsBytes seens n begins expected
 
-moved_parts : (n m : NodeNo) (a b : ℕ) (x y s t : List ℕ) → Moved n a x s ≡ Moved m b y t → (m ≡ n) × (b ≡ a) × (y ≡ x) × (t ≡ s)
+moved_parts : (n m : NodeNo) (a b : ℕ) (x y s t : List ℕ) → Moved n a x s ≡ Moved m b y t
+    → (m ≡ n) × (b ≡ a) × (y ≡ x) × (t ≡ s)
 moved_parts n m a b x y s t e = (cc, cc, cc, cc)
 
 differed : (seens : List Seen) (m n : NodeNo) (request : Request) (part : List PartItem) (item : ℕ) (begins : ℕ) (expected found was : List ℕ) → part_of_request request ≡ Some part → DiffersAs seens m part item was (Moved n begins expected found)
@@ -214,11 +230,13 @@ pub brought : (es : List Entry) (seen : Seen) → Contains (seen_in es) seen →
 brought [] seen has = absurd (nothing seen has)
 brought (e ∷ es) seen has = by (Contains-append_cases (seen_at e) (seen_in es) seen (subst (λ (l : List Seen). Contains l seen) (seen_in-cons e es) has)) (brought es seen)
   where
-    by : Contains (seen_at e) seen ⊎ Contains (seen_in es) seen → (Contains (seen_in es) seen → BroughtIn es seen) → BroughtIn (e ∷ es) seen
+    by : Contains (seen_at e) seen ⊎ Contains (seen_in es) seen
+        → (Contains (seen_in es) seen → BroughtIn es seen) → BroughtIn (e ∷ es) seen
     by (inl here) rest = record { newer = []; entry = e; older = es; split = refl; brought = here }
     by (inr there) rest = let r = rest there in record { newer = e ∷ r.newer; entry = r.entry; older = r.older; split = ap (λ (l : List Entry). e ∷ l) r.split; brought = r.brought }
 
-none_first : (newer older : List Entry) → none_refused (newer ++ older) ≡ true → none_refused newer ≡ true
+none_first : (newer older : List Entry) → none_refused (newer ++ older) ≡ true
+    → none_refused newer ≡ true
 none_first newer older e = first (calls_of newer) (ap (list_all (λ (c : Call). not (is_refusal c.reply))) (sym (calls-append newer older)) ∙ e)
   where
     and_left : (a b : Bool) → (a && b) ≡ true → a ≡ true
@@ -229,7 +247,9 @@ none_first newer older e = first (calls_of newer) (ap (list_all (λ (c : Call). 
     and_right true b h = h
     and_right false b h = absurd cc
 
-    first : (cs : List Call) → list_all (λ (c : Call). not (is_refusal c.reply)) (cs ++ calls_of older) ≡ true → list_all (λ (c : Call). not (is_refusal c.reply)) cs ≡ true
+    first : (cs : List Call)
+        → list_all (λ (c : Call). not (is_refusal c.reply)) (cs ++ calls_of older) ≡ true
+        → list_all (λ (c : Call). not (is_refusal c.reply)) cs ≡ true
     first [] h = refl
     first (c ∷ cs) h =
         ap (λ (b : Bool). b && list_all (λ (d : Call). not (is_refusal d.reply)) cs) (and_left (not (is_refusal c.reply)) _ h) ∙ first cs (and_right (not (is_refusal c.reply)) _ h)
@@ -245,26 +265,33 @@ pub record CommitIn (later before : List Entry) : Type 0 where
   pub commits : committed_by (older ++ before) entry ≡ Some issued
   pub not_read : is_read issued.mini.items ≡ false
 
-pub stays_or_commits : (start : Start) (later before : List Entry) → (flat start (later ++ before) ≡ flat start before) ⊎ CommitIn later before
+pub stays_or_commits : (start : Start) (later before : List Entry)
+    → (flat start (later ++ before) ≡ flat start before) ⊎ CommitIn later before
 stays_or_commits start [] before = inl refl
 stays_or_commits start (e ∷ later) before = by (stays_or_commits start later before) (committed_by (later ++ before) e) refl
   where
     further : CommitIn later before → CommitIn (e ∷ later) before
     further c = record { newer = e ∷ c.newer; entry = c.entry; older = c.older; issued = c.issued; split = ap (λ (l : List Entry). e ∷ l) c.split; commits = c.commits; not_read = c.not_read }
 
-    tell : (i : Issued) → committed_by (later ++ before) e ≡ Some i → (b : Bool) → is_read i.mini.items ≡ b → flat start (later ++ before) ≡ flat start before → (flat start (e ∷ (later ++ before)) ≡ flat start before) ⊎ CommitIn (e ∷ later) before
+    tell : (i : Issued) → committed_by (later ++ before) e ≡ Some i → (b : Bool)
+        → is_read i.mini.items ≡ b → flat start (later ++ before) ≡ flat start before
+        → (flat start (e ∷ (later ++ before)) ≡ flat start before) ⊎ CommitIn (e ∷ later) before
     tell i is true read same = inl (flat_read start (later ++ before) e i is read ∙ same)
     tell i is false not_read same = inr (record { newer = []; entry = e; older = later; issued = i; split = refl; commits = is; not_read = not_read })
 
-    by : (flat start (later ++ before) ≡ flat start before) ⊎ CommitIn later before → (o : Option Issued) → committed_by (later ++ before) e ≡ o → (flat start (e ∷ (later ++ before)) ≡ flat start before) ⊎ CommitIn (e ∷ later) before
+    by : (flat start (later ++ before) ≡ flat start before) ⊎ CommitIn later before
+        → (o : Option Issued) → committed_by (later ++ before) e ≡ o
+        → (flat start (e ∷ (later ++ before)) ≡ flat start before) ⊎ CommitIn (e ∷ later) before
     by (inr c) o is = inr (further c)
     by (inl same) None none = inl (flat_none start (later ++ before) e none ∙ same)
     by (inl same) (Some i) is = tell i is (is_read i.mini.items) refl same
 
 -- a plan that is committed before the entry of a busy operation is another operation's
 pub commits_other : (start : Start) (store : Store) (past : List Entry) (place : ℕ) (e : Entry) (c : ClientNo) (number : ℕ) (busy : Busy) → OpenedRun start store past → StandsAt past place e
-    → AnswersOp e c number (GaveUp busy) → (later : List Entry) (x : Entry) (log : List Entry) → past ≡ later ++ x ∷ log → (newer : List Entry) (y : Entry) (older : List Entry) (i : Issued)
-    → log ≡ newer ++ y ∷ older → committed_by older y ≡ Some i → is_read i.mini.items ≡ false → CommitsOther past c number (length older)
+    → AnswersOp e c number (GaveUp busy) → (later : List Entry) (x : Entry) (log : List Entry)
+    → past ≡ later ++ x ∷ log → (newer : List Entry) (y : Entry) (older : List Entry) (i : Issued)
+    → log ≡ newer ++ y ∷ older → committed_by older y ≡ Some i → is_read i.mini.items ≡ false
+    → CommitsOther past c number (length older)
 commits_other start store past place e c number busy h stands answers later x log split newer y older i inner commits not_read =
     let outer : past ≡ (later ++ (x ∷ newer)) ++ y ∷ older = split ∙ (ap (λ (es : List Entry). later ++ x ∷ es) inner ∙ sym (append_assoc later (x ∷ newer) (y ∷ older))) in
     let run : IsRun start (y ∷ older) = older_run start (later ++ (x ∷ newer)) (y ∷ older) (subst (IsRun start) outer h.run) in
@@ -279,14 +306,18 @@ commits_other start store past place e c number busy h stands answers later x lo
     }
 
 -- an entry that read something leaves the memory
-read_stays : (start : Start) (before : List Entry) (x : Entry) (seen : Seen) → StartsSound start → HasSpaces start → FollowsProtocol start (x ∷ before) → Contains (seen_at x) seen → flat start (x ∷ before) ≡ flat start before
+read_stays : (start : Start) (before : List Entry) (x : Entry) (seen : Seen) → StartsSound start
+    → HasSpaces start → FollowsProtocol start (x ∷ before) → Contains (seen_at x) seen
+    → flat start (x ∷ before) ≡ flat start before
 read_stays start before x seen sound spaces run has = by (committed_by before x) refl
   where
-    tell : (i : Issued) → committed_by before x ≡ Some i → (b : Bool) → is_read i.mini.items ≡ b → flat start (x ∷ before) ≡ flat start before
+    tell : (i : Issued) → committed_by before x ≡ Some i → (b : Bool) → is_read i.mini.items ≡ b
+        → flat start (x ∷ before) ≡ flat start before
     tell i is true read = flat_read start before x i is read
     tell i is false not_read = absurd (no_plan_at_read start before x seen i sound spaces run has is not_read)
 
-    by : (o : Option Issued) → committed_by before x ≡ o → flat start (x ∷ before) ≡ flat start before
+    by : (o : Option Issued) → committed_by before x ≡ o
+        → flat start (x ∷ before) ≡ flat start before
     by None none = flat_none start before x none
     by (Some i) is = tell i is (is_read i.mini.items) refl
 
@@ -318,7 +349,8 @@ moved_by_other start store past place e c number n begins expected found h stand
     not_down : Say.BadCompare d.item found ≡ Say.Down → ⊥
     not_down e = cc
 
-    pair_is : (a b : ℕ) (x y : List ℕ) → ◌≡◌ {A = Option (ℕ × List ℕ)} (Some (a, x)) (Some (b, y)) → (a ≡ b) × (x ≡ y)
+    pair_is : (a b : ℕ) (x y : List ℕ) → ◌≡◌ {A = Option (ℕ × List ℕ)} (Some (a, x)) (Some (b, y))
+        → (a ≡ b) × (x ≡ y)
     pair_is a b x y e =
         let pairs : ◌≡◌ {A = ℕ × List ℕ} (a, x) (b, y) = cc in
         (ap (λ (p : ℕ × List ℕ). p.0) pairs, ap (λ (p : ℕ × List ℕ). p.1) pairs)
@@ -357,7 +389,8 @@ moved_by_other start store past place e c number n begins expected found h stand
         subst (λ (x : What). AllowedBy r.there.before (Some c) (Some n) x) what there
 
     -- where it was refused, others stood there
-    differ : (bytes_in (space_in (flat start r.there.before) n) begins (length expected) ≡ found) × (bytes_eq found expected ≡ false)
+    differ : (bytes_in (space_in (flat start r.there.before) n) begins (length expected) ≡ found)
+        × (bytes_eq found expected ≡ false)
     differ =
         let said = call_answer start r.there.before r.entry n r.request (Say.BadCompare d.item found) to_call.1 node what not_down in
         let mismatch = call_differs start r.there.before c n r.request d.part d.item found (whole_run start r.there.before h.opened.sound h.spaces to_call.0) sends d.asked said in
@@ -372,7 +405,8 @@ moved_by_other start store past place e c number n begins expected found h stand
     clash : (b : Bool) → b ≡ true → b ≡ false → ⊥
     clash b p q = cc
 
-    unchanged : flat start (z.between ++ y.entry ∷ z.is.before) ≡ flat start (y.entry ∷ z.is.before) → ⊥
+    unchanged : flat start (z.between ++ y.entry ∷ z.is.before) ≡ flat start (y.entry ∷ z.is.before)
+        → ⊥
     unchanged same =
         let memory : flat start r.there.before ≡ flat start z.is.before =
         ap (flat start) z.split ∙ (same ∙ read_stays start z.is.before y.entry d.shows.0 h.opened.sound h.spaces to_read y.brought) in
@@ -380,7 +414,9 @@ moved_by_other start store past place e c number n begins expected found h stand
         sym differ.0 ∙ (ap (λ (mem : List (List ℕ)). bytes_in (space_in mem n) begins (length expected)) memory ∙ stood) in
         clash (bytes_eq found expected) (ap (λ (b : List ℕ). bytes_eq b expected) found_is ∙ bytes_eq-refl expected) differ.1
 
-    tell : (flat start (z.between ++ y.entry ∷ z.is.before) ≡ flat start (y.entry ∷ z.is.before)) ⊎ CommitIn z.between (y.entry ∷ z.is.before) → WasMoved past c number place n begins expected found
+    tell : (flat start (z.between ++ y.entry ∷ z.is.before) ≡ flat start (y.entry ∷ z.is.before))
+        ⊎ CommitIn z.between (y.entry ∷ z.is.before)
+        → WasMoved past c number place n begins expected found
     tell (inl same) = absurd (unchanged same)
     tell (inr co) =
         let inner : r.there.before ≡ co.newer ++ co.entry ∷ (co.older ++ y.entry ∷ z.is.before) =

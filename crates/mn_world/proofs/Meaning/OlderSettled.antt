@@ -1,4 +1,5 @@
--- An operation's issues but the last are over, and settled: where one was abandoned, no node stopped in its Prepare, and each node that was done has its decision.
+-- An operation's issues but the last are over, and settled: where one was abandoned, no node
+-- stopped in its Prepare, and each node that was done has its decision.
 use Rattle.std.proofs.Common.{◌≡◌, ◌⊎◌, inl, inr, Bool, true, false, not, ◌&&◌, ◌||◌, List, [], ◌∷◌, Option, Some, None, refl, subst, sym, ap, ◌∙◌, if◌then◌else◌, Contains}
 use Rattle.std.specs.List.{AllByRecursion, list_any, list_all}
 use Rattle.std.proofs.lemmas.List.Folds.{list_any-append}
@@ -30,7 +31,8 @@ abbrev pub Legal : ClientNo → List Entry → Type 0
 Legal c [] = Unit {0}
 Legal c (e ∷ es) = Legal c es × ClientAllows c es e.node e.what × MeansBy es e.what
 
-pub client_legal : (start : Start) (past : List Entry) (c : ClientNo) → IsRun start past → Legal c (client_entries c past)
+pub client_legal : (start : Start) (past : List Entry) (c : ClientNo) → IsRun start past
+    → Legal c (client_entries c past)
 client_legal start [] c run = tt
 client_legal start (e ∷ past) c run =
     elim (is_by c e) as (λ b. is_by c e ≡ b → Legal c (if b then e ∷ client_entries c past else client_entries c past)) [
@@ -71,7 +73,9 @@ and_right : (a b : Bool) → (a && b) ≡ true → b ≡ true
 and_right true b e = e
 and_right false b e = absurd cc
 
-any_exec : (tid : Tid) (say : NodeReply → Bool) (now : List Entry) → was_told_somewhere (is_exec tid) say now ≡ true → was_told_somewhere (is_exec tid) any_reply now ≡ true
+any_exec : (tid : Tid) (say : NodeReply → Bool) (now : List Entry)
+    → was_told_somewhere (is_exec tid) say now ≡ true
+    → was_told_somewhere (is_exec tid) any_reply now ≡ true
 any_exec tid say now e =
     told_weaker (λ (c : Call). is_exec tid c.request && say c.reply) (λ (c : Call). is_exec tid c.request && true) (λ c h. one (is_exec tid c.request) (say c.reply) h) (calls_of now) e
   where
@@ -80,21 +84,27 @@ any_exec tid say now e =
     one false b h = absurd cc
 
 -- where an issue is followed it is over, and settled
-over_here : (now : List Entry) (i : Issued) → is_over now i ≡ true → (is_read i.mini.items || is_settled now i) ≡ true → Over now i
+over_here : (now : List Entry) (i : Issued) → is_over now i ≡ true
+    → (is_read i.mini.items || is_settled now i) ≡ true → Over now i
 over_here now i over settled = first (or_cases _ _ over)
   where
-    decided : is_settled now i ≡ true → (k : NodeNo) → Contains (participants_of i.mini) k → was_told (is_prepare i.tid) is_done k now ≡ true → was_decided i.tid k now ≡ true
+    decided : is_settled now i ≡ true → (k : NodeNo) → Contains (participants_of i.mini) k
+        → was_told (is_prepare i.tid) is_done k now ≡ true → was_decided i.tid k now ≡ true
     decided s k has done = by (was_told (is_prepare i.tid) is_done k now) (was_decided i.tid k now) done (all_there (λ (n : NodeNo). (not (was_told (is_prepare i.tid) is_done n now) || was_decided i.tid n now) ≡ true) (participants_of i.mini) k (all_true (λ (n : NodeNo). not (was_told (is_prepare i.tid) is_done n now) || was_decided i.tid n now) (participants_of i.mini) s) has)
       where
         by : (a b : Bool) → a ≡ true → (not a || b) ≡ true → b ≡ true
         by true b e h = h
         by false b e h = absurd cc
 
-    settle : was_told_somewhere (is_prepare i.tid) is_lost now ≡ false → (is_read i.mini.items ≡ true) ⊎ (is_settled now i ≡ true) → (is_read i.mini.items ≡ true) ⊎ HasSettled now i
+    settle : was_told_somewhere (is_prepare i.tid) is_lost now ≡ false
+        → (is_read i.mini.items ≡ true) ⊎ (is_settled now i ≡ true)
+        → (is_read i.mini.items ≡ true) ⊎ HasSettled now i
     settle none (inl h) = inl h
     settle none (inr h) = inr (none, decided h)
 
-    last : (was_told_somewhere (is_exec i.tid) is_refused now ≡ true) ⊎ ((is_read i.mini.items && was_told_somewhere (is_exec i.tid) is_done now) ≡ true) → Over now i
+    last : (was_told_somewhere (is_exec i.tid) is_refused now ≡ true)
+        ⊎ ((is_read i.mini.items && was_told_somewhere (is_exec i.tid) is_done now) ≡ true)
+        → Over now i
     last (inl h) = inr (any_exec i.tid is_refused now h)
     last (inr h) = inr (any_exec i.tid is_done now (and_right (is_read i.mini.items) _ h))
 
@@ -105,7 +115,8 @@ over_here now i over settled = first (or_cases _ _ over)
 
 -- An entry leaves it so: after an id was abandoned no Prepare of it is sent
 
-ask_none : (c : ClientNo) (es : List Entry) (tid : Tid) (n : NodeNo) (request : Request) → Sends es (Some n) request → was_abandoned tid es ≡ true → is_prepare tid request ≡ false
+ask_none : (c : ClientNo) (es : List Entry) (tid : Tid) (n : NodeNo) (request : Request)
+    → Sends es (Some n) request → was_abandoned tid es ≡ true → is_prepare tid request ≡ false
 ask_none c es tid n (Ask.Prepare t ps part) a gone = by (tid_same t tid) refl
   where
     by : (b : Bool) → tid_same t tid ≡ b → tid_same t tid ≡ false
@@ -117,7 +128,9 @@ ask_none c es tid n (Ask.Force t) a gone = refl
 ask_none c es tid n Ask.List a gone = refl
 ask_none c es tid n (Ask.Peek at size) a gone = refl
 
-no_prepare : (c : ClientNo) (es : List Entry) (tid : Tid) (at : Option NodeNo) (what : What) → ClientAllows c es at what → was_abandoned tid es ≡ true → AllByRecursion (λ (call : Call). is_prepare tid call.request ≡ false) (call_in at what)
+no_prepare : (c : ClientNo) (es : List Entry) (tid : Tid) (at : Option NodeNo) (what : What)
+    → ClientAllows c es at what → was_abandoned tid es ≡ true
+    → AllByRecursion (λ (call : Call). is_prepare tid call.request ≡ false) (call_in at what)
 no_prepare c es tid None what a gone = tt
 no_prepare c es tid (Some n) (Called request reply) a gone = (ask_none c es tid n request a gone, tt)
 no_prepare c es tid (Some n) (Stopped (Some request) asked) a gone = (ask_none c es tid n request a gone, tt)
@@ -128,11 +141,15 @@ no_prepare c es tid (Some n) (Restarted kept) a gone = tt
 no_prepare c es tid (Some n) (Abandoned t) a gone = tt
 no_prepare c es tid (Some n) (Answered number answer) a gone = tt
 
-none_any : (f : Call → Bool) (tid : Tid) (cs : List Call) → ((call : Call) → is_prepare tid call.request ≡ false → f call ≡ false) → AllByRecursion (λ (call : Call). is_prepare tid call.request ≡ false) cs → list_any f cs ≡ false
+none_any : (f : Call → Bool) (tid : Tid) (cs : List Call)
+    → ((call : Call) → is_prepare tid call.request ≡ false → f call ≡ false)
+    → AllByRecursion (λ (call : Call). is_prepare tid call.request ≡ false) cs
+    → list_any f cs ≡ false
 none_any f tid [] g all = refl
 none_any f tid (c ∷ cs) g all = ap (λ (b : Bool). b || list_any f cs) (g c all.0) ∙ none_any f tid cs g all.1
 
-over_more : (c : ClientNo) (e : Entry) (es : List Entry) (i : Issued) → ClientAllows c es e.node e.what → Over (since_begin es) i → Over (e ∷ since_begin es) i
+over_more : (c : ClientNo) (e : Entry) (es : List Entry) (i : Issued)
+    → ClientAllows c es e.node e.what → Over (since_begin es) i → Over (e ∷ since_begin es) i
 over_more c e es i a (inr h) = inr (list_any-append (λ (call : Call). is_exec i.tid call.request && true) (call_in e.node e.what) (calls_of (since_begin es)) ∙ or_right _ _ h)
 over_more c e es i a (inl (gone, inl read)) = inl (or_right (is_abandonment i.tid e.what) (was_abandoned i.tid (since_begin es)) gone, inl read)
 over_more c e es i a (inl (gone, inr (none, decided))) = inl (or_right (is_abandonment i.tid e.what) (was_abandoned i.tid (since_begin es)) gone, inr (still_none, still_decided))
@@ -152,18 +169,24 @@ over_more c e es i a (inl (gone, inr (none, decided))) = inl (or_right (is_aband
         list_any-append (λ (call : Call). is_prepare i.tid call.request && is_lost call.reply) (call_in e.node e.what) (calls_of (since_begin es))
         ∙ (ap (λ (b : Bool). b || was_told_somewhere (is_prepare i.tid) is_lost (since_begin es)) (none_any (λ (call : Call). is_prepare i.tid call.request && is_lost call.reply) i.tid (call_in e.node e.what) (λ call h. off (is_prepare i.tid call.request) (is_lost call.reply) h) quiet) ∙ none)
 
-    still_decided : (k : NodeNo) → Contains (participants_of i.mini) k → was_told (is_prepare i.tid) is_done k (e ∷ since_begin es) ≡ true → was_decided i.tid k (e ∷ since_begin es) ≡ true
+    still_decided : (k : NodeNo) → Contains (participants_of i.mini) k
+        → was_told (is_prepare i.tid) is_done k (e ∷ since_begin es) ≡ true
+        → was_decided i.tid k (e ∷ since_begin es) ≡ true
     still_decided k has done =
         let before : was_told (is_prepare i.tid) is_done k (since_begin es) ≡ true =
         sym (ap (λ (b : Bool). b || was_told (is_prepare i.tid) is_done k (since_begin es)) (none_any (λ (call : Call). node_same call.node k && (is_prepare i.tid call.request && is_done call.reply)) i.tid (call_in e.node e.what) (λ call h. off_at (node_same call.node k) (is_prepare i.tid call.request) (is_done call.reply) h) quiet))
         ∙ (sym (list_any-append (λ (call : Call). node_same call.node k && (is_prepare i.tid call.request && is_done call.reply)) (call_in e.node e.what) (calls_of (since_begin es))) ∙ done) in
         list_any-append (λ (call : Call). node_same call.node k && (Rattle.mn_world.specs.Calls.is_decide i.tid call.request && true)) (call_in e.node e.what) (calls_of (since_begin es)) ∙ or_right _ _ (decided k has before)
 
-all_more : (c : ClientNo) (e : Entry) (es : List Entry) (is : List Issued) → ClientAllows c es e.node e.what → AllByRecursion (Over (since_begin es)) is → AllByRecursion (Over (e ∷ since_begin es)) is
+all_more : (c : ClientNo) (e : Entry) (es : List Entry) (is : List Issued)
+    → ClientAllows c es e.node e.what → AllByRecursion (Over (since_begin es)) is
+    → AllByRecursion (Over (e ∷ since_begin es)) is
 all_more c e es [] a all = tt
 all_more c e es (i ∷ is) a all = (over_more c e es i a all.0, all_more c e es is a all.1)
 
-all_settled : (now : List Entry) (is : List Issued) → may_follow now is ≡ true → list_all (λ (i : Issued). is_read i.mini.items || is_settled now i) is ≡ true → AllByRecursion (Over now) (behind is) → AllByRecursion (Over now) is
+all_settled : (now : List Entry) (is : List Issued) → may_follow now is ≡ true
+    → list_all (λ (i : Issued). is_read i.mini.items || is_settled now i) is ≡ true
+    → AllByRecursion (Over now) (behind is) → AllByRecursion (Over now) is
 all_settled now [] may settled all = tt
 all_settled now (i ∷ is) may settled all = (over_here now i may (and_left (is_read i.mini.items || is_settled now i) _ settled), all)
 

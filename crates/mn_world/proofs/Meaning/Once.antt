@@ -1,4 +1,5 @@
--- Each operation stands once, exactly where a plan of it is committed or it was replied to, and between its Begin and its answer.
+-- Each operation stands once, exactly where a plan of it is committed or it was replied to, and
+-- between its Begin and its answer.
 use Rattle.std.proofs.Common.{◌≡◌, ℕ, ◌<◌, Bool, true, false, ◌&&◌, ◌||◌, List, [], ◌∷◌, ◌++◌, length, refl, subst, sym, ap, ◌∙◌, arith, if◌then◌else◌}
 use Rattle.mn_world.specs.Meaning.{OpenedRun}
 use Rattle.mn_world.specs.Meaning.{HistoryRun}
@@ -33,19 +34,23 @@ Differs q p = q.past.client ≡ p.past.client → q.past.number ≡ p.past.numbe
 turned : (q p : Placed) → Differs q p → Differs p q
 turned q p d client number = d (sym client) (sym number)
 
-once_put : (p : Placed) (ps : List Placed) → AllByRecursion (λ q. Differs q p) ps → AreOnce ps → AreOnce (placed_in p ps)
+once_put : (p : Placed) (ps : List Placed) → AllByRecursion (λ q. Differs q p) ps → AreOnce ps
+    → AreOnce (placed_in p ps)
 once_put p [] apart once = (tt, tt)
 once_put p (x ∷ xs) apart once = by (nat_lt p.place x.place) (once_put p xs apart.1 once.1)
   where
-    by : (b : Bool) → AreOnce (placed_in p xs) → AreOnce (if b then p ∷ x ∷ xs else x ∷ placed_in p xs)
+    by : (b : Bool) → AreOnce (placed_in p xs)
+        → AreOnce (if b then p ∷ x ∷ xs else x ∷ placed_in p xs)
     by true rest = (apart, once)
     by false rest = (all_put (λ q. Differs q x) p xs (turned x p apart.0) once.0, rest)
 
-once_push : (ps : List Placed) (p : Placed) → AllByRecursion (λ q. Differs q p) ps → AreOnce ps → AreOnce (ps ++ p ∷ [])
+once_push : (ps : List Placed) (p : Placed) → AllByRecursion (λ q. Differs q p) ps → AreOnce ps
+    → AreOnce (ps ++ p ∷ [])
 once_push [] p apart once = (tt, tt)
 once_push (x ∷ xs) p apart once = (all_append (λ q. Differs q x) xs (p ∷ []) once.0 (turned x p apart.0, tt), once_push xs p apart.1 once.1)
 
-pub none_past : (p : Placed) (ps : List Placed) → has_past p.past.client p.past.number ps ≡ false → AllByRecursion (λ q. Differs q p) ps
+pub none_past : (p : Placed) (ps : List Placed) → has_past p.past.client p.past.number ps ≡ false
+    → AllByRecursion (λ q. Differs q p) ps
 none_past p [] e = tt
 none_past p (q ∷ qs) e = (first, none_past p qs (second (client_same q.past.client p.past.client && nat_eq q.past.number p.past.number) _ e))
   where
@@ -69,16 +74,19 @@ none_past p (q ∷ qs) e = (first, none_past p qs (second (client_same q.past.cl
 
 -- Plans of one operation
 
-pub plan_as : (past : List Entry) (place : ℕ) (p : Past) (c : ClientNo) (number : ℕ) → p.client ≡ c → p.number ≡ number → PlanAt past place p → PlanIn past place c number
+pub plan_as : (past : List Entry) (place : ℕ) (p : Past) (c : ClientNo) (number : ℕ) → p.client ≡ c
+    → p.number ≡ number → PlanAt past place p → PlanIn past place c number
 plan_as past place p c number client is a = subst (λ (d : ClientNo). PlanIn past place d number) client (subst (λ (k : ℕ). PlanIn past place p.client k) is (plan_in past place p a))
 
-pub answer_as : (past : List Entry) (p : Placed) (c : ClientNo) (number : ℕ) → p.past.client ≡ c → p.past.number ≡ number → RepliedAt past p → AnswerAt past c number (Replied p.past.reply)
+pub answer_as : (past : List Entry) (p : Placed) (c : ClientNo) (number : ℕ) → p.past.client ≡ c
+    → p.past.number ≡ number → RepliedAt past p → AnswerAt past c number (Replied p.past.reply)
 answer_as past p c number client is r = subst (λ (d : ClientNo). AnswerAt past d number (Replied p.past.reply)) client (subst (λ (k : ℕ). AnswerAt past p.past.client k (Replied p.past.reply)) is r.answer)
 
 abbrev pub answer_more : (e : Entry) (past : List Entry) (c : ClientNo) (number : ℕ) (answer : Answer) → AnswerAt past c number answer → AnswerAt (e ∷ past) c number answer
 answer_more e past c number answer a = record { at = record { entry = a.at.entry; later = e ∷ a.at.later; before = a.at.before; split = ap (λ (l : List Entry). e ∷ l) a.at.split; by = a.at.by }; answers = a.answers }
 
-abbrev pub plan_more : (e : Entry) (past : List Entry) (place : ℕ) (p : Past) → PlanAt past place p → PlanAt (e ∷ past) place p
+abbrev pub plan_more : (e : Entry) (past : List Entry) (place : ℕ) (p : Past) → PlanAt past place p
+    → PlanAt (e ∷ past) place p
 plan_more e past place p a = record {
   entry = a.entry;
   later = e ∷ a.later;
@@ -92,7 +100,9 @@ plan_more e past place p a = record {
 }
 
 -- a plan that commits now is of an operation that stands nowhere yet
-new_plan : (start : Start) (past : List Entry) (e : Entry) → StartsSound start → HasSpaces start → IsRun start (e ∷ past) → (p : Past) → PlanAt (e ∷ past) (length past) p → (q : Placed) → Origin past q → Differs q (record { place = length past; past = p })
+new_plan : (start : Start) (past : List Entry) (e : Entry) → StartsSound start → HasSpaces start
+    → IsRun start (e ∷ past) → (p : Past) → PlanAt (e ∷ past) (length past) p → (q : Placed)
+    → Origin past q → Differs q (record { place = length past; past = p })
 new_plan start past e sound spaces run p plan q (by_plan a) client number =
     let same = one_plan start (e ∷ past) sound (runs_follow_protocol start (e ∷ past) run) p.client p.number q.place (length past)
     (plan_as (e ∷ past) q.place q.past p.client p.number client number (plan_more e past q.place q.past a)) (plan_in (e ∷ past) (length past) p plan) in
@@ -105,11 +115,13 @@ new_plan start past e sound spaces run p plan q (by_answer r) client number =
     let low = shorter_by past answer.at.later answer.at.entry answer.at.before answer.at.split in
     let less : length past < length (answer_as past q p.client p.number client number r).at.before = replied.before in absurd (omega arith)
 
-all_apart : (P : Placed → Type 0) (p : Placed) → ((q : Placed) → P q → Differs q p) → (ps : List Placed) → AllByRecursion P ps → AllByRecursion (λ q. Differs q p) ps
+all_apart : (P : Placed → Type 0) (p : Placed) → ((q : Placed) → P q → Differs q p)
+    → (ps : List Placed) → AllByRecursion P ps → AllByRecursion (λ q. Differs q p) ps
 all_apart P p f [] all = tt
 all_apart P p f (q ∷ qs) all = (f q all.0, all_apart P p f qs all.1)
 
-pub once_run : (start : Start) (past : List Entry) (placed : List Placed) → StartsSound start → HasSpaces start → IsRun start past → IsHistory past placed → AreOnce placed
+pub once_run : (start : Start) (past : List Entry) (placed : List Placed) → StartsSound start
+    → HasSpaces start → IsRun start past → IsHistory past placed → AreOnce placed
 once_run start [] placed sound spaces run none = subst AreOnce (sym none) tt
 once_run start (e ∷ past) placed sound spaces run history =
     by (puts_of start past e placed (runs_follow_protocol start (e ∷ past) run) history) (once_run start past history.0 sound spaces run.0 history.1)
@@ -131,7 +143,8 @@ each_once start store past placed h = once_run start past placed h.opened.opened
 
 -- At most one plan
 
-pub plan_of : (past : List Entry) (place : ℕ) (c : ClientNo) (number : ℕ) → CommitsPlanAt past place c number → PlanIn past place c number
+pub plan_of : (past : List Entry) (place : ℕ) (c : ClientNo) (number : ℕ)
+    → CommitsPlanAt past place c number → PlanIn past place c number
 plan_of past place c number (later, e, before, i, split, is, commits, not_read, (p, plan, client, n)) =
     plan_as past place p c number client n (record { entry = e; later = later; before = before; issued = i; split = split; is_place = is; commits = commits; no_read = not_read; plan = plan })
 
@@ -143,7 +156,9 @@ one_plan_each start store past one other c number h x y = (one_plan start past h
 abbrev pub answer_at : (past : List Entry) (place : ℕ) (e : Entry) (c : ClientNo) (number : ℕ) (answer : Answer) → StandsAt past place e → AnswersOp e c number answer → AnswerAt past c number answer
 answer_at past place e c number answer (later, before, split, is) answers = record { at = record { entry = e; later = later; before = before; split = split; by = answers.0 }; answers = answers.1 }
 
-no_effect : (start : Start) (past : List Entry) → StartsSound start → HasSpaces start → IsRun start past → (c : ClientNo) (number : ℕ) (answer : Answer) → AnswerAt past c number answer → MeansNoEffect answer → (q : Placed) → Origin past q
+no_effect : (start : Start) (past : List Entry) → StartsSound start → HasSpaces start
+    → IsRun start past → (c : ClientNo) (number : ℕ) (answer : Answer)
+    → AnswerAt past c number answer → MeansNoEffect answer → (q : Placed) → Origin past q
     → q.past.client ≡ c → q.past.number ≡ number → ⊥
 no_effect start past sound spaces run c number answer a means q (by_plan plan) client is =
     let s = shown_answer start past c number answer a run in
@@ -152,7 +167,9 @@ no_effect start past sound spaces run c number answer a means q (by_plan plan) c
 no_effect start past sound spaces run c number answer a means q (by_answer r) client is =
     subst MeansNoEffect (answered_once start past c number answer (Replied q.past.reply) a (answer_as past q c number client is r) (runs_follow_protocol start past run)).1 means
 
-all_none : (P : Placed → Type 0) (c : ClientNo) (number : ℕ) → ((q : Placed) → P q → q.past.client ≡ c → q.past.number ≡ number → ⊥) → (ps : List Placed) → AllByRecursion P ps → AllByRecursion (λ p. p.past.client ≡ c → p.past.number ≡ number → ⊥) ps
+all_none : (P : Placed → Type 0) (c : ClientNo) (number : ℕ)
+    → ((q : Placed) → P q → q.past.client ≡ c → q.past.number ≡ number → ⊥) → (ps : List Placed)
+    → AllByRecursion P ps → AllByRecursion (λ p. p.past.client ≡ c → p.past.number ≡ number → ⊥) ps
 all_none P c number f [] all = tt
 all_none P c number f (q ∷ qs) all = (f q all.0, all_none P c number f qs all.1)
 

@@ -38,7 +38,8 @@ use Rattle.mn_world.proofs.Meaning.Stands.{one_operation}
 
 -- Places of reads
 
-last_one : (c : ClientNo) (op : Op) (reply : Reply) (past : List Entry) (a b : ℕ) → LastShown c op reply past a → LastShown c op reply past b → a ≡ b
+last_one : (c : ClientNo) (op : Op) (reply : Reply) (past : List Entry) (a b : ℕ)
+    → LastShown c op reply past a → LastShown c op reply past b → a ≡ b
 last_one c op reply [] a b one other = absurd one
 last_one c op reply (e ∷ past) a b (inl (here, is)) (inl (here', is')) = is ∙ sym is'
 last_one c op reply (e ∷ past) a b (inl (here, is)) (inr (not_here, since, older)) = absurd (not_here here)
@@ -49,7 +50,8 @@ last_one c op reply (e ∷ past) a b (inr (not_here, since, older)) (inr (not_he
 abbrev BringsCatalog : Entry → Type 0
 BringsCatalog e = (seen : Seen) × Contains (seen_at e) seen × IsCatalogRead seen
 
-none_bring : (es : List Entry) → NoCatalog (seen_in es) → AllByRecursion (λ (e : Entry). BringsCatalog e → ⊥) es
+none_bring : (es : List Entry) → NoCatalog (seen_in es)
+    → AllByRecursion (λ (e : Entry). BringsCatalog e → ⊥) es
 none_bring [] none = tt
 none_bring (e ∷ es) none = (here, none_bring es rest)
   where
@@ -62,7 +64,8 @@ none_bring (e ∷ es) none = (here, none_bring es rest)
     rest : NoCatalog (seen_in es)
     rest = (Rattle.mn_page.proofs.Grid.all_split (λ (s : Seen). IsCatalogRead s → ⊥) (seen_at e) (seen_in es) parts).1
 
-first_one : (c : ClientNo) (past : List Entry) (a b : ℕ) → FirstCatalogAt c past a → FirstCatalogAt c past b → a ≡ b
+first_one : (c : ClientNo) (past : List Entry) (a b : ℕ) → FirstCatalogAt c past a
+    → FirstCatalogAt c past b → a ≡ b
 first_one c past a b one other = at (ordered (length one.before) (length other.before))
   where
     same : SameOldest (client_entries c one.later) (client_entries c other.later) one.entry other.entry
@@ -71,7 +74,9 @@ first_one c past a b one other = at (ordered (length one.before) (length other.b
         (none_bring (since_begin (client_entries c one.before)) one.first) (none_bring (since_begin (client_entries c other.before)) other.first)
 
     -- the entry of the higher place is one more of the client's
-    longer : (x y : Entry) (later later' before before' : List Entry) → past ≡ later ++ x ∷ before → past ≡ later' ++ y ∷ before' → is_by c y ≡ true → length before < length before' → length (client_entries c later) ≡ length (client_entries c later') → ⊥
+    longer : (x y : Entry) (later later' before before' : List Entry) → past ≡ later ++ x ∷ before
+        → past ≡ later' ++ y ∷ before' → is_by c y ≡ true → length before < length before'
+        → length (client_entries c later) ≡ length (client_entries c later') → ⊥
     longer x y later later' before before' split split' by less equal =
         let inner = inner_split later later' x y before before' (sym split ∙ split') less in
         let parts : later ≡ later' ++ y ∷ inner.between = append_cancel_right later (later' ++ y ∷ inner.between) (x ∷ before) (sym split ∙ (split' ∙ (ap (λ (l : List Entry). later' ++ y ∷ l) inner.split ∙ sym (append_assoc later' (y ∷ inner.between) (x ∷ before))))) in
@@ -79,12 +84,15 @@ first_one c past a b one other = at (ordered (length one.before) (length other.b
         let sum = length-append (client_entries c later') (y ∷ client_entries c inner.between) in
         absurd (omega arith)
 
-    at : (length one.before < length other.before) ⊎ ((length one.before ≡ length other.before) ⊎ (length other.before < length one.before)) → a ≡ b
+    at : (length one.before < length other.before)
+        ⊎ ((length one.before ≡ length other.before) ⊎ (length other.before < length one.before))
+        → a ≡ b
     at (inl less) = absurd (longer one.entry other.entry one.later other.later one.before other.before one.split other.split other.here.0 less (ap (λ (l : List Entry). length l) (sym same.parts)))
     at (inr (inl equal)) = one.is_place ∙ (equal ∙ sym other.is_place)
     at (inr (inr more)) = absurd (longer other.entry one.entry other.later one.later other.before one.before other.split one.split one.here.0 more (ap (λ (l : List Entry). length l) same.parts))
 
-read_one : (c : ClientNo) (past : List Entry) (op : Op) (reply : Reply) (a b : ℕ) → ReadPlace c past op reply a → ReadPlace c past op reply b → a ≡ b
+read_one : (c : ClientNo) (past : List Entry) (op : Op) (reply : Reply) (a b : ℕ)
+    → ReadPlace c past op reply a → ReadPlace c past op reply b → a ≡ b
 read_one c past (Scan name low high limit) (Say.Pairs pairs) a b one other = first_one c past a b one other
 read_one c past op reply a b one other = last_one c op reply past a b one other
 
@@ -94,7 +102,8 @@ answer_one : (past : List Entry) (c : ClientNo) (begun : Option Begun) (answer :
 answer_one past c None answer old one other p q = p ∙ sym q
 answer_one past c (Some begun) (Replied reply) old one other p q = by (has_past c begun.number old) p q
   where
-    by : (b : Bool) → MatchBool b (one ≡ old) ((place : ℕ) × ReadPlace c past begun.op reply place × (one ≡ placed_in (record { place = place; past = record { client = c; number = begun.number; op = begun.op; reply = reply } }) old))
+    by : (b : Bool)
+        → MatchBool b (one ≡ old) ((place : ℕ) × ReadPlace c past begun.op reply place × (one ≡ placed_in (record { place = place; past = record { client = c; number = begun.number; op = begun.op; reply = reply } }) old))
         → MatchBool b (other ≡ old) ((place : ℕ) × ReadPlace c past begun.op reply place × (other ≡ placed_in (record { place = place; past = record { client = c; number = begun.number; op = begun.op; reply = reply } }) old)) → one ≡ other
     by true p q = p ∙ sym q
     by false (a, read, is) (b, read', is') =
@@ -106,7 +115,8 @@ answer_one past c (Some begun) (Full need free) old one other p q = p ∙ sym q
 answer_one past c (Some begun) (Worn n start) old one other p q = p ∙ sym q
 answer_one past c (Some begun) NoMemory old one other p q = p ∙ sym q
 
-step_one : (past : List Entry) (by : Option ClientNo) (what : What) (old one other : List Placed) → StepPuts past by what old one → StepPuts past by what old other → one ≡ other
+step_one : (past : List Entry) (by : Option ClientNo) (what : What) (old one other : List Placed)
+    → StepPuts past by what old one → StepPuts past by what old other → one ≡ other
 step_one past None what old one other p q = p ∙ sym q
 step_one past (Some c) (Answered number answer) old one other p q = answer_one past c (under_way (client_entries c past)) answer old one other p q
 step_one past (Some c) (Begin number op) old one other p q = p ∙ sym q
@@ -122,7 +132,9 @@ same_past p q client begun reply =
     ∙ (ap (λ (b : Begun). let r : Past = record { client = q.client; number = b.number; op = b.op; reply = p.reply } in r) begun
     ∙ ap (λ (x : Reply). let r : Past = record { client = q.client; number = q.number; op = q.op; reply = x } in r) reply)
 
-plan_one : (start : Start) (store : Store) (past : List Entry) (e : Entry) (old : List Placed) → Known start store past old → FollowsProtocol start (e ∷ past) → (i : Issued) → committed_by past e ≡ Some i → is_read i.mini.items ≡ false
+plan_one : (start : Start) (store : Store) (past : List Entry) (e : Entry) (old : List Placed)
+    → Known start store past old → FollowsProtocol start (e ∷ past) → (i : Issued)
+    → committed_by past e ≡ Some i → is_read i.mini.items ≡ false
     → (p q : Past) → PlanOf past i p → PlanOf past i q → p ≡ q
 plan_one start store past e old known run i is not_read p q a b =
     let same = one_operation start (e ∷ past) (length past) (length past) p q
@@ -138,13 +150,16 @@ entry_one : (start : Start) (store : Store) (past : List Entry) (e : Entry) (old
 entry_one start store past e old one other known run None none p q = step_one past e.client e.what old one other p q
 entry_one start store past e old one other known run (Some i) is p q = by (is_read i.mini.items) refl p q
   where
-    by : (b : Bool) → is_read i.mini.items ≡ b → MatchBool b (one ≡ old) ((p : Past) × PlanOf past i p × (one ≡ old ++ record { place = length past; past = p } ∷ []))
+    by : (b : Bool) → is_read i.mini.items ≡ b
+        → MatchBool b (one ≡ old) ((p : Past) × PlanOf past i p × (one ≡ old ++ record { place = length past; past = p } ∷ []))
         → MatchBool b (other ≡ old) ((p : Past) × PlanOf past i p × (other ≡ old ++ record { place = length past; past = p } ∷ [])) → one ≡ other
     by true read p q = p ∙ sym q
     by false not_read (p, plan, same) (q, plan', same') =
         same ∙ (ap (λ (x : Past). old ++ record { place = length past; past = x } ∷ []) (plan_one start store past e old known run i is not_read p q plan plan') ∙ sym same')
 
-one_run : (start : Start) (store : Store) (past : List Entry) (one other : List Placed) → StartsSound start → HasSpaces start → Holds (opened_memory start) store → IsRun start past → IsHistory past one → IsHistory past other → one ≡ other
+one_run : (start : Start) (store : Store) (past : List Entry) (one other : List Placed)
+    → StartsSound start → HasSpaces start → Holds (opened_memory start) store → IsRun start past
+    → IsHistory past one → IsHistory past other → one ≡ other
 one_run start store [] one other sound spaces opened run p q = p ∙ sym q
 one_run start store (e ∷ past) one other sound spaces opened run (old, history, puts) (old', history', puts') =
     let same : old' ≡ old = one_run start store past old' old sound spaces opened run.0 history' history in

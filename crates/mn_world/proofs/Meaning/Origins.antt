@@ -1,4 +1,5 @@
--- Where each operation of a history comes from: a plan that is committed at its place, or an answer.
+-- Where each operation of a history comes from: a plan that is committed at its place, or an
+-- answer.
 use Rattle.std.proofs.Common.{◌≡◌, ℕ, ◌<◌, Bool, true, false, List, [], ◌∷◌, ◌++◌, length, Option, Some, None, refl, subst, sym, ap, ◌∙◌, arith, if◌then◌else◌}
 use Rattle.std.specs.Prelude.{nat_lt, MatchBool}
 use Rattle.std.specs.List.{AllByRecursion}
@@ -37,7 +38,8 @@ abbrev pub begun_as : Past → Begun
 begun_as p = record { number = p.number; op = p.op }
 
 -- its issue, in the whole log
-abbrev pub issue_of : (past : List Entry) (place : ℕ) (p : Past) (a : PlanAt past place p) → IssueAt past p.client (begun_as p) a.issued
+abbrev pub issue_of : (past : List Entry) (place : ℕ) (p : Past) (a : PlanAt past place p)
+    → IssueAt past p.client (begun_as p) a.issued
 issue_of past place p a = record {
   at = record {
     entry = a.plan.entry;
@@ -50,7 +52,8 @@ issue_of past place p a = record {
   of = a.plan.of;
 }
 
-pub issue_low : (past : List Entry) (place : ℕ) (p : Past) (a : PlanAt past place p) → length (issue_of past place p a).at.before < place
+pub issue_low : (past : List Entry) (place : ℕ) (p : Past) (a : PlanAt past place p)
+    → length (issue_of past place p a).at.before < place
 issue_low past place p a =
     let low = shorter_by a.before a.plan.later a.plan.entry a.plan.before a.plan.split in
     let is : place ≡ length a.before = a.is_place in omega arith
@@ -83,29 +86,36 @@ origin_more e past p (by_plan a) = by_plan (record {
 })
 origin_more e past p (by_answer a) = by_answer (record { answer = record { at = own_more e past p.past.client a.answer.at; answers = a.answer.answers }; of = a.of; read = a.read })
 
-origins_more : (e : Entry) (past : List Entry) (ps : List Placed) → AllByRecursion (Origin past) ps → AllByRecursion (Origin (e ∷ past)) ps
+origins_more : (e : Entry) (past : List Entry) (ps : List Placed) → AllByRecursion (Origin past) ps
+    → AllByRecursion (Origin (e ∷ past)) ps
 origins_more e past [] all = tt
 origins_more e past (p ∷ ps) all = (origin_more e past p all.0, origins_more e past ps all.1)
 
-pub all_put : (P : Placed → Type 0) (p : Placed) (ps : List Placed) → P p → AllByRecursion P ps → AllByRecursion P (placed_in p ps)
+pub all_put : (P : Placed → Type 0) (p : Placed) (ps : List Placed) → P p → AllByRecursion P ps
+    → AllByRecursion P (placed_in p ps)
 all_put P p [] is all = (is, tt)
 all_put P p (q ∷ qs) is all = by (nat_lt p.place q.place) (all_put P p qs is all.1)
   where
-    by : (b : Bool) → AllByRecursion P (placed_in p qs) → AllByRecursion P (if b then p ∷ q ∷ qs else q ∷ placed_in p qs)
+    by : (b : Bool) → AllByRecursion P (placed_in p qs)
+        → AllByRecursion P (if b then p ∷ q ∷ qs else q ∷ placed_in p qs)
     by true rest = (is, all)
     by false rest = (all.0, rest)
 
 -- What an entry puts into the history: nothing, an operation by an answer, or one by a plan
 pub data Puts (past : List Entry) (e : Entry) (old new : List Placed) : Type 0 where
   nothing_new : new ≡ old → Puts past e old new
-  read_new : (p : Placed) → RepliedAt (e ∷ past) p → has_past p.past.client p.past.number old ≡ false → new ≡ placed_in p old → Puts past e old new
-  plan_new : (p : Past) → PlanAt (e ∷ past) (length past) p → new ≡ old ++ record { place = length past; past = p } ∷ [] → Puts past e old new
+  read_new : (p : Placed) → RepliedAt (e ∷ past) p
+      → has_past p.past.client p.past.number old ≡ false → new ≡ placed_in p old
+      → Puts past e old new
+  plan_new : (p : Past) → PlanAt (e ∷ past) (length past) p
+      → new ≡ old ++ record { place = length past; past = p } ∷ [] → Puts past e old new
 
 same_begun : (a b : Begun) → Some a ≡ Some b → a ≡ b
 same_begun a b e = cc
 
 answer_puts : (past : List Entry) (at : Option NodeNo) (c : ClientNo) (number : ℕ) (answer : Answer) (begun : Option Begun) (old new : List Placed) → under_way (client_entries c past) ≡ begun
-    → AllowedBy past (Some c) at (Answered number answer) → AnswerPuts past c begun answer old new → Puts past (record { node = at; client = Some c; what = Answered number answer }) old new
+    → AllowedBy past (Some c) at (Answered number answer) → AnswerPuts past c begun answer old new
+    → Puts past (record { node = at; client = Some c; what = Answered number answer }) old new
 answer_puts past at c number answer None old new now allowed puts = nothing_new puts
 answer_puts past at c number (Replied reply) (Some begun) old new now allowed puts = by (has_past c begun.number old) refl puts
   where
@@ -146,23 +156,30 @@ step_puts past at (Some c) (Stopped request asked) old new allowed puts = nothin
 step_puts past at (Some c) (Restarted kept) old new allowed puts = nothing_new puts
 step_puts past at (Some c) (Abandoned tid) old new allowed puts = nothing_new puts
 
-pub entry_puts : (start : Start) (past : List Entry) (e : Entry) (old new : List Placed) → FollowsProtocol start (e ∷ past) → (o : Option Issued) → committed_by past e ≡ o → EntryPuts past e o old new → Puts past e old new
+pub entry_puts : (start : Start) (past : List Entry) (e : Entry) (old new : List Placed)
+    → FollowsProtocol start (e ∷ past) → (o : Option Issued) → committed_by past e ≡ o
+    → EntryPuts past e o old new → Puts past e old new
 entry_puts start past e old new run None none puts = step_puts past e.node e.client e.what old new run.1.by_client puts
 entry_puts start past e old new run (Some i) is puts = by (is_read i.mini.items) refl puts
   where
-    by : (b : Bool) → is_read i.mini.items ≡ b → MatchBool b (new ≡ old) ((p : Past) × PlanOf past i p × (new ≡ old ++ record { place = length past; past = p } ∷ [])) → Puts past e old new
+    by : (b : Bool) → is_read i.mini.items ≡ b
+        → MatchBool b (new ≡ old) ((p : Past) × PlanOf past i p × (new ≡ old ++ record { place = length past; past = p } ∷ [])) → Puts past e old new
     by true read same = nothing_new same
     by false not_read (p, plan, same) =
         plan_new p (record { entry = e; later = []; before = past; issued = i; split = refl; is_place = refl; commits = is; no_read = not_read; plan = plan }) same
 
-pub puts_of : (start : Start) (past : List Entry) (e : Entry) (placed : List Placed) → FollowsProtocol start (e ∷ past) → (history : IsHistory (e ∷ past) placed) → Puts past e history.0 placed
+pub puts_of : (start : Start) (past : List Entry) (e : Entry) (placed : List Placed)
+    → FollowsProtocol start (e ∷ past) → (history : IsHistory (e ∷ past) placed)
+    → Puts past e history.0 placed
 puts_of start past e placed run history = entry_puts start past e history.0 placed run (committed_by past e) refl history.2
 
-pub origins : (start : Start) (past : List Entry) (placed : List Placed) → FollowsProtocol start past → IsHistory past placed → AllByRecursion (Origin past) placed
+pub origins : (start : Start) (past : List Entry) (placed : List Placed)
+    → FollowsProtocol start past → IsHistory past placed → AllByRecursion (Origin past) placed
 origins start [] placed run none = subst (AllByRecursion (Origin [])) (sym none) tt
 origins start (e ∷ past) placed run history = by (puts_of start past e placed run history) (origins_more e past history.0 (origins start past history.0 run.0 history.1))
   where
-    by : Puts past e history.0 placed → AllByRecursion (Origin (e ∷ past)) history.0 → AllByRecursion (Origin (e ∷ past)) placed
+    by : Puts past e history.0 placed → AllByRecursion (Origin (e ∷ past)) history.0
+        → AllByRecursion (Origin (e ∷ past)) placed
     by (nothing_new same) olds = subst (AllByRecursion (Origin (e ∷ past))) (sym same) olds
     by (read_new p replied none same) olds = subst (AllByRecursion (Origin (e ∷ past))) (sym same) (all_put (Origin (e ∷ past)) p history.0 (by_answer replied) olds)
     by (plan_new p plan same) olds =

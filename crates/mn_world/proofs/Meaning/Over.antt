@@ -48,7 +48,9 @@ gone_more e es i (inr (inr h)) = inr (inr h)
 over_gone : (now : List Entry) (i : Issued) → is_over now i ≡ true → GoneIn now i
 over_gone now i e = first (or_cases _ _ e)
   where
-    last : (was_told_somewhere (is_exec i.tid) is_refused now ≡ true) ⊎ ((is_read i.mini.items && was_told_somewhere (is_exec i.tid) is_done now) ≡ true) → GoneIn now i
+    last : (was_told_somewhere (is_exec i.tid) is_refused now ≡ true)
+        ⊎ ((is_read i.mini.items && was_told_somewhere (is_exec i.tid) is_done now) ≡ true)
+        → GoneIn now i
     last (inl h) = inr (inl h)
     last (inr h) = inr (inr (and_left (is_read i.mini.items) (was_told_somewhere (is_exec i.tid) is_done now) h))
 
@@ -61,11 +63,13 @@ abbrev pub behind : List Issued → List Issued
 behind [] = []
 behind (i ∷ is) = is
 
-all_gone : (now : List Entry) (is : List Issued) → may_follow now is ≡ true → AllByRecursion (GoneIn now) (behind is) → AllByRecursion (GoneIn now) is
+all_gone : (now : List Entry) (is : List Issued) → may_follow now is ≡ true
+    → AllByRecursion (GoneIn now) (behind is) → AllByRecursion (GoneIn now) is
 all_gone now [] may all = tt
 all_gone now (i ∷ is) may all = (over_gone now i may, all)
 
-all_more : (e : Entry) (es : List Entry) (is : List Issued) → AllByRecursion (GoneIn es) is → AllByRecursion (GoneIn (e ∷ es)) is
+all_more : (e : Entry) (es : List Entry) (is : List Issued) → AllByRecursion (GoneIn es) is
+    → AllByRecursion (GoneIn (e ∷ es)) is
 all_more e es [] all = tt
 all_more e es (i ∷ is) all = (gone_more e es i all.0, all_more e es is all.1)
 
@@ -86,7 +90,9 @@ all_over c [] a = tt
 all_over c (e ∷ es) a = over_step e.node e.client c e.what es a.1 (all_over c es a.0)
 
 -- where an issue is allowed, each issue of the operation so far is gone
-pub issue_allows : (at : Option NodeNo) (c : ClientNo) (what : What) (es : List Entry) (j : Issued) → Allowed c es → ClientAllows c es at what → issue_in what ≡ j ∷ [] → AllByRecursion (GoneIn (since_begin es)) (issues_of (since_begin es))
+pub issue_allows : (at : Option NodeNo) (c : ClientNo) (what : What) (es : List Entry) (j : Issued)
+    → Allowed c es → ClientAllows c es at what → issue_in what ≡ j ∷ []
+    → AllByRecursion (GoneIn (since_begin es)) (issues_of (since_begin es))
 issue_allows at c (Issue tid mini) es j allowed a is = all_gone (since_begin es) (issues_of (since_begin es)) a.after (all_over c es allowed)
 issue_allows at c (Begin number op) es j allowed a is = absurd cc
 issue_allows at c (Answered number answer) es j allowed a is = absurd cc
@@ -96,16 +102,21 @@ issue_allows at c (Restarted kept) es j allowed a is = absurd cc
 issue_allows at c (Abandoned tid) es j allowed a is = absurd cc
 
 -- an issue of the list
-pub issue_there : (newer : List Entry) (x : Entry) (older : List Entry) (i : Issued) → issue_in x.what ≡ i ∷ [] → Contains (issues_of (newer ++ x ∷ older)) i
+pub issue_there : (newer : List Entry) (x : Entry) (older : List Entry) (i : Issued)
+    → issue_in x.what ≡ i ∷ [] → Contains (issues_of (newer ++ x ∷ older)) i
 issue_there [] x older i is = subst (λ (js : List Issued). Contains (js ++ issues_of older) i) (sym is) (0, omega arith, refl)
 issue_there (e ∷ newer) x older i is = Contains-append_right (issue_in e.what) (issues_of (newer ++ x ∷ older)) i (issue_there newer x older i is)
 
 -- what the entries since Begin tell, the list tells
-pub more : (f : Call → Bool) (new old since : List Call) → (list_any f since ≡ true → list_any f old ≡ true) → list_any f (new ++ since) ≡ true → list_any f (new ++ old) ≡ true
+pub more : (f : Call → Bool) (new old since : List Call)
+    → (list_any f since ≡ true → list_any f old ≡ true) → list_any f (new ++ since) ≡ true
+    → list_any f (new ++ old) ≡ true
 more f [] old since g e = g e
 more f (c ∷ cs) old since g e = two (or_cases (f c) (list_any f (cs ++ since)) e) (more f cs old since g)
   where
-    two : (f c ≡ true) ⊎ (list_any f (cs ++ since) ≡ true) → (list_any f (cs ++ since) ≡ true → list_any f (cs ++ old) ≡ true) → (f c || list_any f (cs ++ old)) ≡ true
+    two : (f c ≡ true) ⊎ (list_any f (cs ++ since) ≡ true)
+        → (list_any f (cs ++ since) ≡ true → list_any f (cs ++ old) ≡ true)
+        → (f c || list_any f (cs ++ old)) ≡ true
     two (inl h) rest = or_left (f c) (list_any f (cs ++ old)) h
     two (inr h) rest = or_right (f c) (list_any f (cs ++ old)) (rest h)
 
@@ -119,7 +130,8 @@ told_step f es at by (Stopped request asked) older h = more f (call_in at (Stopp
 told_step f es at by (Restarted kept) older h = more f (call_in at (Restarted kept)) (calls_of es) (calls_of (since_begin es)) older h
 told_step f es at by (Abandoned tid) older h = more f (call_in at (Abandoned tid)) (calls_of es) (calls_of (since_begin es)) older h
 
-pub since_told : (f : Call → Bool) (es : List Entry) → list_any f (calls_of (since_begin es)) ≡ true → list_any f (calls_of es) ≡ true
+pub since_told : (f : Call → Bool) (es : List Entry) → list_any f (calls_of (since_begin es)) ≡ true
+    → list_any f (calls_of es) ≡ true
 since_told f [] h = h
 since_told f (e ∷ es) h = told_step f es e.node e.client e.what (since_told f es) h
 
@@ -143,11 +155,13 @@ refused_result Say.Down e = refl
 refused_result Say.Stopped e = absurd cc
 refused_result Say.NoMemory e = refl
 
-pub told_weaker : (f g : Call → Bool) → ((c : Call) → f c ≡ true → g c ≡ true) → (cs : List Call) → list_any f cs ≡ true → list_any g cs ≡ true
+pub told_weaker : (f g : Call → Bool) → ((c : Call) → f c ≡ true → g c ≡ true) → (cs : List Call)
+    → list_any f cs ≡ true → list_any g cs ≡ true
 told_weaker f g w [] e = absurd cc
 told_weaker f g w (c ∷ cs) e = by (or_cases (f c) (list_any f cs) e) (told_weaker f g w cs)
   where
-    by : (f c ≡ true) ⊎ (list_any f cs ≡ true) → (list_any f cs ≡ true → list_any g cs ≡ true) → (g c || list_any g cs) ≡ true
+    by : (f c ≡ true) ⊎ (list_any f cs ≡ true) → (list_any f cs ≡ true → list_any g cs ≡ true)
+        → (g c || list_any g cs) ≡ true
     by (inl h) rest = or_left (g c) (list_any g cs) (w c h)
     by (inr h) rest = or_right (g c) (list_any g cs) (rest h)
 
@@ -155,7 +169,9 @@ both : (a b d : Bool) → (a && b) ≡ true → (b ≡ true → d ≡ true) → 
 both true b d e f = f e
 both false b d e f = absurd cc
 
-pub gone_never : (start : Start) (past later : List Entry) (c : ClientNo) (i : Issued) → StartsSound start → FollowsProtocol start (later ++ past) → GoneIn (client_entries c past) i → is_read i.mini.items ≡ false → IsNeverCommitted i.tid (later ++ past)
+pub gone_never : (start : Start) (past later : List Entry) (c : ClientNo) (i : Issued)
+    → StartsSound start → FollowsProtocol start (later ++ past) → GoneIn (client_entries c past) i
+    → is_read i.mini.items ≡ false → IsNeverCommitted i.tid (later ++ past)
 gone_never start past later c i sound run (inl h) not_read = abandoned_is_never start past later c i.tid sound run h
 gone_never start past later c i sound run (inr (inl h)) not_read =
     refused_is_never start past later c i.tid sound run

@@ -52,7 +52,9 @@ same_mini a b e = cc
 abbrev AreTries : Tid → (Call → Bool) → Type 0
 AreTries tid f = (call : Call) → f call ≡ true → is_try tid call.request ≡ true
 
-tried_issued : (start : Start) (past : List Entry) (c : ClientNo) (tid : Tid) (f : Call → Bool) → AreTries tid f → StartsSound start → FollowsProtocol start past → list_any f (calls_of (client_entries c past)) ≡ true
+tried_issued : (start : Start) (past : List Entry) (c : ClientNo) (tid : Tid) (f : Call → Bool)
+    → AreTries tid f → StartsSound start → FollowsProtocol start past
+    → list_any f (calls_of (client_entries c past)) ≡ true
     → (mini : Mini) × (issue_named tid (issues_of (client_entries c past)) ≡ Some mini)
 tried_issued start [] c tid f tries sound run told = absurd cc
 tried_issued start (e ∷ past) c tid f tries sound run told = by (new_call start past c e f run.1 told) (λ old. tried_issued start past c tid f tries sound run.0 old)
@@ -60,10 +62,13 @@ tried_issued start (e ∷ past) c tid f tries sound run told = by (new_call star
     kept : Kept start past
     kept = kept_run start past sound run.0
 
-    on : (mini : Mini) × (issue_named tid (issues_of (client_entries c past)) ≡ Some mini) → (mini : Mini) × (issue_named tid (issues_of (client_entries c (e ∷ past))) ≡ Some mini)
+    on : (mini : Mini) × (issue_named tid (issues_of (client_entries c past)) ≡ Some mini)
+        → (mini : Mini) × (issue_named tid (issues_of (client_entries c (e ∷ past))) ≡ Some mini)
     on (mini, is) = (mini, issue_stays start past e c tid mini kept run.1 is)
 
-    by : (list_any f (calls_of (client_entries c past)) ≡ true) ⊎ ((call : Call) × IsCallOf start past c e call × (f call ≡ true)) → (list_any f (calls_of (client_entries c past)) ≡ true → (mini : Mini) × (issue_named tid (issues_of (client_entries c past)) ≡ Some mini))
+    by : (list_any f (calls_of (client_entries c past)) ≡ true)
+        ⊎ ((call : Call) × IsCallOf start past c e call × (f call ≡ true))
+        → (list_any f (calls_of (client_entries c past)) ≡ true → (mini : Mini) × (issue_named tid (issues_of (client_entries c past)) ≡ Some mini))
         → (mini : Mini) × (issue_named tid (issues_of (client_entries c (e ∷ past))) ≡ Some mini)
     by (inl old) deeper = on (deeper old)
     by (inr (call, is, passes)) deeper = on (may_try start past c call.node tid call.request kept (tries call passes) is.sends).2
@@ -71,10 +76,13 @@ tried_issued start (e ∷ past) c tid f tries sound run told = by (new_call star
 -- of an id that is issued since Begin, each try was sent since Begin
 abbrev IsCurrent : (Call → Bool) → ClientNo → List Entry → Tid → Type 0
 IsCurrent f c past tid =
-    (mini : Mini) → issue_named tid (issues_of (since_begin (client_entries c past))) ≡ Some mini → list_any f (calls_of (client_entries c past)) ≡ true → list_any f (calls_of (since_begin (client_entries c past))) ≡ true
+    (mini : Mini) → issue_named tid (issues_of (since_begin (client_entries c past))) ≡ Some mini
+    → list_any f (calls_of (client_entries c past)) ≡ true
+    → list_any f (calls_of (since_begin (client_entries c past))) ≡ true
 
 current_here : (start : Start) (past : List Entry) (c : ClientNo) (at : Option NodeNo) (what : What) (tid : Tid) (f : Call → Bool) → AreTries tid f → StartsSound start → FollowsProtocol start past → KeepsProtocol start past (record { node = at; client = Some c; what = what }) → IsCurrent f c past tid
-    → (mini : Mini) → issue_named tid (issues_of (since_begin_after what (record { node = at; client = Some c; what = what }) (since_begin (client_entries c past)))) ≡ Some mini
+    → (mini : Mini)
+    → issue_named tid (issues_of (since_begin_after what (record { node = at; client = Some c; what = what }) (since_begin (client_entries c past)))) ≡ Some mini
     → list_any f (call_in at what ++ calls_of (client_entries c past)) ≡ true
     → list_any f (calls_of (since_begin_after what (record { node = at; client = Some c; what = what }) (since_begin (client_entries c past)))) ≡ true
 current_here start past c at (Begin number op) tid f tries sound run keeps older mini is told = absurd cc
@@ -92,7 +100,8 @@ current_here start past c at (Stopped request asked) tid f tries sound run keeps
 current_here start past c at (Restarted restored) tid f tries sound run keeps older mini is told = more f (call_in at (Restarted restored)) (calls_of (since_begin (client_entries c past))) (calls_of (client_entries c past)) (older mini is) told
 current_here start past c at (Abandoned t) tid f tries sound run keeps older mini is told = more f (call_in at (Abandoned t)) (calls_of (since_begin (client_entries c past))) (calls_of (client_entries c past)) (older mini is) told
 
-current_run : (start : Start) (past : List Entry) (c : ClientNo) (tid : Tid) (f : Call → Bool) → AreTries tid f → StartsSound start → FollowsProtocol start past → IsCurrent f c past tid
+current_run : (start : Start) (past : List Entry) (c : ClientNo) (tid : Tid) (f : Call → Bool)
+    → AreTries tid f → StartsSound start → FollowsProtocol start past → IsCurrent f c past tid
 current_run start [] c tid f tries sound run = λ mini is told. absurd cc
 current_run start (e ∷ past) c tid f tries sound run =
     let older = current_run start past c tid f tries sound run.0 in
@@ -109,7 +118,9 @@ current_run start (e ∷ past) c tid f tries sound run =
 
 -- What is over sends nothing
 
-exec_list : (es : List Entry) (tid : Tid) → was_told_somewhere (is_exec tid) any_reply (since_begin es) ≡ true → list_any (λ (d : Call). is_exec tid d.request) (calls_of es) ≡ true
+exec_list : (es : List Entry) (tid : Tid)
+    → was_told_somewhere (is_exec tid) any_reply (since_begin es) ≡ true
+    → list_any (λ (d : Call). is_exec tid d.request) (calls_of es) ≡ true
 exec_list es tid told =
     told_weaker (λ (d : Call). is_exec tid d.request && true) (λ (d : Call). is_exec tid d.request) (λ d h. and_left (is_exec tid d.request) true h) (calls_of es) (since_told (λ (d : Call). is_exec tid d.request && true) es told)
 
@@ -160,7 +171,8 @@ record Found (P : Issued → Type 0) (tid : Tid) (mini : Mini) : Type 0 where
   pub mini_is : issued.mini ≡ mini
   pub holds : P issued
 
-find : (P : Issued → Type 0) (is : List Issued) (tid : Tid) (mini : Mini) → AllByRecursion P is → issue_named tid is ≡ Some mini → Found P tid mini
+find : (P : Issued → Type 0) (is : List Issued) (tid : Tid) (mini : Mini) → AllByRecursion P is
+    → issue_named tid is ≡ Some mini → Found P tid mini
 find P [] tid mini all named = absurd cc
 find P (i ∷ is) tid mini all named =
     elim (tid_same i.tid tid) as (λ b. tid_same i.tid tid ≡ b → (if b then Some i.mini else issue_named tid is) ≡ Some mini → Found P tid mini) [
@@ -169,7 +181,9 @@ find P (i ∷ is) tid mini all named =
     ] refl named
 
 -- of two ids one that sends still, the other one is over
-other_over : (P : Issued → Type 0) (is : List Issued) (tid holder : Tid) (mini own : Mini) → AllByRecursion P (behind is) → tid_same holder tid ≡ false → issue_named tid is ≡ Some own → ((f : Found P tid own) → ⊥) → issue_named holder is ≡ Some mini → Found P holder mini
+other_over : (P : Issued → Type 0) (is : List Issued) (tid holder : Tid) (mini own : Mini)
+    → AllByRecursion P (behind is) → tid_same holder tid ≡ false → issue_named tid is ≡ Some own
+    → ((f : Found P tid own) → ⊥) → issue_named holder is ≡ Some mini → Found P holder mini
 other_over P [] tid holder mini own all differ named none is = absurd cc
 other_over P (i ∷ is) tid holder mini own all differ named none at =
     elim (tid_same i.tid holder) as (λ b. tid_same i.tid holder ≡ b → (if b then Some i.mini else issue_named holder is) ≡ Some mini → Found P holder mini) [
@@ -181,18 +195,21 @@ other_over P (i ∷ is) tid holder mini own all differ named none at =
 
 -- Decisions
 
-pub told_split : (tid : Tid) (n : NodeNo) (cs : List Call) → list_any (λ (c : Call). node_same c.node n && (is_decide tid c.request && true)) cs ≡ true
+pub told_split : (tid : Tid) (n : NodeNo) (cs : List Call)
+    → list_any (λ (c : Call). node_same c.node n && (is_decide tid c.request && true)) cs ≡ true
     → (list_any (λ (c : Call). node_same c.node n && (is_decide tid c.request && is_lost c.reply)) cs ≡ true) ⊎ (list_any (λ (c : Call). node_same c.node n && (is_decide tid c.request && is_heard c.reply)) cs ≡ true)
 told_split tid n [] e = absurd cc
 told_split tid n (c ∷ cs) e = by (or_cases (node_same c.node n && (is_decide tid c.request && true)) _ e) (told_split tid n cs)
   where
-    one : (a b l : Bool) → (a && (b && true)) ≡ true → ((a && (b && l)) ≡ true) ⊎ ((a && (b && not l)) ≡ true)
+    one : (a b l : Bool) → (a && (b && true)) ≡ true
+        → ((a && (b && l)) ≡ true) ⊎ ((a && (b && not l)) ≡ true)
     one true true true h = inl refl
     one true true false h = inr refl
     one true false l h = absurd cc
     one false b l h = absurd cc
 
-    Here : ((node_same c.node n && (is_decide tid c.request && is_lost c.reply)) ≡ true) ⊎ ((node_same c.node n && (is_decide tid c.request && is_heard c.reply)) ≡ true)
+    Here : ((node_same c.node n && (is_decide tid c.request && is_lost c.reply)) ≡ true)
+        ⊎ ((node_same c.node n && (is_decide tid c.request && is_heard c.reply)) ≡ true)
         → (list_any (λ (d : Call). node_same d.node n && (is_decide tid d.request && is_lost d.reply)) (c ∷ cs) ≡ true) ⊎ (list_any (λ (d : Call). node_same d.node n && (is_decide tid d.request && is_heard d.reply)) (c ∷ cs) ≡ true)
     Here (inl h) = inl (or_left (node_same c.node n && (is_decide tid c.request && is_lost c.reply)) _ h)
     Here (inr h) = inr (or_left (node_same c.node n && (is_decide tid c.request && is_heard c.reply)) _ h)
@@ -202,14 +219,16 @@ told_split tid n (c ∷ cs) e = by (or_cases (node_same c.node n && (is_decide t
     there (inl h) = inl (or_right (node_same c.node n && (is_decide tid c.request && is_lost c.reply)) _ h)
     there (inr h) = inr (or_right (node_same c.node n && (is_decide tid c.request && is_heard c.reply)) _ h)
 
-    by : ((node_same c.node n && (is_decide tid c.request && true)) ≡ true) ⊎ (list_any (λ (d : Call). node_same d.node n && (is_decide tid d.request && true)) cs ≡ true)
+    by : ((node_same c.node n && (is_decide tid c.request && true)) ≡ true)
+        ⊎ (list_any (λ (d : Call). node_same d.node n && (is_decide tid d.request && true)) cs ≡ true)
         → (list_any (λ (d : Call). node_same d.node n && (is_decide tid d.request && true)) cs ≡ true → (list_any (λ (d : Call). node_same d.node n && (is_decide tid d.request && is_lost d.reply)) cs ≡ true) ⊎ (list_any (λ (d : Call). node_same d.node n && (is_decide tid d.request && is_heard d.reply)) cs ≡ true))
         → (list_any (λ (d : Call). node_same d.node n && (is_decide tid d.request && is_lost d.reply)) (c ∷ cs) ≡ true) ⊎ (list_any (λ (d : Call). node_same d.node n && (is_decide tid d.request && is_heard d.reply)) (c ∷ cs) ≡ true)
     by (inl h) deeper = Here (one (node_same c.node n) (is_decide tid c.request) (is_lost c.reply) h)
     by (inr h) deeper = there (deeper h)
 
 -- a try is a Prepare or an Exec
-try_split : (tid : Tid) (say : NodeReply → Bool) (n : NodeNo) (cs : List Call) → list_any (λ (c : Call). node_same c.node n && (is_try tid c.request && say c.reply)) cs ≡ true
+try_split : (tid : Tid) (say : NodeReply → Bool) (n : NodeNo) (cs : List Call)
+    → list_any (λ (c : Call). node_same c.node n && (is_try tid c.request && say c.reply)) cs ≡ true
     → (list_any (λ (c : Call). node_same c.node n && (is_prepare tid c.request && say c.reply)) cs ≡ true) ⊎ (list_any (λ (c : Call). is_exec tid c.request) cs ≡ true)
 try_split tid say n [] e = absurd cc
 try_split tid say n (c ∷ cs) e = by (or_cases (node_same c.node n && (is_try tid c.request && say c.reply)) _ e) (try_split tid say n cs)
@@ -219,7 +238,8 @@ try_split tid say n (c ∷ cs) e = by (or_cases (node_same c.node n && (is_try t
     one true false x s h = inr (and_left x s h)
     one false p x s h = absurd cc
 
-    here : ((node_same c.node n && (is_prepare tid c.request && say c.reply)) ≡ true) ⊎ (is_exec tid c.request ≡ true)
+    here : ((node_same c.node n && (is_prepare tid c.request && say c.reply)) ≡ true)
+        ⊎ (is_exec tid c.request ≡ true)
         → (list_any (λ (d : Call). node_same d.node n && (is_prepare tid d.request && say d.reply)) (c ∷ cs) ≡ true) ⊎ (list_any (λ (d : Call). is_exec tid d.request) (c ∷ cs) ≡ true)
     here (inl h) = inl (or_left (node_same c.node n && (is_prepare tid c.request && say c.reply)) _ h)
     here (inr h) = inr (or_left (is_exec tid c.request) _ h)
@@ -229,7 +249,8 @@ try_split tid say n (c ∷ cs) e = by (or_cases (node_same c.node n && (is_try t
     there (inl h) = inl (or_right (node_same c.node n && (is_prepare tid c.request && say c.reply)) _ h)
     there (inr h) = inr (or_right (is_exec tid c.request) _ h)
 
-    by : ((node_same c.node n && (is_try tid c.request && say c.reply)) ≡ true) ⊎ (list_any (λ (d : Call). node_same d.node n && (is_try tid d.request && say d.reply)) cs ≡ true)
+    by : ((node_same c.node n && (is_try tid c.request && say c.reply)) ≡ true)
+        ⊎ (list_any (λ (d : Call). node_same d.node n && (is_try tid d.request && say d.reply)) cs ≡ true)
         → (list_any (λ (d : Call). node_same d.node n && (is_try tid d.request && say d.reply)) cs ≡ true → (list_any (λ (d : Call). node_same d.node n && (is_prepare tid d.request && say d.reply)) cs ≡ true) ⊎ (list_any (λ (d : Call). is_exec tid d.request) cs ≡ true))
         → (list_any (λ (d : Call). node_same d.node n && (is_prepare tid d.request && say d.reply)) (c ∷ cs) ≡ true) ⊎ (list_any (λ (d : Call). is_exec tid d.request) (c ∷ cs) ≡ true)
     by (inl h) deeper = here (one (node_same c.node n) (is_prepare tid c.request) (is_exec tid c.request) (say c.reply) h)
@@ -237,7 +258,8 @@ try_split tid say n (c ∷ cs) e = by (or_cases (node_same c.node n && (is_try t
 
 -- A held part of the operation's own
 
-pub held_is : (records : List Record) (held : HeldPart) (holder : Tid) → Contains (held_parts records) held → held.tid ≡ holder → NotHeld records holder → ⊥
+pub held_is : (records : List Record) (held : HeldPart) (holder : Tid)
+    → Contains (held_parts records) held → held.tid ≡ holder → NotHeld records holder → ⊥
 held_is records held holder has is none =
     clash (tid_same held.tid holder) (subst (λ (x : Tid). tid_same held.tid x ≡ true) is (tid_same-refl held.tid)) (all_there (λ (h : HeldPart). tid_same h.tid holder ≡ false) (held_parts records) held none has)
 
@@ -247,8 +269,11 @@ pub record OwnDecided (es : List Entry) (n : NodeNo) (holder : Tid) : Type 0 whe
   pub decided : was_decided holder n (since_begin es) ≡ true
 
 pub own_decided : (start : Start) (past : List Entry) (n : NodeNo) (request : Request) (tid holder : Tid) (mini : Mini) (held : HeldPart) → StartsSound start → IsRun start past → n.0 < start_nodes start
-    → is_try tid request ≡ true → Sends (client_entries holder.client past) (Some n) request → tid_same holder tid ≡ false → Contains (held_parts (records_of start past n)) held → held.tid ≡ holder
-    → issue_named holder (issues_of (since_begin (client_entries holder.client past))) ≡ Some mini → OwnDecided (client_entries holder.client past) n holder
+    → is_try tid request ≡ true → Sends (client_entries holder.client past) (Some n) request
+    → tid_same holder tid ≡ false → Contains (held_parts (records_of start past n)) held
+    → held.tid ≡ holder
+    → issue_named holder (issues_of (since_begin (client_entries holder.client past))) ≡ Some mini
+    → OwnDecided (client_entries holder.client past) n holder
 own_decided start past n request tid holder mini held sound run low try sends differ has holder_is named = by_over found.holds
   where
     follows : FollowsProtocol start past
@@ -267,7 +292,8 @@ own_decided start past n request tid holder mini held sound run low try sends di
     voted : has_voted (records_of start past n) holder ≡ true
     voted = held_has_vote holder (records_of start past n) (by (is_held (records_of start past n) holder) refl)
       where
-        by : (b : Bool) → is_held (records_of start past n) holder ≡ b → is_held (records_of start past n) holder ≡ true
+        by : (b : Bool) → is_held (records_of start past n) holder ≡ b
+            → is_held (records_of start past n) holder ≡ true
         by true e = e
         by false e = absurd (held_is (records_of start past n) held holder has holder_is (none_found holder (held_parts (records_of start past n)) e))
 
@@ -292,10 +318,13 @@ own_decided start past n request tid holder mini held sound run low try sends di
         omega arith
 
     -- the other id is the last, so this one is over
-    own : (m : Mini) × (issue_named tid (issues_of (since_begin (client_entries holder.client past))) ≡ Some m)
+    own : (m : Mini)
+        × (issue_named tid (issues_of (since_begin (client_entries holder.client past))) ≡ Some m)
     own = sent request sends try
       where
-        sent : (q : Request) → Sends (client_entries holder.client past) (Some n) q → is_try tid q ≡ true → (m : Mini) × (issue_named tid (issues_of (since_begin (client_entries holder.client past))) ≡ Some m)
+        sent : (q : Request) → Sends (client_entries holder.client past) (Some n) q
+            → is_try tid q ≡ true
+            → (m : Mini) × (issue_named tid (issues_of (since_begin (client_entries holder.client past))) ≡ Some m)
         sent (Ask.Prepare t ps part) s e = (s.mini, subst (λ (x : Tid). issue_named x (issues_of (since_begin (client_entries holder.client past))) ≡ Some s.mini) (tid_same-true t tid (left (tid_same t tid) e)) s.issued)
           where
             left : (b : Bool) → (b || false) ≡ true → b ≡ true
@@ -314,7 +343,9 @@ own_decided start past n request tid holder mini held sound run low try sends di
         (λ f. over_sends start past holder.client n request f.issued sound follows (subst (λ (x : Tid). is_try x request ≡ true) (sym f.tid_is) try) sends f.holds) named
 
     -- its Prepare was done since Begin
-    prepared : (say : NodeReply → Bool) → was_told (is_try holder) say n (client_entries holder.client past) ≡ true → was_told (is_prepare holder) say n (since_begin (client_entries holder.client past)) ≡ true
+    prepared : (say : NodeReply → Bool)
+        → was_told (is_try holder) say n (client_entries holder.client past) ≡ true
+        → was_told (is_prepare holder) say n (since_begin (client_entries holder.client past)) ≡ true
     prepared say told = by (try_split holder say n (calls_of (client_entries holder.client past)) told)
       where
         by : (list_any (λ (c : Call). node_same c.node n && (is_prepare holder c.request && say c.reply)) (calls_of (client_entries holder.client past)) ≡ true) ⊎ (list_any (λ (c : Call). is_exec holder c.request) (calls_of (client_entries holder.client past)) ≡ true)
@@ -327,7 +358,8 @@ own_decided start past n request tid holder mini held sound run low try sends di
     done : HasSettled (since_begin (client_entries holder.client past)) (record { tid = holder; mini = mini }) → was_told (is_prepare holder) is_done n (since_begin (client_entries holder.client past)) ≡ true
     done settled = by (voted_tried start past n holder (records_of start past n) new (kept.records n) voted)
       where
-        somewhere : (cs : List Call) → list_any (λ (c : Call). node_same c.node n && (is_prepare holder c.request && is_stopped c.reply)) cs ≡ true → list_any (λ (c : Call). is_prepare holder c.request && is_lost c.reply) cs ≡ true
+        somewhere : (cs : List Call)
+            → list_any (λ (c : Call). node_same c.node n && (is_prepare holder c.request && is_stopped c.reply)) cs ≡ true → list_any (λ (c : Call). is_prepare holder c.request && is_lost c.reply) cs ≡ true
         somewhere cs e = told_weaker (λ (c : Call). node_same c.node n && (is_prepare holder c.request && is_stopped c.reply)) (λ (c : Call). is_prepare holder c.request && is_lost c.reply) (λ c h. one (node_same c.node n) (is_prepare holder c.request) (Rattle.mn_world.specs.Calls.is_down_reply c.reply) (is_stopped c.reply) h) cs e
           where
             one : (a p d s : Bool) → (a && (p && s)) ≡ true → (p && (d || s)) ≡ true
@@ -336,14 +368,16 @@ own_decided start past n request tid holder mini held sound run low try sends di
             one true false d s h = absurd cc
             one false p d s h = absurd cc
 
-        by : WasTried past holder n → was_told (is_prepare holder) is_done n (since_begin (client_entries holder.client past)) ≡ true
+        by : WasTried past holder n
+            → was_told (is_prepare holder) is_done n (since_begin (client_entries holder.client past)) ≡ true
         by (inl h) = prepared is_done h
         by (inr h) = absurd (clash (was_told_somewhere (is_prepare holder) is_lost (since_begin (client_entries holder.client past))) (somewhere (calls_of (since_begin (client_entries holder.client past))) (prepared is_stopped h)) settled.0)
 
     same_issued : found.issued ≡ record { tid = holder; mini = mini }
     same_issued = λ i. record { tid = found.tid_is i; mini = found.mini_is i }
 
-    by_over : Over (since_begin (client_entries holder.client past)) found.issued → OwnDecided (client_entries holder.client past) n holder
+    by_over : Over (since_begin (client_entries holder.client past)) found.issued
+        → OwnDecided (client_entries holder.client past) n holder
     by_over over = at (subst (Over (since_begin (client_entries holder.client past))) same_issued over)
       where
         at : Over (since_begin (client_entries holder.client past)) (record { tid = holder; mini = mini }) → OwnDecided (client_entries holder.client past) n holder
@@ -352,8 +386,11 @@ own_decided start past n request tid holder mini held sound run low try sends di
         at (inl (gone, inr settled)) = record { prepared = done settled; decided = settled.1 n named_there (done settled) }
 
 pub own_missed : (start : Start) (past : List Entry) (n : NodeNo) (request : Request) (tid holder : Tid) (mini : Mini) (held : HeldPart) → StartsSound start → IsRun start past → n.0 < start_nodes start
-    → is_try tid request ≡ true → Sends (client_entries holder.client past) (Some n) request → tid_same holder tid ≡ false → Contains (held_parts (records_of start past n)) held → held.tid ≡ holder
-    → issue_named holder (issues_of (since_begin (client_entries holder.client past))) ≡ Some mini → missed_or_early holder n (client_entries holder.client past) ≡ true
+    → is_try tid request ≡ true → Sends (client_entries holder.client past) (Some n) request
+    → tid_same holder tid ≡ false → Contains (held_parts (records_of start past n)) held
+    → held.tid ≡ holder
+    → issue_named holder (issues_of (since_begin (client_entries holder.client past))) ≡ Some mini
+    → missed_or_early holder n (client_entries holder.client past) ≡ true
 own_missed start past n request tid holder mini held sound run low try sends differ has holder_is named =
     by (told_split holder n (calls_of (client_entries holder.client past)) (since_told (λ (c : Call). node_same c.node n && (is_decide holder c.request && true)) (client_entries holder.client past) own.decided))
   where
@@ -363,7 +400,8 @@ own_missed start past n request tid holder mini held sound run low try sends dif
     prepared : was_told (is_prepare holder) is_done n (client_entries holder.client past) ≡ true
     prepared = since_told (λ (c : Call). node_same c.node n && (is_prepare holder c.request && is_done c.reply)) (client_entries holder.client past) own.prepared
 
-    released : Rests (client_entries holder.client past) holder n (Released start past holder n) → missed_or_early holder n (client_entries holder.client past) ≡ true
+    released : Rests (client_entries holder.client past) holder n (Released start past holder n)
+        → missed_or_early holder n (client_entries holder.client past) ≡ true
     released (inl r) = absurd (held_is (records_of start past n) held holder has holder_is r.0)
     released (inr (decided, inl untold)) = absurd (clash (was_told (is_prepare holder) is_done n (client_entries holder.client past)) prepared untold)
     released (inr (decided, inr after)) = or_right (missed_decision holder n (client_entries holder.client past)) (prepared_after_decide holder n (client_entries holder.client past)) after

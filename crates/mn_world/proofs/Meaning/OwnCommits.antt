@@ -1,4 +1,5 @@
--- Where no other actor has an entry from an operation's Begin to its answer, and each node is up, only its own plans are committed.
+-- Where no other actor has an entry from an operation's Begin to its answer, and each node is up,
+-- only its own plans are committed.
 use Rattle.std.proofs.Common.{◌≡◌, ℕ, ◌⊎◌, inl, inr, Bool, true, false, List, [], ◌∷◌, ◌++◌, length, Option, Some, None, refl, subst, sym, ap, ◌∙◌, arith, if◌then◌else◌}
 use Rattle.std.specs.List.{AllByRecursion}
 use Rattle.std.proofs.lemmas.List.{append_assoc}
@@ -45,10 +46,13 @@ clash b p q = cc
 
 -- What a client's entry commits, it sent for its operation under way
 
-sent_named : (es : List Entry) (k : NodeNo) (request : Request) (tid : Tid) → Sends es (Some k) request → is_try tid request ≡ true → (mini : Mini) × (issue_named tid (issues_of (since_begin es)) ≡ Some mini)
+sent_named : (es : List Entry) (k : NodeNo) (request : Request) (tid : Tid)
+    → Sends es (Some k) request → is_try tid request ≡ true
+    → (mini : Mini) × (issue_named tid (issues_of (since_begin es)) ≡ Some mini)
 sent_named es k (Ask.Prepare t ps part) tid s try = by (or_cases (tid_same t tid) false try)
   where
-    by : (tid_same t tid ≡ true) ⊎ (false ≡ true) → (mini : Mini) × (issue_named tid (issues_of (since_begin es)) ≡ Some mini)
+    by : (tid_same t tid ≡ true) ⊎ (false ≡ true)
+        → (mini : Mini) × (issue_named tid (issues_of (since_begin es)) ≡ Some mini)
     by (inl same) = (s.mini, subst (λ (x : Tid). issue_named x (issues_of (since_begin es)) ≡ Some s.mini) (tid_same-true t tid same) s.issued)
     by (inr never) = absurd cc
 sent_named es k (Ask.Exec t part) tid s try = (s.mini, subst (λ (x : Tid). issue_named x (issues_of (since_begin es)) ≡ Some s.mini) (tid_same-true t tid try) s.issued)
@@ -64,10 +68,14 @@ same_request : (a b : Request) → Some a ≡ Some b → a ≡ b
 same_request a b e = cc
 
 effect_named : (start : Start) (past : List Entry) (c : ClientNo) (k : NodeNo) (what : What) (tid : Tid) (request : Request) → KeepsProtocol start past (record { node = Some k; client = Some c; what = what }) → AreUp start past
-    → effect_of (node_entries k past) what ≡ Some request → is_try tid request ≡ true → (mini : Mini) × (issue_named tid (issues_of (since_begin (client_entries c past))) ≡ Some mini)
+    → effect_of (node_entries k past) what ≡ Some request → is_try tid request ≡ true
+    → (mini : Mini)
+    × (issue_named tid (issues_of (since_begin (client_entries c past))) ≡ Some mini)
 effect_named start past c k (Called r reply) tid request keeps up is try = by (is_done reply) is
   where
-    by : (b : Bool) → (if b then Some r else None) ≡ Some request → (mini : Mini) × (issue_named tid (issues_of (since_begin (client_entries c past))) ≡ Some mini)
+    by : (b : Bool) → (if b then Some r else None) ≡ Some request
+        → (mini : Mini)
+        × (issue_named tid (issues_of (since_begin (client_entries c past))) ≡ Some mini)
     by false e = absurd (no_request request e)
     by true e = sent_named (client_entries c past) k request tid (subst (λ (q : Request). Sends (client_entries c past) (Some k) q) (same_request r request e) keeps.by_client) try
 effect_named start past c k (Restarted true) tid request keeps up is try = absurd (clash (is_down (node_entries k past)) keeps.at_node.1.0 (up k keeps.at_node.0))
@@ -79,7 +87,9 @@ effect_named start past c k (Abandoned u) tid request keeps up is try = absurd (
 effect_named start past c k (Answered number a) tid request keeps up is try = absurd (no_request request is)
 
 commit_named : (start : Start) (past : List Entry) (c : ClientNo) (at : Option NodeNo) (what : What) (i : Issued) → KeepsProtocol start past (record { node = at; client = Some c; what = what }) → AreUp start past
-    → committed_by past (record { node = at; client = Some c; what = what }) ≡ Some i → (mini : Mini) × (issue_named i.tid (issues_of (since_begin (client_entries c past))) ≡ Some mini)
+    → committed_by past (record { node = at; client = Some c; what = what }) ≡ Some i
+    → (mini : Mini)
+    × (issue_named i.tid (issues_of (since_begin (client_entries c past))) ≡ Some mini)
 commit_named start past c None what i keeps up is = absurd (none_some i is)
 commit_named start past c (Some k) what i keeps up is =
     let x = effect_try past k (effect_of (node_entries k past) what) i.tid i is refl in
@@ -95,7 +105,8 @@ still_or_answered : (start : Start) (past : List Entry) (c : ClientNo) (b : Begu
     → (under_way (client_entries c past) ≡ Some b) ⊎ AnsweredIn past c b.number
 still_or_answered start past c b newer older run split is = by (since_op c b newer older (subst (Allowed c) split (client_allowed start past c run)) is)
   where
-    by : Still b newer older ⊎ Ended b newer older → (under_way (client_entries c past) ≡ Some b) ⊎ AnsweredIn past c b.number
+    by : Still b newer older ⊎ Ended b newer older
+        → (under_way (client_entries c past) ≡ Some b) ⊎ AnsweredIn past c b.number
     by (inl s) = inl (ap under_way split ∙ s.under_way)
     by (inr e) =
         let l : Lifted c past e.entry (e.between ++ older) = lift c past e.newest e.entry (e.between ++ older) (split ∙ (ap (λ (l : List Entry). l ++ older) e.split ∙ append_assoc e.newest (e.entry ∷ e.between) older)) in
@@ -103,22 +114,28 @@ still_or_answered start past c b newer older run split is = by (since_op c b new
 
 -- The entry that commits
 
-all_mid : (P : Entry → Type 0) (xs : List Entry) (x : Entry) (ys : List Entry) → AllByRecursion P (xs ++ x ∷ ys) → P x
+all_mid : (P : Entry → Type 0) (xs : List Entry) (x : Entry) (ys : List Entry)
+    → AllByRecursion P (xs ++ x ∷ ys) → P x
 all_mid P [] x ys all = all.0
 all_mid P (z ∷ xs) x ys all = all_mid P xs x ys all.1
 
 same_begun : (a b : Begun) → Some a ≡ Some b → a ≡ b
 same_begun a b e = cc
 
--- a plan that is committed by an entry of the client, while each node is up and the operation is under way
+-- a plan that is committed by an entry of the client, while each node is up and the operation is
+-- under way
 own_plan : (start : Start) (past : List Entry) (c : ClientNo) (d : Begun) (at : Option NodeNo) (what : What) (i : Issued) (p : Past) → StartsSound start → FollowsProtocol start past → AreUp start past
-    → KeepsProtocol start past (record { node = at; client = Some c; what = what }) → committed_by past (record { node = at; client = Some c; what = what }) ≡ Some i → under_way (client_entries c past) ≡ Some d → PlanOf past i p → (p.client ≡ c) × (p.number ≡ d.number)
+    → KeepsProtocol start past (record { node = at; client = Some c; what = what })
+    → committed_by past (record { node = at; client = Some c; what = what }) ≡ Some i
+    → under_way (client_entries c past) ≡ Some d → PlanOf past i p
+    → (p.client ≡ c) × (p.number ≡ d.number)
 own_plan start past c d at what i p sound run up keeps commits now plan = (clients, number)
   where
     kept : Kept start past
     kept = kept_run start past sound run
 
-    named : (mini : Mini) × (issue_named i.tid (issues_of (since_begin (client_entries c past))) ≡ Some mini)
+    named : (mini : Mini)
+        × (issue_named i.tid (issues_of (since_begin (client_entries c past))) ≡ Some mini)
     named = commit_named start past c at what i keeps up commits
 
     first : IssueAt past p.client (begun_as p) i
@@ -130,7 +147,8 @@ own_plan start past c d at what i p sound run up keeps commits now plan = (clien
     x : IssueAt past c (begun_as p) i
     x = subst (λ (e : ClientNo). IssueAt past e (begun_as p) i) clients first
 
-    still : (under_way (client_entries c past) ≡ Some (begun_as p)) ⊎ AnsweredIn past c p.number → p.number ≡ d.number
+    still : (under_way (client_entries c past) ≡ Some (begun_as p)) ⊎ AnsweredIn past c p.number
+        → p.number ≡ d.number
     still (inl under) = ap (λ (b : Begun). b.number) (same_begun (begun_as p) d (sym under ∙ now))
     still (inr answered) =
         absurd (shut_quiet start past (Some c) at what i.tid c kept keeps (answer_shuts start past [] c p.number answered.answer answered.at (begun_as p) i x sound run refl) (none_down start past i.tid run up) i commits refl)
@@ -175,7 +193,9 @@ only_own_commits start store past later between before begins answers c number o
             let less = shorter_by older a.at.at.later a.at.at.entry a.at.at.before a.at.at.split in
             let at : place ≡ length older = is_place in omega arith
 
-        under : (under_way (client_entries c older) ≡ Some (record { number = number; op = op })) ⊎ AnsweredIn older c number → under_way (client_entries c older) ≡ Some (record { number = number; op = op })
+        under : (under_way (client_entries c older) ≡ Some (record { number = number; op = op }))
+            ⊎ AnsweredIn older c number
+            → under_way (client_entries c older) ≡ Some (record { number = number; op = op })
         under (inl u) = u
         under (inr a) = absurd (once a)
 
@@ -188,13 +208,16 @@ only_own_commits start store past later between before begins answers c number o
         q = own_plan start older c (record { number = number; op = op }) y.node y.what i p h.opened.sound to ups
             (subst (λ (o : Option ClientNo). KeepsProtocol start older (record { node = y.node; client = o; what = y.what })) mine (keeps_there start past newer y older sp run)) commits now plan
 
-    inner : InOlder (begins ∷ before) y older ⊎ InLater (begins ∷ before) between y older → (other ≡ c) × (its ≡ number)
+    inner : InOlder (begins ∷ before) y older ⊎ InLater (begins ∷ before) between y older
+        → (other ≡ c) × (its ≡ number)
     inner (inl o) =
         let less = shorter_by (begins ∷ before) o.later y older o.split in
         let at : place ≡ length older = is_place in absurd (omega arith)
     inner (inr w) = there w
 
-    by : InOlder (between ++ begins ∷ before) y older ⊎ InLater (between ++ begins ∷ before) (later ++ answers ∷ []) y older → (other ≡ c) × (its ≡ number)
+    by : InOlder (between ++ begins ∷ before) y older
+        ⊎ InLater (between ++ begins ∷ before) (later ++ answers ∷ []) y older
+        → (other ≡ c) × (its ≡ number)
     by (inl o) = inner (where_is between (begins ∷ before) o.later y older o.split)
     by (inr w) =
         let long = longer w.older (between ++ begins ∷ before) in

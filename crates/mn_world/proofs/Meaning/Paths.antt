@@ -93,7 +93,8 @@ log_of {past} {c} {number} {place} {busy} t newer x try i = by (last_of try)
 abbrev StaysAll : Start → List Entry → List Entry → Type 0
 StaysAll start later before = (a b : List Entry) → later ≡ a ++ b → flat start (b ++ before) ≡ flat start before
 
-stays_all : (start : Start) (later before : List Entry) → StaysAll start later before ⊎ CommitIn later before
+stays_all : (start : Start) (later before : List Entry)
+    → StaysAll start later before ⊎ CommitIn later before
 stays_all start [] before = inl none
   where
     none : (a b : List Entry) → [] ≡ a ++ b → flat start (b ++ before) ≡ flat start before
@@ -101,22 +102,29 @@ stays_all start [] before = inl none
     none (x ∷ a) b e = absurd cc
 stays_all start (e ∷ later) before = by (stays_all start later before) (committed_by (later ++ before) e) refl
   where
-    more : StaysAll start later before → flat start (e ∷ (later ++ before)) ≡ flat start (later ++ before) → StaysAll start (e ∷ later) before
+    more : StaysAll start later before
+        → flat start (e ∷ (later ++ before)) ≡ flat start (later ++ before)
+        → StaysAll start (e ∷ later) before
     more all same [] b h = ap (λ (es : List Entry). flat start (es ++ before)) (sym h) ∙ (same ∙ all [] later refl)
     more all same (x ∷ a) b h = let rest : later ≡ a ++ b = cc in all a b rest
 
-    tell : StaysAll start later before → (i : Issued) → committed_by (later ++ before) e ≡ Some i → (b : Bool) → is_read i.mini.items ≡ b → StaysAll start (e ∷ later) before ⊎ CommitIn (e ∷ later) before
+    tell : StaysAll start later before → (i : Issued) → committed_by (later ++ before) e ≡ Some i
+        → (b : Bool) → is_read i.mini.items ≡ b
+        → StaysAll start (e ∷ later) before ⊎ CommitIn (e ∷ later) before
     tell all i is true read = inl (more all (flat_read start (later ++ before) e i is read))
     tell all i is false not_read = inr (record { newer = []; entry = e; older = later; issued = i; split = refl; commits = is; not_read = not_read })
 
-    by : StaysAll start later before ⊎ CommitIn later before → (o : Option Issued) → committed_by (later ++ before) e ≡ o → StaysAll start (e ∷ later) before ⊎ CommitIn (e ∷ later) before
+    by : StaysAll start later before ⊎ CommitIn later before → (o : Option Issued)
+        → committed_by (later ++ before) e ≡ o
+        → StaysAll start (e ∷ later) before ⊎ CommitIn (e ∷ later) before
     by (inr c) o is = inr (record { newer = e ∷ c.newer; entry = c.entry; older = c.older; issued = c.issued; split = ap (λ (l : List Entry). e ∷ l) c.split; commits = c.commits; not_read = c.not_read })
     by (inl all) None none = inl (more all (flat_none start (later ++ before) e none))
     by (inl all) (Some i) is = tell all i is (is_read i.mini.items) refl
 
 -- Numbers of nodes
 
-nodes_here : (start : Start) (what : What) → IsOfRun start what → AllByRecursion (λ (i : Issued). i.mini.nodes ≡ start_nodes start) (issue_in what)
+nodes_here : (start : Start) (what : What) → IsOfRun start what
+    → AllByRecursion (λ (i : Issued). i.mini.nodes ≡ start_nodes start) (issue_in what)
 nodes_here start (Issue tid mini) of = (of.1, tt)
 nodes_here start (Begin number op) of = tt
 nodes_here start (Answered number answer) of = tt
@@ -125,7 +133,8 @@ nodes_here start (Stopped request asked) of = tt
 nodes_here start (Restarted kept) of = tt
 nodes_here start (Abandoned tid) of = tt
 
-nodes_all : (start : Start) (past : List Entry) (c : ClientNo) → FollowsProtocol start past → AllByRecursion (λ (i : Issued). i.mini.nodes ≡ start_nodes start) (issues_of (client_entries c past))
+nodes_all : (start : Start) (past : List Entry) (c : ClientNo) → FollowsProtocol start past
+    → AllByRecursion (λ (i : Issued). i.mini.nodes ≡ start_nodes start) (issues_of (client_entries c past))
 nodes_all start [] c run = tt
 nodes_all start (e ∷ past) c run =
     let rest = nodes_all start past c run.0 in
@@ -134,11 +143,14 @@ nodes_all start (e ∷ past) c run =
       | false ↦ rest
     ]
 
-issues_since : (P : Issued → Type 0) (es : List Entry) → AllByRecursion P (issues_of es) → AllByRecursion P (issues_of (since_begin es))
+issues_since : (P : Issued → Type 0) (es : List Entry) → AllByRecursion P (issues_of es)
+    → AllByRecursion P (issues_of (since_begin es))
 issues_since P [] all = tt
 issues_since P (e ∷ es) all = step e.node e.client e.what (all_split P (issue_in e.what) (issues_of es) all).0 (issues_since P es (all_split P (issue_in e.what) (issues_of es) all).1)
   where
-    step : (at : Option NodeNo) (by : Option ClientNo) (what : What) → AllByRecursion P (issue_in what) → AllByRecursion P (issues_of (since_begin es)) → AllByRecursion P (issues_of (since_begin_after what (record { node = at; client = by; what = what }) (since_begin es)))
+    step : (at : Option NodeNo) (by : Option ClientNo) (what : What)
+        → AllByRecursion P (issue_in what) → AllByRecursion P (issues_of (since_begin es))
+        → AllByRecursion P (issues_of (since_begin_after what (record { node = at; client = by; what = what }) (since_begin es)))
     step at by (Begin number op) here rest = tt
     step at by (Answered number answer) here rest = tt
     step at by (Issue tid mini) here rest = (here.0, rest)
@@ -148,7 +160,9 @@ issues_since P (e ∷ es) all = step e.node e.client e.what (all_split P (issue_
     step at by (Abandoned tid) here rest = rest
 
 -- an operation that read something has issued something
-issued_some : (newer : List Entry) (y : Entry) (older : List Entry) (tid : Tid) (mini : Mini) → issue_named tid (issues_of older) ≡ Some mini → (i : Issued) × (is : List Issued) × (issues_of (newer ++ y ∷ older) ≡ i ∷ is)
+issued_some : (newer : List Entry) (y : Entry) (older : List Entry) (tid : Tid) (mini : Mini)
+    → issue_named tid (issues_of older) ≡ Some mini
+    → (i : Issued) × (is : List Issued) × (issues_of (newer ++ y ∷ older) ≡ i ∷ is)
 issued_some newer y older tid mini named = by (issues_of (newer ++ y ∷ older)) refl
   where
     behind : (a b : List Issued) → a ++ b ≡ [] → b ≡ []
@@ -162,7 +176,8 @@ issued_some newer y older tid mini named = by (issues_of (newer ++ y ∷ older))
     none_some : ◌≡◌ {A = Option Mini} None (Some mini) → ⊥
     none_some e = cc
 
-    by : (l : List Issued) → issues_of (newer ++ y ∷ older) ≡ l → (i : Issued) × (is : List Issued) × (issues_of (newer ++ y ∷ older) ≡ i ∷ is)
+    by : (l : List Issued) → issues_of (newer ++ y ∷ older) ≡ l
+        → (i : Issued) × (is : List Issued) × (issues_of (newer ++ y ∷ older) ≡ i ∷ is)
     by [] e = absurd (none_some (ap (issue_named tid) (sym (inner newer e)) ∙ named))
     by (i ∷ is) e = (i, is, e)
 
@@ -176,8 +191,10 @@ path_refused seens m (Ask.Prepare t ps part) Say.BadForced addr seq is = cc
 path_refused seens m request reply addr seq is = is
 
 -- a read was made by an Exec of an issue of its operation
-read_issue : (start : Start) (before : List Entry) (c : ClientNo) (x : Entry) (seen : Seen) → FollowsProtocol start (x ∷ before) → is_by c x ≡ true → Contains (seen_at x) seen
-    → (tid : Tid) × (mini : Mini) × (issue_named tid (issues_of (since_begin (client_entries c before))) ≡ Some mini)
+read_issue : (start : Start) (before : List Entry) (c : ClientNo) (x : Entry) (seen : Seen)
+    → FollowsProtocol start (x ∷ before) → is_by c x ≡ true → Contains (seen_at x) seen
+    → (tid : Tid) × (mini : Mini)
+    × (issue_named tid (issues_of (since_begin (client_entries c before))) ≡ Some mini)
 read_issue start before c x seen run by has =
     let call = read_call x.client x.node x.what seen has in
     let keeps : AllowedBy before x.client x.node x.what = run.1.by_client in
@@ -187,7 +204,9 @@ read_issue start before c x seen run by has =
     (call.tid, exec.mini, exec.issued)
 
 -- it was read at a node of the run
-read_node : (start : Start) (before : List Entry) (x : Entry) (seen : Seen) → FollowsProtocol start (x ∷ before) → Contains (seen_at x) seen → seen.place.node.0 < start_nodes start
+read_node : (start : Start) (before : List Entry) (x : Entry) (seen : Seen)
+    → FollowsProtocol start (x ∷ before) → Contains (seen_at x) seen
+    → seen.place.node.0 < start_nodes start
 read_node start before x seen run has =
     let call = read_call x.client x.node x.what seen has in
     let at : AllowedAt start before (Some call.node) x.what = subst (λ (o : Option NodeNo). AllowedAt start before o x.what) call.here run.1.at_node in
@@ -202,7 +221,8 @@ path_by_other start store past place e c number addr seq h stands answers = at_l
     follows : FollowsProtocol start past
     follows = runs_follow_protocol start past h.run
 
-    by_fault : (newer : List Entry) (x : Entry) (try : List Entry) (i : InLast t newer x try) → MeetsFault (nodes_of (issues_of (since_begin (client_entries c t.before)))) (seen_in (x ∷ try)) t.op (Path addr seq) → CommitsWithin t (length i.before)
+    by_fault : (newer : List Entry) (x : Entry) (try : List Entry) (i : InLast t newer x try)
+        → MeetsFault (nodes_of (issues_of (since_begin (client_entries c t.before)))) (seen_in (x ∷ try)) t.op (Path addr seq) → CommitsWithin t (length i.before)
     by_fault newer x try i fault = tell (stays_all start front.span front.base)
       where
         front : LogOf t newer x try i
@@ -227,10 +247,12 @@ path_by_other start store past place e c number addr seq h stands answers = at_l
         memory_long = (whole_run start front.base h.opened.sound h.spaces to_base).even.spaces
 
         -- where no plan is committed, all that the try read stands in one memory
-        stood : StaysAll start front.span front.base → (seen : Seen) → Contains (seen_in (x ∷ try)) seen → IsSeenIn (flat start front.base) seen
+        stood : StaysAll start front.span front.base → (seen : Seen)
+            → Contains (seen_in (x ∷ try)) seen → IsSeenIn (flat start front.base) seen
         stood all seen has = by (Contains-append_cases (seen_at x) (seen_in try) seen (subst (λ (ss : List Seen). Contains ss seen) (seen_in-cons x try) has))
           where
-            by : Contains (seen_at x) seen ⊎ Contains (seen_in try) seen → IsSeenIn (flat start front.base) seen
+            by : Contains (seen_at x) seen ⊎ Contains (seen_in try) seen
+                → IsSeenIn (flat start front.base) seen
             by (inl here) = (
               subst (λ (m : List (List ℕ)). StandsIn m seen) (ap (flat start) front.split ∙ all [] front.span refl)
                   (here_seen start i.before x.client x.node x.what seen (whole_run start i.before h.opened.sound h.spaces to_x.0) to_x.1 here),
@@ -245,7 +267,8 @@ path_by_other start store past place e c number addr seq h stands answers = at_l
                 )
 
         -- the operation's minitransactions were made for as many nodes as there are
-        nodes_are : (seen : Seen) → Contains (seen_in (x ∷ try)) seen → nodes_of (issues_of (since_begin (client_entries c t.before))) ≡ length (flat start front.base)
+        nodes_are : (seen : Seen) → Contains (seen_in (x ∷ try)) seen
+            → nodes_of (issues_of (since_begin (client_entries c t.before))) ≡ length (flat start front.base)
         nodes_are seen has = by (issues_of (since_begin (client_entries c t.before))) refl (issues_since (λ (i : Issued). i.mini.nodes ≡ start_nodes start) (client_entries c t.before) (nodes_all start t.before c to_answer))
           where
             b : BroughtIn (x ∷ try) seen
@@ -258,10 +281,12 @@ path_by_other start store past place e c number addr seq h stands answers = at_l
             j : InLast t (newer ++ b.newer) b.entry b.older
             j = in_last t (newer ++ b.newer) b.entry b.older in_try
 
-            issue : (tid : Tid) × (mini : Mini) × (issue_named tid (issues_of (since_begin (client_entries c j.before))) ≡ Some mini)
+            issue : (tid : Tid) × (mini : Mini)
+                × (issue_named tid (issues_of (since_begin (client_entries c j.before))) ≡ Some mini)
             issue = read_issue start j.before c b.entry seen (follows_before start t.before j.later (b.entry ∷ j.before) j.split to_answer) (is_own c b.entry j.client) b.brought
 
-            some : (i : Issued) × (is : List Issued) × (issues_of ((t.failed.rest ++ (newer ++ b.newer)) ++ b.entry ∷ (b.older ++ tries_before t)) ≡ i ∷ is)
+            some : (i : Issued) × (is : List Issued)
+                × (issues_of ((t.failed.rest ++ (newer ++ b.newer)) ++ b.entry ∷ (b.older ++ tries_before t)) ≡ i ∷ is)
             some =
                 issued_some (t.failed.rest ++ (newer ++ b.newer)) b.entry (b.older ++ tries_before t) issue.0 issue.1
                 (ap (λ (es : List Entry). issue_named issue.0 (issues_of es)) (sym j.since) ∙ issue.2)
@@ -272,7 +297,8 @@ path_by_other start store past place e c number addr seq h stands answers = at_l
             none_some : (i : Issued) (is : List Issued) → [] ≡ i ∷ is → ⊥
             none_some i is e = cc
 
-            by : (is : List Issued) → issues_of (since_begin (client_entries c t.before)) ≡ is → AllByRecursion (λ (i : Issued). i.mini.nodes ≡ start_nodes start) (issues_of (since_begin (client_entries c t.before))) → nodes_of (issues_of (since_begin (client_entries c t.before))) ≡ length (flat start front.base)
+            by : (is : List Issued) → issues_of (since_begin (client_entries c t.before)) ≡ is
+                → AllByRecursion (λ (i : Issued). i.mini.nodes ≡ start_nodes start) (issues_of (since_begin (client_entries c t.before))) → nodes_of (issues_of (since_begin (client_entries c t.before))) ≡ length (flat start front.base)
             by [] e all = absurd (none_some some.0 some.1 (sym e ∙ now_is))
             by (i ∷ is) e all = ap nodes_of e ∙ ((subst (AllByRecursion (λ (j : Issued). j.mini.nodes ≡ start_nodes start)) e all).0 ∙ sym memory_long)
 
@@ -283,18 +309,21 @@ path_by_other start store past place e c number addr seq h stands answers = at_l
             some_store start store past history.0 known ((t.later ++ (t.answer ∷ i.later)) ++ (x ∷ front.span)) front.base
             (there ∙ (ap (λ (es : List Entry). (t.later ++ (t.answer ∷ i.later)) ++ x ∷ es) front.split ∙ sym (append_assoc (t.later ++ (t.answer ∷ i.later)) (x ∷ front.span) front.base)))
 
-        tell : StaysAll start front.span front.base ⊎ CommitIn front.span front.base → CommitsWithin t (length i.before)
+        tell : StaysAll start front.span front.base ⊎ CommitIn front.span front.base
+            → CommitsWithin t (length i.before)
         tell (inl all) = absurd (no_fault (flat start front.base) some_holds.0 some_holds.1 (seen_in (x ∷ try)) (stood all) (nodes_of (issues_of (since_begin (client_entries c t.before)))) nodes_are t.op addr seq fault)
         tell (inr co) = from front.first
           where
             base_split : i.before ≡ co.newer ++ co.entry ∷ (co.older ++ front.base)
             base_split = front.split ∙ (ap (λ (es : List Entry). es ++ front.base) co.split ∙ append_assoc co.newer (co.entry ∷ co.older) front.base)
 
-            no_commit : (newer : List Entry) (y : Entry) (older : List Entry) → [] ≡ newer ++ y ∷ older → ⊥
+            no_commit : (newer : List Entry) (y : Entry) (older : List Entry)
+                → [] ≡ newer ++ y ∷ older → ⊥
             no_commit [] y older h = cc
             no_commit (z ∷ newer) y older h = cc
 
-            from : (front.span ≡ []) ⊎ ((y : Entry) × IsInLast t (length front.base) y) → CommitsWithin t (length i.before)
+            from : (front.span ≡ []) ⊎ ((y : Entry) × IsInLast t (length front.base) y)
+                → CommitsWithin t (length i.before)
             from (inl none) = absurd (no_commit co.newer co.entry co.older (sym none ∙ co.split))
             from (inr first) =
                 let sum = length-append co.older front.base in

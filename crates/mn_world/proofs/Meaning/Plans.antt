@@ -23,11 +23,15 @@ use Rattle.mn_world.proofs.Meaning.Positions.{inner_split, IssueAt, AnswerAt, fo
 use Rattle.mn_world.proofs.Meaning.Origins.{PlanAt, issue_of, issue_low}
 
 -- an id is committed at one place
-pub one_place : (start : Start) (past : List Entry) → StartsSound start → FollowsProtocol start past → (later : List Entry) (e : Entry) (before : List Entry) (i : Issued) (later' : List Entry) (f : Entry) (before' : List Entry) (j : Issued)
-    → past ≡ later ++ e ∷ before → past ≡ later' ++ f ∷ before' → committed_by before e ≡ Some i → committed_by before' f ≡ Some j → i.tid ≡ j.tid → length before ≡ length before'
+pub one_place : (start : Start) (past : List Entry) → StartsSound start → FollowsProtocol start past
+    → (later : List Entry) (e : Entry) (before : List Entry) (i : Issued) (later' : List Entry) (f : Entry) (before' : List Entry) (j : Issued)
+    → past ≡ later ++ e ∷ before → past ≡ later' ++ f ∷ before' → committed_by before e ≡ Some i
+    → committed_by before' f ≡ Some j → i.tid ≡ j.tid → length before ≡ length before'
 one_place start past sound run later e before i later' f before' j split split' is is' same = by (ordered (length before) (length before'))
   where
-    by : (length before < length before') ⊎ ((length before ≡ length before') ⊎ (length before' < length before)) → length before ≡ length before'
+    by : (length before < length before')
+        ⊎ ((length before ≡ length before') ⊎ (length before' < length before))
+        → length before ≡ length before'
     by (inl less) =
         let inner = inner_split later later' e f before before' (sym split ∙ split') less in
         absurd (never_there j.tid before' inner.between e before i (commits_once start before' f j sound (follows_before start past later' (f ∷ before') split' run) is') inner.split is same)
@@ -50,7 +54,8 @@ pub record PlanIn (past : List Entry) (place : ℕ) (c : ClientNo) (number : ℕ
   pub issue : IssueAt past c (record { number = number; op = op }) issued
   pub low : length issue.at.before < place
 
-abbrev pub plan_in : (past : List Entry) (place : ℕ) (p : Past) → PlanAt past place p → PlanIn past place p.client p.number
+abbrev pub plan_in : (past : List Entry) (place : ℕ) (p : Past) → PlanAt past place p
+    → PlanIn past place p.client p.number
 plan_in past place p a = record {
   entry = a.entry;
   later = a.later;
@@ -69,11 +74,14 @@ plan_in past place p a = record {
 never_in : (past : List Entry) (place : ℕ) (c : ClientNo) (number : ℕ) (x : PlanIn past place c number) → IsNeverCommitted x.issued.tid past → ⊥
 never_in past place c number x never = never_there x.issued.tid past x.later x.entry x.before x.issued never x.split x.commits refl
 
-older_part : (past later : List Entry) (x : Entry) (before : List Entry) → past ≡ later ++ x ∷ before → past ≡ (later ++ x ∷ []) ++ before
+older_part : (past later : List Entry) (x : Entry) (before : List Entry)
+    → past ≡ later ++ x ∷ before → past ≡ (later ++ x ∷ []) ++ before
 older_part past later x before split = split ∙ sym (append_assoc later (x ∷ []) before)
 
 -- an issue that another one of its operation follows is committed nowhere
-pub followed_never : (start : Start) (past : List Entry) → StartsSound start → FollowsProtocol start past → (c : ClientNo) (number : ℕ) (a : ℕ) (x : PlanIn past a c number) (d : Begun) (j : Issued) (y : IssueAt past c d j) → number ≡ d.number
+pub followed_never : (start : Start) (past : List Entry) → StartsSound start
+    → FollowsProtocol start past
+    → (c : ClientNo) (number : ℕ) (a : ℕ) (x : PlanIn past a c number) (d : Begun) (j : Issued) (y : IssueAt past c d j) → number ≡ d.number
     → length x.issue.at.before < length y.at.before → ⊥
 followed_never start past sound run c number a x d j y same less =
     let split = older_part past y.at.later y.at.entry y.at.before y.at.split in
@@ -89,10 +97,12 @@ pub record SamePlan (past : List Entry) (a b : ℕ) (c : ClientNo) (number : ℕ
   pub issues : x.issued ≡ y.issued
   pub issued_at : length x.issue.at.before ≡ length y.issue.at.before
 
-pub one_plan : (start : Start) (past : List Entry) → StartsSound start → FollowsProtocol start past → (c : ClientNo) (number : ℕ) (a b : ℕ) (x : PlanIn past a c number) (y : PlanIn past b c number) → SamePlan past a b c number x y
+pub one_plan : (start : Start) (past : List Entry) → StartsSound start → FollowsProtocol start past
+    → (c : ClientNo) (number : ℕ) (a b : ℕ) (x : PlanIn past a c number) (y : PlanIn past b c number) → SamePlan past a b c number x y
 one_plan start past sound run c number a b x y = by (ordered (length x.issue.at.before) (length y.issue.at.before))
   where
-    by : (length x.issue.at.before < length y.issue.at.before) ⊎ ((length x.issue.at.before ≡ length y.issue.at.before) ⊎ (length y.issue.at.before < length x.issue.at.before)) → SamePlan past a b c number x y
+    by : (length x.issue.at.before < length y.issue.at.before)
+        ⊎ ((length x.issue.at.before ≡ length y.issue.at.before) ⊎ (length y.issue.at.before < length x.issue.at.before)) → SamePlan past a b c number x y
     by (inl less) = absurd (followed_never start past sound run c number a x (record { number = number; op = y.op }) y.issued y.issue refl less)
     by (inr (inr more)) = absurd (followed_never start past sound run c number b y (record { number = number; op = x.op }) x.issued x.issue refl more)
     by (inr (inl equal)) =
@@ -104,7 +114,9 @@ one_plan start past sound run c number a b x y = by (ordered (length x.issue.at.
 
 -- An answer that gave up its plans
 
-given_up_all : (now : List Entry) (is : List Issued) → list_all (λ i. is_read i.mini.items || is_given_up now i) is ≡ true → AllByRecursion (λ i. (is_read i.mini.items || is_given_up now i) ≡ true) is
+given_up_all : (now : List Entry) (is : List Issued)
+    → list_all (λ i. is_read i.mini.items || is_given_up now i) is ≡ true
+    → AllByRecursion (λ i. (is_read i.mini.items || is_given_up now i) ≡ true) is
 given_up_all now [] e = tt
 given_up_all now (i ∷ is) e = (first (is_read i.mini.items || is_given_up now i) _ e, given_up_all now is (second (is_read i.mini.items || is_given_up now i) _ e))
   where
@@ -121,7 +133,10 @@ either true b e f = absurd cc
 either false b e f = e
 
 -- no plan of the operation is committed, before or after
-pub given_up_none : (start : Start) (past : List Entry) → StartsSound start → FollowsProtocol start past → (c : ClientNo) (number : ℕ) (answer : Answer) (e : AnswerAt past c number answer) → are_given_up (since_begin (client_entries c e.at.before)) ≡ true
+pub given_up_none : (start : Start) (past : List Entry) → StartsSound start
+    → FollowsProtocol start past
+    → (c : ClientNo) (number : ℕ) (answer : Answer) (e : AnswerAt past c number answer)
+    → are_given_up (since_begin (client_entries c e.at.before)) ≡ true
     → (a : ℕ) → PlanIn past a c number → ⊥
 given_up_none start past sound run c number answer e given_up a x =
     let less = issue_before_answer start past c (record { number = number; op = x.op }) x.issued number answer x.issue e run refl in

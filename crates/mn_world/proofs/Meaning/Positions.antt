@@ -26,7 +26,9 @@ pub record Inner {X : Type 0} (x : X) (before older : List X) : Type 0 where
   pub between : List X
   pub split : older ≡ between ++ x ∷ before
 
-pub inner_split : {X : Type 0} (later later' : List X) (x y : X) (before before' : List X) → later ++ x ∷ before ≡ later' ++ y ∷ before' → length before < length before' → Inner x before before'
+pub inner_split : {X : Type 0} (later later' : List X) (x y : X) (before before' : List X)
+    → later ++ x ∷ before ≡ later' ++ y ∷ before' → length before < length before'
+    → Inner x before before'
 inner_split [] later' x y before before' same less =
     let all : suc (length before) ≡ length (later' ++ y ∷ before') = ap (λ l. length l) same in
     let parts = length-append later' (y ∷ before') in
@@ -42,10 +44,13 @@ inner_split {X} (w ∷ later) (z ∷ later') x y before before' same less = inne
 
 -- Lists of clients
 
-pub client_append : (c : ClientNo) (later before : List Entry) → client_entries c (later ++ before) ≡ client_entries c later ++ client_entries c before
+pub client_append : (c : ClientNo) (later before : List Entry)
+    → client_entries c (later ++ before) ≡ client_entries c later ++ client_entries c before
 client_append c later before = filter-append (is_by c) later before
 
-pub client_split : (c : ClientNo) (past later : List Entry) (x : Entry) (before : List Entry) → past ≡ later ++ x ∷ before → is_by c x ≡ true → client_entries c past ≡ client_entries c later ++ x ∷ client_entries c before
+pub client_split : (c : ClientNo) (past later : List Entry) (x : Entry) (before : List Entry)
+    → past ≡ later ++ x ∷ before → is_by c x ≡ true
+    → client_entries c past ≡ client_entries c later ++ x ∷ client_entries c before
 client_split c past later x before split by =
     ap (client_entries c) split ∙ (client_append c later (x ∷ before) ∙ ap (λ (b : Bool). client_entries c later ++ cond b (x ∷ client_entries c before) (client_entries c before)) by)
 
@@ -63,14 +68,17 @@ pub record OwnAt (past : List Entry) (c : ClientNo) : Type 0 where
   pub split : past ≡ later ++ entry ∷ before
   pub by : entry.client ≡ Some c
 
-pub allowed_at : (start : Start) (past : List Entry) (c : ClientNo) (at : OwnAt past c) → FollowsProtocol start past → Allowed c (at.entry ∷ client_entries c at.before)
+pub allowed_at : (start : Start) (past : List Entry) (c : ClientNo) (at : OwnAt past c)
+    → FollowsProtocol start past → Allowed c (at.entry ∷ client_entries c at.before)
 allowed_at start past c at run = (
   client_allowed start at.before c (follows_before start past (at.later ++ at.entry ∷ []) at.before (at.split ∙ sym (append_assoc at.later (at.entry ∷ []) at.before)) run),
   own_allowed at.before c at.entry.client at.entry.node at.entry.what at.by (keeps_there start past at.later at.entry at.before at.split run).by_client,
 )
 
 -- an older entry of the client stands in the list that the newer one has before it
-pub older_own : (past : List Entry) (c : ClientNo) (one other : OwnAt past c) → length one.before < length other.before → Inner one.entry (client_entries c one.before) (client_entries c other.before)
+pub older_own : (past : List Entry) (c : ClientNo) (one other : OwnAt past c)
+    → length one.before < length other.before
+    → Inner one.entry (client_entries c one.before) (client_entries c other.before)
 older_own past c one other less =
     let i = inner_split one.later other.later one.entry other.entry one.before other.before (sym one.split ∙ other.split) less in
     record { between = client_entries c i.between; split = client_split c other.before i.between one.entry one.before i.split (is_own c one.entry one.by) }
@@ -82,7 +90,8 @@ pub record IssueAt (past : List Entry) (c : ClientNo) (b : Begun) (i : Issued) :
   pub issues : issue_in at.entry.what ≡ i ∷ []
   pub of : under_way (client_entries c at.before) ≡ Some b
 
-pub issue_keeps : (what : What) (i : Issued) (o : Option Begun) → issue_in what ≡ i ∷ [] → under_way_after what o ≡ o
+pub issue_keeps : (what : What) (i : Issued) (o : Option Begun) → issue_in what ≡ i ∷ []
+    → under_way_after what o ≡ o
 issue_keeps (Issue tid mini) i o is = refl
 issue_keeps (Begin number op) i o is = absurd cc
 issue_keeps (Answered number answer) i o is = absurd cc
@@ -91,7 +100,8 @@ issue_keeps (Stopped request asked) i o is = refl
 issue_keeps (Restarted kept) i o is = refl
 issue_keeps (Abandoned tid) i o is = refl
 
-issue_since : (what : What) (i : Issued) (e : Entry) (es : List Entry) → issue_in what ≡ i ∷ [] → since_begin_after what e es ≡ e ∷ es
+issue_since : (what : What) (i : Issued) (e : Entry) (es : List Entry) → issue_in what ≡ i ∷ []
+    → since_begin_after what e es ≡ e ∷ es
 issue_since (Issue tid mini) i e es is = refl
 issue_since (Begin number op) i e es is = absurd cc
 issue_since (Answered number answer) i e es is = absurd cc
@@ -165,7 +175,9 @@ issue_before_answer start past c b i number answer x e run same = by (ordered (l
     not_both : (what : What) → issue_in what ≡ i ∷ [] → what ≡ Answered number answer → ⊥
     not_both what is w = let none : [] ≡ i ∷ [] = ap issue_in (sym w) ∙ is in absurd cc
 
-    by : (length x.at.before < length e.at.before) ⊎ ((length x.at.before ≡ length e.at.before) ⊎ (length e.at.before < length x.at.before)) → length x.at.before < length e.at.before
+    by : (length x.at.before < length e.at.before)
+        ⊎ ((length x.at.before ≡ length e.at.before) ⊎ (length e.at.before < length x.at.before))
+        → length x.at.before < length e.at.before
     by (inl less) = less
     by (inr (inl equal)) =
         let here : SameSplit x.at.entry e.at.entry x.at.before e.at.before = same_split x.at.later e.at.later x.at.entry e.at.entry x.at.before e.at.before (sym x.at.split ∙ e.at.split) equal in
@@ -179,7 +191,9 @@ answered_once start past c number one other e f run = by (ordered (length e.at.b
     same_answer : Answered number one ≡ Answered number other → one ≡ other
     same_answer h = cc
 
-    by : (length e.at.before < length f.at.before) ⊎ ((length e.at.before ≡ length f.at.before) ⊎ (length f.at.before < length e.at.before)) → (length e.at.before ≡ length f.at.before) × (one ≡ other)
+    by : (length e.at.before < length f.at.before)
+        ⊎ ((length e.at.before ≡ length f.at.before) ⊎ (length f.at.before < length e.at.before))
+        → (length e.at.before ≡ length f.at.before) × (one ≡ other)
     by (inl less) =
         let op = answered_op start past c number other f run in
         let higher : number < number = answer_ends start past c number one e run f.at less (record { number = number; op = op.0 }) op.1 in absurd (omega arith)
@@ -204,7 +218,9 @@ begin_before start past c number op f y b run now same not_begin = by (ordered (
     allowed : ClientAllows c (client_entries c f.at.before) f.at.entry.node (Begin number op)
     allowed = subst (λ (w : What). ClientAllows c (client_entries c f.at.before) f.at.entry.node w) f.begins (allowed_at start past c f.at run).1
 
-    by : (length f.at.before < length y.before) ⊎ ((length f.at.before ≡ length y.before) ⊎ (length y.before < length f.at.before)) → length f.at.before < length y.before
+    by : (length f.at.before < length y.before)
+        ⊎ ((length f.at.before ≡ length y.before) ⊎ (length y.before < length f.at.before))
+        → length f.at.before < length y.before
     by (inl less) = less
     by (inr (inl equal)) =
         let here : SameSplit f.at.entry y.entry f.at.before y.before = same_split f.at.later y.later f.at.entry y.entry f.at.before y.before (sym f.at.split ∙ y.split) equal in

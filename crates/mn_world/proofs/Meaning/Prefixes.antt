@@ -20,28 +20,34 @@ abbrev pub PlansAt : List Entry → ℕ → Type 0
 PlansAt past k =
     (later : List Entry) × (e : Entry) × (before : List Entry) × (past ≡ later ++ e ∷ before) × (length before ≡ k) × ((i : Issued) × (committed_by before e ≡ Some i) × (is_read i.mini.items ≡ false))
 
-pub older_holds : (start : Start) (past : List Entry) (e : Entry) (m : ℕ) (s : Store) → m ≤ length past → HoldsAt start past m s → HoldsAt start (e ∷ past) m s
+pub older_holds : (start : Start) (past : List Entry) (e : Entry) (m : ℕ) (s : Store)
+    → m ≤ length past → HoldsAt start past m s → HoldsAt start (e ∷ past) m s
 older_holds start past e m s fits h later before split is =
     let o : Older e past later before = split_older e past later before split (omega arith) in
     h o.newer before o.split is
 
-pub newest_holds : (start : Start) (past : List Entry) (e : Entry) (s : Store) → Holds (flat start (e ∷ past)) s → HoldsAt start (e ∷ past) (suc (length past)) s
+pub newest_holds : (start : Start) (past : List Entry) (e : Entry) (s : Store)
+    → Holds (flat start (e ∷ past)) s → HoldsAt start (e ∷ past) (suc (length past)) s
 newest_holds start past e s h later before split is = subst (λ (b : List Entry). Holds (flat start b) s) (sym (split_whole (e ∷ past) later before split is)) h
 
 pub older_plans : (past : List Entry) (e : Entry) (k : ℕ) → PlansAt past k → PlansAt (e ∷ past) k
 older_plans past e k (later, x, before, split, is, plan) = (e ∷ later, x, before, ap (λ (l : List Entry). e ∷ l) split, is, plan)
 
 -- the older part of a run is a run
-pub older_follows : (start : Start) (later before : List Entry) → FollowsProtocol start (later ++ before) → FollowsProtocol start before
+pub older_follows : (start : Start) (later before : List Entry)
+    → FollowsProtocol start (later ++ before) → FollowsProtocol start before
 older_follows start [] before run = run
 older_follows start (e ∷ later) before run = older_follows start later before run.0
 
-pub older_run : (start : Start) (later before : List Entry) → IsRun start (later ++ before) → IsRun start before
+pub older_run : (start : Start) (later before : List Entry) → IsRun start (later ++ before)
+    → IsRun start before
 older_run start [] before run = run
 older_run start (e ∷ later) before run = older_run start later before run.0
 
-pub follows_before : (start : Start) (past later before : List Entry) → past ≡ later ++ before → FollowsProtocol start past → FollowsProtocol start before
+pub follows_before : (start : Start) (past later before : List Entry) → past ≡ later ++ before
+    → FollowsProtocol start past → FollowsProtocol start before
 follows_before start past later before split run = older_follows start later before (subst (FollowsProtocol start) split run)
 
-pub keeps_there : (start : Start) (past later : List Entry) (x : Entry) (before : List Entry) → past ≡ later ++ x ∷ before → FollowsProtocol start past → KeepsProtocol start before x
+pub keeps_there : (start : Start) (past later : List Entry) (x : Entry) (before : List Entry)
+    → past ≡ later ++ x ∷ before → FollowsProtocol start past → KeepsProtocol start before x
 keeps_there start past later x before split run = (follows_before start past later (x ∷ before) split run).1

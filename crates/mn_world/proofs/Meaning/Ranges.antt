@@ -39,11 +39,13 @@ not_lower a b c less e = by (key_lt b c) refl
 
 -- Filters
 
-none_left : (t : Pair → Bool) (xs : List Pair) → AllByRecursion (λ p. t p ≡ false) xs → filter t xs ≡ []
+none_left : (t : Pair → Bool) (xs : List Pair) → AllByRecursion (λ p. t p ≡ false) xs
+    → filter t xs ≡ []
 none_left t [] all = refl
 none_left t (x ∷ xs) all = ap (λ b. cond b (x ∷ filter t xs) (filter t xs)) all.0 ∙ none_left t xs all.1
 
-same_left : (t u : Pair → Bool) (xs : List Pair) → AllByRecursion (λ p. t p ≡ u p) xs → filter t xs ≡ filter u xs
+same_left : (t u : Pair → Bool) (xs : List Pair) → AllByRecursion (λ p. t p ≡ u p) xs
+    → filter t xs ≡ filter u xs
 same_left t u [] all = refl
 same_left t u (x ∷ xs) all = ap (λ b. cond b (x ∷ filter t xs) (filter t xs)) all.0 ∙ ap (λ (ys : List Pair). cond (u x) (x ∷ ys) ys) (same_left t u xs all.1)
 
@@ -56,22 +58,26 @@ record Cuts (m : List ℕ) (a b w : Pair → Bool) : Type 0 where
   low : (p : Pair) → key_lt p.key m ≡ true → (a p ≡ w p) × (b p ≡ false)
   high : (p : Pair) → key_lt p.key m ≡ false → (a p ≡ false) × (b p ≡ w p)
 
-cut : (m : List ℕ) (a b w : Pair → Bool) → Cuts m a b w → (ps : List Pair) → is_ascending ps ≡ true → filter a ps ++ filter b ps ≡ filter w ps
+cut : (m : List ℕ) (a b w : Pair → Bool) → Cuts m a b w → (ps : List Pair) → is_ascending ps ≡ true
+    → filter a ps ++ filter b ps ≡ filter w ps
 cut m a b w cuts [] asc = refl
 cut m a b w cuts (x ∷ xs) asc = by (key_lt x.key m) refl (cut m a b w cuts xs (ascending_parts x xs asc).1)
   where
-    join : (t : Bool) → filter a xs ++ filter b xs ≡ filter w xs → cond t (x ∷ filter a xs) (filter a xs) ++ filter b xs ≡ cond t (x ∷ filter w xs) (filter w xs)
+    join : (t : Bool) → filter a xs ++ filter b xs ≡ filter w xs
+        → cond t (x ∷ filter a xs) (filter a xs) ++ filter b xs ≡ cond t (x ∷ filter w xs) (filter w xs)
     join true rest = ap (λ (l : List Pair). x ∷ l) rest
     join false rest = rest
 
-    above : (ys : List Pair) → key_lt x.key m ≡ false → AllAbove x.key ys → AllByRecursion (λ p. a p ≡ false) ys × AllByRecursion (λ p. b p ≡ w p) ys
+    above : (ys : List Pair) → key_lt x.key m ≡ false → AllAbove x.key ys
+        → AllByRecursion (λ p. a p ≡ false) ys × AllByRecursion (λ p. b p ≡ w p) ys
     above [] e all = (tt, tt)
     above (y ∷ ys) e all =
         let here = cuts.high y (not_lower x.key y.key m all.0 e) in
         let rest = above ys e all.1 in
         ((here.0, rest.0), (here.1, rest.1))
 
-    by : (t : Bool) → key_lt x.key m ≡ t → filter a xs ++ filter b xs ≡ filter w xs → filter a (x ∷ xs) ++ filter b (x ∷ xs) ≡ filter w (x ∷ xs)
+    by : (t : Bool) → key_lt x.key m ≡ t → filter a xs ++ filter b xs ≡ filter w xs
+        → filter a (x ∷ xs) ++ filter b (x ∷ xs) ≡ filter w (x ∷ xs)
     by true e rest =
         let here = cuts.low x e in
         ap (λ t. cond (a x) (x ∷ filter a xs) (filter a xs) ++ cond t (x ∷ filter b xs) (filter b xs)) here.1
@@ -87,21 +93,29 @@ cut m a b w cuts (x ∷ xs) asc = by (key_lt x.key m) refl (cut m a b w cuts xs 
 abbrev between : List ℕ → Option (List ℕ) → List Pair → List Pair
 between low high ps = filter (λ p. covers_key low high p.key) ps
 
-below_trans : (a b : List ℕ) (high : Option (List ℕ)) → key_lt a b ≡ true → below_bound b high ≡ true → below_bound a high ≡ true
+below_trans : (a b : List ℕ) (high : Option (List ℕ)) → key_lt a b ≡ true
+    → below_bound b high ≡ true → below_bound a high ≡ true
 below_trans a b None e f = refl
 below_trans a b (Some h) e f = key_lt-trans a b h e f
 
-join_ranges : (ps : List Pair) → is_ascending ps ≡ true → (low m : List ℕ) (high : Option (List ℕ)) → key_lt low m ≡ true → below_bound m high ≡ true → between low (Some m) ps ++ between m high ps ≡ between low high ps
+join_ranges : (ps : List Pair) → is_ascending ps ≡ true → (low m : List ℕ) (high : Option (List ℕ))
+    → key_lt low m ≡ true → below_bound m high ≡ true
+    → between low (Some m) ps ++ between m high ps ≡ between low high ps
 join_ranges ps asc low m high less fits = cut m (λ p. covers_key low (Some m) p.key) (λ p. covers_key m high p.key) (λ p. covers_key low high p.key) (record { low = λ p e. below p e; high = λ p e. above p e }) ps asc
   where
-    below : (p : Pair) → key_lt p.key m ≡ true → (covers_key low (Some m) p.key ≡ covers_key low high p.key) × (covers_key m high p.key ≡ false)
+    below : (p : Pair) → key_lt p.key m ≡ true
+        → (covers_key low (Some m) p.key ≡ covers_key low high p.key)
+        × (covers_key m high p.key ≡ false)
     below p e = (ap (λ t. key_le low p.key && t) (e ∙ sym (below_trans p.key m high e fits)), ap (λ t. not t && below_bound p.key high) e)
 
-    not_under : (p : Pair) → key_lt p.key m ≡ false → (t : Bool) → key_lt p.key low ≡ t → key_lt p.key low ≡ false
+    not_under : (p : Pair) → key_lt p.key m ≡ false → (t : Bool) → key_lt p.key low ≡ t
+        → key_lt p.key low ≡ false
     not_under p e true f = absurd (clash (key_lt p.key m) (key_lt-trans p.key low m f less) e)
     not_under p e false f = f
 
-    above : (p : Pair) → key_lt p.key m ≡ false → (covers_key low (Some m) p.key ≡ false) × (covers_key m high p.key ≡ covers_key low high p.key)
+    above : (p : Pair) → key_lt p.key m ≡ false
+        → (covers_key low (Some m) p.key ≡ false)
+        × (covers_key m high p.key ≡ covers_key low high p.key)
     above p e = (
       ap (λ t. key_le low p.key && t) e ∙ and_false (key_le low p.key),
       ap (λ t. not t && below_bound p.key high) e ∙ sym (ap (λ t. not t && below_bound p.key high) (not_under p e (key_lt p.key low) refl)),
@@ -124,7 +138,8 @@ append_none : (xs : List Pair) → xs ++ [] ≡ xs
 append_none [] = refl
 append_none (x ∷ xs) = ap (λ (l : List Pair). x ∷ l) (append_none xs)
 
-joined : (ps : List Pair) → is_ascending ps ≡ true → (p : Page) (leaves : List Page) → AllByRecursion (LeafOf ps) (p ∷ leaves) → IsChain (p ∷ leaves) → Joined ps p.low (p ∷ leaves)
+joined : (ps : List Pair) → is_ascending ps ≡ true → (p : Page) (leaves : List Page)
+    → AllByRecursion (LeafOf ps) (p ∷ leaves) → IsChain (p ∷ leaves) → Joined ps p.low (p ∷ leaves)
 joined ps asc p [] all chain = record { high = p.high; all = append_none (pairs_in p.body) ∙ all.0.pairs; fits = all.0.fences; ends = λ bound e. e }
 joined ps asc p (q ∷ leaves) all chain =
     let rest = joined ps asc q leaves all.1 chain.1 in
@@ -139,20 +154,23 @@ joined ps asc p (q ∷ leaves) all chain =
 
 -- The bounds of a scan
 
-in_front : (low from : List ℕ) (high bound : Option (List ℕ)) (p : Pair) → key_le low from ≡ true → (covers_key low high p.key && covers_key from bound p.key) ≡ (below_bound p.key high && covers_key from bound p.key)
+in_front : (low from : List ℕ) (high bound : Option (List ℕ)) (p : Pair) → key_le low from ≡ true
+    → (covers_key low high p.key && covers_key from bound p.key) ≡ (below_bound p.key high && covers_key from bound p.key)
 in_front low from high bound p le = by (key_lt p.key from) refl (key_lt p.key low) refl
   where
     not_true : (t : Bool) → not t ≡ true → t ≡ false
     not_true true e = absurd cc
     not_true false e = refl
 
-    by : (t : Bool) → key_lt p.key from ≡ t → (u : Bool) → key_lt p.key low ≡ u → (covers_key low high p.key && covers_key from bound p.key) ≡ (below_bound p.key high && covers_key from bound p.key)
+    by : (t : Bool) → key_lt p.key from ≡ t → (u : Bool) → key_lt p.key low ≡ u
+        → (covers_key low high p.key && covers_key from bound p.key) ≡ (below_bound p.key high && covers_key from bound p.key)
     by true e u f =
         ap (λ t. covers_key low high p.key && (not t && below_bound p.key bound)) e ∙ (and_false (covers_key low high p.key) ∙ sym (ap (λ t. below_bound p.key high && (not t && below_bound p.key bound)) e ∙ and_false (below_bound p.key high)))
     by false e true f = absurd (clash (key_lt p.key from) (lt_le p.key low from f (not_true (key_lt from low) le)) e)
     by false e false f = ap (λ t. (not t && below_bound p.key high) && covers_key from bound p.key) f
 
-at_end : (from : List ℕ) (high bound : Option (List ℕ)) (p : Pair) → EndsAtOrAbove bound high → (below_bound p.key high && covers_key from bound p.key) ≡ covers_key from bound p.key
+at_end : (from : List ℕ) (high bound : Option (List ℕ)) (p : Pair) → EndsAtOrAbove bound high
+    → (below_bound p.key high && covers_key from bound p.key) ≡ covers_key from bound p.key
 at_end from None bound p ends = refl
 at_end from (Some fence) None p ends = absurd ends
 at_end from (Some fence) (Some bound) p ends = by (key_lt p.key bound) refl
@@ -161,7 +179,8 @@ at_end from (Some fence) (Some bound) p ends = by (key_lt p.key bound) refl
     not_true true e = absurd cc
     not_true false e = refl
 
-    by : (t : Bool) → key_lt p.key bound ≡ t → (key_lt p.key fence && covers_key from (Some bound) p.key) ≡ covers_key from (Some bound) p.key
+    by : (t : Bool) → key_lt p.key bound ≡ t
+        → (key_lt p.key fence && covers_key from (Some bound) p.key) ≡ covers_key from (Some bound) p.key
     by true e = ap (λ t. t && covers_key from (Some bound) p.key) (lt_le p.key bound fence e (not_true (key_lt fence bound) ends))
     by false e =
         ap (λ t. key_lt p.key fence && (key_le from p.key && t)) e ∙ (ap (λ t. key_lt p.key fence && t) (and_false (key_le from p.key)) ∙ (and_false (key_lt p.key fence) ∙ sym (ap (λ t. key_le from p.key && t) e ∙ and_false (key_le from p.key))))
@@ -171,16 +190,21 @@ record FirstOf (t : Pair → Bool) (high : Option (List ℕ)) (ps : List Pair) :
   rest : List Pair
   all : filter (λ p. below_bound p.key high && t p) ps ++ rest ≡ filter t ps
 
-first_of_all : (t : Pair → Bool) (high : Option (List ℕ)) (ps : List Pair) → is_ascending ps ≡ true → FirstOf t high ps
+first_of_all : (t : Pair → Bool) (high : Option (List ℕ)) (ps : List Pair) → is_ascending ps ≡ true
+    → FirstOf t high ps
 first_of_all t None ps asc = record { rest = []; all = append_none (filter t ps) }
 first_of_all t (Some h) ps asc = record {
   rest = filter (λ p. not (key_lt p.key h) && t p) ps;
   all = cut h (λ p. key_lt p.key h && t p) (λ p. not (key_lt p.key h) && t p) t (record { low = λ p e. (ap (λ b. b && t p) e, ap (λ b. not b && t p) e); high = λ p e. (ap (λ b. b && t p) e, ap (λ b. not b && t p) e) }) ps asc;
 }
 
--- a chain of leaves that begins at a scan's lower bound has its first pairs, and all where it reaches the upper one
-pub leaves_have : (ps : List Pair) → is_ascending ps ≡ true → (low high : Option (List ℕ)) (limit : ℕ) (leaves : List Page) → AllByRecursion (LeafOf ps) leaves → IsChain leaves → BeginsAt low leaves
-    → (limit ≤ length (pairs_within (leaf_pairs leaves) low high)) ⊎ ReachesEnd high leaves → take limit (pairs_within (leaf_pairs leaves) low high) ≡ take limit (pairs_within ps low high)
+-- a chain of leaves that begins at a scan's lower bound has its first pairs, and all where it
+-- reaches the upper one
+pub leaves_have : (ps : List Pair) → is_ascending ps ≡ true
+    → (low high : Option (List ℕ)) (limit : ℕ) (leaves : List Page)
+    → AllByRecursion (LeafOf ps) leaves → IsChain leaves → BeginsAt low leaves
+    → (limit ≤ length (pairs_within (leaf_pairs leaves) low high)) ⊎ ReachesEnd high leaves
+    → take limit (pairs_within (leaf_pairs leaves) low high) ≡ take limit (pairs_within ps low high)
 leaves_have ps asc low high limit [] all chain begins enough = absurd chain
 leaves_have ps asc low high limit (p ∷ leaves) all chain begins enough = by enough
   where
@@ -201,7 +225,9 @@ leaves_have ps asc low high limit (p ∷ leaves) all chain begins enough = by en
         ∙ same_left (λ pair. covers_key p.low whole.high pair.key && covers_key (unwrap_or low []) high pair.key) (λ pair. below_bound pair.key whole.high && covers_key (unwrap_or low []) high pair.key) ps
         (every (λ pair. (covers_key p.low whole.high pair.key && covers_key (unwrap_or low []) high pair.key) ≡ (below_bound pair.key whole.high && covers_key (unwrap_or low []) high pair.key)) (λ pair. in_front p.low (unwrap_or low []) whole.high high pair starts) ps))
 
-    by : (limit ≤ length (pairs_within (leaf_pairs (p ∷ leaves)) low high)) ⊎ ReachesEnd high (p ∷ leaves) → take limit (pairs_within (leaf_pairs (p ∷ leaves)) low high) ≡ take limit (pairs_within ps low high)
+    by : (limit ≤ length (pairs_within (leaf_pairs (p ∷ leaves)) low high))
+        ⊎ ReachesEnd high (p ∷ leaves)
+        → take limit (pairs_within (leaf_pairs (p ∷ leaves)) low high) ≡ take limit (pairs_within ps low high)
     by (inr reaches) =
         ap (take limit) (found ∙ same_left (λ pair. below_bound pair.key whole.high && covers_key (unwrap_or low []) high pair.key) (λ pair. covers_key (unwrap_or low []) high pair.key) ps
         (every (λ pair. (below_bound pair.key whole.high && covers_key (unwrap_or low []) high pair.key) ≡ covers_key (unwrap_or low []) high pair.key) (λ pair. at_end (unwrap_or low []) whole.high high pair (whole.ends high reaches)) ps))

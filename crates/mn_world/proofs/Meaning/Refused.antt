@@ -18,7 +18,9 @@ use Rattle.mn_world.specs.Causes.{BusyTries, IsCallInLast}
 use Rattle.mn_world.proofs.Meaning.LastTry.{InLast, in_last, as_in_last}
 
 -- a list of one call
-call_is : (at : Option NodeNo) (what : What) (call : Call) → call_in at what ≡ call ∷ [] → (call.reply ≡ Say.Stopped → ⊥) → (at ≡ Some call.node) × (what ≡ Called call.request call.reply)
+call_is : (at : Option NodeNo) (what : What) (call : Call) → call_in at what ≡ call ∷ []
+    → (call.reply ≡ Say.Stopped → ⊥)
+    → (at ≡ Some call.node) × (what ≡ Called call.request call.reply)
 call_is None what call is other = absurd cc
 call_is (Some k) (Called request reply) call is other =
     let same : record { node = k; request = request; reply = reply } ≡ call = head _ call is in
@@ -38,7 +40,8 @@ call_is (Some k) (Abandoned tid) call is other = absurd cc
 call_is (Some k) (Answered number answer) call is other = absurd cc
 
 -- a stop is no refusal
-not_stopped : (seens : List Seen) (n : NodeNo) (request : Request) (busy : Busy) → RefusedAs seens n request Say.Stopped busy → ⊥
+not_stopped : (seens : List Seen) (n : NodeNo) (request : Request) (busy : Busy)
+    → RefusedAs seens n request Say.Stopped busy → ⊥
 not_stopped seens n (Ask.Prepare tid ps part) busy r = r
 not_stopped seens n (Ask.Exec tid part) busy r = r
 not_stopped seens n (Ask.Decide tid verdict) busy r = r
@@ -70,7 +73,9 @@ last_refused {past} {c} {number} {place} {busy} t refusal = at_last t.failed.las
     and_left true b h = refl
     and_left false b h = absurd cc
 
-    by_call : (x : Entry) (try : List Entry) → t.failed.last ≡ x ∷ try → (call : Call) → call_in x.node x.what ≡ call ∷ [] → RefusedAs (seen_in try) call.node call.request call.reply busy → LastRefused t
+    by_call : (x : Entry) (try : List Entry) → t.failed.last ≡ x ∷ try → (call : Call)
+        → call_in x.node x.what ≡ call ∷ []
+        → RefusedAs (seen_in try) call.node call.request call.reply busy → LastRefused t
     by_call x try is call here refused =
         let parts = call_is x.node x.what call here (λ stop. not_stopped (seen_in try) call.node call.request busy (subst (λ (r : NodeReply). RefusedAs (seen_in try) call.node call.request r busy) stop refused)) in
         record {
@@ -96,7 +101,8 @@ last_refused {past} {c} {number} {place} {busy} t refusal = at_last t.failed.las
 
 -- the call of it
 abbrev pub call_in_last : {past : List Entry} {c : ClientNo} {number place : ℕ} {busy : Busy} (t : BusyTries past c number place busy) (r : LastRefused t) (n : NodeNo) (request : Request) (reply : NodeReply)
-    → r.node ≡ n → r.request ≡ request → r.reply ≡ reply → IsCallInLast t (length r.there.before) n request reply
+    → r.node ≡ n → r.request ≡ request → r.reply ≡ reply
+    → IsCallInLast t (length r.there.before) n request reply
 call_in_last t r n request reply node asked said = record {
   entry = r.entry;
   there = as_in_last t [] r.entry r.try r.there;

@@ -35,7 +35,8 @@ pub record ShownAt (past : List Entry) (c : ClientNo) (op : Op) (reply : Reply) 
   pub is_place : place ≡ length before
   pub here : ShowsHere c before entry op reply
 
-pub last_shown_at : (past : List Entry) (c : ClientNo) (op : Op) (reply : Reply) (place : ℕ) → LastShown c op reply past place → ShownAt past c op reply place
+pub last_shown_at : (past : List Entry) (c : ClientNo) (op : Op) (reply : Reply) (place : ℕ)
+    → LastShown c op reply past place → ShownAt past c op reply place
 last_shown_at [] c op reply place none = absurd none
 last_shown_at (e ∷ past) c op reply place (inl (here, is)) = record { entry = e; later = []; before = past; split = refl; is_place = is; here = here }
 last_shown_at (e ∷ past) c op reply place (inr (not_here, since, older)) =
@@ -43,7 +44,9 @@ last_shown_at (e ∷ past) c op reply place (inr (not_here, since, older)) =
     record { entry = at.entry; later = e ∷ at.later; before = at.before; split = ap (λ (l : List Entry). e ∷ l) at.split; is_place = at.is_place; here = at.here }
 
 -- where the read stands, the flat memory has its bytes
-pub stands_at : (start : Start) (store : Store) (past : List Entry) (placed : List Placed) → Known start store past placed → (later : List Entry) (x : Entry) (before : List Entry) → past ≡ later ++ x ∷ before → (seen : Seen) → Contains (seen_at x) seen
+pub stands_at : (start : Start) (store : Store) (past : List Entry) (placed : List Placed)
+    → Known start store past placed → (later : List Entry) (x : Entry) (before : List Entry)
+    → past ≡ later ++ x ∷ before → (seen : Seen) → Contains (seen_at x) seen
     → StandsIn (flat start before) seen
 stands_at start store past placed known later x before split seen has =
     let run = follows_before start past later (x ∷ before) split known.follows in
@@ -55,8 +58,11 @@ catalog_shows start before seen op reply s stands (entries, sees, replies) holds
     catalog_replies s op reply (subst (λ (hs : List Head). CatalogReplies hs op reply) (catalog_heads (flat start before) s seen entries holds stands sees) replies)
 
 -- a leaf shows it, by a catalog that was read before
-leaf_shows : (start : Start) (store : Store) (past : List Entry) (placed : List Placed) → Known start store past placed → (later before : List Entry) → past ≡ later ++ before → (c : ClientNo) (seen : Seen) (op : Op) (reply : Reply) (s : Store)
-    → StandsIn (flat start before) seen → LeafShows (client_entries c before) seen op reply → Holds (flat start before) s → Leaves s op reply
+leaf_shows : (start : Start) (store : Store) (past : List Entry) (placed : List Placed)
+    → Known start store past placed → (later before : List Entry) → past ≡ later ++ before
+    → (c : ClientNo) (seen : Seen) (op : Op) (reply : Reply) (s : Store)
+    → StandsIn (flat start before) seen → LeafShows (client_entries c before) seen op reply
+    → Holds (flat start before) s → Leaves s op reply
 leaf_shows start store past placed known later before split c seen (Tx name []) reply s stands shows holds = absurd shows
 leaf_shows start store past placed known later before split c seen (Tx name (Put key value ∷ steps)) reply s stands shows holds = absurd shows
 leaf_shows start store past placed known later before split c seen (Tx name (Del key ∷ steps)) reply s stands shows holds = absurd shows
@@ -73,7 +79,9 @@ leaf_shows start store past placed known later before split c seen (Tx name (Get
     let tells = leaf_tells_get (flat start before) s holds v name key addr page (still_named (heads_in entries) (heads_of s) name v on named) (record { there = there; level = flat_page; serves = serves_now; covers = covers }) in
     (is ∙ sym tells, get_leaves s name key)
 
-pub read_leaves_store : (start : Start) (store : Store) (past : List Entry) (placed : List Placed) → Known start store past placed → (c : ClientNo) (op : Op) (reply : Reply) (place : ℕ) → (at : ShownAt past c op reply place)
+pub read_leaves_store : (start : Start) (store : Store) (past : List Entry) (placed : List Placed)
+    → Known start store past placed → (c : ClientNo) (op : Op) (reply : Reply) (place : ℕ)
+    → (at : ShownAt past c op reply place)
     → (s : Store) → Holds (flat start at.before) s → Leaves s op reply
 read_leaves_store start store past placed known c op reply place at s holds = by at.here.1.2
   where

@@ -40,7 +40,8 @@ use Rattle.mn_world.proofs.Meaning.Ranges.{LeafOf, leaves_have}
 
 -- The oldest catalog read
 
-all_mid : {X : Type 0} (P : X → Type 0) (xs : List X) (x : X) (ys : List X) → AllByRecursion P (xs ++ x ∷ ys) → P x
+all_mid : {X : Type 0} (P : X → Type 0) (xs : List X) (x : X) (ys : List X)
+    → AllByRecursion P (xs ++ x ∷ ys) → P x
 all_mid P [] x ys all = all.0
 all_mid P (z ∷ xs) x ys all = all_mid P xs x ys all.1
 
@@ -49,7 +50,8 @@ pub record SameOldest {X : Type 0} (newer later : List X) (x y : X) : Type 0 whe
   pub here : x ≡ y
 
 pub oldest_one : {X : Type 0} (P : X → Type 0) (newer later : List X) (x y : X) (older earlier : List X) → newer ++ x ∷ older ≡ later ++ y ∷ earlier → P x → P y
-    → AllByRecursion (λ z. P z → ⊥) older → AllByRecursion (λ z. P z → ⊥) earlier → SameOldest newer later x y
+    → AllByRecursion (λ z. P z → ⊥) older → AllByRecursion (λ z. P z → ⊥) earlier
+    → SameOldest newer later x y
 oldest_one P [] [] x y older earlier same px py none none' = record { parts = refl; here = cc }
 oldest_one {X} P [] (z ∷ later) x y older earlier same px py none none' = absurd (all_mid (λ z. P z → ⊥) later y earlier (subst (AllByRecursion (λ z. P z → ⊥)) rest none) py)
   where
@@ -68,13 +70,16 @@ oldest_one {X} P (w ∷ newer) (z ∷ later) x y older earlier same px py none n
     rest = cc
 
 -- an entry that brought a read brought just it
-pub brings_one : (by : Option ClientNo) (at : Option NodeNo) (what : What) (seen : Seen) → Contains (seen_at (record { node = at; client = by; what = what })) seen → seen_at (record { node = at; client = by; what = what }) ≡ seen ∷ []
+pub brings_one : (by : Option ClientNo) (at : Option NodeNo) (what : What) (seen : Seen)
+    → Contains (seen_at (record { node = at; client = by; what = what })) seen
+    → seen_at (record { node = at; client = by; what = what }) ≡ seen ∷ []
 brings_one by at what seen has =
     let call : ReadCall at what seen = read_call by at what seen has in
     ap (λ (o : Option NodeNo). seen_at (record { node = o; client = by; what = what })) call.here
     ∙ (ap (λ (w : What). seen_at (record { node = Some call.node; client = by; what = w })) call.call ∙ ap (λ (s : Seen). s ∷ []) (sym call.is))
 
--- the first catalog of the operation's reads is the one at this entry, and the reads behind it are those of the newer entries
+-- the first catalog of the operation's reads is the one at this entry, and the reads behind it are
+-- those of the newer entries
 record IsFirst (c : ClientNo) (past : List Entry) (place : ℕ) (first : FirstCatalogAt c past place) (seen : Seen) (later : List Seen) : Type 0 where
   here : first.here.1.0 ≡ seen
   newer : later ≡ seen_in (client_entries c first.later)
@@ -100,7 +105,9 @@ pub record SeenAfter (start : Start) (later before : List Entry) (seen : Seen) :
   pub here : Contains (seen_at entry) seen
   pub stands : StandsIn (flat start (older ++ before)) seen
 
-pub seen_after : (start : Start) (later before : List Entry) (c : ClientNo) (seen : Seen) → StartsSound start → HasSpaces start → FollowsProtocol start (later ++ before) → Contains (seen_in (client_entries c later)) seen → SeenAfter start later before seen
+pub seen_after : (start : Start) (later before : List Entry) (c : ClientNo) (seen : Seen)
+    → StartsSound start → HasSpaces start → FollowsProtocol start (later ++ before)
+    → Contains (seen_in (client_entries c later)) seen → SeenAfter start later before seen
 seen_after start [] before c seen sound spaces run has = absurd (nothing seen has)
 seen_after start (e ∷ later) before c seen sound spaces run has =
     let rest = seen_after start later before c seen sound spaces run.0 in
@@ -112,7 +119,9 @@ seen_after start (e ∷ later) before c seen sound spaces run has =
     further : SeenAfter start later before seen → SeenAfter start (e ∷ later) before seen
     further s = record { entry = s.entry; newer = e ∷ s.newer; older = s.older; split = ap (λ (l : List Entry). e ∷ l) s.split; here = s.here; stands = s.stands }
 
-    cases : (Contains (seen_in (client_entries c later)) seen → SeenAfter start later before seen) → Contains (seen_at e) seen ⊎ Contains (seen_in (client_entries c later)) seen → SeenAfter start (e ∷ later) before seen
+    cases : (Contains (seen_in (client_entries c later)) seen → SeenAfter start later before seen)
+        → Contains (seen_at e) seen ⊎ Contains (seen_in (client_entries c later)) seen
+        → SeenAfter start (e ∷ later) before seen
     cases rest (inl here) = record {
       entry = e;
       newer = [];
@@ -128,10 +137,19 @@ seen_after start (e ∷ later) before c seen sound spaces run has =
 same_number : (a b : ℕ) (o : Option ℕ) → o ≡ Some a → o ≡ Some b → a ≡ b
 same_number a b o p q = let e : Some a ≡ Some b = sym p ∙ q in cc
 
--- each leaf that was read after the catalog has the pairs of its range, as the version has them where the catalog was read
-leaf_of : (start : Start) (store : Store) (past : List Entry) (placed : List Placed) → Known start store past placed → (c : ClientNo) (later : List Entry) (x : Entry) (before : List Entry) → past ≡ later ++ x ∷ before
-    → (name : List ℕ) (entries : List CatEntry) (s : Store) → Holds (flat start before) s → heads_in entries ≡ heads_of s → (v : ℕ) (version : StoreVersion) → number_named (heads_in entries) name ≡ Some v → slice_get s v ≡ Some version → version.head.frozen ≡ true
-    → (seen : Seen) (addr : Addr) (p : Page) → Contains (seen_in (client_entries c later)) seen → SeesPage seen addr p → height_of p.body ≡ 0 → ServesNamed entries name p → LeafOf version.pairs p
+-- each leaf that was read after the catalog has the pairs of its range, as the version has them
+-- where the catalog was read
+leaf_of : (start : Start) (store : Store) (past : List Entry) (placed : List Placed)
+    → Known start store past placed
+    → (c : ClientNo) (later : List Entry) (x : Entry) (before : List Entry)
+    → past ≡ later ++ x ∷ before
+    → (name : List ℕ) (entries : List CatEntry) (s : Store) → Holds (flat start before) s
+    → heads_in entries ≡ heads_of s → (v : ℕ) (version : StoreVersion)
+    → number_named (heads_in entries) name ≡ Some v → slice_get s v ≡ Some version
+    → version.head.frozen ≡ true
+    → (seen : Seen) (addr : Addr) (p : Page) → Contains (seen_in (client_entries c later)) seen
+    → SeesPage seen addr p → height_of p.body ≡ 0 → ServesNamed entries name p
+    → LeafOf version.pairs p
 leaf_of start store past placed known c later x before split name entries s holds heads v version number at frozen seen addr p has sees leaf (w, names, serves) =
     let run = follows_before start past [] past refl known.follows in
     let r = seen_after start later (x ∷ before) c seen known.sound known.spaces (subst (FollowsProtocol start) split known.follows) has in
@@ -151,14 +169,19 @@ leaf_of start store past placed known c later x before split name entries s hold
     up : (older : List Entry) → length before ≤ length (older ++ x ∷ before)
     up older = let parts = Rattle.std.proofs.lemmas.List.length-append older (x ∷ before) in omega arith
 
-scan_is : (s : Store) (name : List ℕ) (low high : Option (List ℕ)) (limit : ℕ) (head : Head) → head_named (heads_of s) name ≡ Some head → head.frozen ≡ true
+scan_is : (s : Store) (name : List ℕ) (low high : Option (List ℕ)) (limit : ℕ) (head : Head)
+    → head_named (heads_of s) name ≡ Some head → head.frozen ≡ true
     → applied s (Scan name low high limit) ≡ record { store = s; reply = Say.Pairs (take limit (pairs_within (pairs_named s name) low high)) }
 scan_is s name low high limit head is frozen =
     ap (unless_refused s (Scan name low high limit)) (ap (λ o. refusal_at (heads_of s) (Scan name low high limit) o) is ∙ ap (λ b. if b then None else Some Say.NotFrozen) frozen)
 
-pub scan_leaves : (start : Start) (store : Store) (past : List Entry) (placed : List Placed) → Known start store past placed → (c : ClientNo) (place : ℕ) (first : FirstCatalogAt c past place)
-    → (name : List ℕ) (low high : Option (List ℕ)) (limit : ℕ) (pairs : List Pair) → ScanShows (seen_in (since_begin (client_entries c past))) (Scan name low high limit) (Say.Pairs pairs)
-    → (s : Store) → Holds (flat start first.before) s → Leaves s (Scan name low high limit) (Say.Pairs pairs)
+pub scan_leaves : (start : Start) (store : Store) (past : List Entry) (placed : List Placed)
+    → Known start store past placed
+    → (c : ClientNo) (place : ℕ) (first : FirstCatalogAt c past place)
+    → (name : List ℕ) (low high : Option (List ℕ)) (limit : ℕ) (pairs : List Pair)
+    → ScanShows (seen_in (since_begin (client_entries c past))) (Scan name low high limit) (Say.Pairs pairs)
+    → (s : Store) → Holds (flat start first.before) s
+    → Leaves s (Scan name low high limit) (Say.Pairs pairs)
 scan_leaves start store past placed known c place first name low high limit pairs (seen, later, entries, head, cat, sees, head_is, frozen, shown) s holds = answer shown.leaves shown.seen shown.chain shown.first shown.enough shown.pairs_are
   where
     is : IsFirst c past place first seen later
@@ -175,7 +198,8 @@ scan_leaves start store past placed known c place first name low high limit pair
     same_head : (a b : Head) (o : Option Head) → o ≡ Some a → o ≡ Some b → a ≡ b
     same_head a b o p q = let e : Some a ≡ Some b = sym p ∙ q in cc
 
-    all_leaves : (v : ℕ) → number_named (heads_in entries) name ≡ Some v → (n : NamedVersion s name v) → (leaves : List Page)
+    all_leaves : (v : ℕ) → number_named (heads_in entries) name ≡ Some v
+        → (n : NamedVersion s name v) → (leaves : List Page)
         → AllByRecursion (λ p. (sn : Seen) × (addr : Addr) × Contains later sn × SeesPage sn addr p × (height_of p.body ≡ 0) × ServesNamed entries name p) leaves → AllByRecursion (LeafOf n.version.pairs) leaves
     all_leaves v number n [] all = tt
     all_leaves v number n (p ∷ leaves) ((sn, addr, has, page, leaf, serves), all) = (
@@ -184,8 +208,12 @@ scan_leaves start store past placed known c place first name low high limit pair
       all_leaves v number n leaves all,
     )
 
-    answer : (leaves : List Page) → AllByRecursion (λ p. (sn : Seen) × (addr : Addr) × Contains later sn × SeesPage sn addr p × (height_of p.body ≡ 0) × ServesNamed entries name p) leaves
-        → IsChain leaves → BeginsAt low leaves → (limit ≤ length (pairs_within (Rattle.mn_world.specs.Shown.leaf_pairs leaves) low high)) ⊎ ReachesEnd high leaves → pairs ≡ take limit (pairs_within (Rattle.mn_world.specs.Shown.leaf_pairs leaves) low high)
+    answer : (leaves : List Page)
+        → AllByRecursion (λ p. (sn : Seen) × (addr : Addr) × Contains later sn × SeesPage sn addr p × (height_of p.body ≡ 0) × ServesNamed entries name p) leaves
+        → IsChain leaves → BeginsAt low leaves
+        → (limit ≤ length (pairs_within (Rattle.mn_world.specs.Shown.leaf_pairs leaves) low high))
+        ⊎ ReachesEnd high leaves
+        → pairs ≡ take limit (pairs_within (Rattle.mn_world.specs.Shown.leaf_pairs leaves) low high)
         → Leaves s (Scan name low high limit) (Say.Pairs pairs)
     answer [] all chain begins enough pairs_are = absurd chain
     answer (p ∷ leaves) all chain begins enough pairs_are =

@@ -41,7 +41,8 @@ pub record InLater (past later : List Entry) (y : Entry) (before : List Entry) :
   pub split : later ≡ newer ++ y ∷ older
   pub rest : before ≡ older ++ past
 
-pub where_is : (later past newer : List Entry) (y : Entry) (before : List Entry) → later ++ past ≡ newer ++ y ∷ before → InOlder past y before ⊎ InLater past later y before
+pub where_is : (later past newer : List Entry) (y : Entry) (before : List Entry)
+    → later ++ past ≡ newer ++ y ∷ before → InOlder past y before ⊎ InLater past later y before
 where_is [] past newer y before same = inl (record { later = newer; split = same })
 where_is (z ∷ later) past [] y before same =
     let here : z ≡ y = cc in
@@ -52,7 +53,8 @@ where_is (z ∷ later) past (w ∷ newer) y before same = by (where_is later pas
     rest : later ++ past ≡ newer ++ y ∷ before
     rest = cc
 
-    by : InOlder past y before ⊎ InLater past later y before → InOlder past y before ⊎ InLater past (z ∷ later) y before
+    by : InOlder past y before ⊎ InLater past later y before
+        → InOlder past y before ⊎ InLater past (z ∷ later) y before
     by (inl old) = inl old
     by (inr new) = inr (record { newer = z ∷ new.newer; older = new.older; split = ap (λ (l : List Entry). z ∷ l) new.split; rest = new.rest })
 
@@ -70,23 +72,31 @@ pub record Stands (placed : List Placed) (c : ClientNo) (number : ℕ) : Type 0 
   pub there : Contains placed p
   pub of : IsOp p c number
 
-stands_more : (q : Placed) (placed : List Placed) (c : ClientNo) (number : ℕ) → Stands placed c number → Stands (q ∷ placed) c number
+stands_more : (q : Placed) (placed : List Placed) (c : ClientNo) (number : ℕ)
+    → Stands placed c number → Stands (q ∷ placed) c number
 stands_more q placed c number s = record { p = s.p; there = (suc s.there.0, omega (arith, s.there.1), s.there.2); of = s.of }
 
-pub stands_or_not : (c : ClientNo) (number : ℕ) (placed : List Placed) → Stands placed c number ⊎ StandsNowhere placed c number
+pub stands_or_not : (c : ClientNo) (number : ℕ) (placed : List Placed)
+    → Stands placed c number ⊎ StandsNowhere placed c number
 stands_or_not c number [] = inr tt
 stands_or_not c number (q ∷ qs) = by (client_same q.past.client c) refl (nat_eq q.past.number number) refl (stands_or_not c number qs)
   where
-    other : ((q.past.client ≡ c) → (q.past.number ≡ number) → ⊥) → Stands qs c number ⊎ StandsNowhere qs c number → Stands (q ∷ qs) c number ⊎ StandsNowhere (q ∷ qs) c number
+    other : ((q.past.client ≡ c) → (q.past.number ≡ number) → ⊥)
+        → Stands qs c number ⊎ StandsNowhere qs c number
+        → Stands (q ∷ qs) c number ⊎ StandsNowhere (q ∷ qs) c number
     other differs (inl s) = inl (stands_more q qs c number s)
     other differs (inr none) = inr (differs, none)
 
-    by : (a : Bool) → client_same q.past.client c ≡ a → (b : Bool) → nat_eq q.past.number number ≡ b → Stands qs c number ⊎ StandsNowhere qs c number → Stands (q ∷ qs) c number ⊎ StandsNowhere (q ∷ qs) c number
+    by : (a : Bool) → client_same q.past.client c ≡ a → (b : Bool) → nat_eq q.past.number number ≡ b
+        → Stands qs c number ⊎ StandsNowhere qs c number
+        → Stands (q ∷ qs) c number ⊎ StandsNowhere (q ∷ qs) c number
     by true e true f rest = inl (record { p = q; there = (0, omega arith, refl); of = (client_same-true q.past.client c e, nat_eq-true q.past.number number f) })
     by true e false f rest = other (λ client is. clash (nat_eq q.past.number number) (subst (λ (k : ℕ). nat_eq q.past.number k ≡ true) is (nat_eq-refl q.past.number)) f) rest
     by false e b f rest = other (λ client is. clash (client_same q.past.client c) (subst (λ (d : ClientNo). client_same q.past.client d ≡ true) client (client_same-refl q.past.client)) e) rest
 
-all_has : (placed : List Placed) (p : Placed) (c : ClientNo) (number : ℕ) → StandsNowhere placed c number → Contains placed p → p.past.client ≡ c → p.past.number ≡ number → ⊥
+all_has : (placed : List Placed) (p : Placed) (c : ClientNo) (number : ℕ)
+    → StandsNowhere placed c number → Contains placed p → p.past.client ≡ c → p.past.number ≡ number
+    → ⊥
 all_has placed p c number none has = All-contains (λ q. q.past.client ≡ c → q.past.number ≡ number → ⊥) placed p (All-from_recursion (λ q. q.past.client ≡ c → q.past.number ≡ number → ⊥) placed none) has
 
 -- what stands by a plan took effect
@@ -108,21 +118,28 @@ took_effect start past placed c number s a = record {
 
 -- A plan that is committed later
 
--- where no plan of the operation stands in the history, one that is committed in what goes on from the log has its commit behind the log, and its id none in it
+-- where no plan of the operation stands in the history, one that is committed in what goes on from
+-- the log has its commit behind the log, and its id none in it
 pub record CommitsLater (past later : List Entry) (c : ClientNo) (number : ℕ) : Type 0 where
   pub place : ℕ
   pub x : PlanIn (later ++ past) place c number
   pub not_yet : CommittedIn past x.issued.tid → ⊥
 
 -- what is committed behind the log is not committed in it
-behind_log : (start : Start) (past later : List Entry) → StartsSound start → FollowsProtocol start (later ++ past) → (c : ClientNo) (number : ℕ) (place : ℕ) (x : PlanIn (later ++ past) place c number) → length past ≤ place → CommittedIn past x.issued.tid → ⊥
+behind_log : (start : Start) (past later : List Entry) → StartsSound start
+    → FollowsProtocol start (later ++ past)
+    → (c : ClientNo) (number : ℕ) (place : ℕ) (x : PlanIn (later ++ past) place c number)
+    → length past ≤ place → CommittedIn past x.issued.tid → ⊥
 behind_log start past later sound run c number place x high co =
     let there : later ++ past ≡ (later ++ co.later) ++ co.entry ∷ co.before = ap (λ (l : List Entry). later ++ l) co.split ∙ sym (append_assoc later co.later (co.entry ∷ co.before)) in
     let same : length x.before ≡ length co.before = one_place start (later ++ past) sound run x.later x.entry x.before x.issued (later ++ co.later) co.entry co.before co.issued x.split there x.commits co.commits (sym co.same) in
     let low = shorter_by past co.later co.entry co.before co.split in
     let is : place ≡ length x.before = x.is_place in absurd (omega arith)
 
-pub commits_later : (start : Start) (store : Store) (past : List Entry) (placed : List Placed) → HistoryRun start store past placed → (later : List Entry) → FollowsProtocol start (later ++ past) → (c : ClientNo) (number : ℕ) → StandsNowhere placed c number
+pub commits_later : (start : Start) (store : Store) (past : List Entry) (placed : List Placed)
+    → HistoryRun start store past placed → (later : List Entry)
+    → FollowsProtocol start (later ++ past) → (c : ClientNo) (number : ℕ)
+    → StandsNowhere placed c number
     → (place : ℕ) → CommitsPlanAt (later ++ past) place c number → CommitsLater past later c number
 commits_later start store past placed h later run c number none place (newer, e, before, i, split, is, commits, not_read, (p, plan, client, n)) = by (where_is later past newer e before split)
   where
@@ -147,7 +164,8 @@ never_later past later c number l never = never_there l.x.issued.tid (later ++ p
 doubt_no_reply : (tid : Rattle.mn_base.specs.declared.ids.Tid.Tid) (n : NodeNo) (reply : Rattle.mn_base.specs.declared.reply.Reply.Reply) → InDoubt tid n ≡ Replied reply → ⊥
 doubt_no_reply tid n reply e = cc
 
-pub told_settled : (start : Start) (store : Store) (past : List Entry) (placed : List Placed) → HistoryRun start store past placed → AreUp start past → AreSettled start past placed
+pub told_settled : (start : Start) (store : Store) (past : List Entry) (placed : List Placed)
+    → HistoryRun start store past placed → AreUp start past → AreSettled start past placed
 told_settled start store past placed h up c number (tid, n, (at, e, stands, answers)) = by (stands_or_not c number placed)
   where
     run : FollowsProtocol start past
@@ -167,13 +185,16 @@ told_settled start store past placed h up c number (tid, n, (at, e, stands, answ
         let shut : IsShut c past l.x.issued.tid = answer_shuts start past later c number (InDoubt tid n) answer (record { number = number; op = l.x.op }) l.x.issued l.x.issue h.opened.opened.sound run' refl in
         never_later past later c number l (shut_never start past later c l.x.issued.tid h.opened.opened.sound run' shut (none_down start past l.x.issued.tid run up) l.not_yet)
 
-    by : Stands placed c number ⊎ StandsNowhere placed c number → TookEffect past placed c number ⊎ (StandsNowhere placed c number × IsNever start past c number)
+    by : Stands placed c number ⊎ StandsNowhere placed c number
+        → TookEffect past placed c number
+        ⊎ (StandsNowhere placed c number × IsNever start past c number)
     by (inl s) = inl (effect s (origin_of start past placed s.p h.opened.run h.history s.there))
     by (inr none) = inr (none, never none)
 
 -- Answered without effect
 
-pub others_never : (start : Start) (store : Store) (past : List Entry) (placed : List Placed) → HistoryRun start store past placed → OthersHaveNone start past placed
+pub others_never : (start : Start) (store : Store) (past : List Entry) (placed : List Placed)
+    → HistoryRun start store past placed → OthersHaveNone start past placed
 others_never start store past placed h c number answer (at, e, stands, answers) means = (others_have_no_effect start store past placed at e c number answer h stands answers means, never)
   where
     here : AnswerAt past c number answer

@@ -1,4 +1,5 @@
--- An operation that was answered sends no more. Once each node is up, a plan of it is committed or never will be.
+-- An operation that was answered sends no more. Once each node is up, a plan of it is committed or
+-- never will be.
 use Rattle.std.proofs.Common.{◌≡◌, ℕ, ◌<◌, ◌⊎◌, inl, inr, Bool, true, false, ◌||◌, List, [], ◌∷◌, ◌++◌, length, Option, Some, None, refl, subst, sym, ap, ◌∙◌, if◌then◌else◌}
 use Rattle.std.specs.List.{list_all}
 use Rattle.std.specs.Option.{option_map}
@@ -38,7 +39,8 @@ use Rattle.mn_world.proofs.Meaning.Done.{CommittedIn, committed_more}
 abbrev pub IsShut : ClientNo → List Entry → Tid → Type 0
 IsShut c past tid = (mini : Mini) × (issue_named tid (issues_of (client_entries c past)) ≡ Some mini) × (issue_named tid (issues_of (since_begin (client_entries c past))) ≡ None)
 
-shut_stays : (start : Start) (past : List Entry) (e : Entry) (c : ClientNo) (tid : Tid) → Kept start past → KeepsProtocol start past e → IsShut c past tid → IsShut c (e ∷ past) tid
+shut_stays : (start : Start) (past : List Entry) (e : Entry) (c : ClientNo) (tid : Tid)
+    → Kept start past → KeepsProtocol start past e → IsShut c past tid → IsShut c (e ∷ past) tid
 shut_stays start past e c tid kept keeps (mini, is, none) = (
   mini,
   issue_stays start past e c tid mini kept keeps is,
@@ -88,7 +90,8 @@ no_request : (r : Request) → None ≡ Some r → ⊥
 no_request r e = cc
 
 not_pending : (start : Start) (past : List Entry) (by : Option ClientNo) (k : NodeNo) (what : What) (tid : Tid) (c : ClientNo) (request : Request) → Kept start past → KeepsProtocol start past (record { node = Some k; client = by; what = what }) → IsShut c past tid → NonePending past tid
-    → is_try tid request ≡ true → is_down_after what (is_down (node_entries k past)) ≡ true → stopped_request_after what (stopped_request (node_entries k past)) ≡ Some request → ⊥
+    → is_try tid request ≡ true → is_down_after what (is_down (node_entries k past)) ≡ true
+    → stopped_request_after what (stopped_request (node_entries k past)) ≡ Some request → ⊥
 not_pending start past by k (Called r reply) tid c request kept keeps shut none try down is = none k request try down is
 not_pending start past None k (Stopped (Some r) asked) tid c request kept keeps shut none try down is = absurd keeps.by_client
 not_pending start past (Some d) k (Stopped (Some r) asked) tid c request kept keeps shut none try down is =
@@ -100,7 +103,9 @@ not_pending start past by k (Issue u m) tid c request kept keeps shut none try d
 not_pending start past by k (Abandoned u) tid c request kept keeps shut none try down is = absurd keeps.at_node.1
 not_pending start past by k (Answered number answer) tid c request kept keeps shut none try down is = absurd keeps.at_node.1
 
-pending_stays : (start : Start) (past : List Entry) (e : Entry) (c : ClientNo) (tid : Tid) → Kept start past → KeepsProtocol start past e → IsShut c past tid → NonePending past tid → NonePending (e ∷ past) tid
+pending_stays : (start : Start) (past : List Entry) (e : Entry) (c : ClientNo) (tid : Tid)
+    → Kept start past → KeepsProtocol start past e → IsShut c past tid → NonePending past tid
+    → NonePending (e ∷ past) tid
 pending_stays start past e c tid kept keeps shut none = λ k request try.
     elim (is_at k e) as (λ b. is_at k e ≡ b → is_down (if b then e ∷ node_entries k past else node_entries k past) ≡ true → stopped_request (if b then e ∷ node_entries k past else node_entries k past) ≡ Some request → ⊥) [
       | true ↦ λ at down is.
@@ -109,7 +114,8 @@ pending_stays start past e c tid kept keeps shut none = λ k request try.
     ] refl
 
 -- only nodes of the run are ever down
-down_low : (start : Start) (past : List Entry) (k : NodeNo) → FollowsProtocol start past → is_down (node_entries k past) ≡ true → k.0 < start_nodes start
+down_low : (start : Start) (past : List Entry) (k : NodeNo) → FollowsProtocol start past
+    → is_down (node_entries k past) ≡ true → k.0 < start_nodes start
 down_low start [] k run down = absurd (not_false down)
 down_low start (e ∷ past) k run down =
     elim (is_at k e) as (λ b. is_at k e ≡ b → is_down (if b then e ∷ node_entries k past else node_entries k past) ≡ true → k.0 < start_nodes start) [
@@ -125,7 +131,8 @@ down_low start (e ∷ past) k run down =
 clash : (b : Bool) → b ≡ true → b ≡ false → ⊥
 clash b p q = cc
 
-pub none_down : (start : Start) (past : List Entry) (tid : Tid) → FollowsProtocol start past → AreUp start past → NonePending past tid
+pub none_down : (start : Start) (past : List Entry) (tid : Tid) → FollowsProtocol start past
+    → AreUp start past → NonePending past tid
 none_down start past tid run up = λ k request try down is. clash (is_down (node_entries k past)) down (up k (down_low start past k run down))
 
 -- Nothing commits it
@@ -133,7 +140,8 @@ none_down start past tid run up = λ k request try down is. clash (is_down (node
 issued_id : (tid : Tid) (past : List Entry) (i : Issued) → issued_as tid past ≡ Some i → tid ≡ i.tid
 issued_id tid past i is = by (issue_named tid (issues_of past)) is
   where
-    by : (o : Option Mini) → option_map (λ (mini : Mini). let r : Issued = record { tid = tid; mini = mini } in r) o ≡ Some i → tid ≡ i.tid
+    by : (o : Option Mini)
+        → option_map (λ (mini : Mini). let r : Issued = record { tid = tid; mini = mini } in r) o ≡ Some i → tid ≡ i.tid
     by None f = absurd (none_some i f)
     by (Some mini) f = ap (λ (j : Issued). j.tid) (same_issued (record { tid = tid; mini = mini }) i f)
 
@@ -141,11 +149,15 @@ same_tid : (t u : Tid) → t ≡ u → tid_same t u ≡ true
 same_tid t u e = subst (λ (x : Tid). tid_same t x ≡ true) e (Rattle.mn_world.proofs.Reading.Same.tid_same-refl t)
 
 -- what commits an id is a Prepare or Exec of it that takes effect
-pub effect_try : (past : List Entry) (n : NodeNo) (eff : Option Request) (tid : Tid) (i : Issued) → committed_with past n eff ≡ Some i → i.tid ≡ tid → (request : Request) × (eff ≡ Some request) × (is_try tid request ≡ true)
+pub effect_try : (past : List Entry) (n : NodeNo) (eff : Option Request) (tid : Tid) (i : Issued)
+    → committed_with past n eff ≡ Some i → i.tid ≡ tid
+    → (request : Request) × (eff ≡ Some request) × (is_try tid request ≡ true)
 effect_try past n None tid i is eq = absurd (none_some i is)
 effect_try past n (Some (Ask.Prepare t ps part)) tid i is eq = by (list_all (λ m. node_same m n || has_vote t m past) ps) is
   where
-    by : (b : Bool) → (if b then issued_as t past else None) ≡ Some i → (request : Request) × (Some (Ask.Prepare t ps part) ≡ Some request) × (is_try tid request ≡ true)
+    by : (b : Bool) → (if b then issued_as t past else None) ≡ Some i
+        → (request : Request) × (Some (Ask.Prepare t ps part) ≡ Some request)
+        × (is_try tid request ≡ true)
     by true h = (Ask.Prepare t ps part, refl, ap (λ (b : Bool). b || false) (same_tid t tid (issued_id t past i h ∙ eq)))
     by false h = absurd (none_some i h)
 effect_try past n (Some (Ask.Exec t part)) tid i is eq = (Ask.Exec t part, refl, same_tid t tid (issued_id t past i is ∙ eq))
@@ -171,7 +183,8 @@ effect_none start past by k (Abandoned u) tid c request kept keeps shut none is 
 effect_none start past by k (Answered number answer) tid c request kept keeps shut none is try = no_request request is
 
 pub shut_quiet : (start : Start) (past : List Entry) (by : Option ClientNo) (at : Option NodeNo) (what : What) (tid : Tid) (c : ClientNo) → Kept start past → KeepsProtocol start past (record { node = at; client = by; what = what }) → IsShut c past tid → NonePending past tid
-    → (i : Issued) → committed_by past (record { node = at; client = by; what = what }) ≡ Some i → i.tid ≡ tid → ⊥
+    → (i : Issued) → committed_by past (record { node = at; client = by; what = what }) ≡ Some i
+    → i.tid ≡ tid → ⊥
 shut_quiet start past by None what tid c kept keeps shut none i is eq = none_some i is
 shut_quiet start past by (Some k) what tid c kept keeps shut none i is eq =
     let x = effect_try past k (effect_of (node_entries k past) what) tid i is eq in
@@ -179,11 +192,15 @@ shut_quiet start past by (Some k) what tid c kept keeps shut none i is eq =
 
 -- Later
 
-shut_later : (start : Start) (past later : List Entry) (c : ClientNo) (tid : Tid) → StartsSound start → FollowsProtocol start (later ++ past) → IsShut c past tid → IsShut c (later ++ past) tid
+shut_later : (start : Start) (past later : List Entry) (c : ClientNo) (tid : Tid)
+    → StartsSound start → FollowsProtocol start (later ++ past) → IsShut c past tid
+    → IsShut c (later ++ past) tid
 shut_later start past [] c tid sound run shut = shut
 shut_later start past (e ∷ later) c tid sound run shut = shut_stays start (later ++ past) e c tid (kept_run start (later ++ past) sound run.0) run.1 (shut_later start past later c tid sound run.0 shut)
 
-pending_later : (start : Start) (past later : List Entry) (c : ClientNo) (tid : Tid) → StartsSound start → FollowsProtocol start (later ++ past) → IsShut c past tid → NonePending past tid → NonePending (later ++ past) tid
+pending_later : (start : Start) (past later : List Entry) (c : ClientNo) (tid : Tid)
+    → StartsSound start → FollowsProtocol start (later ++ past) → IsShut c past tid
+    → NonePending past tid → NonePending (later ++ past) tid
 pending_later start past [] c tid sound run shut none = none
 pending_later start past (e ∷ later) c tid sound run shut none =
     pending_stays start (later ++ past) e c tid (kept_run start (later ++ past) sound run.0) run.1 (shut_later start past later c tid sound run.0 shut) (pending_later start past later c tid sound run.0 shut none)
@@ -192,7 +209,9 @@ never_of : (tid : Tid) (past : List Entry) → (CommittedIn past tid → ⊥) �
 never_of tid [] none = tt
 never_of tid (e ∷ past) none = ((λ i is eq. none (record { entry = e; later = []; before = past; issued = i; split = refl; commits = is; same = eq })), never_of tid past (λ c. none (committed_more e past tid c)))
 
-pub shut_never : (start : Start) (past later : List Entry) (c : ClientNo) (tid : Tid) → StartsSound start → FollowsProtocol start (later ++ past) → IsShut c past tid → NonePending past tid → (CommittedIn past tid → ⊥) → IsNeverCommitted tid (later ++ past)
+pub shut_never : (start : Start) (past later : List Entry) (c : ClientNo) (tid : Tid)
+    → StartsSound start → FollowsProtocol start (later ++ past) → IsShut c past tid
+    → NonePending past tid → (CommittedIn past tid → ⊥) → IsNeverCommitted tid (later ++ past)
 shut_never start past [] c tid sound run shut none not_yet = never_of tid past not_yet
 shut_never start past (e ∷ later) c tid sound run shut none not_yet = (
   shut_quiet start (later ++ past) e.client e.node e.what tid c (kept_run start (later ++ past) sound run.0) run.1 (shut_later start past later c tid sound run.0 shut) (pending_later start past later c tid sound run.0 shut none),
@@ -208,7 +227,8 @@ shut_here past at c number answer i is =
     × (issue_named i.tid (issues_of (since_begin (if b then e ∷ client_entries c past else client_entries c past))) ≡ None)) (sym (client_same-refl c)) (i.mini, current_issue (client_entries c past) i.tid i.mini is, refl)
 
 -- an answer stands in what goes on from its log
-abbrev pub answer_later : (past later : List Entry) (c : ClientNo) (number : ℕ) (answer : Answer) → AnswerAt past c number answer → AnswerAt (later ++ past) c number answer
+abbrev pub answer_later : (past later : List Entry) (c : ClientNo) (number : ℕ) (answer : Answer)
+    → AnswerAt past c number answer → AnswerAt (later ++ past) c number answer
 answer_later past later c number answer e = record {
   at = record {
     entry = e.at.entry;

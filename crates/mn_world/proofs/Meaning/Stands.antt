@@ -54,7 +54,8 @@ put_new : (p : Placed) (ps : List Placed) → Contains (placed_in p ps) p
 put_new p [] = contains_here p []
 put_new p (x ∷ xs) = by (nat_lt p.place x.place) (put_new p xs)
   where
-    by : (b : Bool) → Contains (placed_in p xs) p → Contains (if b then p ∷ x ∷ xs else x ∷ placed_in p xs) p
+    by : (b : Bool) → Contains (placed_in p xs) p
+        → Contains (if b then p ∷ x ∷ xs else x ∷ placed_in p xs) p
     by true rest = contains_here p (x ∷ xs)
     by false rest = contains_more x (placed_in p xs) p rest
 
@@ -62,12 +63,14 @@ put_old : (p : Placed) (ps : List Placed) (q : Placed) → Contains ps q → Con
 put_old p [] q (k, in', is) = absurd (omega arith)
 put_old p (x ∷ xs) q has = by (nat_lt p.place x.place) has (put_old p xs q)
   where
-    by : (b : Bool) → Contains (x ∷ xs) q → (Contains xs q → Contains (placed_in p xs) q) → Contains (if b then p ∷ x ∷ xs else x ∷ placed_in p xs) q
+    by : (b : Bool) → Contains (x ∷ xs) q → (Contains xs q → Contains (placed_in p xs) q)
+        → Contains (if b then p ∷ x ∷ xs else x ∷ placed_in p xs) q
     by true h rest = contains_more p (x ∷ xs) q h
     by false (zero, in', is) rest = (zero, omega arith, is)
     by false (suc k, in', is) rest = contains_more x (placed_in p xs) q (rest (k, omega arith, is))
 
-puts_stay : (past : List Entry) (e : Entry) (old new : List Placed) (q : Placed) → Puts past e old new → Contains old q → Contains new q
+puts_stay : (past : List Entry) (e : Entry) (old new : List Placed) (q : Placed)
+    → Puts past e old new → Contains old q → Contains new q
 puts_stay past e old new q (nothing_new same) has = subst (λ (l : List Placed). Contains l q) (sym same) has
 puts_stay past e old new q (read_new p replied none same) has = subst (λ (l : List Placed). Contains l q) (sym same) (put_old p old q has)
 puts_stay past e old new q (plan_new p plan same) has = subst (λ (l : List Placed). Contains l q) (sym same) (Contains-append_left old (record { place = length past; past = p } ∷ []) q has)
@@ -78,7 +81,9 @@ pub record OlderHistory (before : List Entry) (placed : List Placed) : Type 0 wh
   pub history : IsHistory before older
   pub stays : (q : Placed) → Contains older q → Contains placed q
 
-pub older_history : (start : Start) (later before : List Entry) (placed : List Placed) → FollowsProtocol start (later ++ before) → IsHistory (later ++ before) placed → OlderHistory before placed
+pub older_history : (start : Start) (later before : List Entry) (placed : List Placed)
+    → FollowsProtocol start (later ++ before) → IsHistory (later ++ before) placed
+    → OlderHistory before placed
 older_history start [] before placed run history = record { older = placed; history = history; stays = λ q h. h }
 older_history start (e ∷ later) before placed run history =
     let rest = older_history start later before history.0 run.0 history.1 in
@@ -86,7 +91,8 @@ older_history start (e ∷ later) before placed run history =
 
 -- A committed plan
 
-issue_client : (at : Option NodeNo) (c : ClientNo) (what : What) (es : List Entry) (j : Issued) → ClientAllows c es at what → issue_in what ≡ j ∷ [] → j.tid.client ≡ c
+issue_client : (at : Option NodeNo) (c : ClientNo) (what : What) (es : List Entry) (j : Issued)
+    → ClientAllows c es at what → issue_in what ≡ j ∷ [] → j.tid.client ≡ c
 issue_client at c (Issue tid mini) es j a is =
     let same : record { tid = tid; mini = mini } ≡ j = head _ j is in ap (λ (i : Issued). i.tid.client) (sym same) ∙ a.client
   where
@@ -109,7 +115,8 @@ one_issue start past c b d i x y run = by (ordered (length x.at.before) (length 
     same_begun : (a b : Begun) → Some a ≡ Some b → a ≡ b
     same_begun a b e = cc
 
-    lower : (b d : Begun) (x : IssueAt past c b i) (y : IssueAt past c d i) → length x.at.before < length y.at.before → ⊥
+    lower : (b d : Begun) (x : IssueAt past c b i) (y : IssueAt past c d i)
+        → length x.at.before < length y.at.before → ⊥
     lower b d x y less =
         let inner = older_own past c x.at y.at less in
         let one : i.tid.serial ≡ length (issues_of (client_entries c x.at.before)) + 1 = serial_of c x.at.entry (client_entries c x.at.before) i (allowed_at start past c x.at run) x.issues in
@@ -119,7 +126,9 @@ one_issue start past c b d i x y run = by (ordered (length x.at.before) (length 
         let more : length (issues_of (x.at.entry ∷ client_entries c x.at.before)) ≡ suc (length (issues_of (client_entries c x.at.before))) = ap (λ (js : List Issued). length (js ++ issues_of (client_entries c x.at.before))) x.issues in
         absurd (omega arith)
 
-    by : (length x.at.before < length y.at.before) ⊎ ((length x.at.before ≡ length y.at.before) ⊎ (length y.at.before < length x.at.before)) → (length x.at.before ≡ length y.at.before) × (b ≡ d)
+    by : (length x.at.before < length y.at.before)
+        ⊎ ((length x.at.before ≡ length y.at.before) ⊎ (length y.at.before < length x.at.before))
+        → (length x.at.before ≡ length y.at.before) × (b ≡ d)
     by (inl less) = absurd (lower b d x y less)
     by (inr (inr more)) = absurd (lower d b y x more)
     by (inr (inl equal)) =
@@ -138,7 +147,8 @@ one_operation start past place place' p q a b same run =
     (clients, (one_issue start past p.client (begun_as p) (begun_as q) a.issued x y' run).1)
 
 pub put_plan : (before : List Entry) (e : Entry) (i : Issued) (old new : List Placed) (o : Option Issued) → o ≡ Some i → is_read i.mini.items ≡ false → EntryPuts before e o old new
-    → (p : Past) × PlanOf before i p × (new ≡ old ++ record { place = length before; past = p } ∷ [])
+    → (p : Past) × PlanOf before i p
+    × (new ≡ old ++ record { place = length before; past = p } ∷ [])
 put_plan before e i old new None is not_read puts = absurd (none is)
   where
     none : ◌≡◌ {A = Option Issued} None (Some i) → ⊥
@@ -148,7 +158,8 @@ put_plan before e i old new (Some j) is not_read puts = by (is_read j.mini.items
     same : j ≡ i
     same = cc
 
-    by : (b : Bool) → b ≡ false → MatchBool b (new ≡ old) ((p : Past) × PlanOf before j p × (new ≡ old ++ record { place = length before; past = p } ∷ [])) → (p : Past) × PlanOf before i p × (new ≡ old ++ record { place = length before; past = p } ∷ [])
+    by : (b : Bool) → b ≡ false
+        → MatchBool b (new ≡ old) ((p : Past) × PlanOf before j p × (new ≡ old ++ record { place = length before; past = p } ∷ [])) → (p : Past) × PlanOf before i p × (new ≡ old ++ record { place = length before; past = p } ∷ [])
     by true h m = absurd cc
     by false h (p, plan, is_new) = (p, subst (λ (k : Issued). PlanOf before k p) same plan, is_new)
 
@@ -174,7 +185,8 @@ answer_commits before at what number answer is = ap (λ (w : What). committed_at
     none None = refl
     none (Some n) = refl
 
-step_of : (before : List Entry) (e : Entry) (old new : List Placed) (o : Option Issued) → o ≡ None → EntryPuts before e o old new → StepPuts before e.client e.what old new
+step_of : (before : List Entry) (e : Entry) (old new : List Placed) (o : Option Issued) → o ≡ None
+    → EntryPuts before e o old new → StepPuts before e.client e.what old new
 step_of before e old new None none puts = puts
 step_of before e old new (Some i) none puts = absurd cc
 
@@ -185,7 +197,8 @@ record SomePast (c : ClientNo) (number : ℕ) (placed : List Placed) : Type 0 wh
   client : past.past.client ≡ c
   same : past.past.number ≡ number
 
-some_past : (c : ClientNo) (number : ℕ) (placed : List Placed) → has_past c number placed ≡ true → SomePast c number placed
+some_past : (c : ClientNo) (number : ℕ) (placed : List Placed) → has_past c number placed ≡ true
+    → SomePast c number placed
 some_past c number [] e = absurd cc
 some_past c number (q ∷ qs) e = by (client_same q.past.client c && nat_eq q.past.number number) refl e (some_past c number qs)
   where
@@ -193,7 +206,9 @@ some_past c number (q ∷ qs) e = by (client_same q.past.client c && nat_eq q.pa
     both true b h = (refl, h)
     both false b h = absurd cc
 
-    by : (b : Bool) → (client_same q.past.client c && nat_eq q.past.number number) ≡ b → (b || has_past c number qs) ≡ true → (has_past c number qs ≡ true → SomePast c number qs) → SomePast c number (q ∷ qs)
+    by : (b : Bool) → (client_same q.past.client c && nat_eq q.past.number number) ≡ b
+        → (b || has_past c number qs) ≡ true → (has_past c number qs ≡ true → SomePast c number qs)
+        → SomePast c number (q ∷ qs)
     by true here h rest =
         let parts = both (client_same q.past.client c) (nat_eq q.past.number number) here in
         record { past = q; there = contains_here q qs; client = client_same-true q.past.client c parts.0; same = nat_eq-true q.past.number number parts.1 }
@@ -201,7 +216,8 @@ some_past c number (q ∷ qs) e = by (client_same q.past.client c && nat_eq q.pa
 
 -- the operation that is under way at the answer is the plan's
 same_operation : (start : Start) (past : List Entry) (c : ClientNo) (number : ℕ) (answer : Answer) (e : AnswerAt past c number answer) (op op' : Op) (i : Issued) (x : IssueAt past c (record { number = number; op = op }) i) → FollowsProtocol start past
-    → under_way (client_entries c e.at.before) ≡ Some (record { number = number; op = op' }) → op ≡ op'
+    → under_way (client_entries c e.at.before) ≡ Some (record { number = number; op = op' })
+    → op ≡ op'
 same_operation start past c number answer e op op' i x run now =
     let less = issue_before_answer start past c (record { number = number; op = op }) i number answer x e run refl in
     let inner = older_own past c x.at e.at less in
@@ -216,7 +232,10 @@ same_operation start past c number answer e op op' i x run now =
         begun h = cc
 
 -- the reply of a committed plan is the one that its operation was answered with
-plan_reply : (start : Start) (store : Store) (past : List Entry) (e : Entry) (old : List Placed) → StartsSound start → HasSpaces start → Holds (opened_memory start) store → IsRun start (e ∷ past) → IsHistory past old → (place : ℕ) (q : Past) (a : PlanAt past place q) (reply : Reply)
+plan_reply : (start : Start) (store : Store) (past : List Entry) (e : Entry) (old : List Placed)
+    → StartsSound start → HasSpaces start → Holds (opened_memory start) store
+    → IsRun start (e ∷ past) → IsHistory past old
+    → (place : ℕ) (q : Past) (a : PlanAt past place q) (reply : Reply)
     → AnswerAt (e ∷ past) q.client q.number (Replied reply) → q.reply ≡ reply
 plan_reply start store past e old sound spaces opened run history place q a reply answer =
     let follows = runs_follow_protocol start (e ∷ past) run in
@@ -235,8 +254,11 @@ plan_reply start store past e old sound spaces opened run history place q a repl
     one.0 ∙ sym two.0
 
 -- the operation that stands there already has the reply
-old_reply : (start : Start) (store : Store) (past : List Entry) (e : Entry) (old : List Placed) → StartsSound start → HasSpaces start → Holds (opened_memory start) store → IsRun start (e ∷ past) → IsHistory past old → (q : Placed) (reply : Reply)
-    → (answer : AnswerAt (e ∷ past) q.past.client q.past.number (Replied reply)) → length answer.at.before ≡ length past → Origin past q → q.past.reply ≡ reply
+old_reply : (start : Start) (store : Store) (past : List Entry) (e : Entry) (old : List Placed)
+    → StartsSound start → HasSpaces start → Holds (opened_memory start) store
+    → IsRun start (e ∷ past) → IsHistory past old → (q : Placed) (reply : Reply)
+    → (answer : AnswerAt (e ∷ past) q.past.client q.past.number (Replied reply))
+    → length answer.at.before ≡ length past → Origin past q → q.past.reply ≡ reply
 old_reply start store past e old sound spaces opened run history q reply answer newest (by_plan a) = plan_reply start store past e old sound spaces opened run history q.place q.past a reply answer
 old_reply start store past e old sound spaces opened run history q reply answer newest (by_answer r) =
     let once = answered_once start (e ∷ past) q.past.client q.past.number (Replied reply) (Replied q.past.reply) answer (answer_more e past q.past.client q.past.number (Replied q.past.reply) r.answer) (runs_follow_protocol start (e ∷ past) run) in
@@ -256,16 +278,20 @@ record Newest (past : List Entry) (e : Entry) (c : ClientNo) (number : ℕ) (ans
   newest : length at.at.before ≡ length past
 
 replied_now : (start : Start) (store : Store) (past : List Entry) (e : Entry) (old new : List Placed) → StartsSound start → HasSpaces start → Holds (opened_memory start) store → IsRun start (e ∷ past) → IsHistory past old → (c : ClientNo) (number : ℕ) (op : Op) (reply : Reply)
-    → Newest past e c number (Replied reply) → AnswerPuts past c (Some (record { number = number; op = op })) (Replied reply) old new → StandsReplied c number reply new
+    → Newest past e c number (Replied reply)
+    → AnswerPuts past c (Some (record { number = number; op = op })) (Replied reply) old new
+    → StandsReplied c number reply new
 replied_now start store past e old new sound spaces opened run history c number op reply answer puts = by (has_past c number old) refl puts
   where
-    at : (q : Placed) → q.past.client ≡ c → q.past.number ≡ number → Origin past q → q.past.reply ≡ reply
+    at : (q : Placed) → q.past.client ≡ c → q.past.number ≡ number → Origin past q
+        → q.past.reply ≡ reply
     at q client is origin =
         let own : Newest past e q.past.client q.past.number (Replied reply) =
         subst (λ (x : ClientNo). Newest past e x q.past.number (Replied reply)) (sym client) (subst (λ (n : ℕ). Newest past e c n (Replied reply)) (sym is) answer) in
         old_reply start store past e old sound spaces opened run history q reply own.at own.newest origin
 
-    by : (b : Bool) → has_past c number old ≡ b → MatchBool b (new ≡ old) ((place : ℕ) × ReadPlace c past op reply place × (new ≡ placed_in (record { place = place; past = record { client = c; number = number; op = op; reply = reply } }) old)) → StandsReplied c number reply new
+    by : (b : Bool) → has_past c number old ≡ b
+        → MatchBool b (new ≡ old) ((place : ℕ) × ReadPlace c past op reply place × (new ≡ placed_in (record { place = place; past = record { client = c; number = number; op = op; reply = reply } }) old)) → StandsReplied c number reply new
     by true there same =
         let q = some_past c number old there in
         let origin : Origin past q.past = All-contains (Origin past) old q.past (All-from_recursion (Origin past) old (origins start past old (runs_follow_protocol start past run.0) history)) q.there in

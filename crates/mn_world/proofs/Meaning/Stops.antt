@@ -12,7 +12,8 @@ use Rattle.mn_world.proofs.Meaning.Exists.{history_exists}
 use Rattle.mn_world.proofs.Meaning.Throughout.{ends_opened}
 
 -- a stop means nothing by its client's list
-stop_means : (past : List Entry) (c : Option ClientNo) (what : What) → IsStop what → Means past c what
+stop_means : (past : List Entry) (c : Option ClientNo) (what : What) → IsStop what
+    → Means past c what
 stop_means past None what is = tt
 stop_means past (Some c) (Stopped request asked) is = tt
 stop_means past (Some c) (Restarted kept) is = tt

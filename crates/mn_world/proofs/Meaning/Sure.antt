@@ -46,7 +46,8 @@ under_behind start past c number op f run later older split b now same = by (low
         let higher : b.number < number = begin_higher c (client_entries c g.span) (client_entries c older) f.at.entry.node number op b (subst (Allowed c) list a.0) now begins in
         absurd (omega arith)
 
-    by : (length f.at.before < length older) ⊎ (length older ≤ length f.at.before) → length f.at.before < length older
+    by : (length f.at.before < length older) ⊎ (length older ≤ length f.at.before)
+        → length f.at.before < length older
     by (inl less) = less
     by (inr more) = absurd (never (front (f.at.later ++ f.at.entry ∷ []) later f.at.before older (append_assoc f.at.later (f.at.entry ∷ []) f.at.before ∙ (sym f.at.split ∙ split)) more))
 
@@ -87,7 +88,8 @@ undisturbed_is_sure start store past c number answer h u = by answer u
     up : (a : Answer) (v : IsUndisturbed start past c number a) → IsOfUpNodes a
     up a v = up_is_sure start store past v.later v.between v.before v.begins v.answers c number v.op a h v.split v.begun v.answered v.up
 
-    moved : (n : NodeNo) (begins : ℕ) (expected found : List ℕ) → IsUndisturbed start past c number (GaveUp (Moved n begins expected found)) → ⊥
+    moved : (n : NodeNo) (begins : ℕ) (expected found : List ℕ)
+        → IsUndisturbed start past c number (GaveUp (Moved n begins expected found)) → ⊥
     moved n begins expected found v =
         let m = moved_by_other start store past (length (v.between ++ v.begins ∷ v.before)) v.answers c number n begins expected found h (v.later, v.between ++ v.begins ∷ v.before, v.split, refl) v.answered in
         let inside = m.inside in

@@ -19,7 +19,8 @@ use Rattle.mn_world.proofs.Meaning.Prefixes.{HoldsAt, PlansAt, follows_before}
 use Rattle.mn_world.proofs.Meaning.Kept.{Known, Later, stores_go_on}
 use Rattle.mn_world.proofs.Meaning.Legal.{known_run}
 
-pub known_of : (start : Start) (store : Store) (past : List Entry) (placed : List Placed) → HistoryRun start store past placed → Known start store past placed
+pub known_of : (start : Start) (store : Store) (past : List Entry) (placed : List Placed)
+    → HistoryRun start store past placed → Known start store past placed
 known_of start store past placed h = known_run start store past placed h.opened.opened.sound h.opened.spaces h.opened.opened.holds h.opened.run h.history
 
 -- it is legal from the opened store
@@ -44,7 +45,9 @@ chain_before : (H : ℕ → Store → Type 0) (P : ℕ → Type 0) (end : ℕ) (
 chain_before H P end store from [] n low high c = c n low high
 chain_before H P end store from (p ∷ ps) n low high c = by (nat_lt p.place n) refl (λ fits. chain_before H P end (applied store p.past.op).store c.4.0 ps n fits high c.4.4)
   where
-    by : (b : Bool) → nat_lt p.place n ≡ b → (c.4.0 ≤ n → H n (store_at (applied store p.past.op).store ps n)) → H n (store_after store (pasts_of (cond b (p ∷ placed_before n ps) (placed_before n ps))))
+    by : (b : Bool) → nat_lt p.place n ≡ b
+        → (c.4.0 ≤ n → H n (store_at (applied store p.past.op).store ps n))
+        → H n (store_after store (pasts_of (cond b (p ∷ placed_before n ps) (placed_before n ps))))
     by true e rest =
         let behind : p.place < n = grind (arith, nat_tests) in
         let next : c.4.0 ≤ p.place + 1 = c.4.2 in

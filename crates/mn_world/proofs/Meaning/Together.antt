@@ -22,15 +22,18 @@ use Rattle.mn_world.proofs.Meaning.Ascends.{ascending}
 use Rattle.mn_world.proofs.Meaning.Settled.{told_settled, others_never}
 use Rattle.mn_world.proofs.Meaning.Left.{left_settled}
 
-each : (P : Placed → Type 0) (ps : List Placed) → ((p : Placed) → Contains ps p → P p) → AllByRecursion P ps
+each : (P : Placed → Type 0) (ps : List Placed) → ((p : Placed) → Contains ps p → P p)
+    → AllByRecursion P ps
 each P [] f = tt
 each P (p ∷ ps) f = (f p (0, omega arith, refl), each P ps (λ q has. f q (suc has.0, omega (arith, has.1), has.2)))
 
-replied_stand : (start : Start) (store : Store) (past : List Entry) (placed : List Placed) → HistoryRun start store past placed → RepliedStand past placed
+replied_stand : (start : Start) (store : Store) (past : List Entry) (placed : List Placed)
+    → HistoryRun start store past placed → RepliedStand past placed
 replied_stand start store past placed h c number reply (at, e, stands, answers) =
     let s = replied_stands start store past placed at e c number reply h stands answers in (s.0, s.1, (s.2, s.3), s.4)
 
-lies_between : (start : Start) (store : Store) (past : List Entry) (placed : List Placed) → HistoryRun start store past placed → (p : Placed) → Contains placed p → LiesBetween past p
+lies_between : (start : Start) (store : Store) (past : List Entry) (placed : List Placed)
+    → HistoryRun start store past placed → (p : Placed) → Contains placed p → LiesBetween past p
 lies_between start store past placed h p has =
     let o = only_those_stand start store past placed p h has in
     record {
@@ -42,10 +45,12 @@ lies_between start store past placed h p has =
       before = λ place e reply stands answers. (places_lie_between start store past placed p place e h has stands).1 reply answers;
     }
 
-after_seen : (start : Start) (store : Store) (past : List Entry) (placed : List Placed) → HistoryRun start store past placed → AreAfterSeen past placed
+after_seen : (start : Start) (store : Store) (past : List Entry) (placed : List Placed)
+    → HistoryRun start store past placed → AreAfterSeen past placed
 after_seen start store past placed h p q answered begun d e reply op has has' stands answers stands' begins less = seen_first start store past placed p q answered begun d e reply op h has has' stands answers stands' begins less
 
-store_on : (store : Store) (earlier later : List Past) → store_after store (earlier ++ later) ≡ store_after (store_after store earlier) later
+store_on : (store : Store) (earlier later : List Past)
+    → store_after store (earlier ++ later) ≡ store_after (store_after store earlier) later
 store_on store [] later = refl
 store_on store (p ∷ earlier) later = store_on (applied store p.op).store earlier later
 

@@ -46,11 +46,13 @@ clash b p q = cc
 abbrev is_none : NodeReply → Bool
 is_none reply = is_down_reply reply || is_stopped reply
 
-tested_up : (space : List ℕ) (part : List PartItem) (added : Option Record) (o : Option Clash) → is_none (after_locks space part added o).reply ≡ false
+tested_up : (space : List ℕ) (part : List PartItem) (added : Option Record) (o : Option Clash)
+    → is_none (after_locks space part added o).reply ≡ false
 tested_up space part added (Some c) = refl
 tested_up space part added None = elim (part_mismatch_from space 0 part) as (λ m. is_none (after_compares space part added m).reply ≡ false) [ Some at ↦ refl | None ↦ refl ]
 
-answer_up : (base : List ℕ) (records : List Record) (request : Request) → is_none (answer base records request).reply ≡ false
+answer_up : (base : List ℕ) (records : List Record) (request : Request)
+    → is_none (answer base records request).reply ≡ false
 answer_up base records (Ask.Prepare tid ps part) =
     elim (has_forced records tid) as (λ b. is_none (if b then only_reply Say.BadForced else tested base records tid part (Some (Voted tid ps part))).reply ≡ false) [
       | true ↦ refl
@@ -78,7 +80,8 @@ lone_call f c e = by (or_cases (f c) false e)
     by (inr h) = absurd cc
 
 down_call : (start : Start) (past : List Entry) (by : Option ClientNo) (at : Option NodeNo) (what : What) (f : Call → Bool) → ((c : Call) → f c ≡ true → is_none c.reply ≡ true) → KeepsProtocol start past (record { node = at; client = by; what = what })
-    → AreUp start past → AreUp start (record { node = at; client = by; what = what } ∷ past) → list_any f (call_in at what) ≡ true → ⊥
+    → AreUp start past → AreUp start (record { node = at; client = by; what = what } ∷ past)
+    → list_any f (call_in at what) ≡ true → ⊥
 down_call start past by None what f fails keeps up after any = no_call f refl any
 down_call start past by (Some k) (Called request reply) f fails keeps up after any =
     let said : reply ≡ (answer (base_at start k) (records_of start past k) request).reply =
@@ -109,7 +112,8 @@ record CallIn (f : Call → Bool) (es : List Entry) : Type 0 where
 call_more : (f : Call → Bool) (e : Entry) (es : List Entry) → CallIn f es → CallIn f (e ∷ es)
 call_more f e es c = record { newer = e ∷ c.newer; entry = c.entry; older = c.older; split = ap (λ (l : List Entry). e ∷ l) c.split; call = c.call }
 
-some_call : (f : Call → Bool) (c : ClientNo) (es : List Entry) → list_any f (calls_of (client_entries c es)) ≡ true → CallIn f es
+some_call : (f : Call → Bool) (c : ClientNo) (es : List Entry)
+    → list_any f (calls_of (client_entries c es)) ≡ true → CallIn f es
 some_call f c [] any = absurd (no_call f refl any)
 some_call f c (e ∷ es) any =
     elim (is_by c e) as (λ b. list_any f (calls_of (if b then e ∷ client_entries c es else client_entries c es)) ≡ true → CallIn f (e ∷ es)) [
@@ -117,7 +121,9 @@ some_call f c (e ∷ es) any =
       | false ↦ λ h. call_more f e es (some_call f c es h)
     ] any
   where
-    by : (list_any f (call_in e.node e.what) ≡ true) ⊎ (list_any f (calls_of (client_entries c es)) ≡ true) → (list_any f (calls_of (client_entries c es)) ≡ true → CallIn f es) → CallIn f (e ∷ es)
+    by : (list_any f (call_in e.node e.what) ≡ true)
+        ⊎ (list_any f (calls_of (client_entries c es)) ≡ true)
+        → (list_any f (calls_of (client_entries c es)) ≡ true → CallIn f es) → CallIn f (e ∷ es)
     by (inl here) older = record { newer = []; entry = e; older = es; split = refl; call = here }
     by (inr there) older = call_more f e es (older there)
 
@@ -125,7 +131,10 @@ nil_right : (xs : List Entry) → xs ++ [] ≡ xs
 nil_right [] = refl
 nil_right (x ∷ xs) = ap (λ (l : List Entry). x ∷ l) (nil_right xs)
 
-pub none_fails : (start : Start) (between base : List Entry) (c : ClientNo) (f : Call → Bool) → ((call : Call) → f call ≡ true → is_none call.reply ≡ true) → FollowsProtocol start (between ++ base) → UpThroughout start between base → list_any f (calls_of (client_entries c between)) ≡ true → ⊥
+pub none_fails : (start : Start) (between base : List Entry) (c : ClientNo) (f : Call → Bool)
+    → ((call : Call) → f call ≡ true → is_none call.reply ≡ true)
+    → FollowsProtocol start (between ++ base) → UpThroughout start between base
+    → list_any f (calls_of (client_entries c between)) ≡ true → ⊥
 none_fails start between base c f fails run up any =
     let i = some_call f c between any in
     let there : between ++ base ≡ i.newer ++ i.entry ∷ (i.older ++ base) = ap (λ (l : List Entry). l ++ base) i.split ∙ append_assoc i.newer (i.entry ∷ i.older) base in
@@ -134,7 +143,8 @@ none_fails start between base c f fails run up any =
 
 -- the entries since Begin
 pub since_here : (start : Start) (between before : List Entry) (begins : Entry) (c : ClientNo) (number : ℕ) (op : Op) (d : Begun) → FollowsProtocol start (between ++ begins ∷ before) → BeginsOp begins c number op
-    → under_way (client_entries c (between ++ begins ∷ before)) ≡ Some d → number ≡ d.number → since_begin (client_entries c (between ++ begins ∷ before)) ≡ client_entries c between
+    → under_way (client_entries c (between ++ begins ∷ before)) ≡ Some d → number ≡ d.number
+    → since_begin (client_entries c (between ++ begins ∷ before)) ≡ client_entries c between
 since_here start between before begins c number op d run is now same =
     let list = client_split c (between ++ begins ∷ before) between begins before refl (is_own c begins is.0) in
     let allowed : Allowed c (client_entries c between ++ begins ∷ client_entries c before) = subst (Allowed c) list (client_allowed start (between ++ begins ∷ before) c run) in
@@ -152,7 +162,8 @@ down_fails n call e = by (node_same call.node n) (is_down_reply call.reply) (not
     by true false q false p e = absurd cc
     by false d q s p e = absurd cc
 
-doubt_fails : (n : NodeNo) (tid : Tid) (call : Call) → is_doubt_cause n tid call ≡ true → is_none call.reply ≡ true
+doubt_fails : (n : NodeNo) (tid : Tid) (call : Call) → is_doubt_cause n tid call ≡ true
+    → is_none call.reply ≡ true
 doubt_fails n tid call e = by (node_same call.node n) (is_down_reply call.reply) (is_stopped call.reply) (is_exec tid call.request || (is_prepare tid call.request && is_last_of n call.request)) e
   where
     by : (a d s p : Bool) → (a && (s && p)) ≡ true → (d || s) ≡ true
@@ -177,10 +188,13 @@ up_is_sure start store past later between before begins answers c number op answ
     since : since_begin (client_entries c (between ++ begins ∷ before)) ≡ client_entries c between
     since = since_here start between before begins c number op (record { number = number; op = s.op }) here is s.now refl
 
-    none : (f : Call → Bool) → ((call : Call) → f call ≡ true → is_none call.reply ≡ true) → list_any f (calls_of (since_begin (client_entries c (between ++ begins ∷ before)))) ≡ true → ⊥
+    none : (f : Call → Bool) → ((call : Call) → f call ≡ true → is_none call.reply ≡ true)
+        → list_any f (calls_of (since_begin (client_entries c (between ++ begins ∷ before)))) ≡ true
+        → ⊥
     none f fails any = none_fails start between (begins ∷ before) c f fails here up (ap (λ (l : List Entry). list_any f (calls_of l)) (sym since) ∙ any)
 
-    by : (a : Answer) → Shows (client_entries c (between ++ begins ∷ before)) (since_begin (client_entries c (between ++ begins ∷ before))) s.op a → IsOfUpNodes a
+    by : (a : Answer)
+        → Shows (client_entries c (between ++ begins ∷ before)) (since_begin (client_entries c (between ++ begins ∷ before))) s.op a → IsOfUpNodes a
     by (Down n) shows = none (is_down_cause n) (down_fails n) shows.1
     by (InDoubt tid n) shows = none (is_doubt_cause n tid) (doubt_fails n tid) shows.4
     by (Replied reply) shows = tt

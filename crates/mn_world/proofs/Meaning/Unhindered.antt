@@ -1,4 +1,5 @@
--- An operation that nothing disturbs is answered by a reply, or for want of slots, numbers or memory.
+-- An operation that nothing disturbs is answered by a reply, or for want of slots, numbers or
+-- memory.
 use Rattle.std.proofs.Common.{◌≡◌, ℕ, ◌<◌, ◌⊎◌, inl, inr, Bool, true, false, ◌&&◌, ◌||◌, List, [], ◌∷◌, ◌++◌, length, Option, Some, refl, subst, sym, ap, ◌∙◌, arith, Contains}
 use Rattle.std.specs.List.{list_any, AllByRecursion}
 use Rattle.std.proofs.lemmas.List.{append_assoc}
@@ -64,12 +65,14 @@ record Within (start : Start) (past : List Entry) (c : ClientNo) (number : ℕ) 
   pub split : u.between ≡ newer ++ x ∷ older
   pub rest : log ≡ older ++ u.begins ∷ u.before
 
-all_older : (P : Entry → Type 0) (xs : List Entry) (x : Entry) (ys : List Entry) → AllByRecursion P (xs ++ x ∷ ys) → AllByRecursion P ys
+all_older : (P : Entry → Type 0) (xs : List Entry) (x : Entry) (ys : List Entry)
+    → AllByRecursion P (xs ++ x ∷ ys) → AllByRecursion P ys
 all_older P [] x ys all = all.1
 all_older P (z ∷ xs) x ys all = all_older P xs x ys all.1
 
 within : (start : Start) (store : Store) (past : List Entry) (c : ClientNo) (number : ℕ) (answer : Answer) → OpenedRun start store past → (u : IsUndisturbed start past c number answer) → {busy : Busy} {at : ℕ} {x : Entry}
-    → (t : BusyTries past c number (length (u.between ++ u.begins ∷ u.before)) busy) → (i : IsInLast t at x) → Within start past c number answer u x i.before
+    → (t : BusyTries past c number (length (u.between ++ u.begins ∷ u.before)) busy)
+    → (i : IsInLast t at x) → Within start past c number answer u x i.before
 within start store past c number answer h u {busy} {at} {x} t i = by (where_is u.between (u.begins ∷ u.before) i.later x i.before (sym same.older ∙ i.split))
   where
     long : length t.before ≡ length (u.between ++ u.begins ∷ u.before)
@@ -92,14 +95,17 @@ within start store past c number answer h u {busy} {at} {x} t i = by (where_is u
         }) (runs_follow_protocol start past h.run) ((t.later ++ (t.answer ∷ i.later)) ++ x ∷ []) i.before
         (in_log t i ∙ sym (append_assoc (t.later ++ (t.answer ∷ i.later)) (x ∷ []) i.before)) (record { number = number; op = t.op }) i.of refl
 
-    by : InOlder (u.begins ∷ u.before) x i.before ⊎ InLater (u.begins ∷ u.before) u.between x i.before → Within start past c number answer u x i.before
+    by : InOlder (u.begins ∷ u.before) x i.before
+        ⊎ InLater (u.begins ∷ u.before) u.between x i.before
+        → Within start past c number answer u x i.before
     by (inl o) =
         let less = shorter_by (u.begins ∷ u.before) o.later x i.before o.split in
         let b = behind in absurd (omega arith)
     by (inr w) = record { newer = w.newer; older = w.older; split = w.split; rest = w.rest }
 
 -- the id of a try
-try_of : (request : Request) (part : List PartItem) → part_of_request request ≡ Some part → (t : Tid) × (is_try t request ≡ true)
+try_of : (request : Request) (part : List PartItem) → part_of_request request ≡ Some part
+    → (t : Tid) × (is_try t request ≡ true)
 try_of (Ask.Prepare t ps own) part e = (t, by (tid_same t t) (tid_same-refl t))
   where
     by : (b : Bool) → b ≡ true → (b || false) ≡ true
@@ -111,7 +117,8 @@ try_of (Ask.Force t) part e = absurd cc
 try_of Ask.List part e = absurd cc
 try_of (Ask.Peek begins size) part e = absurd cc
 
-off : (holder tid : Tid) (request : Request) → is_try tid request ≡ true → is_try holder request ≡ false → tid_same holder tid ≡ false
+off : (holder tid : Tid) (request : Request) → is_try tid request ≡ true
+    → is_try holder request ≡ false → tid_same holder tid ≡ false
 off holder tid request own other = by (tid_same holder tid) refl
   where
     by : (b : Bool) → tid_same holder tid ≡ b → tid_same holder tid ≡ false
@@ -120,7 +127,9 @@ off holder tid request own other = by (tid_same holder tid) refl
 
 -- No lock
 
-lost_fails : (n : NodeNo) (tid : Tid) (call : Call) → (node_same call.node n && (is_decide tid call.request && is_lost call.reply)) ≡ true → is_lost call.reply ≡ true
+lost_fails : (n : NodeNo) (tid : Tid) (call : Call)
+    → (node_same call.node n && (is_decide tid call.request && is_lost call.reply)) ≡ true
+    → is_lost call.reply ≡ true
 lost_fails n tid call e = and_right (is_decide tid call.request) _ (and_right (node_same call.node n) _ e)
 
 no_lock : (start : Start) (store : Store) (past : List Entry) (c : ClientNo) (number : ℕ) (n : NodeNo) (begins size : ℕ) (holder : Tid) → OpenedRun start store past
@@ -284,7 +293,8 @@ no_forced start store past c number tid h a = by (where_is w.older (a.undisturbe
     client = (kept.issued c tid asked.mini (current_issue (client_entries c f.0.call.there.before) tid asked.mini asked.issued)).0
 
     -- the one who forced it had it listed, so it was issued before that
-    forced_old : (l : List Entry) → a.undisturbed.begins ∷ a.undisturbed.before ≡ l ++ f.0.sent.entry ∷ f.0.sent.older → ⊥
+    forced_old : (l : List Entry)
+        → a.undisturbed.begins ∷ a.undisturbed.before ≡ l ++ f.0.sent.entry ∷ f.0.sent.older → ⊥
     forced_old l split = listed (older_kept.listed f.0.sender tid sends.1.0 sends.1.1)
       where
         to_force : FollowsProtocol start (f.0.sent.entry ∷ f.0.sent.older)
@@ -313,14 +323,16 @@ no_forced start store past c number tid h a = by (where_is w.older (a.undisturbe
             new_not_old start f.0.call.there.before c tid asked.mini kept (current_issue (client_entries c f.0.call.there.before) tid asked.mini asked.issued) (names_old start tid sends.1.0 old)
 
     -- an entry behind the Begin is the client's
-    all_mid : (xs : List Entry) (x : Entry) (ys : List Entry) → AllByRecursion (λ (e : Entry). e.client ≡ Some c) (xs ++ x ∷ ys) → x.client ≡ Some c
+    all_mid : (xs : List Entry) (x : Entry) (ys : List Entry)
+        → AllByRecursion (λ (e : Entry). e.client ≡ Some c) (xs ++ x ∷ ys) → x.client ≡ Some c
     all_mid [] x ys all = all.0
     all_mid (z ∷ xs) x ys all = all_mid xs x ys all.1
 
     same_client : (d e : ClientNo) → Some d ≡ Some e → d ≡ e
     same_client d e same = cc
 
-    by : InOlder (a.undisturbed.begins ∷ a.undisturbed.before) f.0.sent.entry f.0.sent.older ⊎ InLater (a.undisturbed.begins ∷ a.undisturbed.before) w.older f.0.sent.entry f.0.sent.older → ⊥
+    by : InOlder (a.undisturbed.begins ∷ a.undisturbed.before) f.0.sent.entry f.0.sent.older
+        ⊎ InLater (a.undisturbed.begins ∷ a.undisturbed.before) w.older f.0.sent.entry f.0.sent.older → ⊥
     by (inl o) = forced_old o.later o.split
     by (inr n) =
         let own : AllByRecursion (λ (e : Entry). e.client ≡ Some c) w.older =

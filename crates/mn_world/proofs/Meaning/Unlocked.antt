@@ -40,11 +40,13 @@ record Fronts (xs now : List Entry) : Type 0 where
   back : List Entry
   is : xs ≡ now ++ back
 
-since_front : (xs : List Entry) (b : Entry) (ys : List Entry) → since_begin (b ∷ ys) ≡ [] → Fronts xs (since_begin (xs ++ b ∷ ys))
+since_front : (xs : List Entry) (b : Entry) (ys : List Entry) → since_begin (b ∷ ys) ≡ []
+    → Fronts xs (since_begin (xs ++ b ∷ ys))
 since_front [] b ys none = record { back = []; is = ap (λ (l : List Entry). l ++ []) (sym none) }
 since_front (x ∷ xs) b ys none = step x.node x.client x.what (since_front xs b ys none)
   where
-    step : (at : Option NodeNo) (by : Option ClientNo) (what : What) → Fronts xs (since_begin (xs ++ b ∷ ys))
+    step : (at : Option NodeNo) (by : Option ClientNo) (what : What)
+        → Fronts xs (since_begin (xs ++ b ∷ ys))
         → Fronts (record { node = at; client = by; what = what } ∷ xs) (since_begin_after what (record { node = at; client = by; what = what }) (since_begin (xs ++ b ∷ ys)))
     step at by (Begin number op) f = record { back = record { node = at; client = by; what = Begin number op } ∷ xs; is = refl }
     step at by (Answered number answer) f = record { back = record { node = at; client = by; what = Answered number answer } ∷ xs; is = refl }
@@ -58,7 +60,9 @@ since_front (x ∷ xs) b ys none = step x.node x.client x.what (since_front xs b
 abbrev Names : List Entry → Tid → Type 0
 Names es tid = (mini : Mini) × (issue_named tid (issues_of es) ≡ Some mini)
 
-names_more : (tid : Tid) (new old : List Issued) → ((mini : Mini) × (issue_named tid old ≡ Some mini)) → (mini : Mini) × (issue_named tid (new ++ old) ≡ Some mini)
+names_more : (tid : Tid) (new old : List Issued)
+    → ((mini : Mini) × (issue_named tid old ≡ Some mini))
+    → (mini : Mini) × (issue_named tid (new ++ old) ≡ Some mini)
 names_more tid [] old named = named
 names_more tid (i ∷ new) old named =
     elim (tid_same i.tid tid) as (λ b. (mini : Mini) × ((if b then Some i.mini else issue_named tid (new ++ old)) ≡ Some mini)) [
@@ -66,7 +70,9 @@ names_more tid (i ∷ new) old named =
       | false ↦ names_more tid new old named
     ]
 
-names_front : (tid : Tid) (new old : List Issued) → ((mini : Mini) × (issue_named tid new ≡ Some mini)) → (mini : Mini) × (issue_named tid (new ++ old) ≡ Some mini)
+names_front : (tid : Tid) (new old : List Issued)
+    → ((mini : Mini) × (issue_named tid new ≡ Some mini))
+    → (mini : Mini) × (issue_named tid (new ++ old) ≡ Some mini)
 names_front tid [] old (mini, is) = absurd cc
 names_front tid (i ∷ new) old named =
     elim (tid_same i.tid tid) as (λ b. ((mini : Mini) × ((if b then Some i.mini else issue_named tid new) ≡ Some mini)) → (mini : Mini) × ((if b then Some i.mini else issue_named tid (new ++ old)) ≡ Some mini)) [
@@ -79,7 +85,8 @@ issues-append [] b = refl
 issues-append (x ∷ a) b = ap (λ (l : List Issued). issue_in x.what ++ l) (issues-append a b) ∙ sym (Rattle.std.proofs.lemmas.List.append_assoc (issue_in x.what) (issues_of a) (issues_of b))
 
 -- what was issued since Begin, behind a Begin, the entries behind it issue
-pub names_since : (xs : List Entry) (b : Entry) (ys : List Entry) (tid : Tid) → since_begin (b ∷ ys) ≡ [] → Names (since_begin (xs ++ b ∷ ys)) tid → Names xs tid
+pub names_since : (xs : List Entry) (b : Entry) (ys : List Entry) (tid : Tid)
+    → since_begin (b ∷ ys) ≡ [] → Names (since_begin (xs ++ b ∷ ys)) tid → Names xs tid
 names_since xs b ys tid none named =
     let f = since_front xs b ys none in
     let all = names_front tid (issues_of (since_begin (xs ++ b ∷ ys))) (issues_of f.back) named in
@@ -87,11 +94,13 @@ names_since xs b ys tid none named =
 
 -- What an entry adds to what is held
 
-record_there : (x : HeldPart) (hs : List HeldPart) (h : HeldPart) → Contains (x ∷ hs) h → (x ≡ h) ⊎ Contains hs h
+record_there : (x : HeldPart) (hs : List HeldPart) (h : HeldPart) → Contains (x ∷ hs) h
+    → (x ≡ h) ⊎ Contains hs h
 record_there x hs h (ℕ.zero, in', is) = inl is
 record_there x hs h (suc k, in', is) = inr (k, omega arith, is)
 
-held_before : (t : Tid) (hs : List HeldPart) (h : HeldPart) → Contains (without_tid t hs) h → Contains hs h
+held_before : (t : Tid) (hs : List HeldPart) (h : HeldPart) → Contains (without_tid t hs) h
+    → Contains hs h
 held_before t [] h has = has
 held_before t (x ∷ hs) h has =
     elim (tid_same x.tid t) as (λ b. Contains (if b then without_tid t hs else x ∷ without_tid t hs) h → Contains (x ∷ hs) h) [
@@ -102,54 +111,70 @@ held_before t (x ∷ hs) h has =
     more : Contains hs h → Contains (x ∷ hs) h
     more (k, in', is) = (suc k, omega arith, is)
 
-    by : (x ≡ h) ⊎ Contains (without_tid t hs) h → (Contains (without_tid t hs) h → Contains hs h) → Contains (x ∷ hs) h
+    by : (x ≡ h) ⊎ Contains (without_tid t hs) h → (Contains (without_tid t hs) h → Contains hs h)
+        → Contains (x ∷ hs) h
     by (inl here) rest = (0, omega arith, here)
     by (inr there) rest = more (rest there)
 
 tested_held : (base : List ℕ) (records : List Record) (t : Tid) (part : List PartItem) (added : Option Record) (h : HeldPart) (Q : Type 0) → (Contains (held_parts (with_added added records)) h → Contains (held_parts records) h ⊎ Q)
-    → Contains (held_parts (with_added (tested base records t part added).added records)) h → Contains (held_parts records) h ⊎ Q
+    → Contains (held_parts (with_added (tested base records t part added).added records)) h
+    → Contains (held_parts records) h ⊎ Q
 tested_held base records t part added h Q adds has = locks (clash_of (held_parts records) t part) has
   where
-    compares : (o : Option Mismatched) → Contains (held_parts (with_added (after_compares (space_of base records) part added o).added records)) h → Contains (held_parts records) h ⊎ Q
+    compares : (o : Option Mismatched)
+        → Contains (held_parts (with_added (after_compares (space_of base records) part added o).added records)) h → Contains (held_parts records) h ⊎ Q
     compares (Some at) e = inl e
     compares None e = adds e
 
-    locks : (o : Option Clash) → Contains (held_parts (with_added (after_locks (space_of base records) part added o).added records)) h → Contains (held_parts records) h ⊎ Q
+    locks : (o : Option Clash)
+        → Contains (held_parts (with_added (after_locks (space_of base records) part added o).added records)) h → Contains (held_parts records) h ⊎ Q
     locks (Some at) e = inl e
     locks None e = compares (part_mismatch_from (space_of base records) 0 part) e
 
 -- what is held behind an answer was held before, or was asked for by a Prepare
-added_held : (base : List ℕ) (records : List Record) (request : Request) (h : HeldPart) → Contains (held_parts (with_added (answer base records request).added records)) h → Contains (held_parts records) h ⊎ (is_prepare h.tid request ≡ true)
+added_held : (base : List ℕ) (records : List Record) (request : Request) (h : HeldPart)
+    → Contains (held_parts (with_added (answer base records request).added records)) h
+    → Contains (held_parts records) h ⊎ (is_prepare h.tid request ≡ true)
 added_held base records (Ask.Prepare t ps part) h has = by (has_forced records t) has
   where
-    new : Contains (held_parts (Voted t ps part ∷ records)) h → Contains (held_parts records) h ⊎ (tid_same t h.tid ≡ true)
+    new : Contains (held_parts (Voted t ps part ∷ records)) h
+        → Contains (held_parts records) h ⊎ (tid_same t h.tid ≡ true)
     new e = first (record_there (record { tid = t; participants = ps; part = part }) (held_parts records) h e)
       where
-        first : (record { tid = t; participants = ps; part = part } ≡ h) ⊎ Contains (held_parts records) h → Contains (held_parts records) h ⊎ (tid_same t h.tid ≡ true)
+        first : (record { tid = t; participants = ps; part = part } ≡ h)
+            ⊎ Contains (held_parts records) h
+            → Contains (held_parts records) h ⊎ (tid_same t h.tid ≡ true)
         first (inl here) = inr (ap (λ (x : HeldPart). tid_same t x.tid) (sym here) ∙ Rattle.mn_world.proofs.Reading.Same.tid_same-refl t)
         first (inr there) = inl there
 
-    by : (b : Bool) → Contains (held_parts (with_added (if b then only_reply Say.BadForced else tested base records t part (Some (Voted t ps part))).added records)) h → Contains (held_parts records) h ⊎ (tid_same t h.tid ≡ true)
+    by : (b : Bool)
+        → Contains (held_parts (with_added (if b then only_reply Say.BadForced else tested base records t part (Some (Voted t ps part))).added records)) h → Contains (held_parts records) h ⊎ (tid_same t h.tid ≡ true)
     by true e = inl e
     by false e = tested_held base records t part (Some (Voted t ps part)) h (tid_same t h.tid ≡ true) new e
 added_held base records (Ask.Exec t part) h has =
     tested_held base records t part (if has_write part then Some (Executed t part) else None) h (is_prepare h.tid (Ask.Exec t part) ≡ true) (old (has_write part)) has
   where
-    old : (b : Bool) → Contains (held_parts (with_added (if b then Some (Executed t part) else None) records)) h → Contains (held_parts records) h ⊎ (false ≡ true)
+    old : (b : Bool)
+        → Contains (held_parts (with_added (if b then Some (Executed t part) else None) records)) h
+        → Contains (held_parts records) h ⊎ (false ≡ true)
     old true e = inl e
     old false e = inl e
 added_held base records (Ask.Decide t verdict) h has = inl (by (is_held records t) has)
   where
-    by : (b : Bool) → Contains (held_parts (with_added (if b then Some (Decided t verdict) else None) records)) h → Contains (held_parts records) h
+    by : (b : Bool)
+        → Contains (held_parts (with_added (if b then Some (Decided t verdict) else None) records)) h → Contains (held_parts records) h
     by true e = held_before t (held_parts records) h e
     by false e = e
 added_held base records (Ask.Force t) h has = inl (by (has_voted records t) has)
   where
-    was : (b : Bool) → Contains (held_parts (with_added (if b then None else Some (Forced t)) records)) h → Contains (held_parts records) h
+    was : (b : Bool)
+        → Contains (held_parts (with_added (if b then None else Some (Forced t)) records)) h
+        → Contains (held_parts records) h
     was true e = e
     was false e = e
 
-    by : (b : Bool) → Contains (held_parts (with_added (if b then only_reply (Say.Vote true) else record { reply = Say.Vote false; added = if has_forced records t then None else Some (Forced t) }).added records)) h → Contains (held_parts records) h
+    by : (b : Bool)
+        → Contains (held_parts (with_added (if b then only_reply (Say.Vote true) else record { reply = Say.Vote false; added = if has_forced records t then None else Some (Forced t) }).added records)) h → Contains (held_parts records) h
     by true e = e
     by false e = was (has_forced records t) e
 added_held base records Ask.List h has = inl has
@@ -158,18 +183,21 @@ added_held base records (Ask.Peek begins size) h has = inl has
 -- What is held was issued since Begin
 
 held_step : (start : Start) (past : List Entry) (c : ClientNo) (n : NodeNo) (what : What) (h : HeldPart) (older : List Entry) (begins : Entry) (before : List Entry) → KeepsProtocol start past (record { node = Some n; client = Some c; what = what })
-    → AreUp start past → since_begin (begins ∷ client_entries c before) ≡ [] → client_entries c past ≡ client_entries c older ++ begins ∷ client_entries c before
+    → AreUp start past → since_begin (begins ∷ client_entries c before) ≡ []
+    → client_entries c past ≡ client_entries c older ++ begins ∷ client_entries c before
     → Contains (held_parts (with_added (entry_adds (base_at start n) (records_of start past n) (is_down (node_entries n past)) (stopped_request (node_entries n past)) what) (records_of start past n))) h
     → Contains (held_parts (records_of start past n)) h ⊎ Names (client_entries c older) h.tid
 held_step start past c n (Called request reply) h older begins before keeps up none list has =
     by (added_held (base_at start n) (records_of start past n) request h (at (is_down (node_entries n past)) (up n keeps.at_node.0) has))
   where
-    at : (down : Bool) → down ≡ false → Contains (held_parts (with_added (if down then None else (answer (base_at start n) (records_of start past n) request).added) (records_of start past n))) h
+    at : (down : Bool) → down ≡ false
+        → Contains (held_parts (with_added (if down then None else (answer (base_at start n) (records_of start past n) request).added) (records_of start past n))) h
         → Contains (held_parts (with_added (answer (base_at start n) (records_of start past n) request).added (records_of start past n))) h
     at true e g = absurd cc
     at false e g = g
 
-    by : Contains (held_parts (records_of start past n)) h ⊎ (is_prepare h.tid request ≡ true) → Contains (held_parts (records_of start past n)) h ⊎ Names (client_entries c older) h.tid
+    by : Contains (held_parts (records_of start past n)) h ⊎ (is_prepare h.tid request ≡ true)
+        → Contains (held_parts (records_of start past n)) h ⊎ Names (client_entries c older) h.tid
     by (inl old) = inl old
     by (inr asked) =
         let is = prepare_is h.tid request asked in
@@ -188,8 +216,11 @@ held_step start past c n (Answered number a) h older begins before keeps up none
 
 -- with nothing held at a Begin, and none but its client's entries behind it
 pub held_since : (start : Start) (older : List Entry) (begins : Entry) (before : List Entry) (c : ClientNo) (n : NodeNo) (h : HeldPart) → begins.client ≡ Some c → since_begin (begins ∷ client_entries c before) ≡ []
-    → FollowsProtocol start (older ++ begins ∷ before) → UpThroughout start older (begins ∷ before) → AreFree start (begins ∷ before) → AllByRecursion (λ (e : Entry). e.client ≡ Some c) older → n.0 < start_nodes start
-    → Contains (held_parts (records_of start (older ++ begins ∷ before) n)) h → Names (client_entries c older) h.tid
+    → FollowsProtocol start (older ++ begins ∷ before) → UpThroughout start older (begins ∷ before)
+    → AreFree start (begins ∷ before) → AllByRecursion (λ (e : Entry). e.client ≡ Some c) older
+    → n.0 < start_nodes start
+    → Contains (held_parts (records_of start (older ++ begins ∷ before) n)) h
+    → Names (client_entries c older) h.tid
 held_since start [] begins before c n h mine none run up free own low has = absurd (nothing (held_parts (records_of start (begins ∷ before) n)) (free n low) has)
   where
     nothing : (hs : List HeldPart) → hs ≡ [] → Contains hs h → ⊥
@@ -209,13 +240,16 @@ held_since start (e ∷ older) begins before c n h mine none run up free own low
     list : client_entries c (e ∷ older) ≡ e ∷ client_entries c older
     list = ap (λ (b : Bool). if b then e ∷ client_entries c older else client_entries c older) (is_own c e own.0)
 
-    by : Contains (held_parts (records_of start (older ++ begins ∷ before) n)) h ⊎ Names (client_entries c older) h.tid → (Contains (held_parts (records_of start (older ++ begins ∷ before) n)) h → Names (client_entries c older) h.tid) → Names (client_entries c older) h.tid
+    by : Contains (held_parts (records_of start (older ++ begins ∷ before) n)) h
+        ⊎ Names (client_entries c older) h.tid
+        → (Contains (held_parts (records_of start (older ++ begins ∷ before) n)) h → Names (client_entries c older) h.tid) → Names (client_entries c older) h.tid
     by (inl old) rest = rest old
     by (inr new) rest = new
 
     here : e.node ≡ Some n
         → Contains (held_parts (with_added (entry_adds (base_at start n) (records_of start (older ++ begins ∷ before) n) (is_down (node_entries n (older ++ begins ∷ before))) (stopped_request (node_entries n (older ++ begins ∷ before))) e.what) (records_of start (older ++ begins ∷ before) n))) h
-        → Contains (held_parts (records_of start (older ++ begins ∷ before) n)) h ⊎ Names (client_entries c older) h.tid
+        → Contains (held_parts (records_of start (older ++ begins ∷ before) n)) h
+        ⊎ Names (client_entries c older) h.tid
     here at g =
         held_step start (older ++ begins ∷ before) c n e.what h older begins before
         (subst (λ (o : Option ClientNo). KeepsProtocol start (older ++ begins ∷ before) (record { node = Some n; client = o; what = e.what })) own.0
@@ -239,7 +273,8 @@ issued_twice start (e ∷ later) before c tid mini sound run is named =
       | false ↦ λ _ g. issued_twice start later before c tid mini sound run.0 is g
     ] refl named
   where
-    own : (at : Option NodeNo) (by : Option ClientNo) (what : What) → by ≡ Some c → KeepsProtocol start (later ++ before) (record { node = at; client = by; what = what })
+    own : (at : Option NodeNo) (by : Option ClientNo) (what : What) → by ≡ Some c
+        → KeepsProtocol start (later ++ before) (record { node = at; client = by; what = what })
         → ((new : Mini) × (issue_named tid (issue_in what ++ issues_of (client_entries c later)) ≡ Some new)) → (Names (client_entries c later) tid → ⊥) → ⊥
     own at by (Issue t m) mine keeps g older =
         elim (tid_same t tid) as (λ b. tid_same t tid ≡ b → ((new : Mini) × ((if b then Some m else issue_named tid (issues_of (client_entries c later))) ≡ Some new)) → ⊥) [
