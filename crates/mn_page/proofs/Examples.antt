@@ -1,3 +1,4 @@
 -- Worked examples of the definitions, by computation.
 pub mod Spelling
 pub mod Overlays
+pub mod Versions

@@ -183,7 +183,7 @@ module _ (copies_are_pages : CopiesArePages) (next_slots_are_free : NextSlotsAre
 
   count_is : c.slot.slot ≡ count_in f node
   count_is =
-      tells.counts (node_no node) c.slot.slot (has (count_read c) (3, omega arith, refl)) (subst (λ k. node < k) (is.counts.0 ∙ few_nodes) is.slot.0)
+      tells.counts (node_no node) c.slot.slot (has (count_read c) (3, omega arith, refl)) (subst (λ k. node < k) (is.counts ∙ few_nodes) is.slot.0)
       (let below = is.slot.2 in omega arith)
 
   as_heads : length (heads_of store) ≡ length f.entries
@@ -222,7 +222,7 @@ module _ (copies_are_pages : CopiesArePages) (next_slots_are_free : NextSlotsAre
   adding = record { parent = c.version; entry = c.entry; root = c.root; number = c.number; child = c.child; slot = c.slot }
 
   counts_ok : AreCounts f c.counts (c.slot ∷ [])
-  counts_ok = (is.counts.0 ∙ few_nodes, λ n some. by_node n (nat_eq node n) refl some)
+  counts_ok = (is.counts ∙ few_nodes, λ n some. by_node n (nat_eq node n) refl some)
     where
       by_node : (n : ℕ) (t : Bool) → nat_eq node n ≡ t → ((if t then 0 + 1 else 0) ≡ 0 → ⊥) → slice_index_or c.counts n 0 ≡ count_in f n
       by_node n true e some = let same = eqb-true node n e in subst (λ k. slice_index_or c.counts k 0 ≡ count_in f k) same (is.slot.1 ∙ count_is)

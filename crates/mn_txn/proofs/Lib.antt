@@ -10,4 +10,5 @@ mod Known
 mod Done
 mod Unmet
 mod Children
+mod ChildOrder
 mod Slots

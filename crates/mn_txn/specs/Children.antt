@@ -1,16 +1,15 @@
 -- A try of a Snapshot or of a Branch, and what it reads and writes. When that is planned.
-use Rattle.std.specs.Prelude.{ℕ, ◌≡◌, ◌+◌, ◌^◌, ◌<◌, ◌≤◌, List, [], ◌∷◌, length, replicate, Some, None}
-use Rattle.std.specs.Prelude.{slice_get}
-use Rattle.std.specs.List.{AllByRecursion}
+use Rattle.std.specs.Prelude.{ℕ, ◌≡◌, ◌+◌, ◌^◌, ◌<◌, List, [], ◌∷◌, length, replicate}
+use Rattle.std.specs.Prelude.{Some, None, slice_get}
 use Rattle.mn_base.specs.Name.{IsName}
-use Rattle.mn_base.specs.Store.{Head, number_named, refusal}
+use Rattle.mn_base.specs.Store.{Head, number_named, refusal, max_versions}
 use Rattle.mn_base.specs.declared.ids.Addr.{Addr}
 use Rattle.mn_base.specs.declared.ids.VersionNo.{VersionNo}
 use Rattle.mn_base.specs.declared.op.Op.TheVariants.{Snapshot, Branch}
 use Rattle.mn_base.specs.declared.reply.Reply.TheVariants.{Made}
 use Rattle.mn_page.specs.declared.page.Page.{Page}
 use Rattle.mn_page.specs.declared.entry.CatEntry.{CatEntry}
-use Rattle.mn_page.specs.Space.{entry_size, entry_start, max_slots}
+use Rattle.mn_page.specs.Space.{entry_size, entry_start}
 use Rattle.mn_page.specs.Grammar.{IsPage, IsEntry, entry_bytes}
 use Rattle.mn_page.specs.Forest.{entry_head}
 use Rattle.mn_page.specs.Copies.{marked_for, copy_for}
@@ -47,7 +46,7 @@ pub record IsChildTry (kept : List Head) (nodes : ℕ) (c : ChildTry) : Type 0 w
   pub root : IsPage c.root
   pub within : c.entry.root.node.0 < nodes
   pub seq : c.root.seq + 1 < 2 ^ 64
-  pub counts : (length c.counts ≡ nodes) × AllByRecursion (λ count. count ≤ max_slots) c.counts
+  pub counts : length c.counts ≡ nodes
   pub slot : AreNextSlots c.counts (c.slot ∷ [])
 
 -- Images
@@ -113,3 +112,14 @@ BranchIsPlanned =
     → AreApart t.reads → AreApart t.writes
     → in_item_order t.reads ≡ child_reads c → in_item_order t.writes ≡ branch_writes c
     → IsPlanned kept (Branch c.name c.child) (plan_of t) Made
+
+-- Order
+
+-- what such a try reads and writes stands in the order of items, where the child's number is above
+-- the version's
+abbrev pub ChildrenStandInOrder : Type 0
+ChildrenStandInOrder =
+    (c : ChildTry) → c.version.0 < c.number.0 → c.number.0 < max_versions
+    → (in_item_order (child_reads c) ≡ child_reads c)
+    × (in_item_order (snapshot_writes c) ≡ snapshot_writes c)
+    × (in_item_order (branch_writes c) ≡ branch_writes c)

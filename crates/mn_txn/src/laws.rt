@@ -3,7 +3,7 @@ ghost use Rattle.mn_txn.specs.State.{State};
 ghost use Rattle.mn_txn.specs.Plan.{plan_of};
 ghost use Rattle.mn_txn.specs.Laws.{PlansAreInOrder, PagesStay, PlansNameTheirPlaces, PlansNameNoOther, PlansHoldTheirBytes, PlansCountOn};
 ghost use Rattle.mn_txn.specs.Attempt.{DoneIsPlanned, UnmetIsPlanned};
-ghost use Rattle.mn_txn.specs.Children.{SnapshotIsPlanned, BranchIsPlanned};
+ghost use Rattle.mn_txn.specs.Children.{SnapshotIsPlanned, BranchIsPlanned, ChildrenStandInOrder};
 ghost use Rattle.mn_txn.specs.Slots.{NewSlotsAreNext};
 
 // Each law is the contract of a function that does nothing: what it says is proved, and may be used, by calling it.
@@ -89,6 +89,11 @@ pub fn branch_is_planned()
     mn_world::numbers_go_on();
     plans_are_in_order();
 }
+
+/// What a Snapshot or a Branch compares and writes stands in the order of items as it is listed.
+pub fn children_stand_in_order()
+    ensures { ChildrenStandInOrder }
+{}
 
 /// Where at least so many slots are free, the slots that are planned for them are the next of their nodes.
 pub fn new_slots_are_next()
