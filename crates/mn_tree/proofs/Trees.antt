@@ -41,3 +41,5 @@ pub mod Tries
 pub mod Origins
 pub mod Heights
 pub mod Plain
+pub mod Few
+pub mod Put

@@ -14,3 +14,4 @@ pub mod Laws
 pub mod MoveLaws
 pub mod Tries
 pub mod Plain
+pub mod Limits

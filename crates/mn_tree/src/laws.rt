@@ -2,6 +2,7 @@ ghost use Rattle.mn_tree.specs.Laws.{WalksArePaths, ReadsAreDraft, AddKeepsDraft
 ghost use Rattle.mn_tree.specs.MoveLaws.{MovesKeepTree, MovesTell, MovesRead, PlacedArePages, MovesArePlaced, MovesComeOnce, QuietMoves};
 ghost use Rattle.mn_tree.specs.Tries.{MovesTakePages, MovesTakeSteps, MovesAreMet, NeedsAreAbsent, NeedsAreSlots, NeedsMayCome, BadPathsCame, PlacedHaveRoom};
 ghost use Rattle.mn_tree.specs.Plain.{MovesAreSteps, UnmetMovesChangeNothing, TriesShowNeeds, UnmetNeedsNothing};
+ghost use Rattle.mn_tree.specs.Limits.{MovesAreFew, MovesTouchLeaves, PlacedArePut, PlacedFillSlots};
 
 /// Where the root isn't too high, a walk that reaches a leaf goes the way of the plain model of the tree.
 pub fn walks_are_paths()
@@ -153,4 +154,24 @@ pub fn tries_show_needs()
 /// A transaction with an unmet Check takes no slot and writes no page.
 pub fn unmet_needs_nothing()
     ensures { UnmetNeedsNothing }
+{}
+
+/// At most 16 steps read and change at most 241 old pages, and make at most 518 new ones.
+pub fn moves_are_few()
+    ensures { MovesAreFew }
+{}
+
+/// Where a step is done, the read set has a leaf that it touched.
+pub fn moves_touch_leaves()
+    ensures { MovesTouchLeaves }
+{}
+
+/// A plan writes the changed pages as they joined the read set, and then the new ones in the slots.
+pub fn placed_are_put()
+    ensures { PlacedArePut }
+{}
+
+/// Each page that a plan writes is as long as a slot.
+pub fn placed_fill_slots()
+    ensures { PlacedFillSlots }
 {}

@@ -17,10 +17,11 @@ mod writer;
 
 pub use error::AddError;
 pub use laws::{
-    add_keeps_draft, bad_paths_came, moves_are_met, moves_are_placed, moves_are_steps,
-    moves_come_once, moves_keep_tree, moves_may_be_quiet, moves_read, moves_take_pages,
-    moves_take_steps, moves_tell, needs_are_absent, needs_are_slots, needs_may_come, path_tells,
-    placed_are_pages, placed_have_room, placed_keeps_tree, placing_keeps_tree, reads_are_draft,
+    add_keeps_draft, bad_paths_came, moves_are_few, moves_are_met, moves_are_placed,
+    moves_are_steps, moves_come_once, moves_keep_tree, moves_may_be_quiet, moves_read,
+    moves_take_pages, moves_take_steps, moves_tell, moves_touch_leaves, needs_are_absent,
+    needs_are_slots, needs_may_come, path_tells, placed_are_pages, placed_are_put,
+    placed_fill_slots, placed_have_room, placed_keeps_tree, placing_keeps_tree, reads_are_draft,
     step_keeps_tree, step_reads_changed, stepped_keeps_tree, transaction_keeps_tree,
     transaction_tells, tries_show_needs, unmet_moves_change_nothing, unmet_needs_nothing,
     walks_are_paths,

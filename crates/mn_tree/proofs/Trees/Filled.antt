@@ -185,7 +185,7 @@ put_filled fresh top low high (Leaf pairs) key value is is_key is_value covers =
     let longer = length-put key value pairs in
     (omega arith, ascending-put key value pairs is.1, all-put (IsFitting low high) key value pairs is.2 (is_key, is_value, covers))
 
-shorter : {X : Type 0} (t : X → Bool) (xs : List X) → length (filter t xs) ≤ length xs
+pub shorter : {X : Type 0} (t : X → Bool) (xs : List X) → length (filter t xs) ≤ length xs
 shorter t [] = omega arith
 shorter {X} t (x ∷ xs) = cases (t x) (shorter t xs)
   where

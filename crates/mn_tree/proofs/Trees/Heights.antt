@@ -28,7 +28,7 @@ pub record AreLow (top : ℕ) (pages : List Held) : Type 0 where
   pub each : (x : Addr) (p : Page) → held_at pages x ≡ Some p → height_of p.body ≤ top
 
 -- both halves of a body are
-abbrev ArePartsLow : ℕ → Option Halves → Type 0
+abbrev pub ArePartsLow : ℕ → Option Halves → Type 0
 ArePartsLow top None = ⊤
 ArePartsLow top (Some hs) = (height_of hs.left ≤ top) × (height_of hs.right ≤ top)
 
@@ -47,7 +47,7 @@ inner_low top height first (b ∷ (c ∷ [])) low = tt
 inner_low top height first (b ∷ (c ∷ (d ∷ []))) low = tt
 inner_low top height first (b ∷ (c ∷ (d ∷ (e ∷ rest)))) low = (low, low)
 
-parts_low : (top : ℕ) (b : Body) → height_of b ≤ top → ArePartsLow top (halves_of b)
+pub parts_low : (top : ℕ) (b : Body) → height_of b ≤ top → ArePartsLow top (halves_of b)
 parts_low top (Leaf pairs) low = by_count (nat_le (length pairs) 8)
   where
     by_count : (t : Bool) → ArePartsLow top (if t then None else leaf_halves pairs)

@@ -29,7 +29,7 @@ use Rattle.mn_tree.proofs.Trees.Moved.{moves_keep_tree}
 
 -- Numbers in their order
 
-abbrev AreDistinct : List ℕ → Type 0
+abbrev pub AreDistinct : List ℕ → Type 0
 AreDistinct [] = ⊤
 AreDistinct (n ∷ ns) = AllByRecursion (λ m. m ≡ n → ⊥) ns × AreDistinct ns
 
@@ -41,7 +41,7 @@ distinct_with pages a (m ∷ ms) all off = cases (precedes pages a m) (distinct_
     cases true rest = (off, all)
     cases false rest = (all_with (λ k. k ≡ m → ⊥) pages a ms (λ e. off.0 (sym e)) all.0, rest)
 
-distinct_all : (pages : List Held) (a k : ℕ) (order : List ℕ) → AreDistinct order → AllByRecursion (λ m. m < a) order → AreDistinct (with_numbers pages order (range_with_len a k))
+pub distinct_all : (pages : List Held) (a k : ℕ) (order : List ℕ) → AreDistinct order → AllByRecursion (λ m. m < a) order → AreDistinct (with_numbers pages order (range_with_len a k))
 distinct_all pages a zero order all low = all
 distinct_all pages a (suc k) order all low =
     distinct_all pages (a + 1) k (with_number pages a order) (distinct_with pages a order all (weaker (λ m. m < a) (λ m. m ≡ a → ⊥) differs order low))
@@ -53,12 +53,12 @@ distinct_all pages a (suc k) order all low =
     more : (m : ℕ) → m < a → m < a + 1
     more m less = omega arith
 
-map_on : {X Y : Type 0} (f g : X → Y) (P : X → Type 0) → ((x : X) → P x → f x ≡ g x) → (xs : List X) → AllByRecursion P xs → map f xs ≡ map g xs
+pub map_on : {X Y : Type 0} (f g : X → Y) (P : X → Type 0) → ((x : X) → P x → f x ≡ g x) → (xs : List X) → AllByRecursion P xs → map f xs ≡ map g xs
 map_on f g P same [] all = refl
 map_on f g P same (x ∷ xs) all = ap (λ y. y ∷ map f xs) (same x all.0) ∙ ap (λ l. g x ∷ l) (map_on f g P same xs all.1)
 
 -- the slots are those of the numbers in their order
-slots_in_order : (order : List ℕ) (slots : List Addr) → AreDistinct order → length order ≡ length slots → map (slot_of order slots) order ≡ slots
+pub slots_in_order : (order : List ℕ) (slots : List Addr) → AreDistinct order → length order ≡ length slots → map (slot_of order slots) order ≡ slots
 slots_in_order [] [] all long = refl
 slots_in_order [] (s ∷ slots) all long = absurd cc
 slots_in_order (n ∷ ns) [] all long = absurd cc
@@ -77,7 +77,7 @@ slots_in_order (n ∷ ns) (s ∷ slots) all long =
 -- Pages at their places
 
 module _ (by : List Addr) (pages : List Held) where
-  olds_at : (cs : List Addr) → AllByRecursion (λ a. (p : Page) × (held_at pages a ≡ Some p)) cs → map (λ h. h.addr) (flat_map (placed_old by pages) cs) ≡ cs
+  pub olds_at : (cs : List Addr) → AllByRecursion (λ a. (p : Page) × (held_at pages a ≡ Some p)) cs → map (λ h. h.addr) (flat_map (placed_old by pages) cs) ≡ cs
   olds_at [] all = refl
   olds_at (c ∷ cs) all =
       ap (λ (o : Option Page). map (λ (h : Held). h.addr) (option_to_list (option_map (λ (p : Page). let r : Held = record { addr = c; page = placed_page by (next_number p.seq) p } in r) o) ++ flat_map (placed_old by pages) cs)) (all.0).1
@@ -91,7 +91,7 @@ module _ (by : List Addr) (pages : List Held) where
       by_page None e rest = rest
       by_page (Some p) e rest = (all.0 p e, rest)
 
-  news_at : (ns : List ℕ) → AllByRecursion (λ n. (p : Page) × (held_at pages (new_addr n) ≡ Some p)) ns → map (λ h. h.addr) (flat_map (placed_new by pages) ns) ≡ map (λ n. placed_addr by (new_addr n)) ns
+  pub news_at : (ns : List ℕ) → AllByRecursion (λ n. (p : Page) × (held_at pages (new_addr n) ≡ Some p)) ns → map (λ h. h.addr) (flat_map (placed_new by pages) ns) ≡ map (λ n. placed_addr by (new_addr n)) ns
   news_at [] all = refl
   news_at (n ∷ ns) all =
       ap (λ (o : Option Page). map (λ (h : Held). h.addr) (option_to_list (option_map (λ (p : Page). let r : Held = record { addr = placed_addr by (new_addr n); page = placed_page by p.seq p } in r) o) ++ flat_map (placed_new by pages) ns)) (all.0).1
