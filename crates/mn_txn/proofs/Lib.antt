@@ -12,3 +12,7 @@ mod Unmet
 mod Children
 mod ChildOrder
 mod Slots
+mod Worn
+mod Fits
+mod Free
+mod Causes

@@ -5,3 +5,4 @@ pub mod Laws
 pub mod Attempt
 pub mod Children
 pub mod Slots
+pub mod Tries

@@ -5,6 +5,7 @@ mod error;
 mod image;
 mod laws;
 mod place;
+mod tries;
 mod txn;
 
 pub use error::PlanError;
@@ -13,6 +14,10 @@ pub use laws::{
     branch_is_planned, children_stand_in_order, done_is_planned, new_slots_are_next,
     plans_are_in_order, plans_count_on, plans_hold_their_bytes, plans_name_their_places,
     snapshot_is_planned, unmet_is_planned,
+};
+pub use tries::{
+    done_may_be_planned, free_slots_are_left, planned_is_done, tries_show_causes,
+    unmet_may_be_planned, worn_is_changed, worn_pages_show,
 };
 pub use txn::Txn;
 

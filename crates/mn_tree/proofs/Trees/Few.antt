@@ -49,7 +49,8 @@ use Rattle.mn_tree.proofs.Trees.StepWrites.{is_now, is_still, held_now, held_pas
 -- Bodies
 
 -- a further child at most
-rest_count : (cs : List Child) (a now : Addr) (more : Option Child) → length (rest_with cs a now more) ≤ length cs + 1
+rest_count : (cs : List Child) (a now : Addr) (more : Option Child)
+    → length (rest_with cs a now more) ≤ length cs + 1
 rest_count [] a now more = omega arith
 rest_count (c ∷ cs) a now more = cases (addr_same c.addr a) (rest_count cs a now more)
   where
@@ -62,7 +63,8 @@ rest_count (c ∷ cs) a now more = cases (addr_same c.addr a) (rest_count cs a n
     cases true rest = let b = behind more in omega arith
     cases false rest = omega arith
 
-with_count : (b : Body) (a now : Addr) (more : Option Child) → count_in (body_with b a now more) ≤ count_in b + 1
+with_count : (b : Body) (a now : Addr) (more : Option Child)
+    → count_in (body_with b a now more) ≤ count_in b + 1
 with_count (Leaf pairs) a now more = omega arith
 with_count (Inner height first rest) a now more = cases (addr_same first a)
   where
@@ -70,7 +72,8 @@ with_count (Inner height first rest) a now more = cases (addr_same first a)
     behind None = omega arith
     behind (Some x) = omega arith
 
-    cases : (t : Bool) → count_in (if t then Inner height now (option_to_list more ++ rest) else Inner height first (rest_with rest a now more)) ≤ length rest + 1 + 1
+    cases : (t : Bool)
+        → count_in (if t then Inner height now (option_to_list more ++ rest) else Inner height first (rest_with rest a now more)) ≤ length rest + 1 + 1
     cases true = let b = behind more in omega arith
     cases false = let b = rest_count rest a now more in omega arith
 
@@ -82,12 +85,14 @@ pairs_count (Inner height first rest) = omega arith
 split_full : (b : Body) (hs : Halves) → halves_of b ≡ Some hs → 8 < count_in b
 split_full (Leaf pairs) hs e = by_count (nat_le (length pairs) 8) refl e
   where
-    by_count : (t : Bool) → nat_le (length pairs) 8 ≡ t → (if t then None else leaf_halves pairs) ≡ Some hs → 8 < length pairs
+    by_count : (t : Bool) → nat_le (length pairs) 8 ≡ t
+        → (if t then None else leaf_halves pairs) ≡ Some hs → 8 < length pairs
     by_count true is f = absurd cc
     by_count false is f = leb-false (length pairs) 8 is
 split_full (Inner height first rest) hs e = by_count (nat_le (length rest + 1) 8) refl e
   where
-    by_count : (t : Bool) → nat_le (length rest + 1) 8 ≡ t → (if t then None else inner_halves height first rest) ≡ Some hs → 8 < length rest + 1
+    by_count : (t : Bool) → nat_le (length rest + 1) 8 ≡ t
+        → (if t then None else inner_halves height first rest) ≡ Some hs → 8 < length rest + 1
     by_count true is f = absurd cc
     by_count false is f = leb-false (length rest + 1) 8 is
 
@@ -97,19 +102,23 @@ body_count low high (Inner height first rest) is = let few = is.3 in omega arith
 
 -- Writes, one after another
 
-joined_on : (l : List Addr) (ws more : List Write) → all_joined l (ws ++ more) ≡ all_joined (all_joined l ws) more
+joined_on : (l : List Addr) (ws more : List Write)
+    → all_joined l (ws ++ more) ≡ all_joined (all_joined l ws) more
 joined_on l [] more = refl
 joined_on l (w ∷ ws) more = joined_on (joined l w.addr) ws more
 
-written_on : (o : Overlay) (ws more : List Write) → all_written o (ws ++ more) ≡ all_written (all_written o ws) more
+written_on : (o : Overlay) (ws more : List Write)
+    → all_written o (ws ++ more) ≡ all_written (all_written o ws) more
 written_on o [] more = refl
 written_on o (w ∷ ws) more = written_on (written o w) ws more
 
-origins_on : (ws more : List Write) → length (origins_in (ws ++ more)) ≡ length (origins_in ws) + length (origins_in more)
+origins_on : (ws more : List Write)
+    → length (origins_in (ws ++ more)) ≡ length (origins_in ws) + length (origins_in more)
 origins_on ws more = ap (λ (l : List Addr). length l) (flat_map-append (λ (w : Write). option_to_list w.origin) ws more) ∙ length-append (origins_in ws) (origins_in more)
 
 -- writes elsewhere leave a page
-written_past : (ws : List Write) (o : Overlay) (x : Addr) → AllByRecursion (λ w. w.addr ≡ x → ⊥) ws → held_at (all_written o ws).pages x ≡ held_at o.pages x
+written_past : (ws : List Write) (o : Overlay) (x : Addr) → AllByRecursion (λ w. w.addr ≡ x → ⊥) ws
+    → held_at (all_written o ws).pages x ≡ held_at o.pages x
 written_past [] o x off = refl
 written_past (w ∷ ws) o x off = written_past ws (written o w) x off.1 ∙ held_past o.pages w.addr w.page x off.0
 
@@ -132,10 +141,12 @@ module _ (parents : List (Option ℕ)) (v : VersionNo) (root : Addr) (old : is_n
   abbrev with_root : List Addr → ℕ
   with_root l = if is_noted l root then 1 else 0
 
-  root_stays : (l m : List Addr) → (is_noted l root ≡ true → is_noted m root ≡ true) → with_root l ≤ with_root m
+  root_stays : (l m : List Addr) → (is_noted l root ≡ true → is_noted m root ≡ true)
+      → with_root l ≤ with_root m
   root_stays l m more = cases (is_noted l root) (is_noted m root) refl refl
     where
-      cases : (s t : Bool) → is_noted l root ≡ s → is_noted m root ≡ t → (if s then 1 else 0) ≤ (if t then 1 else 0)
+      cases : (s t : Bool) → is_noted l root ≡ s → is_noted m root ≡ t
+          → (if s then 1 else 0) ≤ (if t then 1 else 0)
       cases true true e f = omega arith
       cases true false e f = absurd (clash (is_noted m root) (more e) f)
       cases false t e f = omega arith
@@ -183,7 +194,8 @@ module _ (parents : List (Option ℕ)) (v : VersionNo) (root : Addr) (old : is_n
 
   -- old pages but the root are at most 14 high, and new ones were made in the version
   record AreOfVersion (pages : List Held) : Type 0 where
-    low : (x : Addr) (p : Page) → is_new x ≡ false → (x ≡ root → ⊥) → held_at pages x ≡ Some p → height_of p.body ≤ 14
+    low : (x : Addr) (p : Page) → is_new x ≡ false → (x ≡ root → ⊥) → held_at pages x ≡ Some p
+        → height_of p.body ≤ 14
     own : (x : Addr) (p : Page) → is_new x ≡ true → held_at pages x ≡ Some p → p.made.0 ≡ v.0
 
   abbrev WritesLow : List Write → Type 0
@@ -192,7 +204,9 @@ module _ (parents : List (Option ℕ)) (v : VersionNo) (root : Addr) (old : is_n
   abbrev WritesOwn : List Write → Type 0
   WritesOwn ws = AllByRecursion (λ w. is_new w.addr ≡ true → w.page.made.0 ≡ v.0) ws
 
-  of_version_with : (pages : List Held) (a : Addr) (p : Page) → AreOfVersion pages → (is_new a ≡ false → (a ≡ root → ⊥) → height_of p.body ≤ 14) → (is_new a ≡ true → p.made.0 ≡ v.0) → AreOfVersion (held_with pages a p)
+  of_version_with : (pages : List Held) (a : Addr) (p : Page) → AreOfVersion pages
+      → (is_new a ≡ false → (a ≡ root → ⊥) → height_of p.body ≤ 14)
+      → (is_new a ≡ true → p.made.0 ≡ v.0) → AreOfVersion (held_with pages a p)
   of_version_with pages a p are low own = record {
     low = λ x q is off there. elim (held_now pages a p x q there) as (λ _. height_of q.body ≤ 14) [
       | is_now e f ↦ subst (λ (y : Page). height_of y.body ≤ 14) (sym f) (low (ap is_new e ∙ is) (λ g. off (sym e ∙ g)))
@@ -204,7 +218,8 @@ module _ (parents : List (Option ℕ)) (v : VersionNo) (root : Addr) (old : is_n
     ];
   }
 
-  of_version_all : (ws : List Write) (o : Overlay) → AreOfVersion o.pages → WritesLow ws → WritesOwn ws → AreOfVersion (all_written o ws).pages
+  of_version_all : (ws : List Write) (o : Overlay) → AreOfVersion o.pages → WritesLow ws
+      → WritesOwn ws → AreOfVersion (all_written o ws).pages
   of_version_all [] o are lows owns = are
   of_version_all (w ∷ ws) o are lows owns = of_version_all ws (written o w) (of_version_with o.pages w.addr w.page are lows.0 owns.0) lows.1 owns.1
 
@@ -215,7 +230,8 @@ module _ (parents : List (Option ℕ)) (v : VersionNo) (root : Addr) (old : is_n
     Way level h above = ArePassed parents v.0 pages root key level h above
 
     -- the root stands on top
-    top : (level : ℕ) (h : Held) (above : List Held) → Way level h above → height_of r.body ≡ level + length above
+    top : (level : ℕ) (h : Held) (above : List Held) → Way level h above
+        → height_of r.body ≡ level + length above
     top level h [] way =
         let same : r ≡ h.page = page_same r h.page (sym there ∙ (ap (held_at pages) way.1 ∙ (way.0).there)) in
         let e = ap (λ (p : Page). height_of p.body) same in
@@ -223,13 +239,15 @@ module _ (parents : List (Option ℕ)) (v : VersionNo) (root : Addr) (old : is_n
     top level h (parent ∷ above) way = let e = top (suc level) parent above way.1 in omega arith
 
     -- and nowhere below
-    apart : (level : ℕ) (h parent : Held) (above : List Held) → Way level h (parent ∷ above) → h.addr ≡ root → ⊥
+    apart : (level : ℕ) (h parent : Held) (above : List Held) → Way level h (parent ∷ above)
+        → h.addr ≡ root → ⊥
     apart level h parent above way same =
         let e = ap (λ (p : Page). height_of p.body) (page_same r h.page (sym there ∙ (ap (held_at pages) (sym same) ∙ (way.0).there))) in
         let f = (way.0).level in
         let g = top level h (parent ∷ above) way in absurd (omega arith)
 
-    old_low : (level : ℕ) (h parent : Held) (above : List Held) → Way level h (parent ∷ above) → is_new h.addr ≡ false → level ≤ 14
+    old_low : (level : ℕ) (h parent : Held) (above : List Held) → Way level h (parent ∷ above)
+        → is_new h.addr ≡ false → level ≤ 14
     old_low level h parent above way is = let low = are.low h.addr h.page is (apart level h parent above way) (way.0).there in let f = (way.0).level in omega arith
 
     -- what the writes from this level upwards come to
@@ -238,13 +256,15 @@ module _ (parents : List (Option ℕ)) (v : VersionNo) (root : Addr) (old : is_n
       once : split ≤ 1
       new : length (origins_in ws) ≤ length above + (15 - level) + 2 * split
       end : (o : Overlay) → held_at o.pages root ≡ Some r
-          → (q : Page) × (held_at (all_written o ws).pages root ≡ Some q) × (height_of q.body ≡ level + length above + split)
+          → (q : Page) × (held_at (all_written o ws).pages root ≡ Some q)
+          × (height_of q.body ≡ level + length above + split)
           × (7 * height_of q.body + count_in q.body ≤ 7 * (level + length above) + count_in r.body + 1)
       read : (l : List Addr) → Grew (15 - level) l (all_joined l ws)
       lows : WritesLow ws
       owns : WritesOwn ws
 
-    nothing_cheap : (level : ℕ) (h : Held) (above : List Held) → Way level h above → IsCheap level above []
+    nothing_cheap : (level : ℕ) (h : Held) (above : List Held) → Way level h above
+        → IsCheap level above []
     nothing_cheap level h above way = record {
       split = 0;
       once = omega arith;
@@ -256,7 +276,9 @@ module _ (parents : List (Option ℕ)) (v : VersionNo) (root : Addr) (old : is_n
     }
 
     -- the root's
-    root_cheap : (level n : ℕ) (origin : Addr) (h : Held) (body : Body) → Way level h [] → height_of body ≡ level → count_in body ≤ count_in h.page.body + 1 → IsCheap level [] (root_writes v n origin h body (halves_of body))
+    root_cheap : (level n : ℕ) (origin : Addr) (h : Held) (body : Body) → Way level h []
+        → height_of body ≡ level → count_in body ≤ count_in h.page.body + 1
+        → IsCheap level [] (root_writes v n origin h body (halves_of body))
     root_cheap level n origin h body way high count = by_halves (halves_of body) refl
       where
         same : r ≡ h.page
@@ -277,7 +299,8 @@ module _ (parents : List (Option ℕ)) (v : VersionNo) (root : Addr) (old : is_n
         lands : (pages : List Held) (p : Page) → held_at (held_with pages h.addr p) root ≡ Some p
         lands ps p = ap (held_at (held_with ps h.addr p)) way.1 ∙ held_here ps h.addr p
 
-        by_halves : (x : Option Halves) → halves_of body ≡ x → IsCheap level [] (root_writes v n origin h body x)
+        by_halves : (x : Option Halves) → halves_of body ≡ x
+            → IsCheap level [] (root_writes v n origin h body x)
         by_halves None e =
             let p : Page = page_with h.page h.page.low h.page.high body in
             record {
@@ -312,7 +335,9 @@ module _ (parents : List (Option ℕ)) (v : VersionNo) (root : Addr) (old : is_n
       lows : WritesLow ws
       owns : WritesOwn ws
 
-    page_cheap : (level n : ℕ) (origin : Addr) (h parent : Held) (above : List Held) (body : Body) → Way level h (parent ∷ above) → height_of body ≡ level → IsPageCheap level h.addr (page_writes v n origin h body)
+    page_cheap : (level n : ℕ) (origin : Addr) (h parent : Held) (above : List Held) (body : Body)
+        → Way level h (parent ∷ above) → height_of body ≡ level
+        → IsPageCheap level h.addr (page_writes v n origin h body)
     page_cheap level n origin h parent above body way high = by_made (nat_eq h.page.made.0 v.0) refl (halves_of body) (parts_low level body (omega (arith, high)))
       where
         news : (m : ℕ) → new_addr m ≡ root → ⊥
@@ -339,7 +364,9 @@ module _ (parents : List (Option ℕ)) (v : VersionNo) (root : Addr) (old : is_n
             by_new true is = absurd (clash (nat_eq h.page.made.0 v.0) (eq-eqb h.page.made.0 v.0 (own_is is)) e)
             by_new false is = old_low level h parent above way is
 
-        by_made : (t : Bool) → nat_eq h.page.made.0 v.0 ≡ t → (x : Option Halves) → ArePartsLow level x → IsPageCheap level h.addr (if t then own_writes v n origin h body x else other_writes v n origin h body x)
+        by_made : (t : Bool) → nat_eq h.page.made.0 v.0 ≡ t → (x : Option Halves)
+            → ArePartsLow level x
+            → IsPageCheap level h.addr (if t then own_writes v n origin h body x else other_writes v n origin h body x)
         by_made true e None parts = record {
           new = inl (omega arith);
           off = (here, tt);
@@ -370,7 +397,9 @@ module _ (parents : List (Option ℕ)) (v : VersionNo) (root : Addr) (old : is_n
         }
 
     -- and what follows above
-    above_cheap : (level : ℕ) (h parent : Held) (above : List Held) (ws more : List Write) → Way level h (parent ∷ above) → IsPageCheap level h.addr ws → IsCheap (suc level) above more → IsCheap level (parent ∷ above) (ws ++ more)
+    above_cheap : (level : ℕ) (h parent : Held) (above : List Held) (ws more : List Write)
+        → Way level h (parent ∷ above) → IsPageCheap level h.addr ws
+        → IsCheap (suc level) above more → IsCheap level (parent ∷ above) (ws ++ more)
     above_cheap level h parent above ws more way page rest = record {
       split = rest.split;
       once = rest.once;
@@ -383,14 +412,18 @@ module _ (parents : List (Option ℕ)) (v : VersionNo) (root : Addr) (old : is_n
       owns = all_both _ ws more page.owns rest.owns;
     }
       where
-        new_by : (length (origins_in ws) ≤ 1) ⊎ ((length (origins_in ws) ≤ 2) × (level ≤ 14)) → length (origins_in ws) + length (origins_in more) ≤ suc (length above) + (15 - level) + 2 * rest.split
+        new_by : (length (origins_in ws) ≤ 1) ⊎ ((length (origins_in ws) ≤ 2) × (level ≤ 14))
+            → length (origins_in ws) + length (origins_in more) ≤ suc (length above) + (15 - level) + 2 * rest.split
         new_by (inl few) = let n = rest.new in omega arith
         new_by (inr few) = let n = rest.new in let a = few.0 in let b = few.1 in omega arith
 
-        reads : (l : List Addr) → Grew (15 - suc level) (joined l h.addr) (all_joined (joined l h.addr) more) → Grew (15 - level) l (all_joined (joined l h.addr) more)
+        reads : (l : List Addr)
+            → Grew (15 - suc level) (joined l h.addr) (all_joined (joined l h.addr) more)
+            → Grew (15 - level) l (all_joined (joined l h.addr) more)
         reads l later = by_new (is_new h.addr) refl
           where
-            by_new : (t : Bool) → is_new h.addr ≡ t → Grew (15 - level) l (all_joined (joined l h.addr) more)
+            by_new : (t : Bool) → is_new h.addr ≡ t
+                → Grew (15 - level) l (all_joined (joined l h.addr) more)
             by_new true is =
                 grew_more (15 - suc level) (15 - level) l (all_joined (joined l h.addr) more) (omega arith)
                 (subst (λ (m : List Addr). Grew (15 - suc level) m (all_joined (joined l h.addr) more)) (join_new l h.addr is) later)
@@ -400,7 +433,9 @@ module _ (parents : List (Option ℕ)) (v : VersionNo) (root : Addr) (old : is_n
                 (grew_on 1 (15 - suc level) l (joined l h.addr) (all_joined (joined l h.addr) more) (join_one l h.addr) later)
 
     -- a change that goes up a path
-    up_cheap : (level n : ℕ) (origins : List Addr) (h : Held) (above : List Held) (body : Body) → Way level h above → height_of body ≡ level → count_in body ≤ count_in h.page.body + 1 → IsCheap level above (writes_up v n origins h above body)
+    up_cheap : (level n : ℕ) (origins : List Addr) (h : Held) (above : List Held) (body : Body)
+        → Way level h above → height_of body ≡ level → count_in body ≤ count_in h.page.body + 1
+        → IsCheap level above (writes_up v n origins h above body)
     up_cheap level n origins h [] body way high count = root_cheap level n (placed_addr origins h.addr) h body way high count
     up_cheap level n origins h (parent ∷ above) body way high count =
         above_cheap level h parent above ws (writes_if (page_asks v n h body) later) way (page_cheap level n (placed_addr origins h.addr) h parent above body way high)
@@ -414,16 +449,20 @@ module _ (parents : List (Option ℕ)) (v : VersionNo) (root : Addr) (old : is_n
         later : Addr → Option Child → List Write
         later now more = writes_up v (n + length (origins_in ws)) origins parent above (body_with parent.page.body h.addr now more)
 
-        by_asked : (a : Asked) → ((now : Addr) (more : Option Child) → IsCheap (suc level) above (later now more)) → IsCheap (suc level) above (writes_if a later)
+        by_asked : (a : Asked)
+            → ((now : Addr) (more : Option Child) → IsCheap (suc level) above (later now more))
+            → IsCheap (suc level) above (writes_if a later)
         by_asked Nothing rest = nothing_cheap (suc level) parent above way.1
         by_asked (Child_is now more) rest = rest now more
 
-    step_cheap : (n : ℕ) (origins : List Addr) (step : Step) (h : Held) (above : List Held) → Way 0 h above → IsCheap 0 above (step_writes v n origins step (h ∷ above))
+    step_cheap : (n : ℕ) (origins : List Addr) (step : Step) (h : Held) (above : List Held)
+        → Way 0 h above → IsCheap 0 above (step_writes v n origins step (h ∷ above))
     step_cheap n origins (Put k value) h above way =
         up_cheap 0 n origins h above (Leaf (pairs_with (pairs_in h.page.body) k value)) way refl (let a = length-put k value (pairs_in h.page.body) in let b = pairs_count h.page.body in omega arith)
     step_cheap n origins (Del k) h above way = by_value (is_some (value_at (pairs_in h.page.body) k))
       where
-        by_value : (t : Bool) → IsCheap 0 above (if t then writes_up v n origins h above (Leaf (pairs_without (pairs_in h.page.body) k)) else [])
+        by_value : (t : Bool)
+            → IsCheap 0 above (if t then writes_up v n origins h above (Leaf (pairs_without (pairs_in h.page.body) k)) else [])
         by_value true =
             up_cheap 0 n origins h above (Leaf (pairs_without (pairs_in h.page.body) k)) way refl
             (let a = shorter (λ (p : Pair). not (bytes_eq p.key k)) (pairs_in h.page.body) in let b = pairs_count h.page.body in omega arith)
@@ -432,19 +471,24 @@ module _ (parents : List (Option ℕ)) (v : VersionNo) (root : Addr) (old : is_n
     step_cheap n origins (Check k want) h above way = nothing_cheap 0 h above way
 
     -- a leaf that is touched first joins once
-    page_joined : (l : List Addr) (n : ℕ) (origin : Addr) (h : Held) (body : Body) → all_joined l (page_writes v n origin h body) ≡ joined l h.addr
+    page_joined : (l : List Addr) (n : ℕ) (origin : Addr) (h : Held) (body : Body)
+        → all_joined l (page_writes v n origin h body) ≡ joined l h.addr
     page_joined l n origin h body = by_made (nat_eq h.page.made.0 v.0) (halves_of body)
       where
-        by_made : (t : Bool) (x : Option Halves) → all_joined l (if t then own_writes v n origin h body x else other_writes v n origin h body x) ≡ joined l h.addr
+        by_made : (t : Bool) (x : Option Halves)
+            → all_joined l (if t then own_writes v n origin h body x else other_writes v n origin h body x) ≡ joined l h.addr
         by_made true None = refl
         by_made true (Some hs) = refl
         by_made false None = refl
         by_made false (Some hs) = refl
 
-    up_joined : (l : List Addr) (n : ℕ) (origins : List Addr) (h : Held) (above : List Held) (body : Body) → all_joined (joined l h.addr) (writes_up v n origins h above body) ≡ all_joined l (writes_up v n origins h above body)
+    up_joined : (l : List Addr) (n : ℕ) (origins : List Addr) (h : Held) (above : List Held)
+        (body : Body)
+        → all_joined (joined l h.addr) (writes_up v n origins h above body) ≡ all_joined l (writes_up v n origins h above body)
     up_joined l n origins h [] body = by_halves (halves_of body)
       where
-        by_halves : (x : Option Halves) → all_joined (joined l h.addr) (root_writes v n (placed_addr origins h.addr) h body x) ≡ all_joined l (root_writes v n (placed_addr origins h.addr) h body x)
+        by_halves : (x : Option Halves)
+            → all_joined (joined l h.addr) (root_writes v n (placed_addr origins h.addr) h body x) ≡ all_joined l (root_writes v n (placed_addr origins h.addr) h body x)
         by_halves None = twice l h.addr
         by_halves (Some hs) = twice l h.addr
     up_joined l n origins h (parent ∷ above) body = behind ws (page_joined (joined l h.addr) n (placed_addr origins h.addr) h body) (page_joined l n (placed_addr origins h.addr) h body) (writes_if (page_asks v n h body) later)
@@ -455,11 +499,16 @@ module _ (parents : List (Option ℕ)) (v : VersionNo) (root : Addr) (old : is_n
         later : Addr → Option Child → List Write
         later now more = writes_up v (n + length (origins_in ws)) origins parent above (body_with parent.page.body h.addr now more)
 
-        behind : (xs : List Write) → all_joined (joined l h.addr) xs ≡ joined (joined l h.addr) h.addr → all_joined l xs ≡ joined l h.addr → (more : List Write) → all_joined (joined l h.addr) (xs ++ more) ≡ all_joined l (xs ++ more)
+        behind : (xs : List Write)
+            → all_joined (joined l h.addr) xs ≡ joined (joined l h.addr) h.addr
+            → all_joined l xs ≡ joined l h.addr → (more : List Write)
+            → all_joined (joined l h.addr) (xs ++ more) ≡ all_joined l (xs ++ more)
         behind xs first second more =
             joined_on (joined l h.addr) xs more ∙ (ap (λ (m : List Addr). all_joined m more) (first ∙ (twice l h.addr ∙ sym second)) ∙ sym (joined_on l xs more))
 
-    step_read : (l : List Addr) (n : ℕ) (origins : List Addr) (step : Step) (h : Held) (above : List Held) → Way 0 h above → Grew 15 l (all_joined (joined l h.addr) (step_writes v n origins step (h ∷ above)))
+    step_read : (l : List Addr) (n : ℕ) (origins : List Addr) (step : Step) (h : Held)
+        (above : List Held) → Way 0 h above
+        → Grew 15 l (all_joined (joined l h.addr) (step_writes v n origins step (h ∷ above)))
     step_read l n origins (Put k value) h above way =
         subst (Grew 15 l) (sym (up_joined l n origins h above (Leaf (pairs_with (pairs_in h.page.body) k value)))) ((step_cheap n origins (Put k value) h above way).read l)
     step_read l n origins (Del k) h above way = by_value (is_some (value_at (pairs_in h.page.body) k)) refl
@@ -467,7 +516,8 @@ module _ (parents : List (Option ℕ)) (v : VersionNo) (root : Addr) (old : is_n
         body : Body
         body = Leaf (pairs_without (pairs_in h.page.body) k)
 
-        by_value : (t : Bool) → is_some (value_at (pairs_in h.page.body) k) ≡ t → Grew 15 l (all_joined (joined l h.addr) (if t then writes_up v n origins h above body else []))
+        by_value : (t : Bool) → is_some (value_at (pairs_in h.page.body) k) ≡ t
+            → Grew 15 l (all_joined (joined l h.addr) (if t then writes_up v n origins h above body else []))
         by_value true e =
             subst (Grew 15 l) (sym (up_joined l n origins h above body))
             (subst (λ t. Grew 15 l (all_joined l (if t then writes_up v n origins h above body else []))) e ((step_cheap n origins (Del k) h above way).read l))
@@ -483,11 +533,13 @@ module _ (parents : List (Option ℕ)) (v : VersionNo) (root : Addr) (old : is_n
   -- after so many steps
   record AreFew (k : ℕ) (d : Drafted) : Type 0 where
     are : AreOfVersion d.overlay.pages
-    weight : (p : Page) → held_at d.overlay.pages root ≡ Some p → 7 * height_of p.body + count_in p.body ≤ 106 + k
+    weight : (p : Page) → held_at d.overlay.pages root ≡ Some p
+        → 7 * height_of p.body + count_in p.body ≤ 106 + k
     read : length d.read ≤ 15 * k + with_root d.read
     new : d.overlay.fresh ≤ 32 * k + 2 * (root_height d.overlay.pages - 14)
 
-  comes_few : (k : ℕ) (d : Drafted) (h : Held) → AreFew k d → MayCome parents v d h → AreFew k (drafted_with d h.addr h.page)
+  comes_few : (k : ℕ) (d : Drafted) (h : Held) → AreFew k d → MayCome parents v d h
+      → AreFew k (drafted_with d h.addr h.page)
   comes_few k d h few may = record {
     are = of_version_with d.overlay.pages h.addr h.page few.are (λ is off. may.height) (λ is. absurd (clash (is_new h.addr) is (old_addr h.addr may.addr)));
     weight = λ p there. elim (held_now d.overlay.pages h.addr h.page root p there) as (λ _. 7 * height_of p.body + count_in p.body ≤ 106 + k) [
@@ -502,22 +554,28 @@ module _ (parents : List (Option ℕ)) (v : VersionNo) (root : Addr) (old : is_n
     new = let more = higher (addr_cases h.addr root) in let was = few.new in omega arith;
   }
     where
-      higher : (h.addr ≡ root) ⊎ (h.addr ≡ root → ⊥) → root_height d.overlay.pages ≤ root_height (held_with d.overlay.pages h.addr h.page)
+      higher : (h.addr ≡ root) ⊎ (h.addr ≡ root → ⊥)
+          → root_height d.overlay.pages ≤ root_height (held_with d.overlay.pages h.addr h.page)
       higher (inl e) = let none : root_height d.overlay.pages ≡ 0 = ap (λ (o : Option Page). option_map_or (λ p. height_of p.body) o 0) (ap (held_at d.overlay.pages) (sym e) ∙ may.absent) in omega arith
       higher (inr off) = let same = ap (λ (o : Option Page). option_map_or (λ p. height_of p.body) o 0) (held_past d.overlay.pages h.addr h.page root off) in omega arith
 
-  step_few : (k : ℕ) (d : Drafted) (step : Step) (path : List Held) → k < 16 → AreFew k d → walk parents v.0 d.overlay.pages root (step_key step) ≡ Reached path → AreFew (k + 1) (drafted_after v d step path)
+  step_few : (k : ℕ) (d : Drafted) (step : Step) (path : List Held) → k < 16 → AreFew k d
+      → walk parents v.0 d.overlay.pages root (step_key step) ≡ Reached path
+      → AreFew (k + 1) (drafted_after v d step path)
   step_few k d step path low few way =
       subst (λ (hs : List Held). AreFew (k + 1) (drafted_after v d step hs)) (sym p.is) (with_root_page (root_of 0 p.leaf p.above p.passed))
     where
       p : Passed parents v.0 d.overlay.pages root (step_key step) path
       p = walk_passes parents v.0 d.overlay.pages root (step_key step) path way
 
-      root_of : (level : ℕ) (h : Held) (above : List Held) → ArePassed parents v.0 d.overlay.pages root (step_key step) level h above → (r : Page) × (held_at d.overlay.pages root ≡ Some r)
+      root_of : (level : ℕ) (h : Held) (above : List Held)
+          → ArePassed parents v.0 d.overlay.pages root (step_key step) level h above → (r : Page)
+          × (held_at d.overlay.pages root ≡ Some r)
       root_of level h [] passed = (h.page, ap (held_at d.overlay.pages) passed.1 ∙ (passed.0).there)
       root_of level h (parent ∷ above) passed = root_of (suc level) parent above passed.1
 
-      with_root_page : (r : Page) × (held_at d.overlay.pages root ≡ Some r) → AreFew (k + 1) (drafted_after v d step (p.leaf ∷ p.above))
+      with_root_page : (r : Page) × (held_at d.overlay.pages root ≡ Some r)
+          → AreFew (k + 1) (drafted_after v d step (p.leaf ∷ p.above))
       with_root_page (r, there) = record {
         are = subst (λ (o : Overlay). AreOfVersion o.pages) (sym is) (of_version_all ws d.overlay few.are c.lows c.owns);
         weight = λ q at. subst (λ (y : Page). 7 * height_of y.body + count_in y.body ≤ 106 + (k + 1)) (page_same end.0 q (sym now ∙ at)) weight;
@@ -538,7 +596,8 @@ module _ (parents : List (Option ℕ)) (v : VersionNo) (root : Addr) (old : is_n
           high : height_of r.body ≡ 0 + length p.above
           high = top d.overlay.pages (step_key step) r there few.are 0 p.leaf p.above p.passed
 
-          end : (q : Page) × (held_at (all_written d.overlay ws).pages root ≡ Some q) × (height_of q.body ≡ 0 + length p.above + c.split)
+          end : (q : Page) × (held_at (all_written d.overlay ws).pages root ≡ Some q)
+              × (height_of q.body ≡ 0 + length p.above + c.split)
               × (7 * height_of q.body + count_in q.body ≤ 7 * (0 + length p.above) + count_in r.body + 1)
           end = c.end d.overlay there
 
@@ -557,11 +616,15 @@ module _ (parents : List (Option ℕ)) (v : VersionNo) (root : Addr) (old : is_n
           new_few : d.overlay.fresh + length (origins_in ws) ≤ 32 * (k + 1) + 2 * (0 + length p.above + c.split - 14)
           new_few = let was = few.new in let bound = few.weight r there in let n = c.new in let one = c.once in counted d.overlay.fresh (length (origins_in ws)) (length p.above) (count_in r.body) c.split k (omega (arith, was_high, high)) n one (omega (arith, high)) low
             where
-              counted : (fresh new above count split k : ℕ) → fresh ≤ 32 * k + 2 * (above - 14) → new ≤ above + (15 - 0) + 2 * split → split ≤ 1 → 7 * above + count ≤ 106 + k → k < 16
+              counted : (fresh new above count split k : ℕ) → fresh ≤ 32 * k + 2 * (above - 14)
+                  → new ≤ above + (15 - 0) + 2 * split → split ≤ 1 → 7 * above + count ≤ 106 + k
+                  → k < 16
                   → fresh + new ≤ 32 * (k + 1) + 2 * (0 + above + split - 14)
               counted fresh new above count split k a b c d e = omega arith
 
-  all_few : (moves : List Move) (k : ℕ) (d after : Drafted) → k + length (done_in moves) ≤ 16 → AreFew k d → LeadsTo parents v root d moves after → AreFew (k + length (done_in moves)) after
+  all_few : (moves : List Move) (k : ℕ) (d after : Drafted) → k + length (done_in moves) ≤ 16
+      → AreFew k d → LeadsTo parents v root d moves after
+      → AreFew (k + length (done_in moves)) after
   all_few [] k d after low few leads = subst (λ n. AreFew n after) (let e : k ≡ k + 0 = omega arith in e) (subst (AreFew k) leads few)
   all_few (Comes h ∷ moves) k d after low few (may, leads) = all_few moves k (drafted_with d h.addr h.page) after low (comes_few k d h few may) leads
   all_few (Does step ∷ moves) k d after low few (path, way, leads) =
@@ -583,7 +646,8 @@ module _ (parents : List (Option ℕ)) (v : VersionNo) (root : Addr) (old : is_n
       cases true = omega arith
       cases false = omega arith
 
-  few_in_all : (k : ℕ) (d : Drafted) → k ≤ 16 → AreFew k d → (length d.read ≤ 241) × (d.overlay.fresh ≤ 518)
+  few_in_all : (k : ℕ) (d : Drafted) → k ≤ 16 → AreFew k d → (length d.read ≤ 241)
+      × (d.overlay.fresh ≤ 518)
   few_in_all k d low few = (
     (let a = few.read in let b = with_root_one d.read in omega arith),
     by_root (held_at d.overlay.pages root) refl,
@@ -610,8 +674,12 @@ abbrev AsTheyCame : (Addr → Option Page) → List Held → Type 0
 AsTheyCame look pages = (x : Addr) (p : Page) → held_at pages x ≡ Some p → (is_new x ≡ false) × (look x ≡ Some p)
 
 -- a leaf that is touched first is one that came in
-touches : (parents : List (Option ℕ)) (v : VersionNo) (root : Addr) (look : Addr → Option Page) (moves : List Move) (d after : Drafted) → AllByRecursion (λ h. look h.addr ≡ Some h.page) (comes_in moves) → AsTheyCame look d.overlay.pages
-    → LeadsTo parents v root d moves after → 1 ≤ length (done_in moves) → (x : Addr) × (p : Page) × (is_noted after.read x ≡ true) × (look x ≡ Some p) × (height_of p.body ≡ 0)
+touches : (parents : List (Option ℕ)) (v : VersionNo) (root : Addr) (look : Addr → Option Page)
+    (moves : List Move) (d after : Drafted)
+    → AllByRecursion (λ h. look h.addr ≡ Some h.page) (comes_in moves)
+    → AsTheyCame look d.overlay.pages
+    → LeadsTo parents v root d moves after → 1 ≤ length (done_in moves) → (x : Addr) × (p : Page)
+    × (is_noted after.read x ≡ true) × (look x ≡ Some p) × (height_of p.body ≡ 0)
 touches parents v root look [] d after came as_came leads some = absurd (omega arith)
 touches parents v root look (Comes h ∷ moves) d after came as_came (may, leads) some =
     touches parents v root look moves (drafted_with d h.addr h.page) after came.1

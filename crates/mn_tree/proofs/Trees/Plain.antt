@@ -32,7 +32,8 @@ use Rattle.mn_tree.proofs.Trees.Tries.{moves_are_met}
 
 -- over more pages a path is the same
 module _ (pages more : List Held) (key : List ℕ) (path : List Held) (has : (x : Addr) (p : Page) → held_at pages x ≡ Some p → held_at more x ≡ Some p) where
-  path_more : (fuel : ℕ) (addr : Addr) (above : List Held) → path_to fuel pages addr key above ≡ Some path → path_to fuel more addr key above ≡ Some path
+  path_more : (fuel : ℕ) (addr : Addr) (above : List Held)
+      → path_to fuel pages addr key above ≡ Some path → path_to fuel more addr key above ≡ Some path
   path_more zero addr above e = absurd cc
   path_more (suc fuel) addr above e = by_page (held_at pages addr) refl e (λ next at f. path_more fuel next at f)
     where
@@ -57,7 +58,9 @@ module _ (pages more : List Held) (key : List ℕ) (path : List Held) (has : (x 
       by_height page true f rest = f
       by_height page false f rest = by_child page (child_for (children_of page) key) f rest
 
-      by_page : (o : Option Page) → held_at pages addr ≡ o → option_and_then (one pages) o ≡ Some path → Further → path_to (suc fuel) more addr key above ≡ Some path
+      by_page : (o : Option Page) → held_at pages addr ≡ o
+          → option_and_then (one pages) o ≡ Some path → Further
+          → path_to (suc fuel) more addr key above ≡ Some path
       by_page None there f rest = absurd cc
       by_page (Some page) there f rest = ap (option_and_then (one more)) (has addr page there) ∙ by_height page (nat_eq (height_of page.body) 0) f rest
 
@@ -70,20 +73,25 @@ record IsAhead (o : Overlay) (rest : List Held) (all : Overlay) : Type 0 where
   fresh : all.fresh ≡ o.fresh
 
 -- each page that is held is among them
-ahead_has : (o all : Overlay) (rest : List Held) → IsAhead o rest all → (x : Addr) (p : Page) → held_at o.pages x ≡ Some p → held_at all.pages x ≡ Some p
+ahead_has : (o all : Overlay) (rest : List Held) → IsAhead o rest all → (x : Addr) (p : Page)
+    → held_at o.pages x ≡ Some p → held_at all.pages x ≡ Some p
 ahead_has o all rest ahead x p there = ahead.pages x ∙ ap (λ y. option_or y (held_at rest x)) there
 
 -- the next page comes in, where none is held
-ahead_comes : (d : Drafted) (all : Overlay) (h : Held) (rest : List Held) → held_at d.overlay.pages h.addr ≡ None → IsAhead d.overlay (h ∷ rest) all → IsAhead (drafted_with d h.addr h.page).overlay rest all
+ahead_comes : (d : Drafted) (all : Overlay) (h : Held) (rest : List Held)
+    → held_at d.overlay.pages h.addr ≡ None → IsAhead d.overlay (h ∷ rest) all
+    → IsAhead (drafted_with d h.addr h.page).overlay rest all
 ahead_comes d all h rest absent ahead = record { pages = λ x. ahead.pages x ∙ pointwise x (addr_same h.addr x) refl ∙ sym (at x); changed = ahead.changed; fresh = ahead.fresh }
   where
     pages : List Held
     pages = d.overlay.pages
 
-    at : (x : Addr) → laid_over (held_with pages h.addr h.page) (held_at rest) x ≡ put (laid_over pages (held_at rest)) h.addr h.page x
+    at : (x : Addr)
+        → laid_over (held_with pages h.addr h.page) (held_at rest) x ≡ put (laid_over pages (held_at rest)) h.addr h.page x
     at x = ap (λ (t : PagesAt). t x) (laid_with pages (held_at rest) h.addr h.page)
 
-    pointwise : (x : Addr) (t : Bool) → addr_same h.addr x ≡ t → laid_over pages (held_at (h ∷ rest)) x ≡ put (laid_over pages (held_at rest)) h.addr h.page x
+    pointwise : (x : Addr) (t : Bool) → addr_same h.addr x ≡ t
+        → laid_over pages (held_at (h ∷ rest)) x ≡ put (laid_over pages (held_at rest)) h.addr h.page x
     pointwise x true e =
         ap (λ y. option_or y (held_at (h ∷ rest) x)) (ap (held_at pages) (sym (addr_is h.addr x e)) ∙ absent)
         ∙ (ap (λ b. if b then Some h.page else held_at rest x) e ∙ sym (ap (λ b. if b then Some h.page else laid_over pages (held_at rest) x) e))
@@ -91,19 +99,23 @@ ahead_comes d all h rest absent ahead = record { pages = λ x. ahead.pages x ∙
         ap (λ b. option_or (held_at pages x) (if b then Some h.page else held_at rest x)) e ∙ sym (ap (λ b. if b then Some h.page else laid_over pages (held_at rest) x) e)
 
 -- the same page is written in both
-ahead_written : (o all : Overlay) (rest : List Held) (w : Write) → IsAhead o rest all → IsAhead (written o w) rest (written all w)
+ahead_written : (o all : Overlay) (rest : List Held) (w : Write) → IsAhead o rest all
+    → IsAhead (written o w) rest (written all w)
 ahead_written o all rest w ahead = record {
   pages = λ x. held_with_is all.pages w.addr w.page x ∙ ap (λ y. if addr_same w.addr x then Some w.page else y) (ahead.pages x) ∙ sym (ap (λ (t : PagesAt). t x) (laid_with o.pages (held_at rest) w.addr w.page));
   changed = ap (λ (l : List Addr). if is_some w.origin then l else joined l w.addr) ahead.changed;
   fresh = ap (λ n. if is_some w.origin then n + 1 else n) ahead.fresh;
 }
 
-ahead_all : (ws : List Write) (o all : Overlay) (rest : List Held) → IsAhead o rest all → IsAhead (all_written o ws) rest (all_written all ws)
+ahead_all : (ws : List Write) (o all : Overlay) (rest : List Held) → IsAhead o rest all
+    → IsAhead (all_written o ws) rest (all_written all ws)
 ahead_all [] o all rest ahead = ahead
 ahead_all (w ∷ ws) o all rest ahead = ahead_all ws (written o w) (written all w) rest (ahead_written o all rest w ahead)
 
 -- and so a step on the same path
-ahead_steps : (v : VersionNo) (o all : Overlay) (rest : List Held) (origins : List Addr) (step : Step) (path : List Held) → IsAhead o rest all → IsAhead (step_on v o step path) rest (step_on v all step path)
+ahead_steps : (v : VersionNo) (o all : Overlay) (rest : List Held) (origins : List Addr)
+    (step : Step) (path : List Held) → IsAhead o rest all
+    → IsAhead (step_on v o step path) rest (step_on v all step path)
 ahead_steps v o all rest origins step path ahead =
     subst (λ (x : Overlay). IsAhead x rest (step_on v all step path)) (sym (step_is v o origins step path))
     (subst (λ (x : Overlay). IsAhead (all_written o (step_writes v o.fresh origins step path)) rest x)
@@ -120,18 +132,26 @@ LeftBy reply after old o = ⊤
 
 module _ (parents : List (Option ℕ)) (v : VersionNo) (root : Addr) (old : Overlay) where
   -- the plain model's way of a step
-  same_way : (top : ℕ) (d : Drafted) (all : Overlay) (rest : List Held) (step : Step) (path : List Held) → top < max_path → AreLow top d.overlay.pages → IsAhead d.overlay rest all
-      → walk parents v.0 d.overlay.pages root (step_key step) ≡ Reached path → path_to max_path all.pages root (step_key step) [] ≡ Some path
+  same_way : (top : ℕ) (d : Drafted) (all : Overlay) (rest : List Held) (step : Step)
+      (path : List Held) → top < max_path → AreLow top d.overlay.pages → IsAhead d.overlay rest all
+      → walk parents v.0 d.overlay.pages root (step_key step) ≡ Reached path
+      → path_to max_path all.pages root (step_key step) [] ≡ Some path
   same_way top d all rest step path few low ahead way =
       path_more d.overlay.pages all.pages (step_key step) path (ahead_has d.overlay all rest ahead) max_path root []
       (below_max parents v.0 d.overlay.pages root (step_key step) path way (by_root (held_at d.overlay.pages root) refl))
     where
-      by_root : (x : Option Page) → held_at d.overlay.pages root ≡ x → option_map_or (λ p. height_of p.body) x 0 < max_path
+      by_root : (x : Option Page) → held_at d.overlay.pages root ≡ x
+          → option_map_or (λ p. height_of p.body) x 0 < max_path
       by_root None there = omega arith
       by_root (Some p) there = let is = low.each root p there in omega arith
 
-  run : (moves : List Move) (d after : Drafted) (all : Overlay) (top n : ℕ) (before : List (Option (List ℕ))) (steps : List Step) (reply : Reply) → max_height ≤ top → top + length steps ≤ max_path → AreLow top d.overlay.pages
-      → LeadsTo parents v root d moves after → AreAnswered parents v root d moves n before steps reply → IsAhead d.overlay (comes_in moves) all → (o : Overlay) × (steps_on v root old all steps ≡ Some o) × LeftBy reply after.overlay old o
+  run : (moves : List Move) (d after : Drafted) (all : Overlay) (top n : ℕ)
+      (before : List (Option (List ℕ))) (steps : List Step) (reply : Reply) → max_height ≤ top
+      → top + length steps ≤ max_path → AreLow top d.overlay.pages
+      → LeadsTo parents v root d moves after
+      → AreAnswered parents v root d moves n before steps reply
+      → IsAhead d.overlay (comes_in moves) all → (o : Overlay)
+      × (steps_on v root old all steps ≡ Some o) × LeftBy reply after.overlay old o
   run [] d after all top n before steps reply high few low leads answered ahead = (
     all,
     ap (steps_on v root old all) answered.0,
@@ -155,7 +175,8 @@ module _ (parents : List (Option ℕ)) (v : VersionNo) (root : Addr) (old : Over
       there : path_to max_path all.pages root (step_key step) [] ≡ Some path
       there = same_way top d all (comes_in moves) step path (omega arith) low ahead way
 
-      further : (t : Bool) → is_unmet (path_pairs path) step ≡ t → steps_on v root old all (step ∷ steps) ≡ (if t then Some old else steps_on v root old (step_on v all step path) steps)
+      further : (t : Bool) → is_unmet (path_pairs path) step ≡ t
+          → steps_on v root old all (step ∷ steps) ≡ (if t then Some old else steps_on v root old (step_on v all step path) steps)
       further t e =
           ap (option_and_then (λ p. if is_unmet (path_pairs p) step then Some old else steps_on v root old (step_on v all step p) steps)) there
           ∙ ap (λ b. if b then Some old else steps_on v root old (step_on v all step path) steps) e
@@ -163,7 +184,8 @@ module _ (parents : List (Option ℕ)) (v : VersionNo) (root : Addr) (old : Over
       by_check : ((is_unmet (path_pairs path) step ≡ true) × (moves ≡ []) × (reply ≡ Say.Unmet n (value_at (path_pairs path) (step_key step))))
           ⊎ ((is_unmet (path_pairs path) step ≡ false) × Rest)
           → (Rest → (o : Overlay) × (steps_on v root old (step_on v all step path) steps ≡ Some o) × LeftBy reply after.overlay old o)
-          → (o : Overlay) × (steps_on v root old all (step ∷ steps) ≡ Some o) × LeftBy reply after.overlay old o
+          → (o : Overlay) × (steps_on v root old all (step ∷ steps) ≡ Some o)
+          × LeftBy reply after.overlay old o
       by_check (inl (unmet, last, says)) later = (old, further true unmet, subst (λ (r : Reply). LeftBy r after.overlay old old) (sym says) refl)
       by_check (inr (met, rest)) later = let r = later rest in (r.0, further false met ∙ r.1, r.2)
 
@@ -174,9 +196,12 @@ starts rest = record { pages = λ x. refl; changed = refl; fresh = refl }
 none_low : AreLow max_height []
 none_low = record { each = λ x p there. absurd cc }
 
-plain : (parents : List (Option ℕ)) (v : VersionNo) (root : Addr) (moves : List Move) (d : Drafted) (steps : List Step) (reply : Reply) → LeadsTo parents v root no_pages moves d
+plain : (parents : List (Option ℕ)) (v : VersionNo) (root : Addr) (moves : List Move) (d : Drafted)
+    (steps : List Step) (reply : Reply) → LeadsTo parents v root no_pages moves d
     → AreAnswered parents v root no_pages moves 1 [] steps reply → length steps ≤ 16
-    → (o : Overlay) × (steps_on v root (overlay_of (comes_in moves)) (overlay_of (comes_in moves)) steps ≡ Some o) × LeftBy reply d.overlay (overlay_of (comes_in moves)) o
+    → (o : Overlay)
+    × (steps_on v root (overlay_of (comes_in moves)) (overlay_of (comes_in moves)) steps ≡ Some o)
+    × LeftBy reply d.overlay (overlay_of (comes_in moves)) o
 plain parents v root moves d steps reply leads answered few =
     run parents v root (overlay_of (comes_in moves)) moves no_pages d (overlay_of (comes_in moves)) max_height 1 [] steps reply (omega arith) (omega arith) none_low leads answered (starts (comes_in moves))
 

@@ -67,13 +67,15 @@ placed_are_put moves_read parents v root moves d slots leads long = record {
     distinct : AreDistinct (new_order d)
     distinct = distinct_all pages 0 d.overlay.fresh [] tt tt
 
-    slot_is : (n : ℕ) → n < d.overlay.fresh → placed_addr by (new_addr n) ≡ slot_of (new_order d) slots n
+    slot_is : (n : ℕ) → n < d.overlay.fresh
+        → placed_addr by (new_addr n) ≡ slot_of (new_order d) slots n
     slot_is n low = get_or-map-range_with_len (slot_of (new_order d) slots) 0 d.overlay.fresh n n (new_addr n) low (omega arith)
 
 -- Lengths
 
 -- five lists behind each other
-parts_length : (a b : List ℕ) (k : ℕ) (c : List ℕ) → length (a ++ b ++ k ∷ [] ++ c) ≡ length a + length b + 1 + length c
+parts_length : (a b : List ℕ) (k : ℕ) (c : List ℕ)
+    → length (a ++ b ++ k ∷ [] ++ c) ≡ length a + length b + 1 + length c
 parts_length a b k c =
     length-append (a ++ b ++ k ∷ []) c
     ∙ ap (λ n. n + length c) (length-append (a ++ b) (k ∷ []) ∙ ap (λ n. n + 1) (length-append a b))
@@ -82,7 +84,8 @@ high_length : (h : Option (List ℕ)) → IsBound h → length (high_bytes h) �
 high_length None is = omega arith
 high_length (Some key) is = let low = is.1 in omega arith
 
-pairs_length : (low : List ℕ) (high : Option (List ℕ)) (ps : List Pair) → AllByRecursion (IsFitting low high) ps → length (flat_map pair_bytes ps) ≤ 98 * length ps
+pairs_length : (low : List ℕ) (high : Option (List ℕ)) (ps : List Pair)
+    → AllByRecursion (IsFitting low high) ps → length (flat_map pair_bytes ps) ≤ 98 * length ps
 pairs_length low high [] all = omega arith
 pairs_length low high (p ∷ ps) all =
     let key = ((all.0).0).1 in
@@ -92,7 +95,8 @@ pairs_length low high (p ∷ ps) all =
     let both = length-append (pair_bytes p) (flat_map pair_bytes ps) in
     omega (arith, key, value, rest, one, both)
 
-children_length : (fresh : ℕ) (by : List Addr) (cs : List Child) → AllByRecursion (IsBranch fresh) cs
+children_length : (fresh : ℕ) (by : List Addr) (cs : List Child)
+    → AllByRecursion (IsBranch fresh) cs
     → length (flat_map child_bytes (map (λ c. child_at c.separator (placed_addr by c.addr)) cs)) ≤ 36 * length cs
 children_length fresh by [] all = omega arith
 children_length fresh by (c ∷ cs) all =
@@ -103,7 +107,8 @@ children_length fresh by (c ∷ cs) all =
     let both = length-append (child_bytes now) (flat_map child_bytes (map (λ x. child_at x.separator (placed_addr by x.addr)) cs)) in
     omega (arith, key, rest, one, both)
 
-body_length : (fresh top : ℕ) (by : List Addr) (low : List ℕ) (high : Option (List ℕ)) (b : Body) → IsFilled 8 fresh top low high b → length (body_bytes (placed_body by b)) ≤ 784
+body_length : (fresh top : ℕ) (by : List Addr) (low : List ℕ) (high : Option (List ℕ)) (b : Body)
+    → IsFilled 8 fresh top low high b → length (body_bytes (placed_body by b)) ≤ 784
 body_length fresh top by low high (Leaf pairs) is = let few = is.0 in let all = pairs_length low high pairs is.2 in omega arith
 body_length fresh top by low high (Inner height first rest) is =
     let few = is.3 in
@@ -111,7 +116,8 @@ body_length fresh top by low high (Inner height first rest) is =
     let both = length-append (addr_bytes (placed_addr by first)) (flat_map child_bytes (map (λ c. child_at c.separator (placed_addr by c.addr)) rest)) in
     omega (arith, few, all, both)
 
-page_length : (fresh top seq : ℕ) (by : List Addr) (p : Page) → IsSized fresh top p → length (page_bytes (placed_page by seq p)) ≡ 1024
+page_length : (fresh top seq : ℕ) (by : List Addr) (p : Page) → IsSized fresh top p
+    → length (page_bytes (placed_page by seq p)) ≡ 1024
 page_length fresh top seq by p is =
     let low = is.low.0 in
     let high = high_length p.high is.high in
@@ -120,7 +126,8 @@ page_length fresh top seq by p is =
     length-padded 1024 (page_text (placed_page by seq p))
     (fits (length (p.low ++ high_bytes p.high ++ count_in (placed_body by p.body) ∷ [] ++ body_bytes (placed_body by p.body))) (subst (λ n. n ≤ 851) (sym parts) (omega arith)))
   where
-    fits : (n : ℕ) → n ≤ 851 → suc (suc (suc (suc (suc (suc (suc (suc (suc (suc (suc (suc (suc (suc (suc (suc (suc (suc (suc (suc (suc n)))))))))))))))))))) ≤ 1024
+    fits : (n : ℕ) → n ≤ 851
+        → suc (suc (suc (suc (suc (suc (suc (suc (suc (suc (suc (suc (suc (suc (suc (suc (suc (suc (suc (suc (suc n)))))))))))))))))))) ≤ 1024
     fits n h = omega arith
 
 pub placed_fill_slots : PlacedFillSlots
@@ -137,20 +144,24 @@ placed_fill_slots parents v root moves d slots few steps leads =
     sized : AreSized top d.overlay
     sized = moves_sized parents v root moves d few steps leads
 
-    olds : (xs : List Addr) → AllByRecursion (λ h. length (page_bytes h.1) ≡ 1024) (map pair_of (flat_map (placed_old by d.overlay.pages) xs))
+    olds : (xs : List Addr)
+        → AllByRecursion (λ h. length (page_bytes h.1) ≡ 1024) (map pair_of (flat_map (placed_old by d.overlay.pages) xs))
     olds [] = tt
     olds (x ∷ xs) = cases (held_at d.overlay.pages x) refl (olds xs)
       where
-        cases : (o : Option Page) → held_at d.overlay.pages x ≡ o → AllByRecursion (λ h. length (page_bytes h.1) ≡ 1024) (map pair_of (flat_map (placed_old by d.overlay.pages) xs))
+        cases : (o : Option Page) → held_at d.overlay.pages x ≡ o
+            → AllByRecursion (λ h. length (page_bytes h.1) ≡ 1024) (map pair_of (flat_map (placed_old by d.overlay.pages) xs))
             → AllByRecursion (λ h. length (page_bytes h.1) ≡ 1024) (map pair_of (option_to_list (option_map (λ p. record { addr = x; page = placed_page by (next_number p.seq) p }) o) ++ flat_map (placed_old by d.overlay.pages) xs))
         cases None there rest = rest
         cases (Some p) there rest = (page_length d.overlay.fresh top (next_number p.seq) by p (sized.each x p there).1, rest)
 
-    news : (ns : List ℕ) → AllByRecursion (λ h. length (page_bytes h.1) ≡ 1024) (map pair_of (flat_map (placed_new by d.overlay.pages) ns))
+    news : (ns : List ℕ)
+        → AllByRecursion (λ h. length (page_bytes h.1) ≡ 1024) (map pair_of (flat_map (placed_new by d.overlay.pages) ns))
     news [] = tt
     news (n ∷ ns) = cases (held_at d.overlay.pages (new_addr n)) refl (news ns)
       where
-        cases : (o : Option Page) → held_at d.overlay.pages (new_addr n) ≡ o → AllByRecursion (λ h. length (page_bytes h.1) ≡ 1024) (map pair_of (flat_map (placed_new by d.overlay.pages) ns))
+        cases : (o : Option Page) → held_at d.overlay.pages (new_addr n) ≡ o
+            → AllByRecursion (λ h. length (page_bytes h.1) ≡ 1024) (map pair_of (flat_map (placed_new by d.overlay.pages) ns))
             → AllByRecursion (λ h. length (page_bytes h.1) ≡ 1024) (map pair_of (option_to_list (option_map (λ p. record { addr = placed_addr by (new_addr n); page = placed_page by p.seq p }) o) ++ flat_map (placed_new by d.overlay.pages) ns))
         cases None there rest = rest
         cases (Some p) there rest = (page_length d.overlay.fresh top p.seq by p (sized.each (new_addr n) p there).1, rest)
