@@ -61,7 +61,8 @@ AreAnswered parents v root d (Does step ∷ moves) n found (next ∷ steps) repl
     × ((path : List Held) → walk parents v.0 d.overlay.pages root (step_key step) ≡ Reached path
     → ((is_unmet (path_pairs path) step ≡ true) × (moves ≡ []) × (reply ≡ Unmet n (value_at (path_pairs path) (step_key step))))
     ⊎ ((is_unmet (path_pairs path) step ≡ false)
-    × AreAnswered parents v root (drafted_after v d step path) moves (n + 1) (found ++ noted_by (path_pairs path) step) steps reply))
+    × AreAnswered parents v root (drafted_after v d step path) moves (n + 1)
+    (found ++ noted_by (path_pairs path) step) steps reply))
 
 -- a page as it came in
 abbrev pub came_at : List Move → Addr → Option Page
