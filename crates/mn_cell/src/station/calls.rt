@@ -256,7 +256,7 @@ impl<N: Named, D: Disk> Station<N, D> {
         // A crash at any moment of the call leaves the node's records from before it, with the answer's one record or without.
         ensures moments { self.old.node.down ≡ false → (D.state self.old.node.disk).honest
             → LeavesOnly (D.state self.old.node.disk) (D.state self.new.node.disk)
-                (IsWithOrWithout self.old.node.node self.old.node.nodes self.old.node.records (response_to self.old.node request).added) }
+            (IsWithOrWithout self.old.node.node self.old.node.nodes self.old.node.records (response_to self.old.node request).added) }
     {
         let client = list.client();
         let _down = self.node.is_down();
@@ -349,7 +349,7 @@ impl<N: Named, D: Disk> Station<N, D> {
         // A crash at any moment of the call leaves the node's records, with the one that may have been there or without.
         ensures moments { (D.state self.old.node.disk).honest
             → LeavesOnly (D.state self.old.node.disk) (D.state self.new.node.disk)
-                (IsWithOrWithout self.old.node.node self.old.node.nodes self.old.node.records self.old.node.pending) }
+            (IsWithOrWithout self.old.node.node self.old.node.nodes self.old.node.records self.old.node.pending) }
         ensures failed { OnErr result (IsAsBefore self.old self.new × (self.old.node.down ≡ true) × (pass.new ≡ pass.old) × (list.new.entries ≡ list.old.entries)) }
         ensures room { list.old.room ≤ list.new.room + 1 }
     {
