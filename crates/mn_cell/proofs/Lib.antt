@@ -4,4 +4,3 @@ pub mod Owing
 pub mod OneLog
 pub mod Made
 pub mod Numbers
-pub mod Untouched

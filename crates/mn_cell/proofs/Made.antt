@@ -82,7 +82,7 @@ rose_later before old new rose le = omega (arith, rose, le)
 rose_since : (by before old new : ℕ) → RoseBy by before old → Rose old new → Rose before new
 rose_since by before old new rose more = omega (arith, rose, more)
 
-pub one_fault : (by before old new : ℕ) → RoseBy by before old → Rose old new → RoseBy (by + 1) before new
+one_fault : (by before old new : ℕ) → RoseBy by before old → Rose old new → RoseBy (by + 1) before new
 one_fault by before old new rose more = omega (arith, rose, more)
 
 -- What a stop asked for

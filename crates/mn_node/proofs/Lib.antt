@@ -10,7 +10,7 @@ pub mod Lasting
 pub mod Replayed
 pub mod BaseSpace
 pub mod Resting
-mod Replies
+pub mod Replies
 pub mod Found
 pub mod Apart
 pub mod Restarts
