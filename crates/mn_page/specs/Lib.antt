@@ -4,6 +4,7 @@ pub mod Forest
 pub mod Holds
 pub mod Laws
 pub mod Overlay
+pub mod SlotOrder
 pub mod Copies
 pub mod Added
 pub mod Written

@@ -30,6 +30,7 @@ pub mod Moved
 pub mod LeafWrites
 pub mod LeavesTell
 pub mod Told
+pub mod Sorted
 pub mod Plans
 pub mod Reached
 pub mod StepWrites

@@ -14,6 +14,7 @@ use Rattle.mn_page.specs.declared.page.Page.{Page}
 use Rattle.mn_page.specs.Grammar.{IsPage, IsKey, IsValue, IsAddr, height_of}
 use Rattle.mn_page.specs.Holds.{PagesAt, page_covers, page_serves}
 use Rattle.mn_page.specs.Overlay.{Held, held_at, is_new, new_addr, next_number}
+use Rattle.mn_page.specs.SlotOrder.{AreInSlotOrder}
 use Rattle.mn_tree.specs.Walk.{is_live}
 use Rattle.mn_tree.specs.State.{Drafted, no_pages}
 use Rattle.mn_tree.specs.Order.{changed_order, placed}
@@ -114,13 +115,15 @@ PlacedArePages =
 -- The plan's pages
 
 -- the pages that a plan writes: changed ones as they joined the read set, then new ones in the
--- slots given; they are in the grammar, and over the memory's pages they show the store
+-- slots given, in their order; they are in the grammar, and over the memory's pages they show the
+-- store
 pub record ArePlaced (entries : List CatEntry) (at : PagesAt) (after : Store) (moves : List Move) (d : Drafted) (slots : List Addr) : Type 0 where
   pub changed : List Held
   pub new : List Held
   pub are : map held_pair (placed slots d) ≡ changed ++ new
   pub in_order : map (λ h. h.addr) changed ≡ changed_order d
   pub in_slots : map (λ h. h.addr) new ≡ slots
+  pub ascend : AreInSlotOrder new
   pub next : AllByRecursion (λ h. (was : Page) × (came_at moves h.addr ≡ Some was) × (h.page.seq ≡ next_number was.seq)) changed
   pub first : AllByRecursion (λ h. h.page.seq ≡ 1) new
   pub pages : AllByRecursion (λ h. IsPage h.page) (changed ++ new)

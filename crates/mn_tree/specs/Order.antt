@@ -1,17 +1,12 @@
 -- In which order the pages of a plan stand, and which slots the new ones get.
-use Rattle.std.specs.Prelude.{ℕ, ◌+◌, slice_index_or, ◌&&◌, ◌||◌, Bool, false, nat_lt, nat_eq, List, [], ◌∷◌, ◌++◌, map, filter, Option, Some, None, if◌then◌else◌}
+use Rattle.std.specs.Prelude.{ℕ, ◌+◌, slice_index_or, Bool, false, nat_eq, List, [], ◌∷◌, ◌++◌, map, filter, Option, Some, None, if◌then◌else◌}
 use Rattle.std.specs.List.{list_any, flat_map, range_with_len}
 use Rattle.mn_base.specs.Ids.{addr_same}
-use Rattle.mn_base.specs.Order.{key_lt}
 use Rattle.mn_base.specs.declared.ids.Addr.{Addr}
 use Rattle.mn_page.specs.declared.page.Page.{Page}
-use Rattle.mn_page.specs.Grammar.{height_of}
 use Rattle.mn_page.specs.Overlay.{Held, held_at, new_addr, placed_old, placed_new}
+use Rattle.mn_page.specs.SlotOrder.{stands_first}
 use Rattle.mn_tree.specs.State.{Drafted}
-
--- lower pages stand first, at one height those to the left
-abbrev pub stands_first : Page → Page → Bool
-stands_first p q = nat_lt (height_of p.body) (height_of q.body) || (nat_eq (height_of p.body) (height_of q.body) && key_lt p.low q.low)
 
 abbrev pub both_stand : Option Page → Option Page → Bool
 both_stand None q = false

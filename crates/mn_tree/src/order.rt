@@ -2,8 +2,9 @@ ghost use Rattle.std.specs.Prelude.{◌≡◌, ◌≤◌, ◌^◌, ◌++◌, ◌
 ghost use Rattle.mn_base.specs.Order.{key_lt};
 ghost use Rattle.std.specs.List.{range_with_len};
 ghost use Rattle.mn_page.specs.Overlay.{new_addr, child_at, placed_addr, placed_page, placed_body};
+ghost use Rattle.mn_page.specs.SlotOrder.{stands_first};
 ghost use Rattle.mn_tree.specs.Walk.{helds};
-ghost use Rattle.mn_tree.specs.Order.{stands_first, precedes, with_number, with_numbers, place_in, slot_of, slots_by_number, is_changed, old_pages, new_pages};
+ghost use Rattle.mn_tree.specs.Order.{precedes, with_number, with_numbers, place_in, slot_of, slots_by_number, is_changed, old_pages, new_pages};
 
 use crate::held::{HeldPage, UNPLACED, is_among, page_at, resolved};
 use crate::walk::height;

@@ -20,11 +20,12 @@ use Rattle.mn_page.specs.Space.{max_slots}
 use Rattle.mn_page.specs.Forest.{Forest, node_count, page_at}
 use Rattle.mn_page.specs.Holds.{Holds, page_covers}
 use Rattle.mn_page.specs.Overlay.{Held}
+use Rattle.mn_page.specs.SlotOrder.{AreInSlotOrder}
 use Rattle.mn_page.proofs.Spelled.{page_length}
 use Rattle.mn_tree.specs.Trees.{is_noted}
 use Rattle.mn_tree.specs.Moves.{done_in, came_at, leaves_at}
 use Rattle.mn_tree.specs.MoveLaws.{AreTold}
-use Rattle.mn_world.specs.Planned.{Place, page_place, entry_place, count_place, IsPagePlace, IsWholePlace, ComeOnce, compare_places, write_places, IsCompared, HasNextNumber, IsPickOf, WritesPages, PlanActs}
+use Rattle.mn_world.specs.Planned.{Place, page_place, entry_place, count_place, IsPagePlace, IsWholePlace, ComeOnce, compare_places, write_places, IsCompared, HasNextNumber, IsPickOf, page_write, WritesPages, PlanActs}
 use Rattle.mn_world.specs.Growth.{GoOn, node_no, addrs_of}
 use Rattle.mn_txn.specs.declared.image.Image.{Image}
 use Rattle.mn_txn.specs.State.{is_at, AreApart}
@@ -101,6 +102,7 @@ module _ (f : Forest) (store : Store) (nodes : ℕ) (a : Attempt) (version : Sto
     pub news : AllByRecursion (λ h. (page_at f h.addr ≡ None) × (h.addr.node.0 < node_count f) × (h.addr.slot < max_slots) × (h.page.seq ≡ 1)) new
     pub pages : AllByRecursion (λ h. IsPage h.page) (changed ++ new)
     pub picks : IsPickOf (map page_place (addrs_of changed)) (map page_place addrs)
+    pub ascend : AreInSlotOrder new
 
   abbrev counts : List Place
   counts = map (λ n. count_place (node_no n)) giving
@@ -265,17 +267,28 @@ module _ (f : Forest) (store : Store) (nodes : ℕ) (a : Attempt) (version : Sto
     pub pages_written : WritesPages f mini
     pages_written = record {
       changed = addrs_of changed;
-      new = addrs_of new;
+      new = new;
       others = counts;
       written = written_are ∙ ap (λ (l : List Addr). map page_place l ++ counts) (map-append (λ (h : Held). h.addr) changed new);
       as_compared = subst (IsPickOf (map page_place (addrs_of changed))) (sym compared_are) (pick_behind (map page_place (addrs_of changed)) (map page_place addrs) (entries ++ counts) facts.picks);
       free = free new facts.news;
+      items = items new there_new (all_apart (λ h. IsPage h.page) changed new facts.pages).1;
+      in_order = facts.ascend;
       no_more = no_more giving;
     }
       where
-        free : (hs : List Held) → AllByRecursion (λ h. (page_at f h.addr ≡ None) × (h.addr.node.0 < node_count f) × (h.addr.slot < max_slots) × (h.page.seq ≡ 1)) hs → AllByRecursion (λ x. page_at f x ≡ None) (addrs_of hs)
+        free : (hs : List Held) → AllByRecursion (λ h. (page_at f h.addr ≡ None) × (h.addr.node.0 < node_count f) × (h.addr.slot < max_slots) × (h.page.seq ≡ 1)) hs → AllByRecursion (λ h. page_at f h.addr ≡ None) hs
         free [] all = tt
         free (h ∷ hs) all = ((all.0).0, free hs all.1)
+
+        there_new : (h : Held) → Contains new h → Contains mini.items (page_write h)
+        there_new h c =
+            Contains-append_right (map compare_of reads) (map write_of writes) (page_write h) (contains_map write_of writes (held_image h)
+            (Contains-append_left (map held_image (changed ++ new)) (map (λ n. count_image n (now n)) giving) (held_image h) (contains_map held_image (changed ++ new) h (Contains-append_right changed new h c))))
+
+        items : (hs : List Held) → ((h : Held) → Contains hs h → Contains mini.items (page_write h)) → AllByRecursion (λ h. IsPage h.page) hs → AllByRecursion (λ h. IsPage h.page × Contains mini.items (page_write h)) hs
+        items [] has pages = tt
+        items (h ∷ hs) has pages = ((pages.0, has h (0, omega arith, refl)), items hs (λ g c. has g (suc c.0, (let l = c.1 in omega arith), c.2)) pages.1)
 
         no_more : (ns : List ℕ) → AllByRecursion (λ place. IsPagePlace place → ⊥) (map (λ n. count_place (node_no n)) ns)
         no_more [] = tt

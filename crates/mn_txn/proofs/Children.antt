@@ -376,11 +376,13 @@ module _ (copies_are_pages : CopiesArePages) (next_slots_are_free : NextSlotsAre
     pub pages_written : WritesPages f mini
     pages_written = record {
       changed = c.entry.root ∷ [];
-      new = c.slot ∷ [];
+      new = new;
       others = others;
       written = written_are;
       as_compared = subst (IsPickOf (page_place c.entry.root ∷ [])) (sym compared_are) (inl (refl, tt));
       free = ((free.0).0.0, tt);
+      items = ((are_pages.1, (5, omega arith, refl)), tt);
+      in_order = (tt, tt);
       no_more = no_more ws;
     }
       where

@@ -20,6 +20,7 @@ use Rattle.mn_page.specs.Grammar.{IsPage, IsAddr, height_of}
 use Rattle.mn_page.specs.Forest.{Forest, node_count, page_at}
 use Rattle.mn_page.specs.Holds.{Holds, PagesAt}
 use Rattle.mn_page.specs.Overlay.{Held, next_number, placed_old}
+use Rattle.mn_page.specs.SlotOrder.{AreInSlotOrder}
 use Rattle.mn_page.proofs.Alike.{re_paired}
 use Rattle.mn_page.proofs.Spelled.{entry_length}
 use Rattle.mn_tree.specs.State.{Drafted}
@@ -119,6 +120,7 @@ record Settled (f : Forest) (memory : List (List ℕ)) (store : Store) (a : Atte
   are : map held_pair (placed a.slots a.draft) ≡ changed ++ new
   in_order : addrs_of changed ≡ changed_order a.draft
   in_slots : addrs_of new ≡ a.slots
+  ascend : AreInSlotOrder new
   next : AllByRecursion (λ h. (was : Page) × (came_at a.moves h.addr ≡ Some was) × (h.page.seq ≡ next_number was.seq)) changed
   first : AllByRecursion (λ h. h.page.seq ≡ 1) new
   pages : AllByRecursion (λ h. IsPage h.page) (changed ++ new)
@@ -230,6 +232,7 @@ module _ (moves_tell : MovesTell) (moves_read : MovesRead) (moves_come_once : Mo
     are = p.are;
     in_order = p.in_order;
     in_slots = p.in_slots;
+    ascend = p.ascend;
     next = p.next;
     first = p.first;
     pages = p.pages;
@@ -269,6 +272,7 @@ module _ (moves_tell : MovesTell) (moves_read : MovesRead) (moves_come_once : Mo
     are = ap (map held_pair) none.1;
     in_order = sym none.0;
     in_slots = sym no_slots;
+    ascend = tt;
     next = tt;
     first = tt;
     pages = tt;
@@ -308,6 +312,7 @@ module _ (moves_tell : MovesTell) (moves_read : MovesRead) (moves_come_once : Mo
         (all_unmapped (λ s. (page_at f s ≡ None) × (s.node.0 < node_count f) × (s.node.0 < 8) × (s.slot < max_slots)) (λ (h : Held). h.addr) settled.new
         (subst (AllByRecursion (λ s. (page_at f s ≡ None) × (s.node.0 < node_count f) × (s.node.0 < 8) × (s.slot < max_slots))) (sym settled.in_slots) free.0)) settled.first;
     pages = settled.pages;
+    ascend = settled.ascend;
     picks = subst (λ (l : List Addr). IsPickOf (map page_place l) (map page_place a.draft.read)) (sym settled.in_order) (pick_some page_place (is_changed a.draft.overlay.changed) a.draft.read);
   }
     where

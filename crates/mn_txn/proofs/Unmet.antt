@@ -76,6 +76,7 @@ module _ (moves_tell : MovesTell) (moves_read : MovesRead) (moves_come_once : Mo
       news = tt;
       pages = tt;
       picks = tt;
+      ascend = tt;
     }
 
     pub unmet_acts : PlanActs memory store holds (Tx a.name a.steps) (record { nodes = nodes; items = map compare_of compared ++ [] }) a.reply

@@ -15,6 +15,7 @@ pub mod LoneGet
 pub mod Scans
 pub mod ScansUnshown
 pub mod PlannedPut
+pub mod NewPages
 pub mod Tries
 pub mod BusyTries
 pub mod SevenTries

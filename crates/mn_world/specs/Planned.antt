@@ -16,9 +16,11 @@ use Rattle.mn_mini.specs.Flat.{bytes_in, space_in, mismatch_from, memory_after}
 use Rattle.mn_page.specs.declared.page.Page.{Page}
 use Rattle.mn_page.specs.declared.entry.CatEntry.{CatEntry}
 use Rattle.mn_page.specs.Space.{count_start, count_size, catalog_start, catalog_size, entry_size, entry_start, slots_start, slot_size, slot_start}
-use Rattle.mn_page.specs.Grammar.{height_of}
+use Rattle.mn_page.specs.Grammar.{height_of, page_bytes, IsPage}
 use Rattle.mn_page.specs.Forest.{Forest, page_at}
 use Rattle.mn_page.specs.Holds.{Holds, page_covers, page_serves}
+use Rattle.mn_page.specs.Overlay.{Held}
+use Rattle.mn_page.specs.SlotOrder.{AreInSlotOrder}
 
 -- Places
 
@@ -134,20 +136,27 @@ are_in_order [] = true
 are_in_order (i ∷ []) = true
 are_in_order (i ∷ (j ∷ is)) = item_may_precede i j && are_in_order (j ∷ is)
 
+abbrev pub page_write : Held → Item
+page_write h = Write h.addr.node (slot_start h.addr.slot) (page_bytes h.page)
+
 -- some of the places, in their order
 abbrev pub IsPickOf : List Place → List Place → Type 0
 IsPickOf [] places = ⊤
 IsPickOf (x ∷ xs) [] = ⊥
 IsPickOf (x ∷ xs) (place ∷ places) = ((x ≡ place) × IsPickOf xs places) ⊎ IsPickOf (x ∷ xs) places
 
--- the pages that are written: changed ones in the order of their compares, then new ones
+-- the pages that are written: changed ones in the order of their compares, then new ones in the
+-- order in which they get their slots
 pub record WritesPages (f : Forest) (mini : Mini) : Type 0 where
   pub changed : List Addr
-  pub new : List Addr
+  pub new : List Held
   pub others : List Place
-  pub written : write_places mini ≡ map page_place (changed ++ new) ++ others
+  pub written : write_places mini ≡ map page_place (changed ++ map (λ h. h.addr) new) ++ others
   pub as_compared : IsPickOf (map page_place changed) (compare_places mini)
-  pub free : AllByRecursion (λ addr. page_at f addr ≡ None) new
+  -- there was no page at the address of a new one, and what is written there is the page
+  pub free : AllByRecursion (λ h. page_at f h.addr ≡ None) new
+  pub items : AllByRecursion (λ h. IsPage h.page × Contains mini.items (page_write h)) new
+  pub in_order : AreInSlotOrder new
   pub no_more : AllByRecursion (λ place. IsPagePlace place → ⊥) others
 
 -- the range of a whole page, entry or count

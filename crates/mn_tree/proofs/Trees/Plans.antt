@@ -13,15 +13,17 @@ use Rattle.mn_base.specs.declared.op.Step.TheVariants.{Get, Put, Del, Check}
 use Rattle.mn_page.specs.declared.page.Page.{Page}
 use Rattle.mn_page.specs.Grammar.{IsPage}
 use Rattle.mn_page.specs.Overlay.{Held, Overlay, held_at, is_new, new_addr, next_number, placed_addr, placed_page, placed_old, placed_new, step_on}
+use Rattle.mn_page.specs.SlotOrder.{stands_first, AreInSlotOrder}
 use Rattle.mn_tree.specs.State.{Drafted, drafted_with, drafted_after, no_pages}
 use Rattle.mn_tree.specs.Trees.{laid_over, is_noted, IsShown, IsDraft}
-use Rattle.mn_tree.specs.Order.{precedes, with_number, with_numbers, new_order, place_in, slot_of, slots_by_number, is_changed, changed_order, placed}
+use Rattle.mn_tree.specs.Order.{both_stand, precedes, with_number, with_numbers, new_order, place_in, slot_of, slots_by_number, is_changed, changed_order, placed}
 use Rattle.mn_tree.specs.Laws.{held_pair}
 use Rattle.mn_tree.specs.Moves.{Move, Comes, Does, LeadsTo, done_in, came_at, only_at, pairs_after}
 use Rattle.mn_tree.specs.MoveLaws.{AreReads, MovesRead, PlacedArePages, MovesArePlaced, QuietMoves}
 use Rattle.mn_tree.proofs.Trees.Puts.{weaker}
 use Rattle.mn_tree.proofs.Trees.Fits.{passes}
 use Rattle.mn_tree.proofs.Trees.Ordered.{all_with, all_all, length_all, length_range}
+use Rattle.mn_tree.proofs.Trees.Sorted.{placed_stands, Ascend, ascend_all}
 use Rattle.mn_tree.proofs.Trees.Placing.{range_low}
 use Rattle.mn_tree.proofs.Trees.Placed.{as_held, placed_over}
 use Rattle.mn_tree.proofs.Trees.OnlyAt.{is_kept, kept, held_kept}
@@ -106,6 +108,22 @@ module _ (by : List Addr) (pages : List Held) where
       by_page None e rest = rest
       by_page (Some p) e rest = (all.0 p e, rest)
 
+  news_ascend : (ns : List ℕ) → Ascend pages ns → AreInSlotOrder (flat_map (placed_new by pages) ns)
+  news_ascend [] sorted = tt
+  news_ascend (n ∷ ns) sorted = by_page (held_at pages (new_addr n)) refl (news_ascend ns sorted.1)
+    where
+      behind : (p : Page) → held_at pages (new_addr n) ≡ Some p → (k : ℕ) → precedes pages k n ≡ false → (q : Page) → held_at pages (new_addr k) ≡ Some q → stands_first (placed_page by q.seq q) (placed_page by p.seq p) ≡ false
+      behind p e k off q held = placed_stands by q.seq p.seq q p ∙ (ap (λ (o : Option Page). both_stand o (Some p)) (sym held) ∙ (ap (both_stand (held_at pages (new_addr k))) (sym e) ∙ off))
+
+      by_page : (o : Option Page) → held_at pages (new_addr n) ≡ o → AreInSlotOrder (flat_map (placed_new by pages) ns)
+          → AreInSlotOrder (option_to_list (option_map (λ (p : Page). let r : Held = record { addr = placed_addr by (new_addr n); page = placed_page by p.seq p } in r) o) ++ flat_map (placed_new by pages) ns)
+      by_page None e rest = rest
+      by_page (Some p) e rest = (
+        all_news (λ g. stands_first g.page (placed_page by p.seq p) ≡ false) ns
+            (weaker (λ k. precedes pages k n ≡ false) (λ k. (q : Page) → held_at pages (new_addr k) ≡ Some q → stands_first (placed_page by q.seq q) (placed_page by p.seq p) ≡ false) (behind p e) ns sorted.0),
+        rest,
+      )
+
 flat_same : {X Y : Type 0} (f g : X → List Y) (P : X → Type 0) → ((x : X) → P x → f x ≡ g x) → (xs : List X) → AllByRecursion P xs → flat_map f xs ≡ flat_map g xs
 flat_same f g P same [] all = refl
 flat_same f g P same (x ∷ xs) all = ap (λ l. l ++ flat_map f xs) (same x all.0) ∙ ap (λ l. g x ++ l) (flat_same f g P same xs all.1)
@@ -122,6 +140,7 @@ moves_are_placed moves_read placed_are_pages entries at store parents v version 
   in_order = olds_at by d.overlay.pages (changed_order d) (weaker (λ a. is_changed d.overlay.changed a ≡ true) (λ a. (p : Page) × (held_at d.overlay.pages a ≡ Some p)) (λ a e. let h = reads.held a e in (h.1, h.3)) (changed_order d) changes);
   in_slots = news_at by d.overlay.pages (new_order d) (weaker (λ n. n < d.overlay.fresh) (λ n. (p : Page) × (held_at d.overlay.pages (new_addr n) ≡ Some p)) (λ n low. let h = reads.new n low in (h.0, h.1)) (new_order d) lows)
       ∙ (map_on (λ n. placed_addr by (new_addr n)) (slot_of (new_order d) slots) (λ n. n < d.overlay.fresh) slot_is (new_order d) lows ∙ slots_in_order (new_order d) slots distinct (order_long ∙ sym long));
+  ascend = news_ascend by d.overlay.pages (new_order d) (ascend_all d.overlay.pages [] (range_with_len 0 d.overlay.fresh) tt);
   next = all_olds by d.overlay.pages (λ h. (was : Page) × (came_at moves h.addr ≡ Some was) × (h.page.seq ≡ next_number was.seq)) (changed_order d)
       (weaker (λ a. is_changed d.overlay.changed a ≡ true) (λ a. (p : Page) → held_at d.overlay.pages a ≡ Some p → (was : Page) × (came_at moves a ≡ Some was) × (next_number p.seq ≡ next_number was.seq))
       (λ a e p held. let h = reads.held a e in (h.0, h.2, ap next_number (ap (λ (y : Page). y.seq) (same_page p h.1 (sym held ∙ h.3)) ∙ h.4))) (changed_order d) changes);

@@ -251,6 +251,8 @@ put_acts kept nodes name key value v e addr p pairs r memory store many holds on
         written = ap (λ (place : Place). place ∷ []) (place_same addr.node (20480 + 1024 * addr.slot) (length (page_bytes (new_leaf p pairs key value))) 1024 lq);
         as_compared = inl (sym (place_same addr.node (20480 + 1024 * addr.slot) (length (page_bytes p)) 1024 lp), tt);
         free = tt;
+        items = tt;
+        in_order = tt;
         no_more = tt;
       };
     }

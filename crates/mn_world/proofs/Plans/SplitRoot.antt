@@ -473,11 +473,13 @@ split_pages f v nodes e p n count lows first more can count_is lp =
     let right_is = place_same n (20480 + 1024 * (count + 1)) (length (page_bytes (right_page (split_of f e p n count lows first more)))) 1024 (page_length (right_page (split_of f e p n count lows first more)) can.right_spelled) in
     record {
       changed = e.root ∷ [];
-      new = slot_at n count ∷ slot_at n (count + 1) ∷ [];
+      new = record { addr = slot_at n count; page = left_page (split_of f e p n count lows first more) } ∷ record { addr = slot_at n (count + 1); page = right_page (split_of f e p n count lows first more) } ∷ [];
       others = count_place n ∷ [];
       written = four_same root_is left_is right_is;
       as_compared = inl (sym (place_same e.root.node (20480 + 1024 * e.root.slot) (length (page_bytes p)) 1024 lp), tt);
       free = (none_there _ (λ x. no_page f n count x (omega arith)), (none_there _ (λ x. no_page f n (count + 1) x (omega arith)), tt));
+      items = ((can.left_spelled, (4, omega arith, refl)), ((can.right_spelled, (5, omega arith, refl)), tt));
+      in_order = ((lt_nil first.key, tt), (tt, tt));
       no_more = ((λ is. page_not_count is.0 n (sym is.1)), tt);
     }
   where
