@@ -11,3 +11,4 @@ pub mod ClientLemmas
 pub mod Rosters
 pub mod StringLemmas
 pub mod StepLemmas
+pub mod Refusals

@@ -22,7 +22,7 @@ mod write;
 
 pub use elements::{Act, Mark, Point, ScriptClient};
 pub use error::ScriptError;
-pub use laws::{read_is_right, written_is_read};
+pub use laws::{read_is_right, refusal_is_first, written_is_read};
 pub use lists::{Acts, Clients, Ops, Points};
 pub use read::{read_script, split_line};
 pub use script::Script;

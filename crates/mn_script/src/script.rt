@@ -29,13 +29,7 @@ impl Model for Script {
 
 impl Script {
     /// The script of these parts, which meet the rules and limits.
-    pub(crate) fn of(
-        nodes: u8,
-        recoverers: u8,
-        clients: Clients,
-        points: Points,
-        schedule: Acts,
-    ) -> Self
+    pub fn of(nodes: u8, recoverers: u8, clients: Clients, points: Points, schedule: Acts) -> Self
         requires { IsScript (record { nodes = nodes; recoverers = recoverers; clients = clients; points = points; schedule = schedule }) }
         ensures { result ≡ record { nodes = nodes; recoverers = recoverers; clients = clients; points = points; schedule = schedule } }
     {
