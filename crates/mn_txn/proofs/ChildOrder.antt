@@ -1,20 +1,19 @@
 -- What a Snapshot or a Branch compares and writes stands in the order of items.
-use Rattle.std.proofs.Common.{◌≡◌, ℕ, ◌+◌, ◌*◌, ◌<◌, List, [], ◌∷◌, length, refl, ap, ◌∙◌, arith, if◌then◌else◌}
-use Rattle.std.specs.Prelude.{nat_eq, false, replicate}
+use Rattle.std.proofs.Common.{◌≡◌, ℕ, ◌+◌, ◌*◌, ◌<◌, List, [], ◌∷◌, refl, ap, ◌∙◌, arith, if◌then◌else◌}
+use Rattle.std.specs.Prelude.{nat_eq, false}
 use Rattle.std.specs.List.{AllByRecursion}
 use Rattle.std.specs.Ordering.{is_lt}
 use Rattle.std.proofs.lemmas.Bool.Decides.{nat_tests}
 use Rattle.mn_base.specs.declared.ids.Addr.{Addr}
 use Rattle.mn_base.specs.declared.ids.VersionNo.{VersionNo}
 use Rattle.mn_page.specs.declared.page.Page.{Page}
-use Rattle.mn_page.specs.declared.entry.CatEntry.{CatEntry}
 use Rattle.mn_world.specs.Planned.{place_rank}
 use Rattle.mn_world.proofs.Plans.Compares.{page_rank, entry_rank}
 use Rattle.mn_txn.specs.declared.image.Image.{Image}
 use Rattle.mn_txn.specs.declared.image.Turn.{Turn}
 use Rattle.mn_txn.specs.Order.{turn_of, turn_cmp, stands_before, placed, in_item_order}
-use Rattle.mn_txn.specs.Attempt.{page_image, count_image}
-use Rattle.mn_txn.specs.Children.{ChildTry, entry_image, unused_image, count_read, count_written, root_written, copy_written, child_written, child_reads, snapshot_writes, branch_writes, ChildrenStandInOrder}
+use Rattle.mn_txn.specs.Attempt.{page_image}
+use Rattle.mn_txn.specs.Children.{entry_image, unused_image, count_read, count_written, root_written, copy_written, child_written, child_reads, snapshot_writes, branch_writes, ChildrenStandInOrder}
 use Rattle.mn_page.specs.Added.{frozen_entry}
 use Rattle.mn_page.specs.Copies.{marked_for, copy_for}
 use Rattle.mn_txn.proofs.Turns.{IsUp}

@@ -501,11 +501,11 @@ module _ (copies_are_pages : CopiesArePages) (next_slots_are_free : NextSlotsAre
 
 -- The laws
 
-writable_one : (b : Bool) {o : Option _} → (if b then Some says.Frozen else o) ≡ None → (b ≡ false) × (o ≡ None)
+pub writable_one : (b : Bool) {o : Option _} → (if b then Some says.Frozen else o) ≡ None → (b ≡ false) × (o ≡ None)
 writable_one true e = absurd cc
 writable_one false e = (refl, e)
 
-frozen_one : (b : Bool) {o : Option _} → (if b then o else Some says.NotFrozen) ≡ None → (b ≡ true) × (o ≡ None)
+pub frozen_one : (b : Bool) {o : Option _} → (if b then o else Some says.NotFrozen) ≡ None → (b ≡ true) × (o ≡ None)
 frozen_one true e = (refl, e)
 frozen_one false e = absurd cc
 

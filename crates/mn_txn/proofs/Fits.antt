@@ -92,10 +92,10 @@ order_back P (x ∷ xs) all = let r = placed_back P x (in_item_order xs) all in 
 -- Images inside the space
 
 -- as the test of a plan has it
-abbrev IsIn : ℕ → Image → Type 0
+abbrev pub IsIn : ℕ → Image → Type 0
 IsIn nodes i = is_inside nodes i ≡ true
 
-in_space : (nodes : ℕ) (i : Image) (long : ℕ) → length i.bytes ≡ long → nodes ≤ 8
+pub in_space : (nodes : ℕ) (i : Image) (long : ℕ) → length i.bytes ≡ long → nodes ≤ 8
     → i.node.0 < nodes → 1 ≤ long → long ≤ 4096 → i.start + long ≤ 4214784 → IsIn nodes i
 in_space nodes i long is few low some short ends =
     and_from (nat_lt i.node.0 nodes) _ (lt-ltb i.node.0 nodes low)
@@ -103,11 +103,11 @@ in_space nodes i long is few low some short ends =
     (and_from (nat_le 1 (length i.bytes)) _ (le-leb 1 (length i.bytes) (omega arith))
     (and_from (nat_le (length i.bytes) 4096) _ (le-leb (length i.bytes) 4096 (omega arith)) (le-leb (i.start + length i.bytes) 4214784 (omega arith)))))
 
-page_in : (nodes : ℕ) (addr : Addr) (p : Page) → nodes ≤ 8 → addr.node.0 < nodes
+pub page_in : (nodes : ℕ) (addr : Addr) (p : Page) → nodes ≤ 8 → addr.node.0 < nodes
     → addr.slot < max_slots → length (page_bytes p) ≡ 1024 → IsIn nodes (page_image addr p)
 page_in nodes addr p few low slot long = in_space nodes (page_image addr p) 1024 long few low (omega arith) (omega arith) (omega arith)
 
-count_in_space : (nodes n count : ℕ) → nodes ≤ 8 → n < nodes → IsIn nodes (count_image n count)
+pub count_in_space : (nodes n count : ℕ) → nodes ≤ 8 → n < nodes → IsIn nodes (count_image n count)
 count_in_space nodes n count few low = in_space nodes (count_image n count) 8 refl few low (omega arith) (omega arith) (omega arith)
 
 inside_all : (nodes : ℕ) (xs : List Image) → AllByRecursion (IsIn nodes) xs
@@ -197,7 +197,7 @@ next_low counts (s ∷ slots) next = (
 
 -- The test of a plan
 
-test_passes : (t : State) → 1 ≤ length t.reads + length t.writes
+pub test_passes : (t : State) → 1 ≤ length t.reads + length t.writes
     → length t.reads + length t.writes ≤ 1024 → AllByRecursion (IsIn t.nodes) t.reads
     → AllByRecursion (IsIn t.nodes) t.writes → can_plan t ≡ true
 test_passes t some few reads writes =

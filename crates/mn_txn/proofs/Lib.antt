@@ -11,6 +11,8 @@ mod Done
 mod Unmet
 mod Children
 mod ChildOrder
+mod ChildPlan
+mod ChildTxn
 mod Slots
 mod Worn
 mod Fits

@@ -84,7 +84,7 @@ worn_some t (x ∷ xs) node start e = by_worn (is_worn t x) refl e (worn_some t 
 -- Bytes that were read
 
 -- an image that stands among others apart from it
-at_read : (xs : List Image) (i : Image) → AreApart xs → Contains xs i
+pub at_read : (xs : List Image) (i : Image) → AreApart xs → Contains xs i
     → bytes_at i.node i.start xs ≡ Some i.bytes
 at_read [] i apart (k, low, is) = absurd (omega arith)
 at_read (x ∷ xs) i apart (zero, low, is) =
@@ -103,7 +103,7 @@ in_order_back xs i c = Contains-permutation (in_item_order xs) xs i (IsPermutati
 number_is : (p : Page) → p.seq < 2 ^ 64 → big_number 8 (page_bytes p) ≡ p.seq
 number_is p low = big_number-reads_back 8 p.seq (drop 8 (page_bytes p)) (omega arith)
 
-last_is : (p : Page) → IsPage p → is_last (page_bytes p) ≡ nat_eq p.seq (2 ^ 64 - 1)
+pub last_is : (p : Page) → IsPage p → is_last (page_bytes p) ≡ nat_eq p.seq (2 ^ 64 - 1)
 last_is p is =
     ap (λ n. nat_le 8 n && nat_eq (big_number 8 (page_bytes p)) (2 ^ 64 - 1)) (page_length p is)
     ∙ ap (λ n. nat_eq n (2 ^ 64 - 1)) (number_is p is.seq_high)
@@ -115,7 +115,7 @@ not_last p is off =
     omega (arith, differs)
 
 -- a slot is no count's place
-no_count : (addr : Addr) → nat_eq (20480 + 1024 * addr.slot) 16 ≡ false
+pub no_count : (addr : Addr) → nat_eq (20480 + 1024 * addr.slot) 16 ≡ false
 no_count addr = ne_eqb (20480 + 1024 * addr.slot) 16 (λ e. absurd (omega arith))
 
 -- what was read where a place is worn

@@ -4,5 +4,6 @@ pub mod Plan
 pub mod Laws
 pub mod Attempt
 pub mod Children
+pub mod ChildPlan
 pub mod Slots
 pub mod Tries

@@ -1,6 +1,7 @@
 //! What a try of an operation read and is to write, and the minitransaction that it plans.
 #![tactic(auto)]
 
+mod child;
 mod error;
 mod image;
 mod laws;
@@ -8,6 +9,7 @@ mod place;
 mod tries;
 mod txn;
 
+pub use child::{branch_plan, snapshot_plan};
 pub use error::PlanError;
 pub use image::Image;
 pub use laws::{
