@@ -22,8 +22,3 @@ pub use tries::{
     unmet_may_be_planned, worn_is_changed, worn_pages_show,
 };
 pub use txn::Txn;
-
-#[cfg(test)]
-mod tests;
-#[cfg(test)]
-mod tree_tests;

@@ -4,7 +4,7 @@ use Rattle.std.specs.Bool.{OnTrue}
 use Rattle.std.specs.List.{AllByRecursion, list_all}
 use Rattle.std.proofs.lemmas.Bool.{eqb-true}
 use Rattle.mn_mini.specs.Mini.{space_size}
-use Rattle.mn_txn.proofs.tree_tests.may_be_checked.Goals as goal
+use Rattle.mn_tests.proofs.memory.may_be_checked.Goals as goal
 
 and_split : (a b : Bool) → (a && b) ≡ true → (a ≡ true) × (b ≡ true)
 and_split true b e = (refl, e)

@@ -1,8 +1,8 @@
 //! Plans by place and byte for byte, where there is memory.
 
-use crate::{PlanError, Txn};
 use mn_base::{Addr, Bytes, NoMemory, NodeNo};
 use mn_mini::{Item, Minitransaction};
+use mn_txn::{PlanError, Txn};
 use std::alloc::Global;
 use std::test::Fail;
 
@@ -20,7 +20,8 @@ fn rewrite(alloc: Global, txn: &mut Txn, node: NodeNo, start: u32) -> Result<(),
     txn.write(node, start, Bytes::from_vec(NEW.to_vec(alloc)?))
 }
 
-/// A transaction on three nodes that compares these places and writes them, with one more page that it read dirty.
+/// A transaction on three nodes that compares these places and writes them, with one more page that
+/// it read dirty.
 fn rewrites(alloc: Global, places: &[(u8, u32)]) -> Result<Txn, NoMemory> {
     let mut txn = Txn::new(alloc, 3)?;
     let other = Addr {
