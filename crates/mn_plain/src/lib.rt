@@ -8,6 +8,7 @@ mod store;
 mod version;
 
 pub use digest::digest_of;
+pub use pairs::value_of;
 pub use store::{MAX_VERSIONS, Store};
 pub use version::Kept;
 

@@ -8,7 +8,9 @@ use crate::digest::digest_of;
 use crate::pairs::within;
 use crate::steps::{reply_to, take_steps};
 use crate::version::{Kept, Place};
-use mn_base::{Key, Listing, Name, NoMemory, Op, Pairs, Reply, Steps, TryCopy, Version, VersionNo};
+use mn_base::{
+    Key, Listing, Name, NoMemory, Op, Pairs, Reply, Steps, TryCopy, Version, VersionNo, copies_of,
+};
 use std::alloc::Global;
 use std::marker::Model;
 use std::mem;
@@ -337,5 +339,13 @@ impl Store {
         ensures { IfOk result (λ digest. IsSomeAnd (slice_get self.now version.0) (λ kept. digest ≡ pairs_digest kept.pairs)) }
     {
         digest_of(alloc, self.pairs(version).as_slice())
+    }
+}
+
+impl TryCopy for Store {
+    fn try_copy(&self, alloc: Global) -> Result<Self, NoMemory> {
+        Ok(Store {
+            versions: copies_of(alloc, &self.versions)?,
+        })
     }
 }

@@ -20,3 +20,4 @@ pub mod Causes
 pub mod OneHistory
 pub mod Undisturbed
 pub mod Scans
+pub mod CommitReader

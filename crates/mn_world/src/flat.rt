@@ -21,9 +21,9 @@ use std::alloc::Global;
 use std::collections::{HashMap, HashSet};
 use std::mem;
 
-/// An id as what is kept of it is looked up.
+/// An id as what is kept of it is looked up in a map.
 #[derive(Clone, Copy, PartialEq, Eq, Hash)]
-struct IdKey {
+pub struct IdKey {
     run: u32,
     client: u8,
     serial: u32,
@@ -38,7 +38,7 @@ struct VoteKey {
 
 /// What the entries so far tell of ids and nodes.
 #[derive(Drop)]
-struct Standing<'a> {
+pub struct Standing<'a> {
     /// The last minitransaction that was issued under each id.
     issued: HashMap<IdKey, &'a Minitransaction>,
     /// The ids for which a node has voted yes, with the node.
@@ -51,7 +51,7 @@ struct Standing<'a> {
 const NODE_NUMBERS: usize = 256;
 
 /// No entry tells anything.
-fn nothing<'a>(alloc: Global) -> Result<Standing<'a>, NoMemory>
+pub fn nothing<'a>(alloc: Global) -> Result<Standing<'a>, NoMemory>
     ensures length { IfOk result (λ s. length s.stopped.items ≡ 256) }
     ensures tells { IfOk result (λ s. Tells s []) }
 {
@@ -62,7 +62,8 @@ fn nothing<'a>(alloc: Global) -> Result<Standing<'a>, NoMemory>
     })
 }
 
-fn id_key(tid: Tid) -> IdKey
+/// The id, to look up what is kept of it.
+pub fn id_key(tid: Tid) -> IdKey
     ensures { result ≡ id_key tid }
 {
     IdKey {
@@ -217,7 +218,7 @@ fn note_issued<'a>(standing: &mut Standing<'a>, what: &'a What) -> Result<(), No
 }
 
 /// The request that takes effect at the entry.
-fn effect_in<'a>(standing: &Standing<'a>, entry: &'a Entry) -> Option<&'a Request>
+pub fn effect_in<'a>(standing: &Standing<'a>, entry: &'a Entry) -> Option<&'a Request>
     requires { length standing.now.stopped.items ≡ 256 }
     ensures { (past : List Entry) → Tells standing.now past → option_map (λ r. r.now) result ≡ effect_of_entry past entry.now }
 {
@@ -228,7 +229,7 @@ fn effect_in<'a>(standing: &Standing<'a>, entry: &'a Entry) -> Option<&'a Reques
 }
 
 /// What commits at the entry, at which `effect` takes effect.
-fn committed_in<'a>(
+pub fn committed_in<'a>(
     standing: &Standing<'a>,
     entry: &Entry,
     effect: Option<&Request>,
@@ -242,7 +243,7 @@ fn committed_in<'a>(
 }
 
 /// Adds the entry, at which `effect` takes effect.
-fn note<'a>(
+pub fn note<'a>(
     standing: &mut Standing<'a>,
     entry: &'a Entry,
     effect: Option<&Request>,

@@ -2,14 +2,16 @@
 //! minitransaction is committed, and what memory the committed ones make.
 #![tactic(auto)]
 
+mod commit_reader;
 mod entry;
 mod flat;
 mod law;
 mod laws;
 mod lists;
 
+pub use commit_reader::{CommitReader, CommittedMini};
 pub use entry::{Entry, What};
-pub use flat::flat_after;
+pub use flat::{IdKey, flat_after, id_key};
 pub use law::CoreLaw;
 pub use laws::{
     abandoned_is_never, abandoned_lacks_vote, commits_are_flat, commits_once, committed_stands,

@@ -1,0 +1,107 @@
+-- Which reply one read of a client shows, told by the catalog that the client had read last before.
+use Rattle.std.specs.Prelude.{ℕ, ◌≡◌, Bool, true, false, ◌&&◌, nat_eq, List, [], ◌∷◌, Option, Some, None}
+use Rattle.std.specs.Prelude.{⊤, Contains}
+use Rattle.std.specs.Option.{option_map, option_map_or}
+use Rattle.mn_base.specs.Ids.{node_same}
+use Rattle.mn_base.specs.Order.{covers_key}
+use Rattle.mn_base.specs.Store.{number_named, value_at}
+use Rattle.mn_base.specs.declared.op.Op.{Op}
+use Rattle.mn_base.specs.declared.op.Step.{Step}
+use Rattle.mn_base.specs.declared.op.Step.TheVariants.{Get}
+use Rattle.mn_base.specs.declared.reply.Pair.{Pair}
+use Rattle.mn_base.specs.declared.reply.Reply.{Reply}
+use Rattle.mn_base.specs.declared.reply.Reply.TheVariants as Say
+use Rattle.mn_catalog.specs.Grammar.{SpellsCatalog}
+use Rattle.mn_page.specs.declared.entry.CatEntry.{CatEntry}
+use Rattle.mn_page.specs.declared.page.Body.{Body}
+use Rattle.mn_page.specs.declared.page.Body.TheVariants.{Leaf, Inner}
+use Rattle.mn_page.specs.declared.page.Page.{Page}
+use Rattle.mn_page.specs.Forest.{heads_in}
+use Rattle.mn_page.specs.Grammar.{SpellsPage}
+use Rattle.mn_page.specs.Holds.{page_covers, page_serves}
+use Rattle.mn_world.specs.declared.entry.Entry.{Entry}
+use Rattle.mn_world.specs.Shown.{Seen, seen_in, IsCatalogRead, CatalogReplies, ReadShows}
+use Rattle.mn_hist.specs.declared.shown.Read.{Read}
+
+-- the read as a client's list shows it
+abbrev pub seen_of : Read → Seen
+seen_of r = record { place = record { node = r.node; start = r.start; length = r.length }; bytes = r.bytes.now }
+
+-- a test decides a statement
+abbrev pub Decides : Bool → Type 0 → Type 0
+Decides true T = T
+Decides false T = T → ⊥
+
+-- it is a read of the catalog's place
+abbrev pub is_of_catalog : Seen → Bool
+is_of_catalog seen =
+    nat_eq seen.place.node.0 0 && (nat_eq seen.place.start 64 && nat_eq seen.place.length 4096)
+
+-- the list shows these bytes as a catalog that was read
+abbrev pub HasCatalog : List Entry → Option (List ℕ) → Type 0
+HasCatalog es None = ⊤
+HasCatalog es (Some bytes) =
+    (seen : Seen) × Contains (seen_in es) seen × IsCatalogRead seen × (seen.bytes ≡ bytes)
+
+-- the read shows the reply to the operation, where this catalog was read before it
+abbrev pub IsShown : Option (List ℕ) → Seen → Op → Reply → Type 0
+IsShown catalog seen op reply = (es : List Entry) → HasCatalog es catalog → ReadShows es seen op reply
+
+-- it doesn't, whatever was read before it
+abbrev pub IsUnshown : Seen → Op → Reply → Type 0
+IsUnshown seen op reply = (es : List Entry) → ReadShows es seen op reply → ⊥
+
+-- whether it does
+abbrev pub Tells : Bool → Option (List ℕ) → Seen → Op → Reply → Type 0
+Tells true catalog seen op reply = IsShown catalog seen op reply
+Tells false catalog seen op reply = IsUnshown seen op reply
+
+-- Catalogs
+
+-- the bytes spell a catalog that shows the reply
+abbrev pub CatalogTells : List ℕ → Op → Reply → Type 0
+CatalogTells bytes op reply =
+    (entries : List CatEntry) × SpellsCatalog bytes entries
+    × CatalogReplies (heads_in entries) op reply
+
+-- Leaves
+
+-- the key of a lone Get
+abbrev pub lone_key : List Step → Option (List ℕ)
+lone_key (Get key ∷ []) = Some key
+lone_key steps = None
+
+-- what a leaf that covers the key has there
+abbrev pub found_in : Body → List ℕ → Option (Option (List ℕ))
+found_in (Leaf pairs) key = Some (value_at pairs key)
+found_in (Inner height first rest) key = None
+
+abbrev pub found_at : Bool → Body → List ℕ → Option (Option (List ℕ))
+found_at true body key = found_in body key
+found_at false body key = None
+
+abbrev pub leaf_value : Page → List ℕ → Option (Option (List ℕ))
+leaf_value page key = found_at (page_covers key page) page.body key
+
+-- the catalog that these bytes spell says that the page serves the version of this name
+abbrev pub ServesBy : List ℕ → List ℕ → Page → Type 0
+ServesBy bytes name page =
+    (entries : List CatEntry) × SpellsCatalog bytes entries × (v : ℕ)
+    × (number_named (heads_in entries) name ≡ Some v) × (page_serves entries v page ≡ true)
+
+abbrev pub IsServedBy : Option (List ℕ) → List ℕ → Page → Type 0
+IsServedBy None name page = ⊥
+IsServedBy (Some bytes) name page = ServesBy bytes name page
+
+-- the bytes spell a leaf that shows the reply to a lone Get of the key
+pub record LeafGives (bytes key : List ℕ) (reply : Reply) (page : Page) : Type 0 where
+  pub spelled : SpellsPage bytes page
+  pub value : Option (List ℕ)
+  pub found : leaf_value page key ≡ Some value
+  pub is : reply ≡ Say.Values (value ∷ [])
+
+-- whether they do, where a leaf that does serves the version of this name by the catalog
+abbrev pub LeafTells : Bool → Option (List ℕ) → List ℕ → List ℕ → List ℕ → Reply → Type 0
+LeafTells true catalog bytes name key reply =
+    (page : Page) × LeafGives bytes key reply page × IsServedBy catalog name page
+LeafTells false catalog bytes name key reply = (page : Page) → LeafGives bytes key reply page → ⊥

@@ -1,0 +1,361 @@
+//! What a read of a client shows: the catalog, or a leaf.
+ghost use Rattle.std.specs.Prelude.{◌≡◌, ◌+◌, ◌*◌, ◌∷◌, [], ℕ, true, ⊤, IfOk, OnOk, List, MatchOption};
+ghost use Rattle.std.specs.Option.{option_map, option_to_list};
+ghost use Rattle.mn_base.specs.Store.{listed, listing_of};
+ghost use Rattle.mn_base.specs.Tree.{parents_of};
+ghost use Rattle.mn_base.specs.declared.ids.Addr.{Addr as Place};
+ghost use Rattle.mn_base.specs.declared.reply.Reply.TheVariants as Say;
+ghost use Rattle.mn_catalog.specs.Grammar.{SpellsCatalog};
+ghost use Rattle.mn_page.specs.Forest.{entry_head, heads_in};
+ghost use Rattle.mn_page.specs.Grammar.{SpellsPage};
+ghost use Rattle.mn_page.specs.declared.entry.CatEntry.{CatEntry as Head};
+ghost use Rattle.mn_page.specs.declared.page.Page.{Page as Leaf};
+ghost use Rattle.mn_world.specs.Planned.{page_place};
+ghost use Rattle.mn_world.specs.Shown.{seen_by, seen_at, CatalogReplies};
+ghost use Rattle.mn_hist.specs.Shown.{seen_of, Decides, is_of_catalog, Tells, CatalogTells};
+ghost use Rattle.mn_hist.specs.Shown.{LeafTells, lone_key, leaf_value, IsServedBy};
+
+use mn_base::{Key, Name, NoMemory, NodeNo, Op, Reply, Step, Steps, Value, Version};
+use mn_catalog::{CatError, Catalog};
+use mn_fence::covers;
+use mn_mini::{NodeReply, PartItem, Request};
+use mn_page::{Body, CatEntry, Page, PageError};
+use mn_plain::value_of;
+use mn_vtree::VersionTree;
+use mn_world::{Entry, What};
+use std::alloc::Global;
+
+/// The node of the catalog, its place there, and how many bytes it has.
+const CATALOG_NODE: NodeNo = NodeNo(0);
+
+const CATALOG_START: u32 = 64;
+
+const CATALOG: u32 = 4_096;
+
+/// Where the slots begin, and how many bytes one has.
+const SLOTS_START: u32 = 20_480;
+
+const SLOT: u32 = 1_024;
+
+/// A read that was done, with its bytes.
+#[derive(Clone, Copy)]
+pub struct Read<'a> {
+    pub node: NodeNo,
+    pub start: u32,
+    pub length: u32,
+    pub bytes: &'a [u8],
+}
+
+/// Whether a slot begins there.
+fn is_slot(start: u32) -> bool
+    ensures { Decides result ((slot : ℕ) × (20480 + 1024 * slot ≡ start)) }
+{
+    if start < SLOTS_START {
+        return false;
+    }
+    let slot = (start - SLOTS_START) / SLOT;
+    SLOT * slot == start - SLOTS_START
+}
+
+/// The read that a call brings: one of one read item that was done.
+fn read_by<'a>(node: NodeNo, request: &Request, reply: &'a NodeReply) -> Option<Read<'a>>
+    ensures { option_to_list (option_map seen_of result) ≡ seen_by node request.now reply.now }
+{
+    let (Request::Exec { part, .. }, NodeReply::Done { reads }) = (request, reply) else {
+        return None;
+    };
+    match (part.as_slice(), reads.as_slice()) {
+        ([PartItem::Read { start, length }], [bytes]) => Some(Read {
+            node,
+            start: *start,
+            length: *length,
+            bytes: bytes.as_slice(),
+        }),
+        _ => None,
+    }
+}
+
+impl<'a> Read<'a> {
+    /// The read that an entry brings, if it does.
+    pub fn of(entry: &'a Entry) -> Option<Read<'a>>
+        ensures { option_to_list (option_map seen_of result) ≡ seen_at entry.now }
+    {
+        match (entry.node, &entry.what) {
+            (Some(node), What::Called { request, reply }) => read_by(node, request, reply),
+            _ => None,
+        }
+    }
+
+    /// Whether it is a read of the catalog.
+    pub fn is_catalog(&self) -> bool
+        ensures { result ≡ is_of_catalog (seen_of self.now) }
+    {
+        self.node == CATALOG_NODE && self.start == CATALOG_START && self.length == CATALOG
+    }
+
+    /// Whether it is a read of a page.
+    fn is_page(&self) -> bool
+        ensures { Decides result ((addr : Place) × ((seen_of self.now).place ≡ page_place addr)) }
+    {
+        self.length == SLOT && is_slot(self.start)
+    }
+}
+
+/// The catalog that the bytes spell.
+fn catalog_in(alloc: Global, bytes: &[u8]) -> Result<Option<Catalog>, NoMemory>
+    ensures { IfOk result (λ found. MatchOption found ((entries : List Head) → SpellsCatalog bytes.now entries → ⊥) (λ catalog. SpellsCatalog bytes.now catalog × ((entries : List Head) → SpellsCatalog bytes.now entries → catalog ≡ entries))) }
+{
+    match Catalog::read(alloc, bytes) {
+        Ok(catalog) => Ok(Some(catalog)),
+        Err(CatError::NoMemory) => Err(NoMemory),
+        Err(CatError::BadCatalog { .. }) => Ok(None),
+    }
+}
+
+/// Whether the reply is this refusing one. None where that one doesn't refuse.
+fn is_refusal(refusal: &Reply, reply: &Reply) -> Option<bool>
+    ensures { MatchOption result ⊤ (λ same. Decides same (refusal.now ≡ reply.now)) }
+{
+    match (refusal, reply) {
+        (Reply::NoVersion, Reply::NoVersion) => Some(true),
+        (Reply::Frozen, Reply::Frozen) => Some(true),
+        (Reply::NotFrozen, Reply::NotFrozen) => Some(true),
+        (Reply::NameTaken, Reply::NameTaken) => Some(true),
+        (Reply::VersionsFull, Reply::VersionsFull) => Some(true),
+        (Reply::NoVersion, _) => Some(false),
+        (Reply::Frozen, _) => Some(false),
+        (Reply::NotFrozen, _) => Some(false),
+        (Reply::NameTaken, _) => Some(false),
+        (Reply::VersionsFull, _) => Some(false),
+        _ => None,
+    }
+}
+
+/// The name of the parent of an entry among these.
+fn parent_name<'a>(entries: &'a [CatEntry], entry: &CatEntry) -> Option<&'a Name>
+    ensures { option_map (λ n. n.now) result ≡ (listed (heads_in entries.now) (entry_head entry.now)).parent }
+{
+    let parent = entry.parent?;
+    match entries.get(usize::from(parent.0)) {
+        Some(parent) => Some(&parent.name),
+        None => None,
+    }
+}
+
+fn same_names(one: Option<&Name>, other: Option<&Name>) -> bool
+    ensures { result ≡ true → option_map (λ n. n.now) one.entry ≡ option_map (λ n. n.now) other.entry }
+{
+    match (one, other) {
+        (Some(one), Some(other)) => one.as_slice() == other.as_slice(),
+        (None, None) => true,
+        _ => false,
+    }
+}
+
+/// Whether the version is listed so by these entries.
+fn is_listed(entries: &[CatEntry], entry: &CatEntry, version: &Version) -> bool
+    ensures { result ≡ true → version.now ≡ listed (heads_in entries.now) (entry_head entry.now) }
+{
+    version.name.as_slice() == entry.name.as_slice()
+        && version.frozen == entry.frozen
+        && same_names(version.parent.as_ref(), parent_name(entries, entry))
+}
+
+/// Whether the versions are listed so by these entries.
+fn are_listed(entries: &[CatEntry], versions: &[Version]) -> bool
+    ensures { result ≡ true → versions.now ≡ listing_of (heads_in entries.now) }
+{
+    if versions.len() != entries.len() {
+        return false;
+    }
+    for at in 0..versions.len() {
+        if !is_listed(entries, &entries[at], &versions[at]) {
+            return false;
+        }
+    }
+    true
+}
+
+/// Whether these entries show the reply.
+fn entries_show(catalog: &Catalog, op: &Op, reply: &Reply) -> Result<bool, NoMemory>
+    ensures { IfOk result (λ b. Decides b (CatalogReplies (heads_in catalog.now) op.now reply.now)) }
+{
+    if let Op::Versions = op {
+        let Reply::Listing { versions } = reply else {
+            return Ok(false);
+        };
+        if are_listed(catalog.entries(), versions.as_slice()) {
+            return Ok(true);
+        }
+        return Err(NoMemory);
+    }
+    let Some(refusal) = catalog.admit(op) else {
+        return Ok(false);
+    };
+    is_refusal(&refusal, reply).ok_or(NoMemory)
+}
+
+/// Whether the catalog that the bytes spell shows the reply.
+fn catalog_shows(alloc: Global, bytes: &[u8], op: &Op, reply: &Reply) -> Result<bool, NoMemory>
+    ensures { IfOk result (λ b. Decides b (CatalogTells bytes.now op.now reply.now)) }
+{
+    match catalog_in(alloc, bytes)? {
+        Some(catalog) => entries_show(&catalog, op, reply),
+        None => Ok(false),
+    }
+}
+
+/// The tree of the versions of these entries, if each parent has a lower number.
+fn tree_of(alloc: Global, entries: &[CatEntry]) -> Result<VersionTree, NoMemory>
+    ensures { IfOk result (λ tree. tree ≡ parents_of (heads_in entries.now)) }
+{
+    let mut parents = Vec::with_capacity(alloc, entries.len())?;
+    for entry in entries {
+        parents.push(entry.parent)?;
+    }
+    match VersionTree::new(alloc, &parents) {
+        Ok(tree) => Ok(tree),
+        Err(_) => Err(NoMemory),
+    }
+}
+
+/// Finds that the page serves the version of this name, by the catalog that these bytes spell.
+/// NoMemory: there was no memory to tell, or it doesn't.
+fn expect_served(
+    alloc: Global,
+    catalog: Option<&[u8]>,
+    name: &Name,
+    page: &Page,
+) -> Result<(), NoMemory>
+    ensures { OnOk result (IsServedBy (option_map (λ c. c.now) catalog.entry) name.now page.now) }
+{
+    let Some(bytes) = catalog else {
+        return Err(NoMemory);
+    };
+    let Some(catalog) = catalog_in(alloc, bytes)? else {
+        return Err(NoMemory);
+    };
+    let Some(version) = catalog.find(name) else {
+        return Err(NoMemory);
+    };
+    let tree = tree_of(alloc, catalog.entries())?;
+    if tree.serves(page.made, page.copied, version) {
+        Ok(())
+    } else {
+        Err(NoMemory)
+    }
+}
+
+/// The key of a lone Get.
+fn lone_get(steps: &Steps) -> Option<&Key>
+    ensures { option_map (λ k. k.now) result ≡ lone_key steps.now }
+{
+    match steps.as_slice() {
+        [Step::Get { key }] => Some(key),
+        _ => None,
+    }
+}
+
+/// What a leaf that covers the key has there.
+fn value_in<'a>(page: &'a Page, key: &Key) -> Option<Option<&'a Value>>
+    ensures { option_map (λ found. option_map (λ v. v.now) found) result ≡ leaf_value page.now key.now }
+{
+    let high = match &page.high {
+        Some(high) => Some(high.as_slice()),
+        None => None,
+    };
+    if !covers(page.low.as_slice(), high, key.as_slice()) {
+        return None;
+    }
+    match &page.body {
+        Body::Leaf { pairs } => Some(value_of(pairs.as_slice(), key)),
+        Body::Inner { .. } => None,
+    }
+}
+
+/// Whether the two are one value, or neither is there.
+fn is_same_value(found: &Option<Value>, value: Option<&Value>) -> bool
+    ensures { Decides result (found.now ≡ option_map (λ v. v.now) value.entry) }
+{
+    match (found, value) {
+        (Some(found), Some(value)) => found.as_slice() == value.as_slice(),
+        (None, None) => true,
+        _ => false,
+    }
+}
+
+/// Whether the reply is that of a lone Get which finds this.
+fn is_found(reply: &Reply, value: Option<&Value>) -> bool
+    ensures { Decides result (reply.now ≡ Say.Values (option_map (λ v. v.now) value.entry ∷ [])) }
+{
+    let Reply::Values { found } = reply else {
+        return false;
+    };
+    match found.as_slice() {
+        [found] => is_same_value(found, value),
+        _ => false,
+    }
+}
+
+/// The page that the bytes spell.
+fn page_in(alloc: Global, bytes: &[u8]) -> Result<Option<Page>, NoMemory>
+    ensures { IfOk result (λ found. MatchOption found ((page : Leaf) → SpellsPage bytes.now page → ⊥) (λ page. SpellsPage bytes.now page × ((other : Leaf) → SpellsPage bytes.now other → page ≡ other))) }
+{
+    match Page::read(alloc, bytes) {
+        Ok(found) => Ok(found),
+        Err(PageError::NoMemory) => Err(NoMemory),
+        Err(PageError::BadPage { .. }) => Ok(None),
+    }
+}
+
+/// Whether the leaf that the bytes spell shows what a lone Get of the key finds in the version.
+fn leaf_shows(
+    alloc: Global,
+    bytes: &[u8],
+    catalog: Option<&[u8]>,
+    version: &Name,
+    key: &Key,
+    reply: &Reply,
+) -> Result<bool, NoMemory>
+    ensures { IfOk result (λ b. LeafTells b (option_map (λ c. c.now) catalog.entry) bytes.now version.now key.now reply.now) }
+{
+    let Some(page) = page_in(alloc, bytes)? else {
+        return Ok(false);
+    };
+    let Some(value) = value_in(&page, key) else {
+        return Ok(false);
+    };
+    if !is_found(reply, value) {
+        return Ok(false);
+    }
+    expect_served(alloc, catalog, version, &page)?;
+    Ok(true)
+}
+
+/// Whether the read shows the reply to the operation: a leaf what a lone Get finds, the catalog a
+/// refusal or the list of versions. `catalog` is what its client had read last before it. NoMemory:
+/// there was no memory to tell; or the read shows the reply by its bytes, but not by that catalog, or
+/// a catalog shows another list.
+pub fn shows(
+    alloc: Global,
+    read: &Read<'_>,
+    catalog: Option<&[u8]>,
+    op: &Op,
+    reply: &Reply,
+) -> Result<bool, NoMemory>
+    ensures { IfOk result (λ b. Tells b (option_map (λ c. c.now) catalog.entry) (seen_of read.now) op.now reply.now) }
+{
+    if read.is_catalog() {
+        return catalog_shows(alloc, read.bytes, op, reply);
+    }
+    let Op::Tx { version, steps } = op else {
+        return Ok(false);
+    };
+    let Some(key) = lone_get(steps) else {
+        return Ok(false);
+    };
+    if !read.is_page() {
+        return Ok(false);
+    }
+    leaf_shows(alloc, read.bytes, catalog, version, key, reply)
+}

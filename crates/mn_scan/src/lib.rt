@@ -1,0 +1,16 @@
+//! A scan of a frozen version: which pages it reads, leaf after leaf, and the pairs that it gathers
+//! from them.
+#![tactic(auto)]
+
+mod error;
+mod front;
+mod scan_run;
+mod step;
+
+pub use error::ScanError;
+pub use front::{Front, child_for, height};
+pub use scan_run::ScanRun;
+pub use step::ScanStep;
+
+#[cfg(test)]
+mod tests;
