@@ -9,6 +9,3 @@ mod step;
 pub use coordinator::Coordinator;
 pub use stage::Stage;
 pub use step::CoordStep;
-
-#[cfg(test)]
-mod tests;

@@ -18,8 +18,3 @@ pub use base::base_spaces;
 pub use error::{ForestError, Rule, VoteError};
 pub use flat::flat_of;
 pub use forest::check;
-
-#[cfg(test)]
-mod check_tests;
-#[cfg(test)]
-mod flat_tests;

@@ -9,6 +9,3 @@ mod step;
 pub use recoverer::Recoverer;
 pub use stage::RecovStage;
 pub use step::RecovStep;
-
-#[cfg(test)]
-mod tests;

@@ -28,6 +28,3 @@ pub use laws::{
 };
 pub use overlay::Overlay;
 pub use stepped::Stepped;
-
-#[cfg(test)]
-mod tests;

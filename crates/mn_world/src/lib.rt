@@ -28,6 +28,3 @@ pub use laws::{
     yes_has_votes,
 };
 pub use lists::{ClientList, EntryList, Log};
-
-#[cfg(test)]
-mod tests;

@@ -1,9 +1,9 @@
 ghost use Rattle.std.specs.Prelude.{◌≡◌, ◌≤◌, true};
 ghost use Rattle.mn_page.specs.Grammar.{count_in};
 
-use crate::{AddError, Overlay, Stepped};
 use mn_base::{Addr, Bytes, Key, NoMemory, NodeNo, Pair, Pairs, Step, TryCopy, Value, VersionNo};
 use mn_page::{Body, Branches, Child, Page};
+use mn_tree::{AddError, Overlay, Stepped};
 use mn_vtree::VersionTree;
 use std::alloc::Global;
 use std::test::Fail;

@@ -5,7 +5,7 @@ use Rattle.std.specs.List.{AllByRecursion, list_all}
 use Rattle.std.proofs.lemmas.Bool.{eqb-true}
 use Rattle.mn_mini.specs.Mini.{space_size}
 use Rattle.mn_forest.proofs.Telling.{and_split}
-use Rattle.mn_forest.proofs.check_tests.may_be_checked.Goals as goal
+use Rattle.mn_tests.proofs.forest_check.may_be_checked.Goals as goal
 
 all_whole : (spaces : List (List ℕ)) → list_all (λ space. nat_eq (length space) space_size) spaces ≡ true → AllByRecursion (λ space. length space ≡ space_size) spaces
 all_whole [] e = tt

@@ -4,8 +4,8 @@ ghost use Rattle.std.specs.Bool.{OnTrue};
 ghost use Rattle.std.specs.List.{AllByRecursion, list_all};
 ghost use Rattle.mn_mini.specs.Mini.{space_size};
 
-use crate::{ForestError, Rule, base_spaces, check};
 use mn_base::{Bytes, Key, Name, NodeNo, Op, Reply, Step, Steps};
+use mn_forest::{ForestError, Rule, base_spaces, check};
 use mn_mini::{SPACE, Spaces};
 use mn_plain::Store;
 use std::alloc::Global;

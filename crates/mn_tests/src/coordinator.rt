@@ -2,8 +2,8 @@
 ghost use Rattle.std.specs.Prelude.{◌≡◌, ◌≤◌, true, false, MatchOption};
 ghost use Rattle.mn_mini.specs.RecordGrammar.{IsTid};
 
-use crate::{CoordStep, Coordinator};
 use mn_base::{Bytes, ClientNo, NodeNo, Nodes, Tid};
+use mn_coord::{CoordStep, Coordinator};
 use mn_mini::{Item, Items, Minitransaction, NodeReply, Reads, Request, SPACE, Spaces};
 use mn_world::{Entry, Log, What, flat_after};
 use std::alloc::Global;

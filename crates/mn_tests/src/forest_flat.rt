@@ -1,6 +1,6 @@
 //! The memory of two nodes, and the records at which there is none.
-use crate::{VoteError, base_spaces, flat_of};
 use mn_base::{Bytes, ClientNo, NodeNo, Nodes, Tid};
+use mn_forest::{VoteError, base_spaces, flat_of};
 use mn_mini::{Part, PartItem, Record, Records, Spaces};
 use std::alloc::Global;
 use std::test::Fail;

@@ -2,10 +2,10 @@
 ghost use Rattle.std.specs.Prelude.{◌≡◌, false, IfOk, OnOk};
 ghost use Rattle.mn_mini.specs.RecordGrammar.{IsTid};
 
-use crate::{RecovStep, Recoverer};
 use mn_base::{Bytes, ClientNo, NodeNo, Nodes, Tid};
 use mn_coord::{CoordStep, Coordinator};
 use mn_mini::{Doubt, Doubts, Item, Items, Minitransaction, NodeReply, Reads, Request};
+use mn_recov::{RecovStep, Recoverer};
 use std::alloc::Global;
 use std::process::Abort;
 use std::test::Fail;

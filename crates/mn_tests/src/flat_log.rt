@@ -1,7 +1,7 @@
 //! Two minitransactions on two nodes, which overlap.
-use crate::{Entry, Log, What, flat_after};
 use mn_base::{Bytes, ClientNo, NodeNo, Nodes, Tid};
 use mn_mini::{Item, Items, Minitransaction, NodeReply, Reads, Request, SPACE, Spaces};
+use mn_world::{Entry, Log, What, flat_after};
 use std::alloc::Global;
 use std::test::Fail;
 
