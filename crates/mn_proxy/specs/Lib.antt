@@ -1,0 +1,13 @@
+pub mod Among
+pub mod Answers
+pub mod Bodies
+pub mod Catalogs
+pub mod Children
+pub mod Counts
+pub mod Descents
+pub mod Knows
+pub mod Places
+pub mod Refusals
+pub mod Scans
+pub mod Seen
+pub mod Walks
