@@ -4,3 +4,8 @@ pub mod Meeting
 pub mod Loops
 pub mod Places
 pub mod Leaves
+pub mod Noted
+pub mod Putting
+pub mod Planning
+pub mod Joining
+pub mod Telling

@@ -1,2 +1,4 @@
 pub mod Shown
+pub mod History
 pub mod Merging
+pub mod Told

@@ -1,6 +1,8 @@
-ghost use Rattle.std.specs.Prelude.{◌≡◌, ◌≤◌, ◌<◌, ◌+◌, ◌^◌, length, OnOk, OnErr, vec_len, vec_capacity};
+ghost use Rattle.std.specs.Prelude.{◌≡◌, ◌≤◌, ◌<◌, ◌+◌, ◌^◌, length, OnOk, OnErr};
 
-use crate::held::{HeldPage, join, put_page};
+use crate::addrs::Addrs;
+use crate::held::HeldPage;
+use crate::held_pages::HeldPages;
 use crate::write::Write;
 use mn_base::{Addr, NoMemory};
 use mn_page::Page;
@@ -10,9 +12,9 @@ use std::alloc::Global;
 /// was read that it was made of.
 #[derive(Debug, Drop)]
 pub struct Draft {
-    pub pages: Vec<HeldPage>,
-    pub changed: Vec<Addr>,
-    pub read: Vec<Addr>,
+    pub pages: HeldPages,
+    pub changed: Addrs,
+    pub read: Addrs,
     pub origins: Vec<Addr>,
 }
 
@@ -25,9 +27,9 @@ impl Draft {
         ensures { drafted result ≡ no_pages }
     {
         Draft {
-            pages: Vec::new(alloc),
-            changed: Vec::new(alloc),
-            read: Vec::new(alloc),
+            pages: HeldPages::new(alloc),
+            changed: Addrs::new(alloc),
+            read: Addrs::new(alloc),
             origins: Vec::new(alloc),
         }
     }
@@ -36,7 +38,7 @@ impl Draft {
     fn reserve(&mut self, writes: usize) -> Result<(), NoMemory>
         requires { writes < 2 ^ 63 }
         ensures room { OnOk result (HasRoom self.new writes) }
-        ensures leaf { OnOk result (vec_len self.new.read + (writes + 1) ≤ vec_capacity self.new.read) }
+        ensures leaf { OnOk result (writes + 1 ≤ self.new.read.room) }
         ensures same { drafted self.new ≡ drafted self.old }
     {
         self.pages.reserve(writes)?;
@@ -52,7 +54,7 @@ impl Draft {
         ensures same { OnErr result (drafted self.new ≡ drafted self.old) }
     {
         self.pages.reserve(1)?;
-        put_page(&mut self.pages, HeldPage { addr, page });
+        self.pages.put(HeldPage { addr, page });
         Ok(())
     }
 
@@ -63,12 +65,12 @@ impl Draft {
         ensures room { (n : ℕ) → HasRoom self.old (n + 1) → HasRoom self.new n }
     {
         let Write { addr, page, origin } = write;
-        join(&mut self.read, addr);
+        self.read.join(addr);
         match origin {
             Some(origin) => self.origins.push_reserved(origin),
-            None => join(&mut self.changed, addr),
+            None => self.changed.join(addr),
         }
-        put_page(&mut self.pages, HeldPage { addr, page });
+        self.pages.put(HeldPage { addr, page });
     }
 
     /// Makes the writes in their turn. There is room for them.
@@ -88,7 +90,7 @@ impl Draft {
         ensures same { OnErr result (drafted self.new ≡ drafted self.old) }
     {
         self.reserve(writes.len())?;
-        join(&mut self.read, leaf);
+        self.read.join(leaf);
         self.write_all(writes);
         Ok(())
     }

@@ -1,10 +1,6 @@
-ghost use Rattle.std.specs.Prelude.{◌≡◌, ◌≤◌, ◌<◌, ◌+◌, ◌^◌, option_map, IfOk, IfSome, vec_len, vec_capacity};
-ghost use Rattle.std.specs.List.{list_any};
-ghost use Rattle.mn_tree.specs.Places.{HasPlace};
+ghost use Rattle.std.specs.Prelude.{◌≡◌, ◌<◌, ◌^◌, IfOk};
 ghost use Rattle.mn_base.specs.Ids.{addr_same};
-ghost use Rattle.mn_page.specs.Overlay.{held_at, held_with, is_new, new_addr, placed_addr};
-ghost use Rattle.mn_tree.specs.Walk.{helds};
-ghost use Rattle.mn_tree.specs.Writes.{joined};
+ghost use Rattle.mn_page.specs.Overlay.{is_new, new_addr, placed_addr};
 
 use mn_base::{Addr, Key, NoMemory, NodeNo};
 use mn_page::Page;
@@ -50,68 +46,6 @@ pub fn new_place(n: usize) -> Result<Addr, NoMemory>
             slot,
         }),
         Err(_) => Err(NoMemory),
-    }
-}
-
-/// The page at an address.
-pub fn page_at(pages: &[HeldPage], addr: Addr) -> Option<&HeldPage>
-    ensures page { option_map (λ h. h.now.page) result ≡ held_at (helds pages.now) addr }
-    ensures there { IfSome result (λ h. h.now.addr ≡ addr) }
-{
-    for held in pages {
-        if is_same(held.addr, addr) {
-            return Some(held);
-        }
-    }
-    None
-}
-
-/// Where the page at an address stands in the list.
-fn place_of(pages: &[HeldPage], addr: Addr) -> Option<usize>
-    ensures { HasPlace pages.now addr result }
-{
-    for (at, held) in pages.iter().enumerate() {
-        if is_same(held.addr, addr) {
-            return Some(at);
-        }
-    }
-    None
-}
-
-/// Puts a page in the place of the one at its address, or behind all. There is room for one more.
-pub fn put_page(pages: &mut Vec<HeldPage>, held: HeldPage)
-    requires { vec_len pages.old < vec_capacity pages.old }
-    ensures pages { helds pages.new.items ≡ held_with (helds pages.old.items) held.addr held.page }
-    ensures len { vec_len pages.new ≤ vec_len pages.old + 1 }
-    ensures room { vec_capacity pages.old ≤ vec_capacity pages.new }
-{
-    match place_of(pages, held.addr) {
-        Some(at) => pages[at] = held,
-        None => pages.push_reserved(held),
-    }
-}
-
-/// Whether the address is one of these.
-pub fn is_among(addrs: &[Addr], addr: Addr) -> bool
-    ensures { result ≡ list_any (λ a. addr_same a addr) addrs.now }
-{
-    for other in addrs {
-        if is_same(*other, addr) {
-            return true;
-        }
-    }
-    false
-}
-
-/// Puts the address of an old page behind the others, if it isn't there. There is room for one more.
-pub fn join(addrs: &mut Vec<Addr>, addr: Addr)
-    requires { vec_len addrs.old < vec_capacity addrs.old }
-    ensures addrs { addrs.new.items ≡ joined addrs.old.items addr }
-    ensures len { vec_len addrs.new ≤ vec_len addrs.old + 1 }
-    ensures room { vec_capacity addrs.old ≤ vec_capacity addrs.new }
-{
-    if !is_unplaced(addr) && !is_among(addrs, addr) {
-        addrs.push_reserved(addr);
     }
 }
 

@@ -1,15 +1,18 @@
 //! The tree as a transaction changes it: its steps on the pages that were read, with splits and copies, before any node is changed.
 #![tactic(auto)]
 
+mod addrs;
 mod body;
 mod draft;
 mod effect;
 mod error;
 mod held;
+mod held_pages;
 mod laws;
 mod order;
 mod overlay;
 mod pairs;
+mod place;
 mod stepped;
 mod walk;
 mod write;

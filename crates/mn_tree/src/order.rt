@@ -6,7 +6,9 @@ ghost use Rattle.mn_page.specs.SlotOrder.{stands_first};
 ghost use Rattle.mn_tree.specs.Walk.{helds};
 ghost use Rattle.mn_tree.specs.Order.{precedes, with_number, with_numbers, place_in, slot_of, slots_by_number, is_changed, old_pages, new_pages};
 
-use crate::held::{HeldPage, UNPLACED, is_among, page_at, resolved};
+use crate::addrs::Addrs;
+use crate::held::{UNPLACED, resolved};
+use crate::held_pages::HeldPages;
 use crate::walk::height;
 use mn_base::{Addr, Bytes, NoMemory, NodeNo, TryCopy};
 use mn_page::{Body, Branches, Child, Page, number_after};
@@ -38,22 +40,22 @@ fn is_left(low: &Bytes, other: &Bytes) -> bool
 }
 
 /// Whether the new page of the first number stands before that of the second.
-fn is_before(pages: &[HeldPage], number: u16, other: u16) -> bool
-    ensures { result ≡ precedes (helds pages.now) number other }
+fn is_before(pages: &HeldPages, number: u16, other: u16) -> bool
+    ensures { result ≡ precedes (helds pages.now.items) number other }
 {
-    let Some(page) = page_at(pages, place_of(number)) else {
+    let Some(page) = pages.get(place_of(number)) else {
         return false;
     };
-    let Some(other) = page_at(pages, place_of(other)) else {
+    let Some(other) = pages.get(place_of(other)) else {
         return false;
     };
     is_first(&page.page, &other.page)
 }
 
 /// Where a further number goes: before the first one that it precedes.
-fn place_before(pages: &[HeldPage], order: &[u16], number: u16) -> usize
+fn place_before(pages: &HeldPages, order: &[u16], number: u16) -> usize
     ensures within { result ≤ length order.now }
-    ensures place { insert order.now result number ≡ with_number (helds pages.now) number order.now }
+    ensures place { insert order.now result number ≡ with_number (helds pages.now.items) number order.now }
 {
     for (at, other) in order.iter().enumerate() {
         if is_before(pages, number, *other) {
@@ -64,9 +66,9 @@ fn place_before(pages: &[HeldPage], order: &[u16], number: u16) -> usize
 }
 
 /// The numbers of so many new pages in the order in which slots are asked for.
-pub fn order_of(alloc: Global, pages: &[HeldPage], count: usize) -> Result<Vec<u16>, NoMemory>
+pub fn order_of(alloc: Global, pages: &HeldPages, count: usize) -> Result<Vec<u16>, NoMemory>
     requires { count ≤ 2 ^ 16 }
-    ensures { IfOk result (λ order. order.items ≡ with_numbers (helds pages.now) [] (range_with_len 0 count)) }
+    ensures { IfOk result (λ order. order.items ≡ with_numbers (helds pages.now.items) [] (range_with_len 0 count)) }
 {
     let mut order = Vec::new(alloc);
     for number in 0..count {
@@ -167,17 +169,17 @@ fn page_in(alloc: Global, by: &[Addr], seq: u64, page: &Page) -> Result<Page, No
 fn push_old(
     alloc: Global,
     by: &[Addr],
-    pages: &[HeldPage],
-    changed: &[Addr],
+    pages: &HeldPages,
+    changed: &Addrs,
     addr: Addr,
     placed: &mut Vec<(Addr, Page)>,
 ) -> Result<(), NoMemory>
-    ensures { OnOk result (placed.new.items ≡ placed.old.items ++ old_pages by.now (helds pages.now) (filter (is_changed changed.now) (addr ∷ []))) }
+    ensures { OnOk result (placed.new.items ≡ placed.old.items ++ old_pages by.now (helds pages.now.items) (filter (is_changed changed.now.items) (addr ∷ []))) }
 {
-    if !is_among(changed, addr) {
+    if !changed.contains(addr) {
         return Ok(());
     }
-    if let Some(held) = page_at(pages, addr) {
+    if let Some(held) = pages.get(addr) {
         let seq = number_after(held.page.seq);
         placed.push((addr, page_in(alloc, by, seq, &held.page)?))?;
     }
@@ -188,12 +190,12 @@ fn push_old(
 pub fn push_changed(
     alloc: Global,
     by: &[Addr],
-    pages: &[HeldPage],
-    changed: &[Addr],
+    pages: &HeldPages,
+    changed: &Addrs,
     read: &[Addr],
     placed: &mut Vec<(Addr, Page)>,
 ) -> Result<(), NoMemory>
-    ensures { OnOk result (placed.new.items ≡ placed.old.items ++ old_pages by.now (helds pages.now) (filter (is_changed changed.now) read.now)) }
+    ensures { OnOk result (placed.new.items ≡ placed.old.items ++ old_pages by.now (helds pages.now.items) (filter (is_changed changed.now.items) read.now)) }
 {
     for addr in read {
         push_old(alloc, by, pages, changed, *addr, placed)?;
@@ -205,14 +207,14 @@ pub fn push_changed(
 fn push_created(
     alloc: Global,
     by: &[Addr],
-    pages: &[HeldPage],
+    pages: &HeldPages,
     number: u16,
     placed: &mut Vec<(Addr, Page)>,
 ) -> Result<(), NoMemory>
-    ensures { OnOk result (placed.new.items ≡ placed.old.items ++ new_pages by.now (helds pages.now) (number ∷ [])) }
+    ensures { OnOk result (placed.new.items ≡ placed.old.items ++ new_pages by.now (helds pages.now.items) (number ∷ [])) }
 {
     let addr = place_of(number);
-    if let Some(held) = page_at(pages, addr) {
+    if let Some(held) = pages.get(addr) {
         let page = page_in(alloc, by, held.page.seq, &held.page)?;
         placed.push((resolved(by, addr), page))?;
     }
@@ -223,11 +225,11 @@ fn push_created(
 pub fn push_new(
     alloc: Global,
     by: &[Addr],
-    pages: &[HeldPage],
+    pages: &HeldPages,
     order: &[u16],
     placed: &mut Vec<(Addr, Page)>,
 ) -> Result<(), NoMemory>
-    ensures { OnOk result (placed.new.items ≡ placed.old.items ++ new_pages by.now (helds pages.now) order.now) }
+    ensures { OnOk result (placed.new.items ≡ placed.old.items ++ new_pages by.now (helds pages.now.items) order.now) }
 {
     for number in order {
         push_created(alloc, by, pages, *number, placed)?;

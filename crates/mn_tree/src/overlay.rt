@@ -157,7 +157,7 @@ impl Overlay {
     pub fn read_set(&self) -> &[Addr]
         ensures { result.now ≡ self.now.draft.read }
     {
-        &self.draft.read
+        self.draft.read.as_slice()
     }
 
     /// What the steps write, once the new pages have these slots: the changed pages in the order in which they joined the read set, each with
@@ -179,7 +179,7 @@ impl Overlay {
             &by,
             &draft.pages,
             &draft.changed,
-            &draft.read,
+            draft.read.as_slice(),
             &mut placed,
         )?;
         push_new(alloc, &by, &draft.pages, &order, &mut placed)?;

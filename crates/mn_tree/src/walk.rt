@@ -5,7 +5,8 @@ ghost use Rattle.mn_page.specs.Overlay.{Held};
 ghost use Rattle.mn_tree.specs.Walk.{held_of, helds, is_met, goes_on, walk, walk_down};
 ghost use Rattle.mn_tree.specs.Found.{child_from, walk_after, IsOnTheWay, seen_walk};
 
-use crate::held::{HeldPage, page_at};
+use crate::held::HeldPage;
+use crate::held_pages::HeldPages;
 use mn_base::{Addr, Key, NoMemory, VersionNo};
 use mn_fence::covers;
 use mn_page::{Body, Child, Page};
@@ -93,21 +94,21 @@ fn may_go_on(tree: &VersionTree, version: VersionNo, page: &Page, left: u16, key
 fn follow<'a>(
     tree: &VersionTree,
     version: VersionNo,
-    pages: &'a [HeldPage],
+    pages: &'a HeldPages,
     at: &HeldPage,
     left: u16,
     key: &Key,
 ) -> Next<'a>
     requires covers { page_covers key.now at.now.page ≡ true }
     requires height { height_of at.now.page.body ≡ left + 1 }
-    ensures walk { (above : List Held) → walk_down tree.now version.0 (left + 1) (helds pages.now) key.now (held_of at.now) above ≡ walk_after tree.now version.0 (helds pages.now) key.now left (held_of at.now) above result }
+    ensures walk { (above : List Held) → walk_down tree.now version.0 (left + 1) (helds pages.now.items) key.now (held_of at.now) above ≡ walk_after tree.now version.0 (helds pages.now.items) key.now left (held_of at.now) above result }
     ensures down { IsOnTheWay tree.now version.0 left key.now result }
 {
     let Body::Inner { first, rest, .. } = &at.page.body else {
         unreachable!();
     };
     let addr = child_among(*first, rest.as_slice(), key);
-    match page_at(pages, addr) {
+    match pages.get(addr) {
         Some(held) => {
             if may_go_on(tree, version, &held.page, left, key) {
                 Next::Down { held }
@@ -124,13 +125,13 @@ pub fn walk_to<'a>(
     alloc: Global,
     tree: &VersionTree,
     version: VersionNo,
-    pages: &'a [HeldPage],
+    pages: &'a HeldPages,
     root: Addr,
     key: &Key,
 ) -> Result<Walked<'a>, NoMemory>
-    ensures { IfOk result (λ walked. seen_walk walked ≡ walk tree.now version.0 (helds pages.now) root key.now) }
+    ensures { IfOk result (λ walked. seen_walk walked ≡ walk tree.now version.0 (helds pages.now.items) root key.now) }
 {
-    let Some(held) = page_at(pages, root) else {
+    let Some(held) = pages.get(root) else {
         return Ok(Walked::Missing {
             addr: root,
             above: None,

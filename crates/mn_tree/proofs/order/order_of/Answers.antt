@@ -7,7 +7,7 @@ use Rattle.mn_tree.proofs.order.order_of.Goals as goal
 
 pub loop-number-preserved : goal.loop-number-preserved
 loop-number-preserved c =
-    let pages = helds c.args.pages.now in
+    let pages = helds c.args.pages.now.items in
     let n = c.loop-number.number in
     let order = c.loop-number.order.items in
     let next : c.insert.new.self.items ≡ with_number pages n order = c.in_ok-insert.ensures.items ∙ (rw c.deref.ensures.value at c.place_before-at.ensures.place) in

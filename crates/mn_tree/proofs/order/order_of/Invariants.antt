@@ -6,4 +6,4 @@ use Rattle.mn_tree.proofs.order.order_of.Given as goal
 
 -- the numbers so far, and the rest
 abbrev pub invariant-loop-number : goal.invariant-loop-number
-invariant-loop-number l = with_numbers (helds l.pages) l.order.items (range_with_len l.number (l.count - l.number)) ≡ with_numbers (helds l.pages) [] (range_with_len 0 l.count)
+invariant-loop-number l = with_numbers (helds l.pages.items) l.order.items (range_with_len l.number (l.count - l.number)) ≡ with_numbers (helds l.pages.items) [] (range_with_len 0 l.count)

@@ -5,4 +5,4 @@ use Rattle.mn_tree.proofs.order.place_before.Given as goal
 
 -- it precedes none so far
 abbrev pub invariant-loop-at : goal.invariant-loop-at
-invariant-loop-at l = take l.at l.order ++ with_number (helds l.pages) l.number (drop l.at l.order) ≡ with_number (helds l.pages) l.number l.order
+invariant-loop-at l = take l.at l.order ++ with_number (helds l.pages.items) l.number (drop l.at l.order) ≡ with_number (helds l.pages.items) l.number l.order

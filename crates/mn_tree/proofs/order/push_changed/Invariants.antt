@@ -5,4 +5,4 @@ use Rattle.mn_tree.proofs.order.push_changed.Given as goal
 
 -- the pages so far, and the rest
 abbrev pub invariant-loop-addr : goal.invariant-loop-addr
-invariant-loop-addr l = l.placed.items ++ old_pages l.by (helds l.pages) (filter (is_changed l.changed) (drop l.addr-index l.read)) ≡ l.fn.placed.items ++ old_pages l.by (helds l.pages) (filter (is_changed l.changed) l.read)
+invariant-loop-addr l = l.placed.items ++ old_pages l.by (helds l.pages.items) (filter (is_changed l.changed.items) (drop l.addr-index l.read)) ≡ l.fn.placed.items ++ old_pages l.by (helds l.pages.items) (filter (is_changed l.changed.items) l.read)

@@ -6,7 +6,7 @@ use Rattle.mn_tree.proofs.walk.follow.Goals as goal
 
 pub returns-then-may_go_on-clause-walk : goal.returns-then-may_go_on-clause-walk
 returns-then-may_go_on-clause-walk c above =
-    let pages = helds c.args.pages.now in
+    let pages = helds c.args.pages.now.items in
     let key = c.args.key.now in
     let h = held_of c.args.at.now in
     let addr = c.child_among-addr.result in
@@ -16,7 +16,7 @@ returns-then-may_go_on-clause-walk c above =
 
 pub returns-else-may_go_on-clause-walk : goal.returns-else-may_go_on-clause-walk
 returns-else-may_go_on-clause-walk c above =
-    let pages = helds c.args.pages.now in
+    let pages = helds c.args.pages.now.items in
     let key = c.args.key.now in
     let h = held_of c.args.at.now in
     let addr = c.child_among-addr.result in
@@ -25,7 +25,7 @@ returns-else-may_go_on-clause-walk c above =
 
 pub returns-in-None-clause-walk : goal.returns-in-None-clause-walk
 returns-in-None-clause-walk c above =
-    let pages = helds c.args.pages.now in
+    let pages = helds c.args.pages.now.items in
     let key = c.args.key.now in
     let h = held_of c.args.at.now in
     let addr = c.child_among-addr.result in

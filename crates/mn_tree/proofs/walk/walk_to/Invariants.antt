@@ -8,7 +8,7 @@ use Rattle.mn_tree.proofs.walk.walk_to.Given as goal
 -- the walk has come to this page, of this height, which covers the key
 abbrev pub invariant-loop-left : goal.invariant-loop-left
 invariant-loop-left l = record {
-  way : walk_down l.tree l.version.0 l.left (helds l.pages) l.key (held_of l.at) (lents l.above.items) ≡ walk l.tree l.version.0 (helds l.pages) l.fn.root l.key;
+  way : walk_down l.tree l.version.0 l.left (helds l.pages.items) l.key (held_of l.at) (lents l.above.items) ≡ walk l.tree l.version.0 (helds l.pages.items) l.fn.root l.key;
   height : height_of l.at.page.body ≡ l.left;
   covers : page_covers l.key l.at.page ≡ true;
 }

@@ -1,0 +1,287 @@
+-- What one more entry makes of what is kept of a log.
+use Rattle.std.proofs.Common.{◌≡◌, ℕ, zero, suc, ◌+◌, ◌<◌, ◌≤◌, Bool, true, false, ◌||◌, List, [], ◌∷◌, ◌++◌, length, map, drop, take, replicate, Option, Some, None, refl, subst, sym, ap, ◌∙◌, arith, if◌then◌else◌}
+use Rattle.std.specs.Prelude.{nat_eq, slice_get, slice_set, slice_index_or, Result, Ok, Err, IfOk}
+use Rattle.std.specs.HashMap.{HashMap}
+use Rattle.std.specs.HashSet.{HashSet}
+use Rattle.std.specs.List.{list_all}
+use Rattle.std.specs.Option.{option_map, option_map_or}
+use Rattle.std.proofs.lemmas.Grind.{common_steps}
+use Rattle.std.proofs.lemmas.List.{append_assoc}
+use Rattle.mn_base.specs.Ids.{client_same, node_same, tid_same}
+use Rattle.mn_base.specs.Store.{Store, applied}
+use Rattle.mn_base.specs.History.{IsLegal}
+use Rattle.mn_base.specs.declared.error.NoMemory.{NoMemory}
+use Rattle.mn_base.specs.declared.answer.Answer.{Answer}
+use Rattle.mn_base.specs.declared.history.Past.{Past}
+use Rattle.mn_base.specs.declared.ids.ClientNo.{ClientNo}
+use Rattle.mn_base.specs.declared.ids.NodeNo.{NodeNo}
+use Rattle.mn_base.specs.declared.ids.Tid.{Tid}
+use Rattle.mn_base.specs.declared.reply.Reply.{Reply}
+use Rattle.mn_mini.specs.declared.request.Request.{Request}
+use Rattle.mn_mini.specs.declared.request.Request.TheVariants as Ask
+use Rattle.mn_mini.specs.Mini.{Mini}
+use Rattle.mn_page.proofs.Alike.{get-set_same, get-set_other}
+use Rattle.mn_world.specs.declared.entry.Entry.{Entry}
+use Rattle.mn_world.specs.declared.entry.What.{What}
+use Rattle.mn_world.specs.declared.entry.What.TheVariants.{Begin, Issue, Called, Stopped, Restarted, Abandoned, Answered}
+use Rattle.mn_world.specs.declared.commit_reader.CommittedMini.{CommittedMini}
+use Rattle.mn_world.specs.Calls.{Issued, client_entries, node_entries, issue_in, issues_of, issue_named, under_way}
+use Rattle.mn_world.specs.CommitReader.{issued_of}
+use Rattle.mn_world.specs.Commits.{committed_by, committed_at, committed_with, effect_of, has_vote, issued_as}
+use Rattle.mn_world.specs.History.{Placed, EntryPuts, StepPuts, AnswerPuts, pasts_of}
+use Rattle.mn_world.specs.Run.{entries_of}
+use Rattle.mn_world.specs.Shown.{seen_at}
+use Rattle.mn_world.specs.declared.flat.IdKey.{IdKey}
+use Rattle.mn_world.proofs.Reading.Same.{client_same-refl, client_same-true, nat_eq-true}
+use Rattle.mn_hist.specs.declared.history.OpKey.{OpKey}
+use Rattle.mn_hist.specs.History.{Act, CallerState, Planner, act_at, act_of, acts_from, acts_in, begun_by, done_by, done_from, idle, planner_after, planner_kept, planner_of, placed_last, state_after, state_of}
+use Rattle.mn_hist.specs.History.{AreCallers, Fills, Knows, Named, Puts, Commits, Stands, Takes}
+use Rattle.mn_hist.proofs.Loops.{drop_here}
+use Rattle.mn_hist.proofs.Noted.{begun_is}
+
+-- Clients
+
+pub idle_at : (n i : ℕ) → i < n → slice_get (replicate n idle) i ≡ Some idle
+idle_at zero i lt = absurd (omega (arith, lt))
+idle_at (suc n) zero lt = refl
+idle_at (suc n) (suc i) lt = idle_at n i (omega (arith, lt))
+
+pub all_idle : (callers : List CallerState) → callers ≡ replicate 256 idle → AreCallers callers []
+all_idle callers is = λ c few. ap (λ (l : List CallerState). slice_get l c.0) is ∙ idle_at 256 c.0 few
+
+-- an entry of no client
+pub of_none : (callers : List CallerState) (past : List Entry) (e : Entry) → e.client ≡ None → AreCallers callers past → AreCallers callers (e ∷ past)
+of_none callers past e none are = λ c few. are c few ∙ ap Some (sym (ap (λ (o : Option ClientNo). if option_map_or (client_same c) o false then state_after (length past) e.what (seen_at e) (state_of c past) else state_of c past) none))
+
+-- an entry of this client
+state_here : (past : List Entry) (e : Entry) (c : ClientNo) → e.client ≡ Some c → state_of c (e ∷ past) ≡ state_after (length past) e.what (seen_at e) (state_of c past)
+state_here past e c is =
+    ap (λ (o : Option ClientNo). if option_map_or (client_same c) o false then state_after (length past) e.what (seen_at e) (state_of c past) else state_of c past) is
+    ∙ ap (λ b. if b then state_after (length past) e.what (seen_at e) (state_of c past) else state_of c past) (client_same-refl c)
+
+state_beside : (past : List Entry) (e : Entry) (c d : ClientNo) → e.client ≡ Some c → client_same d c ≡ false → state_of d (e ∷ past) ≡ state_of d past
+state_beside past e c d is other =
+    ap (λ (o : Option ClientNo). if option_map_or (client_same d) o false then state_after (length past) e.what (seen_at e) (state_of d past) else state_of d past) is
+    ∙ ap (λ b. if b then state_after (length past) e.what (seen_at e) (state_of d past) else state_of d past) other
+
+clash : (b : Bool) → b ≡ true → b ≡ false → ⊥
+clash b p q = cc
+
+pub of_client : (callers : List CallerState) (past : List Entry) (e : Entry) (c : ClientNo) (new : CallerState) → c.0 < 256 → e.client ≡ Some c
+    → (slice_get callers c.0 ≡ Some (state_of c past) → new ≡ state_after (length past) e.what (seen_at e) (state_of c past))
+    → AreCallers callers past → AreCallers (slice_set callers c.0 new) (e ∷ past)
+of_client callers past e c new few is step are = λ d few'.
+    elim (client_same d c) as (λ b. client_same d c ≡ b → slice_get (slice_set callers c.0 new) d.0 ≡ Some (state_of d (e ∷ past))) [
+      | true ↦ λ same. subst (λ (x : ClientNo). slice_get (slice_set callers c.0 new) x.0 ≡ Some (state_of x (e ∷ past))) (sym (client_same-true d c same))
+          (get-set_same callers c.0 (state_of c past) new (are c few) ∙ ap Some (step (are c few) ∙ sym (state_here past e c is)))
+      | false ↦ λ other. get-set_other callers c.0 d.0 new (λ eq. clash (client_same d c) (subst (λ (n : ℕ). nat_eq n c.0 ≡ true) eq (client_same-refl c)) other)
+          ∙ (are d few' ∙ ap Some (sym (state_beside past e c d is other)))
+    ] refl
+
+-- Issues
+
+pub no_issue : {S : Type 0} (plans : HashMap IdKey Planner S) (past : List Entry) (e : Entry) → issue_in e.what ≡ [] → Knows plans past → Knows plans (e ∷ past)
+no_issue plans past e none knows = λ tid. knows tid ∙ by e.what none tid
+  where
+    by : (what : What) → issue_in what ≡ [] → (tid : Tid) → planner_of tid past ≡ planner_after tid e.client what past (planner_of tid past)
+    by (Issue t mini) none tid = absurd cc
+    by (Begin number op) none tid = refl
+    by (Answered number answer) none tid = refl
+    by (Called request reply) none tid = refl
+    by (Stopped request asked) none tid = refl
+    by (Restarted kept) none tid = refl
+    by (Abandoned t) none tid = refl
+
+pub one_issue : {S : Type 0} (old new : HashMap IdKey Planner S) (past : List Entry) (e : Entry) (t : Tid) (mini : Mini) (planner : Planner) → e.what ≡ Issue t mini
+    → planner ≡ record { client = e.client; begun = begun_by e.client past }
+    → ((q : Tid) → planner_kept new q ≡ (if tid_same t q then Some planner else planner_kept old q)) → Knows old past → Knows new (e ∷ past)
+one_issue old new past e t mini planner is who more knows = λ q.
+    more q
+    ∙ (ap (λ (o : Option Planner). if tid_same t q then Some planner else o) (knows q)
+    ∙ (ap (λ (p : Planner). if tid_same t q then Some p else planner_of q past) who
+    ∙ sym (ap (λ (w : What). planner_after q e.client w past (planner_of q past)) is)))
+
+-- the operation of the client is the one that is told
+pub begun_there : (past : List Entry) (c : ClientNo) → (state_of c past).begun ≡ begun_by (Some c) past
+begun_there past c = begun_is c past
+
+-- Slots
+
+acts_last : (k : ℕ) (slots : List (Option Act)) → acts_from k (slots ++ None ∷ []) ≡ acts_from k slots
+acts_last k [] = refl
+acts_last k (None ∷ slots) = acts_last (k + 1) slots
+acts_last k (Some a ∷ slots) = ap (λ (l : List (ℕ × Act)). (k, a) ∷ l) (acts_last (k + 1) slots)
+
+acts_more : (k : ℕ) (a : Act) (slots : List (Option Act)) → acts_from k (slots ++ Some a ∷ []) ≡ acts_from k slots ++ (k + length slots, a) ∷ []
+acts_more k a [] = ap (λ (n : ℕ). (n, a) ∷ []) (no_more k)
+  where
+    no_more : (k : ℕ) → k ≡ k + 0
+    no_more k = omega arith
+acts_more k a (None ∷ slots) = acts_more (k + 1) a slots ∙ ap (λ (n : ℕ). acts_from (k + 1) slots ++ (n, a) ∷ []) (further k (length slots))
+  where
+    further : (k n : ℕ) → k + 1 + n ≡ k + suc n
+    further k n = omega arith
+acts_more k a (Some b ∷ slots) = ap (λ (l : List (ℕ × Act)). (k, b) ∷ l) (acts_more (k + 1) a slots ∙ ap (λ (n : ℕ). acts_from (k + 1) slots ++ (n, a) ∷ []) (further k (length slots)))
+  where
+    further : (k n : ℕ) → k + 1 + n ≡ k + suc n
+    further k n = omega arith
+
+map_last : (p : Placed) (placed : List Placed) → map act_at (placed ++ p ∷ []) ≡ map act_at placed ++ act_at p ∷ []
+map_last p [] = refl
+map_last p (q ∷ qs) = ap (λ (l : List (ℕ × Act)). act_at q ∷ l) (map_last p qs)
+
+-- what is committed here comes last
+fills_last : (n : ℕ) (slots : List (Option Act)) (placed : List Placed) (found : Option Act) (reply : Reply) → Fills slots placed → length slots ≡ n → Fills (slots ++ found ∷ []) (placed_last n found reply placed)
+fills_last n slots placed None reply fills long = acts_last 0 slots ∙ fills
+fills_last n slots placed (Some a) reply fills long =
+    acts_more 0 a slots
+    ∙ (ap (λ (l : List (ℕ × Act)). l ++ (0 + length slots, a) ∷ []) fills
+    ∙ (ap (λ (k : ℕ). map act_at placed ++ (k, a) ∷ []) (from_zero (length slots) ∙ long)
+    ∙ sym (map_last (record { place = n; past = record { client = a.client; number = a.number; op = a.op; reply = reply } }) placed)))
+  where
+    from_zero : (n : ℕ) → 0 + n ≡ n
+    from_zero n = omega arith
+
+-- What an entry puts into the history
+
+-- that answers nothing
+pub takes_none : {S : Type 0} (past : List Entry) (e : Entry) (placed : List Placed) (standing : HashSet OpKey S) (slots : List (Option Act)) → StepPuts past e.client e.what placed placed → Stands standing placed → Fills slots placed
+    → Takes past e None placed standing slots slots None
+takes_none past e placed standing slots puts st fills = record { next = placed; puts = puts; stands = st; fills = λ l. acts_last 0 slots ∙ fills; long = refl }
+
+pub quiet_puts : (past : List Entry) (by : Option ClientNo) (what : What) (placed : List Placed) → ((c : ClientNo) (number : ℕ) (answer : Answer) → by ≡ Some c → what ≡ Answered number answer → ⊥) → StepPuts past by what placed placed
+quiet_puts past None what placed none = refl
+quiet_puts past (Some c) (Answered number answer) placed none = absurd (none c number answer refl refl)
+quiet_puts past (Some c) (Begin number op) placed none = refl
+quiet_puts past (Some c) (Issue t mini) placed none = refl
+quiet_puts past (Some c) (Called request reply) placed none = refl
+quiet_puts past (Some c) (Stopped request asked) placed none = refl
+quiet_puts past (Some c) (Restarted kept) placed none = refl
+quiet_puts past (Some c) (Abandoned t) placed none = refl
+
+-- that answers
+pub takes_answer : {S : Type 0} (past : List Entry) (e : Entry) (c : ClientNo) (number : ℕ) (answer : Answer) (placed : List Placed) (standing : HashSet OpKey S) (old new : List (Option Act)) → e.client ≡ Some c → e.what ≡ Answered number answer
+    → Puts past c answer placed standing old new → Takes past e None placed standing old new None
+takes_answer past e c number answer placed standing old new by is p = record {
+  next = p.next;
+  puts = subst (λ (o : Option ClientNo). StepPuts past o e.what placed p.next) (sym by) (subst (λ (w : What). StepPuts past (Some c) w placed p.next) (sym is) p.puts);
+  stands = p.stands;
+  fills = λ l. acts_last 0 new ∙ p.fills;
+  long = p.long;
+}
+
+-- that commits
+pub takes_commit : {S : Type 0} (past : List Entry) (e : Entry) (m : CommittedMini) (placed : List Placed) (standing : HashSet OpKey S) (slots : List (Option Act)) (found : Option Act) → Fills slots placed
+    → Commits past m placed standing found → Takes past e (Some (issued_of m)) placed standing slots slots found
+takes_commit past e m placed standing slots found fills p = record {
+  next = placed_last (length past) found p.reply placed;
+  puts = p.puts e;
+  stands = p.stands;
+  fills = λ l. fills_last (length past) slots placed found p.reply fills l;
+  long = refl;
+}
+
+-- what is committed was issued under its id
+named_as : (tid : Tid) (past : List Entry) (i : Issued) → issued_as tid past ≡ Some i → issue_named i.tid (issues_of past) ≡ Some i.mini
+named_as tid past i is = by (issue_named tid (issues_of past)) refl is
+  where
+    by : (o : Option Mini) → issue_named tid (issues_of past) ≡ o → option_map (λ (mini : Mini). let r : Issued = record { tid = tid; mini = mini } in r) o ≡ Some i → issue_named i.tid (issues_of past) ≡ Some i.mini
+    by None e h = absurd cc
+    by (Some mini) e h =
+        let same : record { tid = tid; mini = mini } ≡ i = cc in
+        subst (λ (j : Issued). issue_named j.tid (issues_of past) ≡ Some j.mini) same e
+
+named_with : (past : List Entry) (n : NodeNo) (r : Option Request) (i : Issued) → committed_with past n r ≡ Some i → issue_named i.tid (issues_of past) ≡ Some i.mini
+named_with past n None i is = absurd cc
+named_with past n (Some (Ask.Prepare tid participants part)) i is =
+    by (list_all (λ m. node_same m n || has_vote tid m past) participants) is
+  where
+    by : (b : Bool) → (if b then issued_as tid past else None) ≡ Some i → issue_named i.tid (issues_of past) ≡ Some i.mini
+    by true h = named_as tid past i h
+    by false h = absurd cc
+named_with past n (Some (Ask.Exec tid part)) i is = named_as tid past i is
+named_with past n (Some (Ask.Decide tid verdict)) i is = absurd cc
+named_with past n (Some (Ask.Force tid)) i is = absurd cc
+named_with past n (Some Ask.List) i is = absurd cc
+named_with past n (Some (Ask.Peek start long)) i is = absurd cc
+
+pub named_here : (past : List Entry) (e : Entry) (m : CommittedMini) → Some (issued_of m) ≡ committed_by past e → Named past m
+named_here past e m is = at e.node (sym is)
+  where
+    at : (node : Option NodeNo) → committed_at past node e.what ≡ Some (issued_of m) → Named past m
+    at None h = absurd cc
+    at (Some n) h = named_with past n (effect_of (node_entries n past) e.what) (issued_of m) h
+
+-- A log
+
+pub one_more : (log : List (ℕ × Entry)) (i : ℕ) (e : ℕ × Entry) → i < length log → e ≡ slice_index_or log i e → entries_of (take (i + 1) log) ≡ e.1 ∷ entries_of (take i log)
+one_more log i e here is = grind (arith, common_steps)
+
+-- Replies
+
+pub replies_same : (store : Store) (history : List Past) → IsLegal store history → done_from store (map act_of history) ≡ history
+replies_same store [] legal = refl
+replies_same store (p ∷ history) legal =
+    ap (λ (r : Reply). let q : Past = record { client = p.client; number = p.number; op = p.op; reply = r } in q ∷ done_from (applied store p.op).store (map act_of history)) (sym legal.0)
+    ∙ ap (λ (l : List Past). p ∷ l) (replies_same (applied store p.op).store history legal.1)
+
+acts_of_slots : (k : ℕ) (slots : List (Option Act)) → acts_in slots ≡ map (λ (x : ℕ × Act). x.1) (acts_from k slots)
+acts_of_slots k [] = refl
+acts_of_slots k (None ∷ slots) = acts_of_slots (k + 1) slots
+acts_of_slots k (Some a ∷ slots) = ap (λ (l : List Act). a ∷ l) (acts_of_slots (k + 1) slots)
+
+acts_of_placed : (placed : List Placed) → map (λ (x : ℕ × Act). x.1) (map act_at placed) ≡ map act_of (pasts_of placed)
+acts_of_placed [] = refl
+acts_of_placed (p ∷ placed) = ap (λ (l : List Act). act_of p.past ∷ l) (acts_of_placed placed)
+
+-- the operations of the slots are the history, with the store's replies
+pub told_whole : (store : Store) (slots : List (Option Act)) (placed : List Placed) → Fills slots placed → IsLegal store (pasts_of placed) → done_from store (acts_in slots) ≡ pasts_of placed
+told_whole store slots placed fills legal =
+    ap (done_from store) (acts_of_slots 0 slots ∙ (ap (map (λ (x : ℕ × Act). x.1)) fills ∙ acts_of_placed placed)) ∙ replies_same store (pasts_of placed) legal
+
+-- What a program finds
+
+pub on_found : {A : Type 0} {P Q : A → Type 0} (r : Result A NoMemory) → IfOk r P → ((a : A) → P a → Q a) → IfOk r Q
+on_found (Ok a) p to = to a p
+on_found (Err e) p to = tt
+
+-- Lists that a loop makes
+
+pub replicate_more : {X : Type 0} (n : ℕ) (x : X) → replicate n x ++ x ∷ [] ≡ replicate (n + 1) x
+replicate_more n x = more n x ∙ ap (λ (m : ℕ). replicate m x) (plus n)
+  where
+    plus : (n : ℕ) → suc n ≡ n + 1
+    plus n = omega arith
+
+    more : {X : Type 0} (n : ℕ) (x : X) → replicate n x ++ x ∷ [] ≡ replicate (suc n) x
+    more zero x = refl
+    more (suc n) x = ap (λ l. x ∷ l) (more n x)
+
+pub take_whole : {X : Type 0} (xs : List X) (i : ℕ) → length xs ≤ i → take i xs ≡ xs
+take_whole [] zero le = refl
+take_whole [] (suc i) le = refl
+take_whole (x ∷ xs) zero le = absurd (omega (arith, le))
+take_whole (x ∷ xs) (suc i) le = ap (λ l. x ∷ l) (take_whole xs i (omega (arith, le)))
+
+-- one more slot
+drop_at : (slots : List (Option Act)) (i : ℕ) (x : Option Act) → i < length slots → x ≡ slice_index_or slots i x → drop i slots ≡ x ∷ drop (i + 1) slots
+drop_at slots i x lt is = drop_here slots i x lt is ∙ ap (λ (n : ℕ). x ∷ drop n slots) (plus i)
+  where
+    plus : (n : ℕ) → suc n ≡ n + 1
+    plus n = omega arith
+
+pub done_none : (history : List Past) (store : Store) (slots : List (Option Act)) (i : ℕ) (x : Option Act) → i < length slots → x ≡ slice_index_or slots i x → x ≡ None
+    → history ++ done_from store (acts_in (drop (i + 1) slots)) ≡ history ++ done_from store (acts_in (drop i slots))
+done_none history store slots i x lt is none =
+    sym (ap (λ (l : List (Option Act)). history ++ done_from store (acts_in l)) (drop_at slots i x lt is ∙ ap (λ (y : Option Act). y ∷ drop (i + 1) slots) none))
+
+pub done_more : (history new : List Past) (store after : Store) (slots : List (Option Act)) (i : ℕ) (x : Option Act) (a : Act) (p : Past) → i < length slots → x ≡ slice_index_or slots i x → x ≡ Some a
+    → p ≡ done_by store a → after ≡ (applied store a.op).store → new ≡ history ++ p ∷ []
+    → new ++ done_from after (acts_in (drop (i + 1) slots)) ≡ history ++ done_from store (acts_in (drop i slots))
+done_more history new store after slots i x a p lt is some past left push =
+    let rest = acts_in (drop (i + 1) slots) in
+    ap (λ (l : List Past). l ++ done_from after (acts_in (drop (i + 1) slots))) push
+    ∙ (append_assoc history (p ∷ []) (done_from after (acts_in (drop (i + 1) slots)))
+    ∙ (ap (λ (q : Past). history ++ q ∷ done_from after (acts_in (drop (i + 1) slots))) past
+    ∙ (ap (λ (s : Store). history ++ done_by store a ∷ done_from s (acts_in (drop (i + 1) slots))) left
+    ∙ sym (ap (λ (l : List (Option Act)). history ++ done_from store (acts_in l)) (drop_at slots i x lt is ∙ ap (λ (y : Option Act). y ∷ drop (i + 1) slots) some)))))

@@ -1,0 +1,296 @@
+-- What is noted of a client's reads tells where a reply has its place.
+use Rattle.std.proofs.Common.{◌≡◌, ℕ, zero, suc, ◌<◌, ◌⊎◌, inl, inr, Bool, true, false, List, [], ◌∷◌, ◌++◌, length, map, Option, Some, None, refl, subst, sym, ap, ◌∙◌, arith, if◌then◌else◌, Contains}
+use Rattle.std.specs.List.{AllByRecursion}
+use Rattle.std.proofs.lemmas.List.Elements.{Contains-append_left, Contains-append_right}
+use Rattle.mn_base.specs.declared.ids.ClientNo.{ClientNo}
+use Rattle.mn_base.specs.declared.op.Op.{Op}
+use Rattle.mn_base.specs.declared.op.Op.TheVariants.{Tx, Snapshot, Branch, Scan, Versions}
+use Rattle.mn_base.specs.declared.reply.Reply.{Reply}
+use Rattle.mn_base.specs.declared.reply.Reply.TheVariants as Say
+use Rattle.mn_world.specs.declared.entry.Entry.{Entry}
+use Rattle.mn_world.specs.declared.entry.What.{What}
+use Rattle.mn_world.specs.declared.entry.What.TheVariants.{Begin, Issue, Called, Stopped, Restarted, Abandoned, Answered}
+use Rattle.mn_world.specs.Calls.{is_by, client_entries, begun_in, under_way, under_way_after, since_begin, since_begin_after}
+use Rattle.mn_world.specs.History.{ShowsHere, LastShown, FirstCatalogAt, ReadPlace, NoCatalog}
+use Rattle.mn_world.specs.Shown.{Seen, seen_at, seen_in, IsCatalogRead, ReadShows}
+use Rattle.mn_world.proofs.Bytes.Seen.{nothing}
+use Rattle.mn_world.proofs.Meaning.Tell.{one_read}
+use Rattle.mn_world.proofs.Reading.Sees.{seen_in-cons}
+use Rattle.mn_hist.proofs.Places.{catalog_read, no_catalog_read}
+use Rattle.mn_hist.specs.History.{Note, CallerState, with_seen, state_after, state_of, IsLastNote, IsFirstNote, IsNotedPlace}
+use Rattle.mn_hist.specs.Shown.{is_of_catalog, HasCatalog, IsShown, IsUnshown}
+
+clash : (b : Bool) → b ≡ true → b ≡ false → ⊥
+clash b p q = cc
+
+-- The operation under way
+
+with_begun : (n : ℕ) (seens : List Seen) (s : CallerState) → (with_seen n seens s).begun ≡ s.begun
+with_begun n [] s = refl
+with_begun n (x ∷ xs) s = refl
+
+begun_step : (n : ℕ) (what : What) (seens : List Seen) (s : CallerState) → (state_after n what seens s).begun ≡ under_way_after what s.begun
+begun_step n (Begin number op) seens s = refl
+begun_step n (Answered number answer) seens s = refl
+begun_step n (Issue tid mini) seens s = with_begun n seens s
+begun_step n (Called request reply) seens s = with_begun n seens s
+begun_step n (Stopped request asked) seens s = with_begun n seens s
+begun_step n (Restarted kept) seens s = with_begun n seens s
+begun_step n (Abandoned tid) seens s = with_begun n seens s
+
+pub begun_is : (c : ClientNo) (past : List Entry) → (state_of c past).begun ≡ under_way (client_entries c past)
+begun_is c [] = refl
+begun_is c (e ∷ past) =
+    elim (is_by c e) as (λ b. (if b then state_after (length past) e.what (seen_at e) (state_of c past) else state_of c past).begun ≡ under_way (if b then e ∷ client_entries c past else client_entries c past)) [
+      | true ↦ begun_step (length past) e.what (seen_at e) (state_of c past) ∙ ap (under_way_after e.what) (begun_is c past)
+      | false ↦ begun_is c past
+    ]
+
+-- The catalog that was read last
+
+has_older : (e : Entry) (es : List Entry) (o : Option (List ℕ)) → HasCatalog es o → HasCatalog (e ∷ es) o
+has_older e es None has = has
+has_older e es (Some bytes) (seen, has, is, same) = (seen, subst (λ (l : List Seen). Contains l seen) (sym (seen_in-cons e es)) (Contains-append_right (seen_at e) (seen_in es) seen has), is, same)
+
+with_catalog : (e : Entry) (es : List Entry) (n : ℕ) (seens : List Seen) (s : CallerState) → ((x : Seen) → Contains seens x → Contains (seen_in (e ∷ es)) x) → HasCatalog (e ∷ es) s.catalog → HasCatalog (e ∷ es) (with_seen n seens s).catalog
+with_catalog e es n [] s there has = has
+with_catalog e es n (x ∷ xs) s there has =
+    elim (is_of_catalog x) as (λ b. is_of_catalog x ≡ b → HasCatalog (e ∷ es) (if b then Some x.bytes else s.catalog)) [
+      | true ↦ λ is. (x, there x (0, omega arith, refl), catalog_read x is, refl)
+      | false ↦ λ is. has
+    ] refl
+
+catalog_step : (e : Entry) (es : List Entry) (n : ℕ) (what : What) (seens : List Seen) (s : CallerState) → ((x : Seen) → Contains seens x → Contains (seen_in (e ∷ es)) x) → HasCatalog (e ∷ es) s.catalog → HasCatalog (e ∷ es) (state_after n what seens s).catalog
+catalog_step e es n (Begin number op) seens s there has = has
+catalog_step e es n (Answered number answer) seens s there has = has
+catalog_step e es n (Issue tid mini) seens s there has = with_catalog e es n seens s there has
+catalog_step e es n (Called request reply) seens s there has = with_catalog e es n seens s there has
+catalog_step e es n (Stopped request asked) seens s there has = with_catalog e es n seens s there has
+catalog_step e es n (Restarted kept) seens s there has = with_catalog e es n seens s there has
+catalog_step e es n (Abandoned tid) seens s there has = with_catalog e es n seens s there has
+
+pub catalog_has : (c : ClientNo) (past : List Entry) → HasCatalog (client_entries c past) (state_of c past).catalog
+catalog_has c [] = tt
+catalog_has c (e ∷ past) =
+    elim (is_by c e) as (λ b. HasCatalog (if b then e ∷ client_entries c past else client_entries c past) (if b then state_after (length past) e.what (seen_at e) (state_of c past) else state_of c past).catalog) [
+      | true ↦ catalog_step e (client_entries c past) (length past) e.what (seen_at e) (state_of c past)
+          (λ x has. subst (λ (l : List Seen). Contains l x) (sym (seen_in-cons e (client_entries c past))) (Contains-append_left (seen_at e) (seen_in (client_entries c past)) x has))
+          (has_older e (client_entries c past) (state_of c past).catalog (catalog_has c past))
+      | false ↦ catalog_has c past
+    ]
+
+-- The last read that shows a reply
+
+no_split : (newer : List Note) (note : Note) (older : List Note) → [] ≡ newer ++ note ∷ older → ⊥
+no_split [] note older e = cc
+no_split (x ∷ newer) note older e = cc
+
+only : (s x : Seen) → Contains (s ∷ []) x → s ≡ x
+only s x (zero, in', is) = is
+only s x (suc k, in', is) = absurd (omega arith)
+
+last_quiet : (c : ClientNo) (op : Op) (reply : Reply) (past : List Entry) (e : Entry) (place : ℕ)
+    → is_by c e ≡ true → begun_in e.what ≡ []
+    → (IsLastNote (state_of c past).notes op reply place → LastShown c op reply past place)
+    → (seen_at e ≡ []) ⊎ ((seen : Seen) × (seen_at e ≡ seen ∷ []))
+    → IsLastNote (with_seen (length past) (seen_at e) (state_of c past)).notes op reply place
+    → LastShown c op reply (e ∷ past) place
+last_quiet c op reply past e place by none rest (inl empty) l =
+    inr (
+      λ h. nothing h.1.0 (subst (λ (x : List Seen). Contains x h.1.0) empty h.1.1),
+      inr none,
+      rest (subst (λ (x : List Seen). IsLastNote (with_seen (length past) x (state_of c past)).notes op reply place) empty l),
+    )
+last_quiet c op reply past e place by none rest (inr (x, is)) l =
+    at (subst (λ (y : List Seen). IsLastNote (with_seen (length past) y (state_of c past)).notes op reply place) is l)
+  where
+    here : Note
+    here = record { place = length past; seen = x; catalog = (state_of c past).catalog }
+
+    first : (newer older : List Note) (note : Note) → here ∷ (state_of c past).notes ≡ newer ++ note ∷ older → place ≡ note.place
+        → IsShown note.catalog note.seen op reply → AllByRecursion (λ (n : Note). IsUnshown n.seen op reply) newer
+        → LastShown c op reply (e ∷ past) place
+    first [] older note split is_place shown unseen =
+        let same : note ≡ here = cc in
+        let shows : IsShown (state_of c past).catalog x op reply = subst (λ (n : Note). IsShown n.catalog n.seen op reply) same shown in
+        inl ((by, (x, subst (λ (y : List Seen). Contains y x) (sym is) (0, omega arith, refl), shows (client_entries c past) (catalog_has c past))), is_place ∙ ap (λ (n : Note). n.place) same)
+    first (y ∷ newer) older note split is_place shown unseen =
+        let same : y ≡ here = cc in
+        let tail : (state_of c past).notes ≡ newer ++ note ∷ older = cc in
+        let unshown : IsUnshown x op reply = subst (λ (n : Note). IsUnshown n.seen op reply) same unseen.0 in
+        inr (
+          λ h. unshown (client_entries c past) (subst (λ (z : Seen). ReadShows (client_entries c past) z op reply) (sym (only x h.1.0 (subst (λ (y : List Seen). Contains y h.1.0) is h.1.1))) h.1.2),
+          inr none,
+          rest (record { newer = newer; note = note; older = older; split = tail; is_place = is_place; shown = shown; none = unseen.1 }),
+        )
+
+    at : IsLastNote (here ∷ (state_of c past).notes) op reply place → LastShown c op reply (e ∷ past) place
+    at l = first l.newer l.older l.note l.split l.is_place l.shown l.none
+
+last_step : (c : ClientNo) (op : Op) (reply : Reply) (past : List Entry) (e : Entry) (place : ℕ)
+    → is_by c e ≡ true → (what : What) → e.what ≡ what
+    → (IsLastNote (state_of c past).notes op reply place → LastShown c op reply past place)
+    → IsLastNote (state_after (length past) what (seen_at e) (state_of c past)).notes op reply place
+    → LastShown c op reply (e ∷ past) place
+last_step c op reply past e place by (Begin number op') is rest l = absurd (no_split l.newer l.note l.older l.split)
+last_step c op reply past e place by (Answered number answer) is rest l = absurd (no_split l.newer l.note l.older l.split)
+last_step c op reply past e place by (Issue tid mini) is rest l = last_quiet c op reply past e place by (ap begun_in is) rest (one_read e) l
+last_step c op reply past e place by (Called request reply') is rest l = last_quiet c op reply past e place by (ap begun_in is) rest (one_read e) l
+last_step c op reply past e place by (Stopped request asked) is rest l = last_quiet c op reply past e place by (ap begun_in is) rest (one_read e) l
+last_step c op reply past e place by (Restarted kept) is rest l = last_quiet c op reply past e place by (ap begun_in is) rest (one_read e) l
+last_step c op reply past e place by (Abandoned tid) is rest l = last_quiet c op reply past e place by (ap begun_in is) rest (one_read e) l
+
+pub last_note : (c : ClientNo) (op : Op) (reply : Reply) (past : List Entry) (place : ℕ) → IsLastNote (state_of c past).notes op reply place → LastShown c op reply past place
+last_note c op reply [] place l = absurd (no_split l.newer l.note l.older l.split)
+last_note c op reply (e ∷ past) place l =
+    elim (is_by c e) as (λ b. is_by c e ≡ b → IsLastNote (if b then state_after (length past) e.what (seen_at e) (state_of c past) else state_of c past).notes op reply place → LastShown c op reply (e ∷ past) place) [
+      | true ↦ λ by l. last_step c op reply past e place by e.what refl (last_note c op reply past place) l
+      | false ↦ λ by l. inr (λ h. clash (is_by c e) h.0 by, inl by, last_note c op reply past place l)
+    ] refl l
+
+-- The first read of the catalog
+
+skip : (c : ClientNo) (e : Entry) (l : List Entry) → is_by c e ≡ false → client_entries c (e ∷ l) ≡ client_entries c l
+skip c e l by = ap (λ b. if b then e ∷ client_entries c l else client_entries c l) by
+
+keep : (c : ClientNo) (e : Entry) (l : List Entry) → is_by c e ≡ true → client_entries c (e ∷ l) ≡ e ∷ client_entries c l
+keep c e l by = ap (λ b. if b then e ∷ client_entries c l else client_entries c l) by
+
+-- what was noted is what was read since the operation began
+seens_quiet : (e : Entry) (es : List Entry) (n : ℕ) (s : CallerState) → map (λ (x : Note). x.seen) s.notes ≡ seen_in es
+    → (seen_at e ≡ []) ⊎ ((seen : Seen) × (seen_at e ≡ seen ∷ []))
+    → map (λ (x : Note). x.seen) (with_seen n (seen_at e) s).notes ≡ seen_in (e ∷ es)
+seens_quiet e es n s same (inl empty) =
+    ap (λ (l : List Seen). map (λ (x : Note). x.seen) (with_seen n l s).notes) empty
+    ∙ (same ∙ sym (seen_in-cons e es ∙ ap (λ (l : List Seen). l ++ seen_in es) empty))
+seens_quiet e es n s same (inr (x, is)) =
+    ap (λ (l : List Seen). map (λ (y : Note). y.seen) (with_seen n l s).notes) is
+    ∙ (ap (λ (l : List Seen). x ∷ l) same ∙ sym (seen_in-cons e es ∙ ap (λ (l : List Seen). l ++ seen_in es) is))
+
+seens_step : (e : Entry) (es : List Entry) (n : ℕ) (what : What) (s : CallerState) → map (λ (x : Note). x.seen) s.notes ≡ seen_in (since_begin es)
+    → map (λ (x : Note). x.seen) (state_after n what (seen_at e) s).notes ≡ seen_in (since_begin_after what e (since_begin es))
+seens_step e es n (Begin number op) s same = refl
+seens_step e es n (Answered number answer) s same = refl
+seens_step e es n (Issue tid mini) s same = seens_quiet e (since_begin es) n s same (one_read e)
+seens_step e es n (Called request reply) s same = seens_quiet e (since_begin es) n s same (one_read e)
+seens_step e es n (Stopped request asked) s same = seens_quiet e (since_begin es) n s same (one_read e)
+seens_step e es n (Restarted kept) s same = seens_quiet e (since_begin es) n s same (one_read e)
+seens_step e es n (Abandoned tid) s same = seens_quiet e (since_begin es) n s same (one_read e)
+
+notes_seens : (c : ClientNo) (past : List Entry) → map (λ (x : Note). x.seen) (state_of c past).notes ≡ seen_in (since_begin (client_entries c past))
+notes_seens c [] = refl
+notes_seens c (e ∷ past) =
+    elim (is_by c e) as (λ b. map (λ (x : Note). x.seen) (if b then state_after (length past) e.what (seen_at e) (state_of c past) else state_of c past).notes ≡ seen_in (since_begin (if b then e ∷ client_entries c past else client_entries c past))) [
+      | true ↦ seens_step e (client_entries c past) (length past) e.what (state_of c past) (notes_seens c past)
+      | false ↦ notes_seens c past
+    ]
+
+none_read : (notes : List Note) → AllByRecursion (λ (n : Note). is_of_catalog n.seen ≡ false) notes → NoCatalog (map (λ (n : Note). n.seen) notes)
+none_read [] none = tt
+none_read (n ∷ notes) none = (no_catalog_read n.seen none.0, none_read notes none.1)
+
+first_quiet : (c : ClientNo) (past : List Entry) (e : Entry) (place : ℕ) → is_by c e ≡ true
+    → since_begin (e ∷ client_entries c past) ≡ e ∷ since_begin (client_entries c past)
+    → (IsFirstNote (state_of c past).notes place → FirstCatalogAt c past place)
+    → (seen_at e ≡ []) ⊎ ((seen : Seen) × (seen_at e ≡ seen ∷ []))
+    → IsFirstNote (with_seen (length past) (seen_at e) (state_of c past)).notes place
+    → FirstCatalogAt c (e ∷ past) place
+first_quiet c past e place by since rest one l = by_read one l
+  where
+    further : FirstCatalogAt c past place → FirstCatalogAt c (e ∷ past) place
+    further r = record {
+      entry = r.entry;
+      later = e ∷ r.later;
+      before = r.before;
+      split = ap (λ (x : List Entry). e ∷ x) r.split;
+      here = r.here;
+      is_place = r.is_place;
+      since = ap since_begin (keep c e past by) ∙ (since ∙ (ap (λ (x : List Entry). e ∷ x) r.since ∙ ap (λ (x : List Entry). x ++ r.entry ∷ since_begin (client_entries c r.before)) (sym (keep c e r.later by))));
+      first = r.first;
+    }
+
+    first : (x : Seen) → seen_at e ≡ x ∷ [] → (newer older : List Note) (note : Note)
+        → record { place = length past; seen = x; catalog = (state_of c past).catalog } ∷ (state_of c past).notes ≡ newer ++ note ∷ older
+        → place ≡ note.place → is_of_catalog note.seen ≡ true → AllByRecursion (λ (n : Note). is_of_catalog n.seen ≡ false) older
+        → FirstCatalogAt c (e ∷ past) place
+    first x is [] older note split is_place catalog none =
+        let same : note ≡ record { place = length past; seen = x; catalog = (state_of c past).catalog } = cc in
+        let tail : older ≡ (state_of c past).notes = cc in
+        record {
+          entry = e;
+          later = [];
+          before = past;
+          split = refl;
+          here = (by, (x, subst (λ (y : List Seen). Contains y x) (sym is) (0, omega arith, refl), catalog_read x (sym (ap (λ (n : Note). is_of_catalog n.seen) same) ∙ catalog)));
+          is_place = is_place ∙ ap (λ (n : Note). n.place) same;
+          since = ap since_begin (keep c e past by) ∙ since;
+          first = subst NoCatalog (notes_seens c past) (none_read (state_of c past).notes (subst (AllByRecursion (λ (n : Note). is_of_catalog n.seen ≡ false)) tail none));
+        }
+    first x is (y ∷ newer) older note split is_place catalog none =
+        let tail : (state_of c past).notes ≡ newer ++ note ∷ older = cc in
+        further (rest (record { newer = newer; note = note; older = older; split = tail; is_place = is_place; catalog = catalog; none = none }))
+
+    at : (x : Seen) → seen_at e ≡ x ∷ [] → IsFirstNote (record { place = length past; seen = x; catalog = (state_of c past).catalog } ∷ (state_of c past).notes) place → FirstCatalogAt c (e ∷ past) place
+    at x is l = first x is l.newer l.older l.note l.split l.is_place l.catalog l.none
+
+    by_read : (seen_at e ≡ []) ⊎ ((seen : Seen) × (seen_at e ≡ seen ∷ []))
+        → IsFirstNote (with_seen (length past) (seen_at e) (state_of c past)).notes place
+        → FirstCatalogAt c (e ∷ past) place
+    by_read (inl empty) l = further (rest (subst (λ (x : List Seen). IsFirstNote (with_seen (length past) x (state_of c past)).notes place) empty l))
+    by_read (inr (x, is)) l = at x is (subst (λ (y : List Seen). IsFirstNote (with_seen (length past) y (state_of c past)).notes place) is l)
+
+first_step : (c : ClientNo) (past : List Entry) (e : Entry) (place : ℕ) → is_by c e ≡ true
+    → (what : What) → e.what ≡ what
+    → (IsFirstNote (state_of c past).notes place → FirstCatalogAt c past place)
+    → IsFirstNote (state_after (length past) what (seen_at e) (state_of c past)).notes place
+    → FirstCatalogAt c (e ∷ past) place
+first_step c past e place by (Begin number op) is rest l = absurd (none l.newer l.split)
+  where
+    none : (newer : List Note) → [] ≡ newer ++ l.note ∷ l.older → ⊥
+    none newer s = no_split newer l.note l.older s
+first_step c past e place by (Answered number answer) is rest l = absurd (none l.newer l.split)
+  where
+    none : (newer : List Note) → [] ≡ newer ++ l.note ∷ l.older → ⊥
+    none newer s = no_split newer l.note l.older s
+first_step c past e place by (Issue tid mini) is rest l = first_quiet c past e place by (ap (λ (w : What). since_begin_after w e (since_begin (client_entries c past))) is) rest (one_read e) l
+first_step c past e place by (Called request reply) is rest l = first_quiet c past e place by (ap (λ (w : What). since_begin_after w e (since_begin (client_entries c past))) is) rest (one_read e) l
+first_step c past e place by (Stopped request asked) is rest l = first_quiet c past e place by (ap (λ (w : What). since_begin_after w e (since_begin (client_entries c past))) is) rest (one_read e) l
+first_step c past e place by (Restarted kept) is rest l = first_quiet c past e place by (ap (λ (w : What). since_begin_after w e (since_begin (client_entries c past))) is) rest (one_read e) l
+first_step c past e place by (Abandoned tid) is rest l = first_quiet c past e place by (ap (λ (w : What). since_begin_after w e (since_begin (client_entries c past))) is) rest (one_read e) l
+
+pub first_note : (c : ClientNo) (past : List Entry) (place : ℕ) → IsFirstNote (state_of c past).notes place → FirstCatalogAt c past place
+first_note c [] place l = absurd (no_split l.newer l.note l.older l.split)
+first_note c (e ∷ past) place l =
+    elim (is_by c e) as (λ b. is_by c e ≡ b → IsFirstNote (if b then state_after (length past) e.what (seen_at e) (state_of c past) else state_of c past).notes place → FirstCatalogAt c (e ∷ past) place) [
+      | true ↦ λ by l. first_step c past e place by e.what refl (first_note c past place) l
+      | false ↦ λ by l.
+          let r = first_note c past place l in
+          record {
+            entry = r.entry;
+            later = e ∷ r.later;
+            before = r.before;
+            split = ap (λ (x : List Entry). e ∷ x) r.split;
+            here = r.here;
+            is_place = r.is_place;
+            since = ap since_begin (skip c e past by) ∙ (r.since ∙ ap (λ (x : List Entry). x ++ r.entry ∷ since_begin (client_entries c r.before)) (sym (skip c e r.later by)));
+            first = r.first;
+          }
+    ] refl l
+
+-- Where a reply that no plan gives has its place
+
+pub noted_place : (c : ClientNo) (past : List Entry) (op : Op) (reply : Reply) (place : ℕ) → IsNotedPlace (state_of c past).notes op reply place → ReadPlace c past op reply place
+noted_place c past (Scan version low high limit) (Say.Pairs pairs) place at = first_note c past place at
+noted_place c past (Scan version low high limit) (Say.Values found) place at = last_note c (Scan version low high limit) (Say.Values found) past place at
+noted_place c past (Scan version low high limit) (Say.Unmet step found) place at = last_note c (Scan version low high limit) (Say.Unmet step found) past place at
+noted_place c past (Scan version low high limit) Say.Made place at = last_note c (Scan version low high limit) Say.Made past place at
+noted_place c past (Scan version low high limit) (Say.Listing versions) place at = last_note c (Scan version low high limit) (Say.Listing versions) past place at
+noted_place c past (Scan version low high limit) Say.NoVersion place at = last_note c (Scan version low high limit) Say.NoVersion past place at
+noted_place c past (Scan version low high limit) Say.Frozen place at = last_note c (Scan version low high limit) Say.Frozen past place at
+noted_place c past (Scan version low high limit) Say.NotFrozen place at = last_note c (Scan version low high limit) Say.NotFrozen past place at
+noted_place c past (Scan version low high limit) Say.NameTaken place at = last_note c (Scan version low high limit) Say.NameTaken past place at
+noted_place c past (Scan version low high limit) Say.VersionsFull place at = last_note c (Scan version low high limit) Say.VersionsFull past place at
+noted_place c past (Tx version steps) reply place at = last_note c (Tx version steps) reply past place at
+noted_place c past (Snapshot version child) reply place at = last_note c (Snapshot version child) reply past place at
+noted_place c past (Branch version child) reply place at = last_note c (Branch version child) reply past place at
+noted_place c past Versions reply place at = last_note c Versions reply past place at

@@ -1,0 +1,243 @@
+-- What is kept of the entries so far to tell the history. Lists of entries and of reads stand newest
+-- first.
+use Rattle.std.specs.Prelude.{ℕ, ◌≡◌, ◌+◌, ◌<◌, Bool, true, false, ◌&&◌, nat_lt, nat_eq, ⊤}
+use Rattle.std.specs.Prelude.{List, [], ◌∷◌, ◌++◌, length, map, Option, Some, None}
+use Rattle.std.specs.Prelude.{if◌then◌else◌, slice_get}
+use Rattle.std.specs.List.{AllByRecursion}
+use Rattle.std.specs.Option.{option_map}
+use Rattle.std.specs.HashMap.{HashMap, get}
+use Rattle.std.specs.HashSet.{HashSet, contains}
+use Rattle.std.specs.Prelude.{slice_set}
+use Rattle.mn_base.specs.Ids.{tid_same}
+use Rattle.mn_base.specs.Store.{Store, applied}
+use Rattle.mn_base.specs.declared.answer.Answer.{Answer}
+use Rattle.mn_base.specs.declared.history.Past.{Past}
+use Rattle.mn_base.specs.declared.ids.ClientNo.{ClientNo}
+use Rattle.mn_base.specs.declared.ids.Tid.{Tid}
+use Rattle.mn_base.specs.declared.op.Op.{Op}
+use Rattle.mn_base.specs.declared.op.Op.TheVariants.{Scan}
+use Rattle.mn_base.specs.declared.reply.Reply.{Reply}
+use Rattle.mn_base.specs.declared.reply.Reply.TheVariants.{Pairs}
+use Rattle.mn_mini.specs.Mini.{Mini}
+use Rattle.mn_world.specs.declared.entry.Entry.{Entry}
+use Rattle.mn_world.specs.declared.entry.What.{What}
+use Rattle.mn_world.specs.declared.entry.What.TheVariants.{Begin, Issue, Answered}
+use Rattle.mn_world.specs.Calls.{is_by, client_entries, Issued, issues_of, issue_named, Begun, under_way}
+use Rattle.mn_world.specs.declared.commit_reader.CommittedMini.{CommittedMini}
+use Rattle.mn_world.specs.CommitReader.{HasRead, issued_of}
+use Rattle.mn_world.specs.History.{Placed, has_past, AnswerPuts, EntryPuts, IsHistory}
+use Rattle.mn_world.specs.Shown.{Seen, seen_at, IsCatalogRead}
+use Rattle.mn_world.specs.Standing.{id_key, keys_same}
+use Rattle.mn_world.specs.declared.flat.IdKey.{IdKey}
+use Rattle.mn_hist.specs.declared.history.OpKey.{OpKey}
+use Rattle.mn_hist.specs.Shown.{is_of_catalog, IsShown, IsUnshown}
+
+-- Reads of a client
+
+-- a read with its place, and the bytes of the catalog that its client had read last before it
+pub record Note : Type 0 where
+  pub place : ℕ
+  pub seen : Seen
+  pub catalog : Option (List ℕ)
+
+-- what the entries so far tell of a client: its operation under way, what it has read since that
+-- began, and the catalog that it read last
+pub record CallerState : Type 0 where
+  pub begun : Option Begun
+  pub notes : List Note
+  pub catalog : Option (List ℕ)
+
+abbrev pub idle : CallerState
+idle = record { begun = None; notes = []; catalog = None }
+
+-- with what an entry of the client at this place has read
+abbrev pub with_seen : ℕ → List Seen → CallerState → CallerState
+with_seen place [] s = s
+with_seen place (seen ∷ seens) s = record {
+  begun = s.begun;
+  notes = record { place = place; seen = seen; catalog = s.catalog } ∷ s.notes;
+  catalog = if is_of_catalog seen then Some seen.bytes else s.catalog;
+}
+
+-- after a step of the client at this place, which has read this
+abbrev pub state_after : ℕ → What → List Seen → CallerState → CallerState
+state_after place (Begin number op) seens s = record {
+  begun = Some (record { number = number; op = op });
+  notes = [];
+  catalog = s.catalog;
+}
+state_after place (Answered number answer) seens s = record {
+  begun = None;
+  notes = [];
+  catalog = s.catalog;
+}
+state_after place what seens s = with_seen place seens s
+
+abbrev pub state_of : ClientNo → List Entry → CallerState
+state_of c [] = idle
+state_of c (e ∷ past) =
+    if is_by c e then state_after (length past) e.what (seen_at e) (state_of c past)
+    else state_of c past
+
+-- the place is that of the last of these reads that shows the reply
+pub record IsLastNote (notes : List Note) (op : Op) (reply : Reply) (place : ℕ) : Type 0 where
+  pub newer : List Note
+  pub note : Note
+  pub older : List Note
+  pub split : notes ≡ newer ++ note ∷ older
+  pub is_place : place ≡ note.place
+  pub shown : IsShown note.catalog note.seen op reply
+  pub none : AllByRecursion (λ n. IsUnshown n.seen op reply) newer
+
+-- the place is that of the first read of the catalog
+pub record IsFirstNote (notes : List Note) (place : ℕ) : Type 0 where
+  pub newer : List Note
+  pub note : Note
+  pub older : List Note
+  pub split : notes ≡ newer ++ note ∷ older
+  pub is_place : place ≡ note.place
+  pub catalog : is_of_catalog note.seen ≡ true
+  pub none : AllByRecursion (λ n. is_of_catalog n.seen ≡ false) older
+
+-- where a reply that no plan gives has its place
+abbrev pub IsNotedPlace : List Note → Op → Reply → ℕ → Type 0
+IsNotedPlace notes (Scan version low high limit) (Pairs pairs) place = IsFirstNote notes place
+IsNotedPlace notes op reply place = IsLastNote notes op reply place
+
+-- Plans
+
+-- who issued a plan, and for which operation
+pub record Planner : Type 0 where
+  pub client : Option ClientNo
+  pub begun : Option Begun
+
+abbrev pub begun_by : Option ClientNo → List Entry → Option Begun
+begun_by None past = None
+begun_by (Some c) past = under_way (client_entries c past)
+
+abbrev pub planner_after : Tid → Option ClientNo → What → List Entry → Option Planner
+    → Option Planner
+planner_after tid by (Issue t mini) past before =
+    if tid_same t tid then Some (record { client = by; begun = begun_by by past }) else before
+planner_after tid by what past before = before
+
+-- who issued the last plan of this id
+abbrev pub planner_of : Tid → List Entry → Option Planner
+planner_of tid [] = None
+planner_of tid (e ∷ past) = planner_after tid e.client e.what past (planner_of tid past)
+
+-- Operations at their places
+
+-- an operation without its reply
+pub record Act : Type 0 where
+  pub client : ClientNo
+  pub number : ℕ
+  pub op : Op
+
+abbrev pub act_of : Past → Act
+act_of p = record { client = p.client; number = p.number; op = p.op }
+
+-- the filled slots, with their places
+abbrev pub acts_from : ℕ → List (Option Act) → List (ℕ × Act)
+acts_from k [] = []
+acts_from k (None ∷ slots) = acts_from (k + 1) slots
+acts_from k (Some a ∷ slots) = (k, a) ∷ acts_from (k + 1) slots
+
+abbrev pub act_at : Placed → ℕ × Act
+act_at p = (p.place, act_of p.past)
+
+-- Keeping
+
+abbrev pub planner_kept : {S : Type 0} → HashMap IdKey Planner S → Tid → Option Planner
+planner_kept plans tid = get keys_same plans (id_key tid)
+
+-- that of an operation's plan
+abbrev pub planner_for : Act → Planner
+planner_for a = record {
+  client = Some a.client;
+  begun = Some (record { number = a.number; op = a.op });
+}
+
+abbrev pub op_key : ClientNo → ℕ → OpKey
+op_key c number = record { client = c.0; number = number }
+
+abbrev pub ops_same : OpKey → OpKey → Bool
+ops_same a b = nat_eq a.client b.client && nat_eq a.number b.number
+
+abbrev pub stands : {S : Type 0} → HashSet OpKey S → ClientNo → ℕ → Bool
+stands standing c number = contains ops_same standing (op_key c number)
+
+-- the slot of this place was empty, and has the operation now
+abbrev pub IsPutInto : List (Option Act) → ℕ → Act → List (Option Act) → Type 0
+IsPutInto old place act new =
+    (slice_get old place ≡ Some None) × (new ≡ slice_set old place (Some act))
+
+-- these operations stand in the history
+abbrev pub Stands : {S : Type 0} → HashSet OpKey S → List Placed → Type 0
+Stands standing placed = (c : ClientNo) (number : ℕ) → stands standing c number ≡ has_past c number placed
+
+-- the slots hold them
+abbrev pub Fills : List (Option Act) → List Placed → Type 0
+Fills slots placed = acts_from 0 slots ≡ map act_at placed
+
+-- what the answer to a client's operation puts into the history stands there
+pub record Puts {S : Type 0} (past : List Entry) (c : ClientNo) (answer : Answer) (placed : List Placed) (standing : HashSet OpKey S) (old new : List (Option Act)) : Type 0 where
+  pub next : List Placed
+  pub puts : AnswerPuts past c (under_way (client_entries c past)) answer placed next
+  pub stands : Stands standing next
+  pub fills : Fills new next
+  pub long : length new ≡ length old
+
+-- what is kept of plans is who issued the last plan of each id
+abbrev pub Knows : {S : Type 0} → HashMap IdKey Planner S → List Entry → Type 0
+Knows plans past = (tid : Tid) → planner_kept plans tid ≡ planner_of tid past
+
+-- it was issued under its id
+abbrev pub Named : List Entry → CommittedMini → Type 0
+Named past m = issue_named m.tid (issues_of past) ≡ Some m.mini.now
+
+-- the history with the operation of a commit at its end
+abbrev pub placed_last : ℕ → Option Act → Reply → List Placed → List Placed
+placed_last place None reply placed = placed
+placed_last place (Some a) reply placed =
+    placed ++ record { place = place; past = record { client = a.client; number = a.number; op = a.op; reply = reply } } ∷ []
+
+-- what a committed minitransaction puts into the history stands there
+pub record Commits {S : Type 0} (past : List Entry) (m : CommittedMini) (placed : List Placed)
+    (standing : HashSet OpKey S) (found : Option Act) : Type 0 where
+  pub reply : Reply
+  pub puts : (e : Entry) → EntryPuts past e (Some (issued_of m)) placed (placed_last (length past) found reply placed)
+  pub stands : Stands standing (placed_last (length past) found reply placed)
+
+-- of each client it is told what the entries so far tell of it
+abbrev pub AreCallers : List CallerState → List Entry → Type 0
+AreCallers callers past = (c : ClientNo) → c.0 < 256 → slice_get callers c.0 ≡ Some (state_of c past)
+
+-- The history so far
+
+-- what an entry that commits this puts into the history stands there, with its own place last
+pub record Takes {S : Type 0} (past : List Entry) (e : Entry) (committed : Option Issued)
+    (placed : List Placed) (standing : HashSet OpKey S) (old new : List (Option Act))
+    (found : Option Act) : Type 0 where
+  pub next : List Placed
+  pub puts : EntryPuts past e committed placed next
+  pub stands : Stands standing next
+  pub fills : length old ≡ length past → Fills (new ++ found ∷ []) next
+  pub long : length new ≡ length old
+
+-- Replies
+
+-- the operation as the store does it
+abbrev pub done_by : Store → Act → Past
+done_by store a = record { client = a.client; number = a.number; op = a.op; reply = (applied store a.op).reply }
+
+-- one after another
+abbrev pub done_from : Store → List Act → List Past
+done_from store [] = []
+done_from store (a ∷ acts) = done_by store a ∷ done_from (applied store a.op).store acts
+
+-- those in the slots
+abbrev pub acts_in : List (Option Act) → List Act
+acts_in [] = []
+acts_in (None ∷ slots) = acts_in slots
+acts_in (Some a ∷ slots) = a ∷ acts_in slots

@@ -1,0 +1,589 @@
+//! The operations of a log in order of place.
+ghost use Rattle.std.specs.Option.{option_map};
+ghost use Rattle.std.specs.Prelude.{◌≡◌, ◌<◌, ◌∷◌, [], ℕ, List, Some, None, length, replicate, slice_get};
+ghost use Rattle.std.specs.Prelude.{IfOk, OnOk, if◌then◌else◌, ◌||◌, ◌&&◌, nat_eq, MatchOption, ⊤, reverse};
+ghost use Rattle.mn_base.specs.Ids.{client_same, tid_same};
+ghost use Rattle.mn_base.specs.declared.ids.ClientNo.{ClientNo as Who};
+ghost use Rattle.mn_base.specs.declared.ids.Tid.{Tid as Id};
+ghost use Rattle.mn_world.specs.Clients.{is_read};
+ghost use Rattle.mn_world.specs.Shown.{seen_at};
+ghost use Rattle.mn_hist.specs.History.{CallerState, idle, with_seen, state_after};
+ghost use Rattle.mn_world.specs.History.{Placed};
+ghost use Rattle.mn_world.specs.declared.entry.Entry.{Entry as Step};
+ghost use Rattle.mn_hist.specs.History.{IsLastNote, IsFirstNote, IsNotedPlace, Stands, Fills, Puts};
+ghost use Rattle.mn_hist.specs.History.{Knows, Named, Commits, AreCallers};
+ghost use Rattle.mn_world.specs.Protocol.{Start};
+ghost use Rattle.mn_world.specs.Run.{IsRun};
+ghost use Rattle.mn_hist.specs.History.{planner_kept, planner_for, op_key, stands, IsPutInto};
+ghost use Rattle.mn_hist.specs.History.{Takes, done_by, done_from, acts_in};
+ghost use Rattle.mn_hist.specs.Told.{IsReading, HasTold};
+ghost use Rattle.mn_base.specs.Store.{applied};
+ghost use Rattle.mn_world.specs.CommitReader.{issued_of};
+ghost use Rattle.mn_world.specs.Commits.{committed_by};
+ghost use Rattle.mn_world.specs.History.{IsHistory, pasts_of};
+ghost use Rattle.mn_world.specs.Meaning.{OpenedRun};
+ghost use Rattle.mn_world.specs.OneHistory.{IsOneHistory};
+ghost use Rattle.mn_world.specs.Run.{entries_of};
+
+use crate::shown::{Read, shows};
+use mn_base::{Answer, ClientNo, History, NoMemory, Op, Past, Reply, Tid, TryCopy};
+use mn_mini::{Item, Minitransaction};
+use mn_plain::Store;
+use mn_world::{
+    CommitReader, CommittedMini, Entry, IdKey, Log, What, id_key, runs_are_one_history,
+};
+use std::alloc::Global;
+use std::collections::{HashMap, HashSet};
+use std::marker::Model;
+
+/// A read of a client with its place, and the bytes of the catalog that the client had read last
+/// before it.
+#[derive(Drop)]
+struct Noted<'a> {
+    place: usize,
+    read: Read<'a>,
+    catalog: Option<&'a [u8]>,
+}
+
+impl<'a> Model for Noted<'a> {
+    ghost use Rattle.std.specs.Option.{option_map};
+    ghost use Rattle.mn_hist.specs.History.{Note};
+    ghost use Rattle.mn_hist.specs.Shown.{seen_of};
+
+    ghost Value = { Note };
+
+    ghost view = { λ n. record { place = n.place; seen = seen_of n.read; catalog = option_map (λ c. c.now) n.catalog } };
+}
+
+/// An operation that was begun.
+#[derive(Drop)]
+struct Begun<'a> {
+    number: u32,
+    op: &'a Op,
+}
+
+impl<'a> Model for Begun<'a> {
+    ghost use Rattle.mn_world.specs.Calls.{Begun};
+
+    ghost Value = { Begun };
+
+    ghost view = { λ b. record { number = b.number; op = b.op.now } };
+}
+
+/// What the entries so far tell of a client: its operation under way, what it has read since that
+/// began, and the catalog that it read last.
+#[derive(Drop)]
+struct Caller<'a> {
+    begun: Option<Begun<'a>>,
+    notes: Vec<Noted<'a>>,
+    catalog: Option<&'a [u8]>,
+}
+
+impl<'a> Model for Caller<'a> {
+    ghost use Rattle.std.specs.Prelude.{reverse};
+    ghost use Rattle.std.specs.Option.{option_map};
+    ghost use Rattle.mn_hist.specs.History.{CallerState};
+
+    ghost Value = { CallerState };
+
+    ghost view = { λ c. record { begun = c.begun; notes = reverse c.notes.items; catalog = option_map (λ b. b.now) c.catalog } };
+}
+
+/// The place of the first read of the catalog. `notes` stand oldest first.
+fn first_catalog(notes: &[Noted<'_>]) -> Option<usize>
+    ensures { MatchOption result ⊤ (IsFirstNote (reverse notes.now)) }
+{
+    for note in notes {
+        if note.read.is_catalog() {
+            return Some(note.place);
+        }
+    }
+    None
+}
+
+/// The place of the last read that shows the reply. NoMemory: there was no memory to tell.
+fn last_shown(
+    alloc: Global,
+    notes: &[Noted<'_>],
+    op: &Op,
+    reply: &Reply,
+) -> Result<Option<usize>, NoMemory>
+    ensures { IfOk result (λ found. MatchOption found ⊤ (IsLastNote (reverse notes.now) op.now reply.now)) }
+{
+    let mut left = notes.len();
+    while left > 0 {
+        left -= 1;
+        let note = &notes[left];
+        if shows(alloc, &note.read, note.catalog, op, reply)? {
+            return Ok(Some(note.place));
+        }
+    }
+    Ok(None)
+}
+
+/// Where a reply that no plan gives has its place: a scan's pairs at its first catalog read, each
+/// other at the last read that shows it. NoMemory: there was no memory to tell, or none shows it.
+fn read_place(alloc: Global, notes: &[Noted<'_>], op: &Op, reply: &Reply) -> Result<usize, NoMemory>
+    ensures { IfOk result (IsNotedPlace (reverse notes.now) op.now reply.now) }
+{
+    let place = match (op, reply) {
+        (Op::Scan { .. }, Reply::Pairs { .. }) => first_catalog(notes),
+        _ => last_shown(alloc, notes, op, reply)?,
+    };
+    place.ok_or(NoMemory)
+}
+
+impl<'a> Caller<'a> {
+    fn idle(alloc: Global) -> Caller<'a>
+        ensures { result ≡ idle }
+    {
+        Caller {
+            begun: None,
+            notes: Vec::new(alloc),
+            catalog: None,
+        }
+    }
+
+    /// Notes what an entry of its own at this place has read.
+    fn note(&mut self, place: usize, entry: &'a Entry) -> Result<(), NoMemory>
+        ensures { OnOk result (self.new ≡ with_seen place (seen_at entry.now) self.old) }
+    {
+        if let Some(read) = Read::of(entry) {
+            let catalog = self.catalog;
+            self.notes.push(Noted {
+                place,
+                read,
+                catalog,
+            })?;
+            if read.is_catalog() {
+                self.catalog = Some(read.bytes);
+            }
+        }
+        Ok(())
+    }
+
+    /// Takes an entry of its own at this place.
+    fn take(&mut self, place: usize, entry: &'a Entry) -> Result<(), NoMemory>
+        ensures { OnOk result (self.new ≡ state_after place entry.now.what (seen_at entry.now) self.old) }
+    {
+        match &entry.what {
+            What::Begin { number, op } => {
+                self.begun = Some(Begun {
+                    number: *number,
+                    op,
+                });
+                self.notes.clear();
+                Ok(())
+            }
+            What::Answered { .. } => {
+                self.begun = None;
+                self.notes.clear();
+                Ok(())
+            }
+            _ => self.note(place, entry),
+        }
+    }
+}
+
+/// Who issued a plan, and for which operation.
+#[derive(Drop)]
+struct Planner<'a> {
+    client: Option<ClientNo>,
+    begun: Option<Begun<'a>>,
+}
+
+impl<'a> Model for Planner<'a> {
+    ghost use Rattle.mn_hist.specs.History.{Planner};
+
+    ghost Value = { Planner };
+
+    ghost view = { λ p. record { client = p.client; begun = p.begun } };
+}
+
+/// An operation of the history without its reply.
+#[derive(Drop)]
+pub struct Act<'a> {
+    pub client: ClientNo,
+    pub number: u32,
+    pub op: &'a Op,
+}
+
+impl<'a> Model for Act<'a> {
+    ghost use Rattle.mn_hist.specs.History.{Act};
+
+    ghost Value = { Act };
+
+    ghost view = { λ a. record { client = a.client; number = a.number; op = a.op.now } };
+}
+
+/// An operation as it is looked up.
+#[derive(Clone, Copy, PartialEq, Eq, Hash)]
+struct OpKey {
+    client: u8,
+    number: u32,
+}
+
+fn op_key(client: ClientNo, number: u32) -> OpKey
+    ensures { result ≡ op_key client number }
+{
+    OpKey {
+        client: client.0,
+        number,
+    }
+}
+
+fn is_read(mini: &Minitransaction) -> bool
+    ensures { result ≡ is_read mini.now.items }
+{
+    matches!(mini.items(), [Item::Read { .. }])
+}
+
+fn same_begun<'a>(begun: &Begun<'a>) -> Begun<'a>
+    ensures { result ≡ begun.now }
+{
+    Begun {
+        number: begun.number,
+        op: begun.op,
+    }
+}
+
+/// The operation of the client that is under way.
+fn begun_by<'a>(callers: &[Caller<'a>], client: ClientNo) -> Option<Begun<'a>>
+    requires { length callers.now ≡ 256 }
+    ensures begun { (s : CallerState) → slice_get callers.now client.0 ≡ Some s → result ≡ s.begun }
+    ensures few { client.0 < 256 }
+{
+    let caller = &callers[usize::from(client.0)];
+    match &caller.begun {
+        Some(begun) => Some(same_begun(begun)),
+        None => None,
+    }
+}
+
+/// Notes who issued a plan of this id.
+fn note_planner<'a>(
+    plans: &mut HashMap<IdKey, Planner<'a>>,
+    tid: Tid,
+    planner: Planner<'a>,
+) -> Result<(), NoMemory>
+    ensures { OnOk result ((q : Id) → planner_kept plans.new q ≡ (if tid_same tid q then Some planner.entry else planner_kept plans.old q)) }
+{
+    plans.insert(id_key(tid), planner)?;
+    Ok(())
+}
+
+/// The operation of a plan of this id. NoMemory: none is known, as for no plan of a run.
+fn planned<'a>(plans: &HashMap<IdKey, Planner<'a>>, tid: Tid) -> Result<Act<'a>, NoMemory>
+    ensures { IfOk result (λ act. planner_kept plans.now tid ≡ Some (planner_for act)) }
+{
+    let Some(planner) = plans.get(&id_key(tid)) else {
+        return Err(NoMemory);
+    };
+    let (Some(client), Some(begun)) = (planner.client, &planner.begun) else {
+        return Err(NoMemory);
+    };
+    Ok(Act {
+        client,
+        number: begun.number,
+        op: begun.op,
+    })
+}
+
+/// Notes that the operation stands in the history.
+fn note_standing(
+    standing: &mut HashSet<OpKey>,
+    client: ClientNo,
+    number: u32,
+) -> Result<(), NoMemory>
+    ensures { OnOk result ((c : Who) (n : ℕ) → stands standing.new c n ≡ ((client_same client c && nat_eq number n) || stands standing.old c n)) }
+{
+    standing.insert(op_key(client, number))?;
+    Ok(())
+}
+
+/// Whether the operation stands in the history.
+fn is_standing(standing: &HashSet<OpKey>, client: ClientNo, number: u32) -> bool
+    ensures { result ≡ stands standing.now client number }
+{
+    standing.contains(&op_key(client, number))
+}
+
+/// Puts an operation into the empty slot of its place. NoMemory: another stands there, as at no
+/// place of a run.
+fn put<'a>(slots: &mut Vec<Option<Act<'a>>>, place: usize, act: Act<'a>) -> Result<(), NoMemory>
+    ensures { OnOk result (IsPutInto slots.old.items place act.entry slots.new.items) }
+{
+    match slots.get(place) {
+        Some(None) => {}
+        _ => return Err(NoMemory),
+    }
+    slots[place] = Some(act);
+    Ok(())
+}
+
+/// Takes the answer to a client's operation: one that was replied to, and that no plan has put into
+/// the history, has its place at a read. NoMemory: there was no memory for it, or no read tells its
+/// place.
+fn take_answer<'a>(
+    alloc: Global,
+    callers: &[Caller<'a>],
+    standing: &mut HashSet<OpKey>,
+    slots: &mut Vec<Option<Act<'a>>>,
+    client: ClientNo,
+    answer: &Answer,
+) -> Result<(), NoMemory>
+    requires { length callers.now ≡ 256 }
+    ensures { OnOk result ((past : List Step) (placed : List Placed) → AreCallers callers.now past → Stands standing.old placed → Fills slots.old.items placed → Puts past client answer.now placed standing.new slots.old.items slots.new.items) }
+{
+    let Answer::Replied { reply } = answer else {
+        return Ok(());
+    };
+    let caller = &callers[usize::from(client.0)];
+    let Some(begun) = &caller.begun else {
+        return Ok(());
+    };
+    if is_standing(standing, client, begun.number) {
+        return Ok(());
+    }
+    let place = read_place(alloc, &caller.notes, begun.op, reply)?;
+    let act = Act {
+        client,
+        number: begun.number,
+        op: begun.op,
+    };
+    put(slots, place, act)?;
+    note_standing(standing, client, begun.number)
+}
+
+/// The operation of a committed plan, which stands in the history from now on; none for a read.
+/// NoMemory: there was no memory for it, or its plan is not known.
+fn take_commit<'a>(
+    plans: &HashMap<IdKey, Planner<'a>>,
+    standing: &mut HashSet<OpKey>,
+    committed: CommittedMini<'a>,
+) -> Result<Option<Act<'a>>, NoMemory>
+    ensures { IfOk result (λ found. (start : Start) (past : List Step) (placed : List Placed) → IsRun start past → Knows plans.now past → Named past committed.entry → Stands standing.old placed → Commits past committed.entry placed standing.new found) }
+{
+    if is_read(committed.mini) {
+        return Ok(None);
+    }
+    let act = planned(plans, committed.tid)?;
+    note_standing(standing, act.client, act.number)?;
+    Ok(Some(act))
+}
+
+/// Notes who issued a minitransaction, and for which operation, where the entry issues one.
+fn note_issue<'a>(
+    callers: &[Caller<'a>],
+    plans: &mut HashMap<IdKey, Planner<'a>>,
+    entry: &Entry,
+) -> Result<(), NoMemory>
+    requires { length callers.now ≡ 256 }
+    ensures { OnOk result ((past : List Step) → AreCallers callers.now past → Knows plans.old past → Knows plans.new (entry.now ∷ past)) }
+{
+    let What::Issue { tid, .. } = &entry.what else {
+        return Ok(());
+    };
+    let begun = match entry.client {
+        Some(client) => begun_by(callers, client),
+        None => None,
+    };
+    let planner = Planner {
+        client: entry.client,
+        begun,
+    };
+    note_planner(plans, *tid, planner)
+}
+
+/// Notes what the entry of this client at this place tells of it.
+fn note_own<'a>(
+    callers: &mut [Caller<'a>],
+    client: ClientNo,
+    place: usize,
+    entry: &'a Entry,
+) -> Result<(), NoMemory>
+    requires { length callers.old ≡ 256 }
+    ensures long { length callers.new ≡ 256 }
+    ensures tells { OnOk result ((past : List Step) → place ≡ length past → entry.now.client ≡ Some client → AreCallers callers.old past → AreCallers callers.new (entry.now ∷ past)) }
+{
+    callers[usize::from(client.0)].take(place, entry)
+}
+
+/// Notes what the entry at this place tells of its client.
+fn note_step<'a>(callers: &mut [Caller<'a>], place: usize, entry: &'a Entry) -> Result<(), NoMemory>
+    requires { length callers.old ≡ 256 }
+    ensures long { length callers.new ≡ 256 }
+    ensures tells { OnOk result ((past : List Step) → place ≡ length past → AreCallers callers.old past → AreCallers callers.new (entry.now ∷ past)) }
+{
+    match entry.client {
+        Some(client) => note_own(callers, client, place, entry),
+        None => Ok(()),
+    }
+}
+
+/// How many numbers of clients there are.
+const CLIENT_NUMBERS: usize = 256;
+
+/// Of no client is anything known.
+fn idle_callers<'a>(alloc: Global) -> Result<Vec<Caller<'a>>, NoMemory>
+    ensures { IfOk result (λ callers. callers.items ≡ replicate 256 idle) }
+{
+    let mut callers = Vec::with_capacity(alloc, CLIENT_NUMBERS)?;
+    for _ in 0..CLIENT_NUMBERS {
+        callers.push(Caller::idle(alloc))?;
+    }
+    Ok(callers)
+}
+
+/// Takes the answer that the entry gives, if it does. NoMemory: there was no memory for it, or no
+/// read tells its place.
+fn take_step<'a>(
+    alloc: Global,
+    callers: &[Caller<'a>],
+    standing: &mut HashSet<OpKey>,
+    slots: &mut Vec<Option<Act<'a>>>,
+    entry: &Entry,
+) -> Result<(), NoMemory>
+    requires { length callers.now ≡ 256 }
+    ensures { OnOk result ((past : List Step) (placed : List Placed) → AreCallers callers.now past → Stands standing.old placed → Fills slots.old.items placed → Takes past entry.now None placed standing.new slots.old.items slots.new.items None) }
+{
+    let (Some(client), What::Answered { answer, .. }) = (entry.client, &entry.what) else {
+        return Ok(());
+    };
+    take_answer(alloc, callers, standing, slots, client, answer)
+}
+
+/// Takes what the entry commits, or else the answer that it gives. The operation of a plan that it
+/// commits has the place of the entry. NoMemory: there was no memory for it, or no read tells the
+/// place of what was answered.
+fn take_entry<'a>(
+    alloc: Global,
+    callers: &[Caller<'a>],
+    plans: &HashMap<IdKey, Planner<'a>>,
+    standing: &mut HashSet<OpKey>,
+    slots: &mut Vec<Option<Act<'a>>>,
+    entry: &Entry,
+    committed: Option<CommittedMini<'a>>,
+) -> Result<Option<Act<'a>>, NoMemory>
+    requires { length callers.now ≡ 256 }
+    ensures { IfOk result (λ found. (start : Start) (past : List Step) (placed : List Placed) → IsRun start past → AreCallers callers.now past → Knows plans.now past → option_map issued_of committed.entry ≡ committed_by past entry.now → Stands standing.old placed → Fills slots.old.items placed → Takes past entry.now (committed_by past entry.now) placed standing.new slots.old.items slots.new.items found) }
+{
+    match committed {
+        Some(committed) => take_commit(plans, standing, committed),
+        None => {
+            take_step(alloc, callers, standing, slots, entry)?;
+            Ok(None)
+        }
+    }
+}
+
+/// What the entries so far tell of the history.
+#[derive(Drop)]
+struct HistoryReader<'a> {
+    commits: CommitReader<'a>,
+    /// By number of the client, what is told of it.
+    callers: Vec<Caller<'a>>,
+    /// Who issued the last plan of each id.
+    plans: HashMap<IdKey, Planner<'a>>,
+    /// The operations of the history.
+    standing: HashSet<OpKey>,
+    /// They by place, one slot an entry.
+    slots: Vec<Option<Act<'a>>>,
+}
+
+impl<'a> HistoryReader<'a> {
+    /// No entry has come. NoMemory: there was no memory for it.
+    fn new(alloc: Global) -> Result<HistoryReader<'a>, NoMemory>
+        ensures { IfOk result (λ reader. HasTold reader [] []) }
+    {
+        Ok(HistoryReader {
+            commits: CommitReader::new(alloc)?,
+            callers: idle_callers(alloc)?,
+            plans: HashMap::new(alloc),
+            standing: HashSet::new(alloc),
+            slots: Vec::new(alloc),
+        })
+    }
+
+    /// Takes the next entry. NoMemory: there was no memory for it, or no read tells the place of
+    /// what was answered.
+    fn follow(&mut self, alloc: Global, entry: &'a Entry) -> Result<(), NoMemory>
+        requires { (past : List Step) × IsReading self.old past }
+        ensures reads { (past : List Step) → IsReading self.old past → OnOk result (IsReading self.new (entry.now ∷ past)) }
+        ensures tells { OnOk result ((start : Start) (past : List Step) (placed : List Placed) → IsRun start past → HasTold self.old past placed → (next : List Placed) × HasTold self.new (entry.now ∷ past) next) }
+    {
+        let committed = self.commits.follow(entry)?;
+        let act = take_entry(
+            alloc,
+            &self.callers,
+            &self.plans,
+            &mut self.standing,
+            &mut self.slots,
+            entry,
+            committed,
+        )?;
+        note_issue(&self.callers, &mut self.plans, entry)?;
+        note_step(&mut self.callers, self.slots.len(), entry)?;
+        self.slots.push(act)?;
+        Ok(())
+    }
+}
+
+/// Does the operation and tells it with its reply. NoMemory: there was no memory for it; the store
+/// is as it was, or as the operation leaves it.
+fn done(alloc: Global, store: &mut Store, act: &Act<'_>) -> Result<Past, NoMemory>
+    ensures past { IfOk result (λ past. past ≡ done_by store.old act.now) }
+    ensures store { OnOk result (store.new ≡ (applied store.old act.now.op).store) }
+{
+    let op = act.op.try_copy(alloc)?;
+    let reply = store.apply(alloc, act.op)?;
+    Ok(Past {
+        client: act.client,
+        number: act.number,
+        op,
+        reply,
+    })
+}
+
+/// The operations in these slots one after another, each with the store's reply.
+fn all_done(alloc: Global, start: &Store, slots: &[Option<Act<'_>>]) -> Result<History, NoMemory>
+    ensures { IfOk result (λ history. history ≡ done_from start.now (acts_in slots.now)) }
+{
+    let mut store = start.try_copy(alloc)?;
+    let mut history = Vec::new(alloc);
+    for slot in slots {
+        if let Some(act) = slot {
+            history.push(done(alloc, &mut store, act)?)?;
+        }
+    }
+    Ok(History::from_vec(history))
+}
+
+/// What the entries of a log tell of the history.
+fn read_log<'a>(alloc: Global, log: &'a [(u64, Entry)]) -> Result<HistoryReader<'a>, NoMemory>
+    ensures { IfOk result (λ reader. (start : Start) → IsRun start (entries_of log.now) → (placed : List Placed) × HasTold reader (entries_of log.now) placed) }
+{
+    let mut reader = HistoryReader::new(alloc)?;
+    for (_, entry) in log {
+        reader.follow(alloc, entry)?;
+    }
+    Ok(reader)
+}
+
+/// The history of a log: each operation that was replied to, and each one of whose plans is
+/// committed, once, in order of place. A committed plan has its place at its commit, a scan's pairs
+/// at the operation's first read of the catalog, and each other reply at the last read that shows
+/// it. Each reply is what the store answers there, from `start` on: so an operation that was left
+/// in doubt, or whose client died, has one too. It takes time linear in the entries, beside what
+/// the store takes.
+///
+/// NoMemory: there was no memory for it. Where the log is no run from records whose memory holds
+/// `start`, also where no read tells the place of a reply, or a plan's operation is not known.
+pub fn history_of(alloc: Global, start: &Store, log: &Log) -> Result<History, NoMemory>
+    ensures history { (from : Start) → OpenedRun from start.now (entries_of log.now) → IfOk result (λ history. (placed : List Placed) × IsHistory (entries_of log.now) placed × (history ≡ pasts_of placed)) }
+    ensures one { (from : Start) → OpenedRun from start.now (entries_of log.now) → IfOk result (λ history. (placed : List Placed) × IsOneHistory from start.now (entries_of log.now) placed × (history ≡ pasts_of placed)) }
+{
+    runs_are_one_history();
+    let reader = read_log(alloc, log.as_slice())?;
+    all_done(alloc, start, &reader.slots)
+}
