@@ -1,3 +1,10 @@
 pub mod Examples
 pub mod Frozen
 pub mod Names
+pub mod Keys
+pub mod PairsWith
+pub mod Named
+pub mod Lists
+pub mod VersionTree
+pub mod AddedVersion
+pub mod Stores

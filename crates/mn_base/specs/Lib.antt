@@ -6,3 +6,4 @@ pub mod Order
 pub mod Store
 pub mod History
 pub mod Tree
+pub mod Stores

@@ -24,7 +24,7 @@ pub use gate::{Gate, OpenGate, StopAt};
 pub use history::{History, Past};
 pub use ids::{Addr, ClientNo, NodeNo, Range, Tid, VersionNo};
 pub use key::{Key, MAX_KEY};
-pub use laws::{frozen_stays, history_goes_on};
+pub use laws::{frozen_stays, history_goes_on, store_stays};
 pub use name::{MAX_NAME, Name};
 pub use numbers::{Counts, Nodes, Slots};
 pub use op::{MAX_STEPS, Op, Step, Steps};

@@ -11,7 +11,7 @@ use Rattle.mn_base.specs.declared.op.Op.TheVariants.{Snapshot, Branch}
 use Rattle.mn_base.specs.Name.{IsName}
 use Rattle.mn_base.specs.declared.reply.Reply.{Reply}
 use Rattle.mn_base.specs.declared.reply.Reply.TheVariants.{Frozen, NotFrozen, NameTaken, VersionsFull}
-use Rattle.mn_page.proofs.Keys.{bytes_eq-true, bytes_eq-refl}
+use Rattle.mn_base.proofs.Keys.{bytes_eq-true, bytes_eq-refl}
 use Rattle.mn_page.specs.declared.entry.CatEntry.{CatEntry}
 use Rattle.mn_page.specs.Forest.{heads_in, entry_head}
 use Rattle.mn_page.specs.Grammar.{IsEntry, IsAddr}

@@ -11,7 +11,7 @@ use Rattle.mn_base.specs.Tree.{HaveParents, IsVersionTree, parents_of, are_disti
 use Rattle.mn_base.specs.declared.ids.VersionNo.{VersionNo}
 use Rattle.mn_page.specs.declared.entry.CatEntry.{CatEntry}
 use Rattle.mn_page.specs.Forest.{heads_in, entry_head, parent_number}
-use Rattle.mn_page.proofs.Keys.{bytes_eq-true, bytes_eq-refl}
+use Rattle.mn_base.proofs.Keys.{bytes_eq-true, bytes_eq-refl}
 use Rattle.mn_forest.specs.Rules.{EntryFits, entries_of, entry_of, parent_fits, is_named, is_child_of}
 use Rattle.mn_forest.proofs.Telling.{and_split, clash}
 use Rattle.mn_forest.proofs.Lists.{pushed_at, place_in, read_at}

@@ -2,6 +2,8 @@
 use Rattle.std.proofs.Common.{◌≡◌, ◌≤◌, ℕ, List, length, Option, refl, sym, subst}
 use Rattle.std.specs.List.{AllByRecursion}
 use Rattle.mn_base.specs.Store.{Store}
+use Rattle.mn_base.specs.Stores.{IsStore}
+use Rattle.mn_base.specs.Tree.{IsVersionTree}
 use Rattle.mn_mini.specs.Mini.{space_size}
 use Rattle.mn_page.specs.declared.entry.CatEntry.{CatEntry}
 use Rattle.mn_page.specs.Forest.{page_at}
@@ -31,6 +33,19 @@ gathered_holds memory es some few full says pass store is =
       shown = subst (λ (s : Store). ShowsStore r.0.entries (page_at r.0) s) (sym same)
           (subst (λ (l : List CatEntry). ShowsStore r.0.entries (page_at r.0) (store_shown (page_at r.0) l)) r.1.entries (shows_store r.0.entries (page_at r.0) r.1.sound.tree r.1.sound.laid.pages));
     }
+
+-- what is gathered from such a memory is a store
+pub gathered_store : (memory : List (List ℕ)) (es : List (Option CatEntry)) → 1 ≤ length memory → length memory ≤ 8 → AllByRecursion (λ space. length space ≡ space_size) memory → Says memory es → AllPass memory es
+    → (at : PagesAt) × ArePages memory at × IsStore (store_shown at (entries_of es))
+gathered_store memory es some few full says pass =
+    let r = passing_holds memory es some few full says pass in
+    let f = r.0 in
+    let shows = shows_store f.entries (page_at f) r.1.sound.tree r.1.sound.laid.pages in (
+      page_at f,
+      record { there = r.1.there; stands = r.1.stands },
+      subst (λ (l : List CatEntry). IsStore (store_shown (page_at f) l)) r.1.entries
+          (record { tree = subst IsVersionTree (sym shows.heads) r.1.sound.tree.versions; ascending = shows.ascending }),
+    )
 
 -- a memory that holds a store is refused for want of memory alone
 pub holding_lacks : (memory : List (List ℕ)) (e : ForestError) → RefusesMemory memory e → (store : Store) → Holds memory store → IsLackOfMemory e

@@ -17,7 +17,7 @@ use Rattle.mn_page.specs.Grammar.{IsPage, IsBody, IsKey, IsValue, height_of}
 use Rattle.mn_page.specs.Forest.{entry_head, heads_in, ChildRange, ranges_from, body_children, children_of}
 use Rattle.mn_page.specs.Holds.{PagesAt, page_covers, page_serves, root_page, root_height, pairs_in, IsRoot, IsChild, IsOnPath, OneOnPath, IsTree, ShowsStore}
 use Rattle.mn_page.specs.Reading.{addrs_in}
-use Rattle.mn_page.proofs.PairsWith.{ascending_parts, ascending_cons, first_above}
+use Rattle.mn_base.proofs.PairsWith.{ascending_parts, ascending_cons, first_above}
 use Rattle.mn_forest.specs.Shown.{pairs_below, height_there, version_shown, store_shown}
 use Rattle.mn_forest.proofs.Telling.{clash}
 use Rattle.mn_forest.proofs.Children.{child_at, addrs_are}

@@ -183,7 +183,7 @@ module _ (entries : List CatEntry) (at : PagesAt) (b : IsBuilt entries at) where
 module _ (entries : List CatEntry) (at : PagesAt) (t : IsTree entries at) (valid : (addr : Addr) (p : Page) → at addr ≡ Some p → IsPage p) where
   -- a page covers its low fence
   pub covers_low : (p : Page) → IsPage p → page_covers p.low p ≡ true
-  covers_low p is = covers p.low p.high p.low (Rattle.mn_page.proofs.Keys.not_below p.low) is.fences
+  covers_low p is = covers p.low p.high p.low (Rattle.mn_base.proofs.Keys.not_below p.low) is.fences
 
   pub reached : (addr : Addr) (p : Page) (v : ℕ) → at addr ≡ Some p → v < length entries → IsTrue (page_serves entries v p) → IsRootIn entries v addr ⊎ IsNamedIn entries at v (height_of p.body + 1) addr
   reached addr p v there in' serves = elim (low_or_high (height_of p.body) (root_height entries at v)) as (λ _. IsRootIn entries v addr ⊎ IsNamedIn entries at v (height_of p.body + 1) addr) [

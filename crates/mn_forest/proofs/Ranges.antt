@@ -14,8 +14,8 @@ use Rattle.mn_page.specs.Grammar.{IsPage, IsBody, IsKey, IsAddr, are_ascending, 
 use Rattle.mn_page.specs.Forest.{ChildRange, ranges_from, body_children, children_of}
 use Rattle.mn_page.specs.Reading.{addrs_in}
 use Rattle.mn_page.specs.Holds.{page_covers}
-use Rattle.mn_page.proofs.Keys.{key_lt-trans, key_lt-else, bytes_eq-true, not_below}
-use Rattle.mn_page.proofs.PairsWith.{ascending_parts, ascending_cons, first_above}
+use Rattle.mn_base.proofs.Keys.{key_lt-trans, key_lt-else, bytes_eq-true, not_below}
+use Rattle.mn_base.proofs.PairsWith.{ascending_parts, ascending_cons, first_above}
 use Rattle.mn_forest.proofs.Telling.{and_split, clash}
 
 -- Keys

@@ -1,5 +1,6 @@
-ghost use Rattle.std.specs.Prelude.{◌≡◌, ◌+◌, ◌≤◌, ◌++◌, length, IfOk, OnOk};
+ghost use Rattle.std.specs.Prelude.{◌≡◌, ◌×◌, ◌++◌, length, IfOk, OnOk};
 ghost use Rattle.std.specs.List.{AllByRecursion};
+ghost use Rattle.mn_base.specs.Stores.{IsStore};
 ghost use Rattle.mn_mini.specs.Mini.{space_size};
 ghost use Rattle.mn_page.specs.Holds.{PagesAt, pairs_in};
 ghost use Rattle.mn_plain.specs.Kept.{version_of, store_of};
@@ -89,8 +90,7 @@ fn take_versions(
     versions: &mut Vec<Kept>,
 ) -> Result<(), NoMemory>
     requires { AllByRecursion (λ space. length space ≡ space_size) spaces.now }
-    ensures shown { (at : PagesAt) → ArePages spaces.now at → OnOk result (store_of versions.new.items ≡ store_of versions.old.items ++ store_shown at (entries_of entries.now)) }
-    ensures count { OnOk result (length versions.new.items ≤ length versions.old.items + length entries.now) }
+    ensures { (at : PagesAt) → ArePages spaces.now at → OnOk result (store_of versions.new.items ≡ store_of versions.old.items ++ store_shown at (entries_of entries.now)) }
 {
     for entry in entries {
         match entry {
@@ -101,14 +101,14 @@ fn take_versions(
     Ok(())
 }
 
-/// The versions of these entries, up to the first place without one.
+/// The store of these entries, up to the first place without one, where the pages that stand in the spaces show one.
 pub fn store_in(
     alloc: Global,
     spaces: &[Bytes],
     entries: &[Option<CatEntry>],
 ) -> Result<Store, NoMemory>
     requires whole { AllByRecursion (λ space. length space ≡ space_size) spaces.now }
-    requires few { length entries.now ≤ 64 }
+    requires shows { (at : PagesAt) × ArePages spaces.now at × IsStore (store_shown at (entries_of entries.now)) }
     ensures { (at : PagesAt) → ArePages spaces.now at → IfOk result (λ store. store ≡ store_shown at (entries_of entries.now)) }
 {
     let mut versions = Vec::new(alloc);

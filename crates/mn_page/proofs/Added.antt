@@ -21,7 +21,9 @@ use Rattle.mn_page.specs.Copies.{marked_for, copy_for}
 use Rattle.mn_page.specs.Added.{Addition, MayBeAdded, HasCopy, child_entry}
 use Rattle.mn_page.proofs.Ancestors.{serves_made, is_own_ancestor}
 use Rattle.mn_page.proofs.Counted.{same_addr}
-use Rattle.mn_page.proofs.Descent.{weaker, longer, old_ancestor, new_ancestor, old_serves, new_serves, marked_old, marked_new, copy_old, copy_new, with_new_all}
+use Rattle.mn_base.proofs.Lists.{weaker}
+use Rattle.mn_base.proofs.VersionTree.{longer}
+use Rattle.mn_page.proofs.Descent.{old_ancestor, new_ancestor, old_serves, new_serves, marked_old, marked_new, copy_old, copy_new, with_new_all}
 
 addr_cases : (a b : Addr) → (a ≡ b) ⊎ (a ≡ b → ⊥)
 addr_cases a b = elim (cases_eq a.node.0 b.node.0) as (λ _. (a ≡ b) ⊎ (a ≡ b → ⊥)) [

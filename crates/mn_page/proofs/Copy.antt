@@ -25,7 +25,7 @@ use Rattle.mn_page.specs.Forest.{Forest, ChildRange, page_at, children_of, range
 use Rattle.mn_page.specs.Holds.{page_covers, pairs_in}
 use Rattle.mn_page.proofs.Grid.{get_in, set_in, add_in, get_in-set_same, get_in-set_other, get_in-add_old, get_in-add_new, get_in-add_cases, count-set, count-add, lengths-set_in, lengths-add_in, all_by_places, all_at_places, all_filter, all_of_filter}
 use Rattle.mn_page.proofs.Ancestors.{alone, is_own_ancestor, serves_alone, serves_own}
-use Rattle.mn_page.proofs.Keys.{not_below, turned}
+use Rattle.mn_base.proofs.Keys.{not_below, turned}
 use Rattle.mn_page.proofs.Counted.{IsChildIn, IsCounted, IsPageIn, IsRootIn, ListsStore, all_pages, forest_heads, height_in, is_on_path, is_on_path_from, on_path_count, one_on_path, root_in, serves_in, serving_pages}
 
 -- A set with one more version

@@ -13,8 +13,8 @@ use Rattle.mn_page.specs.declared.page.Page.{Page}
 use Rattle.mn_page.specs.Forest.{Forest, page_at}
 use Rattle.mn_page.specs.Holds.{IsForest, ShowsStore, page_covers, pairs_in}
 use Rattle.mn_page.specs.Laws.{IsLeafFor, OneLeaf, LeafTells, LeafTellsGet}
-use Rattle.mn_page.proofs.Keys.{value_at-filter}
-use Rattle.mn_page.proofs.Named.{named, not_refused}
+use Rattle.mn_base.proofs.Keys.{value_at-filter}
+use Rattle.mn_base.proofs.Named.{named, not_refused}
 
 -- the versions of the store are the forest's entries
 pub version_in : (f : Forest) (store : Store) (v : ℕ) (version : StoreVersion) → ShowsStore f.entries (page_at f) store → slice_get store v ≡ Some version → v < length f.entries

@@ -1,11 +1,8 @@
 pub mod Grid
 pub mod Counted
 pub mod Heights
-pub mod Keys
-pub mod Named
 pub mod Leaves
 pub mod Ancestors
-pub mod PairsWith
 pub mod Alike
 pub mod Spelled
 pub mod Split

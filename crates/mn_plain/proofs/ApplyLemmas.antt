@@ -1,15 +1,17 @@
 -- What operations that are not refused leave.
-use Rattle.std.proofs.Common.{◌≡◌, ◌<◌, ℕ, zero, suc, Bool, true, false, ◌&&◌, ◌||◌, not, List, [], ◌∷◌, ◌++◌, Option, Some, None, Ok, refl, ap, sym, ◌∙◌, if◌then◌else◌, slice_get, set, length}
+use Rattle.std.proofs.Common.{◌≡◌, ◌<◌, ℕ, zero, suc, Bool, true, false, ◌&&◌, ◌||◌, not, List, [], ◌∷◌, ◌++◌, Option, Some, None, Ok, refl, ap, sym, subst, ◌∙◌, if◌then◌else◌, slice_get, set, length}
 use Rattle.std.specs.List.{list_any}
 use Rattle.std.proofs.lemmas.Option.{slice_get_within}
 use Rattle.mn_base.specs.declared.reply.Pair.{Pair}
 use Rattle.mn_base.specs.declared.reply.Reply.{Reply}
 use Rattle.mn_base.specs.declared.reply.Reply.TheVariants as says
 use Rattle.mn_base.specs.declared.op.Op.{Op}
-use Rattle.mn_base.specs.declared.op.Op.TheVariants.{Tx, Snapshot}
+use Rattle.mn_base.specs.declared.op.Op.TheVariants.{Tx, Snapshot, Branch}
 use Rattle.mn_base.specs.declared.op.Step.{Step}
 use Rattle.mn_base.specs.declared.op.Step.TheVariants.{Get, Put, Del, Check}
 use Rattle.mn_base.specs.Store.{Store, StoreVersion, Ran, Applied, heads_of, pairs_named, with_pairs, with_frozen, frozen_head, child_of, child_refusal, is_change, pairs_after_step, ran, refusal, refusal_at, admitted, unless_refused, applied}
+use Rattle.mn_base.specs.Stores.{IsStore}
+use Rattle.mn_base.proofs.Stores.{store_stays}
 use Rattle.mn_plain.specs.Kept.{IsNamed, Freezes, AddsChild}
 use Rattle.mn_plain.specs.Run.{Does, pairs_after, pairs_left, is_unmet_reply}
 
@@ -59,6 +61,28 @@ snapshot_is old mid new name child at v named open_still unrefused added frozen 
     let want : set old at shut ++ kid ∷ [] ≡ (admitted old op).store = sym (ap (λ (k : StoreVersion). with_frozen old name ++ k ∷ []) kid_is ∙ ap (λ (s : Store). s ++ kid ∷ []) named.frozen) in
     let open_op = free old op allowed in
     (new_is ∙ want ∙ sym (ap (λ (a : Applied). a.store) open_op), sym (ap (λ (a : Applied). a.reply) open_op))
+
+pub branch_is : (old new : Store) (name child : List ℕ) (at : ℕ) (v : StoreVersion) → IsNamed old name at v → v.head.frozen ≡ true → child_refusal (heads_of old) child ≡ None
+    → AddsChild old at child new → Does (Branch name child) old new (Ok says.Made)
+branch_is old new name child at v named shut unrefused added =
+    let op = Branch name child in
+    let allowed : refusal (heads_of old) op ≡ None =
+    ap (refusal_at (heads_of old) op) named.head ∙ ap (λ (b : Bool). if b then child_refusal (heads_of old) child else Some says.NotFrozen) shut ∙ unrefused in
+    let kid : StoreVersion = record { head = record { name = child; parent = Some at; frozen = false }; pairs = v.pairs } in
+    let kid_is : child_of old name child ≡ kid =
+    ap (λ (p : Option ℕ). let k : StoreVersion = record { head = record { name = child; parent = p; frozen = false }; pairs = pairs_named old name } in k) named.number
+    ∙ ap (λ (ps : List Pair). let k : StoreVersion = record { head = record { name = child; parent = Some at; frozen = false }; pairs = ps } in k) named.pairs in
+    let want : old ++ kid ∷ [] ≡ (admitted old op).store = sym (ap (λ (k : StoreVersion). old ++ k ∷ []) kid_is) in
+    let open_op = free old op allowed in
+    (added v named.there ∙ want ∙ sym (ap (λ (a : Applied). a.store) open_op), sym (ap (λ (a : Applied). a.reply) open_op))
+
+pub not_true : (b : Bool) → not b ≡ false → b ≡ true
+not_true true e = refl
+not_true false e = absurd cc
+
+-- what an operation does leaves a store
+pub store_left : (op : Op) (old new : Store) (reply : Reply) → IsStore old → Does op old new (Ok reply) → IsStore new
+store_left op old new reply is does = subst IsStore (sym does.0) (store_stays old op is)
 
 pub tx_is : (old new : Store) (name : List ℕ) (steps : List Step) (at : ℕ) (v : StoreVersion) (reply : Reply) → IsNamed old name at v → (v.head.frozen && list_any is_change steps) ≡ false
     → ran v.pairs steps ≡ record { pairs = pairs_left v.pairs steps reply; reply = reply } → new ≡ set old at (record v { pairs = pairs_left v.pairs steps reply }) → Does (Tx name steps) old new (Ok reply)

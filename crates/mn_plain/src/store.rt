@@ -1,5 +1,6 @@
-ghost use Rattle.std.specs.Prelude.{◌≡◌, ◌<◌, ◌≤◌, ◌&&◌, not, length, IfOk, IfNone, OnOk, OnErr, IsSomeAnd, slice_get, option_map, option_and_then};
-ghost use Rattle.mn_base.specs.Store.{applied, empty_store, main_store, heads_of, listed, listing_of, child_refusal, max_versions};
+ghost use Rattle.std.specs.Prelude.{◌≡◌, ◌<◌, ◌&&◌, not, length, IfOk, IfNone, IsTrue, OnOk, OnErr, IsSomeAnd, slice_get, option_map, option_and_then};
+ghost use Rattle.mn_base.specs.Store.{applied, empty_store, main_store, heads_of, is_ascending, listed, listing_of, child_refusal, max_versions};
+ghost use Rattle.mn_base.specs.Stores.{IsStore};
 ghost use Rattle.mn_plain.specs.Run.{Does, is_unmet_reply, pairs_after};
 ghost use Rattle.mn_plain.specs.Digest.{pairs_digest};
 ghost use Rattle.mn_plain.specs.Kept.{version_of, store_of, IsPlace, SetsPairs, Freezes, AddsChild};
@@ -18,23 +19,24 @@ use std::mem;
 /// The most versions of a store.
 pub const MAX_VERSIONS: usize = 64;
 
-/// The versions in order of number, each with its pairs in order of key. Contracts see the list that the rules of the
-/// store speak of.
+/// The versions in order of number, each with its pairs in order of key: a tree of versions with names that differ.
+/// Contracts see the list that the rules of the store speak of.
 #[derive(Debug, Drop)]
 pub struct Store {
     versions: Vec<Kept>,
 }
 
 impl Model for Store {
-    ghost use Rattle.std.specs.Prelude.{◌≤◌, List, length};
-    ghost use Rattle.mn_base.specs.Store.{StoreVersion, max_versions};
+    ghost use Rattle.std.specs.Prelude.{List};
+    ghost use Rattle.mn_base.specs.Store.{StoreVersion};
+    ghost use Rattle.mn_base.specs.Stores.{IsStore};
     ghost use Rattle.mn_plain.specs.Kept.{store_of};
 
     ghost Value = { List StoreVersion };
 
     ghost view = { λ s. store_of s.versions.items };
 
-    ghost invariant = { λ s. length s.versions.items ≤ max_versions };
+    ghost invariant = { λ s. IsStore (store_of s.versions.items) };
 }
 
 /// Where the version of this name stands.
@@ -110,6 +112,63 @@ fn is_without_effect(reply: &Reply, change: bool) -> bool
     }
 }
 
+/// The pairs of a version of these.
+fn pairs_of(versions: &[Kept], at: usize) -> &Pairs
+    requires { at < length versions.now }
+    ensures { IsSomeAnd (slice_get (store_of versions.now) at) (λ kept. result.now ≡ kept.pairs) }
+{
+    &versions[at].pairs
+}
+
+/// Does the steps in a version of these.
+fn take_at(
+    alloc: Global,
+    versions: &mut Vec<Kept>,
+    at: usize,
+    steps: &Steps,
+) -> Result<(), NoMemory>
+    requires { at < length versions.old.items }
+    ensures taken { OnOk result (SetsPairs (λ ps. pairs_after ps steps.now) (store_of versions.old.items) at (store_of versions.new.items)) }
+    ensures kept { OnErr result (store_of versions.new.items ≡ store_of versions.old.items) }
+{
+    let steps = steps.try_copy(alloc)?.into_vec();
+    let version = &mut versions[at];
+    let mut pairs = mem::replace(&mut version.pairs, Pairs::from_vec(Vec::new(alloc))).into_vec();
+    let taken = take_steps(&mut pairs, steps);
+    version.pairs = Pairs::from_vec(pairs);
+    taken
+}
+
+/// Freezes a version of these.
+fn freeze_at(versions: &mut Vec<Kept>, at: usize)
+    requires { at < length versions.old.items }
+    ensures { Freezes (store_of versions.old.items) at (store_of versions.new.items) }
+{
+    versions[at].frozen = true;
+}
+
+/// Adds a writable child of a version of these, with the same pairs.
+fn add_child_of(
+    alloc: Global,
+    versions: &mut Vec<Kept>,
+    at: usize,
+    child: &Name,
+) -> Result<(), NoMemory>
+    requires there { at < length versions.old.items }
+    requires room { length versions.old.items < max_versions }
+    ensures added { OnOk result (AddsChild (store_of versions.old.items) at child.now (store_of versions.new.items)) }
+    ensures kept { OnErr result (store_of versions.new.items ≡ store_of versions.old.items) }
+{
+    let kept = Kept {
+        name: child.try_copy(alloc)?,
+        parent: Some(VersionNo(at as u8)),
+        frozen: false,
+        pairs: pairs_of(versions, at).try_copy(alloc)?,
+    };
+    versions.push(kept)?;
+    Ok(())
+}
+
 impl Store {
     /// The store as it begins: one writable version, number 0, named `main`, without a parent and without pairs.
     /// NoMemory: there was no memory for it.
@@ -122,6 +181,7 @@ impl Store {
     /// The store whose one version is the writable `main` with these pairs, which stand in order of key.
     /// NoMemory: there was no memory for it.
     pub fn with_main(alloc: Global, pairs: Pairs) -> Result<Self, NoMemory>
+        requires { IsTrue (is_ascending pairs) }
         ensures { IfOk result (λ store. store ≡ main_store pairs) }
     {
         let Ok(name) = Name::new(alloc, b"main") else {
@@ -137,9 +197,10 @@ impl Store {
         Ok(Store { versions })
     }
 
-    /// The store of these versions, in order of number. It takes no memory.
+    /// The store of these versions, in order of number: a tree of at most 64 versions with names that differ, each
+    /// with its pairs in order of key. It takes no memory.
     pub fn of_versions(versions: Vec<Kept>) -> Self
-        requires { length versions.items ≤ max_versions }
+        requires { IsStore (store_of versions.items) }
         ensures { result ≡ store_of versions.items }
     {
         Store { versions }
@@ -178,51 +239,10 @@ impl Store {
     /// The pairs of a version.
     fn pairs_at(&self, at: usize) -> &Pairs
         requires { at < length self.now }
-        ensures { IsSomeAnd (slice_get self.now at) (λ kept. result.now ≡ kept.pairs) }
+        ensures ascend { IsTrue (is_ascending result.now) }
+        ensures pairs { IsSomeAnd (slice_get self.now at) (λ kept. result.now ≡ kept.pairs) }
     {
-        &self.versions[at].pairs
-    }
-
-    /// Does the steps in a version.
-    fn take(&mut self, alloc: Global, at: usize, steps: &Steps) -> Result<(), NoMemory>
-        requires { at < length self.old }
-        ensures taken { OnOk result (SetsPairs (λ ps. pairs_after ps steps.now) self.old at self.new) }
-        ensures kept { OnErr result (self.new ≡ self.old) }
-    {
-        let steps = steps.try_copy(alloc)?.into_vec();
-        let version = &mut self.versions[at];
-        let mut pairs = mem::replace(
-            &mut version.pairs,
-            Pairs::from_vec(Vec::new(alloc)),
-        ).into_vec();
-        let taken = take_steps(&mut pairs, steps);
-        version.pairs = Pairs::from_vec(pairs);
-        taken
-    }
-
-    /// Freezes a version.
-    fn freeze(&mut self, at: usize)
-        requires { at < length self.old }
-        ensures { Freezes self.old at self.new }
-    {
-        self.versions[at].frozen = true;
-    }
-
-    /// Adds a writable child of a version, with the same pairs.
-    fn add_child(&mut self, alloc: Global, at: usize, child: &Name) -> Result<(), NoMemory>
-        requires there { at < length self.old }
-        requires room { length self.old < max_versions }
-        ensures added { OnOk result (AddsChild self.old at child.now self.new) }
-        ensures kept { OnErr result (self.new ≡ self.old) }
-    {
-        let kept = Kept {
-            name: child.try_copy(alloc)?,
-            parent: Some(VersionNo(at as u8)),
-            frozen: false,
-            pairs: self.pairs_at(at).try_copy(alloc)?,
-        };
-        self.versions.push(kept)?;
-        Ok(())
+        pairs_of(&self.versions, at)
     }
 
     /// Why no version of this name can be made.
@@ -253,7 +273,7 @@ impl Store {
         if is_without_effect(&reply, change) {
             return Ok(reply);
         }
-        self.take(alloc, place.at, steps)?;
+        take_at(alloc, &mut self.versions, place.at, steps)?;
         Ok(reply)
     }
 
@@ -269,8 +289,8 @@ impl Store {
         if let Some(refusal) = self.child_refusal(child) {
             return Ok(refusal);
         }
-        self.add_child(alloc, place.at, child)?;
-        self.freeze(place.at);
+        add_child_of(alloc, &mut self.versions, place.at, child)?;
+        freeze_at(&mut self.versions, place.at);
         Ok(Reply::Made)
     }
 
@@ -286,7 +306,7 @@ impl Store {
         if let Some(refusal) = self.child_refusal(child) {
             return Ok(refusal);
         }
-        self.add_child(alloc, place.at, child)?;
+        add_child_of(alloc, &mut self.versions, place.at, child)?;
         Ok(Reply::Made)
     }
 
@@ -324,10 +344,11 @@ impl Store {
         Ok(Listing::from_vec(lines))
     }
 
-    /// The pairs of a version that is there.
+    /// The pairs of a version that is there, in order of key.
     pub fn pairs(&self, version: VersionNo) -> &Pairs
         requires { version.0 < length self.now }
-        ensures { IsSomeAnd (slice_get self.now version.0) (λ kept. result.now ≡ kept.pairs) }
+        ensures pairs { IsSomeAnd (slice_get self.now version.0) (λ kept. result.now ≡ kept.pairs) }
+        ensures ascend { IsTrue (is_ascending result.now) }
     {
         self.pairs_at(usize::from(version.0))
     }

@@ -11,7 +11,7 @@ use Rattle.mn_base.specs.declared.op.Step.TheVariants.{Get, Put, Del, Check}
 use Rattle.mn_base.specs.declared.reply.Pair.{Pair}
 use Rattle.mn_base.specs.Store.{Ran, applied, is_ascending, is_unmet, main_name, main_store, noted_by, pairs_after_step, ran, ran_from, step_key, value_at}
 use Rattle.mn_base.specs.declared.reply.Reply.TheVariants.{Unmet}
-use Rattle.mn_page.proofs.PairsWith.{AllAbove, all_above, ascending-put, ascending_cons, ascending_parts, first_above}
+use Rattle.mn_base.proofs.PairsWith.{AllAbove, all_above, ascending-put, ascending_cons, ascending_parts, first_above}
 use Rattle.mn_top.specs.Serve.{IsGet, IsOneGet}
 use Rattle.mn_top.proofs.Leaves.{unnot}
 use Rattle.mn_top.specs.Served.{overfills}

@@ -1,7 +1,7 @@
 ghost use Rattle.std.specs.Prelude.{◌≡◌, ◌≤◌, ◌<◌, ◌+◌, ◌^◌, ◌++◌, ℕ, List, length, false, None, IfOk, IsTrue, MatchOption, option_map};
 ghost use Rattle.std.specs.List.{list_any};
 ghost use Rattle.mn_base.specs.declared.reply.Pair.{Pair};
-ghost use Rattle.mn_base.specs.Store.{is_change, main_name, main_store};
+ghost use Rattle.mn_base.specs.Store.{is_ascending, is_change, main_name, main_store};
 ghost use Rattle.mn_mini.specs.Flat.{bytes_in, part_mismatch_from};
 ghost use Rattle.mn_mini.specs.Mini.{IsInSpace, IsSound};
 ghost use Rattle.mn_mini.specs.RecordGrammar.{IsPart};
@@ -134,6 +134,7 @@ fn peek_leaf<D: Disk>(alloc: Global, node: &mut Node<D>) -> Result<Bytes, Stop>
 
 /// The store whose `main` has the pairs of a leaf that was read.
 fn store_of(alloc: Global, leaf: Leaf) -> Result<Store, NoMemory>
+    requires { IsTrue (is_ascending leaf.pairs.items) }
     ensures { IfOk result (λ store. store ≡ main_store leaf.pairs.items) }
 {
     Store::with_main(alloc, Pairs::from_vec(leaf.pairs))

@@ -1,7 +1,7 @@
-ghost use Rattle.std.specs.Prelude.{◌≡◌, ◌∷◌, false, List, [], IfOk};
+ghost use Rattle.std.specs.Prelude.{◌≡◌, ◌∷◌, false, List, [], IfOk, IsTrue};
 ghost use Rattle.std.specs.List.{list_any};
 ghost use Rattle.mn_base.specs.declared.reply.Pair.{Pair};
-ghost use Rattle.mn_base.specs.Store.{main_name, main_store};
+ghost use Rattle.mn_base.specs.Store.{is_ascending, main_name, main_store};
 ghost use Rattle.mn_base.specs.History.{store_after_ops};
 ghost use Rattle.mn_top.specs.Served.{has_schedule, is_of_versions, is_unserved, op_overfills, ops_of, ops_overfill, overfills, Took};
 
@@ -123,6 +123,7 @@ fn take_step(alloc: Global, copy: &mut Store, step: &Step) -> Result<Room, NoMem
 
 /// Whether some step brings a ninth pair into a copy of the pairs.
 fn tx_overfills(alloc: Global, pairs: &Pairs, steps: &[Step]) -> Result<bool, NoMemory>
+    requires { IsTrue (is_ascending pairs.now) }
     ensures { IfOk result (λ over. over ≡ overfills pairs.now steps.now) }
 {
     let mut copy = Store::with_main(alloc, pairs.try_copy(alloc)?)?;
@@ -173,6 +174,7 @@ pub fn clients_overfill(
     clients: &[ScriptClient],
 ) -> Result<bool, NoMemory>
     requires plain { list_any is_of_versions (ops_of clients.now) ≡ false }
+    requires ascend { IsTrue (is_ascending pairs) }
     ensures { IfOk result (λ over. over ≡ ops_overfill (main_store pairs) (ops_of clients.now)) }
 {
     let mut store = Store::with_main(alloc, pairs)?;

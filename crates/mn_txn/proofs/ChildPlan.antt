@@ -27,7 +27,7 @@ use Rattle.mn_page.specs.Grammar.{IsAddr, IsPage, IsEntry, page_bytes, entry_byt
 use Rattle.mn_page.specs.Forest.{heads_in, entry_head}
 use Rattle.mn_page.specs.Copies.{CopiesArePages, marked_for, copy_for}
 use Rattle.mn_page.specs.Added.{frozen_entry, child_entry}
-use Rattle.mn_page.proofs.Descent.{child_admitted}
+use Rattle.mn_base.proofs.VersionTree.{child_admitted}
 use Rattle.mn_page.proofs.Spelled.{page_length, entry_length}
 use Rattle.mn_catalog.specs.Grammar.{IsCatalog}
 use Rattle.mn_catalog.specs.Versions.{Numbered, numbered, branch_entries, snapshot_entries, AreEntries}

@@ -25,7 +25,7 @@ use Rattle.mn_page.specs.Holds.{Holds, PagesAt}
 use Rattle.mn_page.specs.Overlay.{Held, held_at, next_number}
 use Rattle.mn_page.specs.Copies.{CopiesArePages, marked_for, copy_for}
 use Rattle.mn_page.specs.Added.{Addition, MayBeAdded, HasCopy, Adds, AreShown, frozen_entry, child_entry, after_snapshot, after_branch, SnapshotIsShown, BranchIsShown}
-use Rattle.mn_page.proofs.Descent.{child_admitted}
+use Rattle.mn_base.proofs.VersionTree.{child_admitted}
 use Rattle.mn_page.proofs.Spelled.{entry_length}
 use Rattle.mn_tree.proofs.Trees.Puts.{same_itself}
 use Rattle.mn_world.specs.Planned.{Place, page_place, entry_place, count_place, IsPagePlace, IsWholePlace, ComeOnce, compare_places, write_places, IsRootOf, IsWrittenCount, IsCompared, HasNextNumber, IsPickOf, WritesPages, Continues, PlanActs}

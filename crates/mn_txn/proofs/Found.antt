@@ -13,7 +13,7 @@ use Rattle.mn_page.specs.declared.entry.CatEntry.{CatEntry}
 use Rattle.mn_page.specs.Forest.{Forest, entry_head, page_at}
 use Rattle.mn_page.specs.Holds.{Holds}
 use Rattle.mn_page.proofs.Alike.{re_paired}
-use Rattle.mn_page.proofs.Named.{named}
+use Rattle.mn_base.proofs.Named.{named}
 use Rattle.mn_tree.specs.Moves.{pairs_after}
 use Rattle.mn_tree.proofs.Trees.Twins.{head_at, some_entry}
 use Rattle.mn_tree.proofs.Trees.Fits.{entry_in}

@@ -1,8 +1,6 @@
 -- Worked examples of versions that are added: a Snapshot and then a Branch of `main`, whose root has split.
-use Rattle.std.proofs.Common.{◌≡◌, ℕ, List, true, false, Some, [], ◌∷◌, refl}
+use Rattle.std.proofs.Common.{◌≡◌, ℕ, true, false, Some, [], ◌∷◌, refl}
 use Rattle.mn_base.specs.declared.ids.VersionNo.{VersionNo}
-use Rattle.mn_page.specs.declared.entry.CatEntry.{CatEntry}
-use Rattle.mn_page.specs.declared.page.Page.{Page}
 use Rattle.mn_page.specs.Forest.{main_entry}
 use Rattle.mn_page.specs.Copies.{marked_for, copy_for}
 use Rattle.mn_page.specs.Added.{Addition, frozen_entry, after_snapshot, after_branch}

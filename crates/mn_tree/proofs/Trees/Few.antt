@@ -23,7 +23,7 @@ use Rattle.mn_page.specs.Holds.{pairs_in}
 use Rattle.mn_page.specs.Overlay.{Held, Overlay, Halves, Asked, Nothing, Child_is, held_at, held_with, is_new}
 use Rattle.mn_page.specs.Overlay.{new_addr, page_with, new_page, child_at}
 use Rattle.mn_page.specs.Overlay.{leaf_halves, inner_halves, halves_of, rest_with, body_with, placed_addr, step_on}
-use Rattle.mn_page.proofs.PairsWith.{length-put}
+use Rattle.mn_base.proofs.PairsWith.{length-put}
 use Rattle.mn_tree.specs.declared.write.Write.{Write}
 use Rattle.mn_tree.specs.Walk.{Reached, walk}
 use Rattle.mn_tree.specs.Writes.{own_writes, other_writes, root_writes, page_writes, page_asks, origins_in}

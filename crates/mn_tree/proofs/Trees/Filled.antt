@@ -17,8 +17,8 @@ use Rattle.mn_page.specs.Grammar.{IsKey, IsValue, IsBound, IsAddr, IsBody, IsPag
 use Rattle.mn_page.specs.Holds.{pairs_in}
 use Rattle.mn_page.specs.Overlay.{Halves, halves_of, leaf_halves, inner_halves, is_new, rest_with, body_with}
 use Rattle.mn_page.proofs.Grid.{all_split, all_filter}
-use Rattle.mn_page.proofs.Keys.{not_below, turned}
-use Rattle.mn_page.proofs.PairsWith.{two_parts, ascending-put, all-put, length-put}
+use Rattle.mn_base.proofs.Keys.{not_below, turned}
+use Rattle.mn_base.proofs.PairsWith.{two_parts, ascending-put, all-put, length-put}
 use Rattle.mn_tree.proofs.Trees.Puts.{weaker}
 use Rattle.mn_tree.proofs.Trees.Fits.{ascending-filter}
 

@@ -14,7 +14,7 @@ use Rattle.mn_page.specs.declared.page.Body.TheVariants.{Leaf, Inner}
 use Rattle.mn_page.specs.Grammar.{height_of}
 use Rattle.mn_page.specs.Forest.{entry_head}
 use Rattle.mn_page.specs.Holds.{PagesAt, page_covers, page_serves, pairs_in, ShowsStore}
-use Rattle.mn_page.proofs.PairsWith.{AllAbove, ascending_parts, ascending_cons, all_above, first_above}
+use Rattle.mn_base.proofs.PairsWith.{AllAbove, ascending_parts, ascending_cons, all_above, first_above}
 use Rattle.mn_page.proofs.Grid.{all_at_place}
 use Rattle.mn_tree.proofs.Trees.Halved.{PairsFit}
 

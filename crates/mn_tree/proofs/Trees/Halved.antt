@@ -14,8 +14,8 @@ use Rattle.mn_page.specs.Grammar.{height_of}
 use Rattle.mn_page.specs.Forest.{body_children}
 use Rattle.mn_page.specs.Holds.{pairs_in}
 use Rattle.mn_page.specs.Overlay.{Halves, halves_of, leaf_halves, inner_halves}
-use Rattle.mn_page.proofs.Keys.{bytes_eq-true, key_lt-trans, key_lt-else}
-use Rattle.mn_page.proofs.PairsWith.{filter-below, two_parts}
+use Rattle.mn_base.proofs.Keys.{bytes_eq-true, key_lt-trans, key_lt-else}
+use Rattle.mn_base.proofs.PairsWith.{filter-below, two_parts}
 use Rattle.mn_tree.specs.Trees.{AreRising, children_after}
 use Rattle.mn_tree.proofs.Trees.Ranges.{rising_below}
 

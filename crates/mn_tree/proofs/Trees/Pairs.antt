@@ -3,7 +3,7 @@ use Rattle.std.proofs.Common.{◌≡◌, ℕ, Bool, true, false, cond, not, List
 use Rattle.std.specs.Prelude.{filter, bytes_eq}
 use Rattle.mn_base.specs.Store.{value_at, pairs_without}
 use Rattle.mn_base.specs.declared.reply.Pair.{Pair}
-use Rattle.mn_page.proofs.Keys.{bytes_eq-true}
+use Rattle.mn_base.proofs.Keys.{bytes_eq-true}
 
 -- pairs of a range, and without a key, in either order
 pub filter-without : (t : List ℕ → Bool) (key : List ℕ) (ps : List Pair) → filter (λ p. t p.key) (pairs_without ps key) ≡ pairs_without (filter (λ p. t p.key) ps) key

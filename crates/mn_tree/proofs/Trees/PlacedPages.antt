@@ -13,7 +13,7 @@ use Rattle.mn_page.specs.declared.page.Child.{Child}
 use Rattle.mn_page.specs.Grammar.{IsPage, IsBody, IsKey, IsAddr, are_ascending}
 use Rattle.mn_page.specs.Overlay.{held_at, is_new, new_addr, child_at, placed_addr, placed_body, placed_page, placed_old, placed_new, next_number}
 use Rattle.mn_page.proofs.Grid.{all_append, all_at_place}
-use Rattle.mn_page.proofs.Keys.{key_lt-trans}
+use Rattle.mn_base.proofs.Keys.{key_lt-trans}
 use Rattle.mn_tree.specs.State.{max_height}
 use Rattle.mn_tree.specs.Trees.{is_noted, AreRising, children_after, IsOrdered}
 use Rattle.mn_tree.specs.Order.{new_order, changed_order, place_in, slot_of, slots_by_number, is_changed, pair_of}

@@ -12,7 +12,7 @@ use Rattle.mn_page.specs.declared.page.Body.TheVariants.{Leaf, Inner}
 use Rattle.mn_page.specs.declared.page.Child.{Child}
 use Rattle.mn_page.specs.Forest.{ChildRange, ranges_from, body_children}
 use Rattle.mn_page.specs.Overlay.{rest_with, body_with}
-use Rattle.mn_page.proofs.Keys.{key_lt-trans, not_below}
+use Rattle.mn_base.proofs.Keys.{key_lt-trans, not_below}
 use Rattle.mn_page.proofs.Grid.{all_append}
 use Rattle.mn_tree.specs.Trees.{AreRising, children_after}
 use Rattle.mn_tree.proofs.Trees.Puts.{addr_is, same_itself, clash}

@@ -12,7 +12,7 @@ use Rattle.mn_page.specs.declared.page.Body.TheVariants.{Leaf, Inner}
 use Rattle.mn_page.specs.Grammar.{height_of}
 use Rattle.mn_page.specs.Overlay.{Held, held_at, new_addr, placed_body, placed_page}
 use Rattle.mn_page.specs.SlotOrder.{stands_first}
-use Rattle.mn_page.proofs.Keys.{key_lt-trans, not_below}
+use Rattle.mn_base.proofs.Keys.{key_lt-trans, not_below}
 use Rattle.mn_tree.specs.Order.{both_stand, precedes, with_number, with_numbers}
 use Rattle.mn_tree.proofs.Trees.Puts.{clash, weaker}
 use Rattle.mn_tree.proofs.Trees.Ordered.{all_with}

@@ -20,9 +20,9 @@ use Rattle.mn_page.specs.Holds.{PagesAt, page_covers, pairs_in}
 use Rattle.mn_page.specs.Overlay.{Held, Overlay, overlay_of, max_path, path_to, path_pairs, step_on, steps_on, raised}
 use Rattle.mn_page.proofs.Alike.{re_paired, get-set_same}
 use Rattle.mn_page.proofs.Grid.{all_at_place}
-use Rattle.mn_page.proofs.Keys.{value_at-filter}
-use Rattle.mn_page.proofs.Named.{named}
-use Rattle.mn_page.proofs.PairsWith.{ascending-put, filter-put_inside, filter-put_outside}
+use Rattle.mn_base.proofs.Keys.{value_at-filter}
+use Rattle.mn_base.proofs.Named.{named}
+use Rattle.mn_base.proofs.PairsWith.{ascending-put, filter-put_inside, filter-put_outside}
 use Rattle.mn_tree.specs.Trees.{laid_over, IsShown, IsWritable, IsDraft}
 use Rattle.mn_tree.specs.Laws.{PathTells, StepKeepsTree, TransactionKeepsTree, TransactionTells, found_on}
 use Rattle.mn_tree.proofs.Trees.Twins.{head_at}

@@ -23,8 +23,8 @@ use Rattle.mn_page.specs.Forest.{heads_in, entry_head}
 use Rattle.mn_page.specs.Holds.{PagesAt, page_covers, page_serves, pairs_in, IsTree}
 use Rattle.mn_page.specs.Overlay.{Held, Overlay, held_at, held_with, is_new, copied_for, path_pairs, step_on}
 use Rattle.mn_page.proofs.Grid.{all_at_place}
-use Rattle.mn_page.proofs.Keys.{value_at-filter}
-use Rattle.mn_page.proofs.PairsWith.{ascending-put, filter-put_inside, filter-put_outside}
+use Rattle.mn_base.proofs.Keys.{value_at-filter}
+use Rattle.mn_base.proofs.PairsWith.{ascending-put, filter-put_inside, filter-put_outside}
 use Rattle.mn_tree.specs.declared.write.Write.{Write}
 use Rattle.mn_tree.specs.Walk.{is_live}
 use Rattle.mn_tree.specs.Writes.{joined, all_joined, writes_up, step_writes, all_written}

@@ -23,7 +23,7 @@ use Rattle.mn_mini.specs.declared.reply.NodeReply.TheVariants as Say
 use Rattle.mn_mini.specs.Mini.{has_write}
 use Rattle.mn_mini.specs.Flat.{Mismatched, bytes_in, space_in, part_mismatch_from}
 use Rattle.mn_mini.specs.Node.{held_parts, has_forced, Clash, clash_of, only_reply, after_compares, after_locks, tested, answer, space_of}
-use Rattle.mn_page.proofs.Keys.{bytes_eq-refl}
+use Rattle.mn_base.proofs.Keys.{bytes_eq-refl}
 use Rattle.mn_world.specs.declared.entry.Entry.{Entry}
 use Rattle.mn_world.specs.declared.entry.What.{What}
 use Rattle.mn_world.specs.declared.entry.What.TheVariants.{Called}

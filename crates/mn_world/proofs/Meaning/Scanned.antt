@@ -18,7 +18,7 @@ use Rattle.mn_page.specs.Grammar.{height_of}
 use Rattle.mn_page.specs.Forest.{heads_in}
 use Rattle.mn_page.specs.Holds.{Holds, page_covers, pairs_in}
 use Rattle.mn_page.proofs.Grid.{all_at_place}
-use Rattle.mn_page.proofs.Named.{NamedVersion, named}
+use Rattle.mn_base.proofs.Named.{NamedVersion, named}
 use Rattle.mn_world.specs.declared.entry.Entry.{Entry}
 use Rattle.mn_world.specs.declared.entry.What.{What}
 use Rattle.mn_world.specs.Planned.{Continues}

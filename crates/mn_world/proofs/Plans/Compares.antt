@@ -9,7 +9,7 @@ use Rattle.mn_base.specs.Store.{Head, number_named}
 use Rattle.mn_mini.specs.declared.item.Item.{Item}
 use Rattle.mn_mini.specs.declared.item.Item.TheVariants.{Compare, Read, Write}
 use Rattle.mn_mini.specs.Flat.{bytes_in, space_in, mismatch_from}
-use Rattle.mn_page.proofs.Keys.{bytes_eq-true}
+use Rattle.mn_base.proofs.Keys.{bytes_eq-true}
 use Rattle.mn_world.specs.Planned.{place_rank, Continues}
 
 -- the bytes compared are in place

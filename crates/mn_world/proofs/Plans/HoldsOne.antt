@@ -17,8 +17,8 @@ use Rattle.mn_page.specs.Forest.{Forest, page_at, node_count, entry_head}
 use Rattle.mn_page.specs.Holds.{HoldsOne}
 use Rattle.mn_page.specs.Laws.{IsLeafFor}
 use Rattle.mn_page.proofs.Grid.{all_at_place, all_at_places}
-use Rattle.mn_page.proofs.Keys.{lt_not_same, bytes_eq-true, bytes_eq-refl, key_lt-else}
-use Rattle.mn_page.proofs.PairsWith.{ascending_parts, all_above, AllAbove}
+use Rattle.mn_base.proofs.Keys.{lt_not_same, bytes_eq-true, bytes_eq-refl, key_lt-else}
+use Rattle.mn_base.proofs.PairsWith.{ascending_parts, all_above, AllAbove}
 use Rattle.mn_page.proofs.Leaves.{one_leaf, leaf_tells_value}
 use Rattle.mn_world.proofs.Plans.Laying.{laid_is}
 use Rattle.mn_world.proofs.Plans.Spaces.{memory_by_pages, page_there, page_read, page_node, entry_there, entry_read, memory_length}

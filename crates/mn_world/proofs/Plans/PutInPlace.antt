@@ -24,10 +24,10 @@ use Rattle.mn_page.specs.Forest.{Forest, page_at, entry_head, body_children}
 use Rattle.mn_page.specs.Holds.{Holds, page_covers, pairs_in}
 use Rattle.mn_page.specs.Laws.{IsLeafFor, OneLeaf}
 use Rattle.mn_page.proofs.Grid.{all_at_place, all_at_places}
-use Rattle.mn_page.proofs.Named.{NamedVersion, named, not_refused}
+use Rattle.mn_base.proofs.Named.{NamedVersion, named, not_refused}
 use Rattle.mn_page.proofs.Leaves.{version_in, one_leaf}
 use Rattle.mn_page.proofs.Ancestors.{serves_alone, serves_own}
-use Rattle.mn_page.proofs.PairsWith.{ascending-put, filter-put_inside, filter-put_outside, all-put}
+use Rattle.mn_base.proofs.PairsWith.{ascending-put, filter-put_inside, filter-put_outside, all-put}
 use Rattle.mn_page.proofs.Alike.{Alike, with_page, re_paired, alike_forest, LeafChange, shows_change}
 use Rattle.mn_page.proofs.Spelled.{page_length, entry_length, entry_spelled_once}
 use Rattle.mn_world.specs.Planned.{Place, page_place, entry_place, count_place, compare_places, IsCompared, HasNextNumber, may_precede, place_rank, Continues, PlanActs}

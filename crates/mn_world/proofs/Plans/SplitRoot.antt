@@ -24,10 +24,10 @@ use Rattle.mn_page.specs.Forest.{Forest, Laid, memory_laid, laid_of, front_of, h
 use Rattle.mn_page.specs.Holds.{Holds, page_covers, pairs_in}
 use Rattle.mn_page.specs.Laws.{IsLeafFor, OneLeaf}
 use Rattle.mn_page.proofs.Grid.{all_at_place, all_append, all_split}
-use Rattle.mn_page.proofs.Named.{NamedVersion, named}
+use Rattle.mn_base.proofs.Named.{NamedVersion, named}
 use Rattle.mn_page.proofs.Leaves.{version_in, one_leaf}
-use Rattle.mn_page.proofs.Keys.{not_below, turned}
-use Rattle.mn_page.proofs.PairsWith.{ascending-put, all-put, two_parts}
+use Rattle.mn_base.proofs.Keys.{not_below, turned}
+use Rattle.mn_base.proofs.PairsWith.{ascending-put, all-put, two_parts}
 use Rattle.mn_page.proofs.Alike.{re_paired, all-set}
 use Rattle.mn_page.proofs.Spelled.{length-padded, page_length, entry_length, entry_spelled_once, big_bytes-inj}
 use Rattle.mn_page.proofs.Split.{Split, CanSplit, split_forest, with_root, with_left, new_root, left_page, right_page, split_is_forest, CutPairs, shows_split, old_serves, old_covers, lt_nil}

@@ -30,7 +30,7 @@ written-requires g c =
     let known = c.requires.serves in
     let f = facts g.D.Disk.state c.args.node.now known.0 known.1 c.args.op.now c.args.steps.now c.in_ok-page.page c.in_ok-leaf.leaf.seq c.in_ok-leaf.leaf.pairs.items c.in_ok-store.store c.apply.new.self
     c.as_slice-3.result.now known.2 known.3 c.requires.on_main c.in_ok-page.ensures.told.0 (λ n ps is e. c.in_ok-leaf.ensures n ps is (c.as_slice.ensures ∙ e)) c.in_ok-store.ensures c.in_ok-reply.ensures.store
-    (subst (λ (l : List Pair). IsSomeAnd (slice_get c.apply.new.self 0) (λ kept. l ≡ kept.pairs)) (sym c.as_slice-3.ensures) c.pairs.ensures) in
+    (subst (λ (l : List Pair). IsSomeAnd (slice_get c.apply.new.self 0) (λ kept. l ≡ kept.pairs)) (sym c.as_slice-3.ensures) c.pairs.ensures.pairs) in
     record { few = f.few }
 
 pub execute-requires-clause-sound : goal.execute-requires-clause-sound
@@ -38,7 +38,7 @@ execute-requires-clause-sound g c =
     let known = c.requires.serves in
     let f = facts g.D.Disk.state c.args.node.now known.0 known.1 c.args.op.now c.args.steps.now c.in_ok-page.page c.in_ok-leaf.leaf.seq c.in_ok-leaf.leaf.pairs.items c.in_ok-store.store c.apply.new.self
     c.as_slice-3.result.now known.2 known.3 c.requires.on_main c.in_ok-page.ensures.told.0 (λ n ps is e. c.in_ok-leaf.ensures n ps is (c.as_slice.ensures ∙ e)) c.in_ok-store.ensures c.in_ok-reply.ensures.store
-    (subst (λ (l : List Pair). IsSomeAnd (slice_get c.apply.new.self 0) (λ kept. l ≡ kept.pairs)) (sym c.as_slice-3.ensures) c.pairs.ensures) in
+    (subst (λ (l : List Pair). IsSomeAnd (slice_get c.apply.new.self 0) (λ kept. l ≡ kept.pairs)) (sym c.as_slice-3.ensures) c.pairs.ensures.pairs) in
     let new = option_map (λ page. page.items) c.in_ok-new.new in
     let written = subst (λ (l : List ℕ). IsWritten l c.in_ok-leaf.leaf.seq c.as_slice-3.result.now new) c.as_slice-2.ensures c.in_ok-new.ensures.new in
     subst (λ (l : List Item). IsSound (on_one_node l)) (sym c.in_ok-items.ensures) (plan_sound c.in_ok-page.page c.has_change.result new f.long
@@ -49,7 +49,7 @@ execute-requires-clause-part g c =
     let known = c.requires.serves in
     let f = facts g.D.Disk.state c.args.node.now known.0 known.1 c.args.op.now c.args.steps.now c.in_ok-page.page c.in_ok-leaf.leaf.seq c.in_ok-leaf.leaf.pairs.items c.in_ok-store.store c.apply.new.self
     c.as_slice-3.result.now known.2 known.3 c.requires.on_main c.in_ok-page.ensures.told.0 (λ n ps is e. c.in_ok-leaf.ensures n ps is (c.as_slice.ensures ∙ e)) c.in_ok-store.ensures c.in_ok-reply.ensures.store
-    (subst (λ (l : List Pair). IsSomeAnd (slice_get c.apply.new.self 0) (λ kept. l ≡ kept.pairs)) (sym c.as_slice-3.ensures) c.pairs.ensures) in
+    (subst (λ (l : List Pair). IsSomeAnd (slice_get c.apply.new.self 0) (λ kept. l ≡ kept.pairs)) (sym c.as_slice-3.ensures) c.pairs.ensures.pairs) in
     let new = option_map (λ page. page.items) c.in_ok-new.new in
     let written = subst (λ (l : List ℕ). IsWritten l c.in_ok-leaf.leaf.seq c.as_slice-3.result.now new) c.as_slice-2.ensures c.in_ok-new.ensures.new in
     subst (λ (l : List Item). IsPart (part_on l)) (sym c.in_ok-items.ensures) (plan_part c.in_ok-page.page c.has_change.result new f.long
@@ -60,7 +60,7 @@ execute-requires-clause-holds g c =
     let known = c.requires.serves in
     let f = facts g.D.Disk.state c.args.node.now known.0 known.1 c.args.op.now c.args.steps.now c.in_ok-page.page c.in_ok-leaf.leaf.seq c.in_ok-leaf.leaf.pairs.items c.in_ok-store.store c.apply.new.self
     c.as_slice-3.result.now known.2 known.3 c.requires.on_main c.in_ok-page.ensures.told.0 (λ n ps is e. c.in_ok-leaf.ensures n ps is (c.as_slice.ensures ∙ e)) c.in_ok-store.ensures c.in_ok-reply.ensures.store
-    (subst (λ (l : List Pair). IsSomeAnd (slice_get c.apply.new.self 0) (λ kept. l ≡ kept.pairs)) (sym c.as_slice-3.ensures) c.pairs.ensures) in
+    (subst (λ (l : List Pair). IsSomeAnd (slice_get c.apply.new.self 0) (λ kept. l ≡ kept.pairs)) (sym c.as_slice-3.ensures) c.pairs.ensures.pairs) in
     let new = option_map (λ page. page.items) c.in_ok-new.new in
     subst (λ (l : List Item). part_mismatch_from (space_on c.peek_leaf.new.node) 0 (part_on l) ≡ None) (sym c.in_ok-items.ensures)
     (plan_runs g.D.Disk.state c.args.node.now c.peek_leaf.new.node known.0 known.1 c.args.op.now c.args.steps.now c.in_ok-page.page c.in_ok-leaf.leaf.seq c.as_slice-3.result.now c.has_change.result new
@@ -72,7 +72,7 @@ returns-in_err-execute-clause-done g c =
     rw (r.1, r.2) (λ seq pairs serves taken.
     let f = facts g.D.Disk.state c.args.node.now seq pairs c.args.op.now c.args.steps.now c.in_ok-page.page c.in_ok-leaf.leaf.seq c.in_ok-leaf.leaf.pairs.items c.in_ok-store.store c.apply.new.self
     c.as_slice-3.result.now serves taken c.requires.on_main c.in_ok-page.ensures.told.0 (λ n ps is e. c.in_ok-leaf.ensures n ps is (c.as_slice.ensures ∙ e)) c.in_ok-store.ensures c.in_ok-reply.ensures.store
-    (subst (λ (l : List Pair). IsSomeAnd (slice_get c.apply.new.self 0) (λ kept. l ≡ kept.pairs)) (sym c.as_slice-3.ensures) c.pairs.ensures) in
+    (subst (λ (l : List Pair). IsSomeAnd (slice_get c.apply.new.self 0) (λ kept. l ≡ kept.pairs)) (sym c.as_slice-3.ensures) c.pairs.ensures.pairs) in
     let new = option_map (λ page. page.items) c.in_ok-new.new in
     let written = subst (λ (l : List ℕ). IsWritten l c.in_ok-leaf.leaf.seq c.as_slice-3.result.now new) c.as_slice-2.ensures c.in_ok-new.ensures.new in
     does_behind g.D.Disk.state g.D.Disk.faults c.args.caller.now.run seq pairs c.args.op.now c.args.node.now c.peek_leaf.new.node c.execute.new.node (Err c.in_err-execute.field-0.0)
@@ -85,7 +85,7 @@ pub returns-clause-done : goal.returns-clause-done
 returns-clause-done g c = λ seq pairs serves taken.
     let f = facts g.D.Disk.state c.args.node.now seq pairs c.args.op.now c.args.steps.now c.in_ok-page.page c.in_ok-leaf.leaf.seq c.in_ok-leaf.leaf.pairs.items c.in_ok-store.store c.apply.new.self
     c.as_slice-3.result.now serves taken c.requires.on_main c.in_ok-page.ensures.told.0 (λ n ps is e. c.in_ok-leaf.ensures n ps is (c.as_slice.ensures ∙ e)) c.in_ok-store.ensures c.in_ok-reply.ensures.store
-    (subst (λ (l : List Pair). IsSomeAnd (slice_get c.apply.new.self 0) (λ kept. l ≡ kept.pairs)) (sym c.as_slice-3.ensures) c.pairs.ensures) in
+    (subst (λ (l : List Pair). IsSomeAnd (slice_get c.apply.new.self 0) (λ kept. l ≡ kept.pairs)) (sym c.as_slice-3.ensures) c.pairs.ensures.pairs) in
     let new = option_map (λ page. page.items) c.in_ok-new.new in
     let written = subst (λ (l : List ℕ). IsWritten l c.in_ok-leaf.leaf.seq c.as_slice-3.result.now new) c.as_slice-2.ensures c.in_ok-new.ensures.new in
     let leaf = c.in_ok-leaf.ensures seq pairs serves.makes.holds.page (c.as_slice.ensures ∙ f.slot) in

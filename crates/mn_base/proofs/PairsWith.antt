@@ -7,7 +7,7 @@ use Rattle.std.specs.Prelude.{bytes_eq}
 use Rattle.mn_base.specs.Order.{key_lt}
 use Rattle.mn_base.specs.Store.{pairs_with, is_ascending}
 use Rattle.mn_base.specs.declared.reply.Pair.{Pair}
-use Rattle.mn_page.proofs.Keys.{bytes_eq-true, bytes_eq-refl, key_lt-trans, key_lt-else, not_below, turned}
+use Rattle.mn_base.proofs.Keys.{bytes_eq-true, bytes_eq-refl, key_lt-trans, key_lt-else, not_below, turned}
 
 -- Ascending pairs
 
@@ -41,6 +41,22 @@ above_filter key t (p ∷ ps) all = elim (t p) as (λ b. AllAbove key (cond b (p
   | true ↦ (all.0, above_filter key t ps all.1)
   | false ↦ above_filter key t ps all.1
 ]
+
+first_of : (key : List ℕ) (ps : List Pair) → AllAbove key ps → first_above key ps ≡ true
+first_of key [] all = refl
+first_of key (p ∷ ps) all = all.0
+
+-- some of ascending pairs ascend
+pub ascending-filter : (t : Pair → Bool) (ps : List Pair) → is_ascending ps ≡ true → is_ascending (filter t ps) ≡ true
+ascending-filter t [] e = refl
+ascending-filter t (p ∷ ps) e =
+    let parts = ascending_parts p ps e in
+    let rest = ascending-filter t ps parts.1 in
+    let above = above_filter p.key t ps (all_above p.key ps parts.0 parts.1) in
+    elim (t p) as (λ b. is_ascending (cond b (p ∷ filter t ps) (filter t ps)) ≡ true) [
+      | true ↦ ascending_cons p (filter t ps) (first_of p.key (filter t ps) above) rest
+      | false ↦ rest
+    ]
 
 -- Setting a value
 
