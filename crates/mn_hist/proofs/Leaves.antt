@@ -19,7 +19,7 @@ use Rattle.mn_page.specs.declared.page.Page.{Page}
 use Rattle.mn_page.specs.Grammar.{IsEntry, IsBody, height_of}
 use Rattle.mn_page.specs.Holds.{page_covers, pairs_in}
 use Rattle.mn_world.specs.declared.entry.Entry.{Entry}
-use Rattle.mn_world.specs.Planned.{Place, catalog_place, page_place}
+use Rattle.mn_world.specs.Places.{Place, catalog_place, page_place}
 use Rattle.mn_world.specs.Shown.{Seen, SeesCatalog, ShowsCatalog, LeafShows, CatalogShows, ReadShows}
 use Rattle.mn_hist.specs.Shown.{Decides, is_of_catalog, HasCatalog, IsUnshown, Tells, CatalogTells, lone_key, found_in, found_at, leaf_value, LeafGives, LeafTells, ServesBy, IsServedBy}
 use Rattle.mn_hist.proofs.Places.{catalog_read, no_catalog_read}

@@ -5,7 +5,7 @@ use Rattle.mn_world.proofs.Reading.Same.{nat_eq-true}
 use Rattle.std.proofs.lemmas.Bool.{eq-eqb}
 use Rattle.mn_base.specs.declared.ids.Addr.{Addr}
 use Rattle.mn_base.specs.declared.ids.NodeNo.{NodeNo}
-use Rattle.mn_world.specs.Planned.{Place, page_place}
+use Rattle.mn_world.specs.Places.{Place, page_place}
 use Rattle.mn_world.specs.Shown.{Seen, IsCatalogRead}
 use Rattle.mn_hist.specs.Shown.{Decides, is_of_catalog}
 

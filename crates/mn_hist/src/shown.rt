@@ -10,7 +10,7 @@ ghost use Rattle.mn_page.specs.Forest.{entry_head, heads_in};
 ghost use Rattle.mn_page.specs.Grammar.{SpellsPage};
 ghost use Rattle.mn_page.specs.declared.entry.CatEntry.{CatEntry as Head};
 ghost use Rattle.mn_page.specs.declared.page.Page.{Page as Leaf};
-ghost use Rattle.mn_world.specs.Planned.{page_place};
+ghost use Rattle.mn_world.specs.Places.{page_place};
 ghost use Rattle.mn_world.specs.Shown.{seen_by, seen_at, CatalogReplies};
 ghost use Rattle.mn_hist.specs.Shown.{seen_of, Decides, is_of_catalog, Tells, CatalogTells};
 ghost use Rattle.mn_hist.specs.Shown.{LeafTells, lone_key, leaf_value, IsServedBy};

@@ -25,6 +25,7 @@ use Rattle.mn_txn.specs.ChildPlan.{RefusesSnapshot}
 use Rattle.mn_txn.specs.declared.error.PlanError.{PlanError}
 use Rattle.mn_txn.specs.declared.error.PlanError.TheVariants.{Worn, NoMemory}
 use Rattle.mn_mini.specs.Mini.{Mini}
+use Rattle.mn_world.specs.declared.entry.Entry.{Entry}
 use Rattle.mn_world.specs.Planned.{IsPlanned}
 use Rattle.mn_proxy.specs.declared.child.Child.{Child}
 use Rattle.mn_proxy.specs.declared.known.Known.{Known}
@@ -108,9 +109,9 @@ MayPlan nodes entries (Branch version child) root slot =
     × (refusal (heads_in entries) (Branch version child) ≡ None)
 MayPlan nodes entries op root slot = ⊥
 
--- it does what the operation does, wherever its compares hold
-abbrev pub DoesChild : List CatEntry → Op → Mini → Type 0
-DoesChild entries op mini = IsPlanned (heads_in entries) op mini Made
+-- it does what the operation does, wherever its compares hold, for a client with any list
+pub record DoesChild (entries : List CatEntry) (op : Op) (mini : Mini) : Type 0 where
+  pub planned : (es : List Entry) → IsPlanned es (heads_in entries) op mini Made
 
 -- why it has none
 abbrev pub RefusesChild : List CatEntry → Op → Page → PlanError → Type 0
@@ -136,7 +137,7 @@ pub record IsWanted (nodes : ℕ) (entries : List CatEntry) (op : Op) (c : Child
     : Type 0 where
   pub root : Page
   pub page : c.page ≡ Some root
-  pub planned : IsPlanned (heads_in entries) op mini Made
+  pub planned : DoesChild entries op mini
   pub plan : IsPlanFor nodes entries op root (next_slot c.counts.items) mini
 
 -- there is no slot left, or what is to be written is worn: the answer of a later try

@@ -11,7 +11,7 @@ use Rattle.mn_base.specs.declared.op.Op.{Op}
 use Rattle.mn_base.specs.declared.answer.Busy.{Busy}
 use Rattle.mn_page.specs.declared.entry.CatEntry.{CatEntry}
 use Rattle.mn_page.specs.Forest.{heads_in}
-use Rattle.mn_world.specs.Planned.{page_place}
+use Rattle.mn_world.specs.Places.{page_place}
 use Rattle.mn_world.specs.Shown.{Seen}
 use Rattle.mn_world.specs.Answers.{MeetsFault, ReachesAddr}
 

@@ -25,7 +25,8 @@ use Rattle.mn_page.proofs.Spelled.{page_length}
 use Rattle.mn_tree.specs.Trees.{is_noted}
 use Rattle.mn_tree.specs.Moves.{done_in, came_at, leaves_at}
 use Rattle.mn_tree.specs.MoveLaws.{AreTold}
-use Rattle.mn_world.specs.Planned.{Place, page_place, entry_place, count_place, IsPagePlace, IsWholePlace, ComeOnce, compare_places, write_places, IsCompared, HasNextNumber, IsPickOf, page_write, WritesPages, PlanActs}
+use Rattle.mn_world.specs.Places.{Place, page_place, entry_place, catalog_node, count_place, IsPagePlace}
+use Rattle.mn_world.specs.Planned.{IsWholePlace, ComeOnce, compare_places, write_places, IsCompared, HasNextNumber, IsPickOf, page_write, WritesPages, PlanActs}
 use Rattle.mn_world.specs.Growth.{GoOn, node_no, addrs_of}
 use Rattle.mn_txn.specs.declared.image.Image.{Image}
 use Rattle.mn_txn.specs.State.{is_at, AreApart}
@@ -108,7 +109,7 @@ module _ (f : Forest) (store : Store) (nodes : ℕ) (a : Attempt) (version : Sto
   counts = map (λ n. count_place (node_no n)) giving
 
   abbrev entries : List Place
-  entries = if list_any is_change a.steps then entry_place a.version.0 ∷ [] else []
+  entries = if list_any is_change a.steps then entry_place catalog_node a.version.0 ∷ [] else []
 
   came_places : (xs : List Addr) → AllByRecursion (λ x. (p : Page) × (came_at a.moves x ≡ Some p) × (page_at f x ≡ Some p) × IsPage p) xs → map image_place (came_images a.moves xs) ≡ map page_place xs
   came_places [] all = refl
@@ -120,7 +121,7 @@ module _ (f : Forest) (store : Store) (nodes : ℕ) (a : Attempt) (version : Sto
   entry_places : length (entry_bytes a.entry) ≡ 64 → map image_place (entry_images a) ≡ entries
   entry_places long = by_any (list_any is_change a.steps)
     where
-      by_any : (t : Bool) → map image_place (if t then record { node = node_no 0; start = 64 + 64 * a.version.0; bytes = entry_bytes a.entry } ∷ [] else []) ≡ (if t then entry_place a.version.0 ∷ [] else [])
+      by_any : (t : Bool) → map image_place (if t then record { node = node_no 0; start = 64 + 64 * a.version.0; bytes = entry_bytes a.entry } ∷ [] else []) ≡ (if t then entry_place catalog_node a.version.0 ∷ [] else [])
       by_any true = ap (λ (p : Place). p ∷ []) (same_length (node_no 0) (64 + 64 * a.version.0) (length (entry_bytes a.entry)) 64 long)
       by_any false = refl
 
@@ -178,7 +179,7 @@ module _ (f : Forest) (store : Store) (nodes : ℕ) (a : Attempt) (version : Sto
               inr (inr (inl (x, c'.0, sym is, c'.2, subst (Contains (write_places mini)) is (changed_written x change))))
         ]
 
-        of_entry : (t : Bool) → list_any is_change a.steps ≡ t → Contains (if t then entry_place a.version.0 ∷ [] else []) place → Compared place
+        of_entry : (t : Bool) → list_any is_change a.steps ≡ t → Contains (if t then entry_place catalog_node a.version.0 ∷ [] else []) place → Compared place
         of_entry true any (zero, low, is) = inr (inl (any, sym is))
         of_entry true any (suc k, low, is) = absurd (omega arith)
         of_entry false any (k, low, is) = absurd (omega arith)
@@ -193,7 +194,7 @@ module _ (f : Forest) (store : Store) (nodes : ℕ) (a : Attempt) (version : Sto
         Contains-append_left (map page_place addrs) (entries ++ counts) place (subst (Contains (map page_place addrs)) (sym leaf.2) (contains_map page_place addrs leaf.0 (noted_has addrs leaf.0 noted)))
     back place (inr (inl entry)) =
         Contains-append_right (map page_place addrs) (entries ++ counts) place (Contains-append_left entries counts place
-        (subst (λ t. Contains (if t then entry_place a.version.0 ∷ [] else []) place) (sym entry.0) (0, omega arith, sym entry.1)))
+        (subst (λ t. Contains (if t then entry_place catalog_node a.version.0 ∷ [] else []) place) (sym entry.0) (0, omega arith, sym entry.1)))
     back place (inr (inr (inl old))) = elim (Contains-append_cases (map page_place (addrs_of (changed ++ new))) counts place (subst (λ (l : List Place). Contains l place) written_are old.4)) as (λ _. Contains (map page_place addrs ++ (entries ++ counts)) place) [
       | inl page ↦ of_page (mapped_back page_place (addrs_of (changed ++ new)) place page)
       | inr count ↦ of_count (mapped_back (λ n. count_place (node_no n)) giving place count)

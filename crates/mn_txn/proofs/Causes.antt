@@ -4,7 +4,7 @@ use Rattle.std.proofs.Common.{refl, sym, ap, ◌∙◌, arith}
 use Rattle.byteorder.specs.Endian.{big_bytes}
 use Rattle.mn_page.specs.Overlay.{Held, held_at}
 use Rattle.mn_tree.specs.Plain.{TriesShowNeeds}
-use Rattle.mn_world.specs.Planned.{Place, page_place}
+use Rattle.mn_world.specs.Places.{Place, page_place}
 use Rattle.mn_world.specs.Shown.{Seen, SeesPage}
 use Rattle.mn_txn.specs.Tries.{TriesShowCauses, WornPagesShow}
 use Rattle.mn_txn.proofs.Known.{came_of}

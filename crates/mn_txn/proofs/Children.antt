@@ -15,7 +15,7 @@ use Rattle.mn_base.specs.declared.op.Op.TheVariants.{Snapshot, Branch}
 use Rattle.mn_base.specs.declared.reply.Reply.TheVariants as says
 use Rattle.mn_mini.specs.declared.item.Item.{Item}
 use Rattle.mn_mini.specs.Mini.{Mini}
-use Rattle.mn_mini.specs.Flat.{mismatch_from, memory_after}
+use Rattle.mn_mini.specs.Flat.{memory_after}
 use Rattle.mn_page.specs.declared.page.Page.{Page}
 use Rattle.mn_page.specs.declared.entry.CatEntry.{CatEntry}
 use Rattle.mn_page.specs.Space.{max_slots}
@@ -28,7 +28,9 @@ use Rattle.mn_page.specs.Added.{Addition, MayBeAdded, HasCopy, Adds, AreShown, f
 use Rattle.mn_base.proofs.VersionTree.{child_admitted}
 use Rattle.mn_page.proofs.Spelled.{entry_length}
 use Rattle.mn_tree.proofs.Trees.Puts.{same_itself}
-use Rattle.mn_world.specs.Planned.{Place, page_place, entry_place, count_place, IsPagePlace, IsWholePlace, ComeOnce, compare_places, write_places, IsRootOf, IsWrittenCount, IsCompared, HasNextNumber, IsPickOf, WritesPages, Continues, PlanActs}
+use Rattle.mn_world.specs.Places.{Place, page_place, entry_place, catalog_node, count_place, IsPagePlace}
+use Rattle.mn_world.specs.declared.entry.Entry.{Entry}
+use Rattle.mn_world.specs.Planned.{IsWholePlace, ComeOnce, compare_places, write_places, IsRootOf, IsWrittenCount, IsCompared, HasNextNumber, IsPickOf, WritesPages, Continues, PlanActs, ComparesHold}
 use Rattle.mn_world.specs.Plans.{write_page, write_count}
 use Rattle.mn_world.specs.Growth.{taken_on, AreNextSlots, node_no, count_in, count_writes, AreCounts, AreDifferent, NextSlotsAreFree, over, write_held, Numbered, write_entry, write_numbered, entries_with, entries_after, AreNextEntries, WritesLeaveVersions, AreMet, ComparesTell, NumbersGoOn}
 use Rattle.mn_world.proofs.Plans.Compares.{still_named}
@@ -136,7 +138,7 @@ entries_written (w ∷ ws) = ap (λ (l : List Item). write_numbered w ∷ l) (en
 -- A try over a memory in which its compares hold
 
 module _ (copies_are_pages : CopiesArePages) (next_slots_are_free : NextSlotsAreFree) (writes_leave_versions : WritesLeaveVersions) (compares_tell : ComparesTell) (numbers_go_on : NumbersGoOn) (kept : List Head) (nodes : ℕ) (c : ChildTry) (is : IsChildTry kept nodes c) (admitted : child_refusal kept c.child ≡ None)
-    (memory : List (List ℕ)) (store : Store) (many : length memory ≡ nodes) (holds : Holds memory store) (on : Continues kept (heads_of store)) (more : List Item) (met : mismatch_from memory 0 (map compare_of (child_reads c) ++ more) ≡ None) where
+    (memory : List (List ℕ)) (store : Store) (many : length memory ≡ nodes) (holds : Holds memory store) (on : Continues kept (heads_of store)) (more : List Item) (es : List Entry) (hold : ComparesHold es memory (map compare_of (child_reads c) ++ more)) where
   abbrev pub f : Forest
   f = holds.forest
 
@@ -165,7 +167,7 @@ module _ (copies_are_pages : CopiesArePages) (next_slots_are_free : NextSlotsAre
   few_nodes = sym many ∙ nodes_are memory store holds
 
   tells : AreMet f (map compare_of (child_reads c) ++ more)
-  tells = compares_tell memory store holds (map compare_of (child_reads c) ++ more) met
+  tells = compares_tell es memory store holds (map compare_of (child_reads c) ++ more) hold
 
   has : (i : Image) → Contains (child_reads c) i → Contains (map compare_of (child_reads c) ++ more) (compare_of i)
   has i there = Contains-append_left (map compare_of (child_reads c)) more (compare_of i) (contains_map compare_of (child_reads c) i there)
@@ -276,22 +278,22 @@ module _ (copies_are_pages : CopiesArePages) (next_slots_are_free : NextSlotsAre
             ∙ (ap (λ (l : List Item). l ++ write_count (node_no node) (c.slot.slot + 1) ∷ []) (entries_written ws) ∙ ap (λ (l : List Item). map write_numbered ws ++ l) (sym (one_count c.counts c.slot is.slot))))
 
     abbrev entry_places : List Place
-    entry_places = map (λ (x : Numbered). entry_place x.0) ws
+    entry_places = map (λ (x : Numbered). entry_place catalog_node x.0) ws
 
     abbrev others : List Place
     others = entry_places ++ count_place (node_no node) ∷ []
 
-    entries_are : (xs : List Numbered) → AllByRecursion (λ (x : Numbered). (x.0 < 64) × IsEntry x.1) xs → map image_place (map numbered_image xs) ≡ map (λ (x : Numbered). entry_place x.0) xs
+    entries_are : (xs : List Numbered) → AllByRecursion (λ (x : Numbered). (x.0 < 64) × IsEntry x.1) xs → map image_place (map numbered_image xs) ≡ map (λ (x : Numbered). entry_place catalog_node x.0) xs
     entries_are [] all = refl
     entries_are (x ∷ xs) all =
         ap (λ (p : Place). p ∷ map image_place (map numbered_image xs)) (same_length (node_no 0) (64 + 64 * x.0) (length (entry_bytes x.1)) 64 (entry_length x.1 (all.0).1))
-        ∙ ap (λ (l : List Place). entry_place x.0 ∷ l) (entries_are xs all.1)
+        ∙ ap (λ (l : List Place). entry_place catalog_node x.0 ∷ l) (entries_are xs all.1)
 
-    compared_are : compare_places mini ≡ page_place c.entry.root ∷ entry_place v ∷ entry_place w ∷ count_place (node_no node) ∷ []
+    compared_are : compare_places mini ≡ page_place c.entry.root ∷ entry_place catalog_node v ∷ entry_place catalog_node w ∷ count_place (node_no node) ∷ []
     compared_are =
         compared (child_reads c) (writes_of c ws)
-        ∙ (ap (λ (p : Place). p ∷ image_place (entry_image c.version c.entry) ∷ entry_place w ∷ count_place (node_no node) ∷ []) (page_is c.entry.root c.root is.root)
-        ∙ ap (λ (p : Place). page_place c.entry.root ∷ p ∷ entry_place w ∷ count_place (node_no node) ∷ []) (same_length (node_no 0) (64 + 64 * v) (length (entry_bytes c.entry)) 64 (entry_length c.entry is.entry)))
+        ∙ (ap (λ (p : Place). p ∷ image_place (entry_image c.version c.entry) ∷ entry_place catalog_node w ∷ count_place (node_no node) ∷ []) (page_is c.entry.root c.root is.root)
+        ∙ ap (λ (p : Place). page_place c.entry.root ∷ p ∷ entry_place catalog_node w ∷ count_place (node_no node) ∷ []) (same_length (node_no 0) (64 + 64 * v) (length (entry_bytes c.entry)) 64 (entry_length c.entry is.entry)))
 
     written_are : write_places mini ≡ page_place c.entry.root ∷ page_place c.slot ∷ others
     written_are =
@@ -302,7 +304,7 @@ module _ (copies_are_pages : CopiesArePages) (next_slots_are_free : NextSlotsAre
     -- Compares
 
     abbrev Wanted : Place → Type 0
-    Wanted place = IsRootOf f v place ⊎ (place ≡ entry_place v) ⊎ (place ≡ entry_place (length f.entries)) ⊎ IsWrittenCount mini place
+    Wanted place = IsRootOf f v place ⊎ (place ≡ entry_place catalog_node v) ⊎ (place ≡ entry_place catalog_node (length f.entries)) ⊎ IsWrittenCount mini place
 
     entry_same : (d e : CatEntry) → Some d ≡ Some e → d ≡ e
     entry_same d e g = cc
@@ -314,24 +316,24 @@ module _ (copies_are_pages : CopiesArePages) (next_slots_are_free : NextSlotsAre
     count_written_there : Contains (write_places mini) (count_place (node_no node))
     count_written_there = subst (λ (l : List Place). Contains l (count_place (node_no node))) (sym written_are) (last_in (page_place c.entry.root ∷ page_place c.slot ∷ entry_places) (count_place (node_no node)))
 
-    there : (place : Place) → Contains (page_place c.entry.root ∷ entry_place v ∷ entry_place w ∷ count_place (node_no node) ∷ []) place → Wanted place
+    there : (place : Place) → Contains (page_place c.entry.root ∷ entry_place catalog_node v ∷ entry_place catalog_node w ∷ count_place (node_no node) ∷ []) place → Wanted place
     there place (zero, l, e) = inl (c.entry, entry_at, sym e)
     there place (suc zero, l, e) = inr (inl (sym e))
-    there place (suc (suc zero), l, e) = inr (inr (inl (sym e ∙ ap entry_place (sym as_many))))
+    there place (suc (suc zero), l, e) = inr (inr (inl (sym e ∙ ap (entry_place catalog_node) (sym as_many))))
     there place (suc (suc (suc zero)), l, e) = inr (inr (inr ((node_no node, sym e), subst (Contains (write_places mini)) e count_written_there)))
     there place (suc (suc (suc (suc k))), l, e) = absurd (omega arith)
 
     -- a count that is written is the one count
-    only_count : (n : NodeNo) (place : Place) → place ≡ count_place n → (xs : List Numbered) → Contains (map (λ (x : Numbered). entry_place x.0) xs ++ count_place (node_no node) ∷ []) place → count_place (node_no node) ≡ place
+    only_count : (n : NodeNo) (place : Place) → place ≡ count_place n → (xs : List Numbered) → Contains (map (λ (x : Numbered). entry_place catalog_node x.0) xs ++ count_place (node_no node) ∷ []) place → count_place (node_no node) ≡ place
     only_count n place e [] (zero, l, g) = g
     only_count n place e [] (suc k, l, g) = absurd (omega arith)
     only_count n place e (x ∷ xs) (zero, l, g) = let same : ◌≡◌ {A = ℕ} 64 8 = ap (λ (p : Place). p.length) (g ∙ e) in absurd (omega arith)
     only_count n place e (x ∷ xs) (suc k, l, g) = only_count n place e xs (k, omega arith, g)
 
-    back : (place : Place) → Wanted place → Contains (page_place c.entry.root ∷ entry_place v ∷ entry_place w ∷ count_place (node_no node) ∷ []) place
+    back : (place : Place) → Wanted place → Contains (page_place c.entry.root ∷ entry_place catalog_node v ∷ entry_place catalog_node w ∷ count_place (node_no node) ∷ []) place
     back place (inl root) = (0, omega arith, ap (λ (e : CatEntry). page_place e.root) (entry_same c.entry root.0 (sym entry_at ∙ root.1)) ∙ sym root.2)
     back place (inr (inl entry)) = (1, omega arith, sym entry)
-    back place (inr (inr (inl next))) = (2, omega arith, ap entry_place (sym as_many) ∙ sym next)
+    back place (inr (inr (inl next))) = (2, omega arith, ap (entry_place catalog_node) (sym as_many) ∙ sym next)
     back place (inr (inr (inr count))) = (3, omega arith, of_write (subst (λ (l : List Place). Contains l place) written_are count.1))
       where
         of_write : Contains (page_place c.entry.root ∷ page_place c.slot ∷ others) place → count_place (node_no node) ≡ place
@@ -386,14 +388,14 @@ module _ (copies_are_pages : CopiesArePages) (next_slots_are_free : NextSlotsAre
       no_more = no_more ws;
     }
       where
-        no_more : (xs : List Numbered) → AllByRecursion (λ place. IsPagePlace place → ⊥) (map (λ (x : Numbered). entry_place x.0) xs ++ count_place (node_no node) ∷ [])
+        no_more : (xs : List Numbered) → AllByRecursion (λ place. IsPagePlace place → ⊥) (map (λ (x : Numbered). entry_place catalog_node x.0) xs ++ count_place (node_no node) ∷ [])
         no_more [] = ((λ page. no_count page.0 (node_no node) (count_place (node_no node)) (sym page.1) refl), tt)
         no_more (x ∷ xs) = ((λ page. let same : ◌≡◌ {A = ℕ} 64 1024 = ap (λ (p : Place). p.length) page.1 in absurd (omega arith)), no_more xs)
 
     pub wholes : AllByRecursion IsWholePlace (write_places mini)
     wholes = subst (AllByRecursion IsWholePlace) (sym written_are) (inl (c.entry.root, refl), (inl (c.slot, refl), each ws places))
       where
-        each : (xs : List Numbered) → AllByRecursion (λ (x : Numbered). (x.0 < 64) × IsEntry x.1) xs → AllByRecursion IsWholePlace (map (λ (x : Numbered). entry_place x.0) xs ++ count_place (node_no node) ∷ [])
+        each : (xs : List Numbered) → AllByRecursion (λ (x : Numbered). (x.0 < 64) × IsEntry x.1) xs → AllByRecursion IsWholePlace (map (λ (x : Numbered). entry_place catalog_node x.0) xs ++ count_place (node_no node) ∷ [])
         each [] all = (inr (inr (node_no node, refl)), tt)
         each (x ∷ xs) all = (inr (inl (x.0, (all.0).0, refl)), each xs all.1)
 
@@ -510,11 +512,11 @@ frozen_one true e = (refl, e)
 frozen_one false e = absurd cc
 
 pub snapshot_is_planned : SnapshotIsShown → CopiesArePages → NextSlotsAreFree → WritesLeaveVersions → ComparesTell → NumbersGoOn → PlansAreInOrder → SnapshotIsPlanned
-snapshot_is_planned snapshot_is_shown copies_are_pages next_slots_are_free writes_leave_versions compares_tell numbers_go_on in_order kept t c is may low apart_reads apart_writes reads_are writes_are = record {
-  acts = λ memory store many sizes holds on met.
+snapshot_is_planned snapshot_is_shown copies_are_pages next_slots_are_free writes_leave_versions compares_tell numbers_go_on in_order kept t c is may low apart_reads apart_writes reads_are writes_are es = record {
+  acts = λ memory store many sizes holds on hold.
       subst (λ (m : Mini). PlanActs memory store holds (Snapshot c.name c.child) m says.Made) (sym mini_is)
-      (snapshot_acts copies_are_pages next_slots_are_free writes_leave_versions compares_tell numbers_go_on kept t.nodes c is admitted.1 memory store many holds on (map write_of (snapshot_writes c))
-      (subst (λ (m : Mini). mismatch_from memory 0 m.items ≡ None) mini_is met) snapshot_is_shown admitted.0 low (subst AreApart writes_are (apart_in_order t.writes apart_writes)));
+      (snapshot_acts copies_are_pages next_slots_are_free writes_leave_versions compares_tell numbers_go_on kept t.nodes c is admitted.1 memory store many holds on (map write_of (snapshot_writes c)) es
+      (subst (λ (m : Mini). ComparesHold es memory m.items) mini_is hold) snapshot_is_shown admitted.0 low (subst AreApart writes_are (apart_in_order t.writes apart_writes)));
   order = in_order t apart_reads apart_writes;
   kind = tt;
 }
@@ -528,11 +530,11 @@ snapshot_is_planned snapshot_is_shown copies_are_pages next_slots_are_free write
         ∙ ap (λ (ws : List Image). let m : Mini = record { nodes = t.nodes; items = map compare_of (child_reads c) ++ map write_of ws } in m) writes_are
 
 pub branch_is_planned : BranchIsShown → CopiesArePages → NextSlotsAreFree → WritesLeaveVersions → ComparesTell → NumbersGoOn → PlansAreInOrder → BranchIsPlanned
-branch_is_planned branch_is_shown copies_are_pages next_slots_are_free writes_leave_versions compares_tell numbers_go_on in_order kept t c is may apart_reads apart_writes reads_are writes_are = record {
-  acts = λ memory store many sizes holds on met.
+branch_is_planned branch_is_shown copies_are_pages next_slots_are_free writes_leave_versions compares_tell numbers_go_on in_order kept t c is may apart_reads apart_writes reads_are writes_are es = record {
+  acts = λ memory store many sizes holds on hold.
       subst (λ (m : Mini). PlanActs memory store holds (Branch c.name c.child) m says.Made) (sym mini_is)
-      (branch_acts copies_are_pages next_slots_are_free writes_leave_versions compares_tell numbers_go_on kept t.nodes c is admitted.1 memory store many holds on (map write_of (branch_writes c))
-      (subst (λ (m : Mini). mismatch_from memory 0 m.items ≡ None) mini_is met) branch_is_shown admitted.0 (subst AreApart writes_are (apart_in_order t.writes apart_writes)));
+      (branch_acts copies_are_pages next_slots_are_free writes_leave_versions compares_tell numbers_go_on kept t.nodes c is admitted.1 memory store many holds on (map write_of (branch_writes c)) es
+      (subst (λ (m : Mini). ComparesHold es memory m.items) mini_is hold) branch_is_shown admitted.0 (subst AreApart writes_are (apart_in_order t.writes apart_writes)));
   order = in_order t apart_reads apart_writes;
   kind = tt;
 }

@@ -13,7 +13,7 @@ use Rattle.mn_base.specs.declared.op.Op.TheVariants.{Tx}
 use Rattle.mn_base.specs.declared.reply.Pair.{Pair}
 use Rattle.mn_mini.specs.declared.item.Item.{Item}
 use Rattle.mn_mini.specs.Mini.{Mini}
-use Rattle.mn_mini.specs.Flat.{mismatch_from, memory_after}
+use Rattle.mn_mini.specs.Flat.{memory_after}
 use Rattle.mn_page.specs.declared.page.Page.{Page}
 use Rattle.mn_page.specs.Space.{max_slots}
 use Rattle.mn_page.specs.Grammar.{IsPage, IsAddr, height_of}
@@ -30,7 +30,9 @@ use Rattle.mn_tree.specs.Laws.{ReadsAreDraft, AreFreeSlots, held_pair}
 use Rattle.mn_tree.specs.Moves.{comes_in, done_in, came_at, is_leaf_at, leaves_at, pairs_after}
 use Rattle.mn_tree.specs.MoveLaws.{IsStep, AreTold, MovesTell, AreOnce, AreReads, MovesRead, MovesComeOnce, ArePlaced, MovesArePlaced, QuietMoves}
 use Rattle.mn_tree.proofs.Trees.Told.{noted_filter}
-use Rattle.mn_world.specs.Planned.{Continues, PlanActs, IsPickOf, page_place}
+use Rattle.mn_world.specs.Places.{page_place}
+use Rattle.mn_world.specs.declared.entry.Entry.{Entry}
+use Rattle.mn_world.specs.Planned.{Continues, PlanActs, IsPickOf, ComparesHold}
 use Rattle.mn_world.specs.Plans.{write_count}
 use Rattle.mn_world.specs.Growth.{AreNextSlots, taken_on, giving_nodes, node_no, count_writes, addrs_of, AreCounts, AreDifferent, NextSlotsAreFree, write_held, WritesLeaveStore, ComparesTell, NumbersGoOn}
 use Rattle.mn_txn.specs.declared.image.Image.{Image}
@@ -153,7 +155,7 @@ writes_counted c (n ∷ ns) = ap (λ (l : List Item). write_count (node_no n) (c
 
 module _ (moves_tell : MovesTell) (moves_read : MovesRead) (moves_come_once : MovesComeOnce) (moves_are_placed : MovesArePlaced) (quiet_moves : QuietMoves) (reads_are_draft : ReadsAreDraft) (next_slots_are_free : NextSlotsAreFree) (writes_leave_store : WritesLeaveStore) (compares_tell : ComparesTell)
     (numbers_go_on : NumbersGoOn) (kept : List Head) (nodes : ℕ) (a : Attempt) (is : IsAttempt kept nodes a) (dn : IsDone nodes a) (memory : List (List ℕ)) (store : Store) (many : length memory ≡ nodes) (holds : Holds memory store) (on : Continues kept (heads_of store)) (more : List Item)
-    (met : mismatch_from memory 0 (map compare_of (done_reads a) ++ more) ≡ None) where
+    (es : List Entry) (hold : ComparesHold es memory (map compare_of (done_reads a) ++ more)) where
   abbrev f : Forest
   f = holds.forest
 
@@ -173,7 +175,7 @@ module _ (moves_tell : MovesTell) (moves_read : MovesRead) (moves_come_once : Mo
   reads = moves_read (parents_of kept) a.version a.entry.root a.moves a.draft is.leads
 
   page : (x : Addr) (p : Page) → is_noted a.draft.read x ≡ true → came_at a.moves x ≡ Some p → IsPage p → page_at f x ≡ Some p
-  page = page_of kept nodes a is a.draft.read giving was more memory store many holds on moves_tell moves_read moves_come_once reads_are_draft compares_tell met
+  page = page_of kept nodes a is a.draft.read giving was more memory store many holds on moves_tell moves_read moves_come_once reads_are_draft compares_tell es hold
 
   -- a page of the read set stands in the forest as it came in
   stands : (x : Addr) (p : Page) → is_noted a.draft.read x ≡ true → came_at a.moves x ≡ Some p → (page_at f x ≡ Some p) × IsPage p
@@ -186,11 +188,11 @@ module _ (moves_tell : MovesTell) (moves_read : MovesRead) (moves_come_once : Mo
 
   told_all : AreTold f.entries (page_at f) a.version in_f.version.pairs a.moves a.draft a.steps a.reply
   unfolding in_f
-  told_all = told kept nodes a is a.draft.read giving was more memory store many holds on moves_tell moves_read moves_come_once reads_are_draft compares_tell met subset
+  told_all = told kept nodes a is a.draft.read giving was more memory store many holds on moves_tell moves_read moves_come_once reads_are_draft compares_tell es hold subset
 
   may_run : (in_f.entry.frozen && list_any is_change a.steps) ≡ false
   unfolding in_f
-  may_run = may kept nodes a is a.draft.read giving was more memory store many holds on moves_tell moves_read moves_come_once reads_are_draft compares_tell met subset
+  may_run = may kept nodes a is a.draft.read giving was more memory store many holds on moves_tell moves_read moves_come_once reads_are_draft compares_tell es hold subset
 
   all_run : (steps_run in_f.version.pairs a.steps ≡ a.steps) × ((ran in_f.version.pairs a.steps).pairs ≡ pairs_after in_f.version.pairs a.steps)
   all_run = all_done in_f.version.pairs 1 in_f.version.pairs [] dn.found a.steps (sym told_all.replies ∙ dn.reply)
@@ -205,7 +207,7 @@ module _ (moves_tell : MovesTell) (moves_read : MovesRead) (moves_come_once : Mo
     λ n some.
         let low = taken_low a.counts a.slots n dn.slots.0 some in
         let small = small_counts a.counts n dn.counts.1 in
-        count_of kept nodes a is a.draft.read giving was more memory store many holds on moves_tell moves_read moves_come_once reads_are_draft compares_tell met n (gives a.counts a.slots n low some) (subst (λ k. n < k) dn.counts.0 low) (omega arith),
+        count_of kept nodes a is a.draft.read giving was more memory store many holds on moves_tell moves_read moves_come_once reads_are_draft compares_tell es hold n (gives a.counts a.slots n low some) (subst (λ k. n < k) dn.counts.0 low) (omega arith),
   )
 
   free : AllByRecursion (λ s. (page_at f s ≡ None) × (s.node.0 < node_count f) × (s.node.0 < 8) × (s.slot < max_slots)) a.slots × AreDifferent a.slots
@@ -250,7 +252,7 @@ module _ (moves_tell : MovesTell) (moves_read : MovesRead) (moves_come_once : Mo
           (shown kept nodes a is a.draft.read giving was more memory store many holds on moves_tell moves_read moves_come_once reads_are_draft compares_tell)
           (none_new kept nodes a is a.draft.read giving was more memory store many holds on moves_tell moves_read moves_come_once reads_are_draft compares_tell)
           (agrees kept nodes a is a.draft.read giving was more memory store many holds on moves_tell moves_read moves_come_once reads_are_draft compares_tell) in_f.found
-          (entry_of kept nodes a is a.draft.read giving was more memory store many holds on moves_tell moves_read moves_come_once reads_are_draft compares_tell met any)
+          (entry_of kept nodes a is a.draft.read giving was more memory store many holds on moves_tell moves_read moves_come_once reads_are_draft compares_tell es hold any)
           (ap (λ (l : List Step). a.entry.frozen && list_any is_change l) done_is ∙ is.may) is.leads came_there is.few (subst (AllByRecursion IsStep) (sym done_is) is.steps) (subst (λ (l : List Step). length l ≤ 16) (sym done_is) is.many) dn.slots.1
           (weaker (λ s. (page_at f s ≡ None) × (s.node.0 < node_count f) × (s.node.0 < 8) × (s.slot < max_slots)) IsAddr (λ s all. (all.2, all.3)) a.slots free.0)
           (free_slots (page_at f) a.slots (weaker (λ s. (page_at f s ≡ None) × (s.node.0 < node_count f) × (s.node.0 < 8) × (s.slot < max_slots)) (λ s. (page_at f s ≡ None) × (s.node.0 < 8)) (λ s all. (all.0, all.2)) a.slots free.0) free.1)
@@ -349,11 +351,11 @@ module _ (moves_tell : MovesTell) (moves_read : MovesRead) (moves_come_once : Mo
       (told_all.replies ∙ sym (applied_reply f store a.name a.version.0 a.steps in_f may_run)) (subst AreApart writes_are apart))
 
 pub done_is_planned : MovesTell → MovesRead → MovesComeOnce → MovesArePlaced → QuietMoves → ReadsAreDraft → NextSlotsAreFree → WritesLeaveStore → ComparesTell → NumbersGoOn → PlansAreInOrder → DoneIsPlanned
-done_is_planned moves_tell moves_read moves_come_once moves_are_placed quiet_moves reads_are_draft next_slots_are_free writes_leave_store compares_tell numbers_go_on in_order kept t a is dn apart_reads apart_writes reads_are writes_are = record {
-  acts = λ memory store many sizes holds on met.
+done_is_planned moves_tell moves_read moves_come_once moves_are_placed quiet_moves reads_are_draft next_slots_are_free writes_leave_store compares_tell numbers_go_on in_order kept t a is dn apart_reads apart_writes reads_are writes_are es = record {
+  acts = λ memory store many sizes holds on hold.
       subst (λ (m : Mini). PlanActs memory store holds (Tx a.name a.steps) m a.reply) (sym mini_is)
-      (done_acts moves_tell moves_read moves_come_once moves_are_placed quiet_moves reads_are_draft next_slots_are_free writes_leave_store compares_tell numbers_go_on kept t.nodes a is dn memory store many holds on (map write_of (in_item_order t.writes))
-      (subst (λ (rs : List Image). mismatch_from memory 0 (map compare_of rs ++ map write_of (in_item_order t.writes)) ≡ None) reads_are met) (subst AreApart writes_are (apart_in_order t.writes apart_writes)));
+      (done_acts moves_tell moves_read moves_come_once moves_are_placed quiet_moves reads_are_draft next_slots_are_free writes_leave_store compares_tell numbers_go_on kept t.nodes a is dn memory store many holds on (map write_of (in_item_order t.writes)) es
+      (subst (λ (rs : List Image). ComparesHold es memory (map compare_of rs ++ map write_of (in_item_order t.writes))) reads_are hold) (subst AreApart writes_are (apart_in_order t.writes apart_writes)));
   order = in_order t apart_reads apart_writes;
   kind = tt;
 }

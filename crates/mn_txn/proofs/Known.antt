@@ -12,7 +12,6 @@ use Rattle.mn_base.specs.Store.{Store, Head, heads_of, is_change, number_named}
 use Rattle.mn_base.specs.Tree.{parents_of, serves}
 use Rattle.mn_base.specs.declared.ids.Addr.{Addr}
 use Rattle.mn_mini.specs.declared.item.Item.{Item}
-use Rattle.mn_mini.specs.Flat.{mismatch_from}
 use Rattle.mn_page.specs.declared.page.Page.{Page}
 use Rattle.mn_page.specs.declared.entry.CatEntry.{CatEntry}
 use Rattle.mn_page.specs.Space.{max_slots}
@@ -27,7 +26,8 @@ use Rattle.mn_tree.specs.Moves.{Move, comes_in, came_at, is_leaf_at, leaves_at}
 use Rattle.mn_tree.specs.MoveLaws.{Agrees, AreTold, MovesTell, AreReads, MovesRead, MovesComeOnce}
 use Rattle.mn_tree.proofs.Trees.Puts.{addr_is}
 use Rattle.mn_tree.proofs.Trees.Told.{noted_filter}
-use Rattle.mn_world.specs.Planned.{Continues}
+use Rattle.mn_world.specs.declared.entry.Entry.{Entry}
+use Rattle.mn_world.specs.Planned.{Continues, ComparesHold}
 use Rattle.mn_world.specs.Growth.{AreNextSlots, taken_on, giving_nodes, node_no, count_in, AreMet, ComparesTell}
 use Rattle.mn_world.proofs.Plans.Compares.{still_named}
 use Rattle.mn_world.proofs.Plans.Kept.{serves_kept}
@@ -134,9 +134,9 @@ module _ (kept : List Head) (nodes : ℕ) (a : Attempt) (is : IsAttempt kept nod
   pub few_nodes : nodes ≡ node_count f
   few_nodes = sym many ∙ nodes_are memory store holds
 
-  module _ (met : mismatch_from memory 0 (map compare_of compared ++ more) ≡ None) where
+  module _ (es : List Entry) (hold : ComparesHold es memory (map compare_of compared ++ more)) where
     tells : AreMet f (map compare_of compared ++ more)
-    tells = compares_tell memory store holds (map compare_of compared ++ more) met
+    tells = compares_tell es memory store holds (map compare_of compared ++ more) hold
 
     has : (i : Image) → Contains compared i → Contains (map compare_of compared ++ more) (compare_of i)
     has i c = Contains-append_left (map compare_of compared) more (compare_of i) (contains_map compare_of compared i c)

@@ -8,7 +8,8 @@ use Rattle.std.proofs.lemmas.List.Elements.{All-from_recursion, recursion_from_A
 use Rattle.std.proofs.lemmas.List.Sorted.{IsPermutation-refl, IsPermutation-sym, IsPermutation-cons, IsPermutation-trans, IsPermutation-swap, IsPermutation-map, Contains-permutation}
 use Rattle.mn_mini.specs.declared.item.Item.{Item}
 use Rattle.mn_mini.specs.declared.item.Item.TheVariants.{Compare, Write}
-use Rattle.mn_world.specs.Planned.{Place, compare_place, write_place, compare_places, write_places, place_rank, may_precede, are_in_order}
+use Rattle.mn_world.specs.Places.{Place}
+use Rattle.mn_world.specs.Planned.{compare_place, write_place, compare_places, write_places, place_rank, may_precede, are_in_order}
 use Rattle.mn_txn.specs.declared.image.Image.{Image}
 use Rattle.mn_txn.specs.declared.image.Turn.{Turn}
 use Rattle.mn_txn.specs.State.{State, is_at, AreApart}
@@ -71,10 +72,10 @@ pages_stay (x ∷ xs) = pages_placed x (in_item_order xs) ∙ ap (λ l. cond (la
 -- Order
 
 abbrev turn : ℕ → ℕ → ℕ → Turn
-turn r s n = cond (nat_eq r 0) (record { rank = 0; start = 0; node = 0 }) (record { rank = r; start = s; node = n })
+turn r s n = cond (nat_eq r 0) (record { rank = 0; node = 0; start = 0 }) (record { rank = r; node = n; start = s })
 
 by_turn : (r q s t n m : ℕ) → is_lt (turn_cmp (turn q t m) (turn r s n)) ≡ false → (nat_eq n m && nat_eq s t) ≡ false
-    → (nat_lt r q || (nat_eq r q && (nat_eq r 0 || (nat_lt s t || (nat_eq s t && nat_lt n m))))) ≡ true
+    → (nat_lt r q || (nat_eq r q && (nat_eq r 0 || (nat_lt n m || (nat_eq n m && nat_lt s t))))) ≡ true
 by_turn r q s t n m late apart = grind (arith, nat_tests)
 
 precedes : (a b : Image) → stands_before b a ≡ false → is_at a.node a.start b ≡ false → may_precede a.node a.start b.node b.start ≡ true

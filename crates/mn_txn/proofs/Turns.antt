@@ -12,7 +12,7 @@ use Rattle.mn_txn.specs.declared.image.Turn.{Turn}
 use Rattle.mn_txn.specs.Order.{turn_of, turn_cmp, stands_before, placed, in_item_order}
 
 turns_total : IsTotalOrder turn_cmp
-turns_total = then_total (on_total (λ (t : Turn). t.rank) nat_cmp_total) (then_total (on_total (λ (t : Turn). t.start) nat_cmp_total) (on_total (λ (t : Turn). t.node) nat_cmp_total))
+turns_total = then_total (on_total (λ (t : Turn). t.rank) nat_cmp_total) (then_total (on_total (λ (t : Turn). t.node) nat_cmp_total) (on_total (λ (t : Turn). t.start) nat_cmp_total))
 
 pub weak : IsStrictWeakOrder stands_before
 weak = ranks_by turns_total turn_of

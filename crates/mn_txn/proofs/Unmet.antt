@@ -1,5 +1,5 @@
 -- The plan of a try with an unmet Check is planned: it only compares.
-use Rattle.std.proofs.Common.{◌≡◌, inl, ℕ, false, ◌&&◌, List, [], ◌++◌, map, length, Some, None, refl, subst, sym, ap, ◌∙◌}
+use Rattle.std.proofs.Common.{◌≡◌, inl, ℕ, false, ◌&&◌, List, [], ◌++◌, map, length, Some, refl, subst, sym, ap, ◌∙◌}
 use Rattle.std.specs.List.{list_any}
 use Rattle.std.proofs.lemmas.Bool.{and_parts}
 use Rattle.std.proofs.lemmas.List.{append-nil}
@@ -8,7 +8,6 @@ use Rattle.mn_base.specs.Tree.{parents_of}
 use Rattle.mn_base.specs.declared.ids.Addr.{Addr}
 use Rattle.mn_base.specs.declared.op.Op.TheVariants.{Tx}
 use Rattle.mn_mini.specs.Mini.{Mini}
-use Rattle.mn_mini.specs.Flat.{mismatch_from}
 use Rattle.mn_page.specs.declared.page.Page.{Page}
 use Rattle.mn_page.specs.Grammar.{IsPage}
 use Rattle.mn_page.specs.Forest.{Forest, page_at}
@@ -19,7 +18,8 @@ use Rattle.mn_tree.specs.Laws.{ReadsAreDraft}
 use Rattle.mn_tree.specs.Moves.{came_at, is_leaf_at, leaves_at}
 use Rattle.mn_tree.specs.MoveLaws.{AreTold, MovesTell, AreReads, MovesRead, MovesComeOnce}
 use Rattle.mn_tree.proofs.Trees.Told.{noted_filter}
-use Rattle.mn_world.specs.Planned.{Continues, PlanActs}
+use Rattle.mn_world.specs.declared.entry.Entry.{Entry}
+use Rattle.mn_world.specs.Planned.{Continues, PlanActs, ComparesHold}
 use Rattle.mn_world.specs.Growth.{ComparesTell, NumbersGoOn}
 use Rattle.mn_txn.specs.declared.image.Image.{Image}
 use Rattle.mn_txn.specs.State.{AreApart}
@@ -52,14 +52,14 @@ module _ (moves_tell : MovesTell) (moves_read : MovesRead) (moves_come_once : Mo
   reads : AreReads a.moves a.draft
   reads = moves_read (parents_of kept) a.version a.entry.root a.moves a.draft is.leads
 
-  module _ (met : mismatch_from memory 0 (map compare_of compared ++ []) ≡ None) where
+  module _ (es : List Entry) (hold : ComparesHold es memory (map compare_of compared ++ [])) where
     told_all : AreTold f.entries (page_at f) a.version in_f.version.pairs a.moves a.draft a.steps a.reply
     unfolding in_f
-    told_all = told kept nodes a is addrs [] no_count [] memory store many holds on moves_tell moves_read moves_come_once reads_are_draft compares_tell met (λ x noted. noted)
+    told_all = told kept nodes a is addrs [] no_count [] memory store many holds on moves_tell moves_read moves_come_once reads_are_draft compares_tell es hold (λ x noted. noted)
 
     may_run : (in_f.entry.frozen && list_any is_change a.steps) ≡ false
     unfolding in_f
-    may_run = may kept nodes a is addrs [] no_count [] memory store many holds on moves_tell moves_read moves_come_once reads_are_draft compares_tell met (λ x noted. noted)
+    may_run = may kept nodes a is addrs [] no_count [] memory store many holds on moves_tell moves_read moves_come_once reads_are_draft compares_tell es hold (λ x noted. noted)
 
     facts : Facts f store nodes a in_f.version addrs [] [] [] no_count no_count
     facts = record {
@@ -69,7 +69,7 @@ module _ (moves_tell : MovesTell) (moves_read : MovesRead) (moves_come_once : Mo
       came = all_noted (λ x. (p : Page) × (came_at a.moves x ≡ Some p) × (page_at f x ≡ Some p) × IsPage p) addrs (λ x noted.
           let parts = and_parts (is_leaf_at a.moves x) (is_noted a.draft.read x) (sym (noted_filter (is_leaf_at a.moves) a.draft.read x) ∙ noted) in
           let c = reads.came x parts.1 in
-          (c.0, c.1, page_of kept nodes a is addrs [] no_count [] memory store many holds on moves_tell moves_read moves_come_once reads_are_draft compares_tell met x c.0 noted c.1 c.2, c.2));
+          (c.0, c.1, page_of kept nodes a is addrs [] no_count [] memory store many holds on moves_tell moves_read moves_come_once reads_are_draft compares_tell es hold x c.0 noted c.1 c.2, c.2));
       sorts = λ x noted. inl noted;
       leaves = λ x noted. noted;
       changes = tt;
@@ -89,11 +89,11 @@ module _ (moves_tell : MovesTell) (moves_read : MovesRead) (moves_come_once : Mo
         (told_all.replies ∙ sym (applied_reply f store a.name a.version.0 a.steps in_f may_run)) tt
 
 pub unmet_is_planned : MovesTell → MovesRead → MovesComeOnce → ReadsAreDraft → ComparesTell → NumbersGoOn → PlansAreInOrder → UnmetIsPlanned
-unmet_is_planned moves_tell moves_read moves_come_once reads_are_draft compares_tell numbers_go_on in_order kept t a is un apart_reads reads_are no_writes = record {
-  acts = λ memory store many sizes holds on met.
+unmet_is_planned moves_tell moves_read moves_come_once reads_are_draft compares_tell numbers_go_on in_order kept t a is un apart_reads reads_are no_writes es = record {
+  acts = λ memory store many sizes holds on hold.
       subst (λ (m : Mini). PlanActs memory store holds (Tx a.name a.steps) m a.reply) (sym mini_is)
-      (unmet_acts moves_tell moves_read moves_come_once reads_are_draft compares_tell numbers_go_on kept t.nodes a is un memory store many holds on
-      (subst (λ (m : Mini). mismatch_from memory 0 m.items ≡ None) mini_is met));
+      (unmet_acts moves_tell moves_read moves_come_once reads_are_draft compares_tell numbers_go_on kept t.nodes a is un memory store many holds on es
+      (subst (λ (m : Mini). ComparesHold es memory m.items) mini_is hold));
   order = in_order t apart_reads (subst AreApart (sym no_writes) tt);
   kind = tt;
 }

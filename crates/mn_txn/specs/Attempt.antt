@@ -20,6 +20,7 @@ use Rattle.mn_tree.specs.Trees.{is_noted}
 use Rattle.mn_tree.specs.Order.{placed}
 use Rattle.mn_tree.specs.Moves.{Move, LeadsTo, comes_in, AreAnswered, came_at, leaves_at}
 use Rattle.mn_tree.specs.MoveLaws.{IsStep}
+use Rattle.mn_world.specs.declared.entry.Entry.{Entry}
 use Rattle.mn_world.specs.Planned.{IsPlanned}
 use Rattle.mn_world.specs.Growth.{AreNextSlots, taken_on, giving_nodes, node_no}
 use Rattle.mn_txn.specs.declared.image.Image.{Image}
@@ -111,10 +112,10 @@ DoneIsPlanned =
     (kept : List Head) (t : State) (a : Attempt) → IsAttempt kept t.nodes a → IsDone t.nodes a
     → AreApart t.reads → AreApart t.writes → in_item_order t.reads ≡ done_reads a
     → in_item_order t.writes ≡ done_writes a
-    → IsPlanned kept (Tx a.name a.steps) (plan_of t) a.reply
+    → (es : List Entry) → IsPlanned es kept (Tx a.name a.steps) (plan_of t) a.reply
 
 abbrev pub UnmetIsPlanned : Type 0
 UnmetIsPlanned =
     (kept : List Head) (t : State) (a : Attempt) → IsAttempt kept t.nodes a → IsUnmet a
     → AreApart t.reads → in_item_order t.reads ≡ unmet_reads a → t.writes ≡ []
-    → IsPlanned kept (Tx a.name a.steps) (plan_of t) a.reply
+    → (es : List Entry) → IsPlanned es kept (Tx a.name a.steps) (plan_of t) a.reply

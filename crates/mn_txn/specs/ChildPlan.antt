@@ -17,6 +17,7 @@ use Rattle.mn_page.specs.Copies.{marked_for, copy_for}
 use Rattle.mn_page.specs.Grammar.{IsPage}
 use Rattle.mn_page.specs.Forest.{heads_in}
 use Rattle.mn_catalog.specs.Versions.{Numbered}
+use Rattle.mn_world.specs.declared.entry.Entry.{Entry}
 use Rattle.mn_world.specs.Planned.{IsPlanned}
 use Rattle.mn_txn.specs.declared.error.PlanError.{PlanError}
 use Rattle.mn_txn.specs.declared.error.PlanError.TheVariants.{Worn, NoMemory}
@@ -66,15 +67,16 @@ child_try entries nodes name child version entry root slot = record {
   slot = slot;
 }
 
--- it does what the Snapshot does, wherever its compares hold, by these entries
+-- it does what the Snapshot does, wherever its compares hold, by these entries, for a client with
+-- any list
 abbrev pub SnapshotPlanned : List CatEntry → List ℕ → List ℕ → Mini → Type 0
 SnapshotPlanned entries name child mini =
-    IsPlanned (heads_in entries) (Snapshot name child) mini Made
+    (es : List Entry) → IsPlanned es (heads_in entries) (Snapshot name child) mini Made
 
 -- and what the Branch does
 abbrev pub BranchPlanned : List CatEntry → List ℕ → List ℕ → Mini → Type 0
 BranchPlanned entries name child mini =
-    IsPlanned (heads_in entries) (Branch name child) mini Made
+    (es : List Entry) → IsPlanned es (heads_in entries) (Branch name child) mini Made
 
 -- what it compares, then what it writes, over so many nodes
 abbrev pub snapshot_items : ℕ → ChildTry → Mini

@@ -14,6 +14,7 @@ use Rattle.mn_page.specs.Grammar.{IsPage, IsEntry, entry_bytes}
 use Rattle.mn_page.specs.Forest.{entry_head}
 use Rattle.mn_page.specs.Copies.{marked_for, copy_for}
 use Rattle.mn_page.specs.Added.{frozen_entry, child_entry}
+use Rattle.mn_world.specs.declared.entry.Entry.{Entry}
 use Rattle.mn_world.specs.Planned.{IsPlanned}
 use Rattle.mn_world.specs.Growth.{AreNextSlots, node_no}
 use Rattle.mn_txn.specs.declared.image.Image.{Image}
@@ -102,7 +103,7 @@ SnapshotIsPlanned =
     → refusal kept (Snapshot c.name c.child) ≡ None → c.entry.seq + 1 < 2 ^ 64
     → AreApart t.reads → AreApart t.writes
     → in_item_order t.reads ≡ child_reads c → in_item_order t.writes ≡ snapshot_writes c
-    → IsPlanned kept (Snapshot c.name c.child) (plan_of t) Made
+    → (es : List Entry) → IsPlanned es kept (Snapshot c.name c.child) (plan_of t) Made
 
 -- and so is a Branch
 abbrev pub BranchIsPlanned : Type 0
@@ -111,7 +112,7 @@ BranchIsPlanned =
     → refusal kept (Branch c.name c.child) ≡ None
     → AreApart t.reads → AreApart t.writes
     → in_item_order t.reads ≡ child_reads c → in_item_order t.writes ≡ branch_writes c
-    → IsPlanned kept (Branch c.name c.child) (plan_of t) Made
+    → (es : List Entry) → IsPlanned es kept (Branch c.name c.child) (plan_of t) Made
 
 -- Order
 

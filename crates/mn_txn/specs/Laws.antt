@@ -6,7 +6,8 @@ use Rattle.mn_base.specs.declared.ids.NodeNo.{NodeNo}
 use Rattle.mn_mini.specs.declared.item.Item.{Item}
 use Rattle.mn_mini.specs.declared.item.Item.TheVariants.{Compare, Read, Write}
 use Rattle.mn_page.specs.Space.{count_start}
-use Rattle.mn_world.specs.Planned.{Place, place_rank, compare_places, write_places, are_in_order, IsNextNumber}
+use Rattle.mn_world.specs.Places.{Place}
+use Rattle.mn_world.specs.Planned.{place_rank, compare_places, write_places, are_in_order, IsNextNumber}
 use Rattle.mn_txn.specs.declared.image.Image.{Image}
 use Rattle.mn_txn.specs.State.{State, image, AreApart}
 use Rattle.mn_txn.specs.Order.{in_item_order}

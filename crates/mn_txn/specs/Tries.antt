@@ -16,7 +16,7 @@ use Rattle.mn_page.specs.Grammar.{page_bytes}
 use Rattle.mn_tree.specs.State.{Drafted}
 use Rattle.mn_tree.specs.Moves.{Move, came_at}
 use Rattle.mn_tree.specs.Tries.{ComeTo}
-use Rattle.mn_world.specs.Planned.{Place, page_place}
+use Rattle.mn_world.specs.Places.{Place, page_place}
 use Rattle.mn_world.specs.Shown.{Seen}
 use Rattle.mn_world.specs.Needs.{ReadsTree, NeedsSlots, WritesOld}
 use Rattle.mn_world.specs.Answers.{ShowsBytes}

@@ -10,13 +10,13 @@ pub struct Image {
     pub bytes: Bytes,
 }
 
-/// The turn of a place among the compares or the writes of a plan: pages come first and are alike, then entries by place, then
-/// counts by node.
+/// The turn of a place among the compares or the writes of a plan: pages come first and are alike,
+/// then entries by node and then by place, then counts by node.
 #[derive(Clone, Copy, Debug, PartialEq, Eq, PartialOrd, Ord, Drop)]
 pub struct Turn {
     rank: u8,
-    start: u32,
     node: u8,
+    start: u32,
 }
 
 /// Where a node's count of slots given out stands.
@@ -37,21 +37,21 @@ impl Image {
         if start == COUNT_START {
             return Turn {
                 rank: 2,
-                start,
                 node,
+                start,
             };
         }
         if start < SLOTS_START {
             return Turn {
                 rank: 1,
-                start,
                 node,
+                start,
             };
         }
         Turn {
             rank: 0,
-            start: 0,
             node: 0,
+            start: 0,
         }
     }
 }

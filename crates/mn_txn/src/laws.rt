@@ -9,7 +9,7 @@ ghost use Rattle.mn_txn.specs.Slots.{NewSlotsAreNext};
 // Each law is the contract of a function that does nothing: what it says is proved, and may be used, by calling it.
 
 /// The items of a plan are in order: its compares before its writes, and among each pages before entries and entries before counts,
-/// entries by number and counts by node. Pages stand as they joined.
+/// entries by node and then by number, and counts by node. Pages stand as they joined.
 pub fn plans_are_in_order()
     ensures order { PlansAreInOrder }
     ensures pages { PagesStay }

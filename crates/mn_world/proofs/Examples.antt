@@ -28,3 +28,4 @@ pub mod SoundReads
 pub mod SevenTriesAnew
 pub mod ScanTries
 pub mod TriesLegal
+pub mod ShownPlaces

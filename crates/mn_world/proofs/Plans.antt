@@ -4,6 +4,7 @@ pub mod Spaces
 pub mod Laying
 pub mod Sizes
 pub mod Compares
+pub mod Precedes
 pub mod Kept
 pub mod PutInPlace
 pub mod SplitRoot

@@ -35,7 +35,8 @@ use Rattle.mn_world.specs.declared.entry.What.{What}
 use Rattle.mn_world.specs.declared.entry.What.TheVariants.{Issue, Answered}
 use Rattle.mn_world.specs.Calls.{Call, call_in, calls_of, is_prepare, is_exec, is_done, is_stopped, is_down_reply, is_last_of, was_told, was_told_somewhere, was_done, was_decided, was_abandoned, Issued, issue_in, issues_of, Begun, under_way, since_begin}
 use Rattle.mn_world.specs.Clients.{is_read, is_plan}
-use Rattle.mn_world.specs.Planned.{Place, page_place, count_place, catalog_place, IsPlanned}
+use Rattle.mn_world.specs.Places.{Place, page_place, count_place, catalog_place}
+use Rattle.mn_world.specs.Planned.{IsPlanned}
 use Rattle.mn_world.specs.Needs.{NeedsSlots, WritesOld}
 use Rattle.mn_world.specs.Shown.{Seen, SeesCatalog, SeesPage, ShowsCatalog, ServesNamed, seen_in, seen_at, ReadShows, ScanShows}
 
@@ -60,7 +61,7 @@ are_settled now = list_all (λ i. is_read i.mini.items || is_settled now i) (iss
 
 -- a minitransaction is a plan of the operation, with this reply, by a catalog that the list shows
 abbrev pub IsPlanBy : List Entry → Op → Mini → Reply → Type 0
-IsPlanBy es op mini reply = (entries : List CatEntry) × ShowsCatalog es entries × IsPlanned (heads_in entries) op mini reply
+IsPlanBy es op mini reply = (entries : List CatEntry) × ShowsCatalog es entries × IsPlanned es (heads_in entries) op mini reply
 
 -- the last issue of the operation under way, with the entries before it; `now` are the entries
 -- since its Begin

@@ -8,7 +8,7 @@ use Rattle.mn_base.specs.declared.ids.Addr.{Addr}
 use Rattle.mn_base.specs.declared.ids.NodeNo.{NodeNo}
 use Rattle.mn_mini.specs.declared.item.Item.{Item}
 use Rattle.mn_mini.specs.declared.item.Item.TheVariants.{Compare, Write}
-use Rattle.mn_mini.specs.Flat.{mismatch_from, memory_after}
+use Rattle.mn_mini.specs.Flat.{memory_after}
 use Rattle.mn_page.specs.declared.page.Page.{Page}
 use Rattle.mn_page.specs.declared.entry.CatEntry.{CatEntry}
 use Rattle.mn_page.specs.Space.{max_slots, entry_size, entry_start}
@@ -16,7 +16,8 @@ use Rattle.mn_page.specs.Grammar.{IsPage, IsEntry, entry_bytes}
 use Rattle.mn_page.specs.Forest.{Forest, node_count, page_at}
 use Rattle.mn_page.specs.Holds.{PagesAt, Holds, IsTree, ShowsStore}
 use Rattle.mn_page.specs.Overlay.{Held, held_at}
-use Rattle.mn_world.specs.Planned.{HasNextNumber}
+use Rattle.mn_world.specs.declared.entry.Entry.{Entry}
+use Rattle.mn_world.specs.Planned.{HasNextNumber, ComparesHold}
 use Rattle.mn_world.specs.Plans.{compare_page, compare_entry, write_page, compare_count, write_count}
 
 -- Slots
@@ -155,7 +156,7 @@ pub record AreMet (f : Forest) (items : List Item) : Type 0 where
       → n.0 < node_count f → count < 2 ^ 64 → count ≡ count_in f n.0
 
 abbrev pub ComparesTell : Type 0
-ComparesTell = (memory : List (List ℕ)) (store : Store) (holds : Holds memory store) (items : List Item) → mismatch_from memory 0 items ≡ None → AreMet holds.forest items
+ComparesTell = (es : List Entry) (memory : List (List ℕ)) (store : Store) (holds : Holds memory store) (items : List Item) → ComparesHold es memory items → AreMet holds.forest items
 
 -- Numbers
 

@@ -6,6 +6,7 @@ pub mod Protocol
 pub mod Commits
 pub mod Standing
 pub mod Opened
+pub mod Places
 pub mod Planned
 pub mod Shown
 pub mod Needs

@@ -10,7 +10,7 @@ use Rattle.mn_base.specs.declared.op.Op.TheVariants.{Snapshot}
 use Rattle.mn_page.specs.declared.entry.CatEntry.{CatEntry}
 use Rattle.mn_page.specs.Forest.{heads_in}
 use Rattle.mn_page.specs.Overlay.{Held, needed_slots, changed_pages}
-use Rattle.mn_world.specs.Planned.{Place, page_place, entry_place}
+use Rattle.mn_world.specs.Places.{Place, page_place, entry_place, catalog_node}
 use Rattle.mn_world.specs.Shown.{Seen, SeesCatalog, SeesPage}
 
 -- what a try read of its version: the entry by a catalog that doesn't refuse the operation, and
@@ -33,7 +33,7 @@ NeedsSlots seens op need = (t : ReadsTree seens op) × (needed_slots t.version t
 
 -- a Snapshot writes its version's entry
 abbrev pub WritesEntry : Op → ℕ → Place → Type 0
-WritesEntry (Snapshot version child) v place = place ≡ entry_place v
+WritesEntry (Snapshot version child) v place = place ≡ entry_place catalog_node v
 WritesEntry op v place = ⊥
 
 -- the operation writes an old page or a used entry at this place

@@ -2,7 +2,7 @@
 use Rattle.std.specs.Prelude.{ℕ, ◌≡◌, ◌+◌, ◌^◌, ◌<◌, ◌↔◌, ◌⊎◌, Bool, true, false, ◌&&◌, ◌||◌, nat_lt, nat_eq, IsTrue, List, [], ◌∷◌, ◌++◌, length, map, take, Some, None, ⊤, if◌then◌else◌, Contains, slice_get}
 use Rattle.std.specs.List.{list_any, flat_map, AllByRecursion}
 use Rattle.byteorder.specs.Endian.{big_bytes}
-use Rattle.mn_base.specs.Store.{Head, Store, heads_of, number_named, pairs_named, is_change, step_key, steps_run, op_version, applied, max_versions}
+use Rattle.mn_base.specs.Store.{Head, Store, heads_of, number_named, pairs_named, is_change, step_key, steps_run, op_version, applied}
 use Rattle.mn_base.specs.declared.ids.NodeNo.{NodeNo}
 use Rattle.mn_base.specs.declared.ids.Addr.{Addr}
 use Rattle.mn_base.specs.declared.op.Step.{Step}
@@ -15,42 +15,16 @@ use Rattle.mn_mini.specs.Mini.{Mini, space_size}
 use Rattle.mn_mini.specs.Flat.{bytes_in, space_in, mismatch_from, memory_after}
 use Rattle.mn_page.specs.declared.page.Page.{Page}
 use Rattle.mn_page.specs.declared.entry.CatEntry.{CatEntry}
-use Rattle.mn_page.specs.Space.{count_start, count_size, catalog_start, catalog_size, entry_size, entry_start, slots_start, slot_size, slot_start}
+use Rattle.mn_page.specs.Space.{count_start, slots_start, slot_start}
 use Rattle.mn_page.specs.Grammar.{height_of, page_bytes, IsPage}
 use Rattle.mn_page.specs.Forest.{Forest, page_at}
 use Rattle.mn_page.specs.Holds.{Holds, page_covers, page_serves}
 use Rattle.mn_page.specs.Overlay.{Held}
 use Rattle.mn_page.specs.SlotOrder.{AreInSlotOrder}
+use Rattle.mn_world.specs.declared.entry.Entry.{Entry}
+use Rattle.mn_world.specs.Places.{Place, page_place, entry_place, catalog_node, IsPagePlace, IsEntryPlace, IsCountPlace}
 
--- Places
-
--- the range of a page, an entry or a count
-pub record Place : Type 0 where
-  pub node : NodeNo
-  pub start : ℕ
-  pub length : ℕ
-
-abbrev pub page_place : Addr → Place
-page_place addr = record { node = addr.node; start = slot_start addr.slot; length = slot_size }
-
-abbrev pub entry_place : ℕ → Place
-entry_place v = record { node = record { 0 = 0 }; start = entry_start v; length = entry_size }
-
-abbrev pub count_place : NodeNo → Place
-count_place n = record { node = n; start = count_start; length = count_size }
-
--- the catalog stands on node 0
-abbrev pub catalog_place : Place
-catalog_place = record { node = record { 0 = 0 }; start = catalog_start; length = catalog_size }
-
-abbrev pub IsPagePlace : Place → Type 0
-IsPagePlace place = (addr : Addr) × (place ≡ page_place addr)
-
-abbrev pub IsEntryPlace : Place → Type 0
-IsEntryPlace place = (v : ℕ) × (v < max_versions) × (place ≡ entry_place v)
-
-abbrev pub IsCountPlace : Place → Type 0
-IsCountPlace place = (n : NodeNo) × (place ≡ count_place n)
+-- Places of items
 
 abbrev pub compare_place : Item → List Place
 compare_place (Compare node start bytes) = record { node = node; start = start; length = length bytes } ∷ []
@@ -92,11 +66,11 @@ IsRootOf f v place = (e : CatEntry) × (slice_get f.entries v ≡ Some e) × (pl
 abbrev pub IsCompared : Forest → Store → ℕ → Op → Mini → Place → Type 0
 IsCompared f store v (Tx version steps) mini place =
     IsLeafOf f v (steps_run (pairs_named store version) steps) place
-    ⊎ (IsTrue (list_any is_change steps) × (place ≡ entry_place v))
+    ⊎ (IsTrue (list_any is_change steps) × (place ≡ entry_place catalog_node v))
     ⊎ IsOldPage f mini place
     ⊎ IsWrittenCount mini place
-IsCompared f store v (Snapshot version child) mini place = IsRootOf f v place ⊎ (place ≡ entry_place v) ⊎ (place ≡ entry_place (length f.entries)) ⊎ IsWrittenCount mini place
-IsCompared f store v (Branch version child) mini place = IsRootOf f v place ⊎ (place ≡ entry_place v) ⊎ (place ≡ entry_place (length f.entries)) ⊎ IsWrittenCount mini place
+IsCompared f store v (Snapshot version child) mini place = IsRootOf f v place ⊎ (place ≡ entry_place catalog_node v) ⊎ (place ≡ entry_place catalog_node (length f.entries)) ⊎ IsWrittenCount mini place
+IsCompared f store v (Branch version child) mini place = IsRootOf f v place ⊎ (place ≡ entry_place catalog_node v) ⊎ (place ≡ entry_place catalog_node (length f.entries)) ⊎ IsWrittenCount mini place
 IsCompared f store v (Scan version low high limit) mini place = ⊥
 IsCompared f store v Versions mini place = ⊥
 
@@ -117,9 +91,9 @@ HasNextNumber memory (Write node start bytes) =
 abbrev pub place_rank : ℕ → ℕ
 place_rank start = if nat_eq start count_start then 2 else (if nat_lt start slots_start then 1 else 0)
 
--- pages by WritesPages, entries by number, counts by node
+-- pages by WritesPages, entries by node and then by number, counts by node
 abbrev pub may_precede : NodeNo → ℕ → NodeNo → ℕ → Bool
-may_precede n s m t = nat_lt (place_rank s) (place_rank t) || (nat_eq (place_rank s) (place_rank t) && (nat_eq (place_rank s) 0 || (nat_lt s t || (nat_eq s t && nat_lt n.0 m.0))))
+may_precede n s m t = nat_lt (place_rank s) (place_rank t) || (nat_eq (place_rank s) (place_rank t) && (nat_eq (place_rank s) 0 || (nat_lt n.0 m.0 || (nat_eq n.0 m.0 && nat_lt s t))))
 
 abbrev pub item_may_precede : Item → Item → Bool
 item_may_precede (Compare n s b) (Compare m t c) = may_precede n s m t
@@ -198,13 +172,17 @@ pub record PlanActs (memory : List (List ℕ)) (store : Store) (holds : Holds me
   pub numbers : AllByRecursion (HasNextNumber memory) mini.items
   pub pages : WritesPages holds.forest mini
 
--- wherever its compares hold, in a memory that holds a store that continues the kept catalog, it
--- does what the operation does
-pub record IsPlanned (kept : List Head) (op : Op) (mini : Mini) (reply : Reply) : Type 0 where
+-- the items' compares hold in the memory, for a client with this list
+pub record ComparesHold (es : List Entry) (memory : List (List ℕ)) (items : List Item) : Type 0 where
+  pub met : mismatch_from memory 0 items ≡ None
+
+-- wherever its compares hold for a client with this list, in a memory that holds a store that
+-- continues the kept catalog, it does what the operation does
+pub record IsPlanned (es : List Entry) (kept : List Head) (op : Op) (mini : Mini) (reply : Reply) : Type 0 where
   pub acts : (memory : List (List ℕ)) (store : Store) → length memory ≡ mini.nodes
       → AllByRecursion (λ space. length space ≡ space_size) memory
       → (holds : Holds memory store) → Continues kept (heads_of store)
-      → mismatch_from memory 0 mini.items ≡ None
+      → ComparesHold es memory mini.items
       → PlanActs memory store holds op mini reply
   pub order : IsTrue (are_in_order mini.items)
   pub kind : HasPlans op

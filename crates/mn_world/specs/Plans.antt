@@ -17,6 +17,8 @@ use Rattle.mn_page.specs.declared.entry.CatEntry.{CatEntry}
 use Rattle.mn_page.specs.Space.{count_start, count_size, entry_start, slot_start, max_slots}
 use Rattle.mn_page.specs.Grammar.{page_bytes, entry_bytes, IsPage, IsEntry, IsKey, IsValue}
 use Rattle.mn_page.specs.Holds.{page_covers}
+use Rattle.mn_world.specs.declared.entry.Entry.{Entry}
+use Rattle.mn_world.specs.Places.{catalog_node}
 use Rattle.mn_world.specs.Planned.{IsPlanned}
 
 -- Items
@@ -25,7 +27,7 @@ abbrev pub compare_page : Addr → Page → Item
 compare_page addr p = Compare addr.node (slot_start addr.slot) (page_bytes p)
 
 abbrev pub compare_entry : ℕ → CatEntry → Item
-compare_entry v e = Compare (record { 0 = 0 }) (entry_start v) (entry_bytes e)
+compare_entry v e = Compare catalog_node (entry_start v) (entry_bytes e)
 
 abbrev pub write_page : Addr → Page → Item
 write_page addr p = Write addr.node (slot_start addr.slot) (page_bytes p)
@@ -59,7 +61,7 @@ put_in_place nodes key value v e addr p pairs =
 abbrev pub PutIsPlanned : Type 0
 PutIsPlanned =
     (kept : List Head) (nodes : ℕ) (name key value : List ℕ) (v : ℕ) (e : CatEntry) (addr : Addr) (p : Page) (pairs : List Pair) → HasRoom kept nodes name key value v e addr p pairs
-    → IsPlanned kept (Tx name (Put key value ∷ [])) (put_in_place nodes key value v e addr p pairs) (Values [])
+    → (es : List Entry) → IsPlanned es kept (Tx name (Put key value ∷ [])) (put_in_place nodes key value v e addr p pairs) (Values [])
 
 -- A Put that splits a root leaf, with both new slots on one node
 
@@ -111,4 +113,4 @@ abbrev pub SplitIsPlanned : Type 0
 SplitIsPlanned =
     (kept : List Head) (nodes : ℕ) (name key value : List ℕ) (v : ℕ) (e : CatEntry) (p : Page) (pairs : List Pair) (n : NodeNo) (count : ℕ) (lows : List Pair) (first : Pair) (more : List Pair)
     → HasSplit kept nodes name key value v e p pairs n count lows first more
-    → IsPlanned kept (Tx name (Put key value ∷ [])) (record { nodes = nodes; items = split_items v e p n count lows first more }) (Values [])
+    → (es : List Entry) → IsPlanned es kept (Tx name (Put key value ∷ [])) (record { nodes = nodes; items = split_items v e p n count lows first more }) (Values [])

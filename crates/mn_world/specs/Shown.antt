@@ -1,6 +1,6 @@
 -- What a client's own list shows: bytes that were read, catalogs, pages, and the replies that
 -- follow from them.
-use Rattle.std.specs.Prelude.{ℕ, ◌≡◌, ◌≤◌, ◌⊎◌, true, IsTrue, List, [], ◌∷◌, ◌++◌, length, take, Option, Some, None, ⊤, Contains, unwrap_or}
+use Rattle.std.specs.Prelude.{ℕ, ◌≡◌, ◌+◌, ◌-◌, ◌≤◌, ◌⊎◌, true, IsTrue, List, [], ◌∷◌, ◌++◌, length, take, Option, Some, None, ⊤, Contains, unwrap_or, slice_get}
 use Rattle.std.specs.List.{flat_map, AllByRecursion}
 use Rattle.mn_base.specs.Order.{key_le}
 use Rattle.mn_base.specs.Store.{Head, number_named, head_named, value_at, pairs_within, refusal, listing_of, max_versions}
@@ -12,11 +12,13 @@ use Rattle.mn_base.specs.declared.op.Op.{Op}
 use Rattle.mn_base.specs.declared.op.Op.TheVariants.{Tx, Scan, Versions}
 use Rattle.mn_base.specs.declared.reply.Reply.{Reply}
 use Rattle.mn_base.specs.declared.reply.Reply.TheVariants.{Values, Pairs, Listing}
+use Rattle.mn_mini.specs.declared.part.PartItem.{PartItem}
 use Rattle.mn_mini.specs.declared.part.PartItem.TheVariants as Bare
 use Rattle.mn_mini.specs.declared.request.Request.{Request}
 use Rattle.mn_mini.specs.declared.request.Request.TheVariants as Ask
 use Rattle.mn_mini.specs.declared.reply.NodeReply.{NodeReply}
 use Rattle.mn_mini.specs.declared.reply.NodeReply.TheVariants as Say
+use Rattle.mn_mini.specs.Flat.{bytes_in}
 use Rattle.mn_page.specs.declared.page.Page.{Page}
 use Rattle.mn_page.specs.declared.entry.CatEntry.{CatEntry}
 use Rattle.mn_page.specs.Grammar.{padded, entry_bytes, IsEntry, SpellsPage, height_of}
@@ -25,7 +27,7 @@ use Rattle.mn_page.specs.Forest.{heads_in}
 use Rattle.mn_page.specs.Holds.{page_covers, page_serves, pairs_in}
 use Rattle.mn_world.specs.declared.entry.Entry.{Entry}
 use Rattle.mn_world.specs.Calls.{call_in, calls_of}
-use Rattle.mn_world.specs.Planned.{Place, page_place, catalog_place}
+use Rattle.mn_world.specs.Places.{Place, page_place, entry_place, catalog_node, catalog_place}
 
 -- Bytes that were read
 
@@ -46,6 +48,35 @@ seen_in es = flat_map (λ c. seen_by c.node c.request c.reply) (calls_of es)
 -- the reads of an entry
 abbrev pub seen_at : Entry → List Seen
 seen_at e = flat_map (λ c. seen_by c.node c.request c.reply) (call_in e.node e.what)
+
+-- each read item of a part with the bytes that it brought, in their order
+abbrev pub items_shown : NodeNo → List PartItem → List (List ℕ) → List Seen
+items_shown n [] reads = []
+items_shown n (Bare.Compare start bytes ∷ items) reads = items_shown n items reads
+items_shown n (Bare.Read start length ∷ items) [] = []
+items_shown n (Bare.Read start length ∷ items) (bytes ∷ reads) = record { place = record { node = n; start = start; length = length }; bytes = bytes } ∷ items_shown n items reads
+items_shown n (Bare.Write start bytes ∷ items) reads = items_shown n items reads
+
+-- what a reply gives: the reads of an Exec that was done, and a Peek that was answered
+abbrev pub shown_by : NodeNo → Request → NodeReply → List Seen
+shown_by n (Ask.Exec tid part) (Say.Done reads) = items_shown n part reads
+shown_by n (Ask.Peek start length) (Say.Peeked bytes) = record { place = record { node = n; start = start; length = length }; bytes = bytes } ∷ []
+shown_by n request reply = []
+
+-- what the replies of a list give, the newest first
+abbrev pub shown_in : List Entry → List Seen
+shown_in es = flat_map (λ c. shown_by c.node c.request c.reply) (calls_of es)
+
+-- a read gives the whole place, which lies in it, with these bytes
+pub record GivesPlace (seen : Seen) (place : Place) (bytes : List ℕ) : Type 0 where
+  pub node : seen.place.node ≡ place.node
+  pub begins : seen.place.start ≤ place.start
+  pub ends : place.start + place.length ≤ seen.place.start + length seen.bytes
+  pub part : bytes_in seen.bytes (place.start - seen.place.start) place.length ≡ bytes
+
+-- the list shows the bytes of a place: a reply in it gives the whole place
+abbrev pub ShowsPlace : List Entry → Place → List ℕ → Type 0
+ShowsPlace es place bytes = (seen : Seen) × Contains (shown_in es) seen × GivesPlace seen place bytes
 
 -- a read of the catalog with these entries
 abbrev pub SeesCatalog : Seen → List CatEntry → Type 0
@@ -144,3 +175,19 @@ ScanShows seens (Scan version low high limit) (Pairs pairs) =
     × (head_named (heads_in entries) version ≡ Some head) × (head.frozen ≡ true)
     × ShowsPairs entries later version low high limit pairs
 ScanShows seens op reply = ⊥
+
+-- Laws of what a list shows
+
+-- what a list has seen, its replies give
+abbrev pub SeenIsShown : Type 0
+SeenIsShown = (es : List Entry) (seen : Seen) → Contains (seen_in es) seen → Contains (shown_in es) seen
+
+-- what an older list shows, the newer one shows
+abbrev pub ShownStays : Type 0
+ShownStays = (newer older : List Entry) (place : Place) (bytes : List ℕ) → ShowsPlace older place bytes → ShowsPlace (newer ++ older) place bytes
+
+-- a list that shows a catalog shows each entry of it
+abbrev pub EntriesAreShown : Type 0
+EntriesAreShown =
+    (es : List Entry) (seen : Seen) (entries : List CatEntry) (v : ℕ) (e : CatEntry) → Contains (shown_in es) seen → SeesCatalog seen entries
+    → slice_get entries v ≡ Some e → ShowsPlace es (entry_place catalog_node v) (entry_bytes e)

@@ -5,6 +5,7 @@ ghost use Rattle.mn_world.specs.Laws.{UnkeptIsNever, ForcedNeverVotes, Abandoned
 ghost use Rattle.mn_world.specs.Laws.{CommitsAreFlat, SpacesAgree, MemoryIsFlat, ReadsAreFlat};
 ghost use Rattle.mn_world.specs.Laws.{ExecsAreFlat, PreparesReadNothing, SeenIsFlat};
 ghost use Rattle.mn_world.specs.Run.{RunsFollowProtocol};
+ghost use Rattle.mn_world.specs.Shown.{SeenIsShown, ShownStays, EntriesAreShown};
 ghost use Rattle.mn_page.specs.Holds.{HoldsOne};
 ghost use Rattle.mn_world.specs.Plans.{PutIsPlanned, SplitIsPlanned};
 ghost use Rattle.mn_world.specs.Growth.{ComparesTell, NumbersGoOn, NextSlotsAreFree};
@@ -139,6 +140,16 @@ pub fn prepares_read_nothing()
 /// What a client has seen stood in the flat memory where it was read.
 pub fn seen_is_flat()
     ensures { SeenIsFlat }
+{}
+
+// What a list shows
+
+/// What a list has seen its replies give. What an older list shows the newer one shows. A catalog
+/// shows its entries.
+pub fn lists_show_places()
+    ensures seen { SeenIsShown }
+    ensures stays { ShownStays }
+    ensures entries { EntriesAreShown }
 {}
 
 // Plans

@@ -30,7 +30,7 @@ use Rattle.mn_world.specs.declared.entry.What.{What}
 use Rattle.mn_world.specs.declared.entry.What.TheVariants as Did
 use Rattle.mn_world.specs.Calls.{Call, call_in, calls_of, Issued, issues_of}
 use Rattle.mn_world.specs.Clients.{is_plan}
-use Rattle.mn_world.specs.Planned.{Place, page_place, catalog_place}
+use Rattle.mn_world.specs.Places.{Place, page_place, catalog_place}
 use Rattle.mn_world.specs.Answers.{LastIssue}
 use Rattle.mn_world.specs.Shown.{Seen, seen_by, seen_in, SeesCatalog}
 use Rattle.mn_world.specs.Run.{IsLegalBy}

@@ -24,7 +24,7 @@ use Rattle.mn_world.specs.Shown.{CatalogShows, seen_in}
 use Rattle.mn_world.specs.Answers.{RefusedAs, Shows}
 use Rattle.mn_world.specs.History.{LastShown}
 use Rattle.mn_world.specs.Protocol.{Start, FollowsProtocol, base_at, records_of}
-use Rattle.mn_world.specs.Planned.{catalog_place}
+use Rattle.mn_world.specs.Places.{catalog_place}
 use Rattle.mn_world.proofs.Examples.TwoNodes.{node, client, id, commits}
 
 abbrev main : List ℕ

@@ -14,7 +14,7 @@ use Rattle.mn_page.specs.declared.entry.CatEntry.{CatEntry}
 use Rattle.mn_page.specs.Grammar.{page_bytes, IsPage, SpellsPage}
 use Rattle.mn_page.proofs.Examples.Spelling.{at}
 use Rattle.mn_world.specs.declared.entry.Entry.{Entry}
-use Rattle.mn_world.specs.Planned.{page_place, entry_place, count_place, catalog_place}
+use Rattle.mn_world.specs.Places.{page_place, entry_place, count_place, catalog_node, catalog_place}
 use Rattle.mn_world.specs.Needs.{NeedsSlots, WritesOld}
 use Rattle.mn_world.specs.Shown.{Seen, seen_in, SeesCatalog}
 use Rattle.mn_world.specs.Answers.{FreeSlots, ShowsBytes}
@@ -236,7 +236,7 @@ abbrev snapshot_try : List Entry
 snapshot_try =
     read 5 (count_place (node 1)) (big_bytes 8 7) ++ read 4 (count_place (node 0)) (big_bytes 8 6) ++ read 3 (page_place (at 1 1)) full_bytes ++ read 2 catalog_place worn_catalog
 
-writes_entry : WritesOld (seen_in snapshot_try) snapshot (entry_place 1)
+writes_entry : WritesOld (seen_in snapshot_try) snapshot (entry_place catalog_node 1)
 writes_entry = (
   record {
     entries = frozen_main ∷ worn_m2 ∷ [];
@@ -264,7 +264,7 @@ snapshot_answered = record {
       (
         refl,
         snapshot_try,
-        entry_place 1,
+        entry_place catalog_node 1,
         (record { rest = []; earlier = snapshot_first; split = refl; over = refl; begins = inl refl; is_try = refl }),
         refl,
         refl,

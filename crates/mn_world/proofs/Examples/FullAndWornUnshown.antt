@@ -14,7 +14,7 @@ use Rattle.mn_page.specs.declared.page.Body.TheVariants.{Leaf}
 use Rattle.mn_page.specs.Grammar.{page_bytes}
 use Rattle.mn_page.proofs.Examples.Spelling.{at}
 use Rattle.mn_world.specs.declared.entry.Entry.{Entry}
-use Rattle.mn_world.specs.Planned.{page_place, catalog_place}
+use Rattle.mn_world.specs.Places.{page_place, catalog_place}
 use Rattle.mn_world.specs.Shown.{Seen, seen_in}
 use Rattle.mn_world.specs.Calls.{calls_of}
 use Rattle.mn_world.specs.Answers.{FreeSlots, ShowsBytes, LastTry, is_any_decide, none_refused, reads_anew, Shows}

@@ -15,7 +15,7 @@ use Rattle.mn_world.specs.declared.entry.Entry.{Entry}
 use Rattle.mn_world.specs.declared.entry.What.TheVariants.{Begin, Answered}
 use Rattle.mn_world.specs.Protocol.{Start}
 use Rattle.mn_world.specs.Shown.{Seen, CatalogShows}
-use Rattle.mn_world.specs.Planned.{catalog_place}
+use Rattle.mn_world.specs.Places.{catalog_place}
 use Rattle.mn_world.specs.Run.{IsRun}
 use Rattle.mn_world.specs.History.{Placed, IsHistory, pasts_of}
 use Rattle.mn_world.proofs.Examples.TwoNodes.{node, client, id}

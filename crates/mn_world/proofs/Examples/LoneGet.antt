@@ -19,7 +19,7 @@ use Rattle.mn_page.specs.Holds.{pairs_in}
 use Rattle.mn_page.proofs.Examples.Spelling.{at}
 use Rattle.mn_page.proofs.Spelled.{page_spelled_once}
 use Rattle.mn_world.specs.declared.entry.Entry.{Entry}
-use Rattle.mn_world.specs.Planned.{page_place, catalog_place}
+use Rattle.mn_world.specs.Places.{page_place, catalog_place}
 use Rattle.mn_world.specs.Shown.{Seen, ShowsCatalog, LeafShows, ReadShows, SeesPage, seen_in}
 use Rattle.mn_world.specs.Answers.{Shows, SomeReadShows}
 use Rattle.mn_world.specs.Calls.{since_begin}

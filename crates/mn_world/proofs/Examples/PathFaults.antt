@@ -14,7 +14,7 @@ use Rattle.mn_page.specs.Grammar.{kind_of, page_bytes, IsPage, SpellsPage}
 use Rattle.mn_page.specs.Forest.{heads_in}
 use Rattle.mn_page.proofs.Examples.Spelling.{at}
 use Rattle.mn_page.proofs.Spelled.{big_bytes-inj}
-use Rattle.mn_world.specs.Planned.{page_place, count_place, catalog_place}
+use Rattle.mn_world.specs.Places.{page_place, count_place, catalog_place}
 use Rattle.mn_world.specs.Shown.{Seen, SeesCatalog}
 use Rattle.mn_world.specs.Answers.{Reached, AreBelow, MeetsFault}
 use Rattle.mn_world.proofs.Examples.TwoNodes.{node}

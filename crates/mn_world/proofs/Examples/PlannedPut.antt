@@ -16,7 +16,8 @@ use Rattle.mn_page.proofs.Examples.Spelling.{at}
 use Rattle.mn_world.specs.declared.entry.Entry.{Entry}
 use Rattle.mn_world.specs.declared.entry.What.TheVariants as Did
 use Rattle.mn_world.specs.Calls.{since_begin, Issued}
-use Rattle.mn_world.specs.Planned.{catalog_place, IsPlanned}
+use Rattle.mn_world.specs.Places.{catalog_place}
+use Rattle.mn_world.specs.Planned.{IsPlanned}
 use Rattle.mn_world.specs.Plans.{HasRoom, put_in_place}
 use Rattle.mn_world.specs.Answers.{all_done, IsPlanBy, LastPlanReplies, Shows, MeansBy}
 use Rattle.mn_world.specs.Run.{IsLegalBy}
@@ -52,7 +53,7 @@ has_room = record {
   number = lit< tt;
 }
 
-planned : IsPlanned heads put plan (Values [])
+planned : (es : List Entry) → IsPlanned es heads put plan (Values [])
 planned = put_is_planned heads 2 main (key 2) (119 ∷ []) 0 main_entry (at 1 0) left (pair 3 ∷ pair 4 ∷ []) has_room
 
 -- the catalog was read for a listing; then the Put looks at the root and the leaf, and issues its
@@ -81,7 +82,7 @@ abbrev told : List Entry
 told = called 1 (Ask.Decide (id 0 2) true) Say.Decided ∷ told_one
 
 pub plan_is_by : IsPlanBy looked put plan (Values [])
-plan_is_by = (main_entry ∷ [], (seen catalog_place (catalog_of (main_entry ∷ [])), (0, lit< tt, refl), sees_main), planned)
+plan_is_by = (main_entry ∷ [], (seen catalog_place (catalog_of (main_entry ∷ [])), (0, lit< tt, refl), sees_main), planned looked)
 
 replied_by_plan : LastPlanReplies told (since_begin told) put (Values [])
 replied_by_plan = (

@@ -11,7 +11,7 @@ use Rattle.mn_page.specs.Grammar.{page_bytes, height_of}
 use Rattle.mn_page.proofs.Examples.Spelling.{at}
 use Rattle.mn_page.proofs.Spelled.{page_spelled_once}
 use Rattle.mn_world.specs.declared.entry.Entry.{Entry}
-use Rattle.mn_world.specs.Planned.{Place, page_place, catalog_place}
+use Rattle.mn_world.specs.Places.{Place, page_place, catalog_place}
 use Rattle.mn_world.specs.Shown.{Seen}
 use Rattle.mn_world.specs.Answers.{FailsAs, BringsLeaf, EndsWithLeaf, BringsNone}
 use Rattle.mn_world.specs.Run.{IsLegalBy}

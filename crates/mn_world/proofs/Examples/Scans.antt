@@ -12,7 +12,7 @@ use Rattle.mn_page.specs.Grammar.{page_bytes, IsPage, IsEntry}
 use Rattle.mn_page.specs.Forest.{main_entry}
 use Rattle.mn_page.proofs.Examples.Spelling.{at}
 use Rattle.mn_world.specs.declared.entry.Entry.{Entry}
-use Rattle.mn_world.specs.Planned.{page_place, catalog_place}
+use Rattle.mn_world.specs.Places.{page_place, catalog_place}
 use Rattle.mn_world.specs.Shown.{Seen, seen_in, SeesCatalog, ShowsPairs, FirstCatalog}
 use Rattle.mn_world.specs.Run.{IsLegalBy}
 use Rattle.mn_world.proofs.Examples.Entries.{AreLegal, begin, answered, read, seen, catalog_of, version, main, key, pair}

@@ -19,7 +19,7 @@ use Rattle.mn_page.specs.Holds.{page_covers}
 use Rattle.mn_page.proofs.Examples.Spelling.{at}
 use Rattle.mn_page.proofs.Spelled.{page_spelled_once}
 use Rattle.mn_world.specs.declared.entry.Entry.{Entry}
-use Rattle.mn_world.specs.Planned.{catalog_place}
+use Rattle.mn_world.specs.Places.{catalog_place}
 use Rattle.mn_world.specs.Shown.{Seen, SeesCatalog, seen_in, SeesPage, ServesNamed, IsChain, BeginsAt, ReachesEnd, leaf_pairs, IsCatalogRead, ReadShows, ScanShows}
 use Rattle.mn_world.specs.Answers.{Shows}
 use Rattle.mn_world.specs.Calls.{Issued, issues_of, since_begin}

@@ -12,7 +12,7 @@ use Rattle.mn_mini.specs.Mini.{part_of}
 use Rattle.mn_world.specs.declared.entry.Entry.{Entry}
 use Rattle.mn_world.specs.declared.entry.What.TheVariants as Did
 use Rattle.mn_world.specs.Calls.{Call, calls_of}
-use Rattle.mn_world.specs.Planned.{catalog_place}
+use Rattle.mn_world.specs.Places.{catalog_place}
 use Rattle.mn_world.specs.Shown.{seen_in}
 use Rattle.mn_world.specs.Answers.{is_peek, reads_anew, RefusedAs, FailsAs, Shows}
 use Rattle.mn_world.proofs.Examples.TwoNodes.{node, id, prepare}

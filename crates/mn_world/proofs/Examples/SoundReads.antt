@@ -10,7 +10,7 @@ use Rattle.mn_page.specs.Forest.{heads_in, ChildRange, children_of}
 use Rattle.mn_page.specs.Holds.{page_covers}
 use Rattle.mn_page.proofs.Examples.Spelling.{at}
 use Rattle.mn_page.proofs.Spelled.{page_spelled_once}
-use Rattle.mn_world.specs.Planned.{Place, count_place}
+use Rattle.mn_world.specs.Places.{Place, count_place}
 use Rattle.mn_world.specs.Shown.{Seen, SeesCatalog, SeesPage}
 use Rattle.mn_world.specs.Answers.{Reached, is_wrong_height, is_copied_root, IsPageAtFault, IsAtFault, MeetsBadPage, MeetsBadAddr, MeetsBadPlace, MeetsFault}
 use Rattle.mn_world.proofs.Examples.Entries.{page_is_no_catalog}

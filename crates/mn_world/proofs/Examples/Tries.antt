@@ -21,7 +21,7 @@ use Rattle.mn_page.specs.Grammar.{page_bytes, entry_bytes, IsPage, SpellsPage}
 use Rattle.mn_page.proofs.Examples.Spelling.{at}
 use Rattle.mn_world.specs.declared.entry.Entry.{Entry}
 use Rattle.mn_world.specs.declared.entry.What.TheVariants as Did
-use Rattle.mn_world.specs.Planned.{page_place, catalog_place}
+use Rattle.mn_world.specs.Places.{page_place, catalog_place}
 use Rattle.mn_world.specs.Shown.{Seen, SeesCatalog}
 use Rattle.mn_world.proofs.Examples.TwoNodes.{node, id, prepare}
 use Rattle.mn_world.proofs.Examples.Entries.{begin, own, called, read, seen, catalog_of, version, key, pair}
@@ -148,8 +148,8 @@ plan_is : plan ≡ put_in_place 2 (key 7) (119 ∷ []) 1 m2 (at 1 1) leaf (pair 
 unfolding leaf_bytes next_bytes
 plan_is = refl
 
-pub plan_is_planned : IsPlanned (heads_in entries) put plan (Values [])
-plan_is_planned = subst (λ (m : Mini). IsPlanned (heads_in entries) put m (Values [])) (sym plan_is)
+pub plan_is_planned : (es : List Entry) → IsPlanned es (heads_in entries) put plan (Values [])
+plan_is_planned es = subst (λ (m : Mini). IsPlanned es (heads_in entries) put m (Values [])) (sym plan_is)
     (put_is_planned (heads_in entries) 2 m2.name (key 7) (119 ∷ []) 1 m2 (at 1 1) leaf (pair 3 ∷ pair 7 ∷ []) (record {
       named = refl;
       few = lit< tt;
@@ -164,7 +164,7 @@ plan_is_planned = subst (λ (m : Mini). IsPlanned (heads_in entries) put m (Valu
       is_value = (lit≤ tt, refl);
       room = lit≤ tt;
       number = lit< tt;
-    }))
+    }) es)
 
 pub plan_is_sound : IsSound plan
 unfolding leaf_bytes next_bytes

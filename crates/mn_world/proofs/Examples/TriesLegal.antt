@@ -25,7 +25,7 @@ legal_first = (
       ),
       record { actor = lit≤ tt; node = tt; step = (tt, tt) },
     ),
-    record { actor = lit≤ tt; node = tt; step = (record { under_way = refl; client = refl; serial = refl; kind = refl; sound = plan_is_sound; after = refl }, (refl, inr (Values [], (entries, (catalog_seen, (0, lit< tt, refl), sees_catalog), plan_is_planned)))) },
+    record { actor = lit≤ tt; node = tt; step = (record { under_way = refl; client = refl; serial = refl; kind = refl; sound = plan_is_sound; after = refl }, (refl, inr (Values [], (entries, (catalog_seen, (0, lit< tt, refl), sees_catalog), plan_is_planned _)))) },
   ),
   record { actor = lit≤ tt; node = tt; step = (record { mini = plan; issued = refl; all = refl; several = lit≤ tt; named = (0, lit< tt, refl); own_part = refl; once = refl; open_still = refl; lower = (λ h. absurd (omega arith), (λ h. absurd (omega arith), tt)) }, tt) },
 )
@@ -54,7 +54,7 @@ legal_second = (
         ),
         record { actor = lit≤ tt; node = tt; step = (record { mini = _; issued = refl; alone = refl; own_part = refl; once = refl; open_still = refl }, tt) },
       ),
-      record { actor = lit≤ tt; node = tt; step = (record { under_way = refl; client = refl; serial = refl; kind = refl; sound = plan_is_sound; after = refl }, (refl, inr (Values [], (entries, (catalog_seen, (1, lit< tt, refl), sees_catalog), plan_is_planned)))) },
+      record { actor = lit≤ tt; node = tt; step = (record { under_way = refl; client = refl; serial = refl; kind = refl; sound = plan_is_sound; after = refl }, (refl, inr (Values [], (entries, (catalog_seen, (1, lit< tt, refl), sees_catalog), plan_is_planned _)))) },
     ),
     record { actor = lit≤ tt; node = tt; step = (record { mini = plan; issued = refl; all = refl; several = lit≤ tt; named = (0, lit< tt, refl); own_part = refl; once = refl; open_still = refl; lower = (λ h. absurd (omega arith), (λ h. absurd (omega arith), tt)) }, tt) },
   ),

@@ -6,7 +6,7 @@ use Rattle.mn_base.specs.declared.reply.Pair.{Pair}
 use Rattle.mn_base.specs.declared.reply.Version.{Version}
 use Rattle.mn_base.specs.declared.reply.Reply.{Reply}
 use Rattle.mn_base.specs.declared.reply.Reply.TheVariants as Say
-use Rattle.mn_world.specs.Planned.{Place}
+use Rattle.mn_world.specs.Places.{Place}
 
 abbrev pub Decided : Type 0 → Type 0
 Decided P = P ⊎ (P → ⊥)

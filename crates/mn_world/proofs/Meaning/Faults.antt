@@ -24,7 +24,7 @@ use Rattle.mn_page.proofs.Counted.{counted}
 use Rattle.mn_page.proofs.Heights.{none_too_high}
 use Rattle.mn_page.proofs.Grid.{all_of_filter}
 use Rattle.mn_page.proofs.Split.{lt_nil}
-use Rattle.mn_world.specs.Planned.{page_place, count_place}
+use Rattle.mn_world.specs.Places.{page_place, count_place}
 use Rattle.mn_world.specs.Shown.{Seen, SeesPage}
 use Rattle.mn_world.specs.Answers.{Reached, is_wrong_height, is_copying, is_copied_root, IsPageAtFault, IsAtFault, MeetsBadPage, AreBelow, IsBadCatalog, IsBadCount, MeetsFault}
 use Rattle.mn_world.specs.Answers.Reached.{by_root, by_child}

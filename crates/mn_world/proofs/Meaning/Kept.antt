@@ -14,7 +14,8 @@ use Rattle.mn_page.specs.Forest.{page_at, heads_in}
 use Rattle.mn_page.specs.Holds.{Holds, page_serves}
 use Rattle.mn_world.specs.declared.entry.Entry.{Entry}
 use Rattle.mn_world.specs.Calls.{client_entries}
-use Rattle.mn_world.specs.Planned.{Place, Continues, page_place, catalog_place}
+use Rattle.mn_world.specs.Places.{Place, page_place, catalog_place}
+use Rattle.mn_world.specs.Planned.{Continues}
 use Rattle.mn_world.specs.Shown.{Seen, SeesCatalog, SeesPage, ShowsCatalog}
 use Rattle.mn_world.specs.History.{Placed}
 use Rattle.mn_world.specs.Protocol.{Start, FollowsProtocol}

@@ -184,7 +184,7 @@ plan_acts start store past e old known run i p is plan s holds =
     let met = commit_met start past e i known.sound known.spaces run is in
     let fits = shorter_by past plan.later plan.entry plan.before plan.split in
     let on = catalog_continued start store past old known (plan.later ++ plan.entry ∷ []) plan.before [] past (plan.split ∙ sym (append_assoc plan.later (plan.entry ∷ []) plan.before)) refl (omega arith) p.client plan.planned.0 plan.planned.1 s holds in
-    let acts = plan.planned.2.acts (flat start past) s (whole.even.spaces ∙ sym made.0) (holds_sizes (flat start past) s holds) holds on met in
+    let acts = plan.planned.2.acts (flat start past) s (whole.even.spaces ∙ sym made.0) (holds_sizes (flat start past) s holds) holds on (record { met = met }) in
     (acts.replies, subst (λ m. Holds m (applied s p.op).store) (sym (flat_plan start past e i is met)) acts.effect)
 
 -- an entry that commits

@@ -20,7 +20,7 @@ use Rattle.mn_page.specs.Holds.{Holds, page_covers, page_serves, pairs_in}
 use Rattle.mn_page.proofs.Counted.{counted, IsCounted}
 use Rattle.mn_world.specs.declared.entry.Entry.{Entry}
 use Rattle.mn_world.specs.Calls.{is_by, client_entries}
-use Rattle.mn_world.specs.Planned.{Place, page_place, catalog_place}
+use Rattle.mn_world.specs.Places.{Place, page_place, catalog_place}
 use Rattle.mn_world.specs.Shown.{Seen, seen_in, seen_at, SeesCatalog, SeesPage, ShowsCatalog, ServesNamed, LeafShows, CatalogReplies, CatalogShows, ReadShows}
 use Rattle.mn_world.specs.History.{Placed, ShowsHere}
 use Rattle.mn_world.specs.Protocol.{Start, FollowsProtocol}

@@ -10,7 +10,8 @@ use Rattle.mn_mini.specs.declared.item.Item.{Item}
 use Rattle.mn_mini.specs.declared.item.Item.TheVariants.{Compare, Read, Write}
 use Rattle.mn_mini.specs.Flat.{bytes_in, space_in, mismatch_from}
 use Rattle.mn_base.proofs.Keys.{bytes_eq-true}
-use Rattle.mn_world.specs.Planned.{place_rank, Continues}
+use Rattle.mn_world.specs.declared.entry.Entry.{Entry}
+use Rattle.mn_world.specs.Planned.{place_rank, ComparesHold, Continues}
 
 -- the bytes compared are in place
 abbrev pub IsMet : List (List ℕ) → Item → Type 0
@@ -18,7 +19,7 @@ IsMet memory (Compare node start bytes) = bytes_in (space_in memory node) start 
 IsMet memory (Read node start n) = ⊤
 IsMet memory (Write node start bytes) = ⊤
 
-pub all_met : (memory : List (List ℕ)) (i : ℕ) (items : List Item) → mismatch_from memory i items ≡ None → AllByRecursion (IsMet memory) items
+all_met : (memory : List (List ℕ)) (i : ℕ) (items : List Item) → mismatch_from memory i items ≡ None → AllByRecursion (IsMet memory) items
 all_met memory i [] e = tt
 all_met memory i (Compare node start bytes ∷ items) e = cases (bytes_eq (bytes_in (space_in memory node) start (length bytes)) bytes) refl e (λ f. all_met memory (i + 1) items f)
   where
@@ -29,6 +30,10 @@ all_met memory i (Compare node start bytes ∷ items) e = cases (bytes_eq (bytes
     cases false same f rest = absurd cc
 all_met memory i (Read node start n ∷ items) e = (tt, all_met memory i items e)
 all_met memory i (Write node start bytes ∷ items) e = (tt, all_met memory i items e)
+
+-- what a plan has where its compares hold
+pub compares_met : (es : List Entry) (memory : List (List ℕ)) (items : List Item) → ComparesHold es memory items → AllByRecursion (IsMet memory) items
+compares_met es memory items hold = all_met memory 0 items hold.met
 
 -- a version of the kept catalog has its number in a store that continues it
 pub still_named : (kept heads : List Head) (name : List ℕ) (v : ℕ) → Continues kept heads → number_named kept name ≡ Some v → number_named heads name ≡ Some v

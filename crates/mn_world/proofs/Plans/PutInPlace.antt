@@ -14,7 +14,7 @@ use Rattle.mn_base.specs.declared.reply.Reply.{Reply}
 use Rattle.mn_base.specs.declared.op.Step.TheVariants.{Put}
 use Rattle.mn_base.specs.declared.op.Op.TheVariants.{Tx}
 use Rattle.mn_base.specs.declared.reply.Reply.TheVariants.{Values}
-use Rattle.mn_mini.specs.Flat.{bytes_in, space_in, overwritten, mismatch_from, memory_after}
+use Rattle.mn_mini.specs.Flat.{bytes_in, space_in, overwritten, memory_after}
 use Rattle.mn_page.specs.declared.page.Page.{Page}
 use Rattle.mn_page.specs.declared.page.Body.{Body}
 use Rattle.mn_page.specs.declared.page.Body.TheVariants.{Leaf}
@@ -30,11 +30,13 @@ use Rattle.mn_page.proofs.Ancestors.{serves_alone, serves_own}
 use Rattle.mn_base.proofs.PairsWith.{ascending-put, filter-put_inside, filter-put_outside, all-put}
 use Rattle.mn_page.proofs.Alike.{Alike, with_page, re_paired, alike_forest, LeafChange, shows_change}
 use Rattle.mn_page.proofs.Spelled.{page_length, entry_length, entry_spelled_once}
-use Rattle.mn_world.specs.Planned.{Place, page_place, entry_place, count_place, compare_places, IsCompared, HasNextNumber, may_precede, place_rank, Continues, PlanActs}
+use Rattle.mn_world.specs.declared.entry.Entry.{Entry}
+use Rattle.mn_world.specs.Places.{catalog_node, Place, page_place, entry_place, count_place}
+use Rattle.mn_world.specs.Planned.{compare_places, IsCompared, HasNextNumber, may_precede, place_rank, ComparesHold, Continues, PlanActs}
 use Rattle.mn_world.specs.Plans.{HasRoom, next_leaf, put_in_place, compare_page, compare_entry, write_page, PutIsPlanned}
 use Rattle.mn_world.proofs.Plans.Laying.{laid_is}
 use Rattle.mn_world.proofs.Plans.Spaces.{memory_by_pages, page_there, page_written, entry_read, node_0, memory_length}
-use Rattle.mn_world.proofs.Plans.Compares.{all_met, still_named, page_rank, entry_rank, element_at}
+use Rattle.mn_world.proofs.Plans.Compares.{compares_met, still_named, page_rank, entry_rank, element_at}
 use Rattle.mn_page.proofs.Counted.{counted, forest, listed, shows, IsCounted, IsPageIn, ListsStore, forest_heads, leaf_pairs_are, serves_in}
 
 -- the leaf after a Put
@@ -172,7 +174,7 @@ put_compares f store name key value v nodes e addr p q lp lq le facts place = (t
     first : ◌≡◌ {A = Place} (record { node = addr.node; start = 20480 + 1024 * addr.slot; length = length (page_bytes p) }) (page_place addr)
     first = place_same addr.node (20480 + 1024 * addr.slot) (length (page_bytes p)) 1024 lp
 
-    second : ◌≡◌ {A = Place} (record { node = node_0; start = 64 + 64 * v; length = length (entry_bytes e) }) (entry_place v)
+    second : ◌≡◌ {A = Place} (record { node = node_0; start = 64 + 64 * v; length = length (entry_bytes e) }) (entry_place catalog_node v)
     second = place_same node_0 (64 + 64 * v) (length (entry_bytes e)) 64 le
 
     written : ◌≡◌ {A = Place} (record { node = addr.node; start = 20480 + 1024 * addr.slot; length = length (page_bytes q) }) (page_place addr)
@@ -206,9 +208,9 @@ pub named_not : (v : ℕ) → ◌≡◌ {A = Option ℕ} (Some v) None → ⊥
 named_not v e = cc
 
 put_acts : (kept : List Head) (nodes : ℕ) (name key value : List ℕ) (v : ℕ) (e : CatEntry) (addr : Addr) (p : Page) (pairs : List Pair) → HasRoom kept nodes name key value v e addr p pairs
-    → (memory : List (List ℕ)) (store : Store) → length memory ≡ nodes → (holds : Holds memory store) → Continues kept (heads_of store)
-    → mismatch_from memory 0 (put_in_place nodes key value v e addr p pairs).items ≡ None → PlanActs memory store holds (Tx name (Put key value ∷ [])) (put_in_place nodes key value v e addr p pairs) (Values [])
-put_acts kept nodes name key value v e addr p pairs r memory store many holds on met =
+    → (es : List Entry) (memory : List (List ℕ)) (store : Store) → length memory ≡ nodes → (holds : Holds memory store) → Continues kept (heads_of store)
+    → ComparesHold es memory (put_in_place nodes key value v e addr p pairs).items → PlanActs memory store holds (Tx name (Put key value ∷ [])) (put_in_place nodes key value v e addr p pairs) (Values [])
+put_acts kept nodes name key value v e addr p pairs r es memory store many holds on hold =
     let sound = counted holds.forest holds.sound in
     let shown = listed holds.forest store holds.shown in
     let is_spelled : memory ≡ memory_by_pages holds.forest = holds.spelled ∙ laid_is holds.forest in
@@ -217,7 +219,7 @@ put_acts kept nodes name key value v e addr p pairs r memory store many holds on
     let spelled : IsPage (new_leaf p pairs key value) = next_is_page kept nodes name key value v e addr p pairs r in
     let lq : length (page_bytes (new_leaf p pairs key value)) ≡ 1024 = page_length (new_leaf p pairs key value) spelled in
     let le : length (entry_bytes e) ≡ 64 = entry_length e r.entry in
-    let mets = all_met memory 0 (put_in_place nodes key value v e addr p pairs).items met in
+    let mets = compares_met es memory (put_in_place nodes key value v e addr p pairs).items hold in
     let page : bytes_in (space_in memory addr.node) (20480 + 1024 * addr.slot) 1024 ≡ page_bytes p = ap (bytes_in (space_in memory addr.node) (20480 + 1024 * addr.slot)) (sym lp) ∙ mets.0 in
     let entry : bytes_in (space_in memory node_0) (64 + 64 * v) 64 ≡ entry_bytes e = ap (bytes_in (space_in memory node_0) (64 + 64 * v)) (sym le) ∙ (mets.1).0 in
     let nodes_are : nodes ≡ length holds.forest.pages = sym many ∙ (ap (λ (m : List (List ℕ)). length m) is_spelled ∙ memory_length holds.forest) in
@@ -261,8 +263,8 @@ put_acts kept nodes name key value v e addr p pairs r memory store many holds on
     same_some a b e = cc
 
 pub put_is_planned : PutIsPlanned
-put_is_planned kept nodes name key value v e addr p pairs r = record {
-  acts = λ memory store many sizes holds on met. put_acts kept nodes name key value v e addr p pairs r memory store many holds on met;
+put_is_planned kept nodes name key value v e addr p pairs r es = record {
+  acts = λ memory store many sizes holds on hold. put_acts kept nodes name key value v e addr p pairs r es memory store many holds on hold;
   order = and_from (may_precede addr.node (20480 + 1024 * addr.slot) node_0 (64 + 64 * v)) true
       (or_left (nat_lt (place_rank (20480 + 1024 * addr.slot)) (place_rank (64 + 64 * v))) _ (ap (λ k. nat_lt k (place_rank (64 + 64 * v))) (page_rank addr.slot) ∙ ap (nat_lt 0) (entry_rank v r.few)))
       refl;

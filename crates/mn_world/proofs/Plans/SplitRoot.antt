@@ -15,7 +15,7 @@ use Rattle.mn_base.specs.declared.reply.Pair.{Pair}
 use Rattle.mn_base.specs.declared.op.Step.TheVariants.{Put}
 use Rattle.mn_base.specs.declared.op.Op.TheVariants.{Tx}
 use Rattle.mn_base.specs.declared.reply.Reply.TheVariants.{Values}
-use Rattle.mn_mini.specs.Flat.{bytes_in, space_in, overwritten, mismatch_from, memory_after}
+use Rattle.mn_mini.specs.Flat.{bytes_in, space_in, overwritten, memory_after}
 use Rattle.mn_page.specs.declared.page.Page.{Page}
 use Rattle.mn_page.specs.declared.page.Body.TheVariants.{Leaf}
 use Rattle.mn_page.specs.declared.entry.CatEntry.{CatEntry}
@@ -31,13 +31,15 @@ use Rattle.mn_base.proofs.PairsWith.{ascending-put, all-put, two_parts}
 use Rattle.mn_page.proofs.Alike.{re_paired, all-set}
 use Rattle.mn_page.proofs.Spelled.{length-padded, page_length, entry_length, entry_spelled_once, big_bytes-inj}
 use Rattle.mn_page.proofs.Split.{Split, CanSplit, split_forest, with_root, with_left, new_root, left_page, right_page, split_is_forest, CutPairs, shows_split, old_serves, old_covers, lt_nil}
-use Rattle.mn_world.specs.Planned.{Place, page_place, entry_place, count_place, compare_places, write_places, IsCompared, HasNextNumber, WritesPages, Continues, PlanActs, IsPlanned, place_rank, IsWholePlace, ComeOnce}
+use Rattle.mn_world.specs.declared.entry.Entry.{Entry}
+use Rattle.mn_world.specs.Places.{catalog_node, Place, page_place, entry_place, count_place}
+use Rattle.mn_world.specs.Planned.{compare_places, write_places, IsCompared, HasNextNumber, WritesPages, ComparesHold, Continues, PlanActs, IsPlanned, place_rank, IsWholePlace, ComeOnce}
 use Rattle.mn_world.specs.Plans.{write_page, slot_at, left_half, right_half, parent_of_halves, HasSplit, split_items, SplitIsPlanned}
 use Rattle.mn_world.proofs.Plans.Pieces.{bytes_in-skip, bytes_in-within, bytes_in-padded}
 use Rattle.mn_world.proofs.Plans.Spaces.{memory_by_pages, catalog_bytes, page_there, page_read, entry_read, node_0, memory_length, space_in-memory_by_pages, head_length, front_length, catalog_length, AreSlots, node_slots, text_length, get_in-index}
 use Rattle.mn_world.proofs.Plans.Laying.{HasSlots, laid_is, forest_laid, page_over, page_new, count_over}
 use Rattle.mn_world.proofs.Plans.Sizes.{index-set_in, index-add_in, sizes_of, sizes-set_in, sizes-add_in, index_below, index-set-all}
-use Rattle.mn_world.proofs.Plans.Compares.{all_met, still_named, page_rank, entry_rank, element_at}
+use Rattle.mn_world.proofs.Plans.Compares.{compares_met, still_named, page_rank, entry_rank, element_at}
 use Rattle.mn_world.proofs.Plans.PutInPlace.{put_store, put_numbers, place_same, named_not}
 use Rattle.mn_page.proofs.Counted.{counted, forest, listed, shows, IsCounted, ListsStore, forest_heads, leaf_pairs_are}
 
@@ -351,7 +353,7 @@ may_pages n m a b = any (page_rank a) (page_rank b)
     tests x y t e f = ap (λ k. nat_lt k y || (nat_eq k y && (nat_eq k 0 || t))) e ∙ ap (λ k. nat_lt 0 k || (nat_eq 0 k && (nat_eq 0 0 || t))) f
 
     any : place_rank (20480 + 1024 * a) ≡ 0 → place_rank (20480 + 1024 * b) ≡ 0 → Rattle.mn_world.specs.Planned.may_precede n (20480 + 1024 * a) m (20480 + 1024 * b) ≡ true
-    any e f = tests (place_rank (20480 + 1024 * a)) (place_rank (20480 + 1024 * b)) (nat_lt (20480 + 1024 * a) (20480 + 1024 * b) || (nat_eq (20480 + 1024 * a) (20480 + 1024 * b) && nat_lt n.0 m.0)) e f
+    any e f = tests (place_rank (20480 + 1024 * a)) (place_rank (20480 + 1024 * b)) (nat_lt n.0 m.0 || (nat_eq n.0 m.0 && nat_lt (20480 + 1024 * a) (20480 + 1024 * b))) e f
 
 by_rank : (n m : NodeNo) (a b x y : ℕ) → place_rank a ≡ x → place_rank b ≡ y → nat_lt x y ≡ true → Rattle.mn_world.specs.Planned.may_precede n a m b ≡ true
 by_rank n m a b x y e f low = or_left (nat_lt (place_rank a) (place_rank b)) _ (ap (λ k. nat_lt k (place_rank b)) e ∙ (ap (nat_lt x) f ∙ low))
@@ -375,7 +377,7 @@ split_compares f store name key value v nodes e p pairs n count lows first more 
     first_is : ◌≡◌ {A = Place} (record { node = e.root.node; start = 20480 + 1024 * e.root.slot; length = length (page_bytes p) }) (page_place e.root)
     first_is = place_same e.root.node (20480 + 1024 * e.root.slot) (length (page_bytes p)) 1024 lp
 
-    second_is : ◌≡◌ {A = Place} (record { node = node_0; start = 64 + 64 * v; length = length (entry_bytes e) }) (entry_place v)
+    second_is : ◌≡◌ {A = Place} (record { node = node_0; start = 64 + 64 * v; length = length (entry_bytes e) }) (entry_place catalog_node v)
     second_is = place_same node_0 (64 + 64 * v) (length (entry_bytes e)) 64 le
 
     third_is : ◌≡◌ {A = Place} (record { node = n; start = 16; length = length (big_bytes 8 count) }) (count_place n)
@@ -525,16 +527,16 @@ split_once f v nodes e p n count lows first more can count_is =
     four_same p q r = cc
 
 split_acts : (kept : List Head) (nodes : ℕ) (name key value : List ℕ) (v : ℕ) (e : CatEntry) (p : Page) (pairs : List Pair) (n : NodeNo) (count : ℕ) (lows : List Pair) (first : Pair) (more : List Pair)
-    → HasSplit kept nodes name key value v e p pairs n count lows first more → (memory : List (List ℕ)) (store : Store) → length memory ≡ nodes → (holds : Holds memory store) → Continues kept (heads_of store)
-    → mismatch_from memory 0 (split_items v e p n count lows first more) ≡ None
+    → HasSplit kept nodes name key value v e p pairs n count lows first more → (es : List Entry) (memory : List (List ℕ)) (store : Store) → length memory ≡ nodes → (holds : Holds memory store) → Continues kept (heads_of store)
+    → ComparesHold es memory (split_items v e p n count lows first more)
     → PlanActs memory store holds (Tx name (Put key value ∷ [])) (record { nodes = nodes; items = split_items v e p n count lows first more }) (Values [])
-split_acts kept nodes name key value v e p pairs n count lows first more r memory store many holds on met =
+split_acts kept nodes name key value v e p pairs n count lows first more r es memory store many holds on hold =
     let sound = counted holds.forest holds.sound in
     let shown = listed holds.forest store holds.shown in
     let is_spelled : memory ≡ memory_by_pages holds.forest = holds.spelled ∙ laid_is holds.forest in
     let lp : length (page_bytes p) ≡ 1024 = page_length p r.page in
     let le : length (entry_bytes e) ≡ 64 = entry_length e r.entry in
-    let mets = all_met memory 0 (split_items v e p n count lows first more) met in
+    let mets = compares_met es memory (split_items v e p n count lows first more) hold in
     let page : bytes_in (space_in memory e.root.node) (20480 + 1024 * e.root.slot) 1024 ≡ page_bytes p = ap (bytes_in (space_in memory e.root.node) (20480 + 1024 * e.root.slot)) (sym lp) ∙ mets.0 in
     let entry : bytes_in (space_in memory node_0) (64 + 64 * v) 64 ≡ entry_bytes e = ap (bytes_in (space_in memory node_0) (64 + 64 * v)) (sym le) ∙ (mets.1).0 in
     let count_there : bytes_in (space_in memory n) 16 8 ≡ big_bytes 8 count = ((mets.1).1).0 in
@@ -597,8 +599,8 @@ split_acts kept nodes name key value v e p pairs n count lows first more r memor
     same_some a b e = cc
 
 pub split_is_planned : SplitIsPlanned
-split_is_planned kept nodes name key value v e p pairs n count lows first more r = record {
-  acts = λ memory store many sizes holds on met. split_acts kept nodes name key value v e p pairs n count lows first more r memory store many holds on met;
+split_is_planned kept nodes name key value v e p pairs n count lows first more r es = record {
+  acts = λ memory store many sizes holds on hold. split_acts kept nodes name key value v e p pairs n count lows first more r es memory store many holds on hold;
   order = and_from _ _ (by_rank e.root.node node_0 (20480 + 1024 * e.root.slot) (64 + 64 * v) 0 1 (page_rank e.root.slot) (entry_rank v r.few) refl)
       (and_from _ _ (by_rank node_0 n (64 + 64 * v) 16 1 2 (entry_rank v r.few) refl refl)
       (and_from true _ refl

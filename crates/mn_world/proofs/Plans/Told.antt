@@ -17,7 +17,7 @@ use Rattle.mn_world.specs.Plans.{compare_page, compare_entry, compare_count}
 use Rattle.mn_world.proofs.Plans.Laying.{laid_is}
 use Rattle.mn_world.proofs.Plans.Spaces.{memory_by_pages, page_there, page_read, page_node, entry_there, entry_read, node_0, get_in-index}
 use Rattle.mn_world.proofs.Plans.Entries.{none_there, unused_read}
-use Rattle.mn_world.proofs.Plans.Compares.{IsMet, all_met}
+use Rattle.mn_world.proofs.Plans.Compares.{IsMet, compares_met}
 use Rattle.mn_world.proofs.Plans.Sizes.{index_below}
 use Rattle.mn_world.proofs.Plans.PutInPlace.{put_numbers}
 use Rattle.mn_world.proofs.Plans.SplitRoot.{count_read, free_read, new_number}
@@ -31,7 +31,7 @@ all_there P (y ∷ xs) x all (suc k, in', is) = all_there P xs x all.1 (k, omega
 -- Compares
 
 pub compares_tell : ComparesTell
-compares_tell memory store holds items met = record {
+compares_tell es memory store holds items hold = record {
   pages = λ addr p there in' spelled.
       page_there holds.forest sound addr p in' spelled
       (ap (λ (m : List (List ℕ)). bytes_in (space_in m addr.node) (20480 + 1024 * addr.slot) 1024) (sym is_spelled)
@@ -56,7 +56,7 @@ compares_tell memory store holds items met = record {
     is_spelled = holds.spelled ∙ laid_is holds.forest
 
     mets : AllByRecursion (IsMet memory) items
-    mets = all_met memory 0 items met
+    mets = compares_met es memory items hold
 
 -- Numbers
 
