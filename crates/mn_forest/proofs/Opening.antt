@@ -6,16 +6,16 @@ use Rattle.std.proofs.lemmas.List.FromFn.{map-range_with_len_more, get_or-map-ra
 use Rattle.mn_base.specs.Ids.{node_numbers}
 use Rattle.mn_base.specs.declared.ids.NodeNo.{NodeNo}
 use Rattle.mn_mini.specs.declared.record.Record.{Record}
-use Rattle.mn_mini.specs.Node.{held_parts, space_of}
+use Rattle.mn_mini.specs.Node.{held_parts, space_of, with_held}
 use Rattle.mn_world.specs.Protocol.{base_at}
-use Rattle.mn_world.specs.Opened.{is_committed, with_committed, opened_memory}
+use Rattle.mn_world.specs.Opened.{is_committed, opened_memory}
 use Rattle.mn_forest.specs.Base.{base_of}
 use Rattle.mn_forest.specs.Votes.{start_of, lists_of, numbered}
 use Rattle.mn_forest.proofs.BaseStore.{spaces_are}
 
 -- the space of a node by its base
 abbrev pub opened_space : List (List Record) → (NodeNo → List ℕ) → NodeNo → List ℕ
-opened_space records bases n = with_committed (is_committed (length records) (lists_of records)) (space_of (bases n) (lists_of records n)) (held_parts (lists_of records n))
+opened_space records bases n = with_held (is_committed (length records) (lists_of records)) (space_of (bases n) (lists_of records n)) (held_parts (lists_of records n))
 
 pub one_more : (f : NodeNo → List ℕ) (spaces : List (List ℕ)) (n : ℕ) (space : List ℕ) → spaces ≡ map f (node_numbers n) → space ≡ f (numbered n) → spaces ++ space ∷ [] ≡ map f (node_numbers (n + 1))
 one_more f spaces n space e s =
@@ -35,4 +35,4 @@ base_there records n low =
 pub opened : (records : List (List Record)) → map (opened_space records (λ n. base_of (length records) n.0)) (node_numbers (length records)) ≡ opened_memory (start_of records)
 opened records =
     same_map (opened_space records (λ n. base_of (length records) n.0)) (opened_space records (base_at (start_of records))) 0 (length records)
-    (λ i low. ap (λ (b : List ℕ). with_committed (is_committed (length records) (lists_of records)) (space_of b (lists_of records (numbered i))) (held_parts (lists_of records (numbered i)))) (base_there records i (omega arith)))
+    (λ i low. ap (λ (b : List ℕ). with_held (is_committed (length records) (lists_of records)) (space_of b (lists_of records (numbered i))) (held_parts (lists_of records (numbered i)))) (base_there records i (omega arith)))

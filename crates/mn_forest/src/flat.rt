@@ -1,10 +1,11 @@
 ghost use Rattle.std.specs.Prelude.{◌≡◌, ◌≤◌, ◌<◌, ◌++◌, List, [], ◌∷◌, ℕ, length, reverse, IfOk, OnOk, IfErr, if◌then◌else◌};
 ghost use Rattle.std.specs.List.{list_any};
+ghost use Rattle.mn_base.specs.Ids.{tid_same};
 ghost use Rattle.mn_base.specs.declared.ids.NodeNo.{NodeNo};
 ghost use Rattle.mn_mini.specs.declared.record.Record.{Record};
 ghost use Rattle.mn_mini.specs.Flat.{space_after_part};
-ghost use Rattle.mn_mini.specs.Node.{held_parts, space_of};
-ghost use Rattle.mn_world.specs.Opened.{AreSound, is_committed, opened_memory, with_committed};
+ghost use Rattle.mn_mini.specs.Node.{held_parts, space_of, with_held};
+ghost use Rattle.mn_world.specs.Opened.{AreSound, is_committed, opened_memory};
 ghost use Rattle.mn_forest.specs.Base.{base_of};
 ghost use Rattle.mn_forest.specs.Known.{Tells, parts_seen, says_committed};
 ghost use Rattle.mn_forest.specs.Refusal.{RefusesRecords, IsWantOfMemory};
@@ -13,11 +14,11 @@ ghost use Rattle.mn_forest.specs.Votes.{AreRight, start_of, lists_of, list_at, n
 
 use crate::VoteError;
 use crate::base::base;
-use crate::held::{Held, held_of};
+use crate::held::Held;
 use crate::known::Table;
 use crate::votes::{Past, Told, is_committed, note, test};
 use crate::write::write_items;
-use mn_base::{Bytes, NoMemory, NodeNo};
+use mn_base::{Bytes, NoMemory, NodeNo, Tid};
 use mn_mini::{Record, Records, Spaces};
 use std::alloc::Global;
 
@@ -53,17 +54,31 @@ fn told_of<'a>(alloc: Global, records: &'a [Records]) -> Result<Told<'a>, NoMemo
     Ok(Told { all, nodes })
 }
 
+/// Puts in place what a held part writes, if it is held for this id.
+fn write_own(h: &Held<'_>, tid: Tid, space: &mut [u8])
+    ensures { space.new ≡ (if tid_same h.now.tid tid then space_after_part space.old h.now.part.now else space.old) }
+{
+    if h.tid == tid {
+        write_items(space, h.part.as_slice());
+    }
+}
+
+/// Puts in place what the parts that are held for an id write, the oldest first.
+fn write_all_of(held: &[Held<'_>], tid: Tid, space: &mut [u8])
+    ensures { space.new ≡ with_held (λ t. tid_same t tid) space.old (parts_seen held.now) }
+{
+    for h in held {
+        write_own(h, tid, space);
+    }
+}
+
 /// Puts in place what a record writes, where these parts are held.
 fn apply(held: &[Held<'_>], record: &Record, space: &mut [u8])
     ensures { (older : List Record) (base : List ℕ) → parts_seen held.now ≡ held_parts older → space.old ≡ space_of base older → space.new ≡ space_of base (record.now ∷ older) }
 {
     match record {
         Record::Executed { part, .. } => write_items(space, part.as_slice()),
-        Record::Decided { tid, yes: true } => {
-            if let Some(h) = held_of(held, *tid) {
-                write_items(space, h.part.as_slice());
-            }
-        }
+        Record::Decided { tid, yes: true } => write_all_of(held, *tid, space),
         _ => {}
     }
 }
@@ -79,7 +94,7 @@ fn write_held(told: &Told<'_>, h: &Held<'_>, space: &mut [u8])
 
 /// Puts in place what the held parts of committed ids write.
 fn write_committed(told: &Told<'_>, held: &[Held<'_>], space: &mut [u8])
-    ensures { space.new ≡ with_committed (λ tid. list_any (says_committed told.now.nodes.items tid) told.now.nodes.items) space.old (parts_seen held.now) }
+    ensures { space.new ≡ with_held (λ tid. list_any (says_committed told.now.nodes.items tid) told.now.nodes.items) space.old (parts_seen held.now) }
 {
     for h in held {
         write_held(told, h, space);
@@ -95,7 +110,7 @@ fn replay(
     list: &[Record],
     space: &mut [u8],
 ) -> Result<(), VoteError>
-    ensures space { (records : List (List Record)) → IsTold told.now records → OnOk result (space.new ≡ with_committed (is_committed (length records) (lists_of records)) (space_of space.old (reverse list.now)) (held_parts (reverse list.now))) }
+    ensures space { (records : List (List Record)) → IsTold told.now records → OnOk result (space.new ≡ with_held (is_committed (length records) (lists_of records)) (space_of space.old (reverse list.now)) (held_parts (reverse list.now))) }
     ensures right { (records : List (List Record)) → IsTold told.now records → list.now ≡ list_at records node → OnOk result (AreRight records node (reverse list.now)) }
     ensures wrong { (records : List (List Record)) → IsTold told.now records → list.now ≡ list_at records node → IfErr result (RefusesIn records node) }
 {
@@ -121,7 +136,7 @@ fn space_with(
     list: &[Record],
 ) -> Result<Bytes, VoteError>
     requires { 0 < nodes }
-    ensures space { (records : List (List Record)) → IsTold told.now records → IfOk result (λ space. space ≡ with_committed (is_committed (length records) (lists_of records)) (space_of (base_of nodes node) (reverse list.now)) (held_parts (reverse list.now))) }
+    ensures space { (records : List (List Record)) → IsTold told.now records → IfOk result (λ space. space ≡ with_held (is_committed (length records) (lists_of records)) (space_of (base_of nodes node) (reverse list.now)) (held_parts (reverse list.now))) }
     ensures right { (records : List (List Record)) → IsTold told.now records → list.now ≡ list_at records (numbered node) → OnOk result (AreRight records (numbered node) (reverse list.now)) }
     ensures wrong { (records : List (List Record)) → IsTold told.now records → list.now ≡ list_at records (numbered node) → IfErr result (RefusesIn records (numbered node)) }
 {

@@ -1,10 +1,10 @@
 -- What the records answer fits the request.
-use Rattle.std.proofs.Common.{◌≡◌, ◌≢◌, ◌≤◌, ◌+◌, inl, inr, ℕ, zero, suc, true, false, List, [], ◌∷◌, length, drop, Option, Some, None, refl, sym, ◌∙◌, subst, arith, if◌then◌else◌}
+use Rattle.std.proofs.Common.{◌≡◌, ◌≢◌, ◌≤◌, ◌+◌, inl, inr, ℕ, zero, suc, Bool, true, false, List, [], ◌∷◌, length, drop, Option, Some, None, refl, sym, ◌∙◌, subst, arith, if◌then◌else◌}
 use Rattle.std.specs.Prelude.{bytes_eq}
 use Rattle.std.specs.List.{AllByRecursion}
 use Rattle.std.proofs.lemmas.List.{length-take-le, length-drop}
 use Rattle.std.proofs.lemmas.Slice.Eq.{bytes_eq-Decides}
-use Rattle.mn_base.specs.Ids.{tid_lt}
+use Rattle.mn_base.specs.Ids.{tid_lt, tid_same}
 use Rattle.mn_base.specs.declared.ids.Tid.{Tid}
 use Rattle.mn_mini.specs.declared.part.PartItem.{PartItem}
 use Rattle.mn_mini.specs.declared.part.PartItem.TheVariants.{Compare, Read, Write}
@@ -17,7 +17,7 @@ use Rattle.mn_mini.specs.declared.reply.NodeReply.TheVariants as Say
 use Rattle.mn_mini.specs.Mini.{range_of, has_write, space_size}
 use Rattle.mn_mini.specs.Flat.{Mismatched, bytes_in, part_mismatch_from, part_reads, space_after_part}
 use Rattle.mn_base.specs.Ranges.{least_tid}
-use Rattle.mn_mini.specs.Node.{HeldPart, Clash, held_parts, held_part_of, holders, clash_or, clash_of, has_voted, has_forced, after_locks, after_compares, space_after_held, space_of, only_reply, tested, with_doubt, doubts_of}
+use Rattle.mn_mini.specs.Node.{HeldPart, Clash, held_parts, holders, clash_or, clash_of, has_voted, has_forced, after_locks, after_compares, with_held, space_of, only_reply, tested, with_doubt, doubts_of}
 use Rattle.mn_mini.specs.RecordGrammar.{IsPartItem, IsRecord, IsTid, AreParticipants}
 use Rattle.mn_mini.specs.Sound.{AreReadsOf, Fits, IsDoubt, IsOtherThan, IsRangeIn}
 use Rattle.mn_mini.specs.Laws.{AnswersFit}
@@ -32,15 +32,19 @@ length-part space (Compare start bytes ∷ part) = length-part space part
 length-part space (Read start size ∷ part) = length-part space part
 length-part space (Write start bytes ∷ part) = length-part _ part ∙ length-overwritten space start bytes
 
-length-held : (space : List ℕ) (held : Option HeldPart) → length (space_after_held space held) ≡ length space
-length-held space None = refl
-length-held space (Some h) = length-part space h.part
+length-held : (is_so : Tid → Bool) (space : List ℕ) (held : List HeldPart) → length (with_held is_so space held) ≡ length space
+length-held is_so space [] = refl
+length-held is_so space (h ∷ hs) =
+    elim (is_so h.tid) as (λ b. length (if b then space_after_part (with_held is_so space hs) h.part else with_held is_so space hs) ≡ length space) [
+      | true ↦ length-part (with_held is_so space hs) h.part ∙ length-held is_so space hs
+      | false ↦ length-held is_so space hs
+    ]
 
 pub length-space_of : (base : List ℕ) (records : List Record) → length (space_of base records) ≡ length base
 length-space_of base [] = refl
 length-space_of base (Voted tid participants part ∷ records) = length-space_of base records
 length-space_of base (Executed tid part ∷ records) = length-part (space_of base records) part ∙ length-space_of base records
-length-space_of base (Decided tid true ∷ records) = length-held (space_of base records) (held_part_of tid (held_parts records)) ∙ length-space_of base records
+length-space_of base (Decided tid true ∷ records) = length-held (λ t. tid_same t tid) (space_of base records) (held_parts records) ∙ length-space_of base records
 length-space_of base (Decided tid false ∷ records) = length-space_of base records
 length-space_of base (Forced tid ∷ records) = length-space_of base records
 

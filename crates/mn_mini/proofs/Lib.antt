@@ -9,3 +9,5 @@ pub mod ItemLists
 pub mod RecordBytes
 pub mod Fits
 pub mod SoundParts
+pub mod Layers
+mod TwoVotes

@@ -104,16 +104,18 @@ is_held records tid = is_some (held_part_of tid (held_parts records))
 
 -- The space
 
-abbrev pub space_after_held : List ℕ → Option HeldPart → List ℕ
-space_after_held space None = space
-space_after_held space (Some h) = space_after_part space h.part
+-- the space with the writes of those held parts whose ids are so, the oldest first
+abbrev pub with_held : (Tid → Bool) → List ℕ → List HeldPart → List ℕ
+with_held is_so space [] = space
+with_held is_so space (h ∷ hs) = if is_so h.tid then space_after_part (with_held is_so space hs) h.part else with_held is_so space hs
 
--- the base space, changed by each executed part, and by each voted part where it is decided with yes
+-- the base space, changed by each executed part, and by each voted part of an id where the id is
+-- decided with yes
 abbrev pub space_of : List ℕ → List Record → List ℕ
 space_of base [] = base
 space_of base (Voted tid participants part ∷ records) = space_of base records
 space_of base (Executed tid part ∷ records) = space_after_part (space_of base records) part
-space_of base (Decided tid true ∷ records) = space_after_held (space_of base records) (held_part_of tid (held_parts records))
+space_of base (Decided tid true ∷ records) = with_held (λ t. tid_same t tid) (space_of base records) (held_parts records)
 space_of base (Decided tid false ∷ records) = space_of base records
 space_of base (Forced tid ∷ records) = space_of base records
 

@@ -1,5 +1,5 @@
 -- What a record adds to what a node keeps in memory.
-use Rattle.std.proofs.Common.{◌≡◌, ◌≤◌, ◌+◌, ℕ, suc, Bool, true, false, not, ◌||◌, List, [], ◌∷◌, ◌++◌, length, map, reverse, Option, Some, None, refl, ap, sym, ◌∙◌, subst, arith, append-nil, if◌then◌else◌}
+use Rattle.std.proofs.Common.{◌≡◌, ◌≤◌, ◌+◌, ℕ, suc, Bool, true, false, not, ◌||◌, List, [], ◌∷◌, ◌++◌, length, map, reverse, Some, refl, ap, sym, ◌∙◌, subst, arith, append-nil, if◌then◌else◌}
 use Rattle.std.specs.List.{AllByRecursion}
 use Rattle.std.proofs.lemmas.List.{reverse-append}
 use Rattle.mn_base.specs.Ids.{tid_same}
@@ -11,8 +11,8 @@ use Rattle.mn_mini.specs.declared.record.Record.{Record}
 use Rattle.mn_mini.specs.declared.record.Record.TheVariants.{Voted, Executed, Decided, Forced}
 use Rattle.mn_mini.specs.Flat.{space_after_part}
 use Rattle.mn_mini.specs.Mini.{space_size}
-use Rattle.mn_mini.specs.Node.{HeldPart, held_parts, held_part_of, without_tid, has_forced, space_of, space_after_held}
-use Rattle.mn_mini.specs.RecordGrammar.{IsRecord, IsPart}
+use Rattle.mn_mini.specs.Node.{HeldPart, held_parts, held_part_of, without_tid, has_forced, space_of, with_held}
+use Rattle.mn_mini.specs.RecordGrammar.{IsRecord}
 use Rattle.mn_locks.specs.declared.hold.Hold.{Hold}
 use Rattle.mn_locks.specs.Locks.{hold_of, holds_of, without}
 use Rattle.mn_node.specs.Held.{IsPartOf}
@@ -34,33 +34,6 @@ pub newest : (records : List Record) (r : Record) → reverse (records ++ r ∷ 
 newest records r = reverse-append records (r ∷ [])
 
 -- Held parts
-
-sound_without : (tid : Tid) (h : HeldPart) (hs : List HeldPart) (b : Bool) → IsPart h.part → AllByRecursion (λ g. IsPart g.part) (without_tid tid hs) → AllByRecursion (λ g. IsPart g.part) (if b then without_tid tid hs else h ∷ without_tid tid hs)
-sound_without tid h hs true p q = q
-sound_without tid h hs false p q = (p, q)
-
-still_sound : (tid : Tid) (hs : List HeldPart) → AllByRecursion (λ h. IsPart h.part) hs → AllByRecursion (λ h. IsPart h.part) (without_tid tid hs)
-still_sound tid [] p = tt
-still_sound tid (h ∷ hs) p = sound_without tid h hs (tid_same h.tid tid) p.0 (still_sound tid hs p.1)
-
-held_sound : (rs : List Record) → AllByRecursion IsRecord rs → AllByRecursion (λ h. IsPart h.part) (held_parts rs)
-held_sound [] p = tt
-held_sound (Voted tid ps part ∷ rs) p = (p.0.follows.1, held_sound rs p.1)
-held_sound (Executed tid part ∷ rs) p = held_sound rs p.1
-held_sound (Decided tid v ∷ rs) p = still_sound tid (held_parts rs) (held_sound rs p.1)
-held_sound (Forced tid ∷ rs) p = held_sound rs p.1
-
-part_sound : (hs : List HeldPart) (tid : Tid) (part : List PartItem) → AllByRecursion (λ h. IsPart h.part) hs → IsPartOf (held_part_of tid hs) part → IsPart part
-part_sound [] tid part p is = absurd is
-part_sound (h ∷ hs) tid part p is = of (tid_same h.tid tid) (part_sound hs tid part p.1) is
-  where
-    of : (b : Bool) → (IsPartOf (held_part_of tid hs) part → IsPart part) → IsPartOf (if b then Some h else held_part_of tid hs) part → IsPart part
-    of true ih is = subst IsPart is p.0
-    of false ih is = ih is
-
--- a held part may stand in a record
-pub held_part_sound : (records : List Record) (tid : Tid) (part : List PartItem) → AllByRecursion IsRecord records → IsPartOf (held_part_of tid (held_parts (reverse records))) part → IsPart part
-held_part_sound records tid part p is = part_sound (held_parts (reverse records)) tid part (held_sound (reverse records) (all-reverse IsRecord records p)) is
 
 no_more : (tid : Tid) (hs : List HeldPart) → length (without_tid tid hs) ≤ length hs
 no_more tid [] = omega arith
@@ -174,14 +147,11 @@ built_forced base records space holds forced tid b is =
       sound = all-append IsRecord records (Forced tid ∷ []) b.sound (is, tt);
     }
 
-after_held : (space : List ℕ) (h : Option HeldPart) (part : List PartItem) → IsPartOf h part → space_after_held space h ≡ space_after_part space part
-after_held space None part is = absurd is
-after_held space (Some h) part is = ap (λ (p : List PartItem). space_after_part space p) is
-
-pub built_decided : (base : List ℕ) (records : List Record) (space new : List ℕ) (holds : List Hold) (forced : List Tid) (tid : Tid) (verdict : Bool) (part : List PartItem)
-    → IsBuilt base records space holds forced → IsRecord (Decided tid verdict) → IsPartOf (held_part_of tid (held_parts (reverse records))) part
-    → new ≡ (if verdict then space_after_part space part else space) → length new ≡ space_size → IsBuilt base (records ++ Decided tid verdict ∷ []) new (without tid holds) forced
-built_decided base records space new holds forced tid verdict part b is held e size =
+pub built_decided : (base : List ℕ) (records : List Record) (space new : List ℕ) (holds : List Hold) (forced : List Tid) (tid : Tid) (verdict : Bool)
+    → IsBuilt base records space holds forced → IsRecord (Decided tid verdict)
+    → new ≡ (if verdict then with_held (λ t. tid_same t tid) space (held_parts (reverse records)) else space) → length new ≡ space_size
+    → IsBuilt base (records ++ Decided tid verdict ∷ []) new (without tid holds) forced
+built_decided base records space new holds forced tid verdict b is e size =
     let turned = newest records (Decided tid verdict) in
     record {
       space_is = e ∙ spaces verdict ∙ sym (ap (λ (l : List Record). space_of base l) turned);
@@ -191,8 +161,8 @@ built_decided base records space new holds forced tid verdict part b is held e s
       sound = all-append IsRecord records (Decided tid verdict ∷ []) b.sound (is, tt);
     }
   where
-    spaces : (v : Bool) → (if v then space_after_part space part else space) ≡ space_of base (Decided tid v ∷ reverse records)
-    spaces true = sym (after_held space (held_part_of tid (held_parts (reverse records))) part held) ∙ ap (λ (l : List ℕ). space_after_held l (held_part_of tid (held_parts (reverse records)))) b.space_is
+    spaces : (v : Bool) → (if v then with_held (λ t. tid_same t tid) space (held_parts (reverse records)) else space) ≡ space_of base (Decided tid v ∷ reverse records)
+    spaces true = ap (λ (l : List ℕ). with_held (λ t. tid_same t tid) l (held_parts (reverse records))) b.space_is
     spaces false = b.space_is
 
     not_force : (t : Tid) (v : Bool) → has_forced (Decided tid v ∷ reverse records) t ≡ has_forced (reverse records) t

@@ -1,7 +1,8 @@
-ghost use Rattle.std.specs.Prelude.{◌≡◌, Bool, Some, None, reverse, MatchOption};
+ghost use Rattle.std.specs.Prelude.{◌≡◌, ◌≤◌, Bool, false, Some, None, length, drop, take, reverse, MatchOption};
+ghost use Rattle.std.specs.List.{list_any};
 ghost use Rattle.mn_base.specs.Ids.{tid_same};
 ghost use Rattle.mn_mini.specs.Node.{held_parts, held_part_of, has_voted, is_held};
-ghost use Rattle.mn_node.specs.Held.{IsPartOf};
+ghost use Rattle.mn_node.specs.Held.{IsPartOf, is_decision_of};
 
 use mn_base::Tid;
 use mn_mini::{Part, Record};
@@ -62,4 +63,27 @@ pub fn holds(records: &[Record], tid: Tid) -> bool
     ensures { result ≡ is_held (reverse records.now) tid }
 {
     held_part(records, tid).is_some()
+}
+
+/// The record decides the id.
+fn decides(next: &Record, tid: Tid) -> bool
+    ensures { result ≡ is_decision_of tid next.now }
+{
+    match next {
+        Record::Decided { tid: decided, .. } => is_same(tid, *decided),
+        _ => false,
+    }
+}
+
+/// How many records there are up to the last decision of an id. Its votes behind them are held.
+pub fn undecided_from(records: &[Record], tid: Tid) -> usize
+    ensures within { result ≤ length records.now }
+    ensures before { held_part_of tid (held_parts (reverse (take result records.now))) ≡ None }
+    ensures behind { list_any (is_decision_of tid) (drop result records.now) ≡ false }
+{
+    let mut left = records.len();
+    while left > 0 && !decides(&records[left - 1], tid) {
+        left -= 1;
+    }
+    left
 }

@@ -1,17 +1,16 @@
 ghost use Rattle.std.specs.Prelude.{◌≡◌, ◌≢◌, ◌≤◌, ◌<◌, ◌+◌, ◌-◌, ◌++◌, ◌∷◌, [], Bool, length, reverse, IfOk, Some, None, vec_len, vec_capacity, IsSome};
-ghost use Rattle.std.specs.Prelude.{◌^◌, List, OnOk, if◌then◌else◌};
+ghost use Rattle.std.specs.Prelude.{◌^◌, ℕ, false, List, OnOk, if◌then◌else◌};
 ghost use Rattle.std.specs.List.{AllByRecursion};
-ghost use Rattle.mn_mini.specs.declared.part.PartItem.{PartItem};
-ghost use Rattle.mn_mini.specs.Flat.{space_after_part};
-ghost use Rattle.mn_node.specs.Held.{IsPartOf};
+ghost use Rattle.mn_mini.specs.declared.record.Record.{Record};
+ghost use Rattle.mn_node.specs.Held.{is_decision_of};
 ghost use Rattle.mn_base.specs.Ids.{tid_same};
 ghost use Rattle.mn_mini.specs.Mini.{space_size};
-ghost use Rattle.mn_mini.specs.Node.{held_parts, held_part_of, has_voted, has_forced, clash_of};
+ghost use Rattle.mn_mini.specs.Node.{held_parts, held_part_of, has_voted, has_forced, clash_of, with_held};
 ghost use Rattle.mn_mini.specs.RecordGrammar.{IsPart, IsRecord};
 ghost use Rattle.mn_node.specs.Part.{shared_of, alone_of};
 ghost use Rattle.mn_node.specs.Memory.{IsMemory, HasRoom, IsTested, is_among};
 
-use crate::held::{held_part, is_same};
+use crate::held::{is_same, undecided_from};
 use crate::part::{Mismatch, Ranges, first_mismatch, ranges_of, reads_of, write_items};
 use mn_base::{NoMemory, Nodes, Tid};
 use mn_locks::{Held, LockTable};
@@ -93,18 +92,35 @@ pub fn test_alone(
     test_part(alloc, space, locks, tid, part, &ranges)
 }
 
-/// Makes the writes of the part that is held for an id, where the decision is yes.
+/// Makes the writes of a record's part, if it votes for the id.
+fn write_vote(next: &Record, space: &mut [u8], tid: Tid)
+    requires size { length space.old ≡ space_size }
+    requires sound { IsRecord next.now }
+    requires undecided { is_decision_of tid next.now ≡ false }
+    ensures { (older : List Record) (base : List ℕ) → space.old ≡ with_held (λ t. tid_same t tid) base (held_parts older) → space.new ≡ with_held (λ t. tid_same t tid) base (held_parts (next.now ∷ older)) }
+{
+    if let Record::Voted {
+        tid: voter, part, ..
+    } = next
+    {
+        if is_same(*voter, tid) {
+            write_items(space, part.as_slice());
+        }
+    }
+}
+
+/// Makes the writes of each part that is held for an id, the oldest first, where the decision is yes.
 pub fn write_decided(records: &[Record], space: &mut [u8], tid: Tid, yes: bool)
     requires size { length space.old ≡ space_size }
     requires sound { AllByRecursion IsRecord records.now }
-    ensures held { (part : List PartItem) → IsPartOf (held_part_of tid (held_parts (reverse records.now))) part → space.new ≡ (if yes then space_after_part space.old part else space.old) }
-    ensures none { held_part_of tid (held_parts (reverse records.now)) ≡ None → space.new ≡ space.old }
+    ensures { space.new ≡ (if yes then with_held (λ t. tid_same t tid) space.old (held_parts (reverse records.now)) else space.old) }
 {
     if !yes {
         return;
     }
-    if let Some(part) = held_part(records, tid) {
-        write_items(space, part.as_slice());
+    let first = undecided_from(records, tid);
+    for number in first..records.len() {
+        write_vote(&records[number], space, tid);
     }
 }
 

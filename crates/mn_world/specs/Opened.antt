@@ -12,7 +12,7 @@ use Rattle.mn_mini.specs.declared.record.Record.{Record}
 use Rattle.mn_mini.specs.declared.record.Record.TheVariants.{Voted, Executed, Decided, Forced}
 use Rattle.mn_mini.specs.Mini.{parts_conflict}
 use Rattle.mn_mini.specs.Flat.{space_after_part}
-use Rattle.mn_mini.specs.Node.{is_of, HeldPart, held_parts, is_held, has_voted, has_executed, has_decided_yes, has_decided_no, space_of}
+use Rattle.mn_mini.specs.Node.{is_of, HeldPart, held_parts, is_held, has_voted, has_executed, has_decided_yes, has_decided_no, space_of, with_held}
 use Rattle.mn_page.specs.Holds.{Holds}
 use Rattle.mn_world.specs.Protocol.{Start, start_nodes, base_at, start_records}
 
@@ -77,14 +77,9 @@ pub record AreSound (nodes : ℕ) (lists : NodeNo → List Record) : Type 0 wher
 
 -- The memory
 
--- the space with the held parts whose ids are committed
-abbrev pub with_committed : (Tid → Bool) → List ℕ → List HeldPart → List ℕ
-with_committed committed space [] = space
-with_committed committed space (h ∷ hs) = if committed h.tid then space_after_part (with_committed committed space hs) h.part else with_committed committed space hs
-
 -- each node's space, in which every committed minitransaction is applied whether decided or not
 abbrev pub memory_in : ℕ → (NodeNo → List ℕ) → (NodeNo → List Record) → List (List ℕ)
-memory_in nodes bases lists = map (λ n. with_committed (is_committed nodes lists) (space_of (bases n) (lists n)) (held_parts (lists n))) (node_numbers nodes)
+memory_in nodes bases lists = map (λ n. with_held (is_committed nodes lists) (space_of (bases n) (lists n)) (held_parts (lists n))) (node_numbers nodes)
 
 -- the memory that a run begins with
 abbrev pub opened_memory : Start → List (List ℕ)

@@ -9,14 +9,14 @@ use Rattle.mn_mini.specs.declared.record.Record.{Record}
 use Rattle.mn_mini.specs.declared.record.Record.TheVariants.{Voted, Executed}
 use Rattle.mn_mini.specs.Mini.{Mini, item_node, part_of, parts_conflict, has_write}
 use Rattle.mn_mini.specs.Flat.{space_in, part_mismatch_from, space_after_part}
-use Rattle.mn_mini.specs.Node.{HeldPart, held_parts, space_of, clash_of, with_added}
+use Rattle.mn_mini.specs.Node.{HeldPart, held_parts, space_of, clash_of, with_added, with_held}
 use Rattle.mn_mini.proofs.Apart.{no_clash}
 use Rattle.mn_mini.proofs.Bytes.{mismatch-after_part, conflict_turned, no_write_leaves}
 use Rattle.mn_mini.proofs.Parts.{no_part}
 use Rattle.mn_world.specs.declared.entry.Entry.{Entry}
 use Rattle.mn_world.specs.Protocol.{Start, base_at, records_of}
 use Rattle.mn_world.specs.Commits.{flat_after}
-use Rattle.mn_world.specs.Opened.{with_committed, opened_memory}
+use Rattle.mn_world.specs.Opened.{opened_memory}
 use Rattle.mn_world.proofs.Bytes.Layers.{IsFree, same_layers, push_layer, mismatch_below, All-both}
 use Rattle.mn_world.proofs.Votes.Backing.{IsOld}
 use Rattle.mn_world.proofs.Bytes.Even.{comm, AgreesAt, ComparesAt, SameComm, keep_node}
@@ -63,7 +63,7 @@ execute_node start past e k t part mini true w is new takes free commits agrees 
     let space = space_of (base_at start k) (records_of start past k) in
     let held = held_parts (records_of start past k) in
     let flat : space_in (flat_after (opened_memory start) (e ∷ past)) k ≡ space_after_part (space_in (flat_after (opened_memory start) past) k) part = takes k ∙ ap (λ (p : List PartItem). space_after_part (space_in (flat_after (opened_memory start) past) k) p) (sym is) in (
-      subst (λ (r : List Record). space_in (flat_after (opened_memory start) (e ∷ past)) k ≡ with_committed (comm start (e ∷ past)) (space_of (base_at start k) r) (held_parts r)) (sym new) (
+      subst (λ (r : List Record). space_in (flat_after (opened_memory start) (e ∷ past)) k ≡ with_held (comm start (e ∷ past)) (space_of (base_at start k) r) (held_parts r)) (sym new) (
           flat ∙ (ap (λ (x : List ℕ). space_after_part x part) agrees ∙ (sym (push_layer (comm start past) space held part free) ∙ sym (same_layers (comm start (e ∷ past)) (comm start past) (space_after_part space part) held commits)))
           ),
       subst (λ (r : List Record). AllByRecursion (λ h. (IsOld start h.tid → ⊥) → comm start (e ∷ past) h.tid ≡ false → part_mismatch_from (space_in (flat_after (opened_memory start) (e ∷ past)) k) 0 h.part ≡ None) (held_parts r)) (sym new)
@@ -89,9 +89,9 @@ pub vote_node : (start : Start) (past : List Entry) (e : Entry) (k : NodeNo) (t 
 vote_node start past e k t ps part new off flat holds commits agrees compares =
     let space = space_of (base_at start k) (records_of start past k) in
     let held = held_parts (records_of start past k) in (
-      subst (λ (r : List Record). space_in (flat_after (opened_memory start) (e ∷ past)) k ≡ with_committed (comm start (e ∷ past)) (space_of (base_at start k) r) (held_parts r)) (sym new) (
+      subst (λ (r : List Record). space_in (flat_after (opened_memory start) (e ∷ past)) k ≡ with_held (comm start (e ∷ past)) (space_of (base_at start k) r) (held_parts r)) (sym new) (
           flat ∙ (agrees ∙ (sym (same_layers (comm start (e ∷ past)) (comm start past) space held commits)
-          ∙ sym (ap (λ (b : Bool). if b then space_after_part (with_committed (comm start (e ∷ past)) space held) part else with_committed (comm start (e ∷ past)) space held) off)))
+          ∙ sym (ap (λ (b : Bool). if b then space_after_part (with_held (comm start (e ∷ past)) space held) part else with_held (comm start (e ∷ past)) space held) off)))
           ),
       subst (λ (r : List Record). AllByRecursion (λ h. (IsOld start h.tid → ⊥) → comm start (e ∷ past) h.tid ≡ false → part_mismatch_from (space_in (flat_after (opened_memory start) (e ∷ past)) k) 0 h.part ≡ None) (held_parts r)) (sym new) (
         (λ _ _. ap (λ (w : List ℕ). part_mismatch_from w 0 part) flat ∙ holds),
@@ -108,9 +108,9 @@ last_vote_node start past e k t ps part mini new on is takes free commits agrees
     let space = space_of (base_at start k) (records_of start past k) in
     let held = held_parts (records_of start past k) in
     let flat : space_in (flat_after (opened_memory start) (e ∷ past)) k ≡ space_after_part (space_in (flat_after (opened_memory start) past) k) part = takes k ∙ ap (λ (p : List PartItem). space_after_part (space_in (flat_after (opened_memory start) past) k) p) (sym is) in (
-      subst (λ (r : List Record). space_in (flat_after (opened_memory start) (e ∷ past)) k ≡ with_committed (comm start (e ∷ past)) (space_of (base_at start k) r) (held_parts r)) (sym new) (
+      subst (λ (r : List Record). space_in (flat_after (opened_memory start) (e ∷ past)) k ≡ with_held (comm start (e ∷ past)) (space_of (base_at start k) r) (held_parts r)) (sym new) (
           flat ∙ (ap (λ (x : List ℕ). space_after_part x part) (agrees ∙ sym (same_layers (comm start (e ∷ past)) (comm start past) space held commits))
-          ∙ sym (ap (λ (b : Bool). if b then space_after_part (with_committed (comm start (e ∷ past)) space held) part else with_committed (comm start (e ∷ past)) space held) on))
+          ∙ sym (ap (λ (b : Bool). if b then space_after_part (with_held (comm start (e ∷ past)) space held) part else with_held (comm start (e ∷ past)) space held) on))
           ),
       subst (λ (r : List Record). AllByRecursion (λ h. (IsOld start h.tid → ⊥) → comm start (e ∷ past) h.tid ≡ false → part_mismatch_from (space_in (flat_after (opened_memory start) (e ∷ past)) k) 0 h.part ≡ None) (held_parts r)) (sym new) (
         (λ _ off. absurd (clash _ on off)),

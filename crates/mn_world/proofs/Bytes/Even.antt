@@ -8,18 +8,18 @@ use Rattle.mn_mini.specs.declared.record.Record.{Record}
 use Rattle.mn_mini.specs.declared.record.Record.TheVariants.{Voted, Executed, Decided, Forced}
 use Rattle.mn_mini.specs.Mini.{Mini, participants_of}
 use Rattle.mn_mini.specs.Flat.{space_in, part_mismatch_from, space_after_part}
-use Rattle.mn_mini.specs.Node.{HeldPart, held_parts, held_part_of, without_tid, has_voted, space_of, space_after_held}
+use Rattle.mn_mini.specs.Node.{HeldPart, held_parts, held_part_of, without_tid, has_voted, space_of, with_held}
 use Rattle.mn_mini.specs.Laws.{AreApart}
 use Rattle.mn_world.specs.declared.entry.Entry.{Entry}
 use Rattle.mn_world.specs.Protocol.{Start, start_nodes, base_at, start_records, records_of, KeepsProtocol}
 use Rattle.mn_world.specs.Commits.{flat_after}
-use Rattle.mn_world.specs.Opened.{is_committed, with_committed, opened_memory}
+use Rattle.mn_world.specs.Opened.{is_committed, opened_memory}
 use Rattle.mn_world.proofs.Reading.Unchanged.{issue_stays}
 use Rattle.mn_world.proofs.Votes.Backing.{mini_of, IsOld, PartAt, AllVoted, IsLost, RecordSound, Kept}
 use Rattle.mn_world.specs.Laws.{StartsSound}
 use Rattle.mn_world.proofs.Votes.Start.{names_old, start_committed, start_uncommitted}
 use Rattle.mn_world.proofs.Votes.Preserved.{new_not_old, issued_or_lost}
-use Rattle.mn_world.proofs.Bytes.Layers.{AreDistinct, same_layers, drop_layer, remove_layer, All-both}
+use Rattle.mn_world.proofs.Bytes.Layers.{AreDistinct, same_layers, drop_layer, remove_layer, own_layer, All-both}
 
 -- Which ids are committed
 
@@ -94,7 +94,7 @@ held_at start past k (Forced tid ∷ records) a = held_at start past k records a
 -- Agreement at a node
 
 abbrev pub AgreesAt : Start → List Entry → NodeNo → Type 0
-AgreesAt start past n = space_in (flat_after (opened_memory start) past) n ≡ with_committed (comm start past) (space_of (base_at start n) (records_of start past n)) (held_parts (records_of start past n))
+AgreesAt start past n = space_in (flat_after (opened_memory start) past) n ≡ with_held (comm start past) (space_of (base_at start n) (records_of start past n)) (held_parts (records_of start past n))
 
 -- the compares of what this run's ids hold and is not committed hold in the flat memory
 abbrev pub ComparesAt : Start → List Entry → NodeNo → Type 0
@@ -110,7 +110,7 @@ pub keep_node : (start : Start) (past : List Entry) (e : Entry) (n : NodeNo) →
 keep_node start past e n same flat commits agrees compares =
     let space = space_of (base_at start n) (records_of start past n) in
     let held = held_parts (records_of start past n) in (
-      subst (λ (r : List Record). space_in (flat_after (opened_memory start) (e ∷ past)) n ≡ with_committed (comm start (e ∷ past)) (space_of (base_at start n) r) (held_parts r)) (sym same)
+      subst (λ (r : List Record). space_in (flat_after (opened_memory start) (e ∷ past)) n ≡ with_held (comm start (e ∷ past)) (space_of (base_at start n) r) (held_parts r)) (sym same)
           (flat ∙ (agrees ∙ sym (same_layers (comm start (e ∷ past)) (comm start past) space held commits))),
       subst (λ (r : List Record). AllByRecursion (λ h. (IsOld start h.tid → ⊥) → comm start (e ∷ past) h.tid ≡ false → part_mismatch_from (space_in (flat_after (opened_memory start) (e ∷ past)) n) 0 h.part ≡ None) (held_parts r)) (sym same)
           (All-both (λ h. comm start (e ∷ past) h.tid ≡ comm start past h.tid) (λ h. (IsOld start h.tid → ⊥) → comm start past h.tid ≡ false → part_mismatch_from (space_in (flat_after (opened_memory start) past) n) 0 h.part ≡ None) (λ h. (IsOld start h.tid → ⊥) → comm start (e ∷ past) h.tid ≡ false → part_mismatch_from (space_in (flat_after (opened_memory start) (e ∷ past)) n) 0 h.part ≡ None)
@@ -142,15 +142,15 @@ decide_node start past e n t true g new is on flat commits distinct apart agrees
     let space = space_of (base_at start n) (records_of start past n) in
     let held = held_parts (records_of start past n) in
     let less : AllByRecursion (λ h. comm start (e ∷ past) h.tid ≡ comm start past h.tid) (without_tid t held) = Rattle.mn_world.proofs.Votes.Preserved.All-without _ t held commits in
-    subst (λ (r : List Record). space_in (flat_after (opened_memory start) (e ∷ past)) n ≡ with_committed (comm start (e ∷ past)) (space_of (base_at start n) r) (held_parts r)) (sym new) (
+    subst (λ (r : List Record). space_in (flat_after (opened_memory start) (e ∷ past)) n ≡ with_held (comm start (e ∷ past)) (space_of (base_at start n) r) (held_parts r)) (sym new) (
     flat ∙ (agrees ∙ (sym (remove_layer (comm start past) space held t g distinct apart is on)
     ∙ (sym (same_layers (comm start (e ∷ past)) (comm start past) (space_after_part space g.part) (without_tid t held) less)
-    ∙ ap (λ (o : Option HeldPart). with_committed (comm start (e ∷ past)) (space_after_held space o) (without_tid t held)) (sym is))))
+    ∙ ap (λ (l : List ℕ). with_held (comm start (e ∷ past)) l (without_tid t held)) (sym (own_layer space held t g distinct is)))))
     )
 decide_node start past e n t false g new is off flat commits distinct apart agrees =
     let space = space_of (base_at start n) (records_of start past n) in
     let held = held_parts (records_of start past n) in
     let less : AllByRecursion (λ h. comm start (e ∷ past) h.tid ≡ comm start past h.tid) (without_tid t held) = Rattle.mn_world.proofs.Votes.Preserved.All-without _ t held commits in
-    subst (λ (r : List Record). space_in (flat_after (opened_memory start) (e ∷ past)) n ≡ with_committed (comm start (e ∷ past)) (space_of (base_at start n) r) (held_parts r)) (sym new) (
+    subst (λ (r : List Record). space_in (flat_after (opened_memory start) (e ∷ past)) n ≡ with_held (comm start (e ∷ past)) (space_of (base_at start n) r) (held_parts r)) (sym new) (
     flat ∙ (agrees ∙ (sym (drop_layer (comm start past) space held t off) ∙ sym (same_layers (comm start (e ∷ past)) (comm start past) space (without_tid t held) less)))
     )

@@ -14,7 +14,7 @@ use Rattle.mn_mini.specs.declared.request.Request.TheVariants as Ask
 use Rattle.mn_mini.specs.declared.reply.NodeReply.TheVariants as Say
 use Rattle.mn_mini.specs.Mini.{Mini, item_node, participants_of, has_write}
 use Rattle.mn_mini.specs.Flat.{Mismatched, Committed, space_in, mismatch_from, reads_in, memory_after, outcome_on, unless_mismatched, part_mismatch_from, part_reads, space_after_part}
-use Rattle.mn_mini.specs.Node.{HeldPart, Clash, held_parts, clash_of, has_forced, only_reply, after_locks, after_compares, tested, space_of, answer}
+use Rattle.mn_mini.specs.Node.{HeldPart, Clash, held_parts, clash_of, has_forced, only_reply, after_locks, after_compares, tested, space_of, answer, with_held}
 use Rattle.mn_mini.proofs.Bytes.{reads-after_part}
 use Rattle.mn_mini.proofs.Parts.{AreAt, reads_of_one}
 use Rattle.mn_world.specs.declared.entry.Entry.{Entry}
@@ -24,7 +24,6 @@ use Rattle.mn_world.specs.Calls.{Issued, node_entries}
 use Rattle.mn_world.specs.Nodes.{is_down}
 use Rattle.mn_world.specs.Protocol.{Start, base_at, records_of, KeepsProtocol, FollowsProtocol}
 use Rattle.mn_world.specs.Commits.{committed_by}
-use Rattle.mn_world.specs.Opened.{with_committed}
 use Rattle.mn_world.specs.Laws.{part_of_request, ReadsAreFlat, ExecsAreFlat}
 use Rattle.mn_world.proofs.Reading.Same.{node_same-refl}
 use Rattle.mn_world.proofs.Votes.Backing.{ExecAt, Kept}
@@ -41,11 +40,11 @@ clash : (b : Bool) → b ≡ true → b ≡ false → ⊥
 clash b p q = absurd cc
 
 -- the reads of a part see nothing of the layers that it does not conflict with
-pub reads_below : (f : Tid → Bool) (space : List ℕ) (hs : List HeldPart) (part : List PartItem) → IsFree part hs → part_reads (with_committed f space hs) part ≡ part_reads space part
+pub reads_below : (f : Tid → Bool) (space : List ℕ) (hs : List HeldPart) (part : List PartItem) → IsFree part hs → part_reads (with_held f space hs) part ≡ part_reads space part
 reads_below f space [] part free = refl
 reads_below f space (h ∷ hs) part free =
-    elim (f h.tid) as (λ b. part_reads (if b then space_after_part (with_committed f space hs) h.part else with_committed f space hs) part ≡ part_reads (with_committed f space hs) part) [
-      | true ↦ reads-after_part (with_committed f space hs) part h.part free.0
+    elim (f h.tid) as (λ b. part_reads (if b then space_after_part (with_held f space hs) h.part else with_held f space hs) part ≡ part_reads (with_held f space hs) part) [
+      | true ↦ reads-after_part (with_held f space hs) part h.part free.0
       | false ↦ refl
     ] ∙ reads_below f space hs part free.1
 

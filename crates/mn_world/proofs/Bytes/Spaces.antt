@@ -14,10 +14,10 @@ use Rattle.mn_mini.specs.declared.record.Record.{Record}
 use Rattle.mn_mini.specs.declared.record.Record.TheVariants.{Voted, Executed, Decided, Forced}
 use Rattle.mn_mini.specs.Mini.{Mini, participants_of}
 use Rattle.mn_mini.specs.Flat.{space_in, mismatch_from, reads_in, memory_after, Outcome, outcome_on, unless_mismatched}
-use Rattle.mn_mini.specs.Node.{HeldPart, held_parts, has_voted, has_executed, space_of}
+use Rattle.mn_mini.specs.Node.{HeldPart, held_parts, has_voted, has_executed, space_of, with_held}
 use Rattle.mn_world.specs.declared.entry.Entry.{Entry}
 use Rattle.mn_world.specs.Protocol.{Start, start_nodes, base_at, start_records, records_of, FollowsProtocol}
-use Rattle.mn_world.specs.Opened.{voted_participants, have_voted, is_committed, with_committed, memory_in, opened_memory}
+use Rattle.mn_world.specs.Opened.{voted_participants, have_voted, is_committed, memory_in, opened_memory}
 use Rattle.mn_world.specs.Laws.{HasSpaces, StartsSound, CommitsAreFlat, SpacesAgree, MemoryIsFlat}
 use Rattle.mn_world.proofs.Reading.Same.{tid_same-true}
 use Rattle.mn_world.proofs.Votes.Backing.{IsOld, IssuedTo, PartAt, ExecAt, RecordSound, Kept}
@@ -39,12 +39,12 @@ length-numbers : (nodes : ℕ) → length (node_numbers nodes) ≡ nodes
 length-numbers nodes = Rattle.std.proofs.lemmas.List.length-map (range_with_len 0 nodes) (λ k. let r : NodeNo = record { 0 = k } in r) ∙ length-range_with_len 0 nodes
 
 pub length-memory_in : (nodes : ℕ) (bases : NodeNo → List ℕ) (lists : NodeNo → List Record) → length (memory_in nodes bases lists) ≡ nodes
-length-memory_in nodes bases lists = Rattle.std.proofs.lemmas.List.length-map (node_numbers nodes) (λ n. with_committed (is_committed nodes lists) (space_of (bases n) (lists n)) (held_parts (lists n))) ∙ length-numbers nodes
+length-memory_in nodes bases lists = Rattle.std.proofs.lemmas.List.length-map (node_numbers nodes) (λ n. with_held (is_committed nodes lists) (space_of (bases n) (lists n)) (held_parts (lists n))) ∙ length-numbers nodes
 
 pub space-memory_in : (nodes : ℕ) (bases : NodeNo → List ℕ) (lists : NodeNo → List Record) (n : NodeNo) → n.0 < nodes
-    → space_in (memory_in nodes bases lists) n ≡ with_committed (is_committed nodes lists) (space_of (bases n) (lists n)) (held_parts (lists n))
+    → space_in (memory_in nodes bases lists) n ≡ with_held (is_committed nodes lists) (space_of (bases n) (lists n)) (held_parts (lists n))
 space-memory_in nodes bases lists n low =
-    let F : NodeNo → List ℕ = λ m. with_committed (is_committed nodes lists) (space_of (bases m) (lists m)) (held_parts (lists m)) in
+    let F : NodeNo → List ℕ = λ m. with_held (is_committed nodes lists) (space_of (bases m) (lists m)) (held_parts (lists m)) in
     let within : n.0 < length (node_numbers nodes) = subst (λ (k : ℕ). n.0 < k) (sym (length-numbers nodes)) low in
     get_or-map F (node_numbers nodes) n.0 n [] within ∙ ap F (get_or-map-range_with_len (λ k. let r : NodeNo = record { 0 = k } in r) 0 nodes n.0 n.0 n low (omega arith))
 
@@ -82,7 +82,7 @@ even_start start sound spaces = record {
     agrees n (inr high) =
         let none : space_in (opened_memory start) n ≡ [] = get_or_past (opened_memory start) n.0 [] (subst (λ (k : ℕ). k ≤ n.0) (sym (length-memory_in (start_nodes start) (base_at start) (start_records start))) high) in
         let base : base_at start n ≡ [] = get_or_past start.bases n.0 [] (subst (λ (k : ℕ). k ≤ n.0) (sym spaces.0) high) in
-        none ∙ sym (ap (λ (r : List Record). with_committed (comm start []) (space_of (base_at start n) r) (held_parts r)) (no_records start n high) ∙ base)
+        none ∙ sym (ap (λ (r : List Record). with_held (comm start []) (space_of (base_at start n) r) (held_parts r)) (no_records start n high) ∙ base)
 
     distinct : (n : NodeNo) → (n.0 < start_nodes start) ⊎ (start_nodes start ≤ n.0) → AreDistinct (held_parts (start_records start n))
     distinct n (inl low) = distinct_in_place (start_nodes start) n (start_records start n) (sound.in_place n low)

@@ -15,7 +15,7 @@ use Rattle.mn_mini.specs.declared.request.Request.{Request}
 use Rattle.mn_mini.specs.declared.request.Request.TheVariants as Ask
 use Rattle.mn_mini.specs.Mini.{Mini, item_node, participants_of, part_of, parts_conflict, has_write, IsSoundItem, IsSound}
 use Rattle.mn_mini.specs.Flat.{space_in, mismatch_from, memory_after, part_mismatch_from, space_after_part}
-use Rattle.mn_mini.specs.Node.{HeldPart, held_parts, held_part_of, without_tid, is_held, space_of, clash_of, has_voted, has_decided_yes, has_decided_no, with_added}
+use Rattle.mn_mini.specs.Node.{HeldPart, held_parts, held_part_of, without_tid, is_held, space_of, clash_of, has_voted, has_decided_yes, has_decided_no, with_added, with_held}
 use Rattle.mn_mini.specs.Laws.{AreApart}
 use Rattle.mn_mini.proofs.Bytes.{mismatch-after_part, conflict_turned}
 use Rattle.mn_mini.proofs.Parts.{AreIn, space-after_mini, mini_holds, no_part, named_takes_part}
@@ -25,7 +25,7 @@ use Rattle.std.specs.Prelude.{IsTrue}
 use Rattle.mn_world.specs.Clients.{is_read, is_plan}
 use Rattle.mn_world.specs.Protocol.{Start, start_nodes, base_at, records_of, KeepsProtocol}
 use Rattle.mn_world.specs.Commits.{has_vote, issued_as, committed_with, committed_by, flat_after, memory_after_commit}
-use Rattle.mn_world.specs.Opened.{with_committed, opened_memory}
+use Rattle.mn_world.specs.Opened.{opened_memory}
 use Rattle.mn_world.proofs.Reading.Same.{tid_same-true, tid_same-refl, node_same-true, node_same-refl}
 use Rattle.mn_world.proofs.Reading.Unchanged.{issue_stays}
 use Rattle.mn_world.specs.Laws.{StartsSound}
@@ -305,7 +305,7 @@ forced_node : (start : Start) (past : List Entry) (e : Entry) (k : NodeNo) (t : 
 forced_node start past e k t new still commits agrees compares =
     let space = space_of (base_at start k) (records_of start past k) in
     let held = held_parts (records_of start past k) in (
-      subst (λ (r : List Record). space_in (flat start (e ∷ past)) k ≡ with_committed (comm start (e ∷ past)) (space_of (base_at start k) r) (held_parts r)) (sym new)
+      subst (λ (r : List Record). space_in (flat start (e ∷ past)) k ≡ with_held (comm start (e ∷ past)) (space_of (base_at start k) r) (held_parts r)) (sym new)
           (still ∙ (agrees ∙ sym (same_layers (comm start (e ∷ past)) (comm start past) space held commits))),
       subst (λ (r : List Record). AllByRecursion (λ h. (IsOld start h.tid → ⊥) → comm start (e ∷ past) h.tid ≡ false → part_mismatch_from (space_in (flat start (e ∷ past)) k) 0 h.part ≡ None) (held_parts r)) (sym new)
           (All-both (λ h. comm start (e ∷ past) h.tid ≡ comm start past h.tid) (λ h. (IsOld start h.tid → ⊥) → comm start past h.tid ≡ false → part_mismatch_from (space_in (flat start past) k) 0 h.part ≡ None) (λ h. (IsOld start h.tid → ⊥) → comm start (e ∷ past) h.tid ≡ false → part_mismatch_from (space_in (flat start (e ∷ past)) k) 0 h.part ≡ None)
@@ -516,7 +516,7 @@ flip_node start past e n t mini g same takes own there distinct apart off on oth
     let space = space_of (base_at start n) (records_of start past n) in
     let held = held_parts (records_of start past n) in
     let taken : space_in (flat start (e ∷ past)) n ≡ space_after_part (space_in (flat start past) n) g.part = takes n ∙ ap (λ (p : List PartItem). space_after_part (space_in (flat start past) n) p) (sym own) in (
-      subst (λ (r : List Record). space_in (flat start (e ∷ past)) n ≡ with_committed (comm start (e ∷ past)) (space_of (base_at start n) r) (held_parts r)) (sym same)
+      subst (λ (r : List Record). space_in (flat start (e ∷ past)) n ≡ with_held (comm start (e ∷ past)) (space_of (base_at start n) r) (held_parts r)) (sym same)
           (taken ∙ (ap (λ (w : List ℕ). space_after_part w g.part) agrees ∙ sym (flip_layer (comm start past) (comm start (e ∷ past)) space held t g distinct apart there off on others))),
       subst (λ (r : List Record). AllByRecursion (λ h. (IsOld start h.tid → ⊥) → comm start (e ∷ past) h.tid ≡ false → part_mismatch_from (space_in (flat start (e ∷ past)) n) 0 h.part ≡ None) (held_parts r)) (sym same)
           (left taken held others (apart_from_held t held g distinct apart there) compares),

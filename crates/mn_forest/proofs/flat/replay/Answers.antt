@@ -4,8 +4,8 @@ use Rattle.std.proofs.lemmas.List.{take_all}
 use Rattle.std.proofs.lemmas.Result.{err_from_is_err_and}
 use Rattle.mn_base.specs.declared.ids.Tid.{Tid}
 use Rattle.mn_mini.specs.declared.record.Record.{Record}
-use Rattle.mn_mini.specs.Node.{HeldPart, held_parts, space_of}
-use Rattle.mn_world.specs.Opened.{is_committed, with_committed}
+use Rattle.mn_mini.specs.Node.{HeldPart, held_parts, space_of, with_held}
+use Rattle.mn_world.specs.Opened.{is_committed}
 use Rattle.mn_forest.specs.declared.held.Held.{Held}
 use Rattle.mn_forest.specs.Known.{parts_seen, says_committed}
 use Rattle.mn_forest.specs.Told.{IsPast, RefusesIn, SaysWrong}
@@ -62,11 +62,11 @@ returns-clause-space c = λ records told.
     let meant : Tid → Bool = is_committed (length records) (lists_of records) in
     let same : said ≡ meant = λ k tid. commit_of c.args.told.now records told tid k in
     c.write_committed.ensures
-    ∙ ap (λ (hs : List Held). with_committed said c.loop-number.space (parts_seen hs)) c.deref-2.ensures.value
-    ∙ ap (λ (hs : List HeldPart). with_committed said c.loop-number.space hs) c.loop-number.invariant.past.held
-    ∙ ap (λ (space : List ℕ). with_committed said space (held_parts (reverse (take c.loop-number.number list)))) c.loop-number.invariant.space
-    ∙ ap (λ (l : List Record). with_committed said (space_of base (reverse l)) (held_parts (reverse l))) every
-    ∙ ap (λ (f : Tid → Bool). with_committed f (space_of base (reverse list)) (held_parts (reverse list))) same
+    ∙ ap (λ (hs : List Held). with_held said c.loop-number.space (parts_seen hs)) c.deref-2.ensures.value
+    ∙ ap (λ (hs : List HeldPart). with_held said c.loop-number.space hs) c.loop-number.invariant.past.held
+    ∙ ap (λ (space : List ℕ). with_held said space (held_parts (reverse (take c.loop-number.number list)))) c.loop-number.invariant.space
+    ∙ ap (λ (l : List Record). with_held said (space_of base (reverse l)) (held_parts (reverse l))) every
+    ∙ ap (λ (f : Tid → Bool). with_held f (space_of base (reverse list)) (held_parts (reverse list))) same
 
 pub returns-clause-right : goal.returns-clause-right
 returns-clause-right c = λ records told is.

@@ -1,4 +1,4 @@
-use Rattle.std.proofs.Common.{◌≡◌, ℕ, List, inr, refl, Err, ap, sym, subst}
+use Rattle.std.proofs.Common.{List, inr, refl, Err, ap, sym, subst}
 use Rattle.mn_mini.specs.declared.record.Record.{Record}
 use Rattle.mn_node.specs.declared.restart.RestartError.{RestartError}
 use Rattle.mn_node.specs.Node.{added_to, bodies_of}

@@ -1,12 +1,11 @@
 use Rattle.std.proofs.Common.{◌≡◌, ◌+◌, ◌++◌, ◌∷◌, [], ℕ, List, length, reverse, take, drop, ap, subst, sym, ◌∙◌, arith, vec_len, if◌then◌else◌}
-use Rattle.mn_mini.specs.Flat.{space_after_part}
+use Rattle.mn_base.specs.Ids.{tid_same}
 use Rattle.std.proofs.lemmas.List.{take_at}
 use Rattle.mn_mini.specs.declared.record.Record.{Record}
 use Rattle.mn_mini.specs.declared.record.Record.TheVariants.{Decided}
-use Rattle.mn_mini.specs.Node.{held_parts, held_part_of, without_tid}
+use Rattle.mn_mini.specs.Node.{held_parts, held_part_of, with_held, without_tid}
 use Rattle.mn_locks.specs.declared.hold.Hold.{Hold}
 use Rattle.mn_locks.specs.Locks.{without}
-use Rattle.mn_node.specs.Held.{IsPartOf}
 use Rattle.mn_node.specs.Memory.{IsBuilt, base_of}
 use Rattle.mn_node.proofs.Built.{built_decided, fewer, newest}
 use Rattle.mn_node.proofs.TestedParts.{some_part}
@@ -15,14 +14,13 @@ use Rattle.mn_node.proofs.memory.Memory.add_decision.Goals as goal
 pub returns-clause-memory : goal.returns-clause-memory
 returns-clause-memory c =
     let m = c.args.self.now in
-    let part = some_part (held_part_of c.args.tid (held_parts (reverse m.records.items))) c.requires.held in
     let items : c.push.new.self.items ≡ m.records.items ++ Decided c.args.tid c.args.yes ∷ [] = rw c.unwrap.ensures at c.push.ensures.items in
     let same : length c.write_decided.new.space ≡ m.space.len = grind arith in
     let whole : take m.space.len (c.write_decided.new.space ++ drop (length c.write_decided.new.space) m.space.items) ≡ c.write_decided.new.space = take_at c.write_decided.new.space (drop (length c.write_decided.new.space) m.space.items) m.space.len same in
-    let written : c.write_decided.new.space ≡ (if c.args.yes then space_after_part m.space.items part.0 else m.space.items) =
-    c.write_decided.ensures.held part.0 (subst (λ (l : List Record). IsPartOf (held_part_of c.args.tid (held_parts (reverse l))) part.0) (sym c.deref.ensures.value) part.1)
-    ∙ ap (λ (l : List ℕ). if c.args.yes then space_after_part l part.0 else l) c.deref_mut.ensures.value in
-    let built = built_decided (base_of m.nodes m.node) m.records.items m.space.items c.write_decided.new.space m.locks.holds m.forced.items c.args.tid c.args.yes part.0 c.requires.memory c.requires.decision part.1 written (grind arith) in
+    let written : c.write_decided.new.space ≡ (if c.args.yes then with_held (λ t. tid_same t c.args.tid) m.space.items (held_parts (reverse m.records.items)) else m.space.items) =
+    c.write_decided.ensures
+    ∙ (λ i. if c.args.yes then with_held (λ t. tid_same t c.args.tid) (c.deref_mut.ensures.value i) (held_parts (reverse (c.deref.ensures.value i))) else c.deref_mut.ensures.value i) in
+    let built = built_decided (base_of m.nodes m.node) m.records.items m.space.items c.write_decided.new.space m.locks.holds m.forced.items c.args.tid c.args.yes c.requires.memory c.requires.decision written (grind arith) in
     let with_records = subst (λ (l : List Record). IsBuilt (base_of m.nodes m.node) l c.write_decided.new.space (without c.args.tid m.locks.holds) m.forced.items) (sym items) built in
     let with_holds = subst (λ (l : List Hold). IsBuilt (base_of m.nodes m.node) c.push.new.self.items c.write_decided.new.space l m.forced.items) (sym c.release.ensures.left) with_records in
     subst (λ (l : List ℕ). IsBuilt (base_of m.nodes m.node) c.push.new.self.items l c.release.new.self.holds m.forced.items) (sym whole) with_holds
