@@ -4,3 +4,4 @@ pub mod Owing
 pub mod OneLog
 pub mod Made
 pub mod Numbers
+pub mod Running

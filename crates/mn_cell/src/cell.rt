@@ -48,7 +48,7 @@ pub struct Cell<N: Named, D: Disk, const NODE: u8> {
     lock: Mutex<Numbered<N, D, NODE>>,
 }
 
-impl<N: Named, D: Disk + Drop, const NODE: u8> Cell<N, D, NODE> {
+impl<N: Named, D: Disk, const NODE: u8> Cell<N, D, NODE> {
     /// The cell of a node with which the run starts. `Refused` comes for want of memory alone.
     pub fn new(
         alloc: Global,

@@ -35,7 +35,7 @@ pub struct Cells<N: Named, D: Disk> {
     pub c7: Option<Cell<N, D, 7>>,
 }
 
-impl<N: Named, D: Disk + Drop> Cells<N, D> {
+impl<N: Named, D: Disk> Cells<N, D> {
     /// Calls a node, whose cell is filled, as `Cell::call` does.
     pub fn call<T: Wait>(
         &self,

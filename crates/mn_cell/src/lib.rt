@@ -6,6 +6,7 @@ mod add;
 mod cell;
 mod cells;
 mod copies;
+mod laws;
 mod named;
 mod node_list;
 mod station;
@@ -13,6 +14,7 @@ mod trace;
 
 pub use cell::Cell;
 pub use cells::Cells;
+pub use laws::parts_make_run;
 pub use named::Named;
 pub use station::{Refused, Station};
 pub use trace::{RunCause, RunFailed, Trace};
