@@ -17,7 +17,7 @@ use Rattle.mn_mini.specs.declared.reply.NodeReply.TheVariants as Say
 use Rattle.mn_mini.specs.Mini.{has_write}
 use Rattle.mn_mini.specs.Flat.{Mismatched, part_mismatch_from}
 use Rattle.mn_mini.specs.Node.{Response, Clash, answer, after_compares, after_locks, clash_of, has_forced, has_voted, held_parts, space_of, with_added}
-use Rattle.mn_node.specs.Memory.{base_of}
+use Rattle.mn_page.specs.Base.{base_of}
 use Rattle.mn_node.specs.Node.{StopsAt, added_to, bodies_of}
 use Rattle.mn_mini.specs.RecordGrammar.{record_bytes}
 use Rattle.mn_redo.specs.Redo.{StandsFor}
@@ -29,19 +29,15 @@ use Rattle.mn_world.specs.declared.entry.Entry.{Entry}
 use Rattle.mn_world.specs.declared.entry.What.{What}
 use Rattle.mn_world.specs.declared.entry.What.TheVariants.{Begin, Issue, Called, Stopped, Restarted, Abandoned, Answered}
 use Rattle.mn_world.specs.Nodes.{NodeAllows, added_by, is_down, node_records, stopped_request}
-use Rattle.mn_world.specs.Protocol.{Start, base_at, start_nodes, start_records}
+use Rattle.mn_world.specs.Protocol.{Start, base_at, start_nodes, start_records, start_of}
+use Rattle.mn_world.proofs.Bytes.Bases.{base_there}
 use Rattle.mn_cell.specs.Calls.{AddsNone, IsLarge, IsUndamaged, KeepsStop, entry_at, what_said}
-use Rattle.mn_cell.specs.Station.{HasMade, IsFirst, IsKeptAs, KeepsAs, KeepsAsAsked, RoseBy, StandsAs, StopsAsItAdds, asked_or, bases_from, last_asked, start_of, unasked, unasked_in}
+use Rattle.mn_cell.specs.Station.{HasMade, IsFirst, IsKeptAs, KeepsAs, KeepsAsAsked, RoseBy, StandsAs, StopsAsItAdds, asked_or, last_asked, unasked, unasked_in}
 
 -- The base space of a node
 
-base_from : (nodes k : ℕ) (records : List (List Record)) (n : ℕ) → n < length records → slice_index_or (bases_from nodes k records) n [] ≡ base_of nodes (k + n)
-base_from nodes k [] n lt = absurd (omega (arith, lt))
-base_from nodes k (r ∷ records) zero lt = let same : k + 0 ≡ k = omega arith in rw same refl
-base_from nodes k (r ∷ records) (suc n) lt = let same : k + suc n ≡ k + 1 + n = omega arith in rw same (base_from nodes (k + 1) records n (omega (arith, lt)))
-
 pub base_is : (records : List (List Record)) (n : NodeNo) → n.0 < length records → base_at (start_of records) n ≡ base_of (length records) n.0
-base_is records n lt = let same : 0 + n.0 ≡ n.0 = omega arith in base_from (length records) 0 records n.0 lt ∙ ap (λ (k : ℕ). base_of (length records) k) same
+base_is records n low = base_there (start_of records) n low
 
 -- Records with one more
 

@@ -10,7 +10,6 @@ use Rattle.mn_mini.specs.declared.request.Request.{Request}
 use Rattle.mn_mini.specs.Node.{answer}
 use Rattle.mn_io.specs.DiskModel.{DiskState}
 use Rattle.mn_io.specs.Faults.{Rose}
-use Rattle.mn_node.specs.Memory.{base_of}
 use Rattle.mn_node.specs.State.{NodeState, StandsForRecords}
 use Rattle.mn_actors.specs.declared.board.Pass.{Pass}
 use Rattle.mn_actors.specs.declared.actor.Actor.TheVariants.{Node}
@@ -29,15 +28,6 @@ abbrev pub no_board : TableId
 no_board = record { words = 0; slots = 0; views_name = 0; atom = 0; block = 0; offset = 0; slot_names = [] }
 
 -- What a run starts from
-
--- the base spaces of so many nodes, from this number on, one for each of these lists
-abbrev pub bases_from : ℕ → ℕ → List (List Record) → List (List ℕ)
-bases_from nodes n [] = []
-bases_from nodes n (records ∷ rest) = base_of nodes n ∷ bases_from nodes (n + 1) rest
-
--- the start of a run whose nodes have these records
-abbrev pub start_of : List (List Record) → Start
-start_of records = record { bases = bases_from (length records) 0 records; records = records }
 
 -- a node as it is when a run starts: up, with these records
 pub record IsFirst {D : Type 0} (state : D → DiskState) (faults : D → ℕ) (start : Start) (number : NodeNo) (before : ℕ) (honest : Type 0) (n : NodeState D) : Type 0 where

@@ -11,7 +11,8 @@ ghost use Rattle.mn_world.specs.Run.{entries_of};
 ghost use Rattle.mn_cell.specs.Calls.{EndsList, IsUndamaged, KeepsStop, MaySend, entry_at, numbered, what_said};
 ghost use Rattle.mn_cell.specs.Passes.{IsSame, OwnsJust};
 ghost use Rattle.mn_cell.specs.Promises.{IsOwedAt, decided_by};
-ghost use Rattle.mn_cell.specs.Station.{HasMade, IsFirst, start_of};
+ghost use Rattle.mn_cell.specs.Station.{HasMade, IsFirst};
+ghost use Rattle.mn_world.specs.Protocol.{start_of};
 
 use crate::named::Named;
 use crate::station::{Refused, Station};

@@ -5,7 +5,8 @@ ghost use Rattle.mn_actors.specs.Lists.{held};
 ghost use Rattle.mn_actors.specs.Sight.{board_of, view_of};
 ghost use Rattle.mn_world.specs.Run.{entries_of};
 ghost use Rattle.mn_cell.specs.Passes.{OwnsJust};
-ghost use Rattle.mn_cell.specs.Station.{HasMade, IsFirst, start_of};
+ghost use Rattle.mn_cell.specs.Station.{HasMade, IsFirst};
+ghost use Rattle.mn_world.specs.Protocol.{start_of};
 
 use crate::named::Named;
 use crate::node_list::NodeList;
@@ -34,8 +35,9 @@ pub struct Station<N: Named, D: Disk> {
 }
 
 impl<N: Named, D: Disk> Model for Station<N, D> {
+    ghost use Rattle.mn_world.specs.Protocol.{start_of};
     ghost use Rattle.mn_world.specs.Run.{entries_of};
-    ghost use Rattle.mn_cell.specs.Station.{HasMade, IsPassOf, StationState, known_by, start_of};
+    ghost use Rattle.mn_cell.specs.Station.{HasMade, IsPassOf, StationState, known_by};
 
     ghost Value = { StationState D };
 

@@ -11,7 +11,8 @@ use Rattle.mn_page.specs.Grammar.{IsPage, height_of}
 use Rattle.mn_page.specs.Forest.{Forest, base_forest, empty_leaf, space_laid, laid_of, children_of}
 use Rattle.mn_page.specs.Holds.{Holds, page_covers, pairs_in}
 use Rattle.mn_page.proofs.Counted.{forest, shows, IsCounted, IsRootIn, IsPageIn, IsChildIn, forest_heads, height_in, all_pages, serves_in, serving_pages}
-use Rattle.mn_forest.specs.Base.{base_of, base_memory}
+use Rattle.mn_page.specs.Base.{base_of}
+use Rattle.mn_forest.specs.Base.{base_memory}
 
 abbrev fresh : ℕ → Forest
 fresh k = base_forest (suc k)

@@ -1,17 +1,17 @@
 -- The spaces of the nodes are the memory that a run begins with.
-use Rattle.std.proofs.Common.{◌≡◌, ◌<◌, ◌+◌, ℕ, zero, suc, List, [], ◌∷◌, ◌++◌, length, map, get_or, refl, ap, sym, ◌∙◌, arith}
+use Rattle.std.proofs.Common.{◌≡◌, ◌<◌, ◌+◌, ℕ, zero, suc, List, [], ◌∷◌, ◌++◌, length, map, refl, ap, sym, ◌∙◌, arith}
 use Rattle.std.specs.List.{range_with_len}
 use Rattle.std.proofs.lemmas.List.{map_push}
-use Rattle.std.proofs.lemmas.List.FromFn.{map-range_with_len_more, get_or-map-range_with_len}
+use Rattle.std.proofs.lemmas.List.FromFn.{map-range_with_len_more}
 use Rattle.mn_base.specs.Ids.{node_numbers}
 use Rattle.mn_base.specs.declared.ids.NodeNo.{NodeNo}
 use Rattle.mn_mini.specs.declared.record.Record.{Record}
 use Rattle.mn_mini.specs.Node.{held_parts, space_of, with_held}
-use Rattle.mn_world.specs.Protocol.{base_at}
+use Rattle.mn_world.specs.Protocol.{base_at, start_of}
 use Rattle.mn_world.specs.Opened.{is_committed, opened_memory}
-use Rattle.mn_forest.specs.Base.{base_of}
-use Rattle.mn_forest.specs.Votes.{start_of, lists_of, numbered}
-use Rattle.mn_forest.proofs.BaseStore.{spaces_are}
+use Rattle.mn_page.specs.Base.{base_of}
+use Rattle.mn_world.proofs.Bytes.Bases.{base_there}
+use Rattle.mn_forest.specs.Votes.{lists_of, numbered}
 
 -- the space of a node by its base
 abbrev pub opened_space : List (List Record) → (NodeNo → List ℕ) → NodeNo → List ℕ
@@ -28,11 +28,7 @@ same_map f g a (suc k) same =
     let here : f (numbered a) ≡ g (numbered a) = same a (omega arith) in
     let rest = same_map f g (a + 1) k (λ i low. same i (omega arith)) in cc
 
-base_there : (records : List (List Record)) (n : ℕ) → n < length records → base_of (length records) n ≡ base_at (start_of records) (numbered n)
-base_there records n low =
-    sym (ap (λ (m : List (List ℕ)). get_or m n []) (sym (spaces_are (length records) (omega arith))) ∙ get_or-map-range_with_len (base_of (length records)) 0 (length records) n n [] low (omega arith))
-
 pub opened : (records : List (List Record)) → map (opened_space records (λ n. base_of (length records) n.0)) (node_numbers (length records)) ≡ opened_memory (start_of records)
 opened records =
     same_map (opened_space records (λ n. base_of (length records) n.0)) (opened_space records (base_at (start_of records))) 0 (length records)
-    (λ i low. ap (λ (b : List ℕ). with_held (is_committed (length records) (lists_of records)) (space_of b (lists_of records (numbered i))) (held_parts (lists_of records (numbered i)))) (base_there records i (omega arith)))
+    (λ i low. ap (λ (b : List ℕ). with_held (is_committed (length records) (lists_of records)) (space_of b (lists_of records (numbered i))) (held_parts (lists_of records (numbered i)))) (sym (base_there (start_of records) (numbered i) (omega arith))))

@@ -1,6 +1,6 @@
 -- The space that a node begins with, put together from its pieces.
 use Rattle.std.specs.Prelude.{ℕ, zero, suc, List, []}
-use Rattle.mn_page.specs.Forest.{main_entry, empty_leaf, front_of, base_space, base_forest, memory_of}
+use Rattle.mn_page.specs.Forest.{main_entry, empty_leaf, front_of, base_forest, memory_of}
 use Rattle.mn_page.specs.Grammar.{entry_bytes, page_bytes}
 
 -- `main` stands in the catalog of node 0, and in no other
@@ -20,10 +20,6 @@ base_count (suc n) = 0
 -- the header, the count and the catalog
 unfoldable pub base_front : ℕ → ℕ → List ℕ
 base_front nodes node = front_of nodes node (base_count node) (base_catalog node)
-
--- the space that a node begins with
-unfoldable pub base_of : ℕ → ℕ → List ℕ
-base_of nodes node = base_space nodes node
 
 -- the memory that so many nodes begin with
 abbrev pub base_memory : ℕ → List (List ℕ)

@@ -9,13 +9,8 @@ use Rattle.mn_base.specs.declared.ids.Tid.{Tid}
 use Rattle.mn_mini.specs.declared.record.Record.{Record}
 use Rattle.mn_mini.specs.declared.record.Record.TheVariants.{Voted, Executed, Decided, Forced}
 use Rattle.mn_mini.specs.Node.{is_of, has_decided_yes, has_decided_no}
-use Rattle.mn_world.specs.Protocol.{Start, start_records}
+use Rattle.mn_world.specs.Protocol.{start_of, start_records}
 use Rattle.mn_world.specs.Opened.{voted_participants, have_voted, is_committed, has_record, IsInPlace}
-use Rattle.mn_forest.specs.Base.{base_memory}
-
--- the start of a run from these records, where each node began with its base space
-abbrev pub start_of : List (List Record) → Start
-start_of records = record { bases = base_memory (length records); records = records }
 
 -- the records of each node, and those of all nodes one node after the other, newest first
 abbrev pub lists_of : List (List Record) → NodeNo → List Record

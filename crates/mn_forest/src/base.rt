@@ -5,7 +5,8 @@ ghost use Rattle.mn_mini.specs.Mini.{space_size};
 ghost use Rattle.mn_page.specs.Forest.{main_entry, empty_leaf};
 ghost use Rattle.mn_page.specs.Grammar.{entry_bytes, padded, page_bytes};
 ghost use Rattle.mn_page.specs.Holds.{Holds};
-ghost use Rattle.mn_forest.specs.Base.{base_catalog, base_front, base_slots, base_count, base_of, base_memory};
+ghost use Rattle.mn_page.specs.Base.{base_of};
+ghost use Rattle.mn_forest.specs.Base.{base_catalog, base_front, base_slots, base_count, base_memory};
 
 use byteorder::{BigEndian, ByteOrder};
 use mn_base::{Bytes, NoMemory};

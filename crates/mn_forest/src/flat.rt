@@ -6,11 +6,12 @@ ghost use Rattle.mn_mini.specs.declared.record.Record.{Record};
 ghost use Rattle.mn_mini.specs.Flat.{space_after_part};
 ghost use Rattle.mn_mini.specs.Node.{held_parts, space_of, with_held};
 ghost use Rattle.mn_world.specs.Opened.{AreSound, is_committed, opened_memory};
-ghost use Rattle.mn_forest.specs.Base.{base_of};
+ghost use Rattle.mn_page.specs.Base.{base_of};
 ghost use Rattle.mn_forest.specs.Known.{Tells, parts_seen, says_committed};
 ghost use Rattle.mn_forest.specs.Refusal.{RefusesRecords, IsWantOfMemory};
 ghost use Rattle.mn_forest.specs.Told.{IsTold, IsPast, RefusesIn};
-ghost use Rattle.mn_forest.specs.Votes.{AreRight, start_of, lists_of, list_at, numbered};
+ghost use Rattle.mn_forest.specs.Votes.{AreRight, lists_of, list_at, numbered};
+ghost use Rattle.mn_world.specs.Protocol.{start_of};
 
 use crate::VoteError;
 use crate::base::base;

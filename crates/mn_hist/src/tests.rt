@@ -9,7 +9,8 @@ ghost use Rattle.mn_actors.specs.Sight.{board_of, clients_of, id_of, nodes_of, v
 ghost use Rattle.mn_node.specs.State.{MayStart};
 ghost use Rattle.mn_cell.specs.Calls.{numbered};
 ghost use Rattle.mn_cell.specs.Passes.{OwnsJust};
-ghost use Rattle.mn_cell.specs.Station.{IsFirst, start_of};
+ghost use Rattle.mn_cell.specs.Station.{IsFirst};
+ghost use Rattle.mn_world.specs.Protocol.{start_of};
 
 use crate::{ClientLists, Lists, NodeLists, merge};
 use mn_actors::{Actor, Board, Pass};

@@ -18,7 +18,7 @@ use Rattle.mn_redo.specs.Redo.{RedoState}
 use Rattle.mn_mini.specs.declared.reply.NodeReply.{NodeReply}
 use Rattle.mn_mini.specs.declared.reply.NodeReply.TheVariants as Say
 use Rattle.mn_node.specs.declared.memory.Memory.{Memory}
-use Rattle.mn_node.specs.Memory.{base_of}
+use Rattle.mn_page.specs.Base.{base_of}
 use Rattle.mn_node.specs.Node.{Continues, HasStopped, IsUnasked, IsUp, Replies, SameNode, added_to, node_answer}
 use Rattle.mn_node.specs.State.{IsNode}
 use Rattle.mn_node.proofs.Found.{first_sound}

@@ -13,7 +13,8 @@ use Rattle.mn_mini.specs.Node.{answer, space_of}
 use Rattle.mn_mini.specs.RecordGrammar.{IsRecord}
 use Rattle.mn_mini.specs.Sound.{Fits, IsNoPeek, IsSoundRequest}
 use Rattle.mn_node.specs.declared.memory.Memory.{Memory}
-use Rattle.mn_node.specs.Memory.{IsMemory, base_of}
+use Rattle.mn_page.specs.Base.{base_of}
+use Rattle.mn_node.specs.Memory.{IsMemory}
 use Rattle.mn_node.specs.Node.{Replies, node_answer}
 use Rattle.mn_node.proofs.Built.{all-reverse}
 

@@ -13,7 +13,7 @@ use Rattle.mn_mini.specs.declared.reply.NodeReply.TheVariants as Say
 use Rattle.mn_mini.specs.Node.{Response, answer}
 use Rattle.mn_mini.specs.RecordGrammar.{IsRecord, Spells, record_bytes}
 use Rattle.mn_node.specs.declared.memory.Memory.{Memory}
-use Rattle.mn_node.specs.Memory.{base_of}
+use Rattle.mn_page.specs.Base.{base_of}
 use Rattle.mn_node.specs.Node.{IsUp, IsUnasked, Replies, bodies_of, added_to, node_answer}
 use Rattle.mn_node.specs.State.{NodeState, Answers, AreRecords, StandsForRecords, response_to}
 use Rattle.mn_node.proofs.Built.{all-append}

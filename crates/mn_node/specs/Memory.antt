@@ -9,16 +9,12 @@ use Rattle.mn_mini.specs.declared.reply.NodeReply.TheVariants as Say
 use Rattle.mn_mini.specs.Mini.{space_size}
 use Rattle.mn_mini.specs.Node.{HeldPart, held_parts, has_forced, space_of, Response, only_reply, after_locks, clash_of}
 use Rattle.mn_mini.specs.RecordGrammar.{IsRecord}
-use Rattle.mn_page.specs.Forest.{base_space}
+use Rattle.mn_page.specs.Base.{base_of}
 use Rattle.mn_locks.specs.declared.hold.Hold.{Hold}
 use Rattle.mn_node.specs.declared.memory.Memory.{Memory}
 use Rattle.mn_node.specs.declared.memory.Tested.{Tested}
 use Rattle.mn_node.specs.declared.memory.Tested.TheVariants as Result
 use Rattle.mn_node.specs.Part.{holds_by}
-
--- the space that a node begins with
-unfoldable pub base_of : ℕ → ℕ → List ℕ
-base_of nodes node = base_space nodes node
 
 -- the id is among these
 abbrev pub is_among : List Tid → Tid → Bool

@@ -18,7 +18,8 @@ use Rattle.mn_node.specs.declared.step.Kept.{Kept}
 use Rattle.mn_node.specs.declared.step.Kept.TheVariants.{NoRoom, Stopped, Logged}
 use Rattle.mn_node.specs.declared.step.Served.{Served}
 use Rattle.mn_node.specs.declared.step.Served.TheVariants as Serve
-use Rattle.mn_node.specs.Memory.{IsMemory, HasRoom, base_of}
+use Rattle.mn_page.specs.Base.{base_of}
+use Rattle.mn_node.specs.Memory.{IsMemory, HasRoom}
 
 -- the bodies of records
 abbrev pub bodies_of : List Record → List (List ℕ)

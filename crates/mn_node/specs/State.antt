@@ -13,7 +13,7 @@ use Rattle.mn_mini.specs.Laws.{AreApart}
 use Rattle.mn_mini.specs.Node.{Response, answer, held_parts}
 use Rattle.mn_mini.specs.RecordGrammar.{IsRecord, SpellsNone}
 use Rattle.mn_node.specs.declared.memory.Memory.{Memory}
-use Rattle.mn_node.specs.Memory.{base_of}
+use Rattle.mn_page.specs.Base.{base_of}
 use Rattle.mn_node.specs.Node.{IsUp, IsUnasked, HasStopped, StandsWithOrWithout, bodies_of, added_to}
 
 -- its disk, its number and that of all nodes, its records, the oldest first, and whether it is down: then beside the record of the request

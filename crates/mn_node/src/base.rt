@@ -4,7 +4,7 @@ ghost use Rattle.mn_mini.specs.Mini.{space_size};
 ghost use Rattle.mn_page.specs.Forest.{main_entry, empty_leaf};
 ghost use Rattle.mn_page.specs.Grammar.{entry_bytes, padded, page_bytes};
 ghost use Rattle.mn_node.specs.Base.{base_catalog, base_front, base_slots, base_count};
-ghost use Rattle.mn_node.specs.Memory.{base_of};
+ghost use Rattle.mn_page.specs.Base.{base_of};
 
 use byteorder::{BigEndian, ByteOrder};
 use mn_base::NoMemory;

@@ -8,7 +8,8 @@ ghost use Rattle.mn_mini.specs.Mini.{space_size};
 ghost use Rattle.mn_mini.specs.Node.{has_forced, held_parts, space_of};
 ghost use Rattle.mn_mini.specs.RecordGrammar.{IsPart, IsRecord};
 ghost use Rattle.mn_node.specs.Held.{IsFree, is_decision_of, lasting_first};
-ghost use Rattle.mn_node.specs.Memory.{HasRoom, IsBuilt, IsMemory, base_of, is_among};
+ghost use Rattle.mn_page.specs.Base.{base_of};
+ghost use Rattle.mn_node.specs.Memory.{HasRoom, IsBuilt, IsMemory, is_among};
 ghost use Rattle.mn_node.specs.Part.{alone_of, holds_by, part_holds, shared_of};
 
 use crate::base::base;

@@ -1,6 +1,7 @@
 pub mod Space
 pub mod Grammar
 pub mod Forest
+pub mod Base
 pub mod Holds
 pub mod Laws
 pub mod Overlay

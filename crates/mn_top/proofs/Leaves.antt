@@ -17,7 +17,7 @@ use Rattle.mn_page.specs.declared.page.Body.TheVariants as Body
 use Rattle.mn_page.specs.Grammar.{IsPage, IsKey, IsValue, page_bytes, entry_bytes}
 use Rattle.mn_page.specs.Forest.{main_entry}
 use Rattle.mn_page.specs.Space.{space_length}
-use Rattle.mn_node.specs.Memory.{base_of}
+use Rattle.mn_page.specs.Base.{base_of}
 use Rattle.mn_top.specs.Leaf.{leaf_page, leaf_space, front, ArePairs, HoldsLeaf}
 use Rattle.mn_top.proofs.LeafLemmas.{behind, length-behind, leaf_space-is, empty_is_page}
 use Rattle.mn_top.proofs.SpaceLemmas.{overwritten-inside}

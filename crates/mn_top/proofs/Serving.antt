@@ -21,7 +21,7 @@ use Rattle.mn_mini.specs.declared.request.Request.TheVariants as Ask
 use Rattle.mn_mini.specs.Flat.{part_mismatch_from, part_reads, space_after_part}
 use Rattle.mn_mini.specs.Mini.{has_write}
 use Rattle.mn_mini.specs.Node.{Response, answer}
-use Rattle.mn_node.specs.Memory.{base_of}
+use Rattle.mn_page.specs.Base.{base_of}
 use Rattle.mn_node.specs.Node.{added_to, bodies_of}
 use Rattle.mn_node.specs.State.{NodeState, GoesOn, StandsForRecords, response_to}
 use Rattle.mn_redo.specs.Grammar.{Stands}

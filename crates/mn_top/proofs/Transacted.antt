@@ -13,7 +13,7 @@ use Rattle.mn_mini.specs.declared.record.Record.{Record}
 use Rattle.mn_mini.specs.Flat.{bytes_in, part_mismatch_from, space_after_part}
 use Rattle.mn_mini.specs.Mini.{has_write}
 use Rattle.mn_mini.specs.Node.{space_of}
-use Rattle.mn_node.specs.Memory.{base_of}
+use Rattle.mn_page.specs.Base.{base_of}
 use Rattle.mn_node.specs.Node.{bodies_of}
 use Rattle.mn_node.specs.State.{NodeState}
 use Rattle.mn_page.specs.Grammar.{IsPage, page_bytes}

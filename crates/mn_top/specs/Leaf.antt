@@ -5,7 +5,7 @@ use Rattle.mn_base.specs.declared.reply.Pair.{Pair}
 use Rattle.mn_mini.specs.declared.record.Record.{Record}
 use Rattle.mn_mini.specs.declared.record.Record.TheVariants.{Executed}
 use Rattle.mn_mini.specs.Node.{space_of}
-use Rattle.mn_node.specs.Memory.{base_of}
+use Rattle.mn_page.specs.Base.{base_of}
 use Rattle.mn_page.specs.declared.page.Page.{Page}
 use Rattle.mn_page.specs.declared.page.Body.TheVariants as body
 use Rattle.mn_page.specs.Grammar.{IsPage, IsKey, IsValue, entry_bytes}

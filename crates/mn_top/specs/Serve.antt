@@ -20,7 +20,7 @@ use Rattle.mn_mini.specs.declared.request.Request.{Request}
 use Rattle.mn_mini.specs.Flat.{part_reads, space_after_part}
 use Rattle.mn_mini.specs.Mini.{Mini, has_write, part_of}
 use Rattle.mn_mini.specs.Node.{space_of}
-use Rattle.mn_node.specs.Memory.{base_of}
+use Rattle.mn_page.specs.Base.{base_of}
 use Rattle.mn_node.specs.Node.{StandsWithOrWithout, added_to, bodies_of}
 use Rattle.mn_node.specs.State.{NodeState, StandsForRecords, response_to}
 use Rattle.mn_page.specs.Forest.{main_entry}

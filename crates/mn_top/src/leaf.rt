@@ -3,7 +3,7 @@ ghost use Rattle.std.specs.List.{list_all};
 ghost use Rattle.mn_base.specs.declared.reply.Pair.{Pair};
 ghost use Rattle.mn_mini.specs.Flat.{overwritten};
 ghost use Rattle.mn_mini.specs.Mini.{space_size};
-ghost use Rattle.mn_node.specs.Memory.{base_of};
+ghost use Rattle.mn_page.specs.Base.{base_of};
 ghost use Rattle.mn_page.specs.Forest.{main_entry};
 ghost use Rattle.mn_page.specs.Grammar.{SpellsPage, page_bytes, entry_bytes};
 ghost use Rattle.mn_top.specs.declared.leaf.TheConstants.{SLOT};

@@ -1,4 +1,5 @@
 -- Contents: the spaces of the nodes and the flat memory.
+pub mod Bases
 pub mod Layers
 pub mod Even
 pub mod Commit

@@ -8,7 +8,7 @@ use Rattle.mn_mini.specs.declared.part.PartItem.{PartItem}
 use Rattle.mn_mini.specs.declared.request.Request.{Request}
 use Rattle.mn_mini.specs.declared.request.Request.TheVariants as Ask
 use Rattle.mn_mini.specs.declared.reply.NodeReply.TheVariants as Say
-use Rattle.mn_mini.specs.Mini.{Mini, participants_of, range_of, is_write, space_size}
+use Rattle.mn_mini.specs.Mini.{Mini, participants_of, range_of, is_write}
 use Rattle.mn_mini.specs.Flat.{Committed, bytes_in, outcome_on, part_reads, space_in}
 use Rattle.mn_mini.specs.Node.{HeldPart, held_parts, has_voted, has_forced, has_decided_yes, has_decided_no, space_of}
 use Rattle.mn_mini.specs.Laws.{AreApart}
@@ -111,15 +111,11 @@ RecordsStaySound =
 
 -- Bytes
 
--- the bases and the opened memory have a space for each node
-abbrev pub HasSpaces : Start → Type 0
-HasSpaces start = (length start.bases ≡ start_nodes start) × AllByRecursion (λ space. length space ≡ space_size) start.bases
-
 -- a minitransaction that commits has the flat meaning there: its compares hold
 abbrev pub CommitsAreFlat : Type 0
 CommitsAreFlat =
     (start : Start) (past : List Entry) (e : Entry) (i : Issued) → StartsSound start
-    → HasSpaces start → FollowsProtocol start (e ∷ past) → committed_by past e ≡ Some i
+    → FollowsProtocol start (e ∷ past) → committed_by past e ≡ Some i
     → (reads : List (List ℕ)) × (memory : List (List ℕ))
     × (outcome_on (flat_after (opened_memory start) past) i.mini ≡ Committed reads memory)
 
@@ -137,7 +133,7 @@ is_pending_at committed place hs = list_any (λ h. committed h.tid && list_any (
 abbrev pub SpacesAgree : Type 0
 SpacesAgree =
     (start : Start) (past : List Entry) (n : NodeNo) (place : ℕ) → StartsSound start
-    → HasSpaces start → FollowsProtocol start past → n.0 < start_nodes start
+    → FollowsProtocol start past → n.0 < start_nodes start
     → is_pending_at (is_committed (start_nodes start) (records_of start past)) place (held_parts (records_of start past n)) ≡ false
     → slice_get (space_of (base_at start n) (records_of start past n)) place ≡ slice_get (space_in (flat_after (opened_memory start) past) n) place
 
@@ -150,7 +146,7 @@ part_of_request request = None
 -- the reads of a Done are those of the flat memory at its place
 abbrev pub ReadsAreFlat : Type 0
 ReadsAreFlat =
-    (start : Start) (past : List Entry) (e : Entry) (k : NodeNo) (request : Request) (part : List PartItem) (reads : List (List ℕ)) → StartsSound start → HasSpaces start → FollowsProtocol start (e ∷ past)
+    (start : Start) (past : List Entry) (e : Entry) (k : NodeNo) (request : Request) (part : List PartItem) (reads : List (List ℕ)) → StartsSound start → FollowsProtocol start (e ∷ past)
     → e.node ≡ Some k → e.what ≡ Called request (Say.Done reads)
     → part_of_request request ≡ Some part
     → reads ≡ part_reads (space_in (flat_after (opened_memory start) past) k) part
@@ -159,7 +155,7 @@ ReadsAreFlat =
 -- memory
 abbrev pub ExecsAreFlat : Type 0
 ExecsAreFlat =
-    (start : Start) (past : List Entry) (e : Entry) (k : NodeNo) (tid : Tid) (part : List PartItem) (reads : List (List ℕ)) → StartsSound start → HasSpaces start → FollowsProtocol start (e ∷ past)
+    (start : Start) (past : List Entry) (e : Entry) (k : NodeNo) (tid : Tid) (part : List PartItem) (reads : List (List ℕ)) → StartsSound start → FollowsProtocol start (e ∷ past)
     → e.node ≡ Some k → e.what ≡ Called (Ask.Exec tid part) (Say.Done reads)
     → (i : Issued) × (memory : List (List ℕ)) × (i.tid ≡ tid) × (committed_by past e ≡ Some i)
     × (outcome_on (flat_after (opened_memory start) past) i.mini ≡ Committed reads memory)
@@ -167,7 +163,7 @@ ExecsAreFlat =
 -- a Prepare that is done answers no reads, since what has several participants has no read items
 abbrev pub PreparesReadNothing : Type 0
 PreparesReadNothing =
-    (start : Start) (past : List Entry) (e : Entry) (k : NodeNo) (tid : Tid) (participants : List NodeNo) (part : List PartItem) (reads : List (List ℕ)) → StartsSound start → HasSpaces start → FollowsProtocol start (e ∷ past)
+    (start : Start) (past : List Entry) (e : Entry) (k : NodeNo) (tid : Tid) (participants : List NodeNo) (part : List PartItem) (reads : List (List ℕ)) → StartsSound start → FollowsProtocol start (e ∷ past)
     → e.node ≡ Some k → e.what ≡ Called (Ask.Prepare tid participants part) (Say.Done reads)
     → reads ≡ []
 
@@ -175,7 +171,7 @@ PreparesReadNothing =
 abbrev pub SeenIsFlat : Type 0
 SeenIsFlat =
     (start : Start) (past : List Entry) (c : ClientNo) (seen : Seen) → StartsSound start
-    → HasSpaces start → FollowsProtocol start past → Contains (seen_in (client_entries c past)) seen
+    → FollowsProtocol start past → Contains (seen_in (client_entries c past)) seen
     → (e : Entry) × (later : List Entry) × (before : List Entry) × (past ≡ later ++ e ∷ before)
     × IsTrue (is_by c e) × Contains (seen_at e) seen
     × (seen.bytes ≡ bytes_in (space_in (flat_after (opened_memory start) before) seen.place.node) seen.place.start seen.place.length)
@@ -184,7 +180,7 @@ SeenIsFlat =
 -- flat memory
 abbrev pub MemoryIsFlat : Type 0
 MemoryIsFlat =
-    (start : Start) (past : List Entry) → StartsSound start → HasSpaces start
+    (start : Start) (past : List Entry) → StartsSound start
     → FollowsProtocol start past
     → memory_in (start_nodes start) (base_at start) (records_of start past) ≡ flat_after (opened_memory start) past
 
@@ -258,7 +254,6 @@ AbandonedLacksVote =
 -- a run from records that fit together, whose opened memory this is
 pub record IsRunFrom (start : Start) (memory : List (List ℕ)) (past : List Entry) : Type 0 where
   pub sound : StartsSound start
-  pub spaces : HasSpaces start
   pub opened : opened_memory start ≡ memory
   pub keeps : FollowsProtocol start past
 

@@ -21,12 +21,10 @@ use Rattle.mn_world.specs.Commits.{committed_by, flat_after}
 use Rattle.mn_world.specs.Opened.{IsOpened, opened_memory}
 use Rattle.mn_world.specs.Run.{IsRun}
 use Rattle.mn_world.specs.History.{Placed, pasts_of, PlanOf, IsHistory}
-use Rattle.mn_world.specs.Laws.{HasSpaces}
 
--- a run from records whose memory holds the store; each base space has a space's length
+-- a run from records whose memory holds the store
 pub record OpenedRun (start : Start) (store : Store) (past : List Entry) : Type 0 where
   pub opened : IsOpened (start_nodes start) (base_at start) (start_records start) store
-  pub spaces : HasSpaces start
   pub run : IsRun start past
 
 -- with its history

@@ -1,10 +1,11 @@
 -- Runs: each entry is allowed by what its actors' lists held before it.
-use Rattle.std.specs.Prelude.{ℕ, ◌+◌, ◌≡◌, ◌<◌, ◌≤◌, List, [], ◌∷◌, length, reverse, Option, Some, None, ⊤, slice_index_or}
+use Rattle.std.specs.Prelude.{ℕ, ◌+◌, ◌≡◌, ◌<◌, ◌≤◌, List, [], ◌∷◌, length, reverse, Option, Some, None, ⊤, nat_lt, if◌then◌else◌, slice_index_or}
 use Rattle.std.specs.List.{flat_map}
 use Rattle.mn_base.specs.declared.ids.NodeNo.{NodeNo}
 use Rattle.mn_base.specs.declared.ids.ClientNo.{ClientNo}
 use Rattle.mn_mini.specs.declared.record.Record.{Record}
 use Rattle.mn_mini.specs.Node.{greatest_run}
+use Rattle.mn_page.specs.Base.{base_of}
 use Rattle.mn_world.specs.declared.entry.Entry.{Entry}
 use Rattle.mn_world.specs.declared.entry.What.{What}
 use Rattle.mn_world.specs.declared.entry.What.TheVariants.{Issue, Called, Stopped, Restarted}
@@ -12,16 +13,20 @@ use Rattle.mn_world.specs.Calls.{node_entries, client_entries}
 use Rattle.mn_world.specs.Nodes.{node_records, NodeAllows}
 use Rattle.mn_world.specs.Clients.{ClientAllows}
 
--- what a run starts from: for each node its base space and its records, from the first on
+-- what a run starts from: the records of each node, from the first on
 pub record Start : Type 0 where
-  pub bases : List (List ℕ)
   pub records : List (List Record)
+
+-- the start of a run whose nodes have these records
+abbrev pub start_of : List (List Record) → Start
+start_of records = record { records = records }
 
 abbrev pub start_nodes : Start → ℕ
 start_nodes start = length start.records
 
+-- the base space of a node of so many; beyond them there is none
 abbrev pub base_at : Start → NodeNo → List ℕ
-base_at start n = slice_index_or start.bases n.0 []
+base_at start n = if nat_lt n.0 (start_nodes start) then base_of (start_nodes start) n.0 else []
 
 -- newest first
 abbrev pub start_records : Start → NodeNo → List Record

@@ -16,13 +16,13 @@ older start (e ∷ later) past run = older start later past run.0
 pub flat_run : (start : Start) (memory : List (List ℕ)) (past : List Entry) → IsRunFrom start memory past → IsFlatRun start memory (flat_after memory past) past
 flat_run start memory past r = record {
   commits = λ later e before i split c.
-      let o = commits_are_flat start before e i r.sound r.spaces (older start later (e ∷ before) (subst (FollowsProtocol start) split r.keeps)) c in
+      let o = commits_are_flat start before e i r.sound (older start later (e ∷ before) (subst (FollowsProtocol start) split r.keeps)) c in
       (o.0, o.1, ap (λ (m : List (List ℕ)). outcome_on (flat_after m before) i.mini) (sym r.opened) ∙ o.2);
   execs = λ later e before k tid part reads split at is.
-      let o = execs_are_flat start before e k tid part reads r.sound r.spaces (older start later (e ∷ before) (subst (FollowsProtocol start) split r.keeps)) at is in
+      let o = execs_are_flat start before e k tid part reads r.sound (older start later (e ∷ before) (subst (FollowsProtocol start) split r.keeps)) at is in
       (o.0, o.1, o.2, o.3, ap (λ (m : List (List ℕ)). outcome_on (flat_after m before) o.0.mini) (sym r.opened) ∙ o.4);
   spaces = λ n place low free.
-      spaces_agree start past n place r.sound r.spaces r.keeps low free ∙ ap (λ (m : List (List ℕ)). Rattle.std.specs.Prelude.slice_get (space_in (flat_after m past) n) place) r.opened;
-  records = memory_is_flat start past r.sound r.spaces r.keeps ∙ ap (λ (m : List (List ℕ)). flat_after m past) r.opened;
+      spaces_agree start past n place r.sound r.keeps low free ∙ ap (λ (m : List (List ℕ)). Rattle.std.specs.Prelude.slice_get (space_in (flat_after m past) n) place) r.opened;
+  records = memory_is_flat start past r.sound r.keeps ∙ ap (λ (m : List (List ℕ)). flat_after m past) r.opened;
   held_apart = λ n low. held_parts_apart start past n r.sound r.keeps low;
 }

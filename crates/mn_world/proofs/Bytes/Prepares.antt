@@ -98,5 +98,5 @@ prepared_reads start past (Some c) k tid ps part reads w keeps =
     ]
 
 pub prepares_read_nothing : PreparesReadNothing
-prepares_read_nothing start past e k tid ps part reads sound spaces run at is =
-    prepared_reads start past e.client k tid ps part reads (whole_run start past sound spaces run.0) (said_so start past e k (Called (Ask.Prepare tid ps part) (Say.Done reads)) at is run.1)
+prepares_read_nothing start past e k tid ps part reads sound run at is =
+    prepared_reads start past e.client k tid ps part reads (whole_run start past sound run.0) (said_so start past e k (Called (Ask.Prepare tid ps part) (Say.Done reads)) at is run.1)

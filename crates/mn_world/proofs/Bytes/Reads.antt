@@ -117,7 +117,7 @@ pub said_so : (start : Start) (past : List Entry) (e : Entry) (k : NodeNo) (what
 said_so start past e k what at is keeps = subst (λ (o : Option NodeNo). KeepsProtocol start past (record { node = o; client = e.client; what = what })) at (subst (λ (w : What). KeepsProtocol start past (record { node = e.node; client = e.client; what = w })) is keeps)
 
 pub reads_are_flat : ReadsAreFlat
-reads_are_flat start past e k request part reads sound spaces run at is of = call_reads start past e.client k request part reads (whole_run start past sound spaces run.0) (said_so start past e k (Called request (Say.Done reads)) at is run.1) of
+reads_are_flat start past e k request part reads sound run at is of = call_reads start past e.client k request part reads (whole_run start past sound run.0) (said_so start past e k (Called request (Say.Done reads)) at is run.1) of
 
 -- the items of a minitransaction with one participant
 items_at : (start : Start) (mini : Mini) (k : NodeNo) → IsMade start mini → participants_of mini ≡ k ∷ [] → (items : List Item) → ((n : NodeNo) → list_any (λ i. node_same (item_node i) n) items ≡ true → list_any (λ i. node_same (item_node i) n) mini.items ≡ true) → AreAt k items
@@ -149,8 +149,8 @@ exec_flat start past (Some c) k tid part reads w after keeps =
     (i, memory_after (flat start past) mini.items, refl, that, ap (λ o. unless_mismatched (flat start past) mini o) holds ∙ ap (λ (r : List (List ℕ)). Committed r (memory_after (flat start past) mini.items)) whole)
 
 pub execs_are_flat : ExecsAreFlat
-execs_are_flat start past e k tid part reads sound spaces run at is =
+execs_are_flat start past e k tid part reads sound run at is =
     let what : What = Called (Ask.Exec tid part) (Say.Done reads) in
     subst (λ (o : Option NodeNo). FollowsProtocol start (record { node = o; client = e.client; what = e.what } ∷ past) → (i : Issued) × (memory : List (List ℕ)) × (i.tid ≡ tid) × (committed_by past (record { node = o; client = e.client; what = e.what }) ≡ Some i) × (outcome_on (flat start past) i.mini ≡ Committed reads memory)) (sym at)
     (subst (λ (w : What). FollowsProtocol start (record { node = Some k; client = e.client; what = w } ∷ past) → (i : Issued) × (memory : List (List ℕ)) × (i.tid ≡ tid) × (committed_by past (record { node = Some k; client = e.client; what = w }) ≡ Some i) × (outcome_on (flat start past) i.mini ≡ Committed reads memory)) (sym is)
-    (λ run'. exec_flat start past e.client k tid part reads (whole_run start past sound spaces run.0) (kept_run start (record { node = Some k; client = e.client; what = what } ∷ past) sound run') run'.1)) run
+    (λ run'. exec_flat start past e.client k tid part reads (whole_run start past sound run.0) (kept_run start (record { node = Some k; client = e.client; what = what } ∷ past) sound run') run'.1)) run

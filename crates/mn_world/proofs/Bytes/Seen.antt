@@ -108,14 +108,14 @@ older_seen : (start : Start) (past : List Entry) (x : Entry) (c : ClientNo) (see
 older_seen start past x c seen (e, later, before, split, by, has, stands) = (e, x ∷ later, before, ap (λ (es : List Entry). x ∷ es) split, by, has, stands)
 
 pub seen_is_flat : SeenIsFlat
-seen_is_flat start [] c seen sound spaces run has = absurd (nothing seen has)
-seen_is_flat start (e ∷ past) c seen sound spaces run has =
-    let older = seen_is_flat start past c seen sound spaces run.0 in
+seen_is_flat start [] c seen sound run has = absurd (nothing seen has)
+seen_is_flat start (e ∷ past) c seen sound run has =
+    let older = seen_is_flat start past c seen sound run.0 in
     elim (is_by c e) as (λ b. is_by c e ≡ b → Contains (seen_in (if b then e ∷ client_entries c past else client_entries c past)) seen → WasSeen start (e ∷ past) c seen) [
       | true ↦ λ by h.
           elim (Contains-append_cases (seen_at e) (seen_in (client_entries c past)) seen
           (subst (λ (xs : List Seen). Contains xs seen) (flat_map-append (λ (call : Call). seen_by call.node call.request call.reply) (call_in e.node e.what) (calls_of (client_entries c past))) h)) as (λ _. WasSeen start (e ∷ past) c seen) [
-            | inl here ↦ (e, [], past, refl, by, here, here_seen start past e.client e.node e.what seen (whole_run start past sound spaces run.0) run.1 here)
+            | inl here ↦ (e, [], past, refl, by, here, here_seen start past e.client e.node e.what seen (whole_run start past sound run.0) run.1 here)
             | inr there ↦ older_seen start past e c seen (older there)
           ]
       | false ↦ λ _ h. older_seen start past e c seen (older h)

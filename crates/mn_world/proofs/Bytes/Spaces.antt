@@ -18,13 +18,14 @@ use Rattle.mn_mini.specs.Node.{HeldPart, held_parts, has_voted, has_executed, sp
 use Rattle.mn_world.specs.declared.entry.Entry.{Entry}
 use Rattle.mn_world.specs.Protocol.{Start, start_nodes, base_at, start_records, records_of, FollowsProtocol}
 use Rattle.mn_world.specs.Opened.{voted_participants, have_voted, is_committed, memory_in, opened_memory}
-use Rattle.mn_world.specs.Laws.{HasSpaces, StartsSound, CommitsAreFlat, SpacesAgree, MemoryIsFlat}
+use Rattle.mn_world.specs.Laws.{StartsSound, CommitsAreFlat, SpacesAgree, MemoryIsFlat}
 use Rattle.mn_world.proofs.Reading.Same.{tid_same-true}
 use Rattle.mn_world.proofs.Votes.Backing.{IsOld, IssuedTo, PartAt, ExecAt, RecordSound, Kept}
 use Rattle.mn_world.proofs.Votes.Start.{names_old, low_or_high, no_records, vote_names, named_record, voted_old, all_false, is_true_at, in_numbers}
 use Rattle.mn_world.proofs.Votes.Held.{in_place_apart}
 use Rattle.mn_world.specs.Opened.{AreInPlace}
 use Rattle.mn_mini.specs.Laws.{AreApart}
+use Rattle.mn_world.proofs.Bytes.Bases.{no_base}
 use Rattle.mn_world.proofs.Bytes.Layers.{AreDistinct}
 use Rattle.mn_world.proofs.Votes.Preserved.{kept_run, new_not_old}
 use Rattle.mn_world.proofs.Commits.Told.{votes_agree, issues_agree}
@@ -65,8 +66,8 @@ distinct_in_place nodes n (Executed tid part ∷ older) place = distinct_in_plac
 distinct_in_place nodes n (Decided tid verdict ∷ older) place = AreDistinct-without tid (held_parts older) (distinct_in_place nodes n older place.1)
 distinct_in_place nodes n (Forced tid ∷ older) place = distinct_in_place nodes n older place.1
 
-even_start : (start : Start) → StartsSound start → HasSpaces start → Even start []
-even_start start sound spaces = record {
+even_start : (start : Start) → StartsSound start → Even start []
+even_start start sound = record {
   agrees = λ n. agrees n (low_or_high n.0 (start_nodes start));
   compares = λ n.
       All-map (λ h. has_voted (start_records start n) h.tid ≡ true) (λ h. (IsOld start h.tid → ⊥) → comm start [] h.tid ≡ false → Rattle.mn_mini.specs.Flat.part_mismatch_from (space_in (flat start []) n) 0 h.part ≡ None)
@@ -81,8 +82,7 @@ even_start start sound spaces = record {
     agrees n (inl low) = space-memory_in (start_nodes start) (base_at start) (start_records start) n low
     agrees n (inr high) =
         let none : space_in (opened_memory start) n ≡ [] = get_or_past (opened_memory start) n.0 [] (subst (λ (k : ℕ). k ≤ n.0) (sym (length-memory_in (start_nodes start) (base_at start) (start_records start))) high) in
-        let base : base_at start n ≡ [] = get_or_past start.bases n.0 [] (subst (λ (k : ℕ). k ≤ n.0) (sym spaces.0) high) in
-        none ∙ sym (ap (λ (r : List Record). with_held (comm start []) (space_of (base_at start n) r) (held_parts r)) (no_records start n high) ∙ base)
+        none ∙ sym (ap (λ (r : List Record). with_held (comm start []) (space_of (base_at start n) r) (held_parts r)) (no_records start n high) ∙ no_base start n high)
 
     distinct : (n : NodeNo) → (n.0 < start_nodes start) ⊎ (start_nodes start ≤ n.0) → AreDistinct (held_parts (start_records start n))
     distinct n (inl low) = distinct_in_place (start_nodes start) n (start_records start n) (sound.in_place n low)
@@ -92,18 +92,18 @@ even_start start sound spaces = record {
     apart n (inl low) = in_place_apart (start_nodes start) n (start_records start n) (sound.in_place n low)
     apart n (inr high) = subst (λ (r : List Record). AreApart (held_parts r)) (sym (no_records start n high)) tt
 
-pub whole_run : (start : Start) (past : List Entry) → StartsSound start → HasSpaces start → FollowsProtocol start past → Whole start past
-whole_run start [] sound spaces run = record {
+pub whole_run : (start : Start) (past : List Entry) → StartsSound start → FollowsProtocol start past → Whole start past
+whole_run start [] sound run = record {
   sound = sound;
   kept = kept_run start [] sound run;
-  even = even_start start sound spaces;
+  even = even_start start sound;
   pending = λ k t ps part down is. absurd cc;
   once = λ k t part down is. absurd cc;
   in_log = λ n tid mini is. absurd cc;
   issued = λ tid. refl;
 }
-whole_run start (e ∷ past) sound spaces run =
-    let w = whole_run start past sound spaces run.0 in
+whole_run start (e ∷ past) sound run =
+    let w = whole_run start past sound run.0 in
     let after = kept_run start (e ∷ past) sound run in record {
       sound = sound;
       kept = after;
@@ -115,8 +115,8 @@ whole_run start (e ∷ past) sound spaces run =
     }
 
 pub commits_are_flat : CommitsAreFlat
-commits_are_flat start past e i sound spaces run is =
-    let holds = commit_holds start past e i (whole_run start past sound spaces run.0) (kept_run start (e ∷ past) sound run) run.1 is in
+commits_are_flat start past e i sound run is =
+    let holds = commit_holds start past e i (whole_run start past sound run.0) (kept_run start (e ∷ past) sound run) run.1 is in
     (reads_in (flat start past) i.mini.items, memory_after (flat start past) i.mini.items, ap (λ o. unless_mismatched (flat start past) i.mini o) holds)
 
 -- Which held ids are committed
@@ -217,8 +217,8 @@ held_committed start past n h kept low (inl p) voted = new_committed start past 
 held_committed start past n h kept low (inr old) voted = old_committed start past h.tid kept old ∙ sym (comm_old start past h.tid kept old)
 
 pub spaces_agree : SpacesAgree
-spaces_agree start past n place sound spaces run low none =
-    let w = whole_run start past sound spaces run in
+spaces_agree start past n place sound run low none =
+    let w = whole_run start past sound run in
     let records = records_of start past n in
     let held = held_parts records in
     let same : AllByRecursion (λ h. is_committed (start_nodes start) (records_of start past) h.tid ≡ comm start past h.tid) held =
@@ -230,8 +230,8 @@ spaces_agree start past n place sound spaces run low none =
 -- The memory of the records
 
 pub memory_is_flat : MemoryIsFlat
-memory_is_flat start past sound spaces run =
-    let w = whole_run start past sound spaces run in
+memory_is_flat start past sound run =
+    let w = whole_run start past sound run in
     let one : length (memory_in (start_nodes start) (base_at start) (records_of start past)) ≡ start_nodes start = length-memory_in (start_nodes start) (base_at start) (records_of start past) in
     ext_get_or [] (memory_in (start_nodes start) (base_at start) (records_of start past)) (flat start past) (one ∙ sym w.even.spaces) (λ i low. at w i (subst (λ (k : ℕ). i < k) one low))
   where

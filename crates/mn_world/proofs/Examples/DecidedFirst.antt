@@ -1,6 +1,6 @@
 -- A client that decides an id at a node before it prepares it there meets its own lock: each step
 -- keeps the protocol, and the id counts as settled.
-use Rattle.std.proofs.Common.{◌≡◌, ℕ, false, true, List, [], ◌∷◌, replicate, Some, None, refl, arith, lit<, lit≤}
+use Rattle.std.proofs.Common.{◌≡◌, ℕ, false, true, List, [], ◌∷◌, Some, None, refl, arith, lit<, lit≤}
 use Rattle.mn_base.specs.declared.op.Op.TheVariants.{Versions}
 use Rattle.mn_mini.specs.declared.item.Item.TheVariants.{Read, Write}
 use Rattle.mn_mini.specs.declared.part.PartItem.TheVariants as Bare
@@ -13,12 +13,12 @@ use Rattle.mn_world.specs.declared.entry.Entry.{Entry}
 use Rattle.mn_world.specs.declared.entry.What.TheVariants.{Begin, Called, Abandoned}
 use Rattle.mn_world.specs.Calls.{Call, client_entries, since_begin}
 use Rattle.mn_world.specs.Answers.{are_settled}
-use Rattle.mn_world.specs.Protocol.{Start, FollowsProtocol, base_at, records_of}
+use Rattle.mn_world.specs.Protocol.{Start, FollowsProtocol, base_at, records_of, start_of}
 use Rattle.mn_world.specs.Causes.{recovers_nothing, prepared_after_decide, missed_decision}
 use Rattle.mn_world.proofs.Examples.TwoNodes.{node, client, id, issue, prepare}
 
 abbrev start : Start
-start = record { bases = replicate 32 0 ∷ (replicate 32 0 ∷ (replicate 32 0 ∷ [])); records = [] ∷ ([] ∷ ([] ∷ [])) }
+start = start_of ([] ∷ ([] ∷ ([] ∷ [])))
 
 abbrev call : ℕ → Request → List Entry → List Entry
 call n request past =

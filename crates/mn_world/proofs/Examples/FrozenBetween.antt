@@ -1,6 +1,6 @@
 -- A version is frozen between the tries of a transaction that would change it: the first try finds
 -- its entry changed, and the second is answered by the catalog that it reads.
-use Rattle.std.proofs.Common.{◌≡◌, ℕ, true, false, List, [], ◌∷◌, ◌++◌, replicate, Some, None, inl, inr, refl, lit<, lit≤}
+use Rattle.std.proofs.Common.{◌≡◌, ℕ, true, false, List, [], ◌∷◌, ◌++◌, Some, None, inl, inr, refl, lit<, lit≤}
 use Rattle.mn_base.specs.declared.op.Step.TheVariants.{Check, Put}
 use Rattle.mn_base.specs.declared.op.Op.{Op}
 use Rattle.mn_base.specs.declared.op.Op.TheVariants.{Tx, Snapshot}
@@ -17,13 +17,14 @@ use Rattle.mn_mini.specs.Node.{answer}
 use Rattle.mn_page.specs.declared.entry.CatEntry.{CatEntry}
 use Rattle.mn_page.specs.Grammar.{padded, entry_bytes, IsEntry}
 use Rattle.mn_page.specs.Forest.{main_entry}
+use Rattle.mn_page.specs.Base.{base_of}
 use Rattle.mn_world.specs.declared.entry.Entry.{Entry}
 use Rattle.mn_world.specs.declared.entry.What.TheVariants.{Begin, Issue, Called, Answered}
 use Rattle.mn_world.specs.Calls.{client_entries, since_begin}
 use Rattle.mn_world.specs.Shown.{CatalogShows, seen_in}
 use Rattle.mn_world.specs.Answers.{RefusedAs, Shows}
 use Rattle.mn_world.specs.History.{LastShown}
-use Rattle.mn_world.specs.Protocol.{Start, FollowsProtocol, base_at, records_of}
+use Rattle.mn_world.specs.Protocol.{Start, FollowsProtocol, base_at, records_of, start_of}
 use Rattle.mn_world.specs.Places.{catalog_place}
 use Rattle.mn_world.proofs.Examples.TwoNodes.{node, client, id, commits}
 
@@ -49,12 +50,9 @@ child = record {
   name = 109 ∷ [];
 }
 
--- one node, of whose space the first 4,160 bytes are there
+-- one node
 abbrev start : Start
-start = record {
-  bases = (replicate 64 0 ++ padded 4096 (entry_bytes main_entry)) ∷ [];
-  records = [] ∷ [];
-}
+start = start_of ([] ∷ [])
 
 abbrev call : ℕ → Request → List Entry → List Entry
 call c request past =
@@ -142,6 +140,7 @@ sound_b = record {
 }
 
 keeps_planned : FollowsProtocol start a_planned
+unfolding base_of
 keeps_planned = (
   (
     (
@@ -172,6 +171,7 @@ keeps_planned = (
 )
 
 keeps_b : FollowsProtocol start b_told
+unfolding base_of
 keeps_b = (
   (
     (
@@ -197,6 +197,7 @@ keeps_b = (
 )
 
 keeps_a : FollowsProtocol start a_told
+unfolding base_of
 keeps_a = (
   (
     (
@@ -228,9 +229,11 @@ refused_example : refused ≡ record {
   client = Some (client 0);
   what = Called (exec 0 2 a_plan) (Say.BadCompare 0 (entry_bytes frozen_main));
 } ∷ b_told
+unfolding base_of
 refused_example = refl
 
 moved_example : RefusedAs (seen_in (client_entries (client 0) b_told)) (node 0) (exec 0 2 a_plan) (Say.BadCompare 0 (entry_bytes frozen_main)) (Moved (node 0) 64 (entry_bytes main_entry) (entry_bytes frozen_main))
+unfolding base_of
 moved_example = (
   64,
   entry_bytes main_entry,
@@ -275,6 +278,7 @@ catalog_shows = (frozen_main ∷ (child ∷ []), (refl, lit≤ tt, (frozen_is_en
 
 -- and that is what shows the answer
 answer_example : Shows (client_entries (client 0) read_again) (since_begin (client_entries (client 0) read_again)) a (Replied Frozen)
+unfolding base_of
 answer_example = inr (inl (
   refl,
   record {
@@ -296,9 +300,11 @@ answer_example = inr (inl (
 
 -- b's plan is committed inside a's first try; a has its place at its second catalog read
 commits_example : commits a_told ≡ (10, id 0 3) ∷ (6, id 1 1) ∷ (2, id 0 1) ∷ []
+unfolding base_of
 commits_example = refl
 
 place_example : LastShown (client 0) a Frozen read_again 10
+unfolding base_of
 place_example = inl (
   (
     refl,

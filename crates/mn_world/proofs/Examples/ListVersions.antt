@@ -1,5 +1,5 @@
 -- A worked run that reads the catalog and answers with the listing, and its history.
-use Rattle.std.proofs.Common.{ℕ, inl, inr, List, [], ◌∷◌, ◌++◌, replicate, Some, None, refl, lit<, lit≤}
+use Rattle.std.proofs.Common.{ℕ, inl, inr, List, [], ◌∷◌, Some, None, refl, lit<, lit≤}
 use Rattle.mn_base.specs.Store.{empty_store, heads_of, listing_of}
 use Rattle.mn_base.specs.History.{IsLegal}
 use Rattle.mn_base.specs.declared.op.Op.TheVariants.{Versions}
@@ -11,18 +11,19 @@ use Rattle.mn_mini.specs.declared.request.Request.TheVariants as Ask
 use Rattle.mn_mini.specs.Mini.{Mini, part_of}
 use Rattle.mn_page.specs.Grammar.{padded, entry_bytes, IsEntry}
 use Rattle.mn_page.specs.Forest.{main_entry}
+use Rattle.mn_page.specs.Base.{base_of}
 use Rattle.mn_world.specs.declared.entry.Entry.{Entry}
 use Rattle.mn_world.specs.declared.entry.What.TheVariants.{Begin, Answered}
-use Rattle.mn_world.specs.Protocol.{Start}
+use Rattle.mn_world.specs.Protocol.{Start, start_of}
 use Rattle.mn_world.specs.Shown.{Seen, CatalogShows}
 use Rattle.mn_world.specs.Places.{catalog_place}
 use Rattle.mn_world.specs.Run.{IsRun}
 use Rattle.mn_world.specs.History.{Placed, IsHistory, pasts_of}
 use Rattle.mn_world.proofs.Examples.TwoNodes.{node, client, id}
 
--- one node, of whose space the first 4,160 bytes are there
+-- one node
 abbrev pub start : Start
-start = record { bases = (replicate 64 0 ++ padded 4096 (entry_bytes main_entry)) ∷ []; records = [] ∷ [] }
+start = start_of ([] ∷ [])
 
 abbrev reads : Mini
 reads = record { nodes = 1; items = Read (node 0) 64 4096 ∷ [] }
@@ -78,12 +79,14 @@ run_issued = (
 )
 
 run_done : IsRun start done
+unfolding base_of
 run_done = (
   run_issued,
   record { keeps = record { actor = lit≤ tt; at_node = (lit< tt, refl); by_client = record { mini = reads; issued = refl; alone = refl; own_part = refl; once = refl; open_still = refl }; of_run = tt }; means = tt },
 )
 
 run_answered : IsRun start answered
+unfolding base_of
 run_answered = (
   run_done,
   record {
@@ -96,6 +99,7 @@ abbrev placed : List Placed
 placed = record { place = 2; past = record { client = client 0; number = 1; op = Versions; reply = reply } } ∷ []
 
 history_is : IsHistory answered placed
+unfolding base_of
 history_is = ([], ([], ([], ([], refl, refl), refl), refl), (2, inl ((refl, (seen, (0, lit< tt, refl), inr catalog_shows)), refl), refl))
 
 history_legal : IsLegal empty_store (pasts_of placed)

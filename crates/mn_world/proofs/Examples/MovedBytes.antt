@@ -13,6 +13,7 @@ use Rattle.mn_mini.specs.declared.request.Request.{Request}
 use Rattle.mn_mini.specs.declared.request.Request.TheVariants as Ask
 use Rattle.mn_mini.specs.declared.reply.NodeReply.TheVariants as Say
 use Rattle.mn_mini.specs.Mini.{Mini, IsSound, part_of}
+use Rattle.mn_page.specs.Base.{base_of}
 use Rattle.mn_world.specs.declared.entry.Entry.{Entry}
 use Rattle.mn_world.specs.declared.entry.What.TheVariants.{Begin, Called, Answered}
 use Rattle.mn_world.specs.Calls.{client_entries, under_way, since_begin}
@@ -21,7 +22,7 @@ use Rattle.mn_world.specs.Commits.{flat_after}
 use Rattle.mn_world.specs.Shown.{seen_in}
 use Rattle.mn_world.specs.Answers.{RefusedAs, is_given_up}
 use Rattle.mn_world.specs.Protocol.{FollowsProtocol, records_of}
-use Rattle.mn_world.proofs.Examples.TwoNodes.{node, client, id, start, call, issue, commits}
+use Rattle.mn_world.proofs.Examples.TwoNodes.{node, client, id, start, call, issue, commits, memory}
 
 abbrev main : List ℕ
 main = 109 ∷ 97 ∷ 105 ∷ 110 ∷ []
@@ -109,6 +110,7 @@ sound_swaps old new = record {
 }
 
 keeps_read : FollowsProtocol start a_read
+unfolding base_of
 keeps_read = (
   (
     (tt, record { actor = lit≤ tt; at_node = tt; by_client = (refl, refl); of_run = tt }),
@@ -128,6 +130,7 @@ keeps_read = (
 )
 
 keeps_planned : FollowsProtocol start a_planned
+unfolding base_of
 keeps_planned = (
   keeps_read,
   record {
@@ -139,6 +142,7 @@ keeps_planned = (
 )
 
 keeps_b_planned : FollowsProtocol start b_planned
+unfolding base_of
 keeps_b_planned = (
   (keeps_planned, record { actor = lit≤ tt; at_node = tt; by_client = (refl, refl); of_run = tt }),
   record {
@@ -150,6 +154,7 @@ keeps_b_planned = (
 )
 
 keeps_b : FollowsProtocol start b_told
+unfolding base_of
 keeps_b = (
   (
     keeps_b_planned,
@@ -164,6 +169,7 @@ keeps_b = (
 )
 
 keeps_refusal : FollowsProtocol start refused
+unfolding base_of
 keeps_refusal = (
   keeps_b,
   record {
@@ -175,6 +181,7 @@ keeps_refusal = (
 )
 
 keeps_again : FollowsProtocol start planned_again
+unfolding base_of
 keeps_again = (
   (
     (
@@ -202,6 +209,7 @@ keeps_again = (
 )
 
 keeps_a : FollowsProtocol start a_told
+unfolding base_of
 keeps_a = (
   (
     keeps_again,
@@ -222,10 +230,12 @@ refused_example : refused ≡ record {
   client = Some (client 0);
   what = Called (exec 0 2 (swaps 0 97)) (Say.BadCompare 0 (98 ∷ []));
 } ∷ b_told
+unfolding base_of
 refused_example = refl
 
 -- it expected the byte that its read had shown
 moved_example : RefusedAs (seen_in (client_entries (client 0) b_told)) (node 0) (exec 0 2 (swaps 0 97)) (Say.BadCompare 0 (98 ∷ [])) (Moved (node 0) 20 (0 ∷ []) (98 ∷ []))
+unfolding base_of
 moved_example = (
   20,
   0 ∷ [],
@@ -248,30 +258,37 @@ given_up_example : is_given_up (client_entries (client 0) refused) (record {
   tid = id 0 2;
   mini = swaps 0 97;
 }) ≡ true
+unfolding base_of
 given_up_example = refl
 
 over_example : is_over (since_begin (client_entries (client 0) refused)) (record {
   tid = id 0 2;
   mini = swaps 0 97;
 }) ≡ true
+unfolding base_of
 over_example = refl
 
 -- both plans are committed where they are done, and each read at its own place: b's lies between
 -- a's first read and its refusal
 commits_example : commits a_told ≡ (12, id 0 4) ∷ (10, id 0 3) ∷ (6, id 1 1) ∷ (2, id 0 1) ∷ []
+unfolding base_of
 commits_example = refl
 
 under_way_example : under_way (client_entries (client 0) refused) ≡ Some (record {
   number = 1;
   op = a;
 })
+unfolding base_of
 under_way_example = refl
 
 ended_example : under_way (client_entries (client 0) a_told) ≡ None
+unfolding base_of
 ended_example = refl
 
 records_example : records_of start a_told (node 0) ≡ Executed (id 0 4) (part_of (swaps 98 97) (node 0)) ∷ Executed (id 1 1) (part_of (swaps 0 98) (node 0)) ∷ []
+unfolding base_of
 records_example = refl
 
-flat_example : flat_after start.bases a_told ≡ (replicate 20 0 ++ 97 ∷ [] ++ replicate 11 0) ∷ replicate 32 0 ∷ []
+flat_example : flat_after memory a_told ≡ (replicate 20 0 ++ 97 ∷ [] ++ replicate 11 0) ∷ replicate 32 0 ∷ []
+unfolding base_of
 flat_example = refl

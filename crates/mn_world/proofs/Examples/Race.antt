@@ -10,7 +10,7 @@ use Rattle.mn_world.specs.declared.entry.What.TheVariants.{Begin, Stopped, Resta
 use Rattle.mn_world.specs.Calls.{Call}
 use Rattle.mn_world.specs.Protocol.{FollowsProtocol}
 use Rattle.mn_world.specs.Commits.{flat_after}
-use Rattle.mn_world.proofs.Examples.TwoNodes.{node, client, id, start, call, issue, a_writes, prepare}
+use Rattle.mn_world.proofs.Examples.TwoNodes.{node, client, id, start, call, issue, a_writes, prepare, memory}
 
 abbrev begun : List Entry
 begun = record { node = None; client = Some (client 0); what = Begin 1 Versions } ∷ []
@@ -113,8 +113,8 @@ keeps_stop = (
 keeps_restart : FollowsProtocol start (restarted true)
 keeps_restart = (keeps_stop, record { actor = lit≤ tt; at_node = (lit< tt, (refl, refl)); by_client = tt; of_run = tt })
 
-kept_example : flat_after start.bases (restarted true) ≡ (replicate 20 0 ++ 97 ∷ [] ++ replicate 11 0) ∷ (replicate 20 0 ++ 97 ∷ [] ++ replicate 11 0) ∷ []
+kept_example : flat_after memory (restarted true) ≡ (replicate 20 0 ++ 97 ∷ [] ++ replicate 11 0) ∷ (replicate 20 0 ++ 97 ∷ [] ++ replicate 11 0) ∷ []
 kept_example = refl
 
-lost_example : flat_after start.bases (restarted false) ≡ start.bases
+lost_example : flat_after memory (restarted false) ≡ memory
 lost_example = refl

@@ -1,6 +1,6 @@
 -- A worked run from records in place: an id that all have voted for is decided by a recovery
 -- coordinator.
-use Rattle.std.proofs.Common.{◌≡◌, ℕ, zero, suc, ◌<◌, true, false, List, [], ◌∷◌, ◌++◌, replicate, Some, None, refl, sym, ap, ◌∙◌, inr, arith, lit<, lit≤, if◌then◌else◌}
+use Rattle.std.proofs.Common.{◌≡◌, ℕ, zero, suc, ◌<◌, true, false, List, [], ◌∷◌, Some, None, refl, sym, ap, ◌∙◌, inr, arith, lit<, lit≤, if◌then◌else◌}
 use Rattle.mn_base.specs.Ids.{tid_same}
 use Rattle.mn_base.specs.declared.ids.NodeNo.{NodeNo}
 use Rattle.mn_base.specs.declared.ids.Tid.{Tid}
@@ -11,11 +11,13 @@ use Rattle.mn_mini.specs.declared.record.Record.TheVariants.{Voted, Decided}
 use Rattle.mn_mini.specs.declared.request.Request.{Request}
 use Rattle.mn_mini.specs.declared.request.Request.TheVariants as Ask
 use Rattle.mn_mini.specs.declared.reply.NodeReply.TheVariants as Say
+use Rattle.mn_mini.specs.Flat.{overwritten}
 use Rattle.mn_mini.specs.Node.{has_executed, has_decided_yes, has_decided_no, answer}
+use Rattle.mn_page.specs.Base.{base_of}
 use Rattle.mn_world.specs.declared.entry.Entry.{Entry}
 use Rattle.mn_world.specs.declared.entry.What.TheVariants.{Called}
 use Rattle.mn_world.specs.Calls.{Call}
-use Rattle.mn_world.specs.Protocol.{Start, start_records, base_at, records_of, run_number, FollowsProtocol}
+use Rattle.mn_world.specs.Protocol.{Start, start_records, base_at, records_of, run_number, FollowsProtocol, start_of}
 use Rattle.mn_world.specs.Commits.{flat_after}
 use Rattle.mn_world.specs.Opened.{AreInPlace, voted_participants, is_committed, memory_in, opened_memory}
 use Rattle.mn_world.specs.Laws.{StartsSound}
@@ -31,7 +33,7 @@ abbrev vote : Record
 vote = Voted (id 0 1) two part
 
 abbrev start : Start
-start = record { bases = replicate 32 0 ∷ replicate 32 0 ∷ []; records = (vote ∷ []) ∷ (vote ∷ []) ∷ [] }
+start = start_of ((vote ∷ []) ∷ (vote ∷ []) ∷ [])
 
 -- a fact of the two nodes
 both : (P : NodeNo → Type 0) → P (node 0) → P (node 1) → (n : NodeNo) → n.0 < 2 → P n
@@ -98,7 +100,7 @@ run_example = refl
 committed_example : is_committed 2 (start_records start) (id 0 1) ≡ true
 committed_example = refl
 
-opened_example : opened_memory start ≡ (replicate 20 0 ++ 97 ∷ [] ++ replicate 11 0) ∷ (replicate 20 0 ++ 97 ∷ [] ++ replicate 11 0) ∷ []
+opened_example : opened_memory start ≡ overwritten (base_of 2 0) 20 (97 ∷ []) ∷ overwritten (base_of 2 1) 20 (97 ∷ []) ∷ []
 opened_example = refl
 
 flat_example : flat_after (opened_memory start) decided ≡ opened_memory start

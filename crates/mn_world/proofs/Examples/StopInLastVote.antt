@@ -14,7 +14,7 @@ use Rattle.mn_world.specs.Commits.{flat_after}
 use Rattle.mn_world.specs.Nodes.{is_down, stopped_request}
 use Rattle.mn_world.specs.Protocol.{FollowsProtocol, records_of}
 use Rattle.mn_world.specs.OneHistory.{WasToldDoubt}
-use Rattle.mn_world.proofs.Examples.TwoNodes.{node, client, id, start, call, a_writes, prepare, replies, commits}
+use Rattle.mn_world.proofs.Examples.TwoNodes.{node, client, id, start, call, a_writes, prepare, replies, commits, memory}
 use Rattle.mn_world.proofs.Examples.Race.{stopped, keeps_stop}
 
 abbrev told : List Entry
@@ -217,8 +217,8 @@ records_example = refl
 lost_records_example : records_of start (decided false) (node 1) ≡ Forced (id 0 1) ∷ []
 lost_records_example = refl
 
-flat_example : flat_after start.bases (decided true) ≡ (replicate 20 0 ++ 97 ∷ [] ++ replicate 11 0) ∷ (replicate 20 0 ++ 97 ∷ [] ++ replicate 11 0) ∷ []
+flat_example : flat_after memory (decided true) ≡ (replicate 20 0 ++ 97 ∷ [] ++ replicate 11 0) ∷ (replicate 20 0 ++ 97 ∷ [] ++ replicate 11 0) ∷ []
 flat_example = refl
 
-lost_flat_example : flat_after start.bases (decided false) ≡ start.bases
+lost_flat_example : flat_after memory (decided false) ≡ memory
 lost_flat_example = refl

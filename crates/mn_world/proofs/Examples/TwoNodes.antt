@@ -1,4 +1,4 @@
--- Worked runs over two nodes with spaces of 32 bytes.
+-- Worked runs over two nodes.
 use Rattle.std.proofs.Common.{◌≡◌, ℕ, true, false, List, [], ◌∷◌, ◌++◌, length, replicate, Option, Some, None, refl}
 use Rattle.mn_base.specs.declared.ids.NodeNo.{NodeNo}
 use Rattle.mn_base.specs.declared.ids.ClientNo.{ClientNo}
@@ -14,7 +14,7 @@ use Rattle.mn_mini.specs.Node.{answer}
 use Rattle.mn_world.specs.declared.entry.Entry.{Entry}
 use Rattle.mn_world.specs.declared.entry.What.{What}
 use Rattle.mn_world.specs.declared.entry.What.TheVariants.{Issue, Called}
-use Rattle.mn_world.specs.Protocol.{Start, base_at, records_of}
+use Rattle.mn_world.specs.Protocol.{Start, base_at, records_of, start_of}
 use Rattle.mn_world.specs.Calls.{Issued}
 use Rattle.mn_world.specs.Commits.{committed_by, flat_after}
 
@@ -28,7 +28,11 @@ abbrev pub id : ℕ → ℕ → Tid
 id c serial = record { run = 1; client = client c; serial = serial }
 
 abbrev pub start : Start
-start = record { bases = replicate 32 0 ∷ replicate 32 0 ∷ []; records = [] ∷ [] ∷ [] }
+start = start_of ([] ∷ [] ∷ [])
+
+-- as much of a flat memory as they write
+abbrev pub memory : List (List ℕ)
+memory = replicate 32 0 ∷ replicate 32 0 ∷ []
 
 -- a request that a client makes at a node, answered by its records
 abbrev pub call : ℕ → ℕ → Request → List Entry → List Entry
@@ -64,10 +68,10 @@ abbrev pub place_4 : List Entry
 place_4 = call 0 1 (prepare 0 1 a_writes 1) place_3
 
 -- b takes effect at its Exec, a with its second vote
-flat_example_3 : flat_after start.bases place_3 ≡ (replicate 21 0 ++ 98 ∷ [] ++ replicate 10 0) ∷ replicate 32 0 ∷ []
+flat_example_3 : flat_after memory place_3 ≡ (replicate 21 0 ++ 98 ∷ [] ++ replicate 10 0) ∷ replicate 32 0 ∷ []
 flat_example_3 = refl
 
-flat_example_4 : flat_after start.bases place_4 ≡ (replicate 20 0 ++ 97 ∷ 98 ∷ [] ++ replicate 10 0) ∷ (replicate 20 0 ++ 97 ∷ [] ++ replicate 11 0) ∷ []
+flat_example_4 : flat_after memory place_4 ≡ (replicate 20 0 ++ 97 ∷ 98 ∷ [] ++ replicate 10 0) ∷ (replicate 20 0 ++ 97 ∷ [] ++ replicate 11 0) ∷ []
 flat_example_4 = refl
 
 -- two recovery coordinators race a client over one id
@@ -117,5 +121,5 @@ raced_example_records_1 = refl
 raced_example_commits : commits raced ≡ []
 raced_example_commits = refl
 
-raced_example_flat : flat_after start.bases raced ≡ start.bases
+raced_example_flat : flat_after memory raced ≡ memory
 raced_example_flat = refl

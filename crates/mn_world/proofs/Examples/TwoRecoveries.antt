@@ -14,7 +14,7 @@ use Rattle.mn_world.specs.Commits.{flat_after}
 use Rattle.mn_world.specs.Answers.{are_settled, is_given_up}
 use Rattle.mn_world.specs.Causes.{recovers_nothing, WasForcedBy}
 use Rattle.mn_world.specs.Protocol.{FollowsProtocol, records_of}
-use Rattle.mn_world.proofs.Examples.TwoNodes.{node, client, id, start, call, issue, a_writes, prepare, replies, commits}
+use Rattle.mn_world.proofs.Examples.TwoNodes.{node, client, id, start, call, issue, a_writes, prepare, replies, commits, memory}
 use Rattle.mn_world.proofs.Examples.Race.{voted, keeps_vote, sound_a}
 
 -- both list the id, and the first one forces it at both nodes
@@ -264,8 +264,8 @@ free_example = refl
 commits_example : commits ended ≡ (18, id 0 2) ∷ []
 commits_example = refl
 
-flat_example : flat_after start.bases late ≡ start.bases
+flat_example : flat_after memory late ≡ memory
 flat_example = refl
 
-ended_flat_example : flat_after start.bases ended ≡ (replicate 20 0 ++ 97 ∷ [] ++ replicate 11 0) ∷ (replicate 20 0 ++ 97 ∷ [] ++ replicate 11 0) ∷ []
+ended_flat_example : flat_after memory ended ≡ (replicate 20 0 ++ 97 ∷ [] ++ replicate 11 0) ∷ (replicate 20 0 ++ 97 ∷ [] ++ replicate 11 0) ∷ []
 ended_flat_example = refl

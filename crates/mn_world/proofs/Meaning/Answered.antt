@@ -18,7 +18,7 @@ use Rattle.mn_world.specs.Calls.{Issued, Begun, issues_of, issue_named, was_done
 use Rattle.mn_world.specs.Answers.{Shows, IsShownFor, IsPlanBy, are_given_up, all_done, MeansBy}
 use Rattle.mn_world.specs.Protocol.{Start, FollowsProtocol}
 use Rattle.mn_world.specs.Run.{IsRun, Means}
-use Rattle.mn_world.specs.Laws.{StartsSound, HasSpaces}
+use Rattle.mn_world.specs.Laws.{StartsSound}
 use Rattle.mn_world.specs.Meaning.{MeansNoEffect}
 use Rattle.mn_world.proofs.Reading.Same.{node_same-refl}
 use Rattle.mn_world.proofs.Reading.MakeRun.{runs_follow_protocol}
@@ -100,11 +100,11 @@ some_participant start mini made =
     let first = first_named mini.items made.1.some in
     any_some (participants_of mini) first.0 (named_part start mini first.0 made first.1)
 
-pub plan_replied : (start : Start) (past : List Entry) → StartsSound start → HasSpaces start
+pub plan_replied : (start : Start) (past : List Entry) → StartsSound start
     → IsRun start past
     → (c : ClientNo) (number : ℕ) (reply : Reply) (e : AnswerAt past c number (Replied reply)) (a : ℕ) (x : PlanIn past a c number)
     → PlanReplied past a c number reply e x
-plan_replied start past sound spaces run c number reply e a x = by s.shows
+plan_replied start past sound run c number reply e a x = by s.shows
   where
     follows : FollowsProtocol start past
     follows = runs_follow_protocol start past run
@@ -134,8 +134,8 @@ plan_replied start past sound spaces run c number reply e a x = by s.shows
     committed : all_done (client_entries c e.at.before) x.issued ≡ true
         → CommittedIn e.at.before x.issued.tid
     committed done =
-        let made = (whole_run start e.at.before sound spaces before).even.minis x.issued.tid x.issued.mini mine in
-        done_committed start e.at.before x.issued.tid x.issued.mini sound spaces before mine (some_participant start x.issued.mini made)
+        let made = (whole_run start e.at.before sound before).even.minis x.issued.tid x.issued.mini mine in
+        done_committed start e.at.before x.issued.tid x.issued.mini sound before mine (some_participant start x.issued.mini made)
         (subst (λ (d : ClientNo). AllByRecursion (λ n. was_done x.issued.tid n (client_entries d e.at.before) ≡ true) (participants_of x.issued.mini)) (sym own)
         (all_of (λ n. was_done x.issued.tid n (client_entries c e.at.before)) (participants_of x.issued.mini) done))
 

@@ -17,7 +17,7 @@ use Rattle.mn_world.specs.Calls.{Begun, begun_in, under_way, under_way_after, si
 use Rattle.mn_world.specs.Shown.{Seen, seen_at}
 use Rattle.mn_world.specs.History.{Placed, placed_in, FirstCatalogAt, LastShown, ReadPlace, IsHistory}
 use Rattle.mn_world.specs.Protocol.{Start, FollowsProtocol}
-use Rattle.mn_world.specs.Laws.{StartsSound, HasSpaces}
+use Rattle.mn_world.specs.Laws.{StartsSound}
 use Rattle.mn_world.specs.OneHistory.{Ascend}
 use Rattle.mn_world.proofs.Reading.NewCalls.{by_of}
 use Rattle.mn_world.proofs.Meaning.Splits.{SameSplit, same_split, shorter_by}
@@ -184,15 +184,15 @@ same_client a b e = cc
 same_begun : (a b : Begun) → Some a ≡ Some b → a ≡ b
 same_begun a b e = cc
 
-apart : (start : Start) (past : List Entry) → StartsSound start → HasSpaces start
+apart : (start : Start) (past : List Entry) → StartsSound start
     → FollowsProtocol start past → (p q : Placed) → RepliedAt past p → Origin past q → Differs q p
     → p.place ≡ q.place → ⊥
-apart start past sound spaces run p q r (by_plan a) differs same =
+apart start past sound run p q r (by_plan a) differs same =
     let t = replied_there past p r in
     let equal : length t.before ≡ length a.before = sym t.is_place ∙ (same ∙ a.is_place) in
     let here : SameSplit t.entry a.entry t.before a.before = same_split t.later a.later t.entry a.entry t.before a.before (sym t.split ∙ a.split) equal in
-    no_plan_at_read start a.before a.entry t.seen a.issued sound spaces (follows_before start past a.later (a.entry ∷ a.before) a.split run) (subst (λ (x : Entry). Contains (seen_at x) t.seen) here.here t.has) a.commits a.no_read
-apart start past sound spaces run p q r (by_answer s) differs same =
+    no_plan_at_read start a.before a.entry t.seen a.issued sound (follows_before start past a.later (a.entry ∷ a.before) a.split run) (subst (λ (x : Entry). Contains (seen_at x) t.seen) here.here t.has) a.commits a.no_read
+apart start past sound run p q r (by_answer s) differs same =
     let t = replied_there past p r in
     let u = replied_there past q s in
     let equal : length t.before ≡ length u.before = sym t.is_place ∙ (same ∙ u.is_place) in
@@ -228,9 +228,9 @@ origin_more e past q (by_plan a) = by_plan (Rattle.mn_world.proofs.Meaning.Once.
 origin_more e past q (by_answer r) = by_answer (record { answer = Rattle.mn_world.proofs.Meaning.Once.answer_more e past q.past.client q.past.number (Rattle.mn_base.specs.declared.answer.Answer.TheVariants.Replied q.past.reply) r.answer; of = r.of; read = r.read })
 
 pub ascending : (start : Start) (past : List Entry) (placed : List Placed) → StartsSound start
-    → HasSpaces start → FollowsProtocol start past → IsHistory past placed → Ascend placed
-ascending start [] placed sound spaces run none = subst Ascend (sym none) tt
-ascending start (e ∷ past) placed sound spaces run history = by (puts_of start past e placed run history) (ascending start past history.0 sound spaces run.0 history.1) (origins start past history.0 run.0 history.1)
+    → FollowsProtocol start past → IsHistory past placed → Ascend placed
+ascending start [] placed sound run none = subst Ascend (sym none) tt
+ascending start (e ∷ past) placed sound run history = by (puts_of start past e placed run history) (ascending start past history.0 sound run.0 history.1) (origins start past history.0 run.0 history.1)
   where
     by : Puts past e history.0 placed → Ascend history.0 → AllByRecursion (Origin past) history.0
         → Ascend placed
@@ -238,6 +238,6 @@ ascending start (e ∷ past) placed sound spaces run history = by (puts_of start
     by (read_new p replied none same) up all =
         subst Ascend (sym same)
         (ascend_put p history.0
-        (all_apart (Origin past) (λ q. Differs q p) (λ q. p.place ≡ q.place → ⊥) (λ q o d. apart start (e ∷ past) sound spaces run p q replied (origin_more e past q o) d) history.0 all (none_past p history.0 none)) up)
+        (all_apart (Origin past) (λ q. Differs q p) (λ q. p.place ≡ q.place → ⊥) (λ q o d. apart start (e ∷ past) sound run p q replied (origin_more e past q o) d) history.0 all (none_past p history.0 none)) up)
     by (plan_new p plan same) up all =
         subst Ascend (sym same) (ascend_push history.0 (record { place = length past; past = p }) (all_map (Origin past) (λ q. q.place < length past) (origin_low past) history.0 all) up)

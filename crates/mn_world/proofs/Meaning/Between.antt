@@ -21,7 +21,7 @@ use Rattle.mn_world.specs.Shown.{Seen, seen_at}
 use Rattle.mn_world.specs.History.{Placed, FirstCatalogAt, LastShown, ReadPlace}
 use Rattle.mn_world.specs.Protocol.{Start, FollowsProtocol}
 use Rattle.mn_world.specs.Run.{IsRun}
-use Rattle.mn_world.specs.Laws.{StartsSound, HasSpaces}
+use Rattle.mn_world.specs.Laws.{StartsSound}
 use Rattle.mn_world.specs.Meaning.{StandsAt, BeginsOp, AnswersOp, CommitsPlanAt, OnlyThoseStand, PlansLieBehind}
 use Rattle.mn_world.proofs.Reading.MakeRun.{runs_follow_protocol}
 use Rattle.mn_world.proofs.Meaning.Splits.{SameSplit, same_split, shorter_by}
@@ -173,12 +173,12 @@ begins_before start past run p (by_answer r) op f =
     let inner = inner_split f.at.later r.answer.at.later f.at.entry r.answer.at.entry f.at.before r.answer.at.before (sym f.at.split ∙ r.answer.at.split) before in
     read_behind p.past.client r.answer.at.before p.past.op p.past.reply p.place r.read inner.between f.at.entry f.at.before p.past.number op inner.split (is_own p.past.client f.at.entry f.at.by) f.begins
 
-pub answered_behind : (start : Start) (past : List Entry) → StartsSound start → HasSpaces start
+pub answered_behind : (start : Start) (past : List Entry) → StartsSound start
     → IsRun start past → (p : Placed) → Origin past p
     → (reply : Reply) (e : AnswerAt past p.past.client p.past.number (Replied reply))
     → p.place < length e.at.before
-answered_behind start past sound spaces run p (by_plan a) reply e = (plan_replied start past sound spaces run p.past.client p.past.number reply e p.place (plan_in past p.place p.past a)).before
-answered_behind start past sound spaces run p (by_answer r) reply e =
+answered_behind start past sound run p (by_plan a) reply e = (plan_replied start past sound run p.past.client p.past.number reply e p.place (plan_in past p.place p.past a)).before
+answered_behind start past sound run p (by_answer r) reply e =
     let same = answered_once start past p.past.client p.past.number (Replied reply) (Replied p.past.reply) e r.answer (runs_follow_protocol start past run) in
     let equal : length e.at.before ≡ length r.answer.at.before = same.0 in
     let low = read_low p.past.client r.answer.at.before p.past.op p.past.reply p.place r.read in omega arith
@@ -214,7 +214,7 @@ places_lie_between start store past placed p place e h has stands = (begins, ans
     answers : (reply : Reply) → AnswersOp e p.past.client p.past.number (Replied reply)
         → p.place < place
     answers reply is =
-        let less = answered_behind start past h.opened.opened.sound h.opened.spaces h.opened.run p origin reply (answer_at past place e p.past.client p.past.number (Replied reply) stands is) in
+        let less = answered_behind start past h.opened.opened.sound h.opened.run p origin reply (answer_at past place e p.past.client p.past.number (Replied reply) stands is) in
         let at : place ≡ length stands.1 = stands.3 in omega arith
 
 -- an operation that was replied to before another one's Begin has the lower place
@@ -311,7 +311,7 @@ only_those_stand start store past placed p h has = (begun (origin_of start past 
           r.answer.at.entry,
           (r.answer.at.later, r.answer.at.before, r.answer.at.split, refl),
           (r.answer.at.by, r.answer.answers),
-          answered_behind start past h.opened.opened.sound h.opened.spaces h.opened.run p (by_answer r) p.past.reply r.answer,
+          answered_behind start past h.opened.opened.sound h.opened.run p (by_answer r) p.past.reply r.answer,
         )
 
 pub plans_lie_behind : PlansLieBehind

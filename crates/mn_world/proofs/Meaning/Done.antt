@@ -19,7 +19,7 @@ use Rattle.mn_world.specs.declared.entry.What.TheVariants.{Begin, Issue, Called,
 use Rattle.mn_world.specs.Calls.{Call, Issued, is_at, is_by, is_prepare, is_exec, is_force, is_yes, is_done, is_try, was_told, was_done, node_entries, client_entries, call_in, calls_of}
 use Rattle.mn_world.specs.Protocol.{Start, FollowsProtocol, KeepsProtocol, records_of}
 use Rattle.mn_world.specs.Commits.{effect_of, is_vote_effect, has_vote, issued_as, committed_with, committed_by}
-use Rattle.mn_world.specs.Laws.{StartsSound, HasSpaces}
+use Rattle.mn_world.specs.Laws.{StartsSound}
 use Rattle.mn_world.proofs.Reading.Same.{tid_same-true}
 use Rattle.mn_world.proofs.Reading.Unchanged.{issue_stays}
 use Rattle.mn_world.proofs.Votes.Backing.{mini_of}
@@ -52,26 +52,26 @@ committed_more e past tid c = record { entry = c.entry; later = e ∷ c.later; b
 
 -- By an Exec
 
-exec_call : (start : Start) (past : List Entry) (by : Option ClientNo) (k : NodeNo) (request : Request) (reply : NodeReply) (tid : Tid) → StartsSound start → HasSpaces start
+exec_call : (start : Start) (past : List Entry) (by : Option ClientNo) (k : NodeNo) (request : Request) (reply : NodeReply) (tid : Tid) → StartsSound start
     → FollowsProtocol start (record { node = Some k; client = by; what = Called request reply } ∷ past) → is_exec tid request ≡ true → is_done reply ≡ true → CommittedIn (record { node = Some k; client = by; what = Called request reply } ∷ past) tid
-exec_call start past by k (Ask.Exec t part) (Say.Done reads) tid sound spaces run is done =
-    let flat_exec = execs_are_flat start past (record { node = Some k; client = by; what = Called (Ask.Exec t part) (Say.Done reads) }) k t part reads sound spaces run refl refl in
+exec_call start past by k (Ask.Exec t part) (Say.Done reads) tid sound run is done =
+    let flat_exec = execs_are_flat start past (record { node = Some k; client = by; what = Called (Ask.Exec t part) (Say.Done reads) }) k t part reads sound run refl refl in
     record { entry = record { node = Some k; client = by; what = Called (Ask.Exec t part) (Say.Done reads) }; later = []; before = past; issued = flat_exec.0; split = refl; commits = flat_exec.3; same = flat_exec.2 ∙ tid_same-true t tid is }
-exec_call start past by k (Ask.Prepare t ps part) reply tid sound spaces run is done = absurd cc
-exec_call start past by k (Ask.Decide t verdict) reply tid sound spaces run is done = absurd cc
-exec_call start past by k (Ask.Force t) reply tid sound spaces run is done = absurd cc
-exec_call start past by k Ask.List reply tid sound spaces run is done = absurd cc
-exec_call start past by k (Ask.Peek at length) reply tid sound spaces run is done = absurd cc
-exec_call start past by k (Ask.Exec t part) (Say.BadLock at length holder) tid sound spaces run is done = absurd cc
-exec_call start past by k (Ask.Exec t part) (Say.BadCompare item found) tid sound spaces run is done = absurd cc
-exec_call start past by k (Ask.Exec t part) Say.BadForced tid sound spaces run is done = absurd cc
-exec_call start past by k (Ask.Exec t part) (Say.Vote vote) tid sound spaces run is done = absurd cc
-exec_call start past by k (Ask.Exec t part) Say.Decided tid sound spaces run is done = absurd cc
-exec_call start past by k (Ask.Exec t part) (Say.Listed doubts) tid sound spaces run is done = absurd cc
-exec_call start past by k (Ask.Exec t part) (Say.Peeked bytes) tid sound spaces run is done = absurd cc
-exec_call start past by k (Ask.Exec t part) Say.Down tid sound spaces run is done = absurd cc
-exec_call start past by k (Ask.Exec t part) Say.Stopped tid sound spaces run is done = absurd cc
-exec_call start past by k (Ask.Exec t part) Say.NoMemory tid sound spaces run is done = absurd cc
+exec_call start past by k (Ask.Prepare t ps part) reply tid sound run is done = absurd cc
+exec_call start past by k (Ask.Decide t verdict) reply tid sound run is done = absurd cc
+exec_call start past by k (Ask.Force t) reply tid sound run is done = absurd cc
+exec_call start past by k Ask.List reply tid sound run is done = absurd cc
+exec_call start past by k (Ask.Peek at length) reply tid sound run is done = absurd cc
+exec_call start past by k (Ask.Exec t part) (Say.BadLock at length holder) tid sound run is done = absurd cc
+exec_call start past by k (Ask.Exec t part) (Say.BadCompare item found) tid sound run is done = absurd cc
+exec_call start past by k (Ask.Exec t part) Say.BadForced tid sound run is done = absurd cc
+exec_call start past by k (Ask.Exec t part) (Say.Vote vote) tid sound run is done = absurd cc
+exec_call start past by k (Ask.Exec t part) Say.Decided tid sound run is done = absurd cc
+exec_call start past by k (Ask.Exec t part) (Say.Listed doubts) tid sound run is done = absurd cc
+exec_call start past by k (Ask.Exec t part) (Say.Peeked bytes) tid sound run is done = absurd cc
+exec_call start past by k (Ask.Exec t part) Say.Down tid sound run is done = absurd cc
+exec_call start past by k (Ask.Exec t part) Say.Stopped tid sound run is done = absurd cc
+exec_call start past by k (Ask.Exec t part) Say.NoMemory tid sound run is done = absurd cc
 
 abbrev is_exec_done : Tid → Call → Bool
 is_exec_done tid c = is_exec tid c.request && is_done c.reply
@@ -80,38 +80,38 @@ or_false : (b : Bool) → (b || false) ≡ true → b ≡ true
 or_false true e = refl
 or_false false e = absurd cc
 
-exec_entry : (start : Start) (past : List Entry) (by : Option ClientNo) (at : Option NodeNo) (what : What) (tid : Tid) → StartsSound start → HasSpaces start → FollowsProtocol start (record { node = at; client = by; what = what } ∷ past)
+exec_entry : (start : Start) (past : List Entry) (by : Option ClientNo) (at : Option NodeNo) (what : What) (tid : Tid) → StartsSound start → FollowsProtocol start (record { node = at; client = by; what = what } ∷ past)
     → list_any (is_exec_done tid) (call_in at what) ≡ true
     → CommittedIn (record { node = at; client = by; what = what } ∷ past) tid
-exec_entry start past by None what tid sound spaces run any = absurd cc
-exec_entry start past by (Some k) (Called request reply) tid sound spaces run any =
+exec_entry start past by None what tid sound run any = absurd cc
+exec_entry start past by (Some k) (Called request reply) tid sound run any =
     let both = or_false (is_exec tid request && is_done reply) any in
-    exec_call start past by k request reply tid sound spaces run (and_left (is_exec tid request) (is_done reply) both) (and_right (is_exec tid request) (is_done reply) both)
-exec_entry start past by (Some k) (Stopped (Some request) asked) tid sound spaces run any = absurd (never (and_right (is_exec tid request) false (or_false (is_exec tid request && false) any)))
+    exec_call start past by k request reply tid sound run (and_left (is_exec tid request) (is_done reply) both) (and_right (is_exec tid request) (is_done reply) both)
+exec_entry start past by (Some k) (Stopped (Some request) asked) tid sound run any = absurd (never (and_right (is_exec tid request) false (or_false (is_exec tid request && false) any)))
   where
     never : false ≡ true → ⊥
     never e = cc
-exec_entry start past by (Some k) (Stopped None asked) tid sound spaces run any = absurd cc
-exec_entry start past by (Some k) (Restarted restored) tid sound spaces run any = absurd cc
-exec_entry start past by (Some k) (Begin number op) tid sound spaces run any = absurd cc
-exec_entry start past by (Some k) (Issue t mini) tid sound spaces run any = absurd cc
-exec_entry start past by (Some k) (Abandoned t) tid sound spaces run any = absurd cc
-exec_entry start past by (Some k) (Answered number answer) tid sound spaces run any = absurd cc
+exec_entry start past by (Some k) (Stopped None asked) tid sound run any = absurd cc
+exec_entry start past by (Some k) (Restarted restored) tid sound run any = absurd cc
+exec_entry start past by (Some k) (Begin number op) tid sound run any = absurd cc
+exec_entry start past by (Some k) (Issue t mini) tid sound run any = absurd cc
+exec_entry start past by (Some k) (Abandoned t) tid sound run any = absurd cc
+exec_entry start past by (Some k) (Answered number answer) tid sound run any = absurd cc
 
 exec_done : (start : Start) (past : List Entry) (c : ClientNo) (tid : Tid) → StartsSound start
-    → HasSpaces start → FollowsProtocol start past
+    → FollowsProtocol start past
     → list_any (is_exec_done tid) (calls_of (client_entries c past)) ≡ true → CommittedIn past tid
-exec_done start [] c tid sound spaces run any = absurd cc
-exec_done start (e ∷ past) c tid sound spaces run any =
+exec_done start [] c tid sound run any = absurd cc
+exec_done start (e ∷ past) c tid sound run any =
     let older : list_any (is_exec_done tid) (calls_of (client_entries c past)) ≡ true
-    → CommittedIn (e ∷ past) tid = λ h. committed_more e past tid (exec_done start past c tid sound spaces run.0 h) in
+    → CommittedIn (e ∷ past) tid = λ h. committed_more e past tid (exec_done start past c tid sound run.0 h) in
     elim (is_by c e) as (λ b. list_any (is_exec_done tid) (calls_of (if b then e ∷ client_entries c past else client_entries c past)) ≡ true → CommittedIn (e ∷ past) tid) [
       | true ↦ λ h. by older (or_cases (list_any (is_exec_done tid) (call_in e.node e.what)) (list_any (is_exec_done tid) (calls_of (client_entries c past))) (sym (list_any-append (is_exec_done tid) (call_in e.node e.what) (calls_of (client_entries c past))) ∙ h))
       | false ↦ older
     ] any
   where
     by : (list_any (is_exec_done tid) (calls_of (client_entries c past)) ≡ true → CommittedIn (e ∷ past) tid) → (list_any (is_exec_done tid) (call_in e.node e.what) ≡ true) ⊎ (list_any (is_exec_done tid) (calls_of (client_entries c past)) ≡ true) → CommittedIn (e ∷ past) tid
-    by older (inl here) = exec_entry start past e.client e.node e.what tid sound spaces run here
+    by older (inl here) = exec_entry start past e.client e.node e.what tid sound run here
     by older (inr there) = older there
 
 -- By its last vote
@@ -200,22 +200,22 @@ some_first P [] few all = absurd (omega arith)
 some_first P (p ∷ ps) few all = (p, all.0)
 
 pub votes_commit : (start : Start) (past : List Entry) (tid : Tid) (ps : List NodeNo)
-    → StartsSound start → HasSpaces start → FollowsProtocol start past → 1 ≤ length ps
+    → StartsSound start → FollowsProtocol start past → 1 ≤ length ps
     → ((mini : Mini) → mini_of past tid ≡ Some mini → participants_of mini ≡ ps)
     → AllByRecursion (λ n. has_vote tid n past ≡ true) ps → CommittedIn past tid
-votes_commit start [] tid ps sound spaces run few named all = absurd (never (some_first (λ n. has_vote tid n [] ≡ true) ps few all).1)
+votes_commit start [] tid ps sound run few named all = absurd (never (some_first (λ n. has_vote tid n [] ≡ true) ps few all).1)
   where
     never : false ≡ true → ⊥
     never e = cc
-votes_commit start (e ∷ past) tid ps sound spaces run few named all = by (old_or_new past e tid ps all)
-    (λ olds. committed_more e past tid (votes_commit start past tid ps sound spaces run.0 few (λ mini is. named mini (issue_stays start past e tid.client tid mini (kept_run start past sound run.0) run.1 is)) olds))
+votes_commit start (e ∷ past) tid ps sound run few named all = by (old_or_new past e tid ps all)
+    (λ olds. committed_more e past tid (votes_commit start past tid ps sound run.0 few (λ mini is. named mini (issue_stays start past e tid.client tid mini (kept_run start past sound run.0) run.1 is)) olds))
   where
     by : AllByRecursion (λ n. has_vote tid n past ≡ true) ps ⊎ NewVote past e tid
         → (AllByRecursion (λ n. has_vote tid n past ≡ true) ps → CommittedIn (e ∷ past) tid)
         → CommittedIn (e ∷ past) tid
     by (inl olds) older = older olds
     by (inr new) older =
-        new_vote start past e.client e.node e.what new.node tid ps (whole_run start past sound spaces run.0) run.1 (at_some new.node e.node e.client e.what new.here) new.vote
+        new_vote start past e.client e.node e.what new.node tid ps (whole_run start past sound run.0) run.1 (at_some new.node e.node e.client e.what new.here) new.vote
         (λ mini is. named mini (issue_stays start past e tid.client tid mini (kept_run start past sound run.0) run.1 is)) all
 
 -- By what its client was told
@@ -253,31 +253,31 @@ prepare_or_exec tid n c e = by (node_same c.node n) (is_prepare tid c.request) (
     by false p q d e = absurd cc
 
 done_votes : (start : Start) (past : List Entry) (tid : Tid) (mini : Mini) → StartsSound start
-    → HasSpaces start → FollowsProtocol start past → mini_of past tid ≡ Some mini
+    → FollowsProtocol start past → mini_of past tid ≡ Some mini
     → (ps : List NodeNo)
     → AllByRecursion (λ n. was_done tid n (client_entries tid.client past) ≡ true) ps
     → CommittedIn past tid ⊎ AllByRecursion (λ n. has_vote tid n past ≡ true) ps
-done_votes start past tid mini sound spaces run is [] all = inr tt
-done_votes start past tid mini sound spaces run is (n ∷ ps) all =
+done_votes start past tid mini sound run is [] all = inr tt
+done_votes start past tid mini sound run is (n ∷ ps) all =
     by (told_two (λ c. node_same c.node n && (is_try tid c.request && is_done c.reply)) (λ c. node_same c.node n && (is_prepare tid c.request && is_done c.reply)) (is_exec_done tid) (prepare_or_exec tid n) (calls_of (client_entries tid.client past)) all.0)
-    (done_votes start past tid mini sound spaces run is ps all.1)
+    (done_votes start past tid mini sound run is ps all.1)
   where
     by : (was_told (is_prepare tid) is_done n (client_entries tid.client past) ≡ true)
         ⊎ (list_any (is_exec_done tid) (calls_of (client_entries tid.client past)) ≡ true)
         → CommittedIn past tid ⊎ AllByRecursion (λ n. has_vote tid n past ≡ true) ps
         → CommittedIn past tid ⊎ AllByRecursion (λ n. has_vote tid n past ≡ true) (n ∷ ps)
-    by (inr exec) rest = inl (exec_done start past tid.client tid sound spaces run exec)
+    by (inr exec) rest = inl (exec_done start past tid.client tid sound run exec)
     by (inl prepared) (inl committed) = inl committed
     by (inl prepared) (inr voted) =
-        let w = whole_run start past sound spaces run in
+        let w = whole_run start past sound run in
         let has : has_voted (records_of start past n) tid ≡ true = w.kept.yes tid.client n tid (or_left (was_told (is_prepare tid) is_done n (client_entries tid.client past)) (was_told (is_force tid) is_yes n (client_entries tid.client past)) prepared) in
         inr (w.in_log n tid mini is ∙ has, voted)
 
 pub done_committed : (start : Start) (past : List Entry) (tid : Tid) (mini : Mini)
-    → StartsSound start → HasSpaces start → FollowsProtocol start past
+    → StartsSound start → FollowsProtocol start past
     → mini_of past tid ≡ Some mini → 1 ≤ length (participants_of mini)
     → AllByRecursion (λ n. was_done tid n (client_entries tid.client past) ≡ true) (participants_of mini) → CommittedIn past tid
-done_committed start past tid mini sound spaces run is few all = by (done_votes start past tid mini sound spaces run is (participants_of mini) all)
+done_committed start past tid mini sound run is few all = by (done_votes start past tid mini sound run is (participants_of mini) all)
   where
     same : (a b : Mini) → Some a ≡ Some b → a ≡ b
     same a b e = cc
@@ -286,4 +286,4 @@ done_committed start past tid mini sound spaces run is few all = by (done_votes 
         ⊎ AllByRecursion (λ n. has_vote tid n past ≡ true) (participants_of mini)
         → CommittedIn past tid
     by (inl committed) = committed
-    by (inr voted) = votes_commit start past tid (participants_of mini) sound spaces run few (λ other other_is. ap participants_of (same other mini (sym other_is ∙ is))) voted
+    by (inr voted) = votes_commit start past tid (participants_of mini) sound run few (λ other other_is. ap participants_of (same other mini (sym other_is ∙ is))) voted

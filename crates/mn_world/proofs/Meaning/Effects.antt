@@ -23,7 +23,7 @@ use Rattle.mn_world.specs.Calls.{Issued, issues_of, issue_named, node_entries}
 use Rattle.mn_world.specs.Clients.{is_read, is_plan, is_compare_or_write}
 use Rattle.mn_world.specs.Protocol.{Start, FollowsProtocol}
 use Rattle.mn_world.specs.Commits.{effect_of, has_vote, issued_as, committed_with, committed_at, committed_by, memory_of_outcome, memory_after_commit}
-use Rattle.mn_world.specs.Laws.{StartsSound, HasSpaces}
+use Rattle.mn_world.specs.Laws.{StartsSound}
 use Rattle.mn_world.specs.Shown.{Seen, seen_at}
 use Rattle.mn_world.proofs.Votes.Backing.{mini_of}
 use Rattle.mn_world.proofs.Votes.Preserved.{kept_run}
@@ -99,9 +99,9 @@ pub flat_read : (start : Start) (past : List Entry) (e : Entry) (i : Issued)
 flat_read start past e i is read = ap (λ (o : Option Issued). memory_after_commit (flat start past) o) is ∙ read_leaves (flat start past) i.mini.nodes i.mini.items read
 
 pub commit_met : (start : Start) (past : List Entry) (e : Entry) (i : Issued) → StartsSound start
-    → HasSpaces start → FollowsProtocol start (e ∷ past) → committed_by past e ≡ Some i
+    → FollowsProtocol start (e ∷ past) → committed_by past e ≡ Some i
     → mismatch_from (flat start past) 0 i.mini.items ≡ None
-commit_met start past e i sound spaces run is = commit_holds start past e i (whole_run start past sound spaces run.0) (kept_run start (e ∷ past) sound run) run.1 is
+commit_met start past e i sound run is = commit_holds start past e i (whole_run start past sound run.0) (kept_run start (e ∷ past) sound run) run.1 is
 
 pub flat_plan : (start : Start) (past : List Entry) (e : Entry) (i : Issued)
     → committed_by past e ≡ Some i → mismatch_from (flat start past) 0 i.mini.items ≡ None
@@ -175,13 +175,13 @@ either false b e f = e
 
 -- no plan is committed where something was read
 pub no_plan_at_read : (start : Start) (before : List Entry) (x : Entry) (seen : Seen) (i : Issued)
-    → StartsSound start → HasSpaces start → FollowsProtocol start (x ∷ before)
+    → StartsSound start → FollowsProtocol start (x ∷ before)
     → Contains (seen_at x) seen
     → committed_by before x ≡ Some i → is_read i.mini.items ≡ false → ⊥
-no_plan_at_read start before x seen i sound spaces run has is not_read =
+no_plan_at_read start before x seen i sound run has is not_read =
     let call = read_call x.client x.node x.what seen has in
-    let flat_exec = execs_are_flat start before x call.node call.tid (Bare.Read call.begins call.size ∷ []) (call.bytes ∷ []) sound spaces run call.here call.call in
+    let flat_exec = execs_are_flat start before x call.node call.tid (Bare.Read call.begins call.size ∷ []) (call.bytes ∷ []) sound run call.here call.call in
     let same : flat_exec.0 ≡ i = same_issued flat_exec.0 i (sym flat_exec.3 ∙ is) in
-    let made = committed_made start before x i (whole_run start before sound spaces run.0) is in
+    let made = committed_made start before x i (whole_run start before sound run.0) is in
     reads_something (flat start before) flat_exec.1 i.mini call.bytes (either (is_read i.mini.items) (is_plan i.mini.items) made.2 not_read)
     (subst (λ (j : Issued). outcome_on (flat start before) j.mini ≡ Committed (call.bytes ∷ []) flat_exec.1) same flat_exec.4)

@@ -26,7 +26,7 @@ use Rattle.mn_world.specs.Commits.{committed_by}
 use Rattle.mn_world.specs.Opened.{opened_memory}
 use Rattle.mn_world.specs.Protocol.{Start}
 use Rattle.mn_world.specs.Run.{IsRun, Means}
-use Rattle.mn_world.specs.Laws.{StartsSound, HasSpaces}
+use Rattle.mn_world.specs.Laws.{StartsSound}
 use Rattle.mn_world.specs.Shown.{Seen, seen_in, seen_at, ReadShows, FirstCatalog, ScanShows}
 use Rattle.mn_world.specs.History.{Placed, placed_in, PlanOf, NoCatalog, ShowsHere, LastShown, FirstCatalogAt, ReadPlace, has_past, AnswerPuts, StepPuts, EntryPuts, IsHistory}
 use Rattle.mn_world.specs.OneHistory.{RunsHaveHistory}
@@ -45,13 +45,13 @@ use Rattle.mn_world.proofs.Meaning.Found.{plan_exists, plan_stands}
 
 -- what is known at an older place
 known_before : (start : Start) (store : Store) (past : List Entry) (placed : List Placed)
-    → StartsSound start → HasSpaces start → Holds (opened_memory start) store → IsRun start past
+    → StartsSound start → Holds (opened_memory start) store → IsRun start past
     → IsHistory past placed → (later before : List Entry) → past ≡ later ++ before
     → (ps : List Placed) × Known start store before ps
-known_before start store past placed sound spaces opened run history later before split =
+known_before start store past placed sound opened run history later before split =
     let here : IsRun start (later ++ before) = subst (IsRun start) split run in
     let older = older_history start later before placed (runs_follow_protocol start (later ++ before) here) (subst (λ (l : List Entry). IsHistory l placed) split history) in
-    (older.older, known_run start store before older.older sound spaces opened (older_run start later before here) older.history)
+    (older.older, known_run start store before older.older sound opened (older_run start later before here) older.history)
 
 -- The last read that shows a reply
 
@@ -59,22 +59,22 @@ abbrev NoBegin : ClientNo → Entry → Type 0
 NoBegin c e = (is_by c e ≡ false) ⊎ (begun_in e.what ≡ [])
 
 find_last : (start : Start) (store : Store) (past : List Entry) (placed : List Placed)
-    → StartsSound start → HasSpaces start → Holds (opened_memory start) store → IsRun start past
+    → StartsSound start → Holds (opened_memory start) store → IsRun start past
     → IsHistory past placed → (c : ClientNo) (op : Op) (reply : Reply)
     → (front later : List Entry) (x : Entry) (before : List Entry)
     → past ≡ front ++ (later ++ x ∷ before) → ShowsHere c before x op reply
     → AllByRecursion (NoBegin c) later
     → (place : ℕ) × LastShown c op reply (later ++ x ∷ before) place
-find_last start store past placed sound spaces opened run history c op reply front [] x before split here none = (length before, inl (here, refl))
-find_last start store past placed sound spaces opened run history c op reply front (z ∷ later) x before split here none =
+find_last start store past placed sound opened run history c op reply front [] x before split here none = (length before, inl (here, refl))
+find_last start store past placed sound opened run history c op reply front (z ∷ later) x before split here none =
     by (dec_shows start store (later ++ x ∷ before) known.0 known.1 z (follows_before start past front (z ∷ (later ++ x ∷ before)) split (runs_follow_protocol start past run)) c op reply)
-    (find_last start store past placed sound spaces opened run history c op reply (front ++ z ∷ []) later x before deeper here none.1)
+    (find_last start store past placed sound opened run history c op reply (front ++ z ∷ []) later x before deeper here none.1)
   where
     deeper : past ≡ (front ++ z ∷ []) ++ (later ++ x ∷ before)
     deeper = split ∙ sym (append_assoc front (z ∷ []) (later ++ x ∷ before))
 
     known : (ps : List Placed) × Known start store (later ++ x ∷ before) ps
-    known = known_before start store past placed sound spaces opened run history (front ++ z ∷ []) (later ++ x ∷ before) deeper
+    known = known_before start store past placed sound opened run history (front ++ z ∷ []) (later ++ x ∷ before) deeper
 
     by : Decided (ShowsHere c (later ++ x ∷ before) z op reply)
         → (place : ℕ) × LastShown c op reply (later ++ x ∷ before) place
@@ -111,16 +111,16 @@ lift_part c past newer y older same =
     record { later = l.later; before = l.before; split = l.split; own = append_cancel_right (client_entries c l.later) newer (y ∷ older) parts; list = l.list; by = by }
 
 some_read : (start : Start) (store : Store) (past : List Entry) (placed : List Placed)
-    → StartsSound start → HasSpaces start → Holds (opened_memory start) store → IsRun start past
+    → StartsSound start → Holds (opened_memory start) store → IsRun start past
     → IsHistory past placed → (c : ClientNo) (op : Op) (reply : Reply)
     → SomeReadShows (client_entries c past) (since_begin (client_entries c past)) op reply
     → (place : ℕ) × LastShown c op reply past place
-some_read start store past placed sound spaces opened run history c op reply shown =
+some_read start store past placed sound opened run history c op reply shown =
     let l = lift_part c past shown.newer shown.entry shown.before shown.split in
     let none : AllByRecursion (λ (e : Entry). begun_in e.what ≡ []) shown.newer =
     (all_split (λ (e : Entry). begun_in e.what ≡ []) shown.newer (shown.entry ∷ shown.older) (subst (AllByRecursion (λ (e : Entry). begun_in e.what ≡ [])) shown.since (none_begun (client_entries c past)))).0 in
     let here : ShowsHere c l.before shown.entry op reply = (l.by, (shown.seen, shown.brought, subst (λ (es : List Entry). ReadShows es shown.seen op reply) (sym l.list) shown.shows)) in
-    let found = find_last start store past placed sound spaces opened run history c op reply [] l.later shown.entry l.before l.split here
+    let found = find_last start store past placed sound opened run history c op reply [] l.later shown.entry l.before l.split here
     (no_begin c l.later (subst (AllByRecursion (λ (e : Entry). begun_in e.what ≡ [])) (sym l.own) none)) in
     (found.0, subst (λ (es : List Entry). LastShown c op reply es found.0) (sym l.split) found.1)
 
@@ -242,24 +242,24 @@ no_read_of_pairs before seen name low high limit pairs (inl leaf) = leaf
 no_read_of_pairs before seen name low high limit pairs (inr (entries, sees, refused)) = pairs_refuse_nothing (heads_in entries) name low high limit pairs refused
 
 place_exists : (start : Start) (store : Store) (past : List Entry) (placed : List Placed)
-    → StartsSound start → HasSpaces start → Holds (opened_memory start) store → IsRun start past
+    → StartsSound start → Holds (opened_memory start) store → IsRun start past
     → IsHistory past placed → (c : ClientNo) (op : Op) (reply : Reply)
     → ByRead (client_entries c past) (since_begin (client_entries c past)) op reply
     → (place : ℕ) × ReadPlace c past op reply place
-place_exists start store past placed sound spaces opened run history c (Scan name low high limit) (Say.Pairs pairs) (inl shown) = absurd (no_read_of_pairs shown.before shown.seen name low high limit pairs shown.shows)
-place_exists start store past placed sound spaces opened run history c (Scan name low high limit) (Say.Pairs pairs) (inr scanned) = first_exists c past scanned.0 scanned.1 scanned.4
-place_exists start store past placed sound spaces opened run history c op reply (inl shown) = some_read start store past placed sound spaces opened run history c op reply shown
-place_exists start store past placed sound spaces opened run history c op reply (inr scanned) = absurd scanned
+place_exists start store past placed sound opened run history c (Scan name low high limit) (Say.Pairs pairs) (inl shown) = absurd (no_read_of_pairs shown.before shown.seen name low high limit pairs shown.shows)
+place_exists start store past placed sound opened run history c (Scan name low high limit) (Say.Pairs pairs) (inr scanned) = first_exists c past scanned.0 scanned.1 scanned.4
+place_exists start store past placed sound opened run history c op reply (inl shown) = some_read start store past placed sound opened run history c op reply shown
+place_exists start store past placed sound opened run history c op reply (inr scanned) = absurd scanned
 
 -- What each entry puts there
 
 answer_exists : (start : Start) (store : Store) (past : List Entry) (old : List Placed)
-    → StartsSound start → HasSpaces start → Holds (opened_memory start) store → IsRun start past
+    → StartsSound start → Holds (opened_memory start) store → IsRun start past
     → IsHistory past old → (c : ClientNo) (begun : Option Begun) (answer : Answer)
     → under_way (client_entries c past) ≡ begun → IsShownFor (client_entries c past) begun answer
     → (new : List Placed) × AnswerPuts past c begun answer old new
-answer_exists start store past old sound spaces opened run history c None answer now shown = (old, refl)
-answer_exists start store past old sound spaces opened run history c (Some begun) (Replied reply) now shown = by (has_past c begun.number old) refl shown
+answer_exists start store past old sound opened run history c None answer now shown = (old, refl)
+answer_exists start store past old sound opened run history c (Some begun) (Replied reply) now shown = by (has_past c begun.number old) refl shown
   where
     put : ((place : ℕ) × ReadPlace c past begun.op reply place)
         → (new : List Placed)
@@ -271,35 +271,35 @@ answer_exists start store past old sound spaces opened run history c (Some begun
         → (new : List Placed)
         × MatchBool b (new ≡ old) ((place : ℕ) × ReadPlace c past begun.op reply place × (new ≡ placed_in (record { place = place; past = record { client = c; number = begun.number; op = begun.op; reply = reply } }) old))
     by true there shows = (old, refl)
-    by false none (inl (i, bef, last, plan, planned, done)) = absurd (plan_stands start past old sound spaces run history c begun.number begun.op now i bef last plan done none)
-    by false none (inr (inl (given_up, shows))) = put (place_exists start store past old sound spaces opened run history c begun.op reply (inl shows))
-    by false none (inr (inr (given_up, scanned))) = put (place_exists start store past old sound spaces opened run history c begun.op reply (inr scanned))
-answer_exists start store past old sound spaces opened run history c (Some begun) (GaveUp busy) now shown = (old, refl)
-answer_exists start store past old sound spaces opened run history c (Some begun) (Down n) now shown = (old, refl)
-answer_exists start store past old sound spaces opened run history c (Some begun) (InDoubt tid n) now shown = (old, refl)
-answer_exists start store past old sound spaces opened run history c (Some begun) (Full need free) now shown = (old, refl)
-answer_exists start store past old sound spaces opened run history c (Some begun) (Worn n place) now shown = (old, refl)
-answer_exists start store past old sound spaces opened run history c (Some begun) NoMemory now shown = (old, refl)
+    by false none (inl (i, bef, last, plan, planned, done)) = absurd (plan_stands start past old sound run history c begun.number begun.op now i bef last plan done none)
+    by false none (inr (inl (given_up, shows))) = put (place_exists start store past old sound opened run history c begun.op reply (inl shows))
+    by false none (inr (inr (given_up, scanned))) = put (place_exists start store past old sound opened run history c begun.op reply (inr scanned))
+answer_exists start store past old sound opened run history c (Some begun) (GaveUp busy) now shown = (old, refl)
+answer_exists start store past old sound opened run history c (Some begun) (Down n) now shown = (old, refl)
+answer_exists start store past old sound opened run history c (Some begun) (InDoubt tid n) now shown = (old, refl)
+answer_exists start store past old sound opened run history c (Some begun) (Full need free) now shown = (old, refl)
+answer_exists start store past old sound opened run history c (Some begun) (Worn n place) now shown = (old, refl)
+answer_exists start store past old sound opened run history c (Some begun) NoMemory now shown = (old, refl)
 
 step_exists : (start : Start) (store : Store) (past : List Entry) (old : List Placed)
-    → StartsSound start → HasSpaces start → Holds (opened_memory start) store → IsRun start past
+    → StartsSound start → Holds (opened_memory start) store → IsRun start past
     → IsHistory past old → (by : Option ClientNo) (what : What)
     → Means past by what → (new : List Placed) × StepPuts past by what old new
-step_exists start store past old sound spaces opened run history None what means = (old, refl)
-step_exists start store past old sound spaces opened run history (Some c) (Answered number answer) means = answer_exists start store past old sound spaces opened run history c (under_way (client_entries c past)) answer refl means.1
-step_exists start store past old sound spaces opened run history (Some c) (Begin number op) means = (old, refl)
-step_exists start store past old sound spaces opened run history (Some c) (Issue tid mini) means = (old, refl)
-step_exists start store past old sound spaces opened run history (Some c) (Called request reply) means = (old, refl)
-step_exists start store past old sound spaces opened run history (Some c) (Stopped request asked) means = (old, refl)
-step_exists start store past old sound spaces opened run history (Some c) (Restarted kept) means = (old, refl)
-step_exists start store past old sound spaces opened run history (Some c) (Abandoned tid) means = (old, refl)
+step_exists start store past old sound opened run history None what means = (old, refl)
+step_exists start store past old sound opened run history (Some c) (Answered number answer) means = answer_exists start store past old sound opened run history c (under_way (client_entries c past)) answer refl means.1
+step_exists start store past old sound opened run history (Some c) (Begin number op) means = (old, refl)
+step_exists start store past old sound opened run history (Some c) (Issue tid mini) means = (old, refl)
+step_exists start store past old sound opened run history (Some c) (Called request reply) means = (old, refl)
+step_exists start store past old sound opened run history (Some c) (Stopped request asked) means = (old, refl)
+step_exists start store past old sound opened run history (Some c) (Restarted kept) means = (old, refl)
+step_exists start store past old sound opened run history (Some c) (Abandoned tid) means = (old, refl)
 
 entry_exists : (start : Start) (store : Store) (past : List Entry) (e : Entry) (old : List Placed)
-    → StartsSound start → HasSpaces start → Holds (opened_memory start) store
+    → StartsSound start → Holds (opened_memory start) store
     → IsRun start (e ∷ past) → IsHistory past old → (o : Option Issued) → committed_by past e ≡ o
     → (new : List Placed) × EntryPuts past e o old new
-entry_exists start store past e old sound spaces opened run history None none = step_exists start store past old sound spaces opened run.0 history e.client e.what run.1.means
-entry_exists start store past e old sound spaces opened run history (Some i) is = by (is_read i.mini.items) refl
+entry_exists start store past e old sound opened run history None none = step_exists start store past old sound opened run.0 history e.client e.what run.1.means
+entry_exists start store past e old sound opened run history (Some i) is = by (is_read i.mini.items) refl
   where
     by : (b : Bool) → is_read i.mini.items ≡ b
         → (new : List Placed)
@@ -308,13 +308,13 @@ entry_exists start store past e old sound spaces opened run history (Some i) is 
     by false not_read = let plan = plan_exists start past e i run.0 is not_read in (old ++ record { place = length past; past = plan.0 } ∷ [], (plan.0, plan.1, refl))
 
 exists_run : (start : Start) (store : Store) (past : List Entry) → StartsSound start
-    → HasSpaces start → Holds (opened_memory start) store → IsRun start past
+    → Holds (opened_memory start) store → IsRun start past
     → (placed : List Placed) × IsHistory past placed
-exists_run start store [] sound spaces opened run = ([], refl)
-exists_run start store (e ∷ past) sound spaces opened run =
-    let old = exists_run start store past sound spaces opened run.0 in
-    let new = entry_exists start store past e old.0 sound spaces opened run old.1 (committed_by past e) refl in
+exists_run start store [] sound opened run = ([], refl)
+exists_run start store (e ∷ past) sound opened run =
+    let old = exists_run start store past sound opened run.0 in
+    let new = entry_exists start store past e old.0 sound opened run old.1 (committed_by past e) refl in
     (new.0, (old.0, old.1, new.1))
 
 pub history_exists : RunsHaveHistory
-history_exists start store past h = exists_run start store past h.opened.sound h.spaces h.opened.holds h.run
+history_exists start store past h = exists_run start store past h.opened.sound h.opened.holds h.run

@@ -24,7 +24,7 @@ use Rattle.mn_world.specs.Answers.{IsPlanBy, IsPlanOfOp, LastIssue, all_done}
 use Rattle.mn_world.specs.Commits.{committed_by}
 use Rattle.mn_world.specs.Protocol.{Start, FollowsProtocol, AllowedBy}
 use Rattle.mn_world.specs.Run.{IsRun, Means}
-use Rattle.mn_world.specs.Laws.{StartsSound, HasSpaces}
+use Rattle.mn_world.specs.Laws.{StartsSound}
 use Rattle.mn_world.specs.History.{Placed, PlanOf, has_past, IsHistory}
 use Rattle.mn_world.proofs.Reading.Same.{tid_same-true}
 use Rattle.mn_world.proofs.Reading.MakeRun.{runs_follow_protocol}
@@ -167,14 +167,14 @@ issue_later start [] before tid mini sound run is = is
 issue_later start (e ∷ later) before tid mini sound run is = issue_stays start (later ++ before) e tid.client tid mini (kept_run start (later ++ before) sound run.0) run.1 (issue_later start later before tid mini sound run.0 is)
 
 pub plan_stands : (start : Start) (past : List Entry) (old : List Placed) → StartsSound start
-    → HasSpaces start → IsRun start past → IsHistory past old
+    → IsRun start past → IsHistory past old
     → (c : ClientNo) (number : ℕ) (op : Op)
     → under_way (client_entries c past) ≡ Some (record { number = number; op = op })
     → (i : Issued) (bef : List Entry)
     → LastIssue (client_entries c past) (since_begin (client_entries c past)) i bef
     → is_plan i.mini.items ≡ true → all_done (client_entries c past) i ≡ true
     → has_past c number old ≡ false → ⊥
-plan_stands start past old sound spaces run history c number op now i bef last plan done none =
+plan_stands start past old sound run history c number op now i bef last plan done none =
     differ client number_is
   where
     follows : FollowsProtocol start past
@@ -204,7 +204,7 @@ plan_stands start past old sound spaces run history c number op now i bef last p
 
     co : CommittedIn past i.tid
     co =
-        done_committed start past i.tid i.mini sound spaces follows mine (some_participant start i.mini ((whole_run start past sound spaces follows).even.minis i.tid i.mini mine))
+        done_committed start past i.tid i.mini sound follows mine (some_participant start i.mini ((whole_run start past sound follows).even.minis i.tid i.mini mine))
         (subst (λ (d : ClientNo). AllByRecursion (λ n. was_done i.tid n (client_entries d past) ≡ true) (participants_of i.mini)) (sym own) (all_of (λ n. was_done i.tid n (client_entries c past)) (participants_of i.mini) done))
 
     older_follows : FollowsProtocol start co.before
@@ -213,7 +213,7 @@ plan_stands start past old sound spaces run history c number op now i bef last p
     older_mini : mini_of past co.issued.tid ≡ Some co.issued.mini
     older_mini =
         subst (λ (es : List Entry). mini_of es co.issued.tid ≡ Some co.issued.mini) (sym there_split)
-        (issue_later start (co.later ++ co.entry ∷ []) co.before co.issued.tid co.issued.mini sound (subst (FollowsProtocol start) there_split follows) (committed_mini start co.before co.entry co.issued (whole_run start co.before sound spaces older_follows) co.commits))
+        (issue_later start (co.later ++ co.entry ∷ []) co.before co.issued.tid co.issued.mini sound (subst (FollowsProtocol start) there_split follows) (committed_mini start co.before co.entry co.issued (whole_run start co.before sound older_follows) co.commits))
       where
         there_split : past ≡ (co.later ++ co.entry ∷ []) ++ co.before
         there_split = co.split ∙ sym (append_assoc co.later (co.entry ∷ []) co.before)

@@ -19,7 +19,7 @@ use Rattle.mn_world.specs.Planned.{Continues}
 use Rattle.mn_world.specs.Shown.{Seen, SeesCatalog, SeesPage, ShowsCatalog}
 use Rattle.mn_world.specs.History.{Placed}
 use Rattle.mn_world.specs.Protocol.{Start, FollowsProtocol}
-use Rattle.mn_world.specs.Laws.{StartsSound, HasSpaces}
+use Rattle.mn_world.specs.Laws.{StartsSound}
 use Rattle.mn_world.proofs.Bytes.Step.{flat}
 use Rattle.mn_world.proofs.Bytes.Seen.{StandsIn, seen_is_flat}
 use Rattle.mn_world.proofs.Plans.Kept.{serves_kept}
@@ -67,7 +67,6 @@ number_within (h ∷ hs) name v e = by (bytes_eq h.name name) e (number_within h
 -- what is known at every place of a log: the operations so far, with the stores between them
 pub record Known (start : Start) (store : Store) (past : List Entry) (placed : List Placed) : Type 0 where
   pub sound : StartsSound start
-  pub spaces : HasSpaces start
   pub follows : FollowsProtocol start past
   pub chain : Chain (HoldsAt start past) (PlansAt past) (length past) store 0 placed
 
@@ -104,7 +103,7 @@ pub catalog_continued : (start : Start) (store : Store) (past : List Entry) (pla
     → ShowsCatalog (client_entries c before) entries → (t : Store) → Holds (flat start target) t
     → Continues (heads_in entries) (heads_of t)
 catalog_continued start store past placed known later before later' target split split' up c entries (seen, has, sees) t holds =
-    let read = seen_is_flat start before c seen known.sound known.spaces (follows_before start past later before split known.follows) has in
+    let read = seen_is_flat start before c seen known.sound (follows_before start past later before split known.follows) has in
     let newer : List Entry = later ++ (read.1 ++ read.0 ∷ []) in
     let there : past ≡ newer ++ read.2 = split_deeper past later before read.1 read.0 read.2 split read.3 in
     let old = some_store start store past placed known newer read.2 there in

@@ -23,7 +23,7 @@ use Rattle.mn_world.specs.Clients.{is_read, Sends, AllowsPrepare, ClientAllows}
 use Rattle.mn_world.specs.Commits.{has_vote}
 use Rattle.mn_world.specs.Protocol.{Start, start_nodes, records_of, AllowedAt, FollowsProtocol}
 use Rattle.mn_world.specs.History.{Placed}
-use Rattle.mn_world.specs.Laws.{StartsSound, HasSpaces, IsNeverCommitted}
+use Rattle.mn_world.specs.Laws.{StartsSound, IsNeverCommitted}
 use Rattle.mn_world.specs.Meaning.{HistoryRun}
 use Rattle.mn_world.specs.OneHistory.{is_yes_vote, EndsWithVote, StandsNowhere, IsNeverAlone, TookEffect, AreFree, LeftAreSettled}
 use Rattle.mn_world.proofs.Reading.Same.{node_same-refl, tid_same-refl, tid_same-true}
@@ -181,10 +181,10 @@ held_nothing tid hs g none is = no (ap (held_part_of tid) (sym none) ∙ is)
     no e = cc
 
 voted_never : (start : Start) (past later : List Entry) (c : ClientNo) → StartsSound start
-    → HasSpaces start → FollowsProtocol start past → FollowsProtocol start (later ++ past)
+    → FollowsProtocol start past → FollowsProtocol start (later ++ past)
     → AreFree start past → (v : Voter start past c) → (CommittedIn past v.vote.tid → ⊥)
     → IsNeverCommitted v.vote.tid (later ++ past)
-voted_never start past later c sound spaces run run' free v not_yet = by (voted_held tid (records_of start past v.node) voted)
+voted_never start past later c sound run run' free v not_yet = by (voted_held tid (records_of start past v.node) voted)
   where
     tid : Tid
     tid = v.vote.tid
@@ -213,7 +213,7 @@ voted_never start past later c sound spaces run run' free v not_yet = by (voted_
         let same : mini ≡ v.allows.mini = same_mini mini v.allows.mini (sym is ∙ mine) in
         let long : length ps ≡ length (participants_of v.allows.mini) = ap (λ (l : List NodeNo). length l) all ∙ ap (λ (m : Mini). length (participants_of m)) same in
         let some : 2 ≤ length (participants_of v.allows.mini) = several in
-        not_yet (votes_commit start past tid ps sound spaces run (omega arith) (λ m m_is. ap participants_of (same_mini m mini (sym m_is ∙ is)) ∙ sym all) (all_in_log start past tid mini (whole_run start past sound spaces run) is ps votes))
+        not_yet (votes_commit start past tid ps sound run (omega arith) (λ m m_is. ap participants_of (same_mini m mini (sym m_is ∙ is)) ∙ sym all) (all_in_log start past tid mini (whole_run start past sound run) is ps votes))
 
     by : ((g : HeldPart) × (held_part_of tid (held_parts (records_of start past v.node)) ≡ Some g))
         ⊎ ((has_decided_yes (records_of start past v.node) tid ≡ true) ⊎ (has_decided_no (records_of start past v.node) tid ≡ true)) → IsNeverCommitted tid (later ++ past)
@@ -359,7 +359,7 @@ left_settled start store past placed h free c number (op, now, ends) = by (stand
         which l true same =
             let eq : l.x.issued.tid ≡ v.vote.tid = tid_same-true l.x.issued.tid v.vote.tid same in
             subst (λ (t : Tid). IsNeverCommitted t (later ++ past)) (sym eq)
-            (voted_never start past later c h.opened.opened.sound h.opened.spaces run run' free v (subst (λ (t : Tid). CommittedIn past t → ⊥) eq l.not_yet))
+            (voted_never start past later c h.opened.opened.sound run run' free v (subst (λ (t : Tid). CommittedIn past t → ⊥) eq l.not_yet))
         which l false other =
             other_never start past later c (record { number = number; op = op }) h.opened.opened.sound run run' now v (record { number = number; op = l.x.op }) l.x.issued (issue_old past later c (record { number = number; op = l.x.op }) l.x.issued quiet l.x.issue) refl l.x.no_read
             (λ eq. clash (tid_same l.x.issued.tid v.vote.tid) (subst (λ (t : Tid). tid_same l.x.issued.tid t ≡ true) eq (tid_same-refl l.x.issued.tid)) other)

@@ -24,7 +24,7 @@ use Rattle.mn_world.specs.Answers.{Shows, IsShownFor}
 use Rattle.mn_world.specs.Protocol.{Start, FollowsProtocol}
 use Rattle.mn_world.specs.Commits.{committed_by}
 use Rattle.mn_world.specs.Run.{IsRun, Means}
-use Rattle.mn_world.specs.Laws.{StartsSound, HasSpaces}
+use Rattle.mn_world.specs.Laws.{StartsSound}
 use Rattle.mn_world.specs.History.{Placed, placed_in, PlanOf, FirstCatalogAt, ReadPlace, has_past, AnswerPuts, StepPuts, EntryPuts, IsHistory}
 use Rattle.mn_world.specs.Opened.{opened_memory}
 use Rattle.mn_world.proofs.Bytes.Step.{flat}
@@ -134,7 +134,7 @@ put_read start store past e old past_op place known same at =
     no_plan (later, x, before, split, long, (i, is, not_read)) =
         let here : SameSplit x at.entry before at.before =
         same_split later (e ∷ at.later) x at.entry before at.before (sym split ∙ ap (λ (l : List Entry). e ∷ l) at.split) (long ∙ at.is_place) in
-        no_plan_at_read start at.before at.entry at.seen i known.sound known.spaces (follows_before start past at.later (at.entry ∷ at.before) at.split known.follows) at.brought
+        no_plan_at_read start at.before at.entry at.seen i known.sound (follows_before start past at.later (at.entry ∷ at.before) at.split known.follows) at.brought
         (subst (λ (y : Entry). committed_by at.before y ≡ Some i) here.here (subst (λ (b : List Entry). committed_by b x ≡ Some i) here.older is)) not_read
 
 -- an answer
@@ -179,9 +179,9 @@ pub plan_acts : (start : Start) (store : Store) (past : List Entry) (e : Entry) 
     → (s : Store) → Holds (flat start past) s
     → (p.reply ≡ (applied s p.op).reply) × Holds (flat start (e ∷ past)) (applied s p.op).store
 plan_acts start store past e old known run i p is plan s holds =
-    let whole = whole_run start past known.sound known.spaces known.follows in
+    let whole = whole_run start past known.sound known.follows in
     let made = committed_made start past e i whole is in
-    let met = commit_met start past e i known.sound known.spaces run is in
+    let met = commit_met start past e i known.sound run is in
     let fits = shorter_by past plan.later plan.entry plan.before plan.split in
     let on = catalog_continued start store past old known (plan.later ++ plan.entry ∷ []) plan.before [] past (plan.split ∙ sym (append_assoc plan.later (plan.entry ∷ []) plan.before)) refl (omega arith) p.client plan.planned.0 plan.planned.1 s holds in
     let acts = plan.planned.2.acts (flat start past) s (whole.even.spaces ∙ sym made.0) (holds_sizes (flat start past) s holds) holds on (record { met = met }) in
@@ -206,14 +206,14 @@ entry_puts start store past e old new known run means (Some i) is puts = by (is_
 
 -- at every place of a run
 pub known_run : (start : Start) (store : Store) (past : List Entry) (placed : List Placed)
-    → StartsSound start → HasSpaces start → Holds (opened_memory start) store → IsRun start past
+    → StartsSound start → Holds (opened_memory start) store → IsRun start past
     → IsHistory past placed → Known start store past placed
-known_run start store [] placed sound spaces opened run none = record { sound = sound; spaces = spaces; follows = tt; chain = subst (Chain (HoldsAt start []) (PlansAt []) 0 store 0) (sym none) (λ m lo hi later before split is. first later before split) }
+known_run start store [] placed sound opened run none = record { sound = sound; follows = tt; chain = subst (Chain (HoldsAt start []) (PlansAt []) 0 store 0) (sym none) (λ m lo hi later before split is. first later before split) }
   where
     first : (later before : List Entry) → [] ≡ later ++ before → Holds (flat start before) store
     first [] before split = subst (λ (b : List Entry). Holds (flat start b) store) split opened
     first (x ∷ later) before split = absurd cc
-known_run start store (e ∷ past) placed sound spaces opened run (old, history, puts) =
-    let known = known_run start store past old sound spaces opened run.0 history in
+known_run start store (e ∷ past) placed sound opened run (old, history, puts) =
+    let known = known_run start store past old sound opened run.0 history in
     let follows = runs_follow_protocol start (e ∷ past) run in
-    record { sound = sound; spaces = spaces; follows = follows; chain = entry_puts start store past e old placed known follows run.1.means (committed_by past e) refl puts }
+    record { sound = sound; follows = follows; chain = entry_puts start store past e old placed known follows run.1.means (committed_by past e) refl puts }

@@ -34,7 +34,7 @@ use Rattle.mn_world.specs.Shown.{Seen, seen_in, seen_at}
 use Rattle.mn_world.specs.Answers.{RefusedAs, DiffersAs, ShowsBytes, part_compares, is_refusal, none_refused}
 use Rattle.mn_world.specs.Protocol.{Start, FollowsProtocol, AllowedBy, base_at, records_of}
 use Rattle.mn_world.specs.Run.{IsRun}
-use Rattle.mn_world.specs.Laws.{StartsSound, HasSpaces, part_of_request}
+use Rattle.mn_world.specs.Laws.{StartsSound, part_of_request}
 use Rattle.mn_world.specs.Meaning.{OpenedRun, StandsAt, AnswersOp}
 use Rattle.mn_world.specs.Causes.{BusyTries, CommitsOther, WasMoved, MovedByOther}
 use Rattle.mn_world.proofs.Reading.MakeRun.{runs_follow_protocol}
@@ -307,14 +307,14 @@ commits_other start store past place e c number busy h stands answers later x lo
 
 -- an entry that read something leaves the memory
 read_stays : (start : Start) (before : List Entry) (x : Entry) (seen : Seen) → StartsSound start
-    → HasSpaces start → FollowsProtocol start (x ∷ before) → Contains (seen_at x) seen
+    → FollowsProtocol start (x ∷ before) → Contains (seen_at x) seen
     → flat start (x ∷ before) ≡ flat start before
-read_stays start before x seen sound spaces run has = by (committed_by before x) refl
+read_stays start before x seen sound run has = by (committed_by before x) refl
   where
     tell : (i : Issued) → committed_by before x ≡ Some i → (b : Bool) → is_read i.mini.items ≡ b
         → flat start (x ∷ before) ≡ flat start before
     tell i is true read = flat_read start before x i is read
-    tell i is false not_read = absurd (no_plan_at_read start before x seen i sound spaces run has is not_read)
+    tell i is false not_read = absurd (no_plan_at_read start before x seen i sound run has is not_read)
 
     by : (o : Option Issued) → committed_by before x ≡ o
         → flat start (x ∷ before) ≡ flat start before
@@ -374,7 +374,7 @@ moved_by_other start store past place e c number n begins expected found h stand
     stood : bytes_in (space_in (flat start z.is.before) n) begins (length expected) ≡ expected
     stood =
         let stands_there : StandsIn (flat start z.is.before) d.shows.0 =
-        here_seen start z.is.before y.entry.client y.entry.node y.entry.what d.shows.0 (whole_run start z.is.before h.opened.sound h.spaces to_read.0) to_read.1 y.brought in
+        here_seen start z.is.before y.entry.client y.entry.node y.entry.what d.shows.0 (whole_run start z.is.before h.opened.sound to_read.0) to_read.1 y.brought in
         let at_node : d.shows.0.bytes ≡ bytes_in (space_in (flat start z.is.before) n) d.shows.0.place.start d.shows.0.place.length =
         subst (λ (k : NodeNo). d.shows.0.bytes ≡ bytes_in (space_in (flat start z.is.before) k) d.shows.0.place.start d.shows.0.place.length) d.shows.2 stands_there in
         let inner : bytes_in (bytes_in (space_in (flat start z.is.before) n) d.shows.0.place.start d.shows.0.place.length) (begins - d.shows.0.place.start) (length expected) ≡ expected =
@@ -393,7 +393,7 @@ moved_by_other start store past place e c number n begins expected found h stand
         × (bytes_eq found expected ≡ false)
     differ =
         let said = call_answer start r.there.before r.entry n r.request (Say.BadCompare d.item found) to_call.1 node what not_down in
-        let mismatch = call_differs start r.there.before c n r.request d.part d.item found (whole_run start r.there.before h.opened.sound h.spaces to_call.0) sends d.asked said in
+        let mismatch = call_differs start r.there.before c n r.request d.part d.item found (whole_run start r.there.before h.opened.sound to_call.0) sends d.asked said in
         let m = mismatch_at (space_in (flat start r.there.before) n) 0 d.part (record { item = d.item; found = found }) mismatch in
         let item_is : d.item ≡ 0 + m.number = m.item_is in
         let number_is : m.number ≡ d.item = omega arith in
@@ -409,7 +409,7 @@ moved_by_other start store past place e c number n begins expected found h stand
         → ⊥
     unchanged same =
         let memory : flat start r.there.before ≡ flat start z.is.before =
-        ap (flat start) z.split ∙ (same ∙ read_stays start z.is.before y.entry d.shows.0 h.opened.sound h.spaces to_read y.brought) in
+        ap (flat start) z.split ∙ (same ∙ read_stays start z.is.before y.entry d.shows.0 h.opened.sound to_read y.brought) in
         let found_is : found ≡ expected =
         sym differ.0 ∙ (ap (λ (mem : List (List ℕ)). bytes_in (space_in mem n) begins (length expected)) memory ∙ stood) in
         clash (bytes_eq found expected) (ap (λ (b : List ℕ). bytes_eq b expected) found_is ∙ bytes_eq-refl expected) differ.1

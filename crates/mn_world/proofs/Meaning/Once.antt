@@ -15,7 +15,7 @@ use Rattle.mn_page.proofs.Grid.{all_append}
 use Rattle.mn_world.specs.declared.entry.Entry.{Entry}
 use Rattle.mn_world.specs.Protocol.{Start}
 use Rattle.mn_world.specs.Run.{IsRun}
-use Rattle.mn_world.specs.Laws.{StartsSound, HasSpaces}
+use Rattle.mn_world.specs.Laws.{StartsSound}
 use Rattle.mn_world.specs.History.{Placed, placed_in, has_past, IsHistory}
 use Rattle.mn_world.specs.Meaning.{AreOnce, StandsAt, AnswersOp, CommitsPlanAt, OnePlanEach, MeansNoEffect}
 use Rattle.mn_world.proofs.Reading.Same.{client_same-refl, nat_eq-refl}
@@ -100,18 +100,18 @@ plan_more e past place p a = record {
 }
 
 -- a plan that commits now is of an operation that stands nowhere yet
-new_plan : (start : Start) (past : List Entry) (e : Entry) → StartsSound start → HasSpaces start
+new_plan : (start : Start) (past : List Entry) (e : Entry) → StartsSound start
     → IsRun start (e ∷ past) → (p : Past) → PlanAt (e ∷ past) (length past) p → (q : Placed)
     → Origin past q → Differs q (record { place = length past; past = p })
-new_plan start past e sound spaces run p plan q (by_plan a) client number =
+new_plan start past e sound run p plan q (by_plan a) client number =
     let same = one_plan start (e ∷ past) sound (runs_follow_protocol start (e ∷ past) run) p.client p.number q.place (length past)
     (plan_as (e ∷ past) q.place q.past p.client p.number client number (plan_more e past q.place q.past a)) (plan_in (e ∷ past) (length past) p plan) in
     let place : q.place ≡ length past = same.places in
     let low = shorter_by past a.later a.entry a.before a.split in
     let is : q.place ≡ length a.before = a.is_place in absurd (omega arith)
-new_plan start past e sound spaces run p plan q (by_answer r) client number =
+new_plan start past e sound run p plan q (by_answer r) client number =
     let answer = answer_as past q p.client p.number client number r in
-    let replied = plan_replied start (e ∷ past) sound spaces run p.client p.number q.past.reply (answer_more e past p.client p.number (Replied q.past.reply) answer) (length past) (plan_in (e ∷ past) (length past) p plan) in
+    let replied = plan_replied start (e ∷ past) sound run p.client p.number q.past.reply (answer_more e past p.client p.number (Replied q.past.reply) answer) (length past) (plan_in (e ∷ past) (length past) p plan) in
     let low = shorter_by past answer.at.later answer.at.entry answer.at.before answer.at.split in
     let less : length past < length (answer_as past q p.client p.number client number r).at.before = replied.before in absurd (omega arith)
 
@@ -121,10 +121,10 @@ all_apart P p f [] all = tt
 all_apart P p f (q ∷ qs) all = (f q all.0, all_apart P p f qs all.1)
 
 pub once_run : (start : Start) (past : List Entry) (placed : List Placed) → StartsSound start
-    → HasSpaces start → IsRun start past → IsHistory past placed → AreOnce placed
-once_run start [] placed sound spaces run none = subst AreOnce (sym none) tt
-once_run start (e ∷ past) placed sound spaces run history =
-    by (puts_of start past e placed (runs_follow_protocol start (e ∷ past) run) history) (once_run start past history.0 sound spaces run.0 history.1)
+    → IsRun start past → IsHistory past placed → AreOnce placed
+once_run start [] placed sound run none = subst AreOnce (sym none) tt
+once_run start (e ∷ past) placed sound run history =
+    by (puts_of start past e placed (runs_follow_protocol start (e ∷ past) run) history) (once_run start past history.0 sound run.0 history.1)
   where
     by : Puts past e history.0 placed → AreOnce history.0 → AreOnce placed
     by (nothing_new same) once = subst AreOnce (sym same) once
@@ -132,14 +132,14 @@ once_run start (e ∷ past) placed sound spaces run history =
     by (plan_new p plan same) once =
         subst AreOnce (sym same)
         (once_push history.0 (record { place = length past; past = p })
-        (all_apart (Origin past) (record { place = length past; past = p }) (new_plan start past e sound spaces run p plan) history.0 (origins start past history.0 (runs_follow_protocol start past run.0) history.1)) once)
+        (all_apart (Origin past) (record { place = length past; past = p }) (new_plan start past e sound run p plan) history.0 (origins start past history.0 (runs_follow_protocol start past run.0) history.1)) once)
 
 abbrev EachOnce : Type 0
 EachOnce = (start : Start) (store : Store) (past : List Entry) (placed : List Placed)
     → HistoryRun start store past placed → AreOnce placed
 
 pub each_once : EachOnce
-each_once start store past placed h = once_run start past placed h.opened.opened.sound h.opened.spaces h.opened.run h.history
+each_once start store past placed h = once_run start past placed h.opened.opened.sound h.opened.run h.history
 
 -- At most one plan
 
@@ -156,15 +156,15 @@ one_plan_each start store past one other c number h x y = (one_plan start past h
 abbrev pub answer_at : (past : List Entry) (place : ℕ) (e : Entry) (c : ClientNo) (number : ℕ) (answer : Answer) → StandsAt past place e → AnswersOp e c number answer → AnswerAt past c number answer
 answer_at past place e c number answer (later, before, split, is) answers = record { at = record { entry = e; later = later; before = before; split = split; by = answers.0 }; answers = answers.1 }
 
-no_effect : (start : Start) (past : List Entry) → StartsSound start → HasSpaces start
+no_effect : (start : Start) (past : List Entry) → StartsSound start
     → IsRun start past → (c : ClientNo) (number : ℕ) (answer : Answer)
     → AnswerAt past c number answer → MeansNoEffect answer → (q : Placed) → Origin past q
     → q.past.client ≡ c → q.past.number ≡ number → ⊥
-no_effect start past sound spaces run c number answer a means q (by_plan plan) client is =
+no_effect start past sound run c number answer a means q (by_plan plan) client is =
     let s = shown_answer start past c number answer a run in
     given_up_none start past sound (runs_follow_protocol start past run) c number answer a
     (gives_up (Rattle.mn_world.specs.Calls.client_entries c a.at.before) (Rattle.mn_world.specs.Calls.since_begin (Rattle.mn_world.specs.Calls.client_entries c a.at.before)) s.op answer means s.shows) q.place (plan_as past q.place q.past c number client is plan)
-no_effect start past sound spaces run c number answer a means q (by_answer r) client is =
+no_effect start past sound run c number answer a means q (by_answer r) client is =
     subst MeansNoEffect (answered_once start past c number answer (Replied q.past.reply) a (answer_as past q c number client is r) (runs_follow_protocol start past run)).1 means
 
 all_none : (P : Placed → Type 0) (c : ClientNo) (number : ℕ)
@@ -185,7 +185,7 @@ OthersHaveNoEffect =
 
 pub others_have_no_effect : OthersHaveNoEffect
 others_have_no_effect start store past placed place e c number answer h stands answers means =
-    all_none (Origin past) c number (no_effect start past h.opened.opened.sound h.opened.spaces h.opened.run c number answer (answer_at past place e c number answer stands answers) means) placed
+    all_none (Origin past) c number (no_effect start past h.opened.opened.sound h.opened.run c number answer (answer_at past place e c number answer stands answers) means) placed
     (origins start past placed (runs_follow_protocol start past h.opened.run) h.history)
 
 abbrev OthersCommitNothing : Type 0

@@ -23,7 +23,7 @@ use Rattle.mn_world.specs.Commits.{committed_by}
 use Rattle.mn_world.specs.Opened.{opened_memory}
 use Rattle.mn_world.specs.Protocol.{Start, FollowsProtocol}
 use Rattle.mn_world.specs.Run.{IsRun}
-use Rattle.mn_world.specs.Laws.{StartsSound, HasSpaces}
+use Rattle.mn_world.specs.Laws.{StartsSound}
 use Rattle.mn_world.specs.Shown.{Seen, seen_in, seen_at, IsCatalogRead}
 use Rattle.mn_world.specs.History.{Placed, placed_in, PlanOf, NoCatalog, FirstCatalogAt, LastShown, ReadPlace, has_past, AnswerPuts, StepPuts, EntryPuts, IsHistory}
 use Rattle.mn_world.specs.Meaning.{HistoryIsOne}
@@ -158,13 +158,13 @@ entry_one start store past e old one other known run (Some i) is p q = by (is_re
         same ∙ (ap (λ (x : Past). old ++ record { place = length past; past = x } ∷ []) (plan_one start store past e old known run i is not_read p q plan plan') ∙ sym same')
 
 one_run : (start : Start) (store : Store) (past : List Entry) (one other : List Placed)
-    → StartsSound start → HasSpaces start → Holds (opened_memory start) store → IsRun start past
+    → StartsSound start → Holds (opened_memory start) store → IsRun start past
     → IsHistory past one → IsHistory past other → one ≡ other
-one_run start store [] one other sound spaces opened run p q = p ∙ sym q
-one_run start store (e ∷ past) one other sound spaces opened run (old, history, puts) (old', history', puts') =
-    let same : old' ≡ old = one_run start store past old' old sound spaces opened run.0 history' history in
-    entry_one start store past e old one other (known_run start store past old sound spaces opened run.0 history) (runs_follow_protocol start (e ∷ past) run) (committed_by past e) refl puts
+one_run start store [] one other sound opened run p q = p ∙ sym q
+one_run start store (e ∷ past) one other sound opened run (old, history, puts) (old', history', puts') =
+    let same : old' ≡ old = one_run start store past old' old sound opened run.0 history' history in
+    entry_one start store past e old one other (known_run start store past old sound opened run.0 history) (runs_follow_protocol start (e ∷ past) run) (committed_by past e) refl puts
     (subst (λ (l : List Placed). EntryPuts past e (committed_by past e) l other) same puts')
 
 pub history_is_one : HistoryIsOne
-history_is_one start store past one other h k = one_run start store past one other h.opened.opened.sound h.opened.spaces h.opened.opened.holds h.opened.run h.history k.history
+history_is_one start store past one other h k = one_run start store past one other h.opened.opened.sound h.opened.opened.holds h.opened.run h.history k.history

@@ -244,7 +244,7 @@ path_by_other start store past place e c number addr seq h stands answers = at_l
         to_answer = follows_before start past (t.later ++ t.answer ∷ []) t.before (t.split ∙ sym (append_assoc t.later (t.answer ∷ []) t.before)) follows
 
         memory_long : length (flat start front.base) ≡ start_nodes start
-        memory_long = (whole_run start front.base h.opened.sound h.spaces to_base).even.spaces
+        memory_long = (whole_run start front.base h.opened.sound to_base).even.spaces
 
         -- where no plan is committed, all that the try read stands in one memory
         stood : StaysAll start front.span front.base → (seen : Seen)
@@ -255,11 +255,11 @@ path_by_other start store past place e c number addr seq h stands answers = at_l
                 → IsSeenIn (flat start front.base) seen
             by (inl here) = (
               subst (λ (m : List (List ℕ)). StandsIn m seen) (ap (flat start) front.split ∙ all [] front.span refl)
-                  (here_seen start i.before x.client x.node x.what seen (whole_run start i.before h.opened.sound h.spaces to_x.0) to_x.1 here),
+                  (here_seen start i.before x.client x.node x.what seen (whole_run start i.before h.opened.sound to_x.0) to_x.1 here),
               subst (λ (k : ℕ). seen.place.node.0 < k) (sym memory_long) (read_node start i.before x seen to_x here),
             )
             by (inr older) =
-                let r : SeenAfter start front.span front.base seen = seen_after start front.span front.base c seen h.opened.sound h.spaces to_span (subst (λ (es : List Entry). Contains (seen_in es) seen) (sym front.own) older) in
+                let r : SeenAfter start front.span front.base seen = seen_after start front.span front.base c seen h.opened.sound to_span (subst (λ (es : List Entry). Contains (seen_in es) seen) (sym front.own) older) in
                 let parts : front.span ++ front.base ≡ r.newer ++ r.entry ∷ (r.older ++ front.base) = ap (λ (es : List Entry). es ++ front.base) r.split ∙ append_assoc r.newer (r.entry ∷ r.older) front.base in (
                   subst (λ (m : List (List ℕ)). StandsIn m seen) (all (r.newer ++ r.entry ∷ []) r.older (r.split ∙ sym (append_assoc r.newer (r.entry ∷ []) r.older))) r.stands,
                   subst (λ (k : ℕ). seen.place.node.0 < k) (sym memory_long)
@@ -305,7 +305,7 @@ path_by_other start store past place e c number addr seq h stands answers = at_l
         some_holds : (s : Store) × Holds (flat start front.base) s
         some_holds =
             let history = history_exists start store past h in
-            let known = known_run start store past history.0 h.opened.sound h.spaces h.opened.holds h.run history.1 in
+            let known = known_run start store past history.0 h.opened.sound h.opened.holds h.run history.1 in
             some_store start store past history.0 known ((t.later ++ (t.answer ∷ i.later)) ++ (x ∷ front.span)) front.base
             (there ∙ (ap (λ (es : List Entry). (t.later ++ (t.answer ∷ i.later)) ++ x ∷ es) front.split ∙ sym (append_assoc (t.later ++ (t.answer ∷ i.later)) (x ∷ front.span) front.base)))
 

@@ -50,7 +50,7 @@ pub stands_at : (start : Start) (store : Store) (past : List Entry) (placed : Li
     → StandsIn (flat start before) seen
 stands_at start store past placed known later x before split seen has =
     let run = follows_before start past later (x ∷ before) split known.follows in
-    here_seen start before x.client x.node x.what seen (whole_run start before known.sound known.spaces run.0) run.1 has
+    here_seen start before x.client x.node x.what seen (whole_run start before known.sound run.0) run.1 has
 
 -- a catalog shows it
 catalog_shows : (start : Start) (before : List Entry) (seen : Seen) (op : Op) (reply : Reply) (s : Store) → StandsIn (flat start before) seen → CatalogShows seen op reply → Holds (flat start before) s → Leaves s op reply

@@ -26,7 +26,7 @@ use Rattle.mn_world.specs.Calls.{is_by, client_entries, since_begin}
 use Rattle.mn_world.specs.Shown.{Seen, seen_in, seen_at, SeesCatalog, SeesPage, ServesNamed, IsCatalogRead, ShowsPairs, FirstCatalog, ScanShows, IsChain, BeginsAt, ReachesEnd}
 use Rattle.mn_world.specs.History.{Placed, FirstCatalogAt}
 use Rattle.mn_world.specs.Protocol.{Start, FollowsProtocol}
-use Rattle.mn_world.specs.Laws.{StartsSound, HasSpaces}
+use Rattle.mn_world.specs.Laws.{StartsSound}
 use Rattle.mn_world.proofs.Reading.Sees.{seen_in-cons, seen_in-split}
 use Rattle.mn_world.proofs.Bytes.Step.{flat}
 use Rattle.mn_world.proofs.Bytes.Spaces.{whole_run}
@@ -106,11 +106,11 @@ pub record SeenAfter (start : Start) (later before : List Entry) (seen : Seen) :
   pub stands : StandsIn (flat start (older ++ before)) seen
 
 pub seen_after : (start : Start) (later before : List Entry) (c : ClientNo) (seen : Seen)
-    → StartsSound start → HasSpaces start → FollowsProtocol start (later ++ before)
+    → StartsSound start → FollowsProtocol start (later ++ before)
     → Contains (seen_in (client_entries c later)) seen → SeenAfter start later before seen
-seen_after start [] before c seen sound spaces run has = absurd (nothing seen has)
-seen_after start (e ∷ later) before c seen sound spaces run has =
-    let rest = seen_after start later before c seen sound spaces run.0 in
+seen_after start [] before c seen sound run has = absurd (nothing seen has)
+seen_after start (e ∷ later) before c seen sound run has =
+    let rest = seen_after start later before c seen sound run.0 in
     elim (is_by c e) as (λ b. Contains (seen_in (if b then e ∷ client_entries c later else client_entries c later)) seen → SeenAfter start (e ∷ later) before seen) [
       | true ↦ λ h. cases rest (Contains-append_cases (seen_at e) (seen_in (client_entries c later)) seen (subst (λ (l : List Seen). Contains l seen) (seen_in-cons e (client_entries c later)) h))
       | false ↦ λ h. further (rest h)
@@ -128,7 +128,7 @@ seen_after start (e ∷ later) before c seen sound spaces run has =
       older = later;
       split = refl;
       here = here;
-      stands = here_seen start (later ++ before) e.client e.node e.what seen (whole_run start (later ++ before) sound spaces run.0) run.1 here;
+      stands = here_seen start (later ++ before) e.client e.node e.what seen (whole_run start (later ++ before) sound run.0) run.1 here;
     }
     cases rest (inr there) = further (rest there)
 
@@ -152,7 +152,7 @@ leaf_of : (start : Start) (store : Store) (past : List Entry) (placed : List Pla
     → LeafOf version.pairs p
 leaf_of start store past placed known c later x before split name entries s holds heads v version number at frozen seen addr p has sees leaf (w, names, serves) =
     let run = follows_before start past [] past refl known.follows in
-    let r = seen_after start later (x ∷ before) c seen known.sound known.spaces (subst (FollowsProtocol start) split known.follows) has in
+    let r = seen_after start later (x ∷ before) c seen known.sound (subst (FollowsProtocol start) split known.follows) has in
     let target : List Entry = r.older ++ x ∷ before in
     let newer : List Entry = r.newer ++ r.entry ∷ [] in
     let to_target : past ≡ newer ++ (r.older ++ x ∷ before) = split ∙ (ap (λ (l : List Entry). l ++ x ∷ before) r.split ∙ (append_assoc r.newer (r.entry ∷ r.older) (x ∷ before) ∙ sym (append_assoc r.newer (r.entry ∷ []) (r.older ++ x ∷ before)))) in

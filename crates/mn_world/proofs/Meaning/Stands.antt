@@ -25,7 +25,7 @@ use Rattle.mn_world.specs.Answers.{IsPlanBy}
 use Rattle.mn_world.specs.Commits.{committed_at, committed_by}
 use Rattle.mn_world.specs.Protocol.{Start, FollowsProtocol}
 use Rattle.mn_world.specs.Run.{IsRun}
-use Rattle.mn_world.specs.Laws.{StartsSound, HasSpaces}
+use Rattle.mn_world.specs.Laws.{StartsSound}
 use Rattle.mn_world.specs.History.{Placed, placed_in, PlanOf, ReadPlace, has_past, AnswerPuts, StepPuts, EntryPuts, IsHistory}
 use Rattle.mn_world.specs.Opened.{opened_memory}
 use Rattle.mn_world.specs.Meaning.{CommittedStands}
@@ -233,19 +233,19 @@ same_operation start past c number answer e op op' i x run now =
 
 -- the reply of a committed plan is the one that its operation was answered with
 plan_reply : (start : Start) (store : Store) (past : List Entry) (e : Entry) (old : List Placed)
-    → StartsSound start → HasSpaces start → Holds (opened_memory start) store
+    → StartsSound start → Holds (opened_memory start) store
     → IsRun start (e ∷ past) → IsHistory past old
     → (place : ℕ) (q : Past) (a : PlanAt past place q) (reply : Reply)
     → AnswerAt (e ∷ past) q.client q.number (Replied reply) → q.reply ≡ reply
-plan_reply start store past e old sound spaces opened run history place q a reply answer =
+plan_reply start store past e old sound opened run history place q a reply answer =
     let follows = runs_follow_protocol start (e ∷ past) run in
     let more = plan_more e past place q a in
-    let replied = plan_replied start (e ∷ past) sound spaces run q.client q.number reply answer place (plan_in (e ∷ past) place q (plan_more e past place q a)) in
+    let replied = plan_replied start (e ∷ past) sound run q.client q.number reply answer place (plan_in (e ∷ past) place q (plan_more e past place q a)) in
     let op : q.op ≡ replied.op = same_operation start (e ∷ past) q.client q.number (Replied reply) answer q.op replied.op a.issued (issue_of (e ∷ past) place q (plan_more e past place q a)) follows replied.now in
     let planned : IsPlanBy (client_entries q.client a.plan.before) q.op a.issued.mini reply = subst (λ (o : Op). IsPlanBy (client_entries q.client a.plan.before) o a.issued.mini reply) (sym op) replied.planned in
     let there : past ≡ (a.later ++ a.entry ∷ []) ++ a.before = a.split ∙ sym (append_assoc a.later (a.entry ∷ []) a.before) in
     let older = older_history start (a.later ++ a.entry ∷ []) a.before old (subst (FollowsProtocol start) there follows.0) (subst (λ (l : List Entry). IsHistory l old) there history) in
-    let known : Known start store a.before older.older = known_run start store a.before older.older sound spaces opened (older_run start (a.later ++ a.entry ∷ []) a.before (subst (IsRun start) there run.0)) older.history in
+    let known : Known start store a.before older.older = known_run start store a.before older.older sound opened (older_run start (a.later ++ a.entry ∷ []) a.before (subst (IsRun start) there run.0)) older.history in
     let s = some_store start store a.before older.older known [] a.before refl in
     let commit : FollowsProtocol start (a.entry ∷ a.before) = Rattle.mn_world.proofs.Meaning.Prefixes.follows_before start past a.later (a.entry ∷ a.before) a.split follows.0 in
     let one = plan_acts start store a.before a.entry older.older known commit a.issued q a.commits a.plan s.0 s.1 in
@@ -255,12 +255,12 @@ plan_reply start store past e old sound spaces opened run history place q a repl
 
 -- the operation that stands there already has the reply
 old_reply : (start : Start) (store : Store) (past : List Entry) (e : Entry) (old : List Placed)
-    → StartsSound start → HasSpaces start → Holds (opened_memory start) store
+    → StartsSound start → Holds (opened_memory start) store
     → IsRun start (e ∷ past) → IsHistory past old → (q : Placed) (reply : Reply)
     → (answer : AnswerAt (e ∷ past) q.past.client q.past.number (Replied reply))
     → length answer.at.before ≡ length past → Origin past q → q.past.reply ≡ reply
-old_reply start store past e old sound spaces opened run history q reply answer newest (by_plan a) = plan_reply start store past e old sound spaces opened run history q.place q.past a reply answer
-old_reply start store past e old sound spaces opened run history q reply answer newest (by_answer r) =
+old_reply start store past e old sound opened run history q reply answer newest (by_plan a) = plan_reply start store past e old sound opened run history q.place q.past a reply answer
+old_reply start store past e old sound opened run history q reply answer newest (by_answer r) =
     let once = answered_once start (e ∷ past) q.past.client q.past.number (Replied reply) (Replied q.past.reply) answer (answer_more e past q.past.client q.past.number (Replied q.past.reply) r.answer) (runs_follow_protocol start (e ∷ past) run) in
     let same : length answer.at.before ≡ length r.answer.at.before = once.0 in
     let low = shorter_by past r.answer.at.later r.answer.at.entry r.answer.at.before r.answer.at.split in absurd (omega arith)
@@ -277,18 +277,18 @@ record Newest (past : List Entry) (e : Entry) (c : ClientNo) (number : ℕ) (ans
   at : AnswerAt (e ∷ past) c number answer
   newest : length at.at.before ≡ length past
 
-replied_now : (start : Start) (store : Store) (past : List Entry) (e : Entry) (old new : List Placed) → StartsSound start → HasSpaces start → Holds (opened_memory start) store → IsRun start (e ∷ past) → IsHistory past old → (c : ClientNo) (number : ℕ) (op : Op) (reply : Reply)
+replied_now : (start : Start) (store : Store) (past : List Entry) (e : Entry) (old new : List Placed) → StartsSound start → Holds (opened_memory start) store → IsRun start (e ∷ past) → IsHistory past old → (c : ClientNo) (number : ℕ) (op : Op) (reply : Reply)
     → Newest past e c number (Replied reply)
     → AnswerPuts past c (Some (record { number = number; op = op })) (Replied reply) old new
     → StandsReplied c number reply new
-replied_now start store past e old new sound spaces opened run history c number op reply answer puts = by (has_past c number old) refl puts
+replied_now start store past e old new sound opened run history c number op reply answer puts = by (has_past c number old) refl puts
   where
     at : (q : Placed) → q.past.client ≡ c → q.past.number ≡ number → Origin past q
         → q.past.reply ≡ reply
     at q client is origin =
         let own : Newest past e q.past.client q.past.number (Replied reply) =
         subst (λ (x : ClientNo). Newest past e x q.past.number (Replied reply)) (sym client) (subst (λ (n : ℕ). Newest past e c n (Replied reply)) (sym is) answer) in
-        old_reply start store past e old sound spaces opened run history q reply own.at own.newest origin
+        old_reply start store past e old sound opened run history q reply own.at own.newest origin
 
     by : (b : Bool) → has_past c number old ≡ b
         → MatchBool b (new ≡ old) ((place : ℕ) × ReadPlace c past op reply place × (new ≡ placed_in (record { place = place; past = record { client = c; number = number; op = op; reply = reply } }) old)) → StandsReplied c number reply new
@@ -330,6 +330,6 @@ replied_stands start store past placed place e c number reply h (later, before, 
     let step : StepPuts before e.client e.what older.history.0 older.older = step_of before e older.history.0 older.older (committed_by before e) (answer_commits before e.node e.what number (Replied reply) answers.1) older.history.2 in
     let puts : AnswerPuts before c (under_way (client_entries c before)) (Replied reply) older.history.0 older.older =
     subst (λ (w : What). StepPuts before (Some c) w older.history.0 older.older) answers.1 (subst (λ (o : Option ClientNo). StepPuts before o e.what older.history.0 older.older) answers.0 step) in
-    let stands = replied_now start store before e older.history.0 older.older h.opened.opened.sound h.opened.spaces h.opened.opened.holds here older.history.1 c number op.0 reply answer
+    let stands = replied_now start store before e older.history.0 older.older h.opened.opened.sound h.opened.opened.holds here older.history.1 c number op.0 reply answer
     (subst (λ (o : Option Begun). AnswerPuts before c o (Replied reply) older.history.0 older.older) op.1 puts) in
     (stands.past, older.stays stands.past stands.there, stands.client, stands.same, stands.replied)

@@ -34,7 +34,7 @@ run_with_stops start past (e ∷ stops) run all follows =
 pub stops_leave_opened : StopsLeaveOpened
 stops_leave_opened start store past stops h all follows =
     let run = run_with_stops start past stops h.run all follows in
-    let opened : OpenedRun start store (stops ++ past) = record { opened = h.opened; spaces = h.spaces; run = run } in
+    let opened : OpenedRun start store (stops ++ past) = record { opened = h.opened; run = run } in
     let history = history_exists start store (stops ++ past) opened in
     let both : HistoryRun start store (stops ++ past) history.0 = record { opened = opened; history = history.1 } in
     (history.0, both, ends_opened start store (stops ++ past) history.0 both)

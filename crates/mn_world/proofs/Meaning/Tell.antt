@@ -287,7 +287,7 @@ pub dec_shows : (start : Start) (store : Store) (past : List Entry) (placed : Li
 dec_shows start store past placed known e run c op reply = own (dec_bool (is_by c e) true) (one_read e)
   where
     stands : (seen : Seen) → seen_at e ≡ seen ∷ [] → StandsIn (flat start past) seen
-    stands seen is = here_seen start past e.client e.node e.what seen (whole_run start past known.sound known.spaces known.follows) run.1 (subst (λ (l : List Seen). Contains l seen) (sym is) (0, omega arith, refl))
+    stands seen is = here_seen start past e.client e.node e.what seen (whole_run start past known.sound known.follows) run.1 (subst (λ (l : List Seen). Contains l seen) (sym is) (0, omega arith, refl))
 
     s : (s : Store) × Holds (flat start past) s
     s = some_store start store past placed known [] past refl

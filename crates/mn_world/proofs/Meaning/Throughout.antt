@@ -21,7 +21,7 @@ use Rattle.mn_world.proofs.Meaning.Legal.{known_run}
 
 pub known_of : (start : Start) (store : Store) (past : List Entry) (placed : List Placed)
     → HistoryRun start store past placed → Known start store past placed
-known_of start store past placed h = known_run start store past placed h.opened.opened.sound h.opened.spaces h.opened.opened.holds h.opened.run h.history
+known_of start store past placed h = known_run start store past placed h.opened.opened.sound h.opened.opened.holds h.opened.run h.history
 
 -- it is legal from the opened store
 abbrev HistoryIsLegal : Type 0
@@ -67,7 +67,7 @@ stays_opened start store past later before placed h split =
     let follows = follows_before start past later before split known.follows in
     record {
       sound = records_stay_sound start before known.sound follows;
-      holds = subst (λ m. Holds m (store_at store placed (length before))) (sym (memory_is_flat start before known.sound known.spaces follows)) (holds_throughout start store past later before placed h split);
+      holds = subst (λ m. Holds m (store_at store placed (length before))) (sym (memory_is_flat start before known.sound follows)) (holds_throughout start store past later before placed h split);
     }
 
 pub ends_opened : EndsOpened
@@ -75,7 +75,7 @@ ends_opened start store past placed h =
     let known = known_of start store past placed h in
     record {
       sound = records_stay_sound start past known.sound known.follows;
-      holds = subst (λ m. Holds m (store_after store (pasts_of placed))) (sym (memory_is_flat start past known.sound known.spaces known.follows))
+      holds = subst (λ m. Holds m (store_after store (pasts_of placed))) (sym (memory_is_flat start past known.sound known.follows))
           (chain_end (HoldsAt start past) (PlansAt past) (length past) store 0 placed (omega arith) known.chain [] past refl refl);
     }
 

@@ -67,7 +67,7 @@ runs_are_one_history start store past placed h =
     record {
       replied = replied_stand start store past placed h;
       others = others_never start store past placed h;
-      ascending = ascending start past placed h.opened.opened.sound h.opened.spaces (runs_follow_protocol start past h.opened.run) h.history;
+      ascending = ascending start past placed h.opened.opened.sound (runs_follow_protocol start past h.opened.run) h.history;
       legal = history_is_legal start store past placed h;
       once = each_once start store past placed h;
       between = each (LiesBetween past) placed (lies_between start store past placed h);

@@ -3,7 +3,8 @@ use Rattle.std.specs.List.{range_with_len}
 use Rattle.std.proofs.lemmas.List.FromFn.{map-range_with_len_more}
 use Rattle.mn_base.specs.Store.{empty_store}
 use Rattle.mn_page.specs.Holds.{Holds}
-use Rattle.mn_forest.specs.Base.{base_of, base_memory}
+use Rattle.mn_page.specs.Base.{base_of}
+use Rattle.mn_forest.specs.Base.{base_memory}
 use Rattle.mn_forest.proofs.BaseStore.{spaces_are, base_holds}
 use Rattle.mn_forest.proofs.base.base_spaces.Goals as goal
 

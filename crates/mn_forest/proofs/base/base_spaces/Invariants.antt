@@ -1,6 +1,6 @@
 use Rattle.std.proofs.Common.{◌≡◌, map}
 use Rattle.std.specs.List.{range_with_len}
-use Rattle.mn_forest.specs.Base.{base_of}
+use Rattle.mn_page.specs.Base.{base_of}
 use Rattle.mn_forest.proofs.base.base_spaces.Given as goal
 
 -- the nodes so far have their base spaces

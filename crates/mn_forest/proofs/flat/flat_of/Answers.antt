@@ -7,7 +7,7 @@ use Rattle.mn_mini.specs.Node.{held_parts, space_of, with_held}
 use Rattle.mn_world.specs.Opened.{AreSound, is_committed}
 use Rattle.mn_world.proofs.Votes.Start.{low_or_high}
 use Rattle.mn_forest.specs.declared.error.VoteError.{VoteError}
-use Rattle.mn_forest.specs.Base.{base_of}
+use Rattle.mn_page.specs.Base.{base_of}
 use Rattle.mn_forest.specs.Refusal.{RefusesRecords, IsWantOfMemory}
 use Rattle.mn_forest.specs.Votes.{AreRight, lists_of, list_at, numbered}
 use Rattle.mn_forest.proofs.Lists.{read_or}

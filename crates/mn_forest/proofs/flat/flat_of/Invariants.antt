@@ -1,7 +1,7 @@
 use Rattle.std.proofs.Common.{◌≡◌, ◌<◌, length, map}
 use Rattle.mn_base.specs.Ids.{node_numbers}
 use Rattle.mn_base.specs.declared.ids.NodeNo.{NodeNo}
-use Rattle.mn_forest.specs.Base.{base_of}
+use Rattle.mn_page.specs.Base.{base_of}
 use Rattle.mn_forest.specs.Votes.{AreRight, lists_of}
 use Rattle.mn_forest.proofs.Opening.{opened_space}
 use Rattle.mn_forest.proofs.flat.flat_of.Given as goal

@@ -3,7 +3,7 @@ use Rattle.mn_mini.specs.declared.record.Record.{Record}
 use Rattle.mn_mini.specs.declared.record.Record.TheVariants.{Forced}
 use Rattle.mn_mini.specs.declared.request.Request.TheVariants as Ask
 use Rattle.mn_mini.specs.Node.{has_voted, has_forced, Response}
-use Rattle.mn_node.specs.Memory.{base_of}
+use Rattle.mn_page.specs.Base.{base_of}
 use Rattle.mn_node.specs.Node.{IsWithOrWithout, LeavesAt, added_to, node_answer}
 use Rattle.mn_node.proofs.Steps.{up_logged, force_answer, unasked}
 use Rattle.mn_node.proofs.step.force.Goals as goal

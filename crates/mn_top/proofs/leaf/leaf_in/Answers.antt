@@ -2,7 +2,7 @@ use Rattle.std.proofs.Common.{◌≡◌, List, ℕ, rules, sym, ap, [], subst, r
 use Rattle.std.proofs.lemmas.Bool.{false≢true}
 use Rattle.std.proofs.lemmas.Slice.Eq.{bytes_eq-Decides}
 use Rattle.mn_mini.specs.Flat.{bytes_in, overwritten}
-use Rattle.mn_node.specs.Memory.{base_of}
+use Rattle.mn_page.specs.Base.{base_of}
 use Rattle.mn_page.specs.Grammar.{page_bytes}
 use Rattle.mn_top.specs.Leaf.{leaf_page, HoldsLeaf}
 use Rattle.mn_top.proofs.Leaves.{base_holds, slot_is, unnot, written_over}

@@ -8,7 +8,8 @@ use Rattle.mn_world.specs.declared.entry.Entry.{Entry}
 use Rattle.mn_world.specs.Run.{entries_of}
 use Rattle.mn_cell.specs.Calls.{entry_at, what_said}
 use Rattle.mn_cell.specs.Promises.{IsOwed, IsOwedAt, decided_by}
-use Rattle.mn_cell.specs.Station.{HasMade, IsPassOf, start_of}
+use Rattle.mn_cell.specs.Station.{HasMade, IsPassOf}
+use Rattle.mn_world.specs.Protocol.{start_of}
 use Rattle.mn_cell.proofs.Fills.{fit_lengths}
 use Rattle.mn_cell.proofs.Made.{base_is, keeps_stop, made_called, made_unchanged}
 use Rattle.mn_cell.proofs.OneLog.{owed_here}

@@ -3,7 +3,8 @@ use Rattle.mn_world.specs.declared.entry.Entry.{Entry}
 use Rattle.mn_world.specs.declared.entry.What.TheVariants.{Restarted}
 use Rattle.mn_world.specs.Run.{entries_of}
 use Rattle.mn_cell.specs.Calls.{entry_at}
-use Rattle.mn_cell.specs.Station.{HasMade, IsPassOf, start_of}
+use Rattle.mn_cell.specs.Station.{HasMade, IsPassOf}
+use Rattle.mn_world.specs.Protocol.{start_of}
 use Rattle.mn_cell.proofs.Made.{base_is, made_failed, made_restarted}
 use Rattle.mn_cell.proofs.Owing.{newest_entry}
 use Rattle.mn_cell.proofs.station.Station.restart.Goals as goal

@@ -6,7 +6,8 @@ use Rattle.mn_mini.specs.declared.record.Record.TheVariants.{Decided}
 use Rattle.mn_mini.specs.Node.{held_parts, held_part_of, with_held, without_tid}
 use Rattle.mn_locks.specs.declared.hold.Hold.{Hold}
 use Rattle.mn_locks.specs.Locks.{without}
-use Rattle.mn_node.specs.Memory.{IsBuilt, base_of}
+use Rattle.mn_page.specs.Base.{base_of}
+use Rattle.mn_node.specs.Memory.{IsBuilt}
 use Rattle.mn_node.proofs.Built.{built_decided, fewer, newest}
 use Rattle.mn_node.proofs.TestedParts.{some_part}
 use Rattle.mn_node.proofs.memory.Memory.add_decision.Goals as goal

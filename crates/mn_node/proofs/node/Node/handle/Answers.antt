@@ -1,5 +1,5 @@
 use Rattle.std.proofs.Common.{reverse}
-use Rattle.mn_node.specs.Memory.{base_of}
+use Rattle.mn_page.specs.Base.{base_of}
 use Rattle.mn_node.proofs.Apart.{node_replied, node_stopped}
 use Rattle.mn_node.proofs.Fitting.{no_peek, reply_fits}
 use Rattle.mn_node.proofs.Moments.{request_moments}
