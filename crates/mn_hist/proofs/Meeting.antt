@@ -1,10 +1,14 @@
 -- For the test of two threads: passes that are parted, used and put together again, and the lists that they have.
-use Rattle.std.proofs.Common.{◌≡◌, ℕ, zero, suc, ◌<◌, ◌≤◌, false, Option, Some, None, List, [], ◌∷◌, refl, sym, ap, ◌∙◌, subst, ⊎_elim, arith, ne_eqb}
+use Rattle.std.proofs.Common.{◌≡◌, ◌≢◌, ℕ, zero, suc, ◌<◌, ◌≤◌, false, Option, Some, None, List, [], ◌∷◌, ◌++◌, length, map, reverse, refl, sym, ap, ◌∙◌, subst, ⊎_elim, arith, ne_eqb}
+use Rattle.std.specs.List.{AllByRecursion}
 use Rattle.std.proofs.lemmas.Bool.{cases_eq, eqb-false}
+use Rattle.std.proofs.lemmas.List.{map-append, reverse-append}
+use Rattle.std.proofs.lemmas.Option.{same_Some}
 use Rattle.mn_base.specs.declared.ids.NodeNo.{NodeNo}
 use Rattle.mn_base.specs.declared.ids.ClientNo.{ClientNo}
 use Rattle.mn_base.specs.declared.gate.StopAt.{StopAt}
 use Rattle.mn_mini.specs.declared.request.Request.TheVariants as Ask
+use Rattle.mn_mini.specs.declared.reply.NodeReply.{NodeReply}
 use Rattle.mn_mini.specs.declared.reply.NodeReply.TheVariants as Say
 use Rattle.mn_actors.specs.declared.actor.Actor.{Actor}
 use Rattle.mn_actors.specs.declared.actor.Actor.TheVariants.{Node, Client}
@@ -13,9 +17,13 @@ use Rattle.mn_actors.specs.Lines.{node_at, client_at, same_actor, IsActor}
 use Rattle.mn_actors.specs.Lists.{held, or_else, Owns, OwnsAll, IsJoined, IsSplit, IsSameLists}
 use Rattle.mn_actors.specs.Log.{IsOneLog}
 use Rattle.mn_world.specs.declared.entry.Entry.{Entry}
+use Rattle.mn_world.specs.Laws.{NodeListAllowed}
 use Rattle.mn_world.specs.Lists.{ClientState}
-use Rattle.mn_cell.specs.Calls.{IsLegalLine, MaySend}
+use Rattle.mn_world.specs.Protocol.{Start, start_nodes}
+use Rattle.mn_world.specs.Run.{IsLogOfRun, entries_of}
+use Rattle.mn_cell.specs.Calls.{EndsList, IsLegalLine, MaySend, entry_at, what_said}
 use Rattle.mn_cell.specs.Passes.{OwnsJust}
+use Rattle.mn_cell.specs.Runs.{AreParts, IsIssueOf, PartsMakeRun, placed_from}
 use Rattle.mn_hist.specs.Merging.{AreOneLog, list_of}
 
 -- Peeks
@@ -32,6 +40,31 @@ peek_legal n c list start size stop known (Say.Listed doubts) = record { actor =
 peek_legal n c list start size stop known (Say.Peeked bytes) = record { actor = known; node = tt; step = (tt, tt) }
 peek_legal n c list start size stop known Say.Down = record { actor = known; node = tt; step = (tt, tt) }
 peek_legal n c list start size stop known Say.NoMemory = record { actor = known; node = tt; step = (tt, tt) }
+
+-- what Peeks leave in a list of a client
+pub peeks_more : (start : Start) (n : NodeNo) (c : ClientNo) (from size known after : ℕ) (stop : Option StopAt) (reply : NodeReply) (old new : List (ℕ × Entry))
+    → (reply ≢ Say.NoMemory → EndsList known after (entry_at n c (what_said (Ask.Peek from size) stop reply)) old new) → (reply ≡ Say.NoMemory → new ≡ old)
+    → AllByRecursion (IsIssueOf start) (entries_of old) → AllByRecursion (IsIssueOf start) (entries_of new)
+peeks_more start n c from size known after stop reply old new said kept all = by reply said kept
+  where
+    newest : (p : ℕ) (e : Entry) → entries_of (old ++ (p, e) ∷ []) ≡ e ∷ entries_of old
+    newest p e = ap (λ (m : List Entry). reverse m) (map-append (λ (x : ℕ × Entry). x.1) old ((p, e) ∷ [])) ∙ reverse-append (map (λ (x : ℕ × Entry). x.1) old) (e ∷ [])
+
+    longer : (e : Entry) → EndsList known after e old new → IsIssueOf start e → AllByRecursion (IsIssueOf start) (entries_of new)
+    longer e ends one = subst (AllByRecursion (IsIssueOf start)) (sym (ap (λ (l : List (ℕ × Entry)). entries_of l) ends.ends ∙ newest ends.place e)) (one, all)
+
+    by : (r : NodeReply) → (r ≢ Say.NoMemory → EndsList known after (entry_at n c (what_said (Ask.Peek from size) stop r)) old new) → (r ≡ Say.NoMemory → new ≡ old) → AllByRecursion (IsIssueOf start) (entries_of new)
+    by Say.NoMemory said kept = subst (λ (l : List (ℕ × Entry)). AllByRecursion (IsIssueOf start) (entries_of l)) (sym (kept refl)) all
+    by Say.Stopped said kept = longer _ (said (λ e. cc)) tt
+    by (Say.Done reads) said kept = longer _ (said (λ e. cc)) tt
+    by (Say.BadLock start' long holder) said kept = longer _ (said (λ e. cc)) tt
+    by (Say.BadCompare item found) said kept = longer _ (said (λ e. cc)) tt
+    by Say.BadForced said kept = longer _ (said (λ e. cc)) tt
+    by (Say.Vote verdict) said kept = longer _ (said (λ e. cc)) tt
+    by Say.Decided said kept = longer _ (said (λ e. cc)) tt
+    by (Say.Listed doubts) said kept = longer _ (said (λ e. cc)) tt
+    by (Say.Peeked bytes) said kept = longer _ (said (λ e. cc)) tt
+    by Say.Down said kept = longer _ (said (λ e. cc)) tt
 
 -- Passes
 
@@ -138,6 +171,30 @@ either zero P lt p q = p
 either (suc zero) P lt p q = q
 either (suc (suc k)) P lt p q = absurd (omega (arith, lt))
 
+-- lists of two nodes and two clients are a run's
+pub parts_of_two : (start : Start) (owned : Actor → Option (List (ℕ × Entry))) (l0 l1 m0 m1 : List (ℕ × Entry)) → 2 ≡ start_nodes start
+    → owned (node_at 0) ≡ Some l0 → owned (node_at 1) ≡ Some l1 → owned (client_at 0) ≡ Some m0 → owned (client_at 1) ≡ Some m1
+    → NodeListAllowed start (record { 0 = 0 }) (entries_of l0) → NodeListAllowed start (record { 0 = 1 }) (entries_of l1)
+    → AllByRecursion (IsIssueOf start) (entries_of m0) → AllByRecursion (IsIssueOf start) (entries_of m1) → AreParts start 2 2 owned
+parts_of_two start owned l0 l1 m0 m1 two n0 n1 c0 c1 a0 a1 i0 i1 = record {
+  all = two;
+  allowed = λ n list on is.
+      either n.0 (λ (k : ℕ). owned (node_at k) ≡ Some list → NodeListAllowed start (record { 0 = k }) (entries_of list)) on
+      (λ e. subst (λ (l : List (ℕ × Entry)). NodeListAllowed start (record { 0 = 0 }) (entries_of l)) (same_Some _ _ (sym n0 ∙ e)) a0)
+      (λ e. subst (λ (l : List (ℕ × Entry)). NodeListAllowed start (record { 0 = 1 }) (entries_of l)) (same_Some _ _ (sym n1 ∙ e)) a1) is;
+  of_run = λ c list on is.
+      either c.0 (λ (k : ℕ). owned (client_at k) ≡ Some list → AllByRecursion (IsIssueOf start) (entries_of list)) on
+      (λ e. subst (λ (l : List (ℕ × Entry)). AllByRecursion (IsIssueOf start) (entries_of l)) (same_Some _ _ (sym c0 ∙ e)) i0)
+      (λ e. subst (λ (l : List (ℕ × Entry)). AllByRecursion (IsIssueOf start) (entries_of l)) (same_Some _ _ (sym c1 ∙ e)) i1) is;
+}
+
+pub same_parts : (start : Start) (owned owned' : Actor → Option (List (ℕ × Entry))) → ((a : Actor) → IsActor 2 2 a → owned' a ≡ owned a) → AreParts start 2 2 owned → AreParts start 2 2 owned'
+same_parts start owned owned' same parts = record {
+  all = parts.all;
+  allowed = λ n list on is. parts.allowed n list on (sym (same (Node n) on) ∙ is);
+  of_run = λ c list on is. parts.of_run c list on (sym (same (Client c) on) ∙ is);
+}
+
 module _ (ln0 ln1 : List (ℕ × Entry)) (k0 k1 : ClientState) (owned : Actor → Option (List (ℕ × Entry))) (n0 : owned (node_at 0) ≡ Some ln0) (n1 : owned (node_at 1) ≡ Some ln1) (c0 : owned (client_at 0) ≡ Some k0.entries)
     (c1 : owned (client_at 1) ≡ Some k1.entries) where
   as_listed : (a : Actor) → IsActor 2 2 a → list_of (ln0 ∷ ln1 ∷ []) (k0 ∷ k1 ∷ []) a ≡ owned a
@@ -148,3 +205,15 @@ module _ (ln0 ln1 : List (ℕ × Entry)) (k0 k1 : ClientState) (owned : Actor �
   one_log ns cs nodes clients clock nodes_are clients_are two two' one =
       let here = subst (λ (n : ℕ × ℕ). IsOneLog IsLegalLine n.0 n.1 owned clock) (λ i. (two i, two' i)) one in
       subst (λ (l : List (List (ℕ × Entry)) × List ClientState). AreOneLog l.0 l.1 clock) (λ i. (sym nodes_are i, sym clients_are i)) (one_of clock owned (list_of (ln0 ∷ ln1 ∷ []) (k0 ∷ k1 ∷ [])) as_listed here)
+
+  pub listed_parts : (start : Start) (ns : List (List (ℕ × Entry))) (cs : List ClientState) → ns ≡ ln0 ∷ ln1 ∷ [] → cs ≡ k0 ∷ k1 ∷ [] → AreParts start 2 2 owned → AreParts start (length ns) (length cs) (list_of ns cs)
+  listed_parts start ns cs nodes_are clients_are parts =
+      subst (λ (l : List (List (ℕ × Entry)) × List ClientState). AreParts start (length l.0) (length l.1) (list_of l.0 l.1)) (λ i. (sym nodes_are i, sym clients_are i))
+      (same_parts start owned (list_of (ln0 ∷ ln1 ∷ []) (k0 ∷ k1 ∷ [])) as_listed parts)
+
+  -- so the log that is put together is a run
+  pub ended_run : (start : Start) (ns : List (List (ℕ × Entry))) (cs : List ClientState) (nodes clients clock : ℕ) (log : List (ℕ × Entry)) → ns ≡ ln0 ∷ ln1 ∷ [] → cs ≡ k0 ∷ k1 ∷ [] → nodes ≡ 2 → clients ≡ 2
+      → PartsMakeRun → ((clock : ℕ) (one : AreOneLog ns cs clock) → log ≡ placed_from 0 one.log) → IsOneLog IsLegalLine nodes clients owned clock → AreParts start 2 2 owned → IsLogOfRun start log
+  ended_run start ns cs nodes clients clock log nodes_are clients_are two two' law merged one parts =
+      let all = one_log ns cs nodes clients clock nodes_are clients_are two two' one in
+      subst (IsLogOfRun start) (sym (merged clock all)) (law start (length ns) (length cs) clock (list_of ns cs) all (listed_parts start ns cs nodes_are clients_are parts))

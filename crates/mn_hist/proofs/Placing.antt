@@ -8,7 +8,8 @@ use Rattle.mn_actors.specs.Lines.{Line, stands_in, IsActor}
 use Rattle.mn_actors.specs.Log.{entries_from}
 use Rattle.mn_world.specs.declared.entry.Entry.{Entry}
 use Rattle.mn_world.specs.Lists.{ClientState}
-use Rattle.mn_hist.specs.Merging.{AreOneLog, filled_from, placed_from, put_at, put_list, put_lists}
+use Rattle.mn_cell.specs.Runs.{placed_from}
+use Rattle.mn_hist.specs.Merging.{AreOneLog, filled_from, put_at, put_list, put_lists}
 
 -- Loops
 

@@ -2,7 +2,6 @@
 use Rattle.std.specs.Prelude.{ℕ, zero, suc, ◌+◌, List, [], ◌∷◌, length, map, Option, Some, None, slice_get}
 use Rattle.mn_actors.specs.declared.actor.Actor.{Actor}
 use Rattle.mn_actors.specs.declared.actor.Actor.TheVariants.{Node, Client}
-use Rattle.mn_actors.specs.Lines.{Line}
 use Rattle.mn_actors.specs.Log.{IsOneLog}
 use Rattle.mn_world.specs.declared.entry.Entry.{Entry}
 use Rattle.mn_world.specs.Lists.{ClientState}
@@ -16,11 +15,6 @@ list_of nodes clients (Client c) = slice_get (map (λ l. l.entries) clients) c.0
 -- the lists are one log of so many lines, each legal when it was added
 abbrev pub AreOneLog : List (List (ℕ × Entry)) → List ClientState → ℕ → Type 0
 AreOneLog nodes clients clock = IsOneLog IsLegalLine (length nodes) (length clients) (list_of nodes clients) clock
-
--- the entries of the lines with their places, from this place on
-abbrev pub placed_from : ℕ → List (Line Entry) → List (ℕ × Entry)
-placed_from p [] = []
-placed_from p (x ∷ log) = (p, x.entry) ∷ placed_from (p + 1) log
 
 -- How it is put together: each entry into the slot of its place
 

@@ -1,6 +1,7 @@
 //! Lists merged by place.
 ghost use Rattle.std.specs.Prelude.{◌≡◌, ℕ, map, IfOk, OnOk};
-ghost use Rattle.mn_hist.specs.Merging.{AreOneLog, filled_from, placed_from, put_at, put_list, put_lists};
+ghost use Rattle.mn_cell.specs.Runs.{placed_from};
+ghost use Rattle.mn_hist.specs.Merging.{AreOneLog, filled_from, put_at, put_list, put_lists};
 
 use crate::lists::Lists;
 use mn_base::NoMemory;

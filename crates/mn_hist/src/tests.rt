@@ -1,5 +1,6 @@
 //! Two threads call two nodes, and the lists of all actors are merged.
-ghost use Rattle.std.specs.Prelude.{◌≡◌, ◌≢◌, [], Some, None, false, IfOk};
+ghost use Rattle.std.specs.Prelude.{◌≡◌, ◌≢◌, ◌∷◌, [], Some, None, false, length, IfOk, IfSome};
+ghost use Rattle.std.specs.List.{AllByRecursion};
 ghost use Rattle.mn_redo.specs.declared.redo.Phase.TheVariants.{Closing};
 ghost use Rattle.mn_actors.specs.declared.actor.Actor.{Actor as Who};
 ghost use Rattle.mn_actors.specs.declared.actor.Actor.TheVariants.{Client};
@@ -7,21 +8,23 @@ ghost use Rattle.mn_actors.specs.Lines.{IsActor, client_at, node_at};
 ghost use Rattle.mn_actors.specs.Lists.{held, OwnsAll};
 ghost use Rattle.mn_actors.specs.Sight.{board_of, clients_of, id_of, nodes_of, view_of};
 ghost use Rattle.mn_node.specs.State.{MayStart};
+ghost use Rattle.mn_world.specs.Protocol.{Start, start_of};
+ghost use Rattle.mn_world.specs.Run.{IsLogOfRun, entries_of};
 ghost use Rattle.mn_cell.specs.Calls.{numbered};
 ghost use Rattle.mn_cell.specs.Passes.{OwnsJust};
+ghost use Rattle.mn_cell.specs.Runs.{AreParts, IsIssueOf};
 ghost use Rattle.mn_cell.specs.Station.{IsFirst};
-ghost use Rattle.mn_world.specs.Protocol.{start_of};
 
 use crate::{ClientLists, Lists, NodeLists, merge};
 use mn_actors::{Actor, Board, Pass};
 use mn_base::{ClientNo, NodeNo};
-use mn_cell::{Cell, Named};
+use mn_cell::{Cell, Named, Refused, parts_make_run};
 use mn_io::{Bytes, Calls, Disk};
 use mn_memdisk::MemoryDisk;
 use mn_mini::Request;
 use mn_node::Node;
 use mn_redo::Redo;
-use mn_world::{ClientList, CoreLaw, EntryList};
+use mn_world::{ClientList, CoreLaw, EntryList, Log};
 use std::alloc::Global;
 use std::marker::Brand;
 use std::process::Abort;
@@ -31,7 +34,7 @@ use std::thread;
 use std::thread::Threads;
 
 // A hundred Peeks of the cell's node.
-fn peek_often<N: Named, D: Disk + Drop, T: Wait, const NODE: u8>(
+fn peek_often<N: Named, D: Disk, T: Wait, const NODE: u8>(
     rt: &T,
     alloc: Global,
     cell: &Cell<N, D, NODE>,
@@ -42,9 +45,11 @@ fn peek_often<N: Named, D: Disk + Drop, T: Wait, const NODE: u8>(
     requires board { (id_of board.now ≡ N.board) × (board_of pass ≡ N.board) }
     requires owns { OwnsJust (view_of pass) (Client list.client) }
     requires list { held (view_of pass) (Client list.client) ≡ Some list.entries }
+    requires fresh { list.entries ≡ [] }
     ensures board { board_of result.0 ≡ N.board }
     ensures owns { OwnsJust (view_of result.0) (Client list.client) }
     ensures list { held (view_of result.0) (Client list.client) ≡ Some result.1.entries }
+    ensures issued { (start : Start) → AllByRecursion (IsIssueOf start) (entries_of result.1.entries) }
 {
     let mut pass = pass;
     let mut list = list;
@@ -60,7 +65,7 @@ fn peek_often<N: Named, D: Disk + Drop, T: Wait, const NODE: u8>(
 }
 
 // Two clients at two cells at once.
-fn peek_both<N: Named + Send + Sync, D: Disk + Send + Drop, T: Threads + Wait + Sync>(
+fn peek_both<N: Named + Send + Sync, D: Disk + Send, T: Threads + Wait + Sync>(
     rt: &T,
     alloc: Global,
     board: &Board<CoreLaw>,
@@ -73,6 +78,8 @@ fn peek_both<N: Named + Send + Sync, D: Disk + Send + Drop, T: Threads + Wait + 
     ensures board { (board_of result.0.0 ≡ N.board) × (board_of result.1.0 ≡ N.board) }
     ensures first { OwnsJust (view_of result.0.0) (client_at 0) × (held (view_of result.0.0) (client_at 0) ≡ Some result.0.1.entries) }
     ensures second { OwnsJust (view_of result.1.0) (client_at 1) × (held (view_of result.1.0) (client_at 1) ≡ Some result.1.1.entries) }
+    ensures issued { (start : Start) → AllByRecursion (IsIssueOf start) (entries_of result.0.1.entries) }
+    ensures other_issued { (start : Start) → AllByRecursion (IsIssueOf start) (entries_of result.1.1.entries) }
 {
     let (cell, other_cell) = cells;
     let (pass, other) = passes;
@@ -81,12 +88,12 @@ fn peek_both<N: Named + Send + Sync, D: Disk + Send + Drop, T: Threads + Wait + 
     thread::join(
         rt,
         move || -> (Pass<CoreLaw>, ClientList)
-            requires { (id_of board.now ≡ N.board) × (board_of pass ≡ N.board) × OwnsJust (view_of pass) (client_at 0) × (held (view_of pass) (client_at 0) ≡ Some list.entries) × (list.client ≡ record { 0 = 0 }) }
-            ensures { (board_of result.0 ≡ N.board) × OwnsJust (view_of result.0) (client_at 0) × (held (view_of result.0) (client_at 0) ≡ Some result.1.entries) }
+            requires { (id_of board.now ≡ N.board) × (board_of pass ≡ N.board) × OwnsJust (view_of pass) (client_at 0) × (held (view_of pass) (client_at 0) ≡ Some list.entries) × (list.client ≡ record { 0 = 0 }) × (list.entries ≡ []) }
+            ensures { (board_of result.0 ≡ N.board) × OwnsJust (view_of result.0) (client_at 0) × (held (view_of result.0) (client_at 0) ≡ Some result.1.entries) × ((start : Start) → AllByRecursion (IsIssueOf start) (entries_of result.1.entries)) }
         { peek_often::<N, D, T, 0>(rt, alloc, cell, board, pass, list) },
         move || -> (Pass<CoreLaw>, ClientList)
-            requires { (id_of board.now ≡ N.board) × (board_of other ≡ N.board) × OwnsJust (view_of other) (client_at 1) × (held (view_of other) (client_at 1) ≡ Some other_list.entries) × (other_list.client ≡ record { 0 = 1 }) }
-            ensures { (board_of result.0 ≡ N.board) × OwnsJust (view_of result.0) (client_at 1) × (held (view_of result.0) (client_at 1) ≡ Some result.1.entries) }
+            requires { (id_of board.now ≡ N.board) × (board_of other ≡ N.board) × OwnsJust (view_of other) (client_at 1) × (held (view_of other) (client_at 1) ≡ Some other_list.entries) × (other_list.client ≡ record { 0 = 1 }) × (other_list.entries ≡ []) }
+            ensures { (board_of result.0 ≡ N.board) × OwnsJust (view_of result.0) (client_at 1) × (held (view_of result.0) (client_at 1) ≡ Some result.1.entries) × ((start : Start) → AllByRecursion (IsIssueOf start) (entries_of result.1.entries)) }
         { peek_often::<N, D, T, 1>(rt, alloc, other_cell, board, other, other_list) },
     )
 }
@@ -163,47 +170,61 @@ fn finish(
     all: Pass<CoreLaw>,
     nodes: (EntryList, EntryList),
     clients: (ClientList, ClientList),
-) -> Option<Told>
+) -> Option<(Told, Log)>
     requires board { board_of all ≡ id_of board }
     requires size { (nodes_of board ≡ 2) × (clients_of board ≡ 2) }
     requires all { OwnsAll 2 2 (view_of all) }
     requires nodes { (held (view_of all) (node_at 0) ≡ Some nodes.0) × (held (view_of all) (node_at 1) ≡ Some nodes.1) }
     requires clients { (held (view_of all) (client_at 0) ≡ Some clients.0.entries) × (held (view_of all) (client_at 1) ≡ Some clients.1.entries) }
+    ensures run { (start : Start) → AreParts start 2 2 (held (view_of all)) → IfSome result (λ ended. IsLogOfRun start ended.1) }
 {
+    parts_make_run();
     let mut all = all;
     let reached = board.hear(&mut all, 200);
     let beyond = board.hear(&mut all, 201);
-    let nodes = Vec::from_array(alloc, [nodes.0, nodes.1]).ok()?;
-    let clients = Vec::from_array(alloc, [clients.0, clients.1]).ok()?;
+    let nodes = match Vec::from_array(alloc, [nodes.0, nodes.1]) {
+        Ok(nodes) => nodes,
+        Err(_) => return None,
+    };
+    let clients = match Vec::from_array(alloc, [clients.0, clients.1]) {
+        Ok(clients) => clients,
+        Err(_) => return None,
+    };
     let lists = Lists {
         nodes: NodeLists::from_vec(nodes),
         clients: ClientLists::from_vec(clients),
     };
     let clock = board.close(all);
-    let log = merge(alloc, lists).ok()?;
-    Some(Told {
+    let log = match merge(alloc, lists) {
+        Ok(log) => log,
+        Err(_) => return None,
+    };
+    let told = Told {
         reached,
         beyond,
         clock,
         entries: log.as_slice().len(),
-    })
+    };
+    Some((told, log))
 }
 
-// Two threads at two cells of the board.
-fn meet<N: Named + Send + Sync, D: Disk + Send + Drop, T: Threads + Wait + Sync>(
+// Two threads at two cells of the board, whose log is a run. The nodes are handed back.
+fn meet<N: Named + Send + Sync, D: Disk + Send, T: Threads + Wait + Sync>(
     rt: &T,
     alloc: Global,
     board: Board<CoreLaw>,
     pass: Pass<CoreLaw>,
     first: Node<D>,
     second: Node<D>,
-) -> Option<Told>
+) -> (Option<(Told, Log)>, (Node<D>, Node<D>))
+    requires two { length N.records ≡ 2 }
     requires board { (id_of board ≡ N.board) × (board_of pass ≡ N.board) }
     requires size { (nodes_of board ≡ 2) × (clients_of board ≡ 2) }
     requires owns { (a : Who) → IsActor 2 2 a → held (view_of pass) a ≡ Some [] }
     requires others { (a : Who) → ¬ IsActor 2 2 a → held (view_of pass) a ≡ None }
     requires first { IsFirst D.state D.faults (start_of N.records) (numbered 0) (N.faults 0) (N.honest 0) first }
     requires second { IsFirst D.state D.faults (start_of N.records) (numbered 1) (N.faults 1) (N.honest 1) second }
+    ensures run { IfSome result.0 (λ ended. IsLogOfRun (start_of N.records) ended.1) }
 {
     let Dealt {
         node,
@@ -211,8 +232,17 @@ fn meet<N: Named + Send + Sync, D: Disk + Send + Drop, T: Threads + Wait + Sync>
         client,
         other_client,
     } = deal(&board, pass);
-    let cell = Cell::<N, D, 0>::new(alloc, first, node).ok()?;
-    let other_cell = Cell::<N, D, 1>::new(alloc, second, other_node).ok()?;
+    let cell = match Cell::<N, D, 0>::new(alloc, first, node) {
+        Ok(cell) => cell,
+        Err(Refused { node, pass: _ }) => return (None, (node, second)),
+    };
+    let other_cell = match Cell::<N, D, 1>::new(alloc, second, other_node) {
+        Ok(cell) => cell,
+        Err(Refused { node, pass: _ }) => {
+            let (first, _list, _pass) = cell.into_parts();
+            return (None, (first, node));
+        }
+    };
     let (left, right) = peek_both::<N, D, T>(
         rt,
         alloc,
@@ -220,8 +250,8 @@ fn meet<N: Named + Send + Sync, D: Disk + Send + Drop, T: Threads + Wait + Sync>
         (&cell, &other_cell),
         (client, other_client),
     );
-    let (_node, list, node) = cell.into_parts();
-    let (_node, other_list, other_node) = other_cell.into_parts();
+    let (first, list, node) = cell.into_parts();
+    let (second, other_list, other_node) = other_cell.into_parts();
     let all = gather(
         &board,
         Dealt {
@@ -231,21 +261,23 @@ fn meet<N: Named + Send + Sync, D: Disk + Send + Drop, T: Threads + Wait + Sync>
             other_client: right.0,
         },
     );
-    finish(alloc, board, all, (list, other_list), (left.1, right.1))
+    let ended = finish(alloc, board, all, (list, other_list), (left.1, right.1));
+    (ended, (first, second))
 }
 
 // The same with a board of their own.
-fn run<D: Disk + Send + Drop, T: Threads + Wait + Sync>(
+fn run<D: Disk + Send, T: Threads + Wait + Sync>(
     rt: &T,
     alloc: Global,
     first: Node<D>,
     second: Node<D>,
-) -> Option<Told>
+) -> (Option<(Told, Log)>, (Node<D>, Node<D>))
     requires first { (first.node ≡ 0) × (first.nodes ≡ 2) × (first.down ≡ false) }
     requires second { (second.node ≡ 1) × (second.nodes ≡ 2) × (second.down ≡ false) }
+    ensures run { IfSome result.0 (λ ended. IsLogOfRun (start_of (first.records ∷ second.records ∷ [])) ended.1) }
 {
     let Ok((board, pass)) = Board::<CoreLaw>::new(alloc, 2, 2) else {
-        return None;
+        return (None, (first, second));
     };
     meet::<Brand, D, T>(rt, alloc, board, pass, first, second)
 }
@@ -291,6 +323,9 @@ fn two_threads_at_two_cells_make_one_log(rt: HostRuntime) -> Result<(), Fail> {
         clock: 200,
         entries: 200,
     };
-    assert!(rt; run::<MemoryDisk, HostRuntime>(&rt, alloc, first, second) == Some(expected));
+    match run::<MemoryDisk, HostRuntime>(&rt, alloc, first, second).0 {
+        Some((told, _log)) => assert_eq!(rt; told, expected),
+        None => assert!(rt; false),
+    }
     Ok(())
 }

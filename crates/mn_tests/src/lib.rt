@@ -18,6 +18,8 @@ mod plan_items;
 #[cfg(test)]
 mod recovery;
 #[cfg(test)]
+mod recovery_nodes;
+#[cfg(test)]
 mod tree;
 #[cfg(test)]
 mod tree_plans;

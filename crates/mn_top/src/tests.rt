@@ -397,14 +397,13 @@ fn fails_at<T: Threads + Wait + Sync + Abort + AllocGlobal>(
     Ok(())
 }
 
-/// Three calls open the disk, eight write its header, and four the put.
+/// Three calls open the disk, eight write its header, and four the put. Of a change that no sync made
+/// stable the choices leave nothing, all, the first half and the second.
 #[test]
 fn a_disk_that_fails_leaves_the_put_or_nothing(rt: HostRuntime) -> Result<(), Fail> {
-    for (first, last, choices) in [(0, 3, 1), (3, 11, 2), (11, 15, 4)] {
-        for call in first..last {
-            for choice in 0..choices {
-                fails_at(&rt, call, choice)?;
-            }
+    for call in 0..15 {
+        for choice in 0..4 {
+            fails_at(&rt, call, choice)?;
         }
     }
     Ok(())
