@@ -1,4 +1,3 @@
-pub mod BaseSpace
 pub mod Tables
 pub mod HeldParts
 pub mod Lists

@@ -1,25 +1,6 @@
--- The space that a node begins with, put together from its pieces.
-use Rattle.std.specs.Prelude.{ℕ, zero, suc, List, []}
-use Rattle.mn_page.specs.Forest.{main_entry, empty_leaf, front_of, base_forest, memory_of}
-use Rattle.mn_page.specs.Grammar.{entry_bytes, page_bytes}
-
--- `main` stands in the catalog of node 0, and in no other
-abbrev pub base_catalog : ℕ → List ℕ
-base_catalog zero = entry_bytes main_entry
-base_catalog (suc n) = []
-
--- its empty leaf stands in a slot of node 0, and the other nodes have none
-abbrev pub base_slots : ℕ → List ℕ
-base_slots zero = page_bytes empty_leaf
-base_slots (suc n) = []
-
-abbrev pub base_count : ℕ → ℕ
-base_count zero = 1
-base_count (suc n) = 0
-
--- the header, the count and the catalog
-unfoldable pub base_front : ℕ → ℕ → List ℕ
-base_front nodes node = front_of nodes node (base_count node) (base_catalog node)
+-- The memory that a run of fresh nodes begins with.
+use Rattle.std.specs.Prelude.{ℕ, List}
+use Rattle.mn_page.specs.Forest.{base_forest, memory_of}
 
 -- the memory that so many nodes begin with
 abbrev pub base_memory : ℕ → List (List ℕ)

@@ -14,13 +14,13 @@ ghost use Rattle.mn_forest.specs.Votes.{AreRight, lists_of, list_at, numbered};
 ghost use Rattle.mn_world.specs.Protocol.{start_of};
 
 use crate::VoteError;
-use crate::base::base;
 use crate::held::Held;
 use crate::known::Table;
 use crate::votes::{Past, Told, is_committed, note, test};
 use crate::write::write_items;
 use mn_base::{Bytes, NoMemory, NodeNo, Tid};
 use mn_mini::{Record, Records, Spaces};
+use mn_page::base_space;
 use std::alloc::Global;
 
 /// Notes records behind the others.
@@ -141,7 +141,7 @@ fn space_with(
     ensures right { (records : List (List Record)) → IsTold told.now records → list.now ≡ list_at records (numbered node) → OnOk result (AreRight records (numbered node) (reverse list.now)) }
     ensures wrong { (records : List (List Record)) → IsTold told.now records → list.now ≡ list_at records (numbered node) → IfErr result (RefusesIn records (numbered node)) }
 {
-    let mut space = base(alloc, node, nodes)?;
+    let mut space = base_space(alloc, node, nodes)?;
     replay(alloc, told, NodeNo(node), list, &mut space)?;
     Ok(Bytes::from_vec(space))
 }

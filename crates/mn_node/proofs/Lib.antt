@@ -8,7 +8,6 @@ pub mod Steps
 pub mod Listing
 pub mod Lasting
 pub mod Replayed
-pub mod BaseSpace
 pub mod Resting
 pub mod Replies
 pub mod Found

@@ -3,6 +3,5 @@ pub mod Held
 pub mod Memory
 pub mod Node
 pub mod Doubts
-pub mod Base
 pub mod State
 pub mod Restart

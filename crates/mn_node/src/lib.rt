@@ -1,7 +1,6 @@
 //! A memory node: a list of records on a disk, the space and the locks that they make, and its answers (Sinfonia, SOSP 2007).
 #![tactic(auto)]
 
-mod base;
 mod held;
 mod list;
 mod memory;

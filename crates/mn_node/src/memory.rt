@@ -100,7 +100,9 @@ fn write_vote(next: &Record, space: &mut [u8], tid: Tid)
     ensures { (older : List Record) (base : List ℕ) → space.old ≡ with_held (λ t. tid_same t tid) base (held_parts older) → space.new ≡ with_held (λ t. tid_same t tid) base (held_parts (next.now ∷ older)) }
 {
     if let Record::Voted {
-        tid: voter, part, ..
+        tid: voter,
+        part,
+        ..
     } = next
     {
         if is_same(*voter, tid) {

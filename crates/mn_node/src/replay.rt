@@ -12,13 +12,13 @@ ghost use Rattle.mn_page.specs.Base.{base_of};
 ghost use Rattle.mn_node.specs.Memory.{HasRoom, IsBuilt, IsMemory, is_among};
 ghost use Rattle.mn_node.specs.Part.{alone_of, holds_by, part_holds, shared_of};
 
-use crate::base::base;
 use crate::held::is_same;
 use crate::memory::{Memory, write_decided};
 use crate::part::{ranges_of, write_items};
 use mn_base::{NoMemory, Tid};
 use mn_locks::LockTable;
 use mn_mini::{PartItem, Record};
+use mn_page::base_space;
 use std::alloc::Global;
 
 /// Makes what a record writes, which stands behind these.
@@ -152,7 +152,7 @@ fn made_of(alloc: Global, node: u8, nodes: u8, records: &[Record]) -> Result<Mad
     ensures built { IfOk result (λ made. IsBuilt (base_of nodes node) records.now made.space.items made.locks.holds made.forced.items) }
     ensures held { IfOk result (λ made. length (held_parts (reverse records.now)) ≤ made.held) }
 {
-    let mut space = base(alloc, node, nodes)?;
+    let mut space = base_space(alloc, node, nodes)?;
     write_all(records, &mut space);
     let forced = forced_of(alloc, records)?;
     let mut locks = LockTable::new(alloc)?;
@@ -180,7 +180,7 @@ pub fn space_after(
     ensures space { IfOk result (λ space. space.items ≡ space_of (base_of nodes node) (reverse records.now)) }
     ensures whole { IfOk result (λ space. length space.items ≡ space_size) }
 {
-    let mut space = base(alloc, node, nodes)?;
+    let mut space = base_space(alloc, node, nodes)?;
     write_all(records, &mut space);
     Ok(space)
 }

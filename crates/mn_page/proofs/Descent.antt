@@ -8,7 +8,6 @@ use Rattle.std.proofs.lemmas.List.{reverse-append, length-reverse}
 use Rattle.mn_base.specs.Tree.{is_above, is_ancestor, has_version, versions_in, serves, HaveParents}
 use Rattle.mn_page.proofs.Ancestors.{above_le}
 use Rattle.mn_page.proofs.Copy.{joined_bit}
-
 use Rattle.mn_base.proofs.Lists.{weaker, any_agree, any_same, any_filter, any_hit, range_at}
 use Rattle.mn_base.proofs.VersionTree.{longer}
 

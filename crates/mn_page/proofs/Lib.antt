@@ -28,3 +28,4 @@ pub mod FrontVersions
 pub mod FrontPage
 pub mod FrontBodies
 pub mod FrontWhole
+pub mod BaseSpace

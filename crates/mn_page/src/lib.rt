@@ -7,6 +7,7 @@ mod entry_read;
 mod entry_write;
 mod error;
 mod fault;
+mod fresh;
 mod key_room;
 mod laws;
 mod page;
@@ -21,6 +22,7 @@ mod write;
 
 pub use entry::{CatEntry, Entries};
 pub use error::{BadPage, PageError};
+pub use fresh::base_space;
 pub use laws::{
     base_holds_empty_store, child_is_shown, copies_are_pages, leaf_tells, leaf_tells_get,
     none_too_high,

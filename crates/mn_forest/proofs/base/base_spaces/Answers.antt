@@ -12,7 +12,7 @@ pub loop-node-preserved : goal.loop-node-preserved
 loop-node-preserved c =
     let node = c.loop-node.node in
     let made = base_of c.args.nodes in
-    c.in_ok-push.ensures.items ∙ ap (λ (x : List ℕ). c.loop-node.spaces.items ++ x ∷ []) (c.from_vec.ensures ∙ c.in_ok-base.ensures.space)
+    c.in_ok-push.ensures.items ∙ ap (λ (x : List ℕ). c.loop-node.spaces.items ++ x ∷ []) (c.from_vec.ensures ∙ c.in_ok-base_space.ensures.space)
     ∙ ap (λ (l : List (List ℕ)). l ++ made node ∷ []) c.loop-node.invariant ∙ sym (map-range_with_len_more made 0 node node (omega arith))
 
 pub returns-clause-memory : goal.returns-clause-memory

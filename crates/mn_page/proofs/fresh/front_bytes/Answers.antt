@@ -1,7 +1,7 @@
 use Rattle.std.proofs.Common.{List, ℕ, ap, ◌∙◌, ◌++◌}
 use Rattle.mn_page.specs.Grammar.{padded}
-use Rattle.mn_node.proofs.BaseSpace.{header, front_is}
-use Rattle.mn_node.proofs.base.front_bytes.Goals as goal
+use Rattle.mn_page.proofs.BaseSpace.{header, front_is}
+use Rattle.mn_page.proofs.fresh.front_bytes.Goals as goal
 
 pub returns-clause-bytes : goal.returns-clause-bytes
 returns-clause-bytes c =

@@ -5,8 +5,7 @@ use Rattle.mn_page.specs.declared.page.Page.{Page}
 use Rattle.mn_page.specs.Grammar.{padded, entry_bytes, page_bytes}
 use Rattle.mn_page.specs.Forest.{front_of, main_entry, empty_leaf, base_space, space_laid, laid_of, base_forest}
 use Rattle.mn_page.specs.Space.{space_length}
-use Rattle.mn_forest.specs.Base.{base_catalog, base_count, base_front, base_slots}
-use Rattle.mn_page.specs.Base.{base_of}
+use Rattle.mn_page.specs.Base.{base_catalog, base_count, base_front, base_of, base_slots}
 
 abbrev pub header : ℕ → ℕ → List ℕ
 header nodes node = 77 ∷ 73 ∷ 78 ∷ 85 ∷ 69 ∷ 84 ∷ 1 ∷ nodes ∷ node ∷ []

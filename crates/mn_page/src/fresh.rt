@@ -1,15 +1,16 @@
 ghost use Rattle.std.specs.Prelude.{◌≡◌, ◌≤◌, ◌<◌, ◌++◌, ◌∷◌, [], length, IfOk, OnOk, if◌then◌else◌, nat_eq};
 ghost use Rattle.byteorder.specs.Endian.{big_bytes};
-ghost use Rattle.mn_mini.specs.Mini.{space_size};
 ghost use Rattle.mn_page.specs.Forest.{main_entry, empty_leaf};
 ghost use Rattle.mn_page.specs.Grammar.{entry_bytes, padded, page_bytes};
-ghost use Rattle.mn_node.specs.Base.{base_catalog, base_front, base_slots, base_count};
-ghost use Rattle.mn_page.specs.Base.{base_of};
+ghost use Rattle.mn_page.specs.Base.{base_catalog, base_front, base_slots, base_count, base_of};
+ghost use Rattle.mn_page.specs.Space.{space_length};
 
 use byteorder::{BigEndian, ByteOrder};
 use mn_base::NoMemory;
-use mn_mini::SPACE;
 use std::alloc::{AllocError, Global};
+
+/// The bytes of a space.
+const SPACE: usize = 4_214_784;
 
 /// Adds zeros up to a length.
 fn pad(bytes: &mut Vec<u8>, to: usize) -> Result<(), AllocError>
@@ -99,15 +100,16 @@ fn front_bytes(alloc: Global, node: u8, nodes: u8) -> Result<Vec<u8>, AllocError
     Ok(front)
 }
 
-/// The space that a node of so many begins with.
-pub fn base(alloc: Global, node: u8, nodes: u8) -> Result<Vec<u8>, NoMemory>
+/// The space that this node, of so many, begins with: the header, the count, and on node 0 the entry of `main` and its
+/// empty leaf. NoMemory: there was no memory for it.
+pub fn base_space(alloc: Global, node: u8, nodes: u8) -> Result<Vec<u8>, NoMemory>
     requires { 0 < nodes }
     ensures space { IfOk result (λ space. space.items ≡ base_of nodes node) }
-    ensures whole { IfOk result (λ space. length space.items ≡ space_size) }
+    ensures whole { IfOk result (λ space. length space.items ≡ space_length) }
 {
     let mut space = front_bytes(alloc, node, nodes)?;
     let slots = slot_bytes(alloc, node)?;
     space.extend_from_slice(&slots)?;
-    pad(&mut space, SPACE as usize)?;
+    pad(&mut space, SPACE)?;
     Ok(space)
 }

@@ -1,6 +1,6 @@
 use Rattle.std.proofs.Common.{List, ℕ, ap, ◌∙◌, ◌++◌}
-use Rattle.mn_forest.proofs.BaseSpace.{base_is}
-use Rattle.mn_forest.proofs.base.base.Goals as goal
+use Rattle.mn_page.proofs.BaseSpace.{base_is}
+use Rattle.mn_page.proofs.fresh.base_space.Goals as goal
 
 pub returns-clause-space : goal.returns-clause-space
 returns-clause-space c =

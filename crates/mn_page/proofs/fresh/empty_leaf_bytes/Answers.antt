@@ -1,7 +1,7 @@
 use Rattle.std.proofs.Common.{List, ℕ, ◌++◌, ap, ◌∙◌}
 use Rattle.byteorder.specs.Endian.{big_bytes}
-use Rattle.mn_forest.proofs.BaseSpace.{leaf_is, leaf_rest}
-use Rattle.mn_forest.proofs.base.empty_leaf_bytes.Goals as goal
+use Rattle.mn_page.proofs.BaseSpace.{leaf_is, leaf_rest}
+use Rattle.mn_page.proofs.fresh.empty_leaf_bytes.Goals as goal
 
 pub returns-clause-bytes : goal.returns-clause-bytes
 returns-clause-bytes c =
