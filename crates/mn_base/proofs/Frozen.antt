@@ -1,5 +1,5 @@
 -- Frozen versions never change.
-use Rattle.std.proofs.Common.{◌≡◌, ℕ, zero, suc, ◌+◌, Bool, true, false, ◌&&◌, ◌||◌, List, [], ◌∷◌, ◌++◌, Option, Some, None, refl, subst, sym, ap, ◌∙◌, if◌then◌else◌, slice_get}
+use Rattle.std.proofs.Common.{◌≡◌, ℕ, zero, suc, ◌+◌, Bool, true, false, ◌&&◌, List, [], ◌∷◌, ◌++◌, Option, Some, None, refl, subst, sym, ap, ◌∙◌, if◌then◌else◌, slice_get}
 use Rattle.std.specs.List.{list_any}
 use Rattle.std.specs.Prelude.{bytes_eq}
 use Rattle.mn_base.specs.Store.{Head, Store, StoreVersion, heads_of, head_named, pairs_named, with_pairs, with_frozen, frozen_head, child_of, child_refusal, is_change, is_unmet, pairs_after_step, ran_from, ran, value_at, step_key, noted_by, refusal, refusal_at, admitted, unless_refused, applied}
@@ -11,17 +11,14 @@ use Rattle.mn_base.specs.declared.op.Op.{Op}
 use Rattle.mn_base.specs.declared.op.Op.TheVariants.{Tx, Snapshot, Branch, Scan, Versions}
 use Rattle.mn_base.specs.declared.reply.Reply.{Reply}
 use Rattle.mn_base.specs.declared.reply.Reply.TheVariants as Say
+use Rattle.mn_base.proofs.Booleans.{or_split}
 
 -- a step that is no change leaves the pairs
-kept_by_step : (ps : List Pair) (step : Step) → is_change step ≡ false → pairs_after_step ps step ≡ ps
+pub kept_by_step : (ps : List Pair) (step : Step) → is_change step ≡ false → pairs_after_step ps step ≡ ps
 kept_by_step ps (Get key) e = refl
 kept_by_step ps (Put key value) e = absurd cc
 kept_by_step ps (Del key) e = absurd cc
 kept_by_step ps (Check key want) e = refl
-
-or_split : (a b : Bool) → (a || b) ≡ false → (a ≡ false) × (b ≡ false)
-or_split true b e = absurd cc
-or_split false b e = (refl, e)
 
 kept_by_steps : (old : List Pair) (n : ℕ) (found : List (Option (List ℕ))) (steps : List Step) → list_any is_change steps ≡ false → (ran_from old n old found steps).pairs ≡ old
 kept_by_steps old n found [] e = refl
@@ -81,7 +78,7 @@ freeze_keeps (x ∷ store) name v version is frozen open_still =
     there rest (suc k) at = rest k at
 
 -- what stands at a place stands there in a longer list
-push_keeps : (store : Store) (child : StoreVersion) (v : ℕ) (version : StoreVersion) → slice_get store v ≡ Some version → slice_get (store ++ child ∷ []) v ≡ Some version
+pub push_keeps : (store : Store) (child : StoreVersion) (v : ℕ) (version : StoreVersion) → slice_get store v ≡ Some version → slice_get (store ++ child ∷ []) v ≡ Some version
 push_keeps [] child v version is = absurd cc
 push_keeps (x ∷ store) child zero version is = is
 push_keeps (x ∷ store) child (suc v) version is = push_keeps store child v version is

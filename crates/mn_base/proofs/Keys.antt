@@ -28,7 +28,7 @@ bytes_eq-refl (x ∷ a) = ap (λ t. t && bytes_eq a a) (eq-eqb x x refl) ∙ byt
 
 -- The order of keys
 
-less : (r : Ordering) → is_lt r ≡ true → r ≡ Less
+pub less : (r : Ordering) → is_lt r ≡ true → r ≡ Less
 less Less e = refl
 less Equal e = absurd cc
 less Greater e = absurd cc

@@ -8,3 +8,5 @@ pub mod Lists
 pub mod VersionTree
 pub mod AddedVersion
 pub mod Stores
+pub mod Booleans
+pub mod Naturals

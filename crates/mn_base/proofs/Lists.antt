@@ -9,6 +9,14 @@ pub weaker : {X : Type 0} (P Q : X → Type 0) → ((x : X) → P x → Q x) →
 weaker P Q more [] all = tt
 weaker P Q more (x ∷ xs) all = (more x all.0, weaker P Q more xs all.1)
 
+pub all_append : {X : Type 0} (P : X → Type 0) (xs ys : List X) → AllByRecursion P xs → AllByRecursion P ys → AllByRecursion P (xs ++ ys)
+all_append P [] ys one other = other
+all_append P (x ∷ xs) ys one other = (one.0, all_append P xs ys one.1 other)
+
+pub all_both : {X : Type 0} (P Q R : X → Type 0) → ((x : X) → P x → Q x → R x) → (xs : List X) → AllByRecursion P xs → AllByRecursion Q xs → AllByRecursion R xs
+all_both P Q R each [] one other = tt
+all_both P Q R each (x ∷ xs) one other = (each x one.0 other.0, all_both P Q R each xs one.1 other.1)
+
 pub any_agree : {X : Type 0} (t u : X → Bool) (xs : List X) → AllByRecursion (λ x. t x ≡ u x) xs → list_any t xs ≡ list_any u xs
 any_agree t u [] all = refl
 any_agree t u (x ∷ xs) all = ap (λ b. b || list_any t xs) all.0 ∙ ap (λ b. u x || b) (any_agree t u xs all.1)

@@ -1,13 +1,10 @@
 -- Bytes without a fault are a name.
-use Rattle.std.proofs.Common.{◌≡◌, ◌≤◌, ◌<◌, ◌+◌, ℕ, Bool, true, false, ◌&&◌, IsTrue, List, [], ◌∷◌, Some, None, length, arith, refl, if◌then◌else◌}
+use Rattle.std.proofs.Common.{◌≡◌, ◌≤◌, ◌<◌, ◌+◌, ℕ, Bool, true, false, IsTrue, List, [], ◌∷◌, Some, None, length, arith, refl, if◌then◌else◌}
 use Rattle.std.specs.Prelude.{nat_lt}
 use Rattle.std.specs.List.{list_all}
 use Rattle.std.proofs.lemmas.Bool.Decides.{nat_tests}
 use Rattle.mn_base.specs.Name.{IsName, is_name_byte, is_name_place, name_fault, name_fault_from}
-
-both : (a b : Bool) → (a && b) ≡ true → (a ≡ true) × (b ≡ true)
-both true b e = (refl, e)
-both false b e = absurd cc
+use Rattle.mn_base.proofs.Booleans.{both_parts}
 
 right_from : (at : ℕ) (bs : List ℕ) → at ≤ 16 → name_fault_from at bs ≡ None → (at + length bs ≤ 16) × IsTrue (list_all is_name_byte bs)
 right_from at [] within e = (grind arith, refl)
@@ -17,7 +14,7 @@ right_from at (b ∷ bs) within e = by_place (is_name_place at b) refl e (right_
         → (at + 1 ≤ 16 → name_fault_from (at + 1) bs ≡ None → (at + 1 + length bs ≤ 16) × IsTrue (list_all is_name_byte bs))
         → (at + length (b ∷ bs) ≤ 16) × IsTrue (list_all is_name_byte (b ∷ bs))
     by_place true p e rest =
-        let place = both (nat_lt at 16) (is_name_byte b) p in
+        let place = both_parts (nat_lt at 16) (is_name_byte b) p in
         let below : at < 16 = (let h = place.0 in grind (arith, nat_tests)) in
         let more = rest (omega arith) e in
         let within = more.0 in
@@ -31,7 +28,7 @@ no_fault_is_name (b ∷ bs) e = let r = right_from 0 (b ∷ bs) (omega arith) e 
 no_fault_from : (at : ℕ) (bs : List ℕ) → at + length bs ≤ 16 → IsTrue (list_all is_name_byte bs) → name_fault_from at bs ≡ None
 no_fault_from at [] within all = refl
 no_fault_from at (b ∷ bs) within all =
-    let bytes = both (is_name_byte b) (list_all is_name_byte bs) all in
+    let bytes = both_parts (is_name_byte b) (list_all is_name_byte bs) all in
     let below : nat_lt at 16 ≡ true = grind (arith, nat_tests) in
     rw (below, bytes.0) (no_fault_from (at + 1) bs (grind arith) bytes.1)
 

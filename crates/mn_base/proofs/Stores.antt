@@ -5,7 +5,7 @@ use Rattle.std.specs.List.{AllByRecursion}
 use Rattle.std.specs.Option.{option_map}
 use Rattle.std.proofs.lemmas.List.{map-append, map-set}
 use Rattle.std.proofs.lemmas.Option.{slice_get-map}
-use Rattle.mn_base.specs.Store.{Head, Store, StoreVersion, heads_of, frozen_head, head_named, number_named, pairs_named, with_pairs, with_frozen, child_of, child_refusal, is_ascending, is_unmet, pairs_with, pairs_without, pairs_after_step, value_at, step_key, noted_by, ran_from, ran, refusal, refusal_at, admitted, unless_refused, applied}
+use Rattle.mn_base.specs.Store.{Head, Store, StoreVersion, heads_of, head_named, number_named, pairs_named, with_pairs, with_frozen, child_of, child_refusal, is_ascending, is_unmet, pairs_after_step, value_at, step_key, noted_by, ran_from, ran, refusal, refusal_at, admitted, unless_refused}
 use Rattle.mn_base.specs.Stores.{IsStore, StoreStays}
 use Rattle.mn_base.specs.Tree.{IsVersionTree}
 use Rattle.mn_base.specs.declared.op.Op.{Op}
@@ -19,20 +19,20 @@ use Rattle.mn_base.proofs.PairsWith.{ascending-put, ascending-filter}
 use Rattle.mn_base.proofs.Named.{named}
 use Rattle.mn_base.proofs.Lists.{set_same}
 use Rattle.mn_base.proofs.VersionTree.{child_head, heads_after, tree_after}
-use Rattle.mn_base.proofs.AddedVersion.{shut, kid_of, stored, frozen_is, child_is, writable, frozen, frozen_still}
+use Rattle.mn_base.proofs.AddedVersion.{shut, kid_of, stored, frozen_is, child_is, writable, frozen, frozen_still, head_same}
 
 abbrev Ascending : Store → Type 0
 Ascending store = AllByRecursion (λ v. IsTrue (is_ascending v.pairs)) store
 
 -- The pairs of a transaction
 
-after_step : (ps : List Pair) (step : Step) → is_ascending ps ≡ true → is_ascending (pairs_after_step ps step) ≡ true
+pub after_step : (ps : List Pair) (step : Step) → is_ascending ps ≡ true → is_ascending (pairs_after_step ps step) ≡ true
 after_step ps (Get key) up = up
 after_step ps (Put key value) up = ascending-put key value ps up
 after_step ps (Del key) up = ascending-filter (λ p. not (bytes_eq p.key key)) ps up
 after_step ps (Check key want) up = up
 
-after_steps : (old : List Pair) (n : ℕ) (ps : List Pair) (found : List (Option (List ℕ))) (steps : List Step)
+pub after_steps : (old : List Pair) (n : ℕ) (ps : List Pair) (found : List (Option (List ℕ))) (steps : List Step)
     → is_ascending old ≡ true → is_ascending ps ≡ true
     → is_ascending (ran_from old n ps found steps).pairs ≡ true
 after_steps old n ps found [] first up = up
@@ -56,7 +56,7 @@ with_pairs_ascend (v ∷ store) name ps new up = elim (bytes_eq v.head.name name
   | false ↦ (up.0, with_pairs_ascend store name ps new up.1)
 ]
 
-same_heads : (store : Store) (name : List ℕ) (ps : List Pair) → heads_of (with_pairs store name ps) ≡ heads_of store
+pub same_heads : (store : Store) (name : List ℕ) (ps : List Pair) → heads_of (with_pairs store name ps) ≡ heads_of store
 same_heads [] name ps = refl
 same_heads (v ∷ store) name ps = elim (bytes_eq v.head.name name) as (λ b. heads_of (if b then record v { pairs = ps } ∷ store else v ∷ with_pairs store name ps) ≡ v.head ∷ heads_of store) [
   | true ↦ refl
@@ -112,9 +112,6 @@ number_of (g ∷ heads) name h e = by (bytes_eq g.name name) e (number_of heads 
     by true f rest = (0, refl)
     by false f rest = let r = rest f in (r.0 + 1, ap (option_map (λ n. n + 1)) r.1)
 
-head_is : (g h : Head) → Some g ≡ Some h → g ≡ h
-head_is g h e = cc
-
 snapshot_left : (store : Store) (name child : List ℕ) (h : Head) → head_named (heads_of store) name ≡ Some h
     → refusal_at (heads_of store) (Snapshot name child) (Some h) ≡ None → IsStore store
     → IsStore (with_frozen store name ++ child_of store name child ∷ [])
@@ -133,7 +130,7 @@ branch_left store name child h at free is =
     let v = number_of (heads_of store) name h at in
     let n = named store name v.0 v.1 in
     let parts = frozen h.frozen free in
-    let same : n.version.head ≡ h = head_is n.version.head h (sym n.head ∙ at) in
+    let same : n.version.head ≡ h = head_same n.version.head h (sym n.head ∙ at) in
     let still = frozen_still n.version.head (ap (λ (g : Head). g.frozen) same ∙ parts.0) in
     subst IsStore (sym (ap (λ (y : StoreVersion). store ++ y ∷ []) (child_is store name v.0 child n.version.pairs v.1 n.pairs)
     ∙ ap (λ (s : Store). s ++ kid_of v.0 child n.version.pairs ∷ [])

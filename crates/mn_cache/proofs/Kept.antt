@@ -1,5 +1,5 @@
 -- What the steps of a cache make of its pages, by place inside and by address in its contracts.
-use Rattle.std.proofs.Common.{◌≡◌, ℕ, zero, suc, ◌+◌, ◌-◌, ◌≤◌, Bool, true, false, cond, ◌&&◌, List, [], ◌∷◌, length, take, Option, Some, None, refl, sym, ap, subst, ◌∙◌, nat_eq, eqb-true, eq-eqb, arith}
+use Rattle.std.proofs.Common.{◌≡◌, ℕ, zero, suc, ◌+◌, ◌-◌, ◌≤◌, Bool, true, false, cond, List, [], ◌∷◌, length, take, Option, Some, None, refl, sym, ap, subst, ◌∙◌, nat_eq, eqb-true, eq-eqb, arith}
 use Rattle.std.specs.Cmp.{IsEquivalence}
 use Rattle.std.specs.List.{IsDistinct, AllByRecursion, take-map}
 use Rattle.std.specs.Option.{option_map, option_map_or}
@@ -11,19 +11,16 @@ use Rattle.lru.proofs.CallerLemmas.{Contains-lookup_entry}
 use Rattle.lru.proofs.Pairs.{lookup-lookup_entry}
 use Rattle.mn_base.specs.Ids.{addr_same}
 use Rattle.mn_base.specs.declared.ids.Addr.{Addr}
+use Rattle.mn_base.proofs.Booleans.{both_parts}
 use Rattle.mn_page.specs.declared.page.Page.{Page}
 use Rattle.mn_cache.specs.Pages.{addr_of, pages_of, page_at, pages_without, pages_used, pages_put, AreKept}
 use Rattle.mn_cache.specs.declared.cache.Place.{Place}
 
 -- Addresses
 
-both : (x y : Bool) → (x && y) ≡ true → (x ≡ true) × (y ≡ true)
-both true y h = (refl, h)
-both false y h = cc
-
 tells_apart : (a b : Addr) → addr_same a b ≡ true → a ≡ b
 tells_apart a b h =
-    let two = both (nat_eq a.node.0 b.node.0) (nat_eq a.slot b.slot) h in
+    let two = both_parts (nat_eq a.node.0 b.node.0) (nat_eq a.slot b.slot) h in
     ap (λ n. record { node = record { 0 = n }; slot = a.slot }) (eqb-true a.node.0 b.node.0 two.0)
     ∙ ap (λ n. record { node = b.node; slot = n }) (eqb-true a.slot b.slot two.1)
 

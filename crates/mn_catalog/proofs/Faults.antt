@@ -1,5 +1,6 @@
 -- What the places that were read say of the catalog.
 use Rattle.std.proofs.Common.{◌≡◌, ◌⊎◌, ℕ, zero, suc, ◌+◌, ◌<◌, ◌≤◌, List, [], ◌∷◌, ◌++◌, length, slice_get, Option, Some, None, MatchOption, refl, sym, ap, subst, ◌∙◌, inl, inr, arith, length-append}
+use Rattle.mn_base.proofs.Naturals.{below_or}
 use Rattle.mn_page.specs.Grammar.{IsUnused, SpellsEntry, SpellsNoEntry}
 use Rattle.mn_page.specs.declared.entry.CatEntry.{CatEntry}
 use Rattle.mn_catalog.specs.Grammar.{place_bytes, IsAtFault, IsFirstAtFault, SpellsCatalog, SpellsNoCatalog, RefusesCatalog, IsWantOfMemory}
@@ -21,12 +22,6 @@ past_none (e ∷ es) (suc w) h = omega (arith, past_none es w h)
 none_some : {P : Type 0} (e : CatEntry) → None ≡ Some e → P
 none_some e h = cc
 
-pub either : (w k : ℕ) → (w < k) ⊎ (k ≤ w)
-either zero zero = inr (omega arith)
-either zero (suc k) = inl (omega arith)
-either (suc w) zero = inr (omega arith)
-either (suc w) (suc k) = elim (either w k) [ inl h ↦ inl (omega (arith, h)) | inr h ↦ inr (omega (arith, h)) ]
-
 -- Reading on
 
 pub none_read : (bytes : List ℕ) → AreRead 0 bytes []
@@ -34,7 +29,7 @@ none_read bytes = (omega arith, λ w lt. absurd (omega (arith, lt)))
 
 pub unused_read : (bytes : List ℕ) (m : ℕ) (es : List CatEntry) → AreRead m bytes es
     → IsRead (place_bytes m bytes) None → AreRead (m + 1) bytes es
-unused_read bytes m es a r = (omega (arith, a.0), λ w lt. by w lt (either w m))
+unused_read bytes m es a r = (omega (arith, a.0), λ w lt. by w lt (below_or w m))
   where
     by : (w : ℕ) → w < m + 1 → (w < m) ⊎ (m ≤ w) → IsRead (place_bytes w bytes) (slice_get es w)
     by w lt (inl low) = a.1 w low
@@ -56,7 +51,7 @@ pub used_read : (bytes : List ℕ) (m : ℕ) (es : List CatEntry) (e : CatEntry)
     → m ≤ length es → IsRead (place_bytes m bytes) (Some e) → AreRead (m + 1) bytes (es ++ e ∷ [])
 used_read bytes m es e a full r =
     let all : length es ≡ m = omega (arith, a.0, full) in
-    (omega (arith, all, length-append es (e ∷ [])), λ w lt. by all w lt (either w m))
+    (omega (arith, all, length-append es (e ∷ [])), λ w lt. by all w lt (below_or w m))
   where
     by : length es ≡ m → (w : ℕ) → w < m + 1 → (w < m) ⊎ (m ≤ w)
         → IsRead (place_bytes w bytes) (slice_get (es ++ e ∷ []) w)

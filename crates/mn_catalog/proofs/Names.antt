@@ -5,8 +5,8 @@ use Rattle.std.specs.Cmp.Lexicographic.{pointwise}
 use Rattle.std.proofs.lemmas.Bool.Decides.{Decides-eqb}
 use Rattle.std.proofs.lemmas.Slice.Eq.{slice_eq-Decides}
 use Rattle.std.proofs.lemmas.Option.{get_or_from_slice_get}
+use Rattle.mn_base.proofs.Naturals.{below_or}
 use Rattle.mn_page.specs.declared.entry.CatEntry.{CatEntry}
-use Rattle.mn_catalog.proofs.Faults.{either}
 
 -- whether two names are the same
 pub decides : (xs ys : List ℕ) → Decides (pointwise nat_eq xs ys) (xs ≡ ys)
@@ -18,7 +18,7 @@ NoneBelow m es name = (w : ℕ) (e : CatEntry) → w < m → slice_get es w ≡ 
 
 pub none_next : (m : ℕ) (es : List CatEntry) (name : List ℕ) (e : CatEntry) → NoneBelow m es name
     → e ≡ get_or es m e → m < length es → (e.name ≡ name → ⊥) → NoneBelow (m + 1) es name
-none_next m es name e none here there other w x lt at named = by (either w m)
+none_next m es name e none here there other w x lt at named = by (below_or w m)
   where
     by : (w < m) ⊎ (m ≤ w) → ⊥
     by (inl low) = none w x low at named

@@ -4,18 +4,10 @@ use Rattle.std.specs.List.{flat_map}
 use Rattle.std.proofs.Math.Seq.{take-append_seam, drop-append-add}
 use Rattle.std.proofs.lemmas.List.{replicate-append-replicate, append_assoc, length-replicate, take-append-drop, length-drop, length-take-le}
 use Rattle.std.proofs.lemmas.List.Elements.{All-nil, All-cons, All-head, All-tail}
-use Rattle.byteorder.specs.Endian.{big_bytes}
-use Rattle.mn_page.specs.Grammar.{padded, addr_bytes, counted, state_byte, parent_byte, entry_bytes, IsEntry, IsUnused, SpellsEntry}
+use Rattle.mn_page.specs.Grammar.{padded, entry_bytes, IsEntry, IsUnused, SpellsEntry}
 use Rattle.mn_page.specs.declared.entry.CatEntry.{CatEntry}
+use Rattle.mn_page.proofs.Spelled.{entry_length, length-padded}
 use Rattle.mn_catalog.specs.Grammar.{place_bytes, catalog_bytes, IsCatalog, SpellsCatalog}
-
-length_padded : (n : ℕ) (bytes : List ℕ) → length bytes ≤ n → length (padded n bytes) ≡ n
-length_padded n bytes h = omega (arith, h, length-append bytes (replicate (n - length bytes) 0), length-replicate {A = ℕ} (n - length bytes) 0)
-
-entry_length : (e : CatEntry) → IsEntry e → length (entry_bytes e) ≡ 64
-entry_length e is =
-    let short = is.name.1 in
-    length_padded 64 (big_bytes 8 e.seq ++ state_byte e.frozen ∷ [] ++ parent_byte e.parent ∷ [] ++ addr_bytes e.root ++ counted e.name) (omega arith)
 
 -- the bytes of one place
 abbrev pub block : Option CatEntry → List ℕ
@@ -144,4 +136,4 @@ fits (suc m) (e ∷ es) a h =
     omega (arith, own, others, length-append (entry_bytes e) (flat_map entry_bytes es))
 
 pub catalog_length : (es : List CatEntry) → IsCatalog es → length (catalog_bytes es) ≡ 4096
-catalog_length es s = length_padded 4096 (flat_map entry_bytes es) (fits 64 es s.1 s.0)
+catalog_length es s = length-padded 4096 (flat_map entry_bytes es) (fits 64 es s.1 s.0)

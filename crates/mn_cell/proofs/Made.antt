@@ -1,5 +1,5 @@
 -- What each kind of entry leaves of what is known of a node.
-use Rattle.std.proofs.Common.{◌≡◌, ◌≢◌, ℕ, zero, suc, ◌+◌, ◌<◌, ◌≤◌, ◌⊎◌, Bool, true, false, Option, Some, None, List, [], ◌∷◌, ◌++◌, length, reverse, slice_index_or, refl, sym, ap, ◌∙◌, subst, inl, inr, arith, if◌then◌else◌}
+use Rattle.std.proofs.Common.{◌≡◌, ◌≢◌, ℕ, ◌+◌, ◌<◌, ◌≤◌, ◌⊎◌, Bool, true, false, Option, Some, None, List, [], ◌∷◌, ◌++◌, length, reverse, refl, sym, ap, ◌∙◌, subst, inl, inr, arith, if◌then◌else◌}
 use Rattle.std.specs.Prelude.{is_some}
 use Rattle.std.proofs.lemmas.List.{length-append, reverse-append}
 use Rattle.mn_base.specs.declared.ids.NodeNo.{NodeNo}
@@ -25,6 +25,9 @@ use Rattle.mn_node.specs.State.{Answers, GoesOn, NodeState, StandsForRecords, re
 use Rattle.mn_node.specs.Restart.{FailsRestart, Restarts}
 use Rattle.mn_node.specs.declared.restart.RestartError.{RestartError}
 use Rattle.mn_node.specs.declared.restart.RestartError.TheVariants.{Fault, Damaged, NoMemory}
+use Rattle.mn_node.proofs.Found.{size_of}
+use Rattle.mn_node.proofs.Steps.{one_body_more}
+use Rattle.mn_node.proofs.Apart.{turned}
 use Rattle.mn_world.specs.declared.entry.Entry.{Entry}
 use Rattle.mn_world.specs.declared.entry.What.{What}
 use Rattle.mn_world.specs.declared.entry.What.TheVariants.{Begin, Issue, Called, Stopped, Restarted, Abandoned, Answered}
@@ -40,10 +43,6 @@ pub base_is : (records : List (List Record)) (n : NodeNo) → n.0 < length recor
 base_is records n low = base_there (start_of records) n low
 
 -- Records with one more
-
-pub reverse_added : (records : List Record) (added : Option Record) → reverse (added_to records added) ≡ with_added added (reverse records)
-reverse_added records None = refl
-reverse_added records (Some r) = reverse-append records (r ∷ [])
 
 -- A large reply comes with no new record
 
@@ -103,18 +102,10 @@ all_keep_on : (A B : Type 0) → (A → B) → (es : List Entry) → KeepsAsAske
 all_keep_on A B f [] are = tt
 all_keep_on A B f (e ∷ es) are = (keeps_on A B f e.what (last_asked es) are.0, all_keep_on A B f es are.1)
 
-body_more : (records : List Record) (r : Record) → bodies_of records ++ record_bytes r ∷ [] ≡ bodies_of (records ++ r ∷ [])
-body_more [] r = refl
-body_more (x ∷ records) r = ap (λ (l : List (List ℕ)). record_bytes x ∷ l) (body_more records r)
-
-body_count : (records : List Record) → length (bodies_of records) ≡ length records
-body_count [] = refl
-body_count (x ∷ records) = ap suc (body_count records)
-
 -- records and those with one more have other bodies
 not_longer : (records : List Record) (r : Record) → bodies_of (records ++ r ∷ []) ≡ bodies_of records → ⊥
 not_longer records r is =
-    let same : length (records ++ r ∷ []) ≡ length records = sym (body_count (records ++ r ∷ [])) ∙ (ap (λ (l : List (List ℕ)). length l) is ∙ body_count records) in
+    let same : length (records ++ r ∷ []) ≡ length records = sym (size_of (records ++ r ∷ [])) ∙ (ap (λ (l : List (List ℕ)). length l) is ∙ size_of records) in
     omega (arith, same, length-append records (r ∷ []))
 
 same_stands : (disk : DiskState) (node node' nodes nodes' : ℕ) (records records' : List Record) → node' ≡ node → nodes' ≡ nodes → records' ≡ records → StandsForRecords disk node nodes records → StandsForRecords disk node' nodes' records'
@@ -224,7 +215,7 @@ module _ {D : Type 0} (state : D → DiskState) (faults : D → ℕ) (start : St
     answered c request reply up still_up says records =
         let up' : is_down es ≡ false = sym made.down ∙ up in
         let r = responds request in
-        let added = ap (λ (l : List Record). reverse l) records ∙ reverse_added old.records (response_to old request).added
+        let added = ap (λ (l : List Record). reverse l) records ∙ turned old.records (response_to old request).added
         ∙ ap (λ (x : Response). with_added x.added (reverse old.records)) r ∙ ap (λ (l : List Record). with_added (answer (base_at start number) (node_records (base_at start number) (start_records start number) es) request).added l) made.records in
         entered c (Called request reply)
         (rw up' (sym says ∙ ap (λ (x : Response). x.reply) r))
@@ -266,7 +257,7 @@ module _ {D : Type 0} (state : D → DiskState) (faults : D → ℕ) (start : St
           r,
           pending,
           same_stands (state new.disk) old.node new.node old.nodes new.nodes (old.records ++ r ∷ []) (new.records ++ r ∷ []) goes.node goes.nodes (ap (λ (l : List Record). l ++ r ∷ []) records)
-              (λ h. subst (λ (l : List (List ℕ)). StandsFor (state new.disk) old.node old.nodes l) (body_more old.records r) (at (goes.no_better h))),
+              (λ h. subst (λ (l : List (List ℕ)). StandsFor (state new.disk) old.node old.nodes l) (one_body_more old.records r) (at (goes.no_better h))),
         )
 
     -- a stop inside a request

@@ -8,6 +8,7 @@ use Rattle.std.proofs.lemmas.List.Folds.{list_any-append}
 use Rattle.mn_base.specs.Ids.{client_same, tid_same}
 use Rattle.mn_base.specs.declared.ids.ClientNo.{ClientNo}
 use Rattle.mn_base.specs.declared.ids.Tid.{Tid}
+use Rattle.mn_base.proofs.Booleans.{or_left, or_right}
 use Rattle.mn_mini.specs.declared.request.Request.{Request}
 use Rattle.mn_mini.specs.declared.request.Request.TheVariants as Ask
 use Rattle.mn_mini.specs.declared.reply.NodeReply.{NodeReply}
@@ -107,14 +108,6 @@ voted_now false false is e = absurd (cc)
 
 at_end : (tid t : Tid) (c d : ClientNo) → tid_same t tid ≡ true → client_same c d ≡ true → ((tid_same t tid && client_same d c) || false) ≡ true
 at_end tid t c d same by = grind (arith, nat_tests, same, by)
-
-or_left : (a b : Bool) → a ≡ true → (a || b) ≡ true
-or_left true b is = refl
-or_left false b is = absurd (cc)
-
-or_right : (a b : Bool) → b ≡ true → (a || b) ≡ true
-or_right true b is = refl
-or_right false b is = is
 
 after_step : (by : Option ClientNo) (decided voted : Option Tid) → ((t : Tid) → decided ≡ Some t → voted ≡ None) → (before : Bool) (tid : Tid) (c : ClientNo) (os : List Owed) → (before ≡ true → owes tid c os ≡ true)
     → (if option_map_or (client_same c) by false then is_id tid voted || (before && not (is_id tid decided)) else before) ≡ true → owes tid c (owed_after by decided voted os) ≡ true

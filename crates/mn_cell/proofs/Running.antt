@@ -7,6 +7,8 @@ use Rattle.std.proofs.lemmas.List.{append_assoc, append-nil, map-append, reverse
 use Rattle.mn_base.specs.Ids.{client_same, node_same}
 use Rattle.mn_base.specs.declared.ids.ClientNo.{ClientNo}
 use Rattle.mn_base.specs.declared.ids.NodeNo.{NodeNo}
+use Rattle.mn_base.proofs.Lists.{all_append}
+use Rattle.mn_mini.proofs.Parts.{same_self}
 use Rattle.mn_actors.specs.declared.actor.Actor.{Actor}
 use Rattle.mn_actors.specs.declared.actor.Actor.TheVariants.{Node, Client}
 use Rattle.mn_actors.specs.Lines.{Line, is_client, is_node, stands_in}
@@ -18,7 +20,7 @@ use Rattle.mn_world.specs.Calls.{client_entries, is_at, is_by, node_entries}
 use Rattle.mn_world.specs.Laws.{NodeListAllowed}
 use Rattle.mn_world.specs.Protocol.{AllowedAt, AllowedBy, IsNodeStep, IsOfRun, Start}
 use Rattle.mn_world.specs.Run.{HasNode, IsCallersStep, IsLegalStep, IsRun, Means, entries_of}
-use Rattle.mn_world.proofs.Reading.Same.{client_same-refl, node_same-refl}
+use Rattle.mn_world.proofs.Reading.Same.{client_same-refl}
 use Rattle.mn_cell.specs.Calls.{IsLegalLine}
 use Rattle.mn_cell.specs.Runs.{AreParts, IsIssueOf, PartsMakeRun, placed_from}
 
@@ -36,11 +38,7 @@ filter_both f (x ∷ xs) ys = by (f x) x _ _ _ (filter_both f xs ys)
     by true x all front back is = ap (λ l. x ∷ l) is
     by false x all front back is = is
 
-all_both : {X : Type 0} (P : X → Type 0) (xs ys : List X) → AllByRecursion P xs → AllByRecursion P ys → AllByRecursion P (xs ++ ys)
-all_both P [] ys a b = b
-all_both P (x ∷ xs) ys a b = (a.0, all_both P xs ys a.1 b)
-
-reverse_more : {X : Type 0} (x : X) (xs : List X) → reverse (x ∷ xs) ≡ reverse xs ++ x ∷ []
+pub reverse_more : {X : Type 0} (x : X) (xs : List X) → reverse (x ∷ xs) ≡ reverse xs ++ x ∷ []
 reverse_more x xs = reverse-append (x ∷ []) xs
 
 all_rest : {X : Type 0} (P : X → Type 0) (xs ys : List X) → AllByRecursion P (xs ++ ys) → AllByRecursion P ys
@@ -164,7 +162,7 @@ module _ (start : Start) (nodes clients clock : ℕ) (owned : Actor → Option (
     at_node : (at : Option NodeNo) → x.entry.node ≡ at → HasNode at x.entry.what → AllowedAt start (ended front) at x.entry.what
     at_node None at own_step = own_step
     at_node (Some n) at step =
-        let stands : stands_in (Node n) x ≡ true = ap (λ (o : Option NodeNo). is_node o n) (sym legal.0 ∙ at) ∙ node_same-refl n in
+        let stands : stands_in (Node n) x ≡ true = ap (λ (o : Option NodeNo). is_node o n) (sym legal.0 ∙ at) ∙ same_self n in
         let on = manned.on_board (Node n) stands in
         let list = parts.allowed n _ on (one.lists (Node n) on) in
         let newest = allowed_rest start n (reverse (own (Node n) rest)) (x.entry ∷ reverse (own (Node n) front)) (subst (NodeListAllowed start n) (own_middle (Node n) one.log front rest x is stands) list) in (
@@ -198,7 +196,7 @@ module _ (start : Start) (nodes clients clock : ℕ) (owned : Actor → Option (
   run_from front [] is named run = subst (λ (l : List (Line Entry)). IsRun start (ended l)) (sym (is ∙ append-nil front)) run
   run_from front (x ∷ rest) is named run =
       let here = legal front rest x is named in
-      run_from (front ++ x ∷ []) rest (is ∙ sym (append_assoc front (x ∷ []) rest)) (all_both NamesActors front (x ∷ []) named ((here.0, here.1), tt))
+      run_from (front ++ x ∷ []) rest (is ∙ sym (append_assoc front (x ∷ []) rest)) (all_append NamesActors front (x ∷ []) named ((here.0, here.1), tt))
       (subst (IsRun start) (sym (ended_more front x)) (run, step_legal front rest x is named))
 
 -- Recorded

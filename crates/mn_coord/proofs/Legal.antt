@@ -1,12 +1,14 @@
 -- A coordinator makes only entries that the commit protocol allows its client.
 use Rattle.std.proofs.Common.{◌≡◌, ℕ, ◌+◌, ◌<◌, ◌≤◌, Bool, true, false, ◌&&◌, ◌||◌, not, List, [], ◌∷◌, ◌++◌, length, Option, Some, None, refl, sym, ap, subst, ◌∙◌, arith, inl, if◌then◌else◌}
 use Rattle.std.specs.Prelude.{nat_lt, nat_eq, MatchOption, ⊤}
-use Rattle.std.specs.List.{list_any, AllByRecursion}
+use Rattle.std.specs.List.{list_any}
 use Rattle.std.proofs.lemmas.Bool.{ltb-true, ltb-false, le-ltb, eq-eqb, eqb-true, eqb-false, ne_eqb}
 use Rattle.mn_base.specs.Ids.{node_same}
 use Rattle.mn_base.specs.declared.ids.NodeNo.{NodeNo}
 use Rattle.mn_base.specs.declared.ids.ClientNo.{ClientNo}
 use Rattle.mn_base.specs.declared.ids.Tid.{Tid}
+use Rattle.mn_base.proofs.Booleans.{and_false, or_left, or_right}
+use Rattle.mn_base.proofs.Naturals.{eq_turned}
 use Rattle.mn_mini.specs.declared.request.Request.{Request}
 use Rattle.mn_mini.specs.declared.request.Request.TheVariants as Ask
 use Rattle.mn_mini.specs.declared.reply.NodeReply.{NodeReply}
@@ -25,19 +27,7 @@ use Rattle.mn_coord.specs.declared.step.CoordStep.TheVariants.{Send, Abandon, Co
 use Rattle.mn_coord.specs.Coordination.{Coordination, is_stopped_at_last, stage_of, stage_in, participant, try_request, step_at, step_of, after_step, after_reply, fed_at}
 use Rattle.mn_coord.specs.Legal.{has_stopped, is_doubtful, Agrees, MayMake, IsAnswered, StepsAreAllowed, AnswersAgree, NoAnswerAgrees, AbandonedAgrees, names_tid, IssuesAgree}
 use Rattle.mn_coord.proofs.Stages.{asking}
-use Rattle.mn_coord.proofs.Order.{participants_ascend, all_of, order_down, told_apart, element, any_at, last_at, below_next, eq_turn, single}
-
-or_true : (a b : Bool) → b ≡ true → (a || b) ≡ true
-or_true true b e = refl
-or_true false b e = e
-
-or_here : (a b : Bool) → a ≡ true → (a || b) ≡ true
-or_here true b e = refl
-or_here false b e = absurd cc
-
-and_false : (a : Bool) → (a && false) ≡ false
-and_false true = refl
-and_false false = refl
+use Rattle.mn_coord.proofs.Order.{participants_ascend, all_of, order_down, told_apart, element, any_at, last_at, below_next, single}
 
 abbrev count : Coordination → ℕ
 count c = length (participants_of c.mini)
@@ -149,13 +139,13 @@ commit_allowed es c a stage =
     let facts = commits (count c) c.done c.refused c.told c.decided stage in
     let all = facts.1 in (
       a.doubt ∙ ap (is_doubtful (count c) c.done) facts.0,
-      (participants_of c.mini, inl (c.mini, a.ever, refl), all_of (λ m. has_yes c.tid m es ≡ true) (participants_of c.mini) (λ i low. or_here _ _ (a.votes facts.2 i low (omega arith)))),
+      (participants_of c.mini, inl (c.mini, a.ever, refl), all_of (λ m. has_yes c.tid m es ≡ true) (participants_of c.mini) (λ i low. or_left _ _ (a.votes facts.2 i low (omega arith)))),
     )
 
 cancel_allowed : (es : List Entry) (c : Coordination) → Agrees es c → stage_in c ≡ At.Cancel → Sends es (Some (participant c c.decided)) (Ask.Decide c.tid false)
 cancel_allowed es c a stage =
     let facts = (refusing (count c) c.done c.refused c.told c.decided At.Cancel stage).1 refl in
-    (not_doubtful es c a facts.0, or_here _ _ (a.told ∙ facts.1))
+    (not_doubtful es c a facts.0, or_left _ _ (a.told ∙ facts.1))
 
 abandon_allowed : (es : List Entry) (c : Coordination) → Agrees es c → stage_in c ≡ At.Abandon → MayMake es c.tid Abandon
 abandon_allowed es c a stage = (c.mini, a.ever, by (is_stopped r.reply) refl)
@@ -228,7 +218,7 @@ call_what es (Some n) by (Answered number answer) call is = absurd cc
 a_call : (es : List Entry) (e : Entry) (call : Call) → call_in e.node e.what ≡ call ∷ [] → IsCall es e
 a_call es e call is = call_what es e.node e.client e.what call is
 
-any_more : (t : Call → Bool) (es : List Entry) (e : Entry) (call : Call) → call_in e.node e.what ≡ call ∷ [] → list_any t (calls_of (e ∷ es)) ≡ (t call || list_any t (calls_of es))
+pub any_more : (t : Call → Bool) (es : List Entry) (e : Entry) (call : Call) → call_in e.node e.what ≡ call ∷ [] → list_any t (calls_of (e ∷ es)) ≡ (t call || list_any t (calls_of es))
 any_more t es e call is = ap (λ (cs : List Call). list_any t (cs ++ calls_of es)) is
 
 same_issues : (es : List Entry) (e : Entry) → issue_in e.what ≡ [] → issues_of (e ∷ es) ≡ issues_of es
@@ -324,7 +314,7 @@ try_is c low = by (nat_eq (count c) 1) refl
         let one = eqb-true (count c) 1 e in
         record { try = tid_same-refl c.tid; prepare = λ two. absurd (omega arith); last = ap (λ b. b || false) (tid_same-refl c.tid) ∙ sym (eq-eqb (c.done + 1) (count c) (omega arith)) }
     by false e = record {
-      try = or_here _ _ (tid_same-refl c.tid);
+      try = or_left _ _ (tid_same-refl c.tid);
       prepare = λ two. tid_same-refl c.tid;
       last = ap (λ b. b && is_last_of (participant c c.done) (Ask.Prepare c.tid (participants_of c.mini) (part_of c.mini (participant c c.done)))) (tid_same-refl c.tid)
           ∙ last_at (participants_of c.mini) c.done (participants_ascend c.mini) low;
@@ -385,11 +375,11 @@ refused_agrees es e c request reply a open_still low t other last is =
       told = still_told es e c.tid call ∙ a.told;
       done = λ i l. noted (is_try c.tid) is_done es e c i request reply is t.try low l
           ∙ (ap (λ b. (nat_eq c.done i && b) || was_done c.tid (participant c i) es) other ∙ (ap (λ b. b || was_done c.tid (participant c i) es) (and_false (nat_eq c.done i)) ∙ a.done i l));
-      votes = λ two i l below. noted (is_prepare c.tid) is_done es e c i request reply is (t.prepare two) low l ∙ or_true _ _ (a.votes two i l below);
+      votes = λ two i l below. noted (is_prepare c.tid) is_done es e c i request reply is (t.prepare two) low l ∙ or_right _ _ (a.votes two i l below);
       sent = λ none. absurd cc;
       stopped = λ i l. noted (is_try c.tid) is_stopped es e c i request reply is t.try low l
           ∙ (ap (λ b. (nat_eq c.done i && is_stopped reply) || b) (a.stopped i l ∙ (ap (λ (o : Option NodeReply). nat_eq i c.done && has_stopped o) open_still ∙ and_false (nat_eq i c.done)))
-          ∙ (or_none (nat_eq c.done i && is_stopped reply) ∙ ap (λ b. b && is_stopped reply) (eq_turn c.done i)));
+          ∙ (or_none (nat_eq c.done i && is_stopped reply) ∙ ap (λ b. b && is_stopped reply) (eq_turned c.done i)));
       doubt = doubt_more es e (participant c c.done) request reply c.tid is
           ∙ (ap (λ b. (is_stopped reply && b) || is_in_doubt c.tid es) t.last
           ∙ (ap (λ b. (is_stopped reply && nat_eq (c.done + 1) (count c)) || b) (a.doubt ∙ ap (is_doubtful (count c) c.done) open_still) ∙ (or_none (is_stopped reply && nat_eq (c.done + 1) (count c)) ∙ last)));

@@ -7,6 +7,7 @@ use Rattle.mn_base.specs.Ids.{node_same, node_numbers}
 use Rattle.mn_base.specs.declared.ids.NodeNo.{NodeNo}
 use Rattle.mn_mini.specs.Mini.{Mini, is_named, participants_of}
 use Rattle.mn_world.specs.Calls.{is_last}
+use Rattle.mn_world.proofs.Votes.Records.{filter_all}
 
 abbrev pub at : List NodeNo → ℕ → NodeNo
 at ps i = slice_index_or ps i (record { 0 = 0 })
@@ -27,17 +28,10 @@ range_ascends b (suc k) = (weaker (map (λ n. record { 0 = n }) (range_with_len 
     weaker [] all = tt
     weaker (q ∷ qs) all = let first = all.0 in (omega arith, weaker qs all.1)
 
-all_kept : (P : NodeNo → Type 0) (t : NodeNo → Bool) (ps : List NodeNo) → AllByRecursion P ps → AllByRecursion P (filter t ps)
-all_kept P t [] all = tt
-all_kept P t (p ∷ ps) all = elim (t p) as (λ b. AllByRecursion P (cond b (p ∷ filter t ps) (filter t ps))) [
-  | true ↦ (all.0, all_kept P t ps all.1)
-  | false ↦ all_kept P t ps all.1
-]
-
 filter_ascends : (t : NodeNo → Bool) (ps : List NodeNo) → Ascending ps → Ascending (filter t ps)
 filter_ascends t [] asc = tt
 filter_ascends t (p ∷ ps) asc = elim (t p) as (λ b. Ascending (cond b (p ∷ filter t ps) (filter t ps))) [
-  | true ↦ (all_kept (λ (q : NodeNo). p.0 < q.0) t ps asc.0, filter_ascends t ps asc.1)
+  | true ↦ (filter_all (λ (q : NodeNo). p.0 < q.0) t ps asc.0, filter_ascends t ps asc.1)
   | false ↦ filter_ascends t ps asc.1
 ]
 
@@ -135,13 +129,6 @@ below_next i done = cases (nat_lt i done) refl (nat_eq done i) refl
     cases a e true f = let is = eqb-true done i f in ap (λ t. t || nat_lt i done) f ∙ sym (lt-ltb i (done + 1) (omega arith))
     cases true e false f = let low = ltb-true i done e in ap (λ t. t || nat_lt i done) f ∙ (e ∙ sym (lt-ltb i (done + 1) (omega arith)))
     cases false e false f = let high = ltb-false i done e in let apart = eqb-false done i f in ap (λ t. t || nat_lt i done) f ∙ (e ∙ sym (le-ltb i (done + 1) (omega (arith, apart))))
-
-pub eq_turn : (i j : ℕ) → nat_eq i j ≡ nat_eq j i
-eq_turn i j = cases (nat_eq i j) refl
-  where
-    cases : (t : Bool) → nat_eq i j ≡ t → nat_eq i j ≡ nat_eq j i
-    cases true e = e ∙ sym (eq-eqb j i (sym (eqb-true i j e)))
-    cases false e = e ∙ sym (ne_eqb j i (λ f. eqb-false i j e (sym f)))
 
 pub single : (ps : List NodeNo) → length ps ≡ 1 → ps ≡ at ps 0 ∷ []
 single [] e = absurd (omega arith)

@@ -6,8 +6,8 @@ use Rattle.std.proofs.lemmas.Bool.{ltb-true, eq-eqb}
 use Rattle.mn_base.specs.Ids.{node_same}
 use Rattle.mn_base.specs.declared.ids.NodeNo.{NodeNo}
 use Rattle.mn_base.specs.declared.ids.Tid.{Tid}
+use Rattle.mn_world.proofs.Bytes.Step.{item_below}
 use Rattle.mn_mini.specs.declared.item.Item.{Item}
-use Rattle.mn_mini.specs.declared.item.Item.TheVariants.{Compare, Read, Write}
 use Rattle.mn_mini.specs.declared.reply.NodeReply.{NodeReply}
 use Rattle.mn_mini.specs.declared.reply.NodeReply.TheVariants as Say
 use Rattle.mn_mini.specs.declared.request.Request.{Request}
@@ -23,11 +23,6 @@ use Rattle.mn_coord.specs.Inside.{view_of, sent_of, IsSoundInside}
 
 -- Participants
 
-sound_below : (nodes : ℕ) (item : Item) → IsSoundItem nodes item → (item_node item).0 < nodes
-sound_below nodes (Compare node start bytes) s = (s.0).0
-sound_below nodes (Read node start n) s = (s.0).0
-sound_below nodes (Write node start bytes) s = (s.0).0
-
 -- each minitransaction has one
 pub some_participant : (mini : Mini) → IsSound mini → 1 ≤ length (participants_of mini)
 some_participant mini sound = of_items mini.items refl
@@ -42,7 +37,7 @@ some_participant mini sound = of_items mini.items refl
         let all = subst (λ (l : List Item). Rattle.std.specs.List.AllByRecursion (IsSoundItem mini.nodes) l) is sound.inside in
         let named : list_any (λ j. node_same (item_node j) (item_node i)) mini.items ≡ true = ap (λ (l : List Item). list_any (λ j. node_same (item_node j) (item_node i)) l) is
         ∙ ap (λ b. b || list_any (λ j. node_same (item_node j) (item_node i)) rest) (eq-eqb (item_node i).0 (item_node i).0 refl) in
-        not_none (participants_of mini) (item_node i) (named_takes_part mini (item_node i) (sound_below mini.nodes i all.0) named)
+        not_none (participants_of mini) (item_node i) (named_takes_part mini (item_node i) (item_below mini.nodes i all.0) named)
 
 -- Stages
 

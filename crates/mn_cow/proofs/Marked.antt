@@ -1,16 +1,15 @@
 -- A page with one more version in its copied set: what it serves, and that it is a page.
-use Rattle.std.proofs.Common.{◌≡◌, ℕ, ◌+◌, ◌-◌, ◌^◌, ◌<◌, ◌≤◌, Bool, true, false, cond, not, ◌&&◌, ◌||◌, List, [], ◌∷◌, Option, Some, refl, sym, ap, ◌∙◌, arith, rules, slice_get, nat_eq}
-use Rattle.std.specs.Prelude.{filter, nat_lt, IsTrue}
+use Rattle.std.proofs.Common.{◌≡◌, ℕ, ◌+◌, ◌-◌, ◌^◌, ◌<◌, Bool, true, false, not, ◌&&◌, ◌||◌, Some, refl, sym, ap, ◌∙◌, arith, slice_get}
 use Rattle.std.specs.Int.Bits.{bit_or}
-use Rattle.std.specs.List.{AllByRecursion, list_any, list_all, range_with_len}
-use Rattle.std.proofs.lemmas.Bool.{eq-eqb, and_parts, and_from, lt-ltb}
-use Rattle.std.proofs.lemmas.Bool.Decides.{nat_tests}
-use Rattle.std.proofs.lemmas.Nat.{or_lt, pow_below}
+use Rattle.std.specs.List.{list_any, range_with_len}
+use Rattle.std.proofs.lemmas.Bool.{eq-eqb}
 use Rattle.mn_base.specs.Store.{max_versions}
-use Rattle.mn_base.specs.Tree.{is_ancestor, serves, has_version, versions_in}
+use Rattle.mn_base.specs.Tree.{is_ancestor, has_version, versions_in}
 use Rattle.mn_base.specs.declared.ids.VersionNo.{VersionNo}
+use Rattle.mn_base.proofs.Booleans.{or_false}
+use Rattle.mn_base.proofs.Lists.{range_at}
 use Rattle.mn_page.specs.declared.page.Page.{Page}
-use Rattle.mn_page.proofs.Copy.{joined_bit, any_same, any_joined, all_joined, range_at}
+use Rattle.mn_page.proofs.Copy.{joined_bit, any_same, any_joined}
 use Rattle.mn_page.specs.Copies.{marked_for, copy_for}
 use Rattle.mn_cow.specs.Serving.{ServesOthers, ServesItsOwn}
 
@@ -24,10 +23,6 @@ and_not_or true false t = refl
 or_true : (b : Bool) → (b || true) ≡ true
 or_true true = refl
 or_true false = refl
-
-or_false : (b : Bool) → (b || false) ≡ b
-or_false true = refl
-or_false false = refl
 
 -- some version of the set with one more passes where that one does, or some version did
 any_marked : (test : ℕ → Bool) (copied v : ℕ) → v < 64

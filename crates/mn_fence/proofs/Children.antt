@@ -1,20 +1,17 @@
 -- Where separators ascend, those that are not above a key come first.
 use Rattle.std.proofs.Common.{◌≡◌, ℕ, zero, suc, ◌<◌, ◌≤◌, Bool, true, false, true≢false, not, Some, List, [], ◌∷◌, length, refl, sym, ap, ◌∙◌, subst, arith}
 use Rattle.std.specs.Prelude.{slice_get, filter}
-use Rattle.std.specs.declared.cmp.Ordering.{Ordering}
-use Rattle.std.specs.declared.cmp.Ordering.TheVariants.{Less, Equal, Greater}
+use Rattle.std.specs.declared.cmp.Ordering.TheVariants.{Less}
 use Rattle.std.specs.Ordering.{is_lt}
 use Rattle.std.proofs.lemmas.Cmp.{nat_list_cmp_total}
 use Rattle.std.proofs.lemmas.List.Sums.{length-filter, count_by-le-length}
 use Rattle.std.proofs.lemmas.Option.{same_Some}
 use Rattle.mn_base.specs.Order.{key_cmp, key_lt, key_le}
+use Rattle.mn_base.proofs.Booleans.{falsely, not_false, not_true}
+use Rattle.mn_base.proofs.Keys.{less}
 use Rattle.mn_fence.specs.Child.{count_not_above, Ascend, IsChild}
 
-fails : (b : Bool) → (b ≡ true → ⊥) → b ≡ false
-fails true never = absurd (never refl)
-fails false never = refl
-
--- who passes the test stands before who fails it
+-- who passes the test stands before who falsely it
 abbrev Downward : (List ℕ → Bool) → List (List ℕ) → Type 0
 Downward p xs = (i j : ℕ) (a b : List ℕ) → i < j → slice_get xs i ≡ Some a → slice_get xs j ≡ Some b → p b ≡ true → p a ≡ true
 
@@ -28,7 +25,7 @@ grown_parts : (p : List ℕ → Bool) (x : List ℕ) (xs : List (List ℕ)) → 
 grown_parts p x xs down true first rest zero s is = let same : x ≡ s = same_Some x s is in (λ lt. subst (λ (t : List ℕ). p t ≡ true) same first, rw first (λ le. absurd (omega arith)))
 grown_parts p x xs down true first rest (suc i) s is = let r = rest i s is in rw first (λ lt. r.0 (omega arith), λ le. r.1 (omega arith))
 grown_parts p x xs down false first rest i s is =
-    let later : (j : ℕ) (t : List ℕ) → slice_get xs j ≡ Some t → p t ≡ false = λ j t has. fails (p t) (λ hit. true≢false (sym (down 0 (suc j) x t (omega arith) refl has hit) ∙ first)) in
+    let later : (j : ℕ) (t : List ℕ) → slice_get xs j ≡ Some t → p t ≡ false = λ j t has. falsely (p t) (λ hit. true≢false (sym (down 0 (suc j) x t (omega arith) refl has hit) ∙ first)) in
     let none : length (filter p xs) ≡ 0 = none_pass p xs later in
     rw first (λ lt. absurd (omega arith), λ le. no_one i s is later)
   where
@@ -40,26 +37,13 @@ parts : (p : List ℕ → Bool) (xs : List (List ℕ)) → Downward p xs → (i 
 parts p [] down i s is = absurd (cc)
 parts p (x ∷ xs) down i s is = grown_parts p x xs down (p x) refl (parts p xs (λ a b c d lt h k. down (suc a) (suc b) c d (omega arith) h k)) i s is
 
-less_is : (o : Ordering) → is_lt o ≡ true → o ≡ Less
-less_is Less is = refl
-less_is Equal is = absurd (true≢false (sym is))
-less_is Greater is = absurd (true≢false (sym is))
-
-not_true : (b : Bool) → not b ≡ true → b ≡ false
-not_true true is = absurd (true≢false (sym is))
-not_true false is = refl
-
-not_false : (b : Bool) → not b ≡ false → b ≡ true
-not_false true is = refl
-not_false false is = absurd (true≢false is)
-
 -- what is below something not above the key is not above the key
 le_down : (a b key : List ℕ) → key_lt a b ≡ true → key_le b key ≡ true → key_le a key ≡ true
-le_down a b key lt le = ap not (fails (is_lt (key_cmp key a)) not_above)
+le_down a b key lt le = ap not (falsely (is_lt (key_cmp key a)) not_above)
   where
     not_above : is_lt (key_cmp key a) ≡ true → ⊥
     not_above hit =
-        let below : key_cmp key b ≡ Less = nat_list_cmp_total.trans key a b (less_is (key_cmp key a) hit) (less_is (key_cmp a b) lt) in
+        let below : key_cmp key b ≡ Less = nat_list_cmp_total.trans key a b (less (key_cmp key a) hit) (less (key_cmp a b) lt) in
         true≢false (sym (ap is_lt below) ∙ not_true (is_lt (key_cmp key b)) le)
 
 pub child_is : (separators : List (List ℕ)) (key : List ℕ) → Ascend separators → IsChild separators key (count_not_above separators key)

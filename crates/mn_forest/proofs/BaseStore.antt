@@ -1,9 +1,8 @@
 -- The base memory: a space for each node, and the store that it holds.
-use Rattle.std.proofs.Common.{◌≡◌, ℕ, zero, suc, ◌+◌, ◌<◌, ◌≤◌, Bool, true, false, cond, ◌&&◌, List, [], ◌∷◌, length, map, replicate, filter, Some, None, refl, subst, sym, ap, ◌∙◌, arith, lit<, lit≤, slice_get}
+use Rattle.std.proofs.Common.{◌≡◌, ℕ, zero, suc, ◌<◌, ◌≤◌, Bool, false, cond, ◌&&◌, List, [], ◌∷◌, length, map, replicate, filter, Some, None, refl, subst, sym, ap, ◌∙◌, arith, lit<, lit≤, slice_get}
 use Rattle.std.specs.Prelude.{count_by, nat_eq}
 use Rattle.std.specs.List.{AllByRecursion, flat_map, range_with_len}
 use Rattle.std.proofs.lemmas.Bool.Decides.{nat_tests}
-use Rattle.mn_base.specs.Order.{covers_key}
 use Rattle.mn_base.specs.Store.{StoreVersion, Head, empty_store}
 use Rattle.mn_base.specs.Tree.{IsVersionTree, has_child}
 use Rattle.mn_page.specs.declared.page.Page.{Page}
@@ -12,6 +11,7 @@ use Rattle.mn_page.specs.Forest.{Forest, base_forest, empty_leaf, space_laid, la
 use Rattle.mn_page.specs.Holds.{Holds, page_covers, pairs_in}
 use Rattle.mn_page.proofs.Counted.{forest, shows, IsCounted, IsRootIn, IsPageIn, IsChildIn, forest_heads, height_in, all_pages, serves_in, serving_pages}
 use Rattle.mn_page.specs.Base.{base_of}
+use Rattle.mn_page.proofs.Base.{one_cover}
 use Rattle.mn_forest.specs.Base.{base_memory}
 
 abbrev fresh : ℕ → Forest
@@ -43,11 +43,6 @@ few_slots : (k : ℕ) → AllByRecursion (λ (pages : List Page). length pages �
 few_slots zero = tt
 few_slots (suc k) = (lit≤ tt, few_slots k)
 
--- every key lies in the leaf with no fences
-all_covered : (key : List ℕ) → covers_key [] None key ≡ true
-all_covered [] = refl
-all_covered (b ∷ key) = refl
-
 leaf_is_page : IsPage empty_leaf
 leaf_is_page = record {
   seq_low = lit≤ tt;
@@ -68,9 +63,6 @@ below_one P p (suc v) h = absurd (omega arith)
 abbrev at_zero : (P : ℕ → Type 0) → P 0 → (v : ℕ) → v ≤ 0 → P v
 at_zero P p zero h = p
 at_zero P p (suc v) h = absurd (omega arith)
-
-one_cover : (key : List ℕ) → count_by (page_covers key) (empty_leaf ∷ []) ≡ 1
-one_cover key = ap (λ (b : Bool). 0 + cond b 1 0) (all_covered key)
 
 not_zero : (n : ℕ) → 0 < n → nat_eq 0 n ≡ false
 not_zero n h = grind (arith, nat_tests)

@@ -1,10 +1,8 @@
 -- The catalog: that each entry fits the others, and the tree of versions that they make.
-use Rattle.std.proofs.Common.{◌≡◌, ◌<◌, ◌≤◌, ◌+◌, ◌⊎◌, inl, inr, ℕ, zero, suc, Bool, true, false, not, ◌&&◌, ◌||◌, List, [], ◌∷◌, ◌++◌, length, map, take, reverse, Option, Some, None, refl, ap, sym, subst, ◌∙◌, arith, slice_get, get_or}
-use Rattle.std.specs.Prelude.{is_some, nat_lt, nat_eq, bytes_eq, IsTrue}
+use Rattle.std.proofs.Common.{◌≡◌, ◌<◌, ◌≤◌, ◌+◌, ◌⊎◌, inl, inr, ℕ, zero, suc, Bool, true, false, not, ◌||◌, List, [], ◌∷◌, ◌++◌, length, take, reverse, Option, Some, None, refl, ap, sym, subst, ◌∙◌, arith, slice_get}
+use Rattle.std.specs.Prelude.{is_some, nat_lt, nat_eq, bytes_eq}
 use Rattle.std.specs.List.{list_all, list_any}
 use Rattle.std.specs.Option.{option_map_or}
-use Rattle.std.proofs.lemmas.Bool.{eqb-true, eq-eqb}
-use Rattle.std.proofs.lemmas.Bool.Decides.{nat_tests}
 use Rattle.std.proofs.lemmas.List.{length-map, length-reverse, reverse-append, reverse-reverse}
 use Rattle.mn_base.specs.Store.{Head}
 use Rattle.mn_base.specs.Tree.{HaveParents, IsVersionTree, parents_of, are_distinct, has_child}
@@ -12,10 +10,12 @@ use Rattle.mn_base.specs.declared.ids.VersionNo.{VersionNo}
 use Rattle.mn_page.specs.declared.entry.CatEntry.{CatEntry}
 use Rattle.mn_page.specs.Forest.{heads_in, entry_head, parent_number}
 use Rattle.mn_base.proofs.Keys.{bytes_eq-true, bytes_eq-refl}
+use Rattle.mn_base.proofs.Naturals.{eq_turned, lt_from, lt_true}
+use Rattle.mn_base.proofs.Lists.{last_at}
+use Rattle.mn_base.proofs.Booleans.{both_parts, clash}
+use Rattle.mn_world.proofs.Plans.Compares.{element_at}
 use Rattle.mn_forest.specs.Rules.{EntryFits, entries_of, entry_of, parent_fits, is_named, is_child_of}
-use Rattle.mn_forest.proofs.Telling.{and_split, clash}
 use Rattle.mn_forest.proofs.Lists.{pushed_at, place_in, read_at}
-use Rattle.mn_forest.proofs.Children.{some_at}
 use Rattle.mn_forest.proofs.Partition.{head_at}
 use Rattle.mn_forest.proofs.Refusing.{entries_few}
 
@@ -56,10 +56,6 @@ get_front [] ys i x is = absurd cc
 get_front (y ∷ xs) ys zero x is = is
 get_front (y ∷ xs) ys (suc i) x is = get_front xs ys i x is
 
-get_last : {X : Type 0} (xs : List X) (x : X) → slice_get (xs ++ x ∷ []) (length xs) ≡ Some x
-get_last [] x = refl
-get_last (y ∷ xs) x = get_last xs x
-
 -- Places
 
 -- each used entry comes behind used ones alone
@@ -87,21 +83,12 @@ used_before (Some x ∷ es) (suc w) e is = used_before es w e is
 
 -- Children
 
-turned : (a b : ℕ) → nat_eq a b ≡ nat_eq b a
-turned a b = by (nat_eq a b) refl (nat_eq b a) refl
-  where
-    by : (x : Bool) → nat_eq a b ≡ x → (y : Bool) → nat_eq b a ≡ y → nat_eq a b ≡ nat_eq b a
-    by true e true f = e ∙ sym f
-    by true e false f = absurd (clash (nat_eq b a) (eq-eqb b a (sym (eqb-true a b e))) f)
-    by false e true f = absurd (clash (nat_eq a b) (eq-eqb a b (sym (eqb-true b a f))) e)
-    by false e false f = e ∙ sym f
-
 child_test : (v : ℕ) (e : CatEntry) → is_child_of v (Some e) ≡ option_map_or (nat_eq v) (entry_head e).parent false
 child_test v e = by e.parent
   where
     by : (o : Option VersionNo) → option_map_or (λ p. nat_eq p.0 v) o false ≡ option_map_or (nat_eq v) (parent_number o) false
     by None = refl
-    by (Some p) = turned p.0 v
+    by (Some p) = eq_turned p.0 v
 
 pub children_said : (es : List (Option CatEntry)) → UsedFirst es → (v : ℕ) → list_any (is_child_of v) es ≡ has_child (heads_in (entries_of es)) v
 children_said [] first v = refl
@@ -127,16 +114,10 @@ fits_number zero (Some v) = refl
 fits_number (suc w) None = refl
 fits_number (suc w) (Some v) = refl
 
-lt_test : (v n : ℕ) → v < n → nat_lt v n ≡ true
-lt_test v n low = grind (arith, nat_tests)
-
-lt_from : (v n : ℕ) → nat_lt v n ≡ true → v < n
-lt_from v n e = grind (arith, nat_tests)
-
 some_fits : (i p : ℕ) → p < i → num_fits i (Some p) ≡ true
 unfolding num_fits
 some_fits zero p low = absurd (omega arith)
-some_fits (suc i) p low = lt_test p (suc i) low
+some_fits (suc i) p low = lt_true p (suc i) low
 
 fits_some : (i p : ℕ) → num_fits i (Some p) ≡ true → p < i
 unfolding num_fits
@@ -160,10 +141,10 @@ have_from [] some each = absurd (omega arith)
 have_from (None ∷ []) some each = tt
 have_from (Some p ∷ []) some each = absurd (let low = fits_some 0 p (each 0 (Some p) refl) in omega arith)
 have_from (None ∷ (q ∷ older)) some each =
-    absurd (let at = ap (λ (l : List (Option ℕ)). slice_get l (length (reverse (q ∷ older)))) (turned_cons None (q ∷ older)) ∙ get_last (reverse (q ∷ older)) None in
+    absurd (let at = ap (λ (l : List (Option ℕ)). slice_get l (length (reverse (q ∷ older)))) (turned_cons None (q ∷ older)) ∙ last_at (reverse (q ∷ older)) None in
     let zero_at = fits_none (length (reverse (q ∷ older))) (each (length (reverse (q ∷ older))) None at) in let long = length-reverse (q ∷ older) in omega arith)
 have_from (Some p ∷ (q ∷ older)) some each =
-    let at = ap (λ (l : List (Option ℕ)). slice_get l (length (reverse (q ∷ older)))) (turned_cons (Some p) (q ∷ older)) ∙ get_last (reverse (q ∷ older)) (Some p) in
+    let at = ap (λ (l : List (Option ℕ)). slice_get l (length (reverse (q ∷ older)))) (turned_cons (Some p) (q ∷ older)) ∙ last_at (reverse (q ∷ older)) (Some p) in
     let low = fits_some (length (reverse (q ∷ older))) p (each (length (reverse (q ∷ older))) (Some p) at) in (
       let long = length-reverse (q ∷ older) in omega arith,
       have_from (q ∷ older) (omega arith) (λ i o is. each i o (ap (λ (l : List (Option ℕ)). slice_get l i) (turned_cons (Some p) (q ∷ older)) ∙ get_front (reverse (q ∷ older)) (Some p ∷ []) i o is)),
@@ -204,7 +185,7 @@ unfolding Apart
 distinct_to [] e i j g h low at to = absurd cc
 distinct_to (x ∷ hs) e zero zero g h low at to = absurd (omega arith)
 distinct_to (x ∷ hs) e zero (suc j) g h low at to =
-    let p = and_split (not (list_any (λ (k : Head). bytes_eq k.name x.name) hs)) (are_distinct hs) e in
+    let p = both_parts (not (list_any (λ (k : Head). bytes_eq k.name x.name) hs)) (are_distinct hs) e in
     let same : x ≡ g = cc in
     subst (λ (k : Head). bytes_eq k.name h.name ≡ false) same (same_turned h.name x.name (none_any (λ (k : Head). bytes_eq k.name x.name) hs j h (off (list_any (λ (k : Head). bytes_eq k.name x.name) hs) p.0) to))
   where
@@ -212,7 +193,7 @@ distinct_to (x ∷ hs) e zero (suc j) g h low at to =
     off true e = absurd cc
     off false e = refl
 distinct_to (x ∷ hs) e (suc i) zero g h low at to = absurd (omega arith)
-distinct_to (x ∷ hs) e (suc i) (suc j) g h low at to = distinct_to hs (and_split (not (list_any (λ (k : Head). bytes_eq k.name x.name) hs)) (are_distinct hs) e).1 i j g h (omega arith) at to
+distinct_to (x ∷ hs) e (suc i) (suc j) g h low at to = distinct_to hs (both_parts (not (list_any (λ (k : Head). bytes_eq k.name x.name) hs)) (are_distinct hs) e).1 i j g h (omega arith) at to
 
 -- the entry of a head
 pub entry_of_head : (entries : List CatEntry) (v : ℕ) (h : Head) → slice_get (heads_in entries) v ≡ Some h → (e : CatEntry) × (slice_get entries v ≡ Some e) × (h ≡ entry_head e)
@@ -255,7 +236,7 @@ fit_tree es size fit = record {
     first_used (Some e) is = place_in (entries_of es) 0 e (place_entry es (used_first es fit) 0 e is)
 
     some : 1 ≤ length (entries_of es)
-    some = let f = some_at es 0 (omega arith) in first_used f.0 f.1
+    some = let f = element_at es 0 (omega arith) in first_used f.0 f.1
 
     fits : (i : ℕ) (o : Option ℕ) → slice_get (parents_of (heads_in (entries_of es))) i ≡ Some o → num_fits i o ≡ true
     fits i o is =
@@ -278,7 +259,7 @@ tree_fits es first tree w None is = by w is
     some = elim (entries_of es) as (λ l. HaveParents (reverse (parents_of (heads_in l))) → 1 ≤ length l) [ [] ↦ λ have. absurd have | e ∷ l ↦ λ have. omega arith ] tree.parents
 
     by : (v : ℕ) → slice_get es v ≡ Some None → 1 ≤ v
-    by zero none = let e = some_at (entries_of es) 0 some in absurd (let used = entry_place_of es 0 e.0 e.1 in cc)
+    by zero none = let e = element_at (entries_of es) 0 some in absurd (let used = entry_place_of es 0 e.0 e.1 in cc)
     by (suc v) none = omega arith
 tree_fits es first tree w (Some e) is = (
   first w e is,

@@ -1,28 +1,29 @@
 -- The tests of the children of a page.
-use Rattle.std.proofs.Common.{◌≡◌, ◌<◌, ◌≤◌, ◌+◌, ◌⊎◌, inl, inr, ℕ, zero, suc, Bool, true, false, not, ◌&&◌, ◌||◌, List, [], ◌∷◌, length, map, Option, Some, None, refl, ap, sym, subst, ◌∙◌, arith, slice_get}
+use Rattle.std.proofs.Common.{◌≡◌, ◌<◌, ◌≤◌, ◌+◌, ◌⊎◌, inl, inr, ℕ, zero, suc, Bool, true, false, not, ◌&&◌, ◌||◌, List, length, Option, Some, refl, ap, sym, subst, ◌∙◌, arith, slice_get}
 use Rattle.std.specs.Prelude.{MatchBool, nat_eq, nat_lt, IsTrue}
 use Rattle.std.specs.List.{list_all, range_with_len, AllByRecursion}
 use Rattle.std.proofs.lemmas.Bool.{eqb-true, eq-eqb}
-use Rattle.std.proofs.lemmas.Bool.Decides.{nat_tests}
 use Rattle.std.proofs.lemmas.List.{length-map}
-use Rattle.mn_base.specs.Tree.{parents_of, serves}
+use Rattle.mn_base.specs.Tree.{serves}
+use Rattle.mn_base.proofs.Naturals.{lt_from, lt_true}
+use Rattle.mn_base.proofs.Booleans.{both_parts, clash}
+use Rattle.mn_world.proofs.Plans.Compares.{element_at}
 use Rattle.mn_page.specs.declared.entry.CatEntry.{CatEntry}
 use Rattle.mn_page.specs.declared.page.Page.{Page}
 use Rattle.mn_page.specs.Grammar.{height_of}
-use Rattle.mn_page.specs.Forest.{heads_in, ChildRange, children_of}
+use Rattle.mn_page.specs.Forest.{ChildRange}
 use Rattle.mn_page.specs.Holds.{page_serves}
+use Rattle.mn_page.proofs.Grid.{all_at_place}
 use Rattle.mn_forest.specs.declared.pages.Versions.{Versions}
 use Rattle.mn_forest.specs.Rules.{StandsAt, IsChildAt}
 use Rattle.mn_forest.specs.Trees.{AreVersions}
-use Rattle.mn_forest.proofs.Telling.{and_split, clash}
 use Rattle.mn_forest.proofs.Fronts.{both_hold, means, one_page}
-use Rattle.mn_forest.proofs.Children.{child_at, some_at}
 
 -- Ranges of numbers
 
 range_from : (f : ℕ → Bool) (a k : ℕ) → list_all f (range_with_len a k) ≡ true → (v : ℕ) → a ≤ v → v < a + k → f v ≡ true
 range_from f a zero e v low high = absurd (omega arith)
-range_from f a (suc k) e v low high = by (Rattle.mn_world.proofs.Votes.Start.low_or_high a v) (and_split (f a) (list_all f (range_with_len (a + 1) k)) e) (λ h l r. range_from f (a + 1) k h v l r)
+range_from f a (suc k) e v low high = by (Rattle.mn_base.proofs.Naturals.below_or a v) (both_parts (f a) (list_all f (range_with_len (a + 1) k)) e) (λ h l r. range_from f (a + 1) k h v l r)
   where
     use_at : (w : ℕ) → w ≡ v → f w ≡ true → f v ≡ true
     use_at w same is = subst (λ (x : ℕ). f x ≡ true) same is
@@ -43,12 +44,6 @@ pub range_all : (f : ℕ → Bool) (n : ℕ) → ((v : ℕ) → v < n → f v �
 range_all f n each = range_to f 0 n (λ v low high. each v (omega arith))
 
 -- Tests of versions
-
-pub lt_test : (v n : ℕ) → v < n → nat_lt v n ≡ true
-lt_test v n low = grind (arith, nat_tests)
-
-pub lt_from : (v n : ℕ) → nat_lt v n ≡ true → v < n
-lt_from v n e = grind (arith, nat_tests)
 
 -- so many versions as the entries
 pub version_count : (versions : Versions) (entries : List CatEntry) → AreVersions versions entries → length versions.roots.items ≡ length entries
@@ -81,7 +76,7 @@ served_test versions entries p t b are is = by b is
     by true e = λ v in' does.
         implied (nat_lt v (length versions.roots.items)) (serves versions.tree p.made.0 p.copied v) (t v)
         (all_range (λ v. not (nat_lt v (length versions.roots.items)) || (not (serves versions.tree p.made.0 p.copied v) || t v)) 64 (sym e) v (let few = are.few in omega arith))
-        (lt_test v (length versions.roots.items) (let many = version_count versions entries are in omega arith)) (same_serves v ∙ does)
+        (lt_true v (length versions.roots.items) (let many = version_count versions entries are in omega arith)) (same_serves v ∙ does)
     by false e = λ each.
         clash (list_all (λ v. not (nat_lt v (length versions.roots.items)) || (not (serves versions.tree p.made.0 p.copied v) || t v)) (range_with_len 0 64))
         (range_all (λ v. not (nat_lt v (length versions.roots.items)) || (not (serves versions.tree p.made.0 p.copied v) || t v)) 64
@@ -122,4 +117,4 @@ child_tested memory versions entries p q c low high x y z are stands is_low is_h
 
 -- an answer on a test that holds or not
 pub no_child : {X : Type 0} (P : X → Type 0) (xs : List X) (i : ℕ) → i < length xs → ((x : X) → slice_get xs i ≡ Some x → P x → ⊥) → AllByRecursion P xs → ⊥
-no_child P xs i low off all = let s = some_at xs i low in off s.0 s.1 (child_at P xs i s.0 all s.1)
+no_child P xs i low off all = let s = element_at xs i low in off s.0 s.1 (all_at_place P xs i s.0 all s.1)

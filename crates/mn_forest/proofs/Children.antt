@@ -1,6 +1,5 @@
 -- The children of a page by place: where they stand, and their ranges.
-use Rattle.std.proofs.Common.{◌≡◌, ◌<◌, ◌≤◌, ◌+◌, ◌-◌, ℕ, zero, suc, Bool, true, false, List, [], ◌∷◌, length, map, Option, Some, None, refl, ap, sym, subst, ◌∙◌, arith, slice_get, get_or, Contains}
-use Rattle.std.specs.List.{AllByRecursion}
+use Rattle.std.proofs.Common.{◌≡◌, ◌≤◌, ◌+◌, ◌-◌, ℕ, zero, suc, List, [], ◌∷◌, length, map, Option, Some, refl, ap, sym, ◌∙◌, arith, slice_get, Contains}
 use Rattle.mn_base.specs.declared.ids.Addr.{Addr}
 use Rattle.mn_page.specs.declared.page.Page.{Page}
 use Rattle.mn_page.specs.declared.page.Body.{Body}
@@ -10,23 +9,6 @@ use Rattle.mn_page.specs.Grammar.{height_of, count_in}
 use Rattle.mn_page.specs.Forest.{ChildRange, ranges_from, body_children, children_of}
 use Rattle.mn_page.specs.Reading.{addrs_in, keys_in}
 use Rattle.mn_forest.proofs.Lists.{place_in, read_at, at_place}
-
--- what holds of all holds of each
-pub child_at : {X : Type 0} (P : X → Type 0) (xs : List X) (i : ℕ) (x : X) → AllByRecursion P xs → slice_get xs i ≡ Some x → P x
-child_at P [] i x all is = absurd cc
-child_at P (y ∷ xs) zero x all is = let same : y ≡ x = cc in subst P same all.0
-child_at P (y ∷ xs) (suc i) x all is = child_at P xs i x all.1 is
-
--- what holds of each holds of all
-pub all_from : {X : Type 0} (P : X → Type 0) (xs : List X) → ((i : ℕ) (x : X) → slice_get xs i ≡ Some x → P x) → AllByRecursion P xs
-all_from P [] each = tt
-all_from P (x ∷ xs) each = (each 0 x refl, all_from P xs (λ i y is. each (suc i) y is))
-
--- what stands at a place of a list
-pub some_at : {X : Type 0} (xs : List X) (i : ℕ) → i < length xs → (x : X) × (slice_get xs i ≡ Some x)
-some_at [] i low = absurd (omega arith)
-some_at (x ∷ xs) zero low = (x, refl)
-some_at (x ∷ xs) (suc i) low = some_at xs i (omega arith)
 
 -- Addresses
 

@@ -1,5 +1,5 @@
 -- Records are right, each one, just where they fit together.
-use Rattle.std.proofs.Common.{◌≡◌, ◌<◌, ◌≤◌, ◌+◌, ◌⊎◌, inl, inr, ℕ, zero, suc, Bool, true, false, not, ◌&&◌, ◌||◌, List, [], ◌∷◌, ◌++◌, length, take, reverse, get_or, Option, Some, None, refl, ap, sym, subst, ◌∙◌, arith, slice_get, Contains, if◌then◌else◌}
+use Rattle.std.proofs.Common.{◌≡◌, ◌<◌, ◌≤◌, ◌+◌, ◌⊎◌, inl, inr, ℕ, zero, suc, Bool, true, false, not, ◌&&◌, ◌||◌, List, [], ◌∷◌, ◌++◌, length, take, reverse, get_or, Option, Some, refl, ap, sym, subst, ◌∙◌, arith, slice_get, Contains, if◌then◌else◌}
 use Rattle.std.specs.Prelude.{nat_lt, nat_eq}
 use Rattle.std.specs.Option.{option_map_or}
 use Rattle.std.specs.List.{list_any, list_all, flat_map}
@@ -12,35 +12,19 @@ use Rattle.std.proofs.lemmas.List.Sorted.{list_any-IsPermutation, IsPermutation-
 use Rattle.mn_base.specs.Ids.{node_same, tid_same}
 use Rattle.mn_base.specs.declared.ids.NodeNo.{NodeNo}
 use Rattle.mn_base.specs.declared.ids.Tid.{Tid}
+use Rattle.mn_base.proofs.Booleans.{clash, falsely, or_cases, or_left, or_right, or_split}
+use Rattle.mn_base.proofs.Naturals.{below_or}
 use Rattle.mn_mini.specs.declared.part.PartItem.{PartItem}
 use Rattle.mn_mini.specs.declared.record.Record.{Record}
 use Rattle.mn_mini.specs.declared.record.Record.TheVariants.{Voted, Executed, Decided, Forced}
 use Rattle.mn_mini.specs.Node.{is_of, has_voted, has_executed, has_decided_yes, has_decided_no, is_held, is_vote_of, is_execution_of, is_yes_of, is_no_of}
+use Rattle.mn_mini.proofs.Parts.{same_self, same_true}
 use Rattle.mn_world.specs.Opened.{AreSound, AreInPlace, IsInPlace, voted_participants, have_voted, is_committed, has_record}
-use Rattle.mn_world.proofs.Reading.Same.{tid_same-refl, tid_same-true, node_same-true, node_same-refl}
-use Rattle.mn_world.proofs.Votes.Start.{vote_names, named_record, held_has_vote, voted_executed, low_or_high}
-use Rattle.mn_forest.specs.Votes.{IsRight, AreRight, KeepsVotes, KeepsDecisions, lists_of, all_of, list_at, elders, has_several, has_all_votes, is_both, names_none_but}
+use Rattle.mn_world.proofs.Reading.Same.{tid_same-refl, tid_same-true}
+use Rattle.mn_world.proofs.Votes.Start.{vote_names, named_record, held_has_vote, voted_executed}
+use Rattle.mn_forest.specs.Votes.{IsRight, AreRight, lists_of, all_of, list_at, elders, has_several, has_all_votes, is_both, names_none_but}
 use Rattle.mn_forest.proofs.Lists.{place_in, read_at}
-use Rattle.mn_forest.proofs.Telling.{clash, newest_named, same_nodes-refl}
-
-falsely : (b : Bool) → (b ≡ true → ⊥) → b ≡ false
-falsely true f = absurd (f refl)
-falsely false f = refl
-
-or_left : (a b : Bool) → a ≡ true → (a || b) ≡ true
-or_left a b e = ap (λ (x : Bool). x || b) e
-
-or_right : (a b : Bool) → b ≡ true → (a || b) ≡ true
-or_right true b e = refl
-or_right false b e = e
-
-or_cases : (a b : Bool) → (a || b) ≡ true → (a ≡ true) ⊎ (b ≡ true)
-or_cases true b e = inl refl
-or_cases false b e = inr e
-
-or_split : (a b : Bool) → (a || b) ≡ false → (a ≡ false) × (b ≡ false)
-or_split true b e = absurd cc
-or_split false b e = (refl, e)
+use Rattle.mn_forest.proofs.Telling.{newest_named, same_nodes-refl}
 
 -- The records of one node, and of all
 
@@ -247,8 +231,8 @@ right_fit records right = record {
         sym (newest_named tid one v.0 (all_of records) a v.1) ∙ newest_named tid other v.0 (all_of records) b v.1
 
     alone : (n m : NodeNo) (tid : Tid) → has_several (all_of records) tid ≡ false → has_record (lists_of records n) tid ≡ true → has_record (lists_of records m) tid ≡ true → (b : Bool) → node_same n m ≡ b → n ≡ m
-    alone n m tid none here there true e = node_same-true n m e
-    alone n m tid none here there false e = absurd (clash _ (apart_several records n m tid (λ (k : n.0 ≡ m.0). clash (node_same n m) (ap (λ (x : ℕ). nat_eq n.0 x) (sym k) ∙ node_same-refl n) e) here there) none)
+    alone n m tid none here there true e = same_true n m e
+    alone n m tid none here there false e = absurd (clash _ (apart_several records n m tid (λ (k : n.0 ≡ m.0). clash (node_same n m) (ap (λ (x : ℕ). nat_eq n.0 x) (sym k) ∙ same_self n) e) here there) none)
 
     one_way : (n m : NodeNo) (tid : Tid) → is_both records tid ≡ false → has_decided_no (all_of records) tid ≡ true → (is_committed (length records) (lists_of records) tid ≡ false) × (has_decided_yes (lists_of records m) tid ≡ false)
     one_way n m tid both against =
@@ -356,7 +340,7 @@ pub fit_right : (records : List (List Record)) → AreSound (length records) (li
 fit_right records s n number r at = right r at
   where
     below : n.0 < length records
-    below = by (low_or_high n.0 (length records))
+    below = by (below_or n.0 (length records))
       where
         by : (n.0 < length records) ⊎ (length records ≤ n.0) → n.0 < length records
         by (inl low) = low
@@ -400,7 +384,7 @@ fit_right records s n number r at = right r at
         let once = executed_once (length records) n (lists_of records n) tid (s.in_place n below) e in
         let r1 = count-reverse tid (get_or records n.0 []) in
         let r2 = count-reverse tid (flat_map (λ l. l) records) in
-        let one = count_one tid records n.0 (λ m ne. none m ne (low_or_high m (length records))) in
+        let one = count_one tid records n.0 (λ m ne. none m ne (below_or m (length records))) in
         let few : count_of tid (all_of records) ≤ 1 = omega (arith, once, r1, r2, one) in
         several_counted tid (all_of records) ∙ test (count_of tid (all_of records)) few
       where

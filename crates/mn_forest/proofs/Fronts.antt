@@ -1,14 +1,14 @@
 -- The tests of headers, counts, entries and roots.
-use Rattle.std.proofs.Common.{◌≡◌, ◌<◌, ◌≤◌, ◌+◌, ◌⊎◌, inl, inr, ℕ, suc, Bool, true, false, not, ◌&&◌, List, [], ◌∷◌, length, arith, Option, Some, None, refl, ap, sym, subst, ◌∙◌, slice_get, get_or}
+use Rattle.std.proofs.Common.{◌≡◌, ◌<◌, ◌≤◌, inl, inr, ℕ, suc, Bool, true, false, not, ◌&&◌, List, [], ◌∷◌, length, arith, Option, Some, None, refl, ap, sym, subst, ◌∙◌}
 use Rattle.std.specs.Prelude.{MatchBool, nat_eq, is_some}
 use Rattle.std.proofs.lemmas.Bool.{eqb-true, eq-eqb}
-use Rattle.mn_forest.proofs.Telling.{and_split}
 use Rattle.mn_mini.specs.Flat.{bytes_in}
 use Rattle.mn_page.specs.declared.entry.CatEntry.{CatEntry}
 use Rattle.mn_page.specs.declared.page.Page.{Page}
 use Rattle.mn_page.specs.Forest.{header_bytes}
 use Rattle.mn_base.specs.declared.ids.Addr.{Addr}
-use Rattle.mn_page.specs.Grammar.{IsUnused, IsFree, SpellsEntry}
+use Rattle.mn_base.proofs.Booleans.{both_parts}
+use Rattle.mn_page.specs.Grammar.{IsUnused, IsFree}
 use Rattle.mn_page.specs.Holds.{HasVersions}
 use Rattle.mn_page.proofs.Spelled.{page_spelled_once}
 use Rattle.mn_forest.specs.Rules.{HasHeader, HasEntry, HasRootAt, EntryFits, IsReadable, ReadsAs, IsRootAt, StandsAt, entry_place, entry_of, space_at, zeros, HasPage, count_at, slot_place}
@@ -61,8 +61,8 @@ no_bound (Some x) e = absurd cc
 
 pub root_in : (memory : List (List ℕ)) (w : ℕ) (e : CatEntry) (p : Page) (b : Bool) → StandsAt memory e.root p → b ≡ (nat_eq p.made.0 w && (nat_eq (length p.low) 0 && not (is_some p.high))) → MatchBool b (IsRootAt memory w e) (IsRootAt memory w e → ⊥)
 root_in memory w e p true stands is =
-    let one = and_split _ _ (sym is) in
-    let two = and_split _ _ one.1 in
+    let one = both_parts _ _ (sym is) in
+    let two = both_parts _ _ one.1 in
     record { page = p; there = stands; made = eqb-true p.made.0 w one.0; low = no_length p.low two.0; high = no_bound p.high two.1 }
 root_in memory w e p false stands is = λ r.
     let same : r.page ≡ p = one_page memory e.root r.page p r.there stands in

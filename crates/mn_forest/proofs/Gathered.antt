@@ -1,10 +1,10 @@
 -- The pairs under a page: they ascend within its range, and those of a leaf's range are the leaf's.
-use Rattle.std.proofs.Common.{◌≡◌, ◌<◌, ◌≤◌, ◌+◌, ℕ, zero, suc, Bool, true, false, cond, List, [], ◌∷◌, ◌++◌, length, map, Option, Some, None, refl, ap, sym, subst, ◌∙◌, arith, slice_get, append-nil}
+use Rattle.std.proofs.Common.{◌≡◌, ◌<◌, ◌≤◌, ◌+◌, ℕ, zero, suc, Bool, true, false, cond, List, [], ◌∷◌, ◌++◌, length, map, Option, Some, refl, ap, sym, subst, ◌∙◌, arith, slice_get, append-nil}
 use Rattle.std.specs.Prelude.{filter, IsTrue}
 use Rattle.std.specs.List.{flat_map, AllByRecursion}
 use Rattle.std.specs.Option.{option_map_or}
 use Rattle.std.proofs.lemmas.List.Elements.{filter-append}
-use Rattle.mn_base.specs.Order.{key_lt, below_bound, covers_key}
+use Rattle.mn_base.specs.Order.{key_lt, covers_key}
 use Rattle.mn_base.specs.Store.{Store, StoreVersion, heads_of, is_ascending}
 use Rattle.mn_base.specs.declared.ids.Addr.{Addr}
 use Rattle.mn_base.specs.declared.reply.Pair.{Pair}
@@ -15,27 +15,22 @@ use Rattle.mn_page.specs.declared.page.Body.TheVariants.{Leaf, Inner}
 use Rattle.mn_page.specs.declared.page.Child.{Child}
 use Rattle.mn_page.specs.Grammar.{IsPage, IsBody, IsKey, IsValue, height_of}
 use Rattle.mn_page.specs.Forest.{entry_head, heads_in, ChildRange, ranges_from, body_children, children_of}
-use Rattle.mn_page.specs.Holds.{PagesAt, page_covers, page_serves, root_page, root_height, pairs_in, IsRoot, IsChild, IsOnPath, OneOnPath, IsTree, ShowsStore}
+use Rattle.mn_page.specs.Holds.{PagesAt, page_covers, page_serves, pairs_in, IsChild, IsOnPath, IsTree, ShowsStore}
 use Rattle.mn_page.specs.Reading.{addrs_in}
+use Rattle.mn_page.proofs.Grid.{all_at_place}
 use Rattle.mn_base.proofs.PairsWith.{ascending_parts, ascending_cons, first_above}
+use Rattle.mn_base.proofs.Lists.{all_append, weaker}
+use Rattle.mn_base.proofs.Booleans.{clash}
+use Rattle.mn_world.proofs.Meaning.Ranges.{lt_le}
 use Rattle.mn_forest.specs.Shown.{pairs_below, height_there, version_shown, store_shown}
-use Rattle.mn_forest.proofs.Telling.{clash}
-use Rattle.mn_forest.proofs.Children.{child_at, addrs_are}
-use Rattle.mn_forest.proofs.Ranges.{child_covers, covered, covers, IsCut, cut_of, lt_le, child_for, inside_from, child_inside}
-use Rattle.mn_forest.proofs.Partition.{entry_at, root_on_path, covers_low, same_page}
+use Rattle.mn_forest.proofs.Children.{addrs_are}
+use Rattle.mn_forest.proofs.Ranges.{child_covers, covered, covers, IsCut, cut_of, child_for, inside_from, child_inside}
+use Rattle.mn_forest.proofs.Partition.{root_on_path, covers_low, same_page}
 
 -- Lists
 
 abbrev pub AllIn : List ℕ → Option (List ℕ) → List Pair → Type 0
 AllIn low high ps = AllByRecursion (λ p. covers_key low high p.key ≡ true) ps
-
-all_append : {X : Type 0} (P : X → Type 0) (xs ys : List X) → AllByRecursion P xs → AllByRecursion P ys → AllByRecursion P (xs ++ ys)
-all_append P [] ys one two = two
-all_append P (x ∷ xs) ys one two = (one.0, all_append P xs ys one.1 two)
-
-all_more : {X : Type 0} (P Q : X → Type 0) → ((x : X) → P x → Q x) → (xs : List X) → AllByRecursion P xs → AllByRecursion Q xs
-all_more P Q f [] all = tt
-all_more P Q f (x ∷ xs) all = (f x all.0, all_more P Q f xs all.1)
 
 -- what is below a separator stands before what is not
 first_of_both : (key sep : List ℕ) (xs ys : List Pair) → key_lt key sep ≡ true → first_above key xs ≡ true → AllByRecursion (λ p. key_lt p.key sep ≡ false) ys → first_above key (xs ++ ys) ≡ true
@@ -95,11 +90,11 @@ ordered g addr low (d ∷ cs) high cut each = by (ordered g d.addr d.separator c
         let r : ChildRange = record { addr = addr; low = low; high = Some d.separator } in
         let one = each 0 r refl in (
           all_append (λ p. covers_key low high p.key ≡ true) (g r) (flat_map g (ranges_from d.addr d.separator cs high))
-              (all_more (λ p. covers_key low (Some d.separator) p.key ≡ true) (λ p. covers_key low high p.key ≡ true) (λ p is. inside_from addr low (d ∷ cs) high p.key 0 r cut refl is) (g r) one.0)
-              (all_more (λ p. covers_key d.separator high p.key ≡ true) (λ p. covers_key low high p.key ≡ true) (λ p is. wider p is) (flat_map g (ranges_from d.addr d.separator cs high)) rest.0),
+              (weaker (λ p. covers_key low (Some d.separator) p.key ≡ true) (λ p. covers_key low high p.key ≡ true) (λ p is. inside_from addr low (d ∷ cs) high p.key 0 r cut refl is) (g r) one.0)
+              (weaker (λ p. covers_key d.separator high p.key ≡ true) (λ p. covers_key low high p.key ≡ true) (λ p is. wider p is) (flat_map g (ranges_from d.addr d.separator cs high)) rest.0),
           ascending_both d.separator (g r) (flat_map g (ranges_from d.addr d.separator cs high))
-              (all_more (λ p. covers_key low (Some d.separator) p.key ≡ true) (λ p. key_lt p.key d.separator ≡ true) (λ p is. (covered low (Some d.separator) p.key is).1) (g r) one.0) one.1
-              (all_more (λ p. covers_key d.separator high p.key ≡ true) (λ p. key_lt p.key d.separator ≡ false) (λ p is. (covered d.separator high p.key is).0) (flat_map g (ranges_from d.addr d.separator cs high)) rest.0) rest.1,
+              (weaker (λ p. covers_key low (Some d.separator) p.key ≡ true) (λ p. key_lt p.key d.separator ≡ true) (λ p is. (covered low (Some d.separator) p.key is).1) (g r) one.0) one.1
+              (weaker (λ p. covers_key d.separator high p.key ≡ true) (λ p. key_lt p.key d.separator ≡ false) (λ p is. (covered d.separator high p.key is).0) (flat_map g (ranges_from d.addr d.separator cs high)) rest.0) rest.1,
         )
       where
         wider : (p : Pair) → covers_key d.separator high p.key ≡ true → covers_key low high p.key ≡ true
@@ -156,7 +151,7 @@ leaf_ordered : (p : Page) → IsPage p → height_of p.body ≡ 0 → AllIn p.lo
 leaf_ordered p is low = by p.body is.body low
   where
     by : (b : Body) → IsBody p.low p.high b → height_of b ≡ 0 → AllIn p.low p.high (pairs_in b) × (is_ascending (pairs_in b) ≡ true)
-    by (Leaf pairs) body e = (all_more (λ x. IsKey x.key × IsValue x.value × IsTrue (covers_key p.low p.high x.key)) (λ x. covers_key p.low p.high x.key ≡ true) (λ x w. w.2) pairs body.2, body.1)
+    by (Leaf pairs) body e = (weaker (λ x. IsKey x.key × IsValue x.value × IsTrue (covers_key p.low p.high x.key)) (λ x. covers_key p.low p.high x.key ≡ true) (λ x w. w.2) pairs body.2, body.1)
     by (Inner height first rest) body e = absurd (let some = body.0 in omega arith)
 
 -- Pages
@@ -170,7 +165,7 @@ module _ (entries : List CatEntry) (at : PagesAt) (t : IsTree entries at) (valid
 
   child_serving : (height : ℕ) (addr : Addr) (p : Page) → Serving (suc height) addr p → (i : ℕ) (c : ChildRange) → slice_get (children_of p) i ≡ Some c → (q : Page) × Serving height c.addr q × (q.low ≡ c.low) × (q.high ≡ c.high)
   child_serving height addr p s i c is =
-      let child = child_at (IsChild entries at p) (children_of p) i c (t.children addr p s.there) is in
+      let child = all_at_place (IsChild entries at p) (children_of p) i c (t.children addr p s.there) is in
       (child.page, record { there = child.there; level = (let l = s.level in let m = child.height in omega arith); serves = child.serves v in' s.serves }, child.low, child.high)
 
   leaf_pairs : (addr : Addr) (p : Page) → at addr ≡ Some p → pairs_below at 0 addr ≡ pairs_in p.body
@@ -225,7 +220,7 @@ module _ (entries : List CatEntry) (at : PagesAt) (t : IsTree entries at) (valid
   none_of : (height : ℕ) (addr a : Addr) (p leaf : Page) → Serving height addr p → Serving 0 a leaf → page_covers leaf.low p ≡ false → filter (λ pair. page_covers pair.key leaf) (pairs_below at height addr) ≡ []
   none_of height addr a p leaf s l off =
       filter_none (λ pair. page_covers pair.key leaf) (pairs_below at height addr)
-      (all_more (λ pair. covers_key p.low p.high pair.key ≡ true) (λ pair. page_covers pair.key leaf ≡ true → ⊥) (λ pair is does. clash (page_covers leaf.low p) (meets height addr a p leaf pair.key s l is does) off) (pairs_below at height addr) (below_ordered height addr p s).0)
+      (weaker (λ pair. covers_key p.low p.high pair.key ≡ true) (λ pair. page_covers pair.key leaf ≡ true → ⊥) (λ pair is does. clash (page_covers leaf.low p) (meets height addr a p leaf pair.key s l is does) off) (pairs_below at height addr) (below_ordered height addr p s).0)
 
   of_leaf : (height : ℕ) (addr a : Addr) (p leaf : Page) → Serving height addr p → Serving 0 a leaf → page_covers leaf.low p ≡ true → filter (λ pair. page_covers pair.key leaf) (pairs_below at height addr) ≡ pairs_in leaf.body
   of_leaf zero addr a p leaf s l is =
@@ -279,7 +274,7 @@ version_at at (e ∷ es) (suc v) version is = version_at at es v version is
 pub shows_store : (entries : List CatEntry) (at : PagesAt) → IsTree entries at → ((addr : Addr) (p : Page) → at addr ≡ Some p → IsPage p) → ShowsStore entries at (store_shown at entries)
 shows_store entries at t valid = record {
   heads = heads_shown at entries;
-  ascending = Rattle.mn_forest.proofs.Children.all_from (λ x. IsTrue (is_ascending x.pairs)) (store_shown at entries) (λ v version is.
+  ascending = Rattle.mn_page.proofs.Grid.all_by_place (λ x. IsTrue (is_ascending x.pairs)) (store_shown at entries) (λ v version is.
       let e = version_at at entries v version is in
       subst (λ (x : StoreVersion). IsTrue (is_ascending x.pairs)) (sym e.2) (version_ascends entries at t valid v (Rattle.mn_forest.proofs.Lists.place_in entries v e.0 e.1) e.0 e.1));
   leaves = λ v version addr p is there level serves.

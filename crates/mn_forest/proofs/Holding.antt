@@ -1,37 +1,32 @@
 -- A memory that holds a store passes each test.
-use Rattle.std.proofs.Common.{◌≡◌, ◌<◌, ◌≤◌, ◌+◌, ◌-◌, ◌*◌, ◌^◌, ◌⊎◌, inl, inr, ℕ, zero, suc, Bool, true, false, List, [], ◌∷◌, ◌++◌, length, take, drop, replicate, map, Option, Some, None, refl, ap, sym, subst, ◌∙◌, arith, slice_get, slice_index_or, append-nil}
-use Rattle.std.specs.Prelude.{IsTrue}
+use Rattle.std.proofs.Common.{◌≡◌, ◌<◌, ◌≤◌, ◌+◌, ◌-◌, ◌*◌, ◌⊎◌, inl, inr, ℕ, zero, suc, Bool, false, List, [], ◌∷◌, ◌++◌, length, take, drop, replicate, Option, Some, None, refl, ap, sym, subst, ◌∙◌, arith, slice_get, slice_index_or, append-nil}
 use Rattle.std.specs.List.{flat_map, AllByRecursion}
 use Rattle.std.proofs.Math.Seq.{take-length}
 use Rattle.std.proofs.lemmas.List.{length-map, length-take, length-drop, length-replicate}
-use Rattle.std.proofs.lemmas.Option.{slice_get_within, slice_get_cases}
+use Rattle.std.proofs.lemmas.Option.{slice_get_within}
 use Rattle.byteorder.specs.Endian.{big_bytes, big_number}
 use Rattle.byteorder.specs.Numbers.{big_number-reads_back, length-bytes_high_first}
 use Rattle.mn_base.specs.declared.ids.Addr.{Addr}
-use Rattle.mn_base.specs.declared.ids.NodeNo.{NodeNo}
-use Rattle.mn_mini.specs.Mini.{space_size}
+use Rattle.mn_base.proofs.Naturals.{below_or}
 use Rattle.mn_mini.specs.Flat.{bytes_in}
 use Rattle.mn_page.specs.declared.entry.CatEntry.{CatEntry}
 use Rattle.mn_page.specs.declared.page.Page.{Page}
-use Rattle.mn_page.specs.Grammar.{IsPage, IsEntry, IsUnused, IsFree, SpellsEntry, SpellsPage, padded, page_bytes, entry_bytes, height_of}
-use Rattle.mn_page.specs.Forest.{Forest, node_count, header_bytes, memory_of, page_at, heads_in, ChildRange, children_of, head_of, front_of}
-use Rattle.mn_page.specs.Holds.{HasVersions, IsChild, IsForest, page_serves, root_page}
-use Rattle.mn_page.specs.Reading.{addrs_in}
-use Rattle.mn_page.proofs.Spelled.{page_length, entry_length, entry_spelled_once, length-padded}
-use Rattle.mn_page.proofs.Counted.{IsCounted, IsPageIn, counted}
-use Rattle.mn_page.proofs.Grid.{get_in, all_at_place, all_at_places}
-use Rattle.mn_world.proofs.Votes.Start.{low_or_high}
+use Rattle.mn_page.specs.Grammar.{IsEntry, IsUnused, SpellsEntry, padded, page_bytes, entry_bytes, height_of}
+use Rattle.mn_page.specs.Forest.{Forest, node_count, header_bytes, memory_of, page_at, heads_in, children_of, head_of, front_of}
+use Rattle.mn_page.specs.Holds.{IsChild, IsForest}
+use Rattle.mn_page.proofs.Spelled.{entry_spelled_once, length-padded}
+use Rattle.mn_page.proofs.Counted.{IsCounted, counted}
+use Rattle.mn_page.proofs.Grid.{all_at_place, all_by_place}
 use Rattle.mn_world.proofs.Plans.Pieces.{bytes_in-skip, bytes_in-within, AreZeros, zeros_behind}
-use Rattle.mn_world.proofs.Plans.Spaces.{memory_by_pages, space_bytes, catalog_bytes, AreSlots, text_length, slot_free, same_zeros, entries_length, catalog_length, get_in-index, node_slots, space_in-memory_by_pages, head_length, front_length, page_read, page_there, entry_read, entry_free, entry_there, catalog_region, page_node, memory_length}
+use Rattle.mn_world.proofs.Plans.Spaces.{memory_by_pages, space_bytes, catalog_bytes, AreSlots, text_length, slot_free, same_zeros, catalog_length, get_in-index, node_slots, space_in-memory_by_pages, head_length, front_length, page_read, page_there, entry_read, entry_free, entry_there, catalog_region, page_node, memory_length}
 use Rattle.mn_world.proofs.Plans.SplitRoot.{count_read}
 use Rattle.mn_world.proofs.Plans.Laying.{laid_is}
-use Rattle.mn_forest.specs.Rules.{Says, ReadsAs, space_at, count_at, entry_place, slot_place, StandsAt, entries_of, entry_of, zeros, HasHeader, IsCount, HasEntry, HasEntryAt, HasRootAt, IsRootAt, HasPage, IsChildAt, HasChildren, IsReached, IsNamedAt, IsRootOf, Test, OfHeader, OfCount, OfEntry, OfRoot, OfPage, OfChildren, OfReach, IsTest, Passes, AllPass}
-use Rattle.mn_forest.proofs.Telling.{clash}
-use Rattle.mn_forest.proofs.Lists.{place_in, read_at}
-use Rattle.mn_forest.proofs.Children.{some_at, child_at, all_from}
+use Rattle.mn_world.proofs.Plans.Compares.{element_at}
+use Rattle.mn_forest.specs.Rules.{Says, ReadsAs, space_at, count_at, entry_place, slot_place, StandsAt, entries_of, entry_of, zeros, HasHeader, IsCount, HasEntry, HasEntryAt, HasRootAt, IsRootAt, HasPage, IsChildAt, HasChildren, IsReached, IsNamedAt, IsRootOf, OfHeader, OfCount, OfEntry, OfRoot, OfPage, OfChildren, OfReach, AllPass}
+use Rattle.mn_forest.proofs.Lists.{place_in}
 use Rattle.mn_forest.proofs.Noting.{stands_on_node}
-use Rattle.mn_forest.proofs.Assembled.{whole, as_zeros}
-use Rattle.mn_forest.proofs.Partition.{reached, IsRootIn, IsNamedIn}
+use Rattle.mn_forest.proofs.Assembled.{whole}
+use Rattle.mn_forest.proofs.Partition.{reached}
 use Rattle.mn_forest.proofs.Catalogs.{UsedFirst, used_before, tree_fits, entry_is}
 
 -- Entries
@@ -164,7 +159,7 @@ module _ (f : Forest) (sound : IsForest f) where
     few_entries = let few = sound.tree.versions.count in let same = length-map f.entries Rattle.mn_page.specs.Forest.entry_head in omega arith
 
     entry_said : (w : ℕ) (e : CatEntry) → slice_get f.entries w ≡ Some e → slice_get es w ≡ Some (Some e)
-    entry_said w e is = by (some_at es w (let size = says.places in let low = place_in f.entries w e is in let few = few_entries in omega arith))
+    entry_said w e is = by (element_at es w (let size = says.places in let low = place_in f.entries w e is in let few = few_entries in omega arith))
       where
         spelled : SpellsEntry (entry_place M 0 w) e
         spelled = (all_at_place IsEntry f.entries w e sound.laid.entries is, entry_read f cnt w e is)
@@ -191,7 +186,7 @@ module _ (f : Forest) (sound : IsForest f) where
     unused_at w low past = zeros_at (entry_place M 0 w) 64 (length_at (64 + 64 * w) 0 64 sound.laid.nodes.0 (omega arith)) (entry_free f cnt w low past)
 
     has_entry : (w : ℕ) → w < 64 → HasEntry M es w
-    has_entry w low = by (some_at es w (let size = says.places in omega arith))
+    has_entry w low = by (element_at es w (let size = says.places in omega arith))
       where
         by : (o : Option CatEntry) × (slice_get es w ≡ Some o) → HasEntry M es w
         by s = record {
@@ -202,8 +197,8 @@ module _ (f : Forest) (sound : IsForest f) where
           where
             grammar : (o : Option CatEntry) → slice_get es w ≡ Some o → Rattle.mn_forest.specs.Rules.IsReadable (entry_place M 0 w)
             grammar (Some e) at = inr (e, says.each w (Some e) at)
-            grammar None at = elim (low_or_high w (length f.entries)) as (λ _. Rattle.mn_forest.specs.Rules.IsReadable (entry_place M 0 w)) [
-              | inl less ↦ absurd (let e = some_at f.entries w less in let bad = entry_said w e.0 e.1 in cc)
+            grammar None at = elim (below_or w (length f.entries)) as (λ _. Rattle.mn_forest.specs.Rules.IsReadable (entry_place M 0 w)) [
+              | inl less ↦ absurd (let e = element_at f.entries w less in let bad = entry_said w e.0 e.1 in cc)
               | inr past ↦ inl (unused_at w low past)
             ]
 
@@ -230,7 +225,7 @@ module _ (f : Forest) (sound : IsForest f) where
     root_test zero w low = λ e is. by e (at e is)
       where
         at : (e : CatEntry) → entry_of es w ≡ Some e → slice_get f.entries w ≡ Some e
-        at e is = let s = some_at es w (let size = says.places in omega arith) in said_entry w e (s.1 ∙ ap Some (sym (entry_is es w s.0 s.1) ∙ is))
+        at e is = let s = element_at es w (let size = says.places in omega arith) in said_entry w e (s.1 ∙ ap Some (sym (entry_is es w s.0 s.1) ∙ is))
 
         by : (e : CatEntry) → slice_get f.entries w ≡ Some e → IsRootAt M w e
         by e there =
@@ -242,7 +237,7 @@ module _ (f : Forest) (sound : IsForest f) where
     page_test : (addr : Addr) → addr.node.0 < node_count f → addr.slot < 4096 → HasPage M f.entries addr
     page_test addr in' room = record {
       below = λ low.
-          let p = some_at (slice_index_or f.pages addr.node.0 []) addr.slot (let count = count_is addr.node.0 in' in omega arith) in
+          let p = element_at (slice_index_or f.pages addr.node.0 []) addr.slot (let count = count_is addr.node.0 in' in omega arith) in
           let there : page_at f addr ≡ Some p.0 = sym (get_in-index f.pages addr.node.0 addr.slot) ∙ p.1 in
           (p.0, (stands_there addr p.0 there).1, sound.tree.pages addr p.0 there);
       behind = λ past.
@@ -255,8 +250,8 @@ module _ (f : Forest) (sound : IsForest f) where
 
     children_test : (addr : Addr) → HasChildren M f.entries addr
     children_test addr p stands =
-        all_from (IsChildAt M f.entries p) (children_of p) (λ i c is.
-        let child = child_at (IsChild f.entries (page_at f) p) (children_of p) i c (sound.tree.children addr p (there_stands addr p stands)) is in
+        all_by_place (IsChildAt M f.entries p) (children_of p) (λ i c is.
+        let child = all_at_place (IsChild f.entries (page_at f) p) (children_of p) i c (sound.tree.children addr p (there_stands addr p stands)) is in
         record { page = child.page; there = stands_there c.addr child.page child.there; low = child.low; high = child.high; height = child.height; serves = child.serves })
 
     reach_test : (addr : Addr) → IsReached M f.entries addr

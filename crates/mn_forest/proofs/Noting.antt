@@ -1,12 +1,13 @@
 -- The pages that are noted as children, one after the other.
-use Rattle.std.proofs.Common.{◌≡◌, ◌<◌, ◌≤◌, ◌+◌, ◌⊎◌, inl, inr, ℕ, zero, suc, Bool, true, false, not, ◌&&◌, ◌||◌, cond, List, [], ◌∷◌, length, map, min, take, drop, Option, Some, None, refl, ap, sym, subst, ◌∙◌, arith, slice_get, get_or, Contains}
+use Rattle.std.proofs.Common.{◌≡◌, ◌<◌, ◌≤◌, ◌+◌, ◌⊎◌, inl, inr, ℕ, zero, suc, Bool, true, false, not, ◌&&◌, ◌||◌, cond, List, [], ◌∷◌, length, map, take, drop, Option, Some, refl, ap, sym, subst, ◌∙◌, arith, slice_get, Contains}
 use Rattle.std.specs.Prelude.{MatchBool, nat_eq, nat_lt, IsTrue}
 use Rattle.std.specs.List.{list_all, range_with_len, AllByRecursion}
-use Rattle.std.specs.Option.{option_map_or}
 use Rattle.std.proofs.lemmas.Bool.{eqb-true, eq-eqb}
 use Rattle.std.proofs.lemmas.List.{length-take, length-drop}
 use Rattle.mn_base.specs.Tree.{serves}
 use Rattle.mn_base.specs.declared.ids.Addr.{Addr}
+use Rattle.mn_base.proofs.Booleans.{both_parts, both_true, clash, or_cases, or_left, or_right}
+use Rattle.mn_base.proofs.Naturals.{below_or, lt_from, lt_true}
 use Rattle.mn_mini.specs.Mini.{space_size}
 use Rattle.mn_mini.specs.Flat.{bytes_in}
 use Rattle.mn_page.specs.declared.entry.CatEntry.{CatEntry}
@@ -17,16 +18,13 @@ use Rattle.mn_page.specs.Grammar.{IsPage, IsBody, height_of, page_bytes}
 use Rattle.mn_page.specs.Holds.{page_serves}
 use Rattle.mn_page.specs.Reading.{addrs_in}
 use Rattle.mn_page.proofs.Spelled.{page_length, same_addr}
-use Rattle.mn_world.proofs.Votes.Start.{low_or_high}
 use Rattle.mn_forest.specs.declared.pages.Names.{Names}
 use Rattle.mn_forest.specs.declared.pages.Versions.{Versions}
 use Rattle.mn_forest.specs.Rules.{space_at, slot_place, StandsAt, IsNamedBy, IsNamedAt, IsRootOf, IsReached}
 use Rattle.mn_forest.specs.Trees.{AreVersions, AreNames, AreNamesTo, Notes, NotesChildren, IsOf, IsBefore, Keeps, name_key, keys_same, is_noted, is_root_at, same_place}
-use Rattle.mn_forest.proofs.Telling.{and_split, clash}
-use Rattle.mn_forest.proofs.Lists.{read_or}
 use Rattle.mn_forest.proofs.Fronts.{means, one_page}
-use Rattle.mn_forest.proofs.Children.{there_in, place_of, some_at}
-use Rattle.mn_forest.proofs.ChildTests.{served_test, lt_test, lt_from, version_count}
+use Rattle.mn_forest.proofs.Children.{there_in, place_of}
+use Rattle.mn_forest.proofs.ChildTests.{served_test, version_count}
 
 -- One key more
 
@@ -35,9 +33,9 @@ Adds old new addr v h = (a : Addr) (w g : ℕ) → is_noted new a w g ≡ cond (
 
 same_keys : (addr a : Addr) (v h w g : ℕ) → keys_same (name_key addr v h) (name_key a w g) ≡ true → (addr ≡ a) × (v ≡ w) × (h ≡ g)
 same_keys addr a v h w g e =
-    let one = and_split (nat_eq addr.node.0 a.node.0) (nat_eq addr.slot a.slot && (nat_eq v w && nat_eq h g)) e in
-    let two = and_split (nat_eq addr.slot a.slot) (nat_eq v w && nat_eq h g) one.1 in
-    let three = and_split (nat_eq v w) (nat_eq h g) two.1 in
+    let one = both_parts (nat_eq addr.node.0 a.node.0) (nat_eq addr.slot a.slot && (nat_eq v w && nat_eq h g)) e in
+    let two = both_parts (nat_eq addr.slot a.slot) (nat_eq v w && nat_eq h g) one.1 in
+    let three = both_parts (nat_eq v w) (nat_eq h g) two.1 in
     (same_addr addr a (eqb-true addr.node.0 a.node.0 one.0) (eqb-true addr.slot a.slot two.0), eqb-true v w three.0, eqb-true h g three.1)
 
 own_key : (addr : Addr) (v h : ℕ) → keys_same (name_key addr v h) (name_key addr v h) ≡ true
@@ -69,7 +67,7 @@ notes_none names entries p child = record { keeps = λ a v h is. is; adds = λ v
 pub notes_one : (old mid new : Names) (entries : List CatEntry) (p : Page) (child : Addr) (n h : ℕ) → Notes old mid entries p child n → h ≡ height_of p.body → n < length entries → IsTrue (page_serves entries n p) → Adds mid new child n h → Notes old new entries p child (n + 1)
 notes_one old mid new entries p child n h so level in' does adds = record {
   keeps = λ a v g is. adds_keeps mid new child n h adds a v g (so.keeps a v g is);
-  adds = λ v low here serving. by v low here serving (low_or_high v n);
+  adds = λ v low here serving. by v low here serving (below_or v n);
   only = λ a v g is. from a v g (adds_only mid new child n h adds a v g is);
 }
   where
@@ -85,7 +83,7 @@ notes_one old mid new entries p child n h so level in' does adds = record {
 
 -- the next version, where it does not
 pub notes_skip : (old mid : Names) (entries : List CatEntry) (p : Page) (child : Addr) (n : ℕ) → Notes old mid entries p child n → (n < length entries → IsTrue (page_serves entries n p) → ⊥) → Notes old mid entries p child (n + 1)
-notes_skip old mid entries p child n so off = record { keeps = so.keeps; adds = λ v low here serving. by v low here serving (low_or_high v n); only = so.only }
+notes_skip old mid entries p child n so off = record { keeps = so.keeps; adds = λ v low here serving. by v low here serving (below_or v n); only = so.only }
   where
     by : (v : ℕ) → v < n + 1 → v < length entries → IsTrue (page_serves entries v p) → (v < n) ⊎ (n ≤ v) → is_noted mid child v (height_of p.body) ≡ true
     by v low here serving (inl less) = so.adds v less here serving
@@ -99,7 +97,7 @@ serving_so versions entries p v x y are e f g h =
     (let low = lt_from v (length versions.roots.items) (sym e ∙ g) in let many = version_count versions entries are in omega arith, ap (λ (ps : List (Option ℕ)). serves ps p.made.0 p.copied v) (sym are.tree) ∙ (sym f ∙ h))
 
 pub missing_so : (versions : Versions) (entries : List CatEntry) (p : Page) (v : ℕ) (x : Bool) → AreVersions versions entries → x ≡ nat_lt v (length versions.roots.items) → x ≡ false → v < length entries → IsTrue (page_serves entries v p) → ⊥
-missing_so versions entries p v x are e g in' does = clash (nat_lt v (length versions.roots.items)) (lt_test v (length versions.roots.items) (let many = version_count versions entries are in omega arith)) (sym e ∙ g)
+missing_so versions entries p v x are e g in' does = clash (nat_lt v (length versions.roots.items)) (lt_true v (length versions.roots.items) (let many = version_count versions entries are in omega arith)) (sym e ∙ g)
 
 pub idle_so : (versions : Versions) (entries : List CatEntry) (p : Page) (v : ℕ) (y : Bool) → AreVersions versions entries → y ≡ serves versions.tree p.made.0 p.copied v → y ≡ false → v < length entries → IsTrue (page_serves entries v p) → ⊥
 idle_so versions entries p v y are f h in' does = clash (serves versions.tree p.made.0 p.copied v) (ap (λ (ps : List (Option ℕ)). serves ps p.made.0 p.copied v) are.tree ∙ does) (sym f ∙ h)
@@ -112,7 +110,7 @@ children_none names entries p = record { keeps = λ a v h is. is; adds = λ i a 
 pub children_more : (old mid new : Names) (entries : List CatEntry) (p : Page) (i : ℕ) (child : Addr) → length entries ≤ 64 → NotesChildren old mid entries p i → slice_get (addrs_in p.body) i ≡ Some child → Notes mid new entries p child 64 → NotesChildren old new entries p (i + 1)
 children_more old mid new entries p i child few so at notes = record {
   keeps = λ a v h is. notes.keeps a v h (so.keeps a v h is);
-  adds = λ j a low here v in' does. by j a low here v in' does (low_or_high j i);
+  adds = λ j a low here v in' does. by j a low here v in' does (below_or j i);
   only = λ a v h is. from a v h (notes.only a v h is);
 }
   where
@@ -150,7 +148,7 @@ names_page old new memory entries at p so stands notes = record {
   where
     earlier : (from : Addr) → IsBefore from at.node.0 (at.slot + 1) → IsBefore from at.node.0 at.slot ⊎ (from ≡ at)
     earlier from (inl low) = inl (inl low)
-    earlier from (inr low) = elim (low_or_high from.slot at.slot) as (λ _. IsBefore from at.node.0 at.slot ⊎ (from ≡ at)) [
+    earlier from (inr low) = elim (below_or from.slot at.slot) as (λ _. IsBefore from at.node.0 at.slot ⊎ (from ≡ at)) [
       | inl less ↦ inl (inr (low.0, less))
       | inr high ↦ inr (same_addr from at low.0 (let l = low.1 in let e : from.slot ≡ at.slot = omega arith in e))
     ]
@@ -169,7 +167,7 @@ names_skip names memory entries at so none = record { sound = so.sound; whole = 
   where
     by : (addr from : Addr) (v h : ℕ) → v < length entries → IsNamedBy memory entries v h addr from → IsBefore from at.node.0 (at.slot + 1) → is_noted names addr v h ≡ true
     by addr from v h in' named (inl low) = so.whole addr from v h in' (inl low) named
-    by addr from v h in' named (inr low) = elim (low_or_high from.slot at.slot) as (λ _. is_noted names addr v h ≡ true) [
+    by addr from v h in' named (inr low) = elim (below_or from.slot at.slot) as (λ _. is_noted names addr v h ≡ true) [
       | inl less ↦ so.whole addr from v h in' (inr (low.0, less)) named
       | inr high ↦ absurd (let same : from ≡ at = same_addr from at low.0 (let l = low.1 in let e : from.slot ≡ at.slot = omega arith in e) in none named.parent (subst (λ (x : Addr). StandsAt memory x named.parent) same named.there))
     ]
@@ -185,7 +183,7 @@ no_space (x ∷ memory) zero high = absurd (omega arith)
 no_space (x ∷ memory) (suc n) high = no_space memory n (omega arith)
 
 pub stands_on_node : (memory : List (List ℕ)) (addr : Addr) (p : Page) → StandsAt memory addr p → addr.node.0 < length memory
-stands_on_node memory addr p stands = elim (low_or_high addr.node.0 (length memory)) as (λ _. addr.node.0 < length memory) [
+stands_on_node memory addr p stands = elim (below_or addr.node.0 (length memory)) as (λ _. addr.node.0 < length memory) [
   | inl low ↦ low
   | inr high ↦ absurd (by (page_length p stands.1.0) (ap (λ (s : List ℕ). length (bytes_in s (20480 + Rattle.std.specs.Prelude.◌*◌ 1024 addr.slot) 1024)) (no_space memory addr.node.0 high) ∙ nothing_in (20480 + Rattle.std.specs.Prelude.◌*◌ 1024 addr.slot) 1024 (omega arith)))
 ]
@@ -216,7 +214,7 @@ names_node names memory entries n k all full so = record { sound = so.sound; who
   where
     by : (from : Addr) (p : Page) → StandsAt memory from p → IsBefore from (n + 1) 0 → IsBefore from n k
     by from p stands (inr low) = absurd (let l = low.1 in omega arith)
-    by from p stands (inl low) = elim (low_or_high from.node.0 n) as (λ _. IsBefore from n k) [
+    by from p stands (inl low) = elim (below_or from.node.0 n) as (λ _. IsBefore from n k) [
       | inl less ↦ inl less
       | inr high ↦ inr (let e : from.node.0 ≡ n = omega arith in e, let slot = stands_in_slot memory from p all stands in omega arith)
     ]
@@ -237,7 +235,7 @@ low_height p is = by p.body is.body
     by (Inner height first rest) body = body.1
 
 place_same : (a b : Addr) → same_place a b ≡ true → a ≡ b
-place_same a b e = let p = and_split (nat_eq a.node.0 b.node.0) (nat_eq a.slot b.slot) e in same_addr a b (eqb-true a.node.0 b.node.0 p.0) (eqb-true a.slot b.slot p.1)
+place_same a b e = let p = both_parts (nat_eq a.node.0 b.node.0) (nat_eq a.slot b.slot) e in same_addr a b (eqb-true a.node.0 b.node.0 p.0) (eqb-true a.slot b.slot p.1)
 
 same_placed : (a b : Addr) → a ≡ b → same_place a b ≡ true
 same_placed a b e = let x = eq-eqb a.node.0 b.node.0 (ap (λ (y : Addr). y.node.0) e) in let z = eq-eqb a.slot b.slot (ap (λ (y : Addr). y.slot) e) in cc
@@ -253,20 +251,6 @@ root_says [] v addr r = absurd (let bad = r.1 in cc)
 root_says (x ∷ entries) zero addr r = let same : x ≡ r.0 = (let at = r.1 in cc) in same_placed x.root addr (ap (λ (e : CatEntry). e.root) same ∙ r.2)
 root_says (x ∷ entries) (suc v) addr r = root_says entries v addr r
 
-or_true : (a b : Bool) → (a || b) ≡ true → (a ≡ true) ⊎ (b ≡ true)
-or_true true b e = inl refl
-or_true false b e = inr e
-
-or_left : (a b : Bool) → a ≡ true → (a || b) ≡ true
-or_left a b e = ap (λ t. t || b) e
-
-or_right : (a b : Bool) → b ≡ true → (a || b) ≡ true
-or_right true b e = refl
-or_right false b e = e
-
-both : (a b : Bool) → a ≡ true → b ≡ true → (a && b) ≡ true
-both a b e f = cc
-
 -- a page is reached just where the tests of all versions say so
 pub reach_tested : (memory : List (List ℕ)) (versions : Versions) (names : Names) (entries : List CatEntry) (addr : Addr) (p : Page) (b : Bool) → AreVersions versions entries → AreNames names memory entries → StandsAt memory addr p
     → b ≡ list_all (λ v. not (nat_lt v (length versions.roots.items)) || (not (serves versions.tree p.made.0 p.copied v) || (is_root_at versions.roots.items v addr || (nat_lt (height_of p.body) 65535 && is_noted names addr v (height_of p.body + 1))))) (range_with_len 0 64)
@@ -275,17 +259,17 @@ reach_tested memory versions names entries addr p b are noted stands is =
     means _ (IsReached memory entries addr) b to from (served_test versions entries p (λ v. is_root_at versions.roots.items v addr || (nat_lt (height_of p.body) 65535 && is_noted names addr v (height_of p.body + 1))) b are is)
   where
     said : (v : ℕ) → v < length entries → (is_root_at versions.roots.items v addr || (nat_lt (height_of p.body) 65535 && is_noted names addr v (height_of p.body + 1))) ≡ true → IsRootOf entries v addr ⊎ IsNamedAt memory entries v (height_of p.body + 1) addr
-    said v in' e = elim (or_true (is_root_at versions.roots.items v addr) (nat_lt (height_of p.body) 65535 && is_noted names addr v (height_of p.body + 1)) e) as (λ _. IsRootOf entries v addr ⊎ IsNamedAt memory entries v (height_of p.body + 1) addr) [
+    said v in' e = elim (or_cases (is_root_at versions.roots.items v addr) (nat_lt (height_of p.body) 65535 && is_noted names addr v (height_of p.body + 1)) e) as (λ _. IsRootOf entries v addr ⊎ IsNamedAt memory entries v (height_of p.body + 1) addr) [
       | inl root ↦ inl (root_said entries v addr (ap (λ (rs : List Addr). is_root_at rs v addr) (sym are.roots) ∙ root))
-      | inr name ↦ inr (noted.sound addr v (height_of p.body + 1) in' (and_split (nat_lt (height_of p.body) 65535) (is_noted names addr v (height_of p.body + 1)) name).1)
+      | inr name ↦ inr (noted.sound addr v (height_of p.body + 1) in' (both_parts (nat_lt (height_of p.body) 65535) (is_noted names addr v (height_of p.body + 1)) name).1)
     ]
 
     says : (v : ℕ) → v < length entries → IsRootOf entries v addr ⊎ IsNamedAt memory entries v (height_of p.body + 1) addr → (is_root_at versions.roots.items v addr || (nat_lt (height_of p.body) 65535 && is_noted names addr v (height_of p.body + 1))) ≡ true
     says v in' (inl root) = or_left _ _ (ap (λ (rs : List Addr). is_root_at rs v addr) are.roots ∙ root_says entries v addr root)
     says v in' (inr name) =
         or_right (is_root_at versions.roots.items v addr) (nat_lt (height_of p.body) 65535 && is_noted names addr v (height_of p.body + 1))
-        (let low = lt_test (height_of p.body) 65535 (let up = low_height name.1.parent name.1.there.1.0 in let level = name.1.level in omega arith) in
-        let has = noted.whole addr v (height_of p.body + 1) in' name in both (nat_lt (height_of p.body) 65535) (is_noted names addr v (height_of p.body + 1)) low has)
+        (let low = lt_true (height_of p.body) 65535 (let up = low_height name.1.parent name.1.there.1.0 in let level = name.1.level in omega arith) in
+        let has = noted.whole addr v (height_of p.body + 1) in' name in both_true (nat_lt (height_of p.body) 65535) (is_noted names addr v (height_of p.body + 1)) low has)
 
     to : ((v : ℕ) → v < length entries → IsTrue (page_serves entries v p) → (is_root_at versions.roots.items v addr || (nat_lt (height_of p.body) 65535 && is_noted names addr v (height_of p.body + 1))) ≡ true) → IsReached memory entries addr
     to each q there v in' does =

@@ -1,26 +1,24 @@
 -- Trees by what is tested of each page: its children fit, and it is a root or named from one height up. At each height, then, just one page
 -- covers a key; and the other way round.
-use Rattle.std.proofs.Common.{◌≡◌, ◌<◌, ◌≤◌, ◌+◌, ◌⊎◌, inl, inr, ℕ, zero, suc, Bool, true, false, List, [], ◌∷◌, length, map, Option, Some, None, refl, ap, sym, subst, ◌∙◌, arith, slice_get, Contains}
+use Rattle.std.proofs.Common.{◌≡◌, ◌<◌, ◌≤◌, ◌+◌, ◌⊎◌, inl, inr, ℕ, zero, suc, true, List, [], ◌∷◌, length, Option, Some, None, refl, ap, sym, subst, ◌∙◌, arith, slice_get, Contains}
 use Rattle.std.specs.Prelude.{IsTrue}
 use Rattle.std.specs.List.{AllByRecursion}
 use Rattle.std.specs.Option.{option_map_or, option_and_then}
-use Rattle.mn_world.proofs.Votes.Start.{low_or_high}
 use Rattle.mn_base.specs.Tree.{IsVersionTree}
-use Rattle.mn_base.specs.Store.{Head}
 use Rattle.mn_base.specs.declared.ids.Addr.{Addr}
+use Rattle.mn_base.proofs.Naturals.{below_or}
 use Rattle.mn_page.specs.declared.entry.CatEntry.{CatEntry}
 use Rattle.mn_page.specs.declared.page.Page.{Page}
 use Rattle.mn_page.specs.declared.page.Body.{Body}
 use Rattle.mn_page.specs.declared.page.Body.TheVariants.{Leaf, Inner}
-use Rattle.mn_page.specs.declared.page.Child.{Child}
 use Rattle.mn_page.specs.Grammar.{IsPage, IsBody, height_of}
-use Rattle.mn_page.specs.Forest.{heads_in, entry_head, ChildRange, ranges_from, body_children, children_of}
+use Rattle.mn_page.specs.Forest.{heads_in, entry_head, ChildRange, children_of}
 use Rattle.mn_page.specs.Holds.{PagesAt, page_covers, page_serves, root_page, root_height, IsRoot, HasVersions, IsChild, IsOnPath, OneOnPath, IsTree}
 use Rattle.mn_page.specs.Reading.{addrs_in}
 use Rattle.mn_page.proofs.Ancestors.{serves_made}
-use Rattle.mn_forest.proofs.Telling.{and_split}
+use Rattle.mn_page.proofs.Grid.{all_at_place}
 use Rattle.mn_forest.proofs.Ranges.{child_covers, covers, child_for, child_inside, child_once}
-use Rattle.mn_forest.proofs.Children.{child_addr, child_at_addr, child_at}
+use Rattle.mn_forest.proofs.Children.{child_addr, child_at_addr}
 
 -- a page of this height that serves the version and stands there names the address
 pub record IsNamedIn (entries : List CatEntry) (at : PagesAt) (v height : ℕ) (addr : Addr) : Type 0 where
@@ -104,7 +102,7 @@ module _ (entries : List CatEntry) (at : PagesAt) (b : IsBuilt entries at) where
   ]
 
   not_higher : (v : ℕ) (addr : Addr) (p : Page) → v < length entries → at addr ≡ Some p → IsTrue (page_serves entries v p) → height_of p.body ≤ root_height entries at v
-  not_higher v addr p in' there serves = elim (low_or_high (root_height entries at v) (height_of p.body)) as (λ _. height_of p.body ≤ root_height entries at v) [
+  not_higher v addr p in' there serves = elim (below_or (root_height entries at v) (height_of p.body)) as (λ _. height_of p.body ≤ root_height entries at v) [
     | inl high ↦ absurd (by (b.valid addr p there).body high)
     | inr low ↦ low
   ]
@@ -133,7 +131,7 @@ module _ (entries : List CatEntry) (at : PagesAt) (b : IsBuilt entries at) where
   down : (v height : ℕ) (key : List ℕ) → v < length entries → height < root_height entries at v → OneOnPath entries at v (height + 1) key → OneOnPath entries at v height key
   down v height key in' low up =
       let some = child_for up.page key (b.valid up.addr up.page up.here.there) (let l = up.here.level in omega arith) up.here.covers in
-      let child = child_at (IsChild entries at up.page) (children_of up.page) some.0 some.1 (b.children up.addr up.page up.here.there) some.2 in
+      let child = all_at_place (IsChild entries at up.page) (children_of up.page) some.0 some.1 (b.children up.addr up.page up.here.there) some.2 in
       record {
         addr = some.1.addr;
         page = child.page;
@@ -149,7 +147,7 @@ module _ (entries : List CatEntry) (at : PagesAt) (b : IsBuilt entries at) where
       named : (i : ℕ) (c : ChildRange) → slice_get (children_of up.page) i ≡ Some c → child_covers key c ≡ true → (a : Addr) (p : Page) → IsOnPath entries at v height key a p → IsNamedIn entries at v (height_of p.body + 1) a → a ≡ c.addr
       named i c is does a p on from =
           let j = child_at_addr from.parent a from.named in
-          let child = child_at (IsChild entries at from.parent) (children_of from.parent) j.0 j.1 (b.children from.from from.parent from.there) j.2 in
+          let child = all_at_place (IsChild entries at from.parent) (children_of from.parent) j.0 j.1 (b.children from.from from.parent from.there) j.2 in
           let same : child.page ≡ p = same_page child.page p (at a) (ap at (sym j.3) ∙ child.there) on.there in
           let range : child_covers key j.1 ≡ true = ap (λ (l : List ℕ). Rattle.mn_base.specs.Order.covers_key l j.1.high key) (sym child.low ∙ ap (λ (q : Page). q.low) same) ∙ ap (λ (h : Option (List ℕ)). Rattle.mn_base.specs.Order.covers_key p.low h key) (sym child.high ∙ ap (λ (q : Page). q.high) same) ∙ on.covers in
           let wide = child_inside from.parent key j.0 j.1 (b.valid from.from from.parent from.there) j.2 range in
@@ -186,7 +184,7 @@ module _ (entries : List CatEntry) (at : PagesAt) (t : IsTree entries at) (valid
   covers_low p is = covers p.low p.high p.low (Rattle.mn_base.proofs.Keys.not_below p.low) is.fences
 
   pub reached : (addr : Addr) (p : Page) (v : ℕ) → at addr ≡ Some p → v < length entries → IsTrue (page_serves entries v p) → IsRootIn entries v addr ⊎ IsNamedIn entries at v (height_of p.body + 1) addr
-  reached addr p v there in' serves = elim (low_or_high (height_of p.body) (root_height entries at v)) as (λ _. IsRootIn entries v addr ⊎ IsNamedIn entries at v (height_of p.body + 1) addr) [
+  reached addr p v there in' serves = elim (below_or (height_of p.body) (root_height entries at v)) as (λ _. IsRootIn entries v addr ⊎ IsNamedIn entries at v (height_of p.body + 1) addr) [
     | inl low ↦ inr (named low)
     | inr high ↦ inl (root (let low = t.no_higher v addr p in' there serves in let same : height_of p.body ≡ root_height entries at v = omega arith in same))
   ]
@@ -208,7 +206,7 @@ module _ (entries : List CatEntry) (at : PagesAt) (t : IsTree entries at) (valid
       named low =
           let up = t.partition v (height_of p.body + 1) in' (omega arith) p.low in
           let some = child_for up.page p.low (valid up.addr up.page up.here.there) (let l = up.here.level in omega arith) up.here.covers in
-          let child = child_at (IsChild entries at up.page) (children_of up.page) some.0 some.1 (t.children up.addr up.page up.here.there) some.2 in
+          let child = all_at_place (IsChild entries at up.page) (children_of up.page) some.0 some.1 (t.children up.addr up.page up.here.there) some.2 in
           let one = t.partition v (height_of p.body) in' (omega arith) p.low in
           let on : IsOnPath entries at v (height_of p.body) p.low some.1.addr child.page = record {
             there = child.there;

@@ -1,32 +1,30 @@
 -- A memory that passes each test is that of a forest: its pages are read one by one, and their places make the spaces.
-use Rattle.std.proofs.Common.{◌≡◌, ◌<◌, ◌≤◌, ◌+◌, ◌-◌, ◌*◌, ◌⊎◌, inl, inr, ℕ, zero, suc, Bool, true, false, List, [], ◌∷◌, ◌++◌, length, take, drop, replicate, map, Option, Some, None, refl, ap, sym, subst, ◌∙◌, arith, slice_get, slice_index_or, append-nil, if◌then◌else◌}
+use Rattle.std.proofs.Common.{◌≡◌, ◌<◌, ◌≤◌, ◌+◌, ◌-◌, ◌*◌, ◌⊎◌, inl, inr, ℕ, zero, suc, Bool, false, List, [], ◌∷◌, ◌++◌, length, drop, replicate, map, Option, Some, None, refl, ap, sym, subst, ◌∙◌, arith, slice_get, slice_index_or, append-nil, if◌then◌else◌}
 use Rattle.std.specs.Prelude.{IsTrue, nat_eq}
 use Rattle.std.specs.List.{flat_map, range_with_len, AllByRecursion}
-use Rattle.std.specs.Option.{option_and_then}
 use Rattle.std.proofs.lemmas.List.{length-append}
 use Rattle.byteorder.specs.Endian.{big_bytes}
 use Rattle.byteorder.specs.Numbers.{length-bytes_high_first}
-use Rattle.mn_base.specs.Tree.{IsVersionTree}
 use Rattle.mn_base.specs.declared.ids.Addr.{Addr}
 use Rattle.mn_mini.specs.Mini.{space_size}
 use Rattle.mn_mini.specs.Flat.{bytes_in}
 use Rattle.mn_page.specs.declared.entry.CatEntry.{CatEntry}
 use Rattle.mn_page.specs.declared.page.Page.{Page}
-use Rattle.mn_page.specs.Grammar.{IsPage, IsEntry, IsUnused, IsFree, padded, page_bytes, entry_bytes, height_of}
-use Rattle.mn_page.specs.Forest.{Forest, node_count, header_bytes, memory_of, page_at, heads_in, ChildRange, children_of}
-use Rattle.mn_page.specs.Holds.{HasVersions, IsChild, IsRoot, IsLaid, IsForest, page_serves, root_page}
+use Rattle.mn_page.specs.Grammar.{IsEntry, IsUnused, padded, page_bytes, entry_bytes, height_of}
+use Rattle.mn_page.specs.Forest.{Forest, header_bytes, memory_of, page_at, children_of}
+use Rattle.mn_page.specs.Holds.{HasVersions, IsChild, IsRoot, IsLaid, IsForest, page_serves}
 use Rattle.mn_page.proofs.Spelled.{page_length, entry_length}
-use Rattle.mn_page.proofs.Grid.{all_by_place}
+use Rattle.mn_page.proofs.Grid.{all_by_place, all_at_place}
 use Rattle.mn_world.proofs.Plans.Pieces.{length-pieces}
-use Rattle.mn_world.proofs.Plans.Spaces.{memory_by_pages, space_bytes, catalog_bytes, get_in-index, page_node}
+use Rattle.mn_world.proofs.Plans.Spaces.{space_bytes, catalog_bytes, get_in-index, page_node}
 use Rattle.mn_world.proofs.Plans.Laying.{laid_is}
-use Rattle.mn_forest.specs.Rules.{Says, ReadsAs, space_at, count_at, entry_place, slot_place, StandsAt, entries_of, entry_of, zeros, HasHeader, IsCount, HasEntry, HasEntryAt, HasRootAt, EntryFits, IsReadable, IsRootAt, HasPage, IsChildAt, HasChildren, IsReached, Test, OfHeader, OfCount, OfEntry, OfRoot, OfPage, OfChildren, OfReach, AllPass}
+use Rattle.mn_world.proofs.Plans.Compares.{element_at}
+use Rattle.mn_forest.specs.Rules.{Says, ReadsAs, space_at, count_at, entry_place, StandsAt, entries_of, zeros, HasHeader, IsCount, HasEntry, EntryFits, IsReadable, IsRootAt, IsChildAt, IsReached, OfHeader, OfCount, OfEntry, OfRoot, OfPage, OfChildren, OfReach, AllPass}
 use Rattle.mn_forest.proofs.Lists.{place_in, read_at, pushed_at}
 use Rattle.mn_forest.proofs.Fronts.{one_page}
-use Rattle.mn_forest.proofs.Children.{some_at, child_at, all_from}
 use Rattle.mn_forest.proofs.Noting.{stands_on_node, space_length_at}
 use Rattle.mn_forest.proofs.Assembled.{step, pieces, no_pieces, whole, nothing_behind, by_places}
-use Rattle.mn_forest.proofs.Partition.{IsBuilt, IsNamedIn, IsRootIn, is_tree, root_at, entry_at}
+use Rattle.mn_forest.proofs.Partition.{IsNamedIn, IsRootIn, is_tree, root_at, entry_at}
 use Rattle.mn_forest.proofs.Catalogs.{AllFit, fit_tree, used_first, place_entry, entry_place_of, entry_is}
 use Rattle.mn_forest.proofs.Refusing.{entries_few}
 
@@ -108,7 +106,7 @@ module _ (memory : List (List ℕ)) (full : AllByRecursion (λ space. length spa
   stands_at : (addr : Addr) (p : Page) → StandsAt memory addr p → page_at f addr ≡ Some p
   stands_at addr p stands =
       let in' = stands_on_node memory addr p stands in
-      let q = some_at (slice_index_or pss addr.node.0 []) addr.slot (let low = stands.0 in let count = read.counts addr.node.0 in' in omega arith) in
+      let q = element_at (slice_index_or pss addr.node.0 []) addr.slot (let low = stands.0 in let count = read.counts addr.node.0 in' in omega arith) in
       let same : q.0 ≡ p = one_page memory addr q.0 p (read.each addr.node.0 addr.slot q.0 in' q.1) stands in
       sym (get_in-index pss addr.node.0 addr.slot) ∙ (q.1 ∙ ap Some same)
 
@@ -133,7 +131,7 @@ module _ (memory : List (List ℕ)) (full : AllByRecursion (λ space. length spa
 
   -- a place behind the entries is unused
   behind_entries : (w : ℕ) → w < 64 → length (entries_of es) ≤ w → IsUnused (entry_place memory 0 w)
-  behind_entries w low past = by (some_at es w (let size = says.places in omega arith)) (pass 0 (OfEntry w) some low).grammar
+  behind_entries w low past = by (element_at es w (let size = says.places in omega arith)) (pass 0 (OfEntry w) some low).grammar
     where
       by : (o : Option CatEntry) × (slice_get es w ≡ Some o) → IsReadable (entry_place memory 0 w) → IsUnused (entry_place memory 0 w)
       by s (inl unused) = unused
@@ -233,8 +231,8 @@ module _ (memory : List (List ℕ)) (full : AllByRecursion (λ space. length spa
   is_laid : length memory ≤ 8 → IsLaid f
   is_laid few = record {
     nodes = (let size = read.size in omega arith, let size = read.size in omega arith);
-    counts = all_from (λ pages. length pages ≤ 4096) pss (λ n ps is. counted n ps is);
-    entries = all_from IsEntry (entries_of es) (λ w e is. (entry_spelled w e is).0);
+    counts = all_by_place (λ pages. length pages ≤ 4096) pss (λ n ps is. counted n ps is);
+    entries = all_by_place IsEntry (entries_of es) (λ w e is. (entry_spelled w e is).0);
     pages = λ addr p there. (at_stands addr p there).1.0;
   }
     where
@@ -269,8 +267,8 @@ module _ (memory : List (List ℕ)) (full : AllByRecursion (λ space. length spa
   children_of_page addr p there =
       let in' = node_of addr p there in
       let all : AllByRecursion (IsChildAt memory (entries_of es) p) (children_of p) = pass addr.node.0 (OfChildren addr.slot) in'.0 in'.1 p (at_stands addr p there) in
-      all_from (IsChild (entries_of es) (page_at f) p) (children_of p) (λ i c is.
-      let child = child_at (IsChildAt memory (entries_of es) p) (children_of p) i c all is in
+      all_by_place (IsChild (entries_of es) (page_at f) p) (children_of p) (λ i c is.
+      let child = all_at_place (IsChildAt memory (entries_of es) p) (children_of p) i c all is in
       record { page = child.page; there = stands_at c.addr child.page child.there; low = child.low; high = child.high; height = child.height; serves = child.serves })
 
   reach_of : (addr : Addr) (p : Page) (v : ℕ) → page_at f addr ≡ Some p → v < length (entries_of es) → IsTrue (page_serves (entries_of es) v p) → IsRootIn (entries_of es) v addr ⊎ IsNamedIn (entries_of es) (page_at f) v (height_of p.body + 1) addr

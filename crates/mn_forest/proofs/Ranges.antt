@@ -1,32 +1,20 @@
 -- The ranges of the children of a page: they cut its range, so that just one covers each key of it.
-use Rattle.std.proofs.Common.{◌≡◌, ◌<◌, ◌≤◌, ◌+◌, ℕ, zero, suc, Bool, true, false, not, ◌&&◌, ◌⊎◌, inl, inr, List, [], ◌∷◌, ◌++◌, length, map, filter, Option, Some, None, refl, ap, sym, subst, ◌∙◌, arith, slice_get}
+use Rattle.std.proofs.Common.{◌≡◌, ◌≤◌, ℕ, zero, suc, Bool, true, false, not, List, [], ◌∷◌, Option, Some, None, refl, sym, subst, arith, slice_get}
 use Rattle.std.specs.Prelude.{IsTrue, bytes_eq}
-use Rattle.std.specs.List.{flat_map, AllByRecursion}
+use Rattle.std.specs.List.{AllByRecursion}
 use Rattle.mn_base.specs.Order.{key_lt, key_le, below_bound, covers_key}
-use Rattle.mn_base.specs.Store.{is_ascending}
 use Rattle.mn_base.specs.declared.ids.Addr.{Addr}
-use Rattle.mn_base.specs.declared.reply.Pair.{Pair}
 use Rattle.mn_page.specs.declared.page.Page.{Page}
 use Rattle.mn_page.specs.declared.page.Body.{Body}
 use Rattle.mn_page.specs.declared.page.Body.TheVariants.{Leaf, Inner}
 use Rattle.mn_page.specs.declared.page.Child.{Child}
 use Rattle.mn_page.specs.Grammar.{IsPage, IsBody, IsKey, IsAddr, are_ascending, height_of}
 use Rattle.mn_page.specs.Forest.{ChildRange, ranges_from, body_children, children_of}
-use Rattle.mn_page.specs.Reading.{addrs_in}
 use Rattle.mn_page.specs.Holds.{page_covers}
-use Rattle.mn_base.proofs.Keys.{key_lt-trans, key_lt-else, bytes_eq-true, not_below}
-use Rattle.mn_base.proofs.PairsWith.{ascending_parts, ascending_cons, first_above}
-use Rattle.mn_forest.proofs.Telling.{and_split, clash}
+use Rattle.mn_base.proofs.Keys.{key_lt-trans, key_lt-else, bytes_eq-true}
+use Rattle.mn_base.proofs.Booleans.{both_parts, clash, not_true}
 
 -- Keys
-
--- below what is not above another is below that
-pub lt_le : (a b c : List ℕ) → key_lt a b ≡ true → key_lt c b ≡ false → key_lt a c ≡ true
-lt_le a b c low high = cases (bytes_eq b c) refl
-  where
-    cases : (t : Bool) → bytes_eq b c ≡ t → key_lt a c ≡ true
-    cases true e = subst (λ (x : List ℕ). key_lt a x ≡ true) (bytes_eq-true b c e) low
-    cases false e = key_lt-trans a b c low (key_lt-else c b high e)
 
 -- what is not above something below a key is below the key
 pub le_lt : (a b c : List ℕ) → key_lt b a ≡ false → key_lt b c ≡ true → key_lt a c ≡ true
@@ -48,17 +36,13 @@ pub bound_trans : (key sep : List ℕ) (high : Option (List ℕ)) → key_lt key
 bound_trans key sep None low up = refl
 bound_trans key sep (Some high) low up = key_lt-trans key sep high low up
 
-not_true : (b : Bool) → not b ≡ true → b ≡ false
-not_true true e = absurd cc
-not_true false e = refl
-
 not_false : (b : Bool) → b ≡ false → not b ≡ true
 not_false true e = absurd cc
 not_false false e = refl
 
 -- a key that is covered is not below the low fence, and is below the high one
 pub covered : (low : List ℕ) (high : Option (List ℕ)) (key : List ℕ) → covers_key low high key ≡ true → (key_lt key low ≡ false) × (below_bound key high ≡ true)
-covered low high key e = let p = and_split (key_le low key) (below_bound key high) e in (not_true (key_lt key low) p.0, p.1)
+covered low high key e = let p = both_parts (key_le low key) (below_bound key high) e in (not_true (key_lt key low) p.0, p.1)
 
 pub covers : (low : List ℕ) (high : Option (List ℕ)) (key : List ℕ) → key_lt key low ≡ false → below_bound key high ≡ true → covers_key low high key ≡ true
 covers low high key e f = let g = not_false (key_lt key low) e in cc
@@ -79,7 +63,7 @@ IsWithin low high c = IsKey c.separator × IsAddr c.addr × IsTrue (key_lt low c
 cut_from : (low : List ℕ) (high : Option (List ℕ)) (c : Child) (cs : List Child) → key_lt low c.separator ≡ true → are_ascending (c ∷ cs) ≡ true → AllByRecursion (IsWithin low high) (c ∷ cs) → IsCut low (c ∷ cs) high
 cut_from low high c [] here up all = (here, all.0.3, tt)
 cut_from low high c (d ∷ cs) here up all =
-    let p = and_split (key_lt c.separator d.separator) (are_ascending (d ∷ cs)) up in (here, all.0.3, cut_from c.separator high d cs p.0 p.1 (again (d ∷ cs) c.separator p.0 p.1 all.1))
+    let p = both_parts (key_lt c.separator d.separator) (are_ascending (d ∷ cs)) up in (here, all.0.3, cut_from c.separator high d cs p.0 p.1 (again (d ∷ cs) c.separator p.0 p.1 all.1))
   where
     again : (ds : List Child) (sep : List ℕ) → key_lt sep d.separator ≡ true → are_ascending (d ∷ cs) ≡ true → AllByRecursion (IsWithin low high) (d ∷ cs) → AllByRecursion (IsWithin sep high) (d ∷ cs)
     again ds sep first rising every = ((every.0.0, every.0.1, first, every.0.3), after d cs first rising every.1)
@@ -87,7 +71,7 @@ cut_from low high c (d ∷ cs) here up all =
         after : (e : Child) (es : List Child) → key_lt sep e.separator ≡ true → are_ascending (e ∷ es) ≡ true → AllByRecursion (IsWithin low high) es → AllByRecursion (IsWithin sep high) es
         after e [] one two three = tt
         after e (g ∷ es) one two three =
-            let q = and_split (key_lt e.separator g.separator) (are_ascending (g ∷ es)) two in
+            let q = both_parts (key_lt e.separator g.separator) (are_ascending (g ∷ es)) two in
             let next = key_lt-trans sep e.separator g.separator one q.0 in ((three.0.0, three.0.1, next, three.0.3), after g es next q.1 three.1)
 
 -- those of a page do

@@ -1,15 +1,15 @@
 -- What the tests of all nodes say, one node after the other.
-use Rattle.std.proofs.Common.{◌≡◌, ◌<◌, ◌≤◌, ◌+◌, ◌⊎◌, inl, inr, ℕ, zero, suc, List, [], ◌∷◌, ◌++◌, length, drop, map, Option, Some, None, refl, ap, sym, subst, ◌∙◌, arith, slice_get, append-nil, append_assoc}
+use Rattle.std.proofs.Common.{◌≡◌, ◌<◌, ◌≤◌, ◌+◌, inl, inr, ℕ, zero, suc, List, [], ◌∷◌, ◌++◌, length, drop, map, Option, Some, None, refl, ap, sym, subst, ◌∙◌, arith, slice_get, append-nil, append_assoc}
 use Rattle.std.specs.Prelude.{option_map}
 use Rattle.mn_base.specs.Tree.{parents_of}
 use Rattle.mn_base.specs.declared.ids.VersionNo.{VersionNo}
+use Rattle.mn_base.proofs.Naturals.{below_or}
 use Rattle.mn_vtree.specs.Parents.{numbers_of}
 use Rattle.mn_page.specs.declared.entry.CatEntry.{CatEntry}
 use Rattle.mn_page.specs.Forest.{heads_in, parent_number}
-use Rattle.mn_world.proofs.Votes.Start.{low_or_high}
 use Rattle.mn_forest.specs.declared.error.ForestError.{ForestError}
 use Rattle.mn_forest.specs.declared.error.ForestError.TheVariants.{Broken, NoMemory}
-use Rattle.mn_forest.specs.Rules.{Says, Test, IsTest, Passes, AllPass, entries_of}
+use Rattle.mn_forest.specs.Rules.{Says, Passes, AllPass, entries_of}
 use Rattle.mn_forest.specs.Progress.{PassesAll, SaysFailed}
 use Rattle.mn_forest.specs.Refusal.{RefusesMemory}
 
@@ -39,7 +39,7 @@ refused memory es n (Broken node start rule) says in' below said =
 refused memory es n NoMemory says in' below said = tt
 
 pub below_next : (memory : List (List ℕ)) (es : List (Option CatEntry)) (n : ℕ) → PassBelow memory es n → PassesAll memory es n → PassBelow memory es (n + 1)
-below_next memory es n below here m low = elim (low_or_high m n) as (λ _. PassesAll memory es m) [
+below_next memory es n below here m low = elim (below_or m n) as (λ _. PassesAll memory es m) [
   | inl less ↦ below m less
   | inr high ↦ subst (λ (k : ℕ). PassesAll memory es k) (let e : n ≡ m = omega arith in e) here
 ]

@@ -1,5 +1,5 @@
 -- What the tables tell is what the definitions say.
-use Rattle.std.proofs.Common.{◌≡◌, ◌<◌, ◌≤◌, ◌+◌, ℕ, zero, suc, Bool, true, false, not, ◌&&◌, ◌||◌, List, [], ◌∷◌, ◌++◌, length, map, get_or, Option, Some, None, refl, ap, sym, subst, ◌∙◌, arith, slice_get, Contains, if◌then◌else◌, ◌⊎◌, inl, inr}
+use Rattle.std.proofs.Common.{◌≡◌, ◌<◌, ◌+◌, ℕ, zero, suc, Bool, true, false, not, ◌&&◌, ◌||◌, List, [], ◌∷◌, length, map, Option, Some, None, refl, ap, sym, subst, ◌∙◌, arith, slice_get, Contains, if◌then◌else◌}
 use Rattle.std.specs.Prelude.{is_some, nat_lt, MatchBool}
 use Rattle.std.specs.Option.{option_map_or}
 use Rattle.std.specs.List.{list_any, list_all, range_with_len, AllByRecursion}
@@ -7,13 +7,16 @@ use Rattle.std.proofs.lemmas.Bool.Decides.{nat_tests}
 use Rattle.mn_base.specs.Ids.{node_same, tid_same}
 use Rattle.mn_base.specs.declared.ids.NodeNo.{NodeNo}
 use Rattle.mn_base.specs.declared.ids.Tid.{Tid}
+use Rattle.mn_base.proofs.Booleans.{both_parts, clash, not_false, or_split}
 use Rattle.mn_mini.specs.declared.part.PartItem.{PartItem}
 use Rattle.mn_mini.specs.declared.record.Record.{Record}
 use Rattle.mn_mini.specs.declared.record.Record.TheVariants.{Voted, Executed, Decided, Forced}
 use Rattle.mn_mini.specs.Node.{HeldPart, has_voted, has_executed, held_parts, held_part_of, is_held}
+use Rattle.mn_mini.proofs.Parts.{same_self, same_true}
 use Rattle.mn_world.specs.Opened.{voted_participants, have_voted, is_committed, has_record, is_free}
-use Rattle.mn_world.proofs.Reading.Same.{tid_same-refl, node_same-refl, node_same-true}
+use Rattle.mn_world.proofs.Reading.Same.{tid_same-refl}
 use Rattle.mn_world.proofs.Votes.Start.{vote_names}
+use Rattle.mn_world.proofs.Computed.Standing.{all_same}
 use Rattle.mn_forest.specs.declared.known.Table.{Table}
 use Rattle.mn_forest.specs.declared.votes.Told.{Told}
 use Rattle.mn_forest.specs.declared.votes.Past.{Past}
@@ -47,10 +50,6 @@ voted_told tables lists tells tid n = by (slice_get tables n.0) refl
     by (Some t) e =
         ap (λ (o : Option Table). option_map_or (λ t. is_some (known_at t tid).participants) o false) e
         ∙ sym (some_mapped (λ ns. ns.now) (known_at t tid).participants) ∙ ap (λ (o : Option (List NodeNo)). is_some o) (tells.each n t e tid).participants ∙ named_has_vote tid (lists n)
-
-all_same : (f g : NodeNo → Bool) → ((n : NodeNo) → f n ≡ g n) → (ns : List NodeNo) → list_all f ns ≡ list_all g ns
-all_same f g same [] = refl
-all_same f g same (n ∷ ns) = let h = same n in let r = all_same f g same ns in cc
 
 pub all_told : (tables : List Table) (lists : NodeNo → List Record) → AllTell tables lists → (tid : Tid) (o : Option (List NodeNo)) → says_all tables tid o ≡ option_map_or (have_voted lists tid) o false
 all_told tables lists tells tid None = refl
@@ -101,9 +100,6 @@ pub both_told : (told : Told) (records : List (List Record)) → IsTold told rec
 both_told told records is tid =
     let all = is.all tid in let r = all.refused in let a = all.agreed in let k = commit_of told records is tid in cc
 
-pub clash : (b : Bool) → b ≡ true → b ≡ false → ⊥
-clash b p q = absurd cc
-
 pub decisions_in : (records : List (List Record)) (r : Record) (tid : Tid) (verdict b : Bool) → r ≡ Decided tid verdict → b ≡ is_both records tid → MatchBool (not b) (KeepsDecisions records r) (KeepsDecisions records r → ⊥)
 decisions_in records r tid verdict b is e = subst (λ (q : Record). MatchBool (not b) (KeepsDecisions records q) (KeepsDecisions records q → ⊥)) (sym is) (by b e)
   where
@@ -139,23 +135,15 @@ same_nodes-true [] [] e = refl
 same_nodes-true [] (n ∷ ns) e = absurd cc
 same_nodes-true (m ∷ ms) [] e = absurd cc
 same_nodes-true (m ∷ ms) (n ∷ ns) e =
-    let p = and_split (node_same m n) (same_nodes ms ns) e in let here = node_same-true m n p.0 in let rest = same_nodes-true ms ns p.1 in cc
+    let p = both_parts (node_same m n) (same_nodes ms ns) e in let here = same_true m n p.0 in let rest = same_nodes-true ms ns p.1 in cc
   where
-    and_split : (a b : Bool) → (a && b) ≡ true → (a ≡ true) × (b ≡ true)
-    and_split true b e = (refl, e)
-    and_split false b e = absurd cc
+    both_parts : (a b : Bool) → (a && b) ≡ true → (a ≡ true) × (b ≡ true)
+    both_parts true b e = (refl, e)
+    both_parts false b e = absurd cc
 
 pub same_nodes-refl : (ns : List NodeNo) → same_nodes ns ns ≡ true
 same_nodes-refl [] = refl
-same_nodes-refl (n ∷ ns) = let h = node_same-refl n in let r = same_nodes-refl ns in cc
-
-pub and_split : (a b : Bool) → (a && b) ≡ true → (a ≡ true) × (b ≡ true)
-and_split true b e = (refl, e)
-and_split false b e = absurd cc
-
-or_split : (a b : Bool) → (a || b) ≡ false → (a ≡ false) × (b ≡ false)
-or_split true b e = absurd cc
-or_split false b e = (refl, e)
+same_nodes-refl (n ∷ ns) = let h = same_self n in let r = same_nodes-refl ns in cc
 
 -- where no vote names participants, none names others
 none_named : (tid : Tid) (ps : List NodeNo) (all : List Record) → voted_participants tid all ≡ None → list_all (names_none_but tid ps) all ≡ true
@@ -169,10 +157,6 @@ none_named tid ps (Voted t qs part ∷ all) e = by (none_named tid ps all) (tid_
 none_named tid ps (Executed t part ∷ all) e = none_named tid ps all e
 none_named tid ps (Decided t verdict ∷ all) e = none_named tid ps all e
 none_named tid ps (Forced t ∷ all) e = none_named tid ps all e
-
-not_false : (b : Bool) → not b ≡ false → b ≡ true
-not_false true e = refl
-not_false false e = absurd cc
 
 -- where the votes do not differ, all name what the newest does
 all_name : (tid : Tid) (qs : List NodeNo) (all : List Record) → votes_differ tid all ≡ false → voted_participants tid all ≡ Some qs → list_all (names_none_but tid qs) all ≡ true
@@ -199,7 +183,7 @@ newest_named tid ps qs [] a e = absurd cc
 newest_named tid ps qs (Voted t os part ∷ all) a e = by (newest_named tid ps qs all) (tid_same t tid) a e
   where
     by : (list_all (names_none_but tid ps) all ≡ true → voted_participants tid all ≡ Some qs → qs ≡ ps) → (b : Bool) → ((not b || same_nodes os ps) && list_all (names_none_but tid ps) all) ≡ true → (if b then Some os else voted_participants tid all) ≡ Some qs → qs ≡ ps
-    by ih true a e = let s = same_nodes-true os ps (and_split _ _ a).0 in cc
+    by ih true a e = let s = same_nodes-true os ps (both_parts _ _ a).0 in cc
     by ih false a e = ih a e
 newest_named tid ps qs (Executed t part ∷ all) a e = newest_named tid ps qs all a e
 newest_named tid ps qs (Decided t verdict ∷ all) a e = newest_named tid ps qs all a e
@@ -218,7 +202,7 @@ none_differ tid ps (Voted t os part ∷ all) a = by (none_differ tid ps all) (ti
 
     by : (list_all (names_none_but tid ps) all ≡ true → votes_differ tid all ≡ false) → (b : Bool) → ((not b || same_nodes os ps) && list_all (names_none_but tid ps) all) ≡ true → ((b && differs_from (voted_participants tid all) os) || votes_differ tid all) ≡ false
     by ih true a =
-        let s = and_split _ _ a in
+        let s = both_parts _ _ a in
         let d = differs (voted_participants tid all) refl s.1 (same_nodes-true os ps s.0) in
         let r = ih s.1 in cc
     by ih false a = ih a
@@ -228,8 +212,8 @@ none_differ tid ps (Forced t ∷ all) a = none_differ tid ps all a
 
 pub all_at : {X : Type 0} (p : X → Bool) (xs : List X) (x : X) → list_all p xs ≡ true → Contains xs x → p x ≡ true
 all_at p [] x a (k, low, is) = absurd (omega arith)
-all_at p (y ∷ xs) x a (zero, low, is) = let s = and_split _ _ a in let same : y ≡ x = is in ap p (sym same) ∙ s.0
-all_at p (y ∷ xs) x a (suc k, low, is) = let s = and_split _ _ a in all_at p xs x s.1 (k, omega arith, is)
+all_at p (y ∷ xs) x a (zero, low, is) = let s = both_parts _ _ a in let same : y ≡ x = is in ap p (sym same) ∙ s.0
+all_at p (y ∷ xs) x a (suc k, low, is) = let s = both_parts _ _ a in all_at p xs x s.1 (k, omega arith, is)
 
 pub any_at : {X : Type 0} (p : X → Bool) (xs : List X) (x : X) → p x ≡ true → Contains xs x → list_any p xs ≡ true
 any_at p [] x t (k, low, is) = absurd (omega arith)
@@ -267,7 +251,7 @@ named_alike all tid ps part there = by (votes_differ tid all) refl
 
 all_below : (nodes : ℕ) (ms : List NodeNo) → list_all (λ m. nat_lt m.0 nodes) ms ≡ true → AllByRecursion (λ m. m.0 < nodes) ms
 all_below nodes [] e = tt
-all_below nodes (m ∷ ms) e = let s = and_split (nat_lt m.0 nodes) (list_all (λ m. nat_lt m.0 nodes) ms) e in (below m s.0, all_below nodes ms s.1)
+all_below nodes (m ∷ ms) e = let s = both_parts (nat_lt m.0 nodes) (list_all (λ m. nat_lt m.0 nodes) ms) e in (below m s.0, all_below nodes ms s.1)
   where
     below : (m : NodeNo) → nat_lt m.0 nodes ≡ true → m.0 < nodes
     below m e = grind (arith, nat_tests)
@@ -287,7 +271,7 @@ has_here (m ∷ ms) n e = by (has_here ms n) (node_same m n) refl e
     later (k, low, is) = (suc k, omega arith, is)
 
     by : (list_any (λ m. node_same m n) ms ≡ true → Contains ms n) → (b : Bool) → node_same m n ≡ b → (b || list_any (λ m. node_same m n) ms) ≡ true → Contains (m ∷ ms) n
-    by ih true e f = (0, omega arith, node_same-true m n e)
+    by ih true e f = (0, omega arith, same_true m n e)
     by ih false e f = later (ih f)
 
 pub vote_in : (told : Told) (past : Past) (records : List (List Record)) (older : List Record) (n : NodeNo) (r : Record) (tid : Tid) (ps : List NodeNo) (part : List PartItem) (b : Bool)
@@ -318,8 +302,8 @@ vote_in told past records older n r tid ps part b is before there e f =
     by : (b : Bool) → b ≡ (not (has_record older tid) && (list_all (λ m. nat_lt m.0 (length records)) ps && (list_any (λ m. node_same m n) ps && (is_free (held_parts older) part && list_all (names_none_but tid ps) (all_of records)))))
         → MatchBool b (KeepsVotes records n older (Voted tid ps part)) (KeepsVotes records n older (Voted tid ps part) → ⊥)
     by true e =
-        let one = and_split _ _ (sym e) in let two = and_split _ _ one.1 in let three = and_split _ _ two.1 in let four = and_split _ _ three.1 in
+        let one = both_parts _ _ (sym e) in let two = both_parts _ _ one.1 in let three = both_parts _ _ two.1 in let four = both_parts _ _ three.1 in
         ((not_true _ one.0, all_below (length records) ps two.0, has_here ps n three.0, four.0), four.1)
     by false e = λ k.
-        let one = k.0.0 in let two = below_all (length records) ps k.0.1 in let three = any_at (λ m. node_same m n) ps n (node_same-refl n) k.0.2 in let four = k.0.3 in let five = k.1 in
+        let one = k.0.0 in let two = below_all (length records) ps k.0.1 in let three = any_at (λ m. node_same m n) ps n (same_self n) k.0.2 in let four = k.0.3 in let five = k.1 in
         absurd (cc (one, two, three, four, five, e))

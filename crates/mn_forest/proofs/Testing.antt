@@ -1,15 +1,14 @@
 -- Where a test fails, those before it have passed.
-use Rattle.std.proofs.Common.{◌≡◌, ◌<◌, ◌≤◌, ◌+◌, ◌*◌, ◌⊎◌, inl, inr, ℕ, zero, suc, Bool, true, false, List, Option, refl, ap, sym, subst, ◌∙◌, arith}
+use Rattle.std.proofs.Common.{◌≡◌, ◌<◌, ◌≤◌, ◌⊎◌, inl, inr, ℕ, zero, suc, Bool, true, false, List, Option, refl, sym, subst, arith}
 use Rattle.mn_page.specs.declared.entry.CatEntry.{CatEntry}
 use Rattle.std.specs.Prelude.{MatchBool}
+use Rattle.mn_base.proofs.Naturals.{below_or}
 use Rattle.mn_page.specs.Grammar.{IsUnused}
-use Rattle.mn_world.proofs.Votes.Start.{low_or_high}
 use Rattle.mn_forest.specs.declared.error.ForestError.{ForestError}
-use Rattle.mn_forest.specs.declared.error.ForestError.TheVariants.{Broken, NoMemory}
-use Rattle.mn_forest.specs.declared.error.Rule.{Rule}
+use Rattle.mn_forest.specs.declared.error.ForestError.TheVariants.{Broken}
 use Rattle.mn_forest.specs.Votes.{numbered}
 use Rattle.mn_forest.specs.Rules.{Test, OfHeader, OfCount, OfEntry, OfRoot, OfPage, OfChildren, OfReach, IsTest, Passes, Precedes, start_at, rule_of, entry_place, HasEntryAt, HasRootAt}
-use Rattle.mn_forest.specs.Progress.{HasFront, HasEntriesTo, HasSlot, HasSlotsTo, PassesAll, FailsAt, SaysFailed}
+use Rattle.mn_forest.specs.Progress.{HasFront, HasEntriesTo, HasSlotsTo, PassesAll, SaysFailed}
 
 -- the tests before the next entry
 pub before_entry : (memory : List (List ℕ)) (es : List (Option CatEntry)) (n k : ℕ) → k < 64 → HasFront memory n → HasEntriesTo memory es n k → (u : Test) → IsTest u → Precedes u (OfEntry k) → Passes memory es n u
@@ -28,7 +27,7 @@ pub before_root : (memory : List (List ℕ)) (es : List (Option CatEntry)) (n k 
     → Passes memory es n u
 before_root memory es n k low front to here OfHeader is less = front.0
 before_root memory es n k low front to here OfCount is less = front.1
-before_root memory es n k low front to here (OfEntry w) is less = by (low_or_high w k)
+before_root memory es n k low front to here (OfEntry w) is less = by (below_or w k)
   where
     by : (w < k) ⊎ (k ≤ w) → Passes memory es n (OfEntry w)
     by (inl older) = (to w older).0
@@ -53,7 +52,7 @@ before_children memory es n k front entries to here OfHeader is less = front.0
 before_children memory es n k front entries to here OfCount is less = front.1
 before_children memory es n k front entries to here (OfEntry w) is less = (entries w is).0
 before_children memory es n k front entries to here (OfRoot w) is less = (entries w is).1
-before_children memory es n k front entries to here (OfPage s) is less = by (low_or_high s k)
+before_children memory es n k front entries to here (OfPage s) is less = by (below_or s k)
   where
     by : (s < k) ⊎ (k ≤ s) → Passes memory es n (OfPage s)
     by (inl older) = (to s older).0
@@ -67,12 +66,12 @@ before_reach memory es n k front entries to here next OfHeader is less = front.0
 before_reach memory es n k front entries to here next OfCount is less = front.1
 before_reach memory es n k front entries to here next (OfEntry w) is less = (entries w is).0
 before_reach memory es n k front entries to here next (OfRoot w) is less = (entries w is).1
-before_reach memory es n k front entries to here next (OfPage s) is less = by (low_or_high s k)
+before_reach memory es n k front entries to here next (OfPage s) is less = by (below_or s k)
   where
     by : (s < k) ⊎ (k ≤ s) → Passes memory es n (OfPage s)
     by (inl older) = (to s older).0
     by (inr high) = same_at (λ j. Passes memory es n (OfPage j)) s k (let e : s ≡ k = omega arith in e) here
-before_reach memory es n k front entries to here next (OfChildren s) is less = by (low_or_high s k)
+before_reach memory es n k front entries to here next (OfChildren s) is less = by (below_or s k)
   where
     by : (s < k) ⊎ (k ≤ s) → Passes memory es n (OfChildren s)
     by (inl older) = (to s older).1

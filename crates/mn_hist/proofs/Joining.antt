@@ -1,13 +1,12 @@
 -- What one more entry makes of what is kept of a log.
-use Rattle.std.proofs.Common.{◌≡◌, ℕ, zero, suc, ◌+◌, ◌<◌, ◌≤◌, Bool, true, false, ◌||◌, List, [], ◌∷◌, ◌++◌, length, map, drop, take, replicate, Option, Some, None, refl, subst, sym, ap, ◌∙◌, arith, if◌then◌else◌}
+use Rattle.std.proofs.Common.{◌≡◌, ℕ, zero, suc, ◌+◌, ◌<◌, ◌≤◌, true, false, List, [], ◌∷◌, ◌++◌, length, map, drop, take, replicate, Option, Some, None, refl, subst, sym, ap, ◌∙◌, arith, if◌then◌else◌}
 use Rattle.std.specs.Prelude.{nat_eq, slice_get, slice_set, slice_index_or, Result, Ok, Err, IfOk}
 use Rattle.std.specs.HashMap.{HashMap}
 use Rattle.std.specs.HashSet.{HashSet}
-use Rattle.std.specs.List.{list_all}
-use Rattle.std.specs.Option.{option_map, option_map_or}
+use Rattle.std.specs.Option.{option_map_or}
 use Rattle.std.proofs.lemmas.Grind.{common_steps}
 use Rattle.std.proofs.lemmas.List.{append_assoc}
-use Rattle.mn_base.specs.Ids.{client_same, node_same, tid_same}
+use Rattle.mn_base.specs.Ids.{client_same, tid_same}
 use Rattle.mn_base.specs.Store.{Store, applied}
 use Rattle.mn_base.specs.History.{IsLegal}
 use Rattle.mn_base.specs.declared.error.NoMemory.{NoMemory}
@@ -17,22 +16,24 @@ use Rattle.mn_base.specs.declared.ids.ClientNo.{ClientNo}
 use Rattle.mn_base.specs.declared.ids.NodeNo.{NodeNo}
 use Rattle.mn_base.specs.declared.ids.Tid.{Tid}
 use Rattle.mn_base.specs.declared.reply.Reply.{Reply}
-use Rattle.mn_mini.specs.declared.request.Request.{Request}
+use Rattle.mn_base.proofs.Booleans.{clash}
+use Rattle.mn_base.proofs.Lists.{set_at}
 use Rattle.mn_mini.specs.declared.request.Request.TheVariants as Ask
 use Rattle.mn_mini.specs.Mini.{Mini}
-use Rattle.mn_page.proofs.Alike.{get-set_same, get-set_other}
+use Rattle.mn_page.proofs.Alike.{get-set_other}
 use Rattle.mn_world.specs.declared.entry.Entry.{Entry}
 use Rattle.mn_world.specs.declared.entry.What.{What}
 use Rattle.mn_world.specs.declared.entry.What.TheVariants.{Begin, Issue, Called, Stopped, Restarted, Abandoned, Answered}
 use Rattle.mn_world.specs.declared.commit_reader.CommittedMini.{CommittedMini}
-use Rattle.mn_world.specs.Calls.{Issued, client_entries, node_entries, issue_in, issues_of, issue_named, under_way}
+use Rattle.mn_world.specs.Calls.{node_entries, issue_in}
 use Rattle.mn_world.specs.CommitReader.{issued_of}
-use Rattle.mn_world.specs.Commits.{committed_by, committed_at, committed_with, effect_of, has_vote, issued_as}
-use Rattle.mn_world.specs.History.{Placed, EntryPuts, StepPuts, AnswerPuts, pasts_of}
+use Rattle.mn_world.specs.Commits.{committed_by, committed_at, effect_of}
+use Rattle.mn_world.specs.History.{Placed, StepPuts, pasts_of}
 use Rattle.mn_world.specs.Run.{entries_of}
 use Rattle.mn_world.specs.Shown.{seen_at}
 use Rattle.mn_world.specs.declared.flat.IdKey.{IdKey}
-use Rattle.mn_world.proofs.Reading.Same.{client_same-refl, client_same-true, nat_eq-true}
+use Rattle.mn_world.proofs.Reading.Same.{client_same-refl, client_same-true}
+use Rattle.mn_world.proofs.Meaning.Effects.{with_named}
 use Rattle.mn_hist.specs.declared.history.OpKey.{OpKey}
 use Rattle.mn_hist.specs.History.{Act, CallerState, Planner, act_at, act_of, acts_from, acts_in, begun_by, done_by, done_from, idle, planner_after, planner_kept, planner_of, placed_last, state_after, state_of}
 use Rattle.mn_hist.specs.History.{AreCallers, Fills, Knows, Named, Puts, Commits, Stands, Takes}
@@ -64,16 +65,13 @@ state_beside past e c d is other =
     ap (λ (o : Option ClientNo). if option_map_or (client_same d) o false then state_after (length past) e.what (seen_at e) (state_of d past) else state_of d past) is
     ∙ ap (λ b. if b then state_after (length past) e.what (seen_at e) (state_of d past) else state_of d past) other
 
-clash : (b : Bool) → b ≡ true → b ≡ false → ⊥
-clash b p q = cc
-
 pub of_client : (callers : List CallerState) (past : List Entry) (e : Entry) (c : ClientNo) (new : CallerState) → c.0 < 256 → e.client ≡ Some c
     → (slice_get callers c.0 ≡ Some (state_of c past) → new ≡ state_after (length past) e.what (seen_at e) (state_of c past))
     → AreCallers callers past → AreCallers (slice_set callers c.0 new) (e ∷ past)
 of_client callers past e c new few is step are = λ d few'.
     elim (client_same d c) as (λ b. client_same d c ≡ b → slice_get (slice_set callers c.0 new) d.0 ≡ Some (state_of d (e ∷ past))) [
       | true ↦ λ same. subst (λ (x : ClientNo). slice_get (slice_set callers c.0 new) x.0 ≡ Some (state_of x (e ∷ past))) (sym (client_same-true d c same))
-          (get-set_same callers c.0 (state_of c past) new (are c few) ∙ ap Some (step (are c few) ∙ sym (state_here past e c is)))
+          (set_at callers c.0 (state_of c past) new (are c few) ∙ ap Some (step (are c few) ∙ sym (state_here past e c is)))
       | false ↦ λ other. get-set_other callers c.0 d.0 new (λ eq. clash (client_same d c) (subst (λ (n : ℕ). nat_eq n c.0 ≡ true) eq (client_same-refl c)) other)
           ∙ (are d few' ∙ ap Some (sym (state_beside past e c d is other)))
     ] refl
@@ -181,36 +179,12 @@ takes_commit past e m placed standing slots found fills p = record {
   long = refl;
 }
 
--- what is committed was issued under its id
-named_as : (tid : Tid) (past : List Entry) (i : Issued) → issued_as tid past ≡ Some i → issue_named i.tid (issues_of past) ≡ Some i.mini
-named_as tid past i is = by (issue_named tid (issues_of past)) refl is
-  where
-    by : (o : Option Mini) → issue_named tid (issues_of past) ≡ o → option_map (λ (mini : Mini). let r : Issued = record { tid = tid; mini = mini } in r) o ≡ Some i → issue_named i.tid (issues_of past) ≡ Some i.mini
-    by None e h = absurd cc
-    by (Some mini) e h =
-        let same : record { tid = tid; mini = mini } ≡ i = cc in
-        subst (λ (j : Issued). issue_named j.tid (issues_of past) ≡ Some j.mini) same e
-
-named_with : (past : List Entry) (n : NodeNo) (r : Option Request) (i : Issued) → committed_with past n r ≡ Some i → issue_named i.tid (issues_of past) ≡ Some i.mini
-named_with past n None i is = absurd cc
-named_with past n (Some (Ask.Prepare tid participants part)) i is =
-    by (list_all (λ m. node_same m n || has_vote tid m past) participants) is
-  where
-    by : (b : Bool) → (if b then issued_as tid past else None) ≡ Some i → issue_named i.tid (issues_of past) ≡ Some i.mini
-    by true h = named_as tid past i h
-    by false h = absurd cc
-named_with past n (Some (Ask.Exec tid part)) i is = named_as tid past i is
-named_with past n (Some (Ask.Decide tid verdict)) i is = absurd cc
-named_with past n (Some (Ask.Force tid)) i is = absurd cc
-named_with past n (Some Ask.List) i is = absurd cc
-named_with past n (Some (Ask.Peek start long)) i is = absurd cc
-
 pub named_here : (past : List Entry) (e : Entry) (m : CommittedMini) → Some (issued_of m) ≡ committed_by past e → Named past m
 named_here past e m is = at e.node (sym is)
   where
     at : (node : Option NodeNo) → committed_at past node e.what ≡ Some (issued_of m) → Named past m
     at None h = absurd cc
-    at (Some n) h = named_with past n (effect_of (node_entries n past) e.what) (issued_of m) h
+    at (Some n) h = with_named past n (effect_of (node_entries n past) e.what) (issued_of m) h
 
 -- A log
 

@@ -1,7 +1,6 @@
 -- What the bytes of one read tell is what a client's list shows by it.
-use Rattle.std.proofs.Common.{◌≡◌, ℕ, suc, ◌+◌, ◌≤◌, ◌⊎◌, inl, inr, Bool, true, false, List, [], ◌∷◌, Option, Some, None, refl, subst, sym, ap, ◌∙◌, arith, Contains}
+use Rattle.std.proofs.Common.{◌≡◌, ℕ, ◌≤◌, inl, inr, Bool, true, false, List, [], ◌∷◌, Option, Some, None, refl, subst, sym, ap, ◌∙◌, arith}
 use Rattle.std.specs.Prelude.{Result, Ok, Err, IfOk}
-use Rattle.std.specs.List.{AllByRecursion}
 use Rattle.std.proofs.lemmas.List.Elements.{All-from_recursion, recursion_from_All}
 use Rattle.mn_base.specs.Store.{value_at}
 use Rattle.mn_base.specs.declared.error.NoMemory.{NoMemory}
@@ -12,16 +11,16 @@ use Rattle.mn_base.specs.declared.op.Step.{Step}
 use Rattle.mn_base.specs.declared.op.Step.TheVariants.{Get, Put, Del, Check}
 use Rattle.mn_base.specs.declared.reply.Reply.{Reply}
 use Rattle.mn_base.specs.declared.reply.Reply.TheVariants as Say
-use Rattle.mn_page.specs.declared.entry.CatEntry.{CatEntry}
 use Rattle.mn_page.specs.declared.page.Body.{Body}
 use Rattle.mn_page.specs.declared.page.Body.TheVariants.{Leaf, Inner}
 use Rattle.mn_page.specs.declared.page.Page.{Page}
 use Rattle.mn_page.specs.Grammar.{IsEntry, IsBody, height_of}
 use Rattle.mn_page.specs.Holds.{page_covers, pairs_in}
 use Rattle.mn_world.specs.declared.entry.Entry.{Entry}
-use Rattle.mn_world.specs.Places.{Place, catalog_place, page_place}
-use Rattle.mn_world.specs.Shown.{Seen, SeesCatalog, ShowsCatalog, LeafShows, CatalogShows, ReadShows}
-use Rattle.mn_hist.specs.Shown.{Decides, is_of_catalog, HasCatalog, IsUnshown, Tells, CatalogTells, lone_key, found_in, found_at, leaf_value, LeafGives, LeafTells, ServesBy, IsServedBy}
+use Rattle.mn_world.specs.Places.{page_place}
+use Rattle.mn_world.specs.Shown.{Seen, LeafShows, ReadShows}
+use Rattle.mn_world.proofs.Examples.Entries.{page_is_no_catalog}
+use Rattle.mn_hist.specs.Shown.{Decides, is_of_catalog, HasCatalog, IsUnshown, Tells, CatalogTells, lone_key, found_at, LeafGives, LeafTells, IsServedBy}
 use Rattle.mn_hist.proofs.Places.{catalog_read, no_catalog_read}
 
 pub if_ok : {P Q : Bool → Type 0} (r : Result Bool NoMemory) → IfOk r P → ((b : Bool) → P b → Q b) → IfOk r Q
@@ -43,15 +42,12 @@ leaf_place es seen (Branch name child) reply shown = absurd shown
 leaf_place es seen (Scan name low high limit) reply shown = absurd shown
 leaf_place es seen Versions reply shown = absurd shown
 
-apart : (addr : Addr) → catalog_place ≡ page_place addr → ⊥
-apart addr e = let long : 4096 ≡ 1024 = ap (λ (p : Place). p.length) e in absurd (omega (arith, long))
-
 pub catalog_tells : (catalog : Option (List ℕ)) (seen : Seen) (op : Op) (reply : Reply) → is_of_catalog seen ≡ true → (b : Bool) → Decides b (CatalogTells seen.bytes op reply) → Tells b catalog seen op reply
 catalog_tells catalog seen op reply is true (entries, spelled, replies) = λ es has. inr (entries, (catalog_read seen is, spelled.0.0, recursion_from_All IsEntry entries spelled.0.1, spelled.1), replies)
 catalog_tells catalog seen op reply is false none = λ es shows. by es shows
   where
     by : (es : List Entry) → ReadShows es seen op reply → ⊥
-    by es (inl leaf) = let at = leaf_place es seen op reply leaf in apart at.0 (sym (catalog_read seen is) ∙ at.1)
+    by es (inl leaf) = let at = leaf_place es seen op reply leaf in page_is_no_catalog at.0 (sym (catalog_read seen is) ∙ at.1)
     by es (inr (entries, sees, replies)) = none (entries, ((sees.1, All-from_recursion IsEntry entries sees.2), sees.3), replies)
 
 -- Leaves

@@ -1,13 +1,15 @@
 -- Lists that a loop goes through, and what it makes of them.
-use Rattle.std.proofs.Common.{◌≡◌, ℕ, zero, suc, ◌+◌, ◌<◌, ◌≤◌, List, [], ◌∷◌, ◌++◌, Option, Some, None, length, map, take, drop, reverse, slice_index_or, refl, subst, sym, ap, ◌∙◌, arith}
+use Rattle.std.proofs.Common.{◌≡◌, ℕ, zero, suc, ◌+◌, ◌<◌, List, [], ◌∷◌, ◌++◌, Option, Some, None, length, map, take, drop, reverse, slice_index_or, refl, subst, sym, ap, ◌∙◌, arith}
 use Rattle.std.specs.List.{AllByRecursion}
 use Rattle.std.proofs.lemmas.List.{append_assoc, reverse-append}
 use Rattle.mn_base.specs.Tree.{parents_of}
 use Rattle.mn_base.specs.declared.ids.VersionNo.{VersionNo}
+use Rattle.mn_base.proofs.Lists.{all_append}
 use Rattle.mn_page.specs.Forest.{parent_number, heads_in}
 use Rattle.mn_page.specs.declared.entry.CatEntry.{CatEntry}
 use Rattle.mn_vtree.specs.Parents.{numbers_of}
 use Rattle.std.specs.Option.{option_map}
+use Rattle.mn_cell.proofs.Running.{reverse_more}
 
 -- one more
 plus_one : (i : ℕ) → suc i ≡ i + 1
@@ -53,9 +55,6 @@ parts_at [] i x lt is = absurd (omega (arith, lt))
 parts_at (a ∷ xs) zero x lt is = ap (λ z. z ∷ xs) (sym is)
 parts_at (a ∷ xs) (suc i) x lt is = ap (λ l. a ∷ l) (parts_at xs i x (omega (arith, lt)) is)
 
-pub reverse_more : {X : Type 0} (x : X) (xs : List X) → reverse (x ∷ xs) ≡ reverse xs ++ x ∷ []
-reverse_more x xs = reverse-append (x ∷ []) xs
-
 pub reverse_at : {X : Type 0} (xs : List X) (i : ℕ) (x : X) → i < length xs → x ≡ slice_index_or xs i x → reverse xs ≡ reverse (drop (i + 1) xs) ++ x ∷ reverse (take i xs)
 reverse_at xs i x lt is =
     subst (λ n. reverse xs ≡ reverse (drop n xs) ++ x ∷ reverse (take i xs)) (plus_one i)
@@ -63,21 +62,13 @@ reverse_at xs i x lt is =
     ∙ (reverse-append (take i xs) (x ∷ drop (suc i) xs)
     ∙ (ap (λ l. l ++ reverse (take i xs)) (reverse_more x (drop (suc i) xs)) ∙ append_assoc (reverse (drop (suc i) xs)) (x ∷ []) (reverse (take i xs)))))
 
-pub all_both : {X : Type 0} (P : X → Type 0) (xs ys : List X) → AllByRecursion P xs → AllByRecursion P ys → AllByRecursion P (xs ++ ys)
-all_both P [] ys a b = b
-all_both P (x ∷ xs) ys a b = (a.0, all_both P xs ys a.1 b)
-
-pub all_reverse : {X : Type 0} (P : X → Type 0) (xs : List X) → AllByRecursion P xs → AllByRecursion P (reverse xs)
-all_reverse P [] a = tt
-all_reverse P (x ∷ xs) a = subst (AllByRecursion P) (sym (reverse_more x xs)) (all_both P (reverse xs) (x ∷ []) (all_reverse P xs a.1) (a.0, tt))
-
 take_snoc : {X : Type 0} (xs : List X) (i : ℕ) (x : X) → i < length xs → x ≡ slice_index_or xs i x → take (suc i) xs ≡ take i xs ++ x ∷ []
 take_snoc [] i x lt is = absurd (omega (arith, lt))
 take_snoc (a ∷ xs) zero x lt is = ap (λ z. z ∷ []) (sym is)
 take_snoc (a ∷ xs) (suc i) x lt is = ap (λ l. a ∷ l) (take_snoc xs i x (omega (arith, lt)) is)
 
 pub all_take : {X : Type 0} (P : X → Type 0) (xs : List X) (i : ℕ) (x : X) → i < length xs → x ≡ slice_index_or xs i x → AllByRecursion P (take i xs) → P x → AllByRecursion P (take (i + 1) xs)
-all_take P xs i x lt is all here = subst (λ n. AllByRecursion P (take n xs)) (plus_one i) (subst (AllByRecursion P) (sym (take_snoc xs i x lt is)) (all_both P (take i xs) (x ∷ []) all (here, tt)))
+all_take P xs i x lt is all here = subst (λ n. AllByRecursion P (take n xs)) (plus_one i) (subst (AllByRecursion P) (sym (take_snoc xs i x lt is)) (all_append P (take i xs) (x ∷ []) all (here, tt)))
 
 pub drop_here : {X : Type 0} (xs : List X) (i : ℕ) (x : X) → i < length xs → x ≡ slice_index_or xs i x → drop i xs ≡ x ∷ drop (suc i) xs
 drop_here [] i x lt is = absurd (omega (arith, lt))

@@ -1,5 +1,5 @@
 -- What is noted of a client's reads tells where a reply has its place.
-use Rattle.std.proofs.Common.{◌≡◌, ℕ, zero, suc, ◌<◌, ◌⊎◌, inl, inr, Bool, true, false, List, [], ◌∷◌, ◌++◌, length, map, Option, Some, None, refl, subst, sym, ap, ◌∙◌, arith, if◌then◌else◌, Contains}
+use Rattle.std.proofs.Common.{◌≡◌, ℕ, ◌⊎◌, inl, inr, true, false, List, [], ◌∷◌, ◌++◌, length, map, Option, Some, None, refl, subst, sym, ap, ◌∙◌, arith, if◌then◌else◌, Contains}
 use Rattle.std.specs.List.{AllByRecursion}
 use Rattle.std.proofs.lemmas.List.Elements.{Contains-append_left, Contains-append_right}
 use Rattle.mn_base.specs.declared.ids.ClientNo.{ClientNo}
@@ -7,21 +7,19 @@ use Rattle.mn_base.specs.declared.op.Op.{Op}
 use Rattle.mn_base.specs.declared.op.Op.TheVariants.{Tx, Snapshot, Branch, Scan, Versions}
 use Rattle.mn_base.specs.declared.reply.Reply.{Reply}
 use Rattle.mn_base.specs.declared.reply.Reply.TheVariants as Say
+use Rattle.mn_base.proofs.Booleans.{clash}
 use Rattle.mn_world.specs.declared.entry.Entry.{Entry}
 use Rattle.mn_world.specs.declared.entry.What.{What}
 use Rattle.mn_world.specs.declared.entry.What.TheVariants.{Begin, Issue, Called, Stopped, Restarted, Abandoned, Answered}
 use Rattle.mn_world.specs.Calls.{is_by, client_entries, begun_in, under_way, under_way_after, since_begin, since_begin_after}
-use Rattle.mn_world.specs.History.{ShowsHere, LastShown, FirstCatalogAt, ReadPlace, NoCatalog}
-use Rattle.mn_world.specs.Shown.{Seen, seen_at, seen_in, IsCatalogRead, ReadShows}
+use Rattle.mn_world.specs.History.{LastShown, FirstCatalogAt, ReadPlace, NoCatalog}
+use Rattle.mn_world.specs.Shown.{Seen, seen_at, seen_in, ReadShows}
 use Rattle.mn_world.proofs.Bytes.Seen.{nothing}
-use Rattle.mn_world.proofs.Meaning.Tell.{one_read}
+use Rattle.mn_world.proofs.Meaning.Tell.{one_read, only}
 use Rattle.mn_world.proofs.Reading.Sees.{seen_in-cons}
 use Rattle.mn_hist.proofs.Places.{catalog_read, no_catalog_read}
 use Rattle.mn_hist.specs.History.{Note, CallerState, with_seen, state_after, state_of, IsLastNote, IsFirstNote, IsNotedPlace}
 use Rattle.mn_hist.specs.Shown.{is_of_catalog, HasCatalog, IsShown, IsUnshown}
-
-clash : (b : Bool) → b ≡ true → b ≡ false → ⊥
-clash b p q = cc
 
 -- The operation under way
 
@@ -84,10 +82,6 @@ catalog_has c (e ∷ past) =
 no_split : (newer : List Note) (note : Note) (older : List Note) → [] ≡ newer ++ note ∷ older → ⊥
 no_split [] note older e = cc
 no_split (x ∷ newer) note older e = cc
-
-only : (s x : Seen) → Contains (s ∷ []) x → s ≡ x
-only s x (zero, in', is) = is
-only s x (suc k, in', is) = absurd (omega arith)
 
 last_quiet : (c : ClientNo) (op : Op) (reply : Reply) (past : List Entry) (e : Entry) (place : ℕ)
     → is_by c e ≡ true → begun_in e.what ≡ []

@@ -7,7 +7,9 @@ use Rattle.mn_base.specs.declared.ids.ClientNo.{ClientNo}
 use Rattle.mn_base.specs.declared.ids.NodeNo.{NodeNo}
 use Rattle.mn_base.specs.declared.ids.Tid.{Tid}
 use Rattle.mn_base.specs.declared.reply.Reply.{Reply}
+use Rattle.mn_base.proofs.Booleans.{clash}
 use Rattle.mn_mini.specs.Mini.{Mini}
+use Rattle.mn_mini.proofs.Fits.{unsome}
 use Rattle.mn_world.specs.declared.entry.Entry.{Entry}
 use Rattle.mn_world.specs.declared.entry.What.{What}
 use Rattle.mn_world.specs.declared.entry.What.TheVariants.{Begin, Issue, Called, Stopped, Restarted, Abandoned, Answered}
@@ -20,18 +22,12 @@ use Rattle.mn_world.specs.Run.{IsRun, Means}
 use Rattle.mn_world.proofs.Reading.Same.{tid_same-true}
 use Rattle.mn_hist.specs.History.{Act, Planner, begun_by, planner_after, planner_for, planner_of}
 
-clash : (b : Bool) → b ≡ true → b ≡ false → ⊥
-clash b p q = cc
-
 -- the plan of this id, for this operation, with some reply
 abbrev HasPlan : List Entry → Tid → Mini → Act → Type 0
 HasPlan past tid mini a = (reply : Reply) × PlanOf past (record { tid = tid; mini = mini }) (record { client = a.client; number = a.number; op = a.op; reply = reply })
 
 plan_more : (e : Entry) (past : List Entry) (tid : Tid) (mini : Mini) (a : Act) → HasPlan past tid mini a → HasPlan (e ∷ past) tid mini a
 plan_more e past tid mini a (reply, p) = (reply, record { entry = p.entry; later = e ∷ p.later; before = p.before; split = ap (λ (l : List Entry). e ∷ l) p.split; issued = p.issued; by = p.by; of = p.of; planned = p.planned })
-
-some_same : {X : Type 0} (a b : X) → Some a ≡ Some b → a ≡ b
-some_same a b e = cc
 
 plan_here : (past : List Entry) (at : Option NodeNo) (by : Option ClientNo) (tid : Tid) (mini : Mini) (a : Act)
     → Means past by (Issue tid mini) → is_read mini.items ≡ false → by ≡ Some a.client → begun_by by past ≡ Some (record { number = a.number; op = a.op })
@@ -40,7 +36,7 @@ plan_here past at None tid mini a means other is of = absurd cc
 plan_here past at (Some c) tid mini a means other is of = kind means.1
   where
     same : c ≡ a.client
-    same = some_same c a.client is
+    same = unsome c a.client is
 
     under : under_way (client_entries a.client past) ≡ Some (record { number = a.number; op = a.op })
     under = subst (λ (d : ClientNo). under_way (client_entries d past) ≡ Some (record { number = a.number; op = a.op })) same of
@@ -48,7 +44,7 @@ plan_here past at (Some c) tid mini a means other is of = kind means.1
     planned : (o : Option Begun) → o ≡ Some (record { number = a.number; op = a.op }) → IsPlanOfOp (client_entries c past) o mini → (reply : Reply) × IsPlanBy (client_entries a.client past) a.op mini reply
     planned None e none = absurd none
     planned (Some b) e (reply, plan) =
-        let b_is : b ≡ record { number = a.number; op = a.op } = some_same b (record { number = a.number; op = a.op }) e in
+        let b_is : b ≡ record { number = a.number; op = a.op } = unsome b (record { number = a.number; op = a.op }) e in
         (reply, subst (λ (d : ClientNo). IsPlanBy (client_entries d past) a.op mini reply) same (subst (λ (x : Begun). IsPlanBy (client_entries c past) x.op mini reply) b_is plan))
 
     kind : IsTrue (is_read mini.items) ⊎ IsPlanOfOp (client_entries c past) (under_way (client_entries c past)) mini → HasPlan (record { node = at; client = Some c; what = Issue tid mini } ∷ past) tid mini a
@@ -64,7 +60,7 @@ plan_step : (past : List Entry) (at : Option NodeNo) (by : Option ClientNo) (wha
     → HasPlan (record { node = at; client = by; what = what } ∷ past) tid mini a
 plan_step past at by (Issue t m) tid mini a means other older planner named =
     elim (tid_same t tid) as (λ b. tid_same t tid ≡ b → (if b then Some (record { client = by; begun = begun_by by past }) else planner_of tid past) ≡ Some (planner_for a) → (if b then Some m else issue_named tid (issues_of past)) ≡ Some mini → HasPlan (record { node = at; client = by; what = Issue t m } ∷ past) tid mini a) [
-      | true ↦ λ same planner named. here same (some_same (record { client = by; begun = begun_by by past }) (planner_for a) planner) (some_same m mini named)
+      | true ↦ λ same planner named. here same (unsome (record { client = by; begun = begun_by by past }) (planner_for a) planner) (unsome m mini named)
       | false ↦ λ same planner named. plan_more (record { node = at; client = by; what = Issue t m }) past tid mini a (older planner named)
     ] refl planner named
   where
@@ -95,7 +91,7 @@ pub plan_puts : (past : List Entry) (e : Entry) (i : Issued) (placed : List Plac
 plan_puts past e i placed p other plan =
     subst (λ b. MatchBool b (placed ++ record { place = length past; past = p } ∷ [] ≡ placed) ((q : Past) × PlanOf past i q × (placed ++ record { place = length past; past = p } ∷ [] ≡ placed ++ record { place = length past; past = q } ∷ []))) (sym other) (p, plan, refl)
 
-or_swap : (a b c : Bool) → (a || (b || c)) ≡ (b || (a || c))
+pub or_swap : (a b c : Bool) → (a || (b || c)) ≡ (b || (a || c))
 or_swap true true c = refl
 or_swap true false c = refl
 or_swap false b c = refl

@@ -1,5 +1,5 @@
 -- An answer puts an operation into the history, at the place of a read.
-use Rattle.std.proofs.Common.{◌≡◌, ℕ, zero, suc, ◌+◌, ◌<◌, Bool, true, false, ◌&&◌, ◌||◌, List, [], ◌∷◌, ◌++◌, length, map, Option, Some, None, refl, subst, sym, ap, ◌∙◌, arith, if◌then◌else◌}
+use Rattle.std.proofs.Common.{◌≡◌, ℕ, zero, suc, ◌+◌, ◌<◌, Bool, true, false, ◌&&◌, ◌||◌, List, [], ◌∷◌, length, map, Option, Some, None, refl, subst, sym, ap, ◌∙◌, arith, if◌then◌else◌}
 use Rattle.std.specs.Prelude.{nat_eq, nat_lt, slice_get, slice_set, slice_index_or, MatchBool, Result, Ok, Err, OnOk}
 use Rattle.mn_base.specs.declared.error.NoMemory.{NoMemory}
 use Rattle.std.proofs.lemmas.Option.{same_Some}
@@ -8,19 +8,17 @@ use Rattle.mn_base.specs.Ids.{client_same}
 use Rattle.mn_base.specs.declared.answer.Answer.{Answer}
 use Rattle.mn_base.specs.declared.answer.Answer.TheVariants.{Replied}
 use Rattle.mn_base.specs.declared.ids.ClientNo.{ClientNo}
-use Rattle.mn_base.specs.declared.op.Op.{Op}
 use Rattle.mn_base.specs.declared.reply.Reply.{Reply}
+use Rattle.mn_base.proofs.Naturals.{lt_true}
 use Rattle.mn_world.specs.declared.entry.Entry.{Entry}
 use Rattle.mn_world.specs.Calls.{Begun, client_entries, under_way}
 use Rattle.mn_world.specs.History.{Placed, placed_in, has_past, AnswerPuts}
 use Rattle.mn_hist.specs.declared.history.OpKey.{OpKey}
 use Rattle.mn_hist.specs.History.{Act, act_at, acts_from, state_of, IsNotedPlace, IsPutInto, Stands, Fills, Puts, stands}
 use Rattle.mn_hist.proofs.Noted.{begun_is, noted_place}
+use Rattle.mn_hist.proofs.Planning.{or_swap}
 
 -- Slots
-
-lt_true : (a b : ℕ) → a < b → nat_lt a b ≡ true
-lt_true a b lt = grind (arith)
 
 lt_false : (a b : ℕ) → b < a → nat_lt a b ≡ false
 lt_false a b lt = grind (arith)
@@ -71,11 +69,6 @@ filled_more slots new placed p a fills put is =
     from_zero n = omega arith
 
 -- What stands
-
-or_swap : (a b c : Bool) → (a || (b || c)) ≡ (b || (a || c))
-or_swap true true c = refl
-or_swap true false c = refl
-or_swap false b c = refl
 
 past_more : (c : ClientNo) (n : ℕ) (p : Placed) (placed : List Placed) → has_past c n (placed_in p placed) ≡ ((client_same p.past.client c && nat_eq p.past.number n) || has_past c n placed)
 past_more c n p [] = refl

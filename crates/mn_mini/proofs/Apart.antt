@@ -12,6 +12,7 @@ use Rattle.mn_mini.specs.declared.request.Request.TheVariants as Ask
 use Rattle.mn_mini.specs.Mini.{item_conflicts_with, parts_conflict, has_write}
 use Rattle.mn_mini.specs.Flat.{part_mismatch_from}
 use Rattle.mn_base.specs.Ranges.{least_tid}
+use Rattle.mn_base.proofs.Lists.{all_both}
 use Rattle.mn_mini.specs.Node.{HeldPart, Clash, without_tid, held_parts, is_held, holders, clash_of, has_voted, has_forced, after_locks, after_compares, space_of, answer, with_added}
 use Rattle.mn_mini.specs.Laws.{AreApart, records_after, HeldPartsStayApart}
 
@@ -20,10 +21,6 @@ use Rattle.mn_mini.specs.Laws.{AreApart, records_after, HeldPartsStayApart}
 All-of : {A : Type 0} (P : A → Type 0) → ((x : A) → P x) → (xs : List A) → AllByRecursion P xs
 All-of P f [] = tt
 All-of P f (x ∷ xs) = (f x, All-of P f xs)
-
-All-both : {A : Type 0} (P Q R : A → Type 0) → ((x : A) → P x → Q x → R x) → (xs : List A) → AllByRecursion P xs → AllByRecursion Q xs → AllByRecursion R xs
-All-both P Q R f [] p q = tt
-All-both P Q R f (x ∷ xs) p q = (f x p.0 q.0, All-both P Q R f xs p.1 q.1)
 
 -- what a release leaves
 
@@ -66,7 +63,7 @@ pub no_clash : (hs : List HeldPart) (tid : Tid) (part : List PartItem) → clash
 no_clash hs tid [] e = All-of _ (λ g _. refl) hs
 no_clash hs tid (item ∷ part) e =
     let s = split item (least_tid (holders hs tid item)) (clash_of hs tid part) e in
-    All-both (IsFreeOf tid item) (λ g. tid_same g.tid tid ≡ false → parts_conflict part g.part ≡ false) _ (λ g p q other. or_false _ _ (p other) (q other)) hs (no_holder hs tid item s.0) (no_clash hs tid part s.1)
+    all_both (IsFreeOf tid item) (λ g. tid_same g.tid tid ≡ false → parts_conflict part g.part ≡ false) _ (λ g p q other. or_false _ _ (p other) (q other)) hs (no_holder hs tid item s.0) (no_clash hs tid part s.1)
   where
     split : (item : PartItem) (t : Option Tid) (rest : Option Clash) → Rattle.mn_mini.specs.Node.clash_or item t rest ≡ None → (t ≡ None) × (rest ≡ None)
     split item None rest e = (refl, e)

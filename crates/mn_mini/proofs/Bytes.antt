@@ -8,6 +8,7 @@ use Rattle.mn_base.specs.declared.ids.Range.{Range}
 use Rattle.mn_mini.specs.declared.part.PartItem.{PartItem}
 use Rattle.mn_mini.specs.declared.part.PartItem.TheVariants.{Compare, Read, Write}
 use Rattle.mn_base.specs.Ranges.{ranges_meet}
+use Rattle.mn_base.proofs.Booleans.{or_split}
 use Rattle.mn_mini.specs.Mini.{items_conflict, range_of, is_write, item_conflicts_with, parts_conflict}
 use Rattle.mn_mini.specs.Flat.{Mismatched, bytes_in, overwritten, part_mismatch_from, part_reads, space_after_part}
 
@@ -66,10 +67,6 @@ none (b ∷ bytes) e = absurd (omega (arith, e))
 -- a part that writes nowhere in a range leaves its bytes
 abbrev pub WritesApart : Range → List PartItem → Type 0
 WritesApart range part = list_any (λ item. ranges_meet range (range_of item) && is_write item) part ≡ false
-
-or_split : (a b : Bool) → (a || b) ≡ false → (a ≡ false) × (b ≡ false)
-or_split true b e = absurd cc
-or_split false b e = (refl, e)
 
 and_true : (a : Bool) → (a && true) ≡ false → a ≡ false
 and_true true e = e

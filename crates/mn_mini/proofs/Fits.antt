@@ -80,7 +80,7 @@ other_bytes xs ys e = λ same. turned (sym ((bytes_eq-Decides xs ys).1 same) ∙
 abbrev IsAmong : ℕ → Mismatched → List PartItem → Type 0
 IsAmong i at part = (k : ℕ) × (at.item ≡ i + k) × IsOtherThan k at.found part
 
-unsome : {X : Type 0} (x y : X) → Some x ≡ Some y → x ≡ y
+pub unsome : {X : Type 0} (x y : X) → Some x ≡ Some y → x ≡ y
 unsome x y e = cc
 
 mismatch_among : (space : List ℕ) (i : ℕ) (part : List PartItem) (at : Mismatched) → AreWithin space part → part_mismatch_from space i part ≡ Some at → IsAmong i at part

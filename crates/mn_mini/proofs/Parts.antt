@@ -6,6 +6,7 @@ use Rattle.std.specs.List.{list_any, flat_map, AllByRecursion}
 use Rattle.mn_base.specs.Ids.{node_same, node_numbers}
 use Rattle.std.specs.Prelude.{bytes_eq}
 use Rattle.mn_base.specs.declared.ids.NodeNo.{NodeNo}
+use Rattle.mn_base.proofs.Booleans.{or_right, or_split}
 use Rattle.mn_mini.specs.declared.item.Item.{Item}
 use Rattle.mn_mini.specs.declared.item.Item.TheVariants.{Compare, Read, Write}
 use Rattle.mn_mini.specs.declared.part.PartItem.{PartItem}
@@ -13,18 +14,10 @@ use Rattle.mn_mini.specs.declared.part.PartItem.TheVariants as Bare
 use Rattle.mn_mini.specs.Mini.{Mini, item_node, participants_of, compare_at, read_at, write_at, part_of}
 use Rattle.mn_mini.specs.Flat.{bytes_in, overwritten, space_in, mismatch_from, reads_in, memory_after, part_mismatch_from, part_reads, space_after_part}
 
-or_split : (a b : Bool) → (a || b) ≡ false → (a ≡ false) × (b ≡ false)
-or_split true b e = absurd cc
-or_split false b e = (refl, e)
-
-or_right : (a b : Bool) → b ≡ true → (a || b) ≡ true
-or_right true b e = refl
-or_right false b e = e
-
-same_true : (a b : NodeNo) → node_same a b ≡ true → a ≡ b
+pub same_true : (a b : NodeNo) → node_same a b ≡ true → a ≡ b
 same_true a b e = let n : a.0 ≡ b.0 = grind (arith, nat_tests) in ap (λ (k : ℕ). let r : NodeNo = record { 0 = k } in r) n
 
-same_self : (a : NodeNo) → node_same a a ≡ true
+pub same_self : (a : NodeNo) → node_same a a ≡ true
 same_self a = grind (arith, nat_tests)
 
 same_false : (a b : NodeNo) → node_same a b ≡ false → b.0 ≢ a.0

@@ -1,29 +1,26 @@
 -- The participants of a sound minitransaction, and the part of each, are such as there may be.
 use Rattle.std.proofs.Common.{◌≡◌, ℕ, zero, suc, ◌+◌, ◌-◌, ◌<◌, ◌≤◌, Bool, true, false, ◌&&◌, ◌||◌, List, [], ◌∷◌, ◌++◌, length, map, refl, sym, ap, subst, ◌∙◌, arith, cond, append_assoc, append-nil, length-append, if◌then◌else◌}
 use Rattle.std.specs.Prelude.{filter, nat_lt, nat_le}
-use Rattle.std.specs.List.{list_any, flat_map, range_with_len, AllByRecursion}
+use Rattle.std.specs.List.{flat_map, range_with_len, AllByRecursion}
 use Rattle.std.proofs.lemmas.Bool.Decides.{nat_tests}
 use Rattle.mn_base.specs.Ids.{node_same, node_numbers}
 use Rattle.mn_base.specs.declared.ids.NodeNo.{NodeNo}
+use Rattle.mn_base.proofs.Lists.{all_append}
 use Rattle.mn_mini.specs.declared.item.Item.{Item}
 use Rattle.mn_mini.specs.declared.item.Item.TheVariants.{Compare, Read, Write}
 use Rattle.mn_mini.specs.declared.part.PartItem.{PartItem}
 use Rattle.mn_mini.specs.declared.part.PartItem.TheVariants as Bare
-use Rattle.mn_mini.specs.Mini.{Mini, IsSound, IsSoundItem, IsNodeOf, item_node, is_named, participants_of, compare_at, read_at, write_at, part_of}
-use Rattle.mn_mini.specs.RecordGrammar.{IsPart, IsPartItem, AreParticipants, are_in_order, are_ascending, kind_of, numbers_of}
+use Rattle.mn_mini.specs.Mini.{Mini, IsSound, IsSoundItem, IsNodeOf, item_node, is_named, compare_at, read_at, write_at, part_of}
+use Rattle.mn_mini.specs.RecordGrammar.{IsPart, IsPartItem, are_in_order, are_ascending, kind_of, numbers_of}
 use Rattle.mn_mini.specs.Laws.{TakesPart, PartsAreSound}
 
 -- What is so of each item of a list that is gathered from sound items
-
-all_joined : {X : Type 0} (P : X → Type 0) (xs ys : List X) → AllByRecursion P xs → AllByRecursion P ys → AllByRecursion P (xs ++ ys)
-all_joined P [] ys p q = q
-all_joined P (x ∷ xs) ys p q = (p.0, all_joined P xs ys p.1 q)
 
 gathered : (P : PartItem → Type 0) (nodes : ℕ) (f : Item → List PartItem) → ((i : Item) → IsSoundItem nodes i → AllByRecursion P (f i))
     → (items : List Item) → AllByRecursion (IsSoundItem nodes) items → AllByRecursion P (flat_map f items)
 gathered P nodes f each [] sound = tt
 gathered P nodes f each (i ∷ items) sound =
-    all_joined P (f i) (flat_map f items) (each i sound.0) (gathered P nodes f each items sound.1)
+    all_append P (f i) (flat_map f items) (each i sound.0) (gathered P nodes f each items sound.1)
 
 one_or_none : (P : PartItem → Type 0) (b : Bool) (x : PartItem) → P x → AllByRecursion P (if b then x ∷ [] else [])
 one_or_none P true x p = (p, tt)
@@ -128,7 +125,7 @@ sound_part mini n sound named =
           let middle : (k : ℕ) → k ≤ 2 → are_in_order k (rs ++ ws) ≡ true = λ k le. behind 2 k rs ws le all_rs (λ j lower. last j (omega (arith, lower))) in
           subst (λ (l : List PartItem). are_in_order 1 l ≡ true) (sym (append_assoc cs rs ws))
           (behind 1 1 cs (rs ++ ws) (omega arith) all_cs (λ k le. middle k (omega (arith, le))));
-      inside = all_joined IsPartItem (cs ++ rs) ws (all_joined IsPartItem cs rs (inside_of 1 cs all_cs) (inside_of 2 rs all_rs)) (inside_of 3 ws all_ws);
+      inside = all_append IsPartItem (cs ++ rs) ws (all_append IsPartItem cs rs (inside_of 1 cs all_cs) (inside_of 2 rs all_rs)) (inside_of 3 ws all_ws);
     }
 
 -- Participants

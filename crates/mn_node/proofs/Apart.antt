@@ -13,6 +13,7 @@ use Rattle.mn_mini.specs.Mini.{has_write}
 use Rattle.mn_mini.specs.Node.{Clash, answer, after_compares, after_locks, clash_of, has_forced, has_voted, held_parts, is_held, space_of, with_added}
 use Rattle.mn_mini.specs.RecordGrammar.{IsRecord}
 use Rattle.mn_base.specs.declared.gate.StopAt.{StopAt}
+use Rattle.mn_base.proofs.Lists.{all_append}
 use Rattle.mn_io.specs.DiskModel.{DiskState}
 use Rattle.mn_redo.specs.Redo.{RedoState}
 use Rattle.mn_mini.specs.declared.reply.NodeReply.{NodeReply}
@@ -25,9 +26,8 @@ use Rattle.mn_node.proofs.Found.{first_sound}
 use Rattle.mn_node.proofs.Replies.{up_stands}
 use Rattle.mn_node.proofs.Steps.{same_stands}
 use Rattle.mn_mini.specs.Sound.{IsSoundRequest}
-use Rattle.mn_node.proofs.Built.{all-append}
 
-turned : (records : List Record) (o : Option Record) → reverse (added_to records o) ≡ with_added o (reverse records)
+pub turned : (records : List Record) (o : Option Record) → reverse (added_to records o) ≡ with_added o (reverse records)
 turned records None = refl
 turned records (Some r) = reverse-append records (r ∷ [])
 
@@ -74,7 +74,7 @@ added_sound base records Ask.List r sound e = absurd cc
 added_sound base records (Ask.Peek start size) r sound e = absurd cc
 
 pub left_sound : (records : List Record) (r : Record) → AllByRecursion IsRecord records → IsRecord r → AllByRecursion IsRecord (added_to records (Some r))
-left_sound records r p is = all-append IsRecord records (r ∷ []) p (is, tt)
+left_sound records r p is = all_append IsRecord records (r ∷ []) p (is, tt)
 
 -- Nodes
 

@@ -6,6 +6,7 @@ use Rattle.mn_base.specs.Ids.{tid_same}
 use Rattle.mn_base.specs.declared.ids.NodeNo.{NodeNo}
 use Rattle.mn_base.specs.declared.ids.Tid.{Tid}
 use Rattle.mn_base.specs.declared.ids.Range.{Range}
+use Rattle.mn_base.proofs.Lists.{all_append}
 use Rattle.mn_mini.specs.declared.part.PartItem.{PartItem}
 use Rattle.mn_mini.specs.declared.record.Record.{Record}
 use Rattle.mn_mini.specs.declared.record.Record.TheVariants.{Voted, Executed, Decided, Forced}
@@ -22,13 +23,9 @@ use Rattle.mn_node.proofs.Ties.{holds_by-cons}
 
 -- Lists
 
-pub all-append : {X : Type 0} (P : X → Type 0) (xs ys : List X) → AllByRecursion P xs → AllByRecursion P ys → AllByRecursion P (xs ++ ys)
-all-append P [] ys p q = q
-all-append P (x ∷ xs) ys p q = (p.0, all-append P xs ys p.1 q)
-
 pub all-reverse : {X : Type 0} (P : X → Type 0) (xs : List X) → AllByRecursion P xs → AllByRecursion P (reverse xs)
 all-reverse P [] p = tt
-all-reverse {X = X} P (x ∷ xs) p = subst (λ (l : List X). AllByRecursion P l) (sym (reverse-append (x ∷ []) xs)) (all-append P (reverse xs) (x ∷ []) (all-reverse P xs p.1) (p.0, tt))
+all-reverse {X = X} P (x ∷ xs) p = subst (λ (l : List X). AllByRecursion P l) (sym (reverse-append (x ∷ []) xs)) (all_append P (reverse xs) (x ∷ []) (all-reverse P xs p.1) (p.0, tt))
 
 pub newest : (records : List Record) (r : Record) → reverse (records ++ r ∷ []) ≡ r ∷ reverse records
 newest records r = reverse-append records (r ∷ [])
@@ -105,7 +102,7 @@ built_voted base records space holds forced tid ps part b is =
       size = b.size;
       holds_are = ap (λ (l : List Hold). l ++ part_holds h) b.holds_are ∙ sym (holds_by-cons h (held_parts (reverse records))) ∙ sym (ap (λ (l : List Record). holds_by (held_parts l)) turned);
       forced_are = λ t. b.forced_are t ∙ sym (ap (λ (l : List Record). has_forced l t) turned);
-      sound = all-append IsRecord records (Voted tid ps part ∷ []) b.sound (is, tt);
+      sound = all_append IsRecord records (Voted tid ps part ∷ []) b.sound (is, tt);
     }
 
 pub built_executed : (base : List ℕ) (records : List Record) (space new : List ℕ) (holds : List Hold) (forced : List Tid) (tid : Tid) (part : List PartItem)
@@ -117,7 +114,7 @@ built_executed base records space new holds forced tid part b is e size =
       size = size;
       holds_are = b.holds_are ∙ sym (ap (λ (l : List Record). holds_by (held_parts l)) turned);
       forced_are = λ t. b.forced_are t ∙ sym (ap (λ (l : List Record). has_forced l t) turned);
-      sound = all-append IsRecord records (Executed tid part ∷ []) b.sound (is, tt);
+      sound = all_append IsRecord records (Executed tid part ∷ []) b.sound (is, tt);
     }
 
 or_turned : (a b : Bool) → (a || (b || false)) ≡ (b || a)
@@ -144,7 +141,7 @@ built_forced base records space holds forced tid b is =
       size = b.size;
       holds_are = b.holds_are ∙ sym (ap (λ (l : List Record). holds_by (held_parts l)) turned);
       forced_are = λ t. among-append forced tid t ∙ ap (λ (x : Bool). tid_same tid t || x) (b.forced_are t) ∙ sym (ap (λ (l : List Record). has_forced l t) turned);
-      sound = all-append IsRecord records (Forced tid ∷ []) b.sound (is, tt);
+      sound = all_append IsRecord records (Forced tid ∷ []) b.sound (is, tt);
     }
 
 pub built_decided : (base : List ℕ) (records : List Record) (space new : List ℕ) (holds : List Hold) (forced : List Tid) (tid : Tid) (verdict : Bool)
@@ -158,7 +155,7 @@ built_decided base records space new holds forced tid verdict b is e size =
       size = size;
       holds_are = ap (λ (l : List Hold). without tid l) b.holds_are ∙ holds_without tid (held_parts (reverse records)) ∙ sym (ap (λ (l : List Record). holds_by (held_parts l)) turned);
       forced_are = λ t. b.forced_are t ∙ sym (ap (λ (l : List Record). has_forced l t) turned ∙ not_force t verdict);
-      sound = all-append IsRecord records (Decided tid verdict ∷ []) b.sound (is, tt);
+      sound = all_append IsRecord records (Decided tid verdict ∷ []) b.sound (is, tt);
     }
   where
     spaces : (v : Bool) → (if v then with_held (λ t. tid_same t tid) space (held_parts (reverse records)) else space) ≡ space_of base (Decided tid v ∷ reverse records)

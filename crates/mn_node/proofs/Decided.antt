@@ -1,10 +1,11 @@
 -- What a decision leaves of the held parts.
-use Rattle.std.proofs.Common.{ℕ, zero, suc, ◌+◌, ◌-◌, ◌<◌, ◌≤◌, length, get_or, take, drop, reverse, arith, ◌≡◌, Bool, true, false, ◌||◌, List, [], ◌∷◌, Option, Some, None, refl, ap, subst, sym, ◌∙◌, if◌then◌else◌}
+use Rattle.std.proofs.Common.{ℕ, zero, suc, ◌+◌, ◌-◌, ◌<◌, ◌≤◌, length, get_or, take, drop, reverse, arith, ◌≡◌, Bool, true, false, List, [], ◌∷◌, Option, Some, None, refl, ap, subst, sym, ◌∙◌, if◌then◌else◌}
 use Rattle.std.specs.List.{list_any}
 use Rattle.mn_base.specs.Ids.{tid_same}
 use Rattle.mn_base.specs.declared.ids.Tid.{Tid}
 use Rattle.std.proofs.lemmas.List.{take_more, reverse-append}
 use Rattle.mn_base.specs.declared.ids.NodeNo.{NodeNo}
+use Rattle.mn_base.proofs.Booleans.{or_split}
 use Rattle.mn_mini.specs.declared.part.PartItem.{PartItem}
 use Rattle.mn_mini.specs.declared.record.Record.{Record}
 use Rattle.mn_mini.specs.declared.record.Record.TheVariants.{Voted, Executed, Decided, Forced}
@@ -63,17 +64,13 @@ decided_last tid (Executed t part) rs e = absurd cc
 decided_last tid (Decided t verdict) rs e = ap (λ (u : Tid). held_part_of tid (without_tid u (held_parts rs))) (sym (tid_same-is tid t e)) ∙ decided_own tid (held_parts rs)
 decided_last tid (Forced t) rs e = absurd cc
 
-or_none : (a b : Bool) → (a || b) ≡ false → (a ≡ false) × (b ≡ false)
-or_none true b e = absurd cc
-or_none false b e = (refl, e)
-
 -- behind so many records none decides the id, so none of these does
 pub undecided_at : (tid : Tid) (records : List Record) (first number : ℕ) (r : Record) → list_any (is_decision_of tid) (drop first records) ≡ false → first ≤ number → number < length records
     → r ≡ get_or records number r → is_decision_of tid r ≡ false
 undecided_at tid [] first number r none from within is = absurd (omega (arith, within))
-undecided_at tid (x ∷ records) zero zero r none from within is = subst (λ (y : Record). is_decision_of tid y ≡ false) (sym is) (or_none (is_decision_of tid x) (list_any (is_decision_of tid) records) none).0
+undecided_at tid (x ∷ records) zero zero r none from within is = subst (λ (y : Record). is_decision_of tid y ≡ false) (sym is) (or_split (is_decision_of tid x) (list_any (is_decision_of tid) records) none).0
 undecided_at tid (x ∷ records) zero (suc number) r none from within is =
-    undecided_at tid records zero number r (or_none (is_decision_of tid x) (list_any (is_decision_of tid) records) none).1 (omega arith) (omega (arith, within)) is
+    undecided_at tid records zero number r (or_split (is_decision_of tid x) (list_any (is_decision_of tid) records) none).1 (omega arith) (omega (arith, within)) is
 undecided_at tid (x ∷ records) (suc first) zero r none from within is = absurd (omega (arith, from))
 undecided_at tid (x ∷ records) (suc first) (suc number) r none from within is = undecided_at tid records first number r none (omega (arith, from)) (omega (arith, within)) is
 

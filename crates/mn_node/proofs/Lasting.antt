@@ -12,6 +12,7 @@ use Rattle.mn_mini.specs.declared.record.Record.TheVariants.{Voted, Executed, De
 use Rattle.mn_mini.specs.Laws.{AreApart}
 use Rattle.mn_mini.specs.Mini.{item_conflicts_with, parts_conflict}
 use Rattle.mn_base.specs.Ranges.{least_tid}
+use Rattle.mn_base.proofs.Booleans.{or_split}
 use Rattle.mn_mini.specs.Node.{HeldPart, held_parts, without_tid, holders, clash_of, clash_or}
 use Rattle.mn_mini.specs.RecordGrammar.{IsRecord, IsPart}
 use Rattle.mn_locks.specs.declared.hold.Hold.{Hold}
@@ -120,10 +121,6 @@ held_is records = sym (reverse-reverse (held_parts (reverse records))) ∙ sym (
 
 -- A part that stands apart from others is free of them
 
-or_none : (a b : Bool) → (a || b) ≡ false → (a ≡ false) × (b ≡ false)
-or_none true b e = absurd cc
-or_none false b e = (refl, e)
-
 abbrev IsApartFrom : Tid → List PartItem → HeldPart → Type 0
 IsApartFrom tid part g = tid_same g.tid tid ≡ false → parts_conflict part g.part ≡ false
 
@@ -134,8 +131,8 @@ first_item : (tid : Tid) (item : PartItem) (part : List PartItem) (hs : List Hel
 first_item tid item part [] p = (tt, tt)
 first_item tid item part (h ∷ hs) p =
     let rest = first_item tid item part hs p.1 in (
-      (λ other. (or_none (item_conflicts_with item h.part) (parts_conflict part h.part) (p.0 other)).0, rest.0),
-      (λ other. (or_none (item_conflicts_with item h.part) (parts_conflict part h.part) (p.0 other)).1, rest.1),
+      (λ other. (or_split (item_conflicts_with item h.part) (parts_conflict part h.part) (p.0 other)).0, rest.0),
+      (λ other. (or_split (item_conflicts_with item h.part) (parts_conflict part h.part) (p.0 other)).1, rest.1),
     )
 
 no_holders : (tid : Tid) (item : PartItem) (hs : List HeldPart) → AllByRecursion (IsItemApart tid item) hs → holders hs tid item ≡ []

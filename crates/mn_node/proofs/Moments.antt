@@ -1,6 +1,7 @@
 -- What a crash leaves at the moments of a call.
 use Rattle.std.proofs.Common.{◌≡◌, ◌++◌, ◌∷◌, [], ◌∙◌, inl, inr, ⊎_elim, ℕ, Bool, List, Option, Some, None, true, false, refl, ap, sym, subst, arith}
 use Rattle.mn_io.specs.DiskModel.{DiskState, IsDisk, LeavesOnly, NoneNew, Stays, WritesNothing}
+use Rattle.mn_io.proofs.Moments.{LeavesOnly-trans, LeavesOnly-weaker}
 use Rattle.mn_redo.specs.Grammar.{IsBeforeOrAfter, Stands}
 use Rattle.mn_redo.specs.Redo.{RedoState, StandsFor}
 use Rattle.mn_mini.specs.declared.record.Record.{Record}
@@ -13,20 +14,6 @@ use Rattle.mn_node.specs.Restart.{IsListed}
 use Rattle.mn_node.specs.State.{response_to}
 use Rattle.mn_node.proofs.Replies.{same_answer, seen, up_stands}
 use Rattle.mn_node.proofs.Steps.{one_body_more}
-
-pub only_weaker : (old new : DiskState) (P Q : List ℕ → Type 0) → ((c : List ℕ) → P c → Q c) → LeavesOnly old new P → LeavesOnly old new Q
-only_weaker old new P Q f h = record {
-  later = h.later;
-  each = λ c left. f c (h.each c left);
-  before = λ t c le left. ⊎_elim (λ was. inl was) (λ now. inr (f c now)) (h.before t c le left);
-}
-
-pub only_trans : (old mid new : DiskState) (P : List ℕ → Type 0) → LeavesOnly old mid P → LeavesOnly mid new P → LeavesOnly old new P
-only_trans old mid new P first second = record {
-  later = omega (arith, first.later, second.later);
-  each = λ c left. ⊎_elim (λ was. first.each c was) (λ now. now) (second.before old.moment c first.later left);
-  before = λ t c le left. ⊎_elim (λ was. first.before t c le was) (λ now. inr now) (second.before t c (omega (arith, le, first.later)) left);
-}
 
 pub only_rests : (old new : DiskState) (P : List ℕ → Type 0) → IsDisk old → ((c : List ℕ) → old.images c → P c) → Stays old new → LeavesOnly old new P
 only_rests old new P is_disk all stays = record {
@@ -45,7 +32,7 @@ only_same old P is_disk all = record {
 
 pub at_weaker : {D : Type 0} (state : D → DiskState) (old new : D) (P Q : List ℕ → Type 0) → ((c : List ℕ) → P c → Q c) → LeavesAt state old new P → LeavesAt state old new Q
 at_weaker state old new P Q f (inl same) = inl same
-at_weaker state old new P Q f (inr told) = inr (λ h. only_weaker (state old) (state new) P Q f (told h))
+at_weaker state old new P Q f (inr told) = inr (λ h. LeavesOnly-weaker (state old) (state new) P Q f (told h))
 
 pub at_rests : {D : Type 0} (state : D → DiskState) (old new : D) (P : List ℕ → Type 0) → ((state old).honest → IsDisk (state old)) → ((state old).honest → (c : List ℕ) → (state old).images c → P c) → RestsAt state old new → LeavesAt state old new P
 at_rests state old new P is_disk all (inl same) = inl same
@@ -54,7 +41,7 @@ at_rests state old new P is_disk all (inr stays) = inr (λ h. only_rests (state 
 pub at_then : {D : Type 0} (state : D → DiskState) (old mid new : D) (P : List ℕ → Type 0) → ((state old).honest → (state mid).honest) → LeavesAt state old mid P → LeavesAt state mid new P → LeavesAt state old new P
 at_then state old mid new P goes (inl e) second = subst (λ (d : _). LeavesAt state d new P) e second
 at_then state old mid new P goes (inr first) (inl e) = inr (λ h. subst (λ (d : _). LeavesOnly (state old) (state d) P) (sym e) (first h))
-at_then state old mid new P goes (inr first) (inr second) = inr (λ h. only_trans (state old) (state mid) (state new) P (first h) (second (goes h)))
+at_then state old mid new P goes (inr first) (inr second) = inr (λ h. LeavesOnly-trans (state old) (state mid) (state new) P (first h) (second (goes h)))
 
 pub up_images : {D : Type 0} (state : D → DiskState) (redo : RedoState D) (m : Memory) (added : Option Record) → IsUp state redo m → (state redo.disk).honest → (c : List ℕ) → (state redo.disk).images c → IsWithOrWithout redo.node redo.nodes m.records.items added c
 up_images state redo m added up h c image = inl (up_stands state redo m up h c image)
@@ -113,8 +100,8 @@ stands_moved node node2 nodes nodes2 bodies bodies2 e f g c told =
 pub start_moments : {D : Type 0} (state : D → DiskState) (old mid : RedoState D) (new : D) → IsDisk (state old.disk) → mid.node ≡ old.node → mid.nodes ≡ old.nodes → mid.bodies ≡ old.bodies → Stays (state old.disk) (state mid.disk)
     → StandsFor (state old.disk) old.node old.nodes old.bodies → LeavesOnly (state mid.disk) (state new) (λ c. Stands mid.node mid.nodes c mid.bodies) → LeavesOnly (state old.disk) (state new) (λ c. Stands old.node old.nodes c old.bodies)
 start_moments state old mid new is_disk e f g stays stands told =
-    only_trans (state old.disk) (state mid.disk) (state new) (λ c. Stands old.node old.nodes c old.bodies) (only_rests (state old.disk) (state mid.disk) (λ c. Stands old.node old.nodes c old.bodies) is_disk stands stays)
-    (only_weaker (state mid.disk) (state new) (λ c. Stands mid.node mid.nodes c mid.bodies) (λ c. Stands old.node old.nodes c old.bodies) (stands_moved mid.node old.node mid.nodes old.nodes mid.bodies old.bodies e f g) told)
+    LeavesOnly-trans (state old.disk) (state mid.disk) (state new) (λ c. Stands old.node old.nodes c old.bodies) (only_rests (state old.disk) (state mid.disk) (λ c. Stands old.node old.nodes c old.bodies) is_disk stands stays)
+    (LeavesOnly-weaker (state mid.disk) (state new) (λ c. Stands mid.node mid.nodes c mid.bodies) (λ c. Stands old.node old.nodes c old.bodies) (stands_moved mid.node old.node mid.nodes old.nodes mid.bodies old.bodies e f g) told)
 
 pub listed_stands : (node nodes : ℕ) (bodies : List (List ℕ)) (records : List Record) (pending : Option Record) (there : Bool) → IsListed bodies records pending there → (c : List ℕ) → Stands node nodes c bodies → IsWithOrWithout node nodes records pending c
 listed_stands node nodes bodies records pending false e c told = inl (subst (λ (l : List (List ℕ)). Stands node nodes c l) e told)
@@ -123,22 +110,22 @@ listed_stands node nodes bodies records (Some r) true e c told = inr (subst (λ 
 
 pub reopened : {D : Type 0} (state : D → DiskState) (old : RedoState D) (mid : D) (records : List Record) (pending : Option Record) → StandsWithOrWithout (state old.disk) old.node old.nodes records pending → LeavesOnly (state old.disk) (state mid) (state old.disk).images
     → LeavesOnly (state old.disk) (state mid) (IsWithOrWithout old.node old.nodes records pending)
-reopened state old mid records pending stands told = only_weaker (state old.disk) (state mid) (state old.disk).images (IsWithOrWithout old.node old.nodes records pending) stands told
+reopened state old mid records pending stands told = LeavesOnly-weaker (state old.disk) (state mid) (state old.disk).images (IsWithOrWithout old.node old.nodes records pending) stands told
 
 pub woken : {D : Type 0} (state : D → DiskState) (old mid : RedoState D) (new : D) (records : List Record) (pending : Option Record) (there : Bool) → mid.node ≡ old.node → mid.nodes ≡ old.nodes → IsListed mid.bodies records pending there
     → StandsWithOrWithout (state old.disk) old.node old.nodes records pending → LeavesOnly (state old.disk) (state mid.disk) (state old.disk).images → LeavesOnly (state mid.disk) (state new) (λ c. Stands mid.node mid.nodes c mid.bodies)
     → LeavesOnly (state old.disk) (state new) (IsWithOrWithout old.node old.nodes records pending)
 woken state old mid new records pending there e f listed stands first second =
     let P = IsWithOrWithout old.node old.nodes records pending in
-    only_trans (state old.disk) (state mid.disk) (state new) P (reopened state old mid.disk records pending stands first)
-    (only_weaker (state mid.disk) (state new) (λ c. Stands mid.node mid.nodes c mid.bodies) P
+    LeavesOnly-trans (state old.disk) (state mid.disk) (state new) P (reopened state old mid.disk records pending stands first)
+    (LeavesOnly-weaker (state mid.disk) (state new) (λ c. Stands mid.node mid.nodes c mid.bodies) P
     (λ c told. moved mid.node old.node mid.nodes old.nodes records records pending e f refl c (listed_stands mid.node mid.nodes mid.bodies records pending there listed c told)) second)
 
 -- where nothing was written, and then nothing has changed
 pub writes_nothing : (old mid new : DiskState) → IsDisk mid → WritesNothing old mid → NoneNew old mid → Stays mid new
     → WritesNothing old new
 writes_nothing old mid new is_disk first images stays =
-    only_trans old mid new old.images first (only_rests mid new old.images is_disk images stays)
+    LeavesOnly-trans old mid new old.images first (only_rests mid new old.images is_disk images stays)
 
 pub none_new : (old mid new : DiskState) → NoneNew old mid → Stays mid new → NoneNew old new
 none_new old mid new images stays = λ c image. images c (stays.images c image)

@@ -2,6 +2,7 @@
 use Rattle.std.proofs.Common.{◌≡◌, ◌<◌, ◌+◌, ℕ, Bool, false, List, [], ◌∷◌, ◌++◌, length, take, get_or, reverse, Option, refl, ap, sym, ◌∙◌, subst}
 use Rattle.std.proofs.lemmas.List.{take_more, map-append}
 use Rattle.mn_base.specs.declared.gate.StopAt.{StopAt}
+use Rattle.mn_base.proofs.Lists.{all_append}
 use Rattle.mn_io.specs.DiskModel.{DiskState}
 use Rattle.mn_redo.specs.Redo.{RedoState, StandsFor}
 use Rattle.mn_redo.specs.declared.redo.Phase.{Phase}
@@ -16,7 +17,6 @@ use Rattle.mn_node.specs.declared.memory.Memory.{Memory}
 use Rattle.mn_page.specs.Base.{base_of}
 use Rattle.mn_node.specs.Node.{IsUp, IsUnasked, Replies, bodies_of, added_to, node_answer}
 use Rattle.mn_node.specs.State.{NodeState, Answers, AreRecords, StandsForRecords, response_to}
-use Rattle.mn_node.proofs.Built.{all-append}
 
 abbrev pub seen : {D : Type 0} → RedoState D → Memory → Bool → Option Record → NodeState D
 seen redo m down pending = record { disk = redo.disk; node = redo.node; nodes = redo.nodes; records = m.records.items; down = down; pending = pending }
@@ -70,7 +70,7 @@ one_read bodies n records r body are less is spells = record {
   bodies_are =
       take_more bodies n [] less ∙ ap (λ (l : List (List ℕ)). l ++ get_or bodies n [] ∷ []) are.bodies_are ∙ ap (λ (b : List ℕ). bodies_of records ++ b ∷ []) (sym is ∙ spells.spelled)
       ∙ sym (map-append record_bytes records (r ∷ []));
-  sound = all-append IsRecord records (r ∷ []) are.sound (spells.may, tt);
+  sound = all_append IsRecord records (r ∷ []) are.sound (spells.may, tt);
 }
 
 -- what a disk stands for when it is handed back

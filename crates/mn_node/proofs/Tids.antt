@@ -1,16 +1,11 @@
 -- Ids: sameness is equality, and their order is total.
-use Rattle.std.proofs.Common.{◌≡◌, ℕ, true, false, ◌&&◌, ap, ◌∙◌, arith}
+use Rattle.std.proofs.Common.{◌≡◌, true, false, ◌&&◌, arith}
 use Rattle.std.specs.Prelude.{nat_eq}
 use Rattle.std.proofs.lemmas.Bool.{and_parts, eqb-true}
 use Rattle.std.proofs.lemmas.Bool.Decides.{nat_tests}
 use Rattle.mn_base.specs.Ids.{tid_same, tid_lt, client_same}
 use Rattle.mn_base.specs.declared.ids.Tid.{Tid}
-
-pub same_tid : (t u : Tid) → t.run ≡ u.run → t.client.0 ≡ u.client.0 → t.serial ≡ u.serial → t ≡ u
-same_tid t u e f g =
-    let run : t ≡ record { run = u.run; client = t.client; serial = t.serial } = ap (λ (n : ℕ). let made : Tid = record { run = n; client = t.client; serial = t.serial } in made) e in
-    let client : record { run = u.run; client = t.client; serial = t.serial } ≡ (let made : Tid = record { run = u.run; client = u.client; serial = t.serial } in made) = ap (λ (n : ℕ). let made : Tid = record { run = u.run; client = record { 0 = n }; serial = t.serial } in made) f in
-    run ∙ client ∙ ap (λ (n : ℕ). let made : Tid = record { run = u.run; client = u.client; serial = n } in made) g
+use Rattle.mn_mini.proofs.RecordGrammar.{same_tid}
 
 pub tid_same-is : (a b : Tid) → tid_same a b ≡ true → a ≡ b
 tid_same-is a b e =

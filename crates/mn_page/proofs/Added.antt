@@ -23,9 +23,11 @@ use Rattle.mn_page.proofs.Ancestors.{serves_made, is_own_ancestor}
 use Rattle.mn_page.proofs.Counted.{same_addr}
 use Rattle.mn_base.proofs.Lists.{weaker}
 use Rattle.mn_base.proofs.VersionTree.{longer}
+use Rattle.mn_base.proofs.Booleans.{clash}
 use Rattle.mn_page.proofs.Descent.{old_ancestor, new_ancestor, old_serves, new_serves, marked_old, marked_new, copy_old, copy_new, with_new_all}
+use Rattle.mn_page.proofs.Copy.{page_same}
 
-addr_cases : (a b : Addr) → (a ≡ b) ⊎ (a ≡ b → ⊥)
+pub addr_cases : (a b : Addr) → (a ≡ b) ⊎ (a ≡ b → ⊥)
 addr_cases a b = elim (cases_eq a.node.0 b.node.0) as (λ _. (a ≡ b) ⊎ (a ≡ b → ⊥)) [
   | inl e ↦ elim (cases_eq a.slot b.slot) as (λ _. (a ≡ b) ⊎ (a ≡ b → ⊥)) [
     | inl f ↦ inl (same_addr a b (e, f))
@@ -34,17 +36,11 @@ addr_cases a b = elim (cases_eq a.node.0 b.node.0) as (λ _. (a ≡ b) ⊎ (a �
   | inr e ↦ inr (λ same. e (ap (λ (x : Addr). x.node.0) same))
 ]
 
-page_same : (p q : Page) → Some p ≡ Some q → p ≡ q
-page_same p q e = cc
-
 nothing : (p : Page) → ◌≡◌ {A = Option Page} None (Some p) → ⊥
 nothing p e = cc
 
-clash : (b : Bool) → b ≡ true → b ≡ false → ⊥
-clash b e f = absurd cc
-
 -- no fences cover every key
-covers_all : (key : List ℕ) → covers_key [] None key ≡ true
+pub covers_all : (key : List ℕ) → covers_key [] None key ≡ true
 covers_all [] = refl
 covers_all (k ∷ key) = refl
 

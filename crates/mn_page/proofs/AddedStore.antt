@@ -18,9 +18,9 @@ use Rattle.mn_page.specs.Forest.{heads_in, entry_head}
 use Rattle.mn_page.specs.Holds.{PagesAt, page_covers, page_serves, pairs_in, IsTree, ShowsStore}
 use Rattle.mn_page.specs.Added.{Addition, MayBeAdded, HasCopy, frozen_entry, child_entry, after_snapshot, after_branch, SnapshotIsShown, BranchIsShown}
 use Rattle.mn_page.proofs.Alike.{all-set}
-use Rattle.mn_page.proofs.Grid.{all_append, all_at_place}
+use Rattle.mn_page.proofs.Grid.{all_at_place}
 use Rattle.mn_base.proofs.Named.{NamedVersion, named}
-use Rattle.mn_base.proofs.Lists.{set_at, set_beside, set_same, before_last, last_at}
+use Rattle.mn_base.proofs.Lists.{set_at, set_beside, set_same, before_last, last_at, all_append}
 use Rattle.mn_base.proofs.VersionTree.{child_head, heads_after, child_admitted, parents_after, tree_after}
 use Rattle.mn_base.proofs.AddedVersion.{shut, kid_of, stored, version_same, head_same, frozen_is, child_is, writable, frozen, frozen_still}
 use Rattle.mn_page.proofs.Added.{Longer, before, is_copy, is_old, for_new, root_serves, added_tree}

@@ -11,6 +11,7 @@ use Rattle.mn_base.specs.Store.{Head, Store, StoreVersion, heads_of, is_ascendin
 use Rattle.mn_base.specs.Tree.{serves, parents_of, is_ancestor, versions_in}
 use Rattle.mn_base.specs.declared.ids.Addr.{Addr}
 use Rattle.mn_base.specs.declared.reply.Pair.{Pair}
+use Rattle.mn_base.proofs.Lists.{set_at, weaker}
 use Rattle.mn_page.specs.declared.page.Page.{Page}
 use Rattle.mn_page.specs.declared.entry.CatEntry.{CatEntry}
 use Rattle.mn_page.specs.Grammar.{IsPage, height_of}
@@ -41,7 +42,7 @@ pub record Replaced (f : Forest) (addr : Addr) (p q : Page) (n s : ℕ) (old new
   pub alike : Alike old new
   pub here : ((addr.node.0 ≡ n) × (addr.slot ≡ s) × (old ≡ p) × (new ≡ q)) ⊎ ((addr.node.0 ≡ n → addr.slot ≡ s → ⊥) × (new ≡ old))
 
-same_place : (a b c d : ℕ) → ((a ≡ b) × (c ≡ d)) ⊎ (a ≡ b → c ≡ d → ⊥)
+pub same_place : (a b c d : ℕ) → ((a ≡ b) × (c ≡ d)) ⊎ (a ≡ b → c ≡ d → ⊥)
 same_place a b c d =
     elim (cases_eq a b) as (λ _. ((a ≡ b) × (c ≡ d)) ⊎ (a ≡ b → c ≡ d → ⊥)) [
       | inl e ↦ elim (cases_eq c d) as (λ _. ((a ≡ b) × (c ≡ d)) ⊎ (a ≡ b → c ≡ d → ⊥)) [
@@ -93,10 +94,6 @@ on_path_alike f p q alike v height key =
     ap (λ b. b && page_covers key q) (at_height_alike f p q alike v height) ∙ ap (λ b. (serves_in f v p && nat_eq (height_of p.body) height) && b) (covers_alike p q alike key)
 
 -- The forest stays one
-
-weaker : {X : Type 0} (P Q : X → Type 0) → ((x : X) → P x → Q x) → (xs : List X) → AllByRecursion P xs → AllByRecursion Q xs
-weaker P Q more [] all = tt
-weaker P Q more (x ∷ xs) all = (more x all.0, weaker P Q more xs all.1)
 
 pub root_stays : (f : Forest) (addr : Addr) (p q : Page) → page_at f addr ≡ Some p → Alike p q → (v : ℕ) (root : Page) → root_in f v ≡ Some root
     → (new : Page) × (root_in (with_page f addr q) v ≡ Some new) × Alike root new
@@ -190,11 +187,6 @@ all-set P [] i y all new = tt
 all-set P (x ∷ xs) zero y all new = (new, all.1)
 all-set P (x ∷ xs) (suc i) y all new = (all.0, all-set P xs i y all.1 new)
 
-pub get-set_same : {X : Type 0} (xs : List X) (i : ℕ) (x y : X) → slice_get xs i ≡ Some x → slice_get (slice_set xs i y) i ≡ Some y
-get-set_same [] i x y e = absurd cc
-get-set_same (z ∷ xs) zero x y e = refl
-get-set_same (z ∷ xs) (suc i) x y e = get-set_same xs i x y e
-
 pub get-set_other : {X : Type 0} (xs : List X) (i j : ℕ) (y : X) → (i ≡ j → ⊥) → slice_get (slice_set xs i y) j ≡ slice_get xs j
 get-set_other [] i j y apart = refl
 get-set_other (z ∷ xs) zero zero y apart = absurd (apart refl)
@@ -239,7 +231,7 @@ shows_change f store addr p q v version ps sound shown change = record {
               let serves_p : serves_in f w p ≡ true = sym (serves_alike f p q change.alike w) ∙ (ap (serves_in f w) (sym e.3) ∙ (and_parts _ _ pass).0) in
               let is_v : w ≡ v = change.alone w serves_p in
               let at_v : slice_get (slice_set store v (re_paired version ps)) v ≡ Some other = subst (λ k. slice_get (slice_set store v (re_paired version ps)) k ≡ Some other) is_v at in
-              let set : slice_get (slice_set store v (re_paired version ps)) v ≡ Some (re_paired version ps) = get-set_same store v version (re_paired version ps) change.at in
+              let set : slice_get (slice_set store v (re_paired version ps)) v ≡ Some (re_paired version ps) = set_at store v version (re_paired version ps) change.at in
               let same : (re_paired version ps) ≡ other = cc in
               subst (λ (x : Page). filter (λ pair. page_covers pair.key x) other.pairs ≡ pairs_in x.body) (sym e.3)
               (subst (λ (x : StoreVersion). filter (λ pair. page_covers pair.key q) x.pairs ≡ pairs_in q.body) same (same_range ps ∙ change.here))
@@ -259,7 +251,7 @@ shows_change f store addr p q v version ps sound shown change = record {
             elim (cases_eq v w) as (λ _. filter (λ pair. page_covers pair.key r) other.pairs ≡ pairs_in r.body) [
               | inl is ↦
                   let at_v : slice_get (slice_set store v (re_paired version ps)) v ≡ Some other = subst (λ k. slice_get (slice_set store v (re_paired version ps)) k ≡ Some other) (sym is) at in
-                  let set : slice_get (slice_set store v (re_paired version ps)) v ≡ Some (re_paired version ps) = get-set_same store v version (re_paired version ps) change.at in
+                  let set : slice_get (slice_set store v (re_paired version ps)) v ≡ Some (re_paired version ps) = set_at store v version (re_paired version ps) change.at in
                   let same : (re_paired version ps) ≡ other = cc in
                   let pass_v : (serves_in f v r && nat_eq (height_of r.body) 0) ≡ true = subst (λ k. (serves_in f k r && nat_eq (height_of r.body) 0) ≡ true) (sym is) pass in
                   let parts = and_parts _ _ pass_v in

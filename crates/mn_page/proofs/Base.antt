@@ -1,23 +1,18 @@
 -- The space of one fresh node holds the empty store.
-use Rattle.std.proofs.Common.{◌≡◌, ℕ, zero, suc, ◌+◌, ◌<◌, ◌≤◌, Bool, true, false, List, [], ◌∷◌, Some, None, refl, subst, sym, ap, arith, lit<, lit≤, slice_get}
-use Rattle.std.specs.Prelude.{count_by, IsTrue}
+use Rattle.std.proofs.Common.{◌≡◌, ℕ, zero, suc, ◌+◌, ◌<◌, ◌≤◌, Bool, false, List, [], ◌∷◌, Some, None, refl, subst, sym, ap, arith, lit<, lit≤, slice_get}
+use Rattle.std.specs.Prelude.{count_by}
 use Rattle.std.specs.List.{AllByRecursion}
 use Rattle.std.proofs.lemmas.Bool.Decides.{nat_tests}
-use Rattle.mn_base.specs.Order.{covers_key}
 use Rattle.mn_base.specs.Store.{StoreVersion, Head, empty_store}
 use Rattle.mn_base.specs.Tree.{IsVersionTree}
 use Rattle.mn_page.specs.Grammar.{IsPage}
 use Rattle.mn_page.specs.Forest.{Forest, base_forest, empty_leaf, memory_of}
 use Rattle.mn_page.specs.Holds.{Holds, page_covers}
 use Rattle.mn_page.proofs.Counted.{forest, shows, IsCounted, IsRootIn, forest_heads, height_in, serving_pages}
+use Rattle.mn_page.proofs.Added.{covers_all}
 
 abbrev f : Forest
 f = base_forest 1
-
--- every key lies in the leaf with no fences
-all_covered : (key : List ℕ) → covers_key [] None key ≡ true
-all_covered [] = refl
-all_covered (b ∷ key) = refl
 
 leaf_is_page : IsPage empty_leaf
 leaf_is_page = record {
@@ -40,8 +35,8 @@ abbrev at_zero : (P : ℕ → Type 0) → P 0 → (v : ℕ) → v ≤ 0 → P v
 at_zero P p zero h = p
 at_zero P p (suc v) h = absurd (omega arith)
 
-one_cover : (key : List ℕ) → count_by (page_covers key) (empty_leaf ∷ []) ≡ 1
-one_cover key = ap (λ (b : Bool). 0 + Rattle.std.specs.Prelude.cond b 1 0) (all_covered key)
+pub one_cover : (key : List ℕ) → count_by (page_covers key) (empty_leaf ∷ []) ≡ 1
+one_cover key = ap (λ (b : Bool). 0 + Rattle.std.specs.Prelude.cond b 1 0) (covers_all key)
 
 not_zero : (n : ℕ) → 0 < n → Rattle.std.specs.Prelude.nat_eq 0 n ≡ false
 not_zero n h = grind (arith, nat_tests)

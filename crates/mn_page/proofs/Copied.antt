@@ -10,11 +10,11 @@ use Rattle.mn_page.specs.Overlay.{next_number}
 use Rattle.mn_page.specs.Copies.{CopiesArePages, marked_for}
 use Rattle.mn_page.proofs.Descent.{with_new_all}
 
-all_as_list : (t : ℕ → Bool) (ws : List ℕ) → AllByRecursion (λ w. t w ≡ true) ws → list_all t ws ≡ true
+pub all_as_list : (t : ℕ → Bool) (ws : List ℕ) → AllByRecursion (λ w. t w ≡ true) ws → list_all t ws ≡ true
 all_as_list t [] all = refl
 all_as_list t (w ∷ ws) all = and_from (t w) (list_all t ws) all.0 (all_as_list t ws all.1)
 
-list_as_all : (t : ℕ → Bool) (ws : List ℕ) → list_all t ws ≡ true → AllByRecursion (λ w. t w ≡ true) ws
+pub list_as_all : (t : ℕ → Bool) (ws : List ℕ) → list_all t ws ≡ true → AllByRecursion (λ w. t w ≡ true) ws
 list_as_all t [] e = tt
 list_as_all t (w ∷ ws) e = let parts = and_parts (t w) (list_all t ws) e in (parts.0, list_as_all t ws parts.1)
 

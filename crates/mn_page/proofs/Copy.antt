@@ -26,7 +26,9 @@ use Rattle.mn_page.specs.Holds.{page_covers, pairs_in}
 use Rattle.mn_page.proofs.Grid.{get_in, set_in, add_in, get_in-set_same, get_in-set_other, get_in-add_old, get_in-add_new, get_in-add_cases, count-set, count-add, lengths-set_in, lengths-add_in, all_by_places, all_at_places, all_filter, all_of_filter}
 use Rattle.mn_page.proofs.Ancestors.{alone, is_own_ancestor, serves_alone, serves_own}
 use Rattle.mn_base.proofs.Keys.{not_below, turned}
+use Rattle.mn_base.proofs.Lists.{all_both, range_at, weaker}
 use Rattle.mn_page.proofs.Counted.{IsChildIn, IsCounted, IsPageIn, IsRootIn, ListsStore, all_pages, forest_heads, height_in, is_on_path, is_on_path_from, on_path_count, one_on_path, root_in, serves_in, serving_pages}
+use Rattle.mn_page.proofs.Alike.{same_place}
 
 -- A set with one more version
 
@@ -67,11 +69,6 @@ all_joined P new old v joins one (w ∷ ws) all = subst (λ b. AllByRecursion P 
     cases true b e all more = (all.0, more all.1)
     cases false true e all more = (subst P (sym (eqb-true w v e)) one, more all)
     cases false false e all more = more all
-
-pub range_at : (a n i : ℕ) → i < n → slice_get (range_with_len a n) i ≡ Some (a + i)
-range_at a zero i in' = absurd (omega arith)
-range_at a (suc n) zero in' = let e : a ≡ a + 0 = omega arith in ap Some e
-range_at a (suc n) (suc i) in' = let e : a + 1 + i ≡ a + suc i = omega arith in range_at (a + 1) n i (omega arith) ∙ ap Some e
 
 -- Children with another address
 
@@ -203,17 +200,7 @@ pub data Where (c : Copy) (n m : ℕ) (y : Page) : Type 0 where
   at_new : y ≡ copy_of c → Where c n m y
   kept : (c.at.node.0 ≡ n → c.at.slot ≡ m → ⊥) → (c.parent.node.0 ≡ n → c.parent.slot ≡ m → ⊥) → get_in c.forest.pages n m ≡ Some y → Where c n m y
 
-same_place : (a b c d : ℕ) → ((a ≡ b) × (c ≡ d)) ⊎ (a ≡ b → c ≡ d → ⊥)
-same_place a b c d =
-    elim (cases_eq a b) as (λ _. ((a ≡ b) × (c ≡ d)) ⊎ (a ≡ b → c ≡ d → ⊥)) [
-      | inl e ↦ elim (cases_eq c d) as (λ _. ((a ≡ b) × (c ≡ d)) ⊎ (a ≡ b → c ≡ d → ⊥)) [
-        | inl f ↦ inl (e, f)
-        | inr f ↦ inr (λ _ g. f g)
-      ]
-      | inr e ↦ inr (λ g _. e g)
-    ]
-
-page_same : (a b : Page) → Some a ≡ Some b → a ≡ b
+pub page_same : (a b : Page) → Some a ≡ Some b → a ≡ b
 page_same a b e = cc
 
 moved_to : (xss : List (List Page)) (a b n m : ℕ) (x : Page) → a ≡ n → b ≡ m → get_in xss a b ≡ Some x → get_in xss n m ≡ Some x
@@ -395,10 +382,6 @@ only_parent c h can n m y was off_parent serves_y high covers =
         subst (λ k. serves (parents_of (forest_heads c.forest)) c.par.made.0 c.par.copied k ≡ true) made
         (serves_own (forest_heads c.forest) can.sound.tree c.par.made.0 c.par.copied (length c.forest.entries) h (ap (slice_get (forest_heads c.forest)) made ∙ can.head_at) can.writable of.copied of.page.copied_above)
 
-two_all : {X : Type 0} (P Q R : X → Type 0) → ((x : X) → P x → Q x → R x) → (xs : List X) → AllByRecursion P xs → AllByRecursion Q xs → AllByRecursion R xs
-two_all P Q R both [] p q = tt
-two_all P Q R both (x ∷ xs) p q = (both x p.0 q.0, two_all P Q R both xs p.1 q.1)
-
 -- a child of a page that stays
 child_kept : (c : Copy) (h : Head) → CanCopy c h → (n m : ℕ) (y : Page) → get_in c.forest.pages n m ≡ Some y → (c.parent.node.0 ≡ n → c.parent.slot ≡ m → ⊥) → (r : ChildRange) → IsChildIn c.forest y r → Within y.low y.high r → IsChildIn (copied_forest c) y r
 child_kept c h can n m y was off_parent r is within =
@@ -497,10 +480,6 @@ all_mapped : {X Y : Type 0} (P : X → Type 0) (Q : Y → Type 0) (g : X → Y) 
 all_mapped P Q g more [] all = tt
 all_mapped P Q g more (x ∷ xs) all = (more x all.0, all_mapped P Q g more xs all.1)
 
-each : {X : Type 0} (P Q : X → Type 0) → ((x : X) → P x → Q x) → (xs : List X) → AllByRecursion P xs → AllByRecursion Q xs
-each P Q more [] all = tt
-each P Q more (x ∷ xs) all = (more x all.0, each P Q more xs all.1)
-
 and_assoc : (a b c : Bool) → ((a && b) && c) ≡ (a && (b && c))
 and_assoc true b c = refl
 and_assoc false b c = refl
@@ -570,15 +549,15 @@ copy_is_forest c h can = record {
     children : (n m : ℕ) (y : Page) → get_in (copied_forest c).pages n m ≡ Some y → AllByRecursion (IsChildIn (copied_forest c) y) (children_of y)
     children n m y now = elim (where_is c h can n m y now) as (λ _. AllByRecursion (IsChildIn (copied_forest c) y) (children_of y)) [
       | at_old _ _ is ↦ subst (λ (x : Page). AllByRecursion (IsChildIn (copied_forest c) x) (children_of x)) (sym is)
-          (each (IsChildIn c.forest c.old) (IsChildIn (copied_forest c) (old_now c)) (child_shared c h can (old_now c) refl (old_less c h can)) (children_of c.old) (children_was c.at.node.0 c.at.slot c.old can.old_there))
+          (weaker (IsChildIn c.forest c.old) (IsChildIn (copied_forest c) (old_now c)) (child_shared c h can (old_now c) refl (old_less c h can)) (children_of c.old) (children_was c.at.node.0 c.at.slot c.old can.old_there))
       | at_par _ _ is ↦ subst (λ (x : Page). AllByRecursion (IsChildIn (copied_forest c) x) (children_of x)) (sym is)
           (subst (AllByRecursion (IsChildIn (copied_forest c) (par_now c))) (sym (children_moved c.at c.new c.par.low c.par.high c.par.body))
           (all_mapped (IsChildIn c.forest c.par) (IsChildIn (copied_forest c) (par_now c)) (range_moved c.at c.new) (child_of_parent c h can) (children_of c.par) (children_was c.parent.node.0 c.parent.slot c.par can.par_there)))
       | at_new is ↦ subst (λ (x : Page). AllByRecursion (IsChildIn (copied_forest c) x) (children_of x)) (sym is)
-          (each (IsChildIn c.forest c.old) (IsChildIn (copied_forest c) (copy_of c)) (child_shared c h can (copy_of c) refl (copy_less c h can)) (children_of c.old) (children_was c.at.node.0 c.at.slot c.old can.old_there))
+          (weaker (IsChildIn c.forest c.old) (IsChildIn (copied_forest c) (copy_of c)) (child_shared c h can (copy_of c) refl (copy_less c h can)) (children_of c.old) (children_was c.at.node.0 c.at.slot c.old can.old_there))
       | kept _ off_parent was ↦
           let of : IsPageIn c.forest y = all_at_places (IsPageIn c.forest) c.forest.pages n m y can.sound.pages was in
-          two_all (IsChildIn c.forest y) (Within y.low y.high) (IsChildIn (copied_forest c) y) (λ r is within. child_kept c h can n m y was off_parent r is within) (children_of y) (children_was n m y was) (children_within y of.page)
+          all_both (IsChildIn c.forest y) (Within y.low y.high) (IsChildIn (copied_forest c) y) (λ r is within. child_kept c h can n m y was off_parent r is within) (children_of y) (children_was n m y was) (children_within y of.page)
     ]
 
 -- The store stays

@@ -12,6 +12,7 @@ use Rattle.mn_base.specs.declared.ids.VersionNo.{VersionNo}
 use Rattle.std.specs.List.{list_all}
 use Rattle.std.proofs.lemmas.Bool.Decides.{nat_tests}
 use Rattle.mn_base.specs.Name.{is_name_byte}
+use Rattle.mn_base.proofs.Booleans.{both_true, left_true, right_true}
 use Rattle.mn_page.specs.declared.entry.CatEntry.{CatEntry}
 use Rattle.mn_page.specs.Grammar.{SpellsEntry, IsEntry, IsParent, IsAddr, entry_bytes, state_byte, parent_byte, addr_bytes}
 use Rattle.mn_page.specs.Reading.{eight}
@@ -31,19 +32,6 @@ runs at some count (b ∷ bs) = entry_goes_on at some count b && runs (at + 1) (
 abbrev pub place : ℕ → Bool → ℕ → List ℕ → ℕ
 place at some count [] = 0
 place at some count (b ∷ bs) = if nat_lt at 64 && entry_goes_on at some count b then suc (place (at + 1) (some || nat_lt 0 b) (if nat_eq at 13 then b else count) bs) else 0
-
-left_true : (s t : Bool) → (s && t) ≡ true → s ≡ true
-left_true true t e = refl
-left_true false t e = e
-
-right_true : (s t : Bool) → (s && t) ≡ true → t ≡ true
-right_true true t e = e
-right_true false t e = absurd cc
-
-both_true : (s t : Bool) → s ≡ true → t ≡ true → (s && t) ≡ true
-both_true true true e f = refl
-both_true true false e f = f
-both_true false t e f = e
 
 -- Fronts
 

@@ -1,9 +1,10 @@
 -- An entry by its parts, and its text.
-use Rattle.std.proofs.Common.{◌≡◌, ℕ, ◌-◌, Bool, true, false, ◌&&◌, List, [], ◌∷◌, ◌++◌, length, replicate, refl, sym, ap, ◌∙◌, arith}
+use Rattle.std.proofs.Common.{◌≡◌, ℕ, ◌-◌, true, List, [], ◌∷◌, ◌++◌, length, replicate, refl, sym, ap, ◌∙◌, arith}
 use Rattle.std.specs.Prelude.{nat_lt, nat_eq}
 use Rattle.std.specs.List.{list_all}
 use Rattle.std.proofs.lemmas.Bool.Decides.{nat_tests}
 use Rattle.mn_base.specs.Name.{IsName, is_name_byte}
+use Rattle.mn_base.proofs.Booleans.{both_true, left_true, right_true}
 use Rattle.mn_page.specs.declared.entry.CatEntry.{CatEntry}
 use Rattle.mn_page.specs.Grammar.{IsEntry, SpellsEntry, entry_bytes}
 use Rattle.mn_page.specs.Reading.{Begins, eight, entry_text, IsNamed}
@@ -20,19 +21,6 @@ whole_entry bytes rest e l b z =
 
 pub entry_front : (bytes : List ℕ) (e : CatEntry) → SpellsEntry bytes e → bytes ≡ entry_text e ++ replicate (64 - length (entry_text e)) 0
 entry_front bytes e s = s.1 ∙ entry_padded e
-
-left_true : (s t : Bool) → (s && t) ≡ true → s ≡ true
-left_true true t e = refl
-left_true false t e = e
-
-right_true : (s t : Bool) → (s && t) ≡ true → t ≡ true
-right_true true t e = e
-right_true false t e = absurd cc
-
-both_true : (s t : Bool) → s ≡ true → t ≡ true → (s && t) ≡ true
-both_true true true e f = refl
-both_true true false e f = f
-both_true false t e f = e
 
 small : (b : ℕ) → is_name_byte b ≡ true → nat_lt b 256 ≡ true
 small b h = grind (arith, nat_tests)

@@ -1,11 +1,13 @@
 -- The bodies of pages are those that are read key by key.
-use Rattle.std.proofs.Common.{◌≡◌, ℕ, zero, suc, ◌+◌, ◌<◌, ◌≤◌, ◌^◌, Bool, true, false, ◌&&◌, List, [], ◌∷◌, ◌++◌, length, Option, None, refl, sym, ap, ◌∙◌, subst, arith, append_assoc}
+use Rattle.std.proofs.Common.{◌≡◌, ℕ, zero, suc, ◌+◌, ◌<◌, ◌≤◌, ◌^◌, Bool, true, false, List, [], ◌∷◌, ◌++◌, length, Option, None, refl, sym, ap, ◌∙◌, subst, arith, append_assoc}
 use Rattle.std.specs.Prelude.{IsTrue, nat_eq, ⊤}
 use Rattle.std.specs.List.{AllByRecursion, flat_map}
 use Rattle.std.proofs.lemmas.Bool.Decides.{nat_tests}
 use Rattle.mn_base.specs.Order.{below_bound, key_le, key_lt}
 use Rattle.mn_base.specs.Store.{is_ascending}
 use Rattle.mn_base.specs.declared.reply.Pair.{Pair}
+use Rattle.mn_base.proofs.Keys.{key_lt-trans}
+use Rattle.mn_base.proofs.Booleans.{both_true, left_true, right_true}
 use Rattle.mn_page.specs.declared.page.Body.{Body}
 use Rattle.mn_page.specs.declared.page.Body.TheVariants.{Leaf, Inner}
 use Rattle.mn_page.specs.declared.page.Child.{Child}
@@ -13,29 +15,13 @@ use Rattle.mn_page.specs.Grammar.{IsBody, addr_bytes, are_ascending, child_bytes
 use Rattle.mn_page.specs.KeyRoom.{HasRoom}
 use Rattle.mn_page.specs.Reading.{IsBodyAt, IsChildWithin, IsPairWithin, body_text}
 use Rattle.mn_page.specs.PageFronts.{AreZeros, BehindFences, HasKeys, Items, Over, least_keys}
-use Rattle.mn_page.proofs.KeyOrder.{at_most_all, at_most_below, below_is_at_most, below_lt, lt_below}
+use Rattle.mn_page.proofs.KeyOrder.{at_most_all, below_is_at_most, lt_below}
 use Rattle.mn_page.proofs.KeyRoom.{at_most_le, le_at_most, room_lower}
-
-left_true : (s t : Bool) → (s && t) ≡ true → s ≡ true
-left_true true t e = refl
-left_true false t e = e
-
-right_true : (s t : Bool) → (s && t) ≡ true → t ≡ true
-right_true true t e = e
-right_true false t e = absurd cc
-
-both_true : (s t : Bool) → s ≡ true → t ≡ true → (s && t) ≡ true
-both_true true true e f = refl
-both_true true false e f = f
-both_true false t e f = e
 
 -- keys above a key leave it below the bound
 pub room_below : (n : ℕ) (key : List ℕ) (high : Option (List ℕ)) → HasRoom key n high → below_bound key high ≡ true
 room_below zero key high room = room
 room_below (suc n) key high room = room_lower zero high key room.0 (below_is_at_most key room.0 (lt_below key room.0 room.2)) (room_below n room.0 high room.3)
-
-lt_lt : (a b c : List ℕ) → key_lt a b ≡ true → key_lt b c ≡ true → key_lt a c ≡ true
-lt_lt a b c p q = below_lt a c (at_most_below a b c (below_is_at_most a b (lt_below a b p)) (lt_below b c q))
 
 le_lt : (a b c : List ℕ) → key_le a b ≡ true → key_lt b c ≡ true → key_le a c ≡ true
 le_lt a b c p q = at_most_le a c (at_most_all a b c (le_at_most a b p) (below_is_at_most b c (lt_below b c q)))
@@ -168,7 +154,7 @@ children_in low high (suc n) base text within i =
     let held = i.follows in
     let addr = held.may in
     let up = within key is.1 in
-    let rest = children_in low high n key held.rest (λ k more. lt_lt low key k up more) held.follows in
+    let rest = children_in low high n key held.rest (λ k more. key_lt-trans low key k up more) held.follows in
     let c : Child = record { separator = key; addr = addr.0 } in
     record {
       children = c ∷ rest.children;
@@ -201,7 +187,7 @@ first_child : (low : List ℕ) (high : Option (List ℕ)) (cs : List Child) → 
 first_child low high [] some all = absurd (omega (arith, some))
 first_child low high (c ∷ cs) some all = ((c.separator, (all.0).0, (all.0).2, (all.0).3), (c.separator, (all.0).0, (all.0).2, refl))
 
-not_flat : (n : ℕ) → 1 ≤ n → nat_eq n 0 ≡ false
+pub not_flat : (n : ℕ) → 1 ≤ n → nat_eq n 0 ≡ false
 not_flat n h = grind (arith, nat_tests)
 
 pub body_out : (low : List ℕ) (high : Option (List ℕ)) (body : Body) (zs : List ℕ) → IsBody low high body → below_bound low high ≡ true → AreZeros zs → BodyOut (nat_eq (height_of body) 0) low high (body_text body ++ zs)
@@ -234,10 +220,10 @@ pub record BodyIn (height : ℕ) (low : List ℕ) (high : Option (List ℕ)) (te
   pub spelled : text ≡ body_text body ++ zeros
   pub are : AreZeros zeros
 
-is_flat : (n : ℕ) → nat_eq n 0 ≡ true → n ≡ 0
+pub is_flat : (n : ℕ) → nat_eq n 0 ≡ true → n ≡ 0
 is_flat n e = grind (arith, nat_tests)
 
-is_up : (n : ℕ) → nat_eq n 0 ≡ false → 1 ≤ n
+pub is_up : (n : ℕ) → nat_eq n 0 ≡ false → 1 ≤ n
 is_up n e = grind (arith, nat_tests)
 
 pub body_in : (leaf : Bool) (height : ℕ) (low : List ℕ) (high : Option (List ℕ)) (text : List ℕ) → nat_eq height 0 ≡ leaf → height < 2 ^ 16 → BehindFences leaf low high text → BodyIn height low high text

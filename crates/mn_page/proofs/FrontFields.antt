@@ -8,12 +8,14 @@ use Rattle.std.proofs.lemmas.List.{length-take-le, length-replicate, take-append
 use Rattle.std.proofs.lemmas.Nat.{be_bytes_2}
 use Rattle.byteorder.specs.Endian.{big_bytes}
 use Rattle.mn_base.specs.declared.ids.Addr.{Addr}
+use Rattle.mn_base.proofs.Booleans.{clash, left_true, right_true}
 use Rattle.mn_page.specs.Grammar.{IsAddr, IsValue, addr_bytes, counted}
 use Rattle.mn_page.specs.KeyRoom.{LeavesRoom}
 use Rattle.mn_page.specs.Reading.{Begins, IsSeq, eight, height_text, kind_at}
 use Rattle.mn_page.specs.PageFronts.{IsHeight, IsKeyIn, Judged, addr_goes_on, height_goes_on}
 use Rattle.mn_page.proofs.KeyRoom.{filled_small}
 use Rattle.mn_page.proofs.EntryFronts.{addr_is, number_of}
+use Rattle.mn_page.proofs.KeyOrder.{below_byte}
 
 -- Bytes at their end
 
@@ -46,14 +48,6 @@ front_of (b ∷ a) (y ∷ x) t m l e =
     let tail : a ++ t ≡ x ++ m = cc in
     let r = front_of a x t m (omega arith) tail in
     (r.0, ap (λ (n : ℕ). n ∷ x) (sym head) ∙ ap (λ (l : List ℕ). b ∷ l) r.1)
-
-right_true : (s t : Bool) → (s && t) ≡ true → t ≡ true
-right_true true t e = e
-right_true false t e = absurd cc
-
-left_true : (s t : Bool) → (s && t) ≡ true → s ≡ true
-left_true true t e = refl
-left_true false t e = e
 
 small_rest : (bytes behind : List ℕ) (b : ℕ) → bytes ≡ b ∷ behind → list_all (λ x. nat_lt x 256) bytes ≡ true → list_all (λ x. nat_lt x 256) behind ≡ true
 small_rest bytes behind b e s = right_true (nat_lt b 256) _ (subst (λ (l : List ℕ). list_all (λ x. nat_lt x 256) l ≡ true) e s)
@@ -161,10 +155,7 @@ kind_either n = grind (arith, nat_tests)
 kind_two : (n : ℕ) → 1 ≤ n → kind_at n ≡ 2
 kind_two n h = grind (arith, nat_tests)
 
-pub unlike : (t : Bool) → t ≡ true → t ≡ false → ⊥
-unlike t e f = cc
-
-is_at : (n m : ℕ) → nat_eq n m ≡ true → n ≡ m
+pub is_at : (n m : ℕ) → nat_eq n m ≡ true → n ≡ m
 is_at n m e = grind (arith, nat_tests)
 
 height_two : (a : ℕ) → a < 256 → (n : ℕ) × IsHeight n × (height_text n ≡ 2 ∷ a ∷ 1 ∷ [])
@@ -178,9 +169,6 @@ height_two a h =
     two a b p q (suc zero) = q
     two a b p q (suc (suc i)) = omega arith
 
-below256 : (n : ℕ) → nat_lt n 256 ≡ true → n < 256
-below256 n e = grind (arith, nat_tests)
-
 pub height_judged : (bytes : List ℕ) → list_all (λ b. nat_lt b 256) bytes ≡ true → ((x : ℕ) (more : List ℕ) → IsHeight x → bytes ≡ height_text x ++ more → ⊥) → Judged IsHeight height_text bytes (height_goes_on bytes)
 height_judged [] s none = (0, 1 ∷ 0 ∷ 0 ∷ [], omega arith, refl)
 height_judged (k ∷ []) s none = by_kind (nat_eq k 1) (nat_eq k 2) refl refl
@@ -190,12 +178,12 @@ height_judged (k ∷ []) s none = by_kind (nat_eq k 1) (nat_eq k 2) refl refl
     by_kind false true e f = (1, 0 ∷ 1 ∷ [], omega arith, ap (λ (n : ℕ). n ∷ 0 ∷ 1 ∷ []) (sym (is_at k 2 f)))
     by_kind false false e f = λ x tail more is g.
         let kind : k ≡ kind_at x = ap (λ (l : List ℕ). get_or l 0 0) g in
-        unlike (nat_eq k 1 || nat_eq k 2) (ap (λ (n : ℕ). nat_eq n 1 || nat_eq n 2) kind ∙ kind_either x) (ap (λ (t : Bool). t || nat_eq k 2) e ∙ f)
+        clash (nat_eq k 1 || nat_eq k 2) (ap (λ (n : ℕ). nat_eq n 1 || nat_eq n 2) kind ∙ kind_either x) (ap (λ (t : Bool). t || nat_eq k 2) e ∙ f)
 height_judged (k ∷ (a ∷ [])) s none = by_kind (nat_eq k 2) (nat_eq k 1) (nat_eq a 0) refl refl refl
   where
     by_kind : (t u v : Bool) → nat_eq k 2 ≡ t → nat_eq k 1 ≡ u → nat_eq a 0 ≡ v → Judged IsHeight height_text (k ∷ (a ∷ [])) (t || (u && v))
     by_kind true u v e f g =
-        let n = height_two a (below256 a (left_true (nat_lt a 256) _ (right_true (nat_lt k 256) _ s))) in
+        let n = height_two a (below_byte a (left_true (nat_lt a 256) _ (right_true (nat_lt k 256) _ s))) in
         (n.0, 1 ∷ [], n.1, n.2 ∙ ap (λ (m : ℕ). m ∷ a ∷ 1 ∷ []) (sym (is_at k 2 e)))
     by_kind false true true e f g =
         (0, 0 ∷ [], omega arith, ap (λ (n : ℕ). n ∷ 0 ∷ 0 ∷ []) (sym (is_at k 1 f)) ∙ ap (λ (n : ℕ). k ∷ n ∷ 0 ∷ []) (sym (is_at a 0 g)))
@@ -203,10 +191,10 @@ height_judged (k ∷ (a ∷ [])) s none = by_kind (nat_eq k 2) (nat_eq k 1) (nat
         let kind : k ≡ kind_at x = ap (λ (l : List ℕ). get_or l 0 0) h in
         let none : x ≡ 0 = kind_small x (sym kind ∙ is_at k 1 f) in
         let byte : a ≡ byte_at 1 x = ap (λ (l : List ℕ). get_or l 1 0) h in
-        unlike (nat_eq a 0) (ap (λ (n : ℕ). nat_eq n 0) (byte ∙ ap (byte_at 1) none)) g
+        clash (nat_eq a 0) (ap (λ (n : ℕ). nat_eq n 0) (byte ∙ ap (byte_at 1) none)) g
     by_kind false false v e f g = λ x tail more is h.
         let kind : k ≡ kind_at x = ap (λ (l : List ℕ). get_or l 0 0) h in
-        unlike (nat_eq k 1 || nat_eq k 2) (ap (λ (n : ℕ). nat_eq n 1 || nat_eq n 2) kind ∙ kind_either x) (ap (λ (t : Bool). t || nat_eq k 2) f ∙ e)
+        clash (nat_eq k 1 || nat_eq k 2) (ap (λ (n : ℕ). nat_eq n 1 || nat_eq n 2) kind ∙ kind_either x) (ap (λ (t : Bool). t || nat_eq k 2) f ∙ e)
 height_judged (k ∷ (a ∷ (b ∷ more))) s none = long_none IsHeight height_text (k ∷ (a ∷ (b ∷ more))) (λ x. omega arith) none
 
 -- Addresses
@@ -222,7 +210,7 @@ addr_judged (n ∷ []) s none = by_node (nat_lt n 8) refl
     by_node true e = let found = addr_is n 0 0 e refl (omega arith) in (found.0, 0 ∷ 0 ∷ [], found.1, found.2)
     by_node false e = λ x tail more is h.
         let node : n ≡ x.node.0 = ap (λ (l : List ℕ). get_or l 0 0) h in
-        unlike (nat_lt n 8) (ap (λ (m : ℕ). nat_lt m 8) node ∙ lt x.node.0 is.0) e
+        clash (nat_lt n 8) (ap (λ (m : ℕ). nat_lt m 8) node ∙ lt x.node.0 is.0) e
 addr_judged (n ∷ (s ∷ [])) small none = by_both (nat_lt n 8) (nat_lt s 16) refl refl
   where
     lt : (m : ℕ) → m < 8 → nat_lt m 8 ≡ true
@@ -235,8 +223,8 @@ addr_judged (n ∷ (s ∷ [])) small none = by_both (nat_lt n 8) (nat_lt s 16) r
     by_both true true e f = let found = addr_is n s 0 e f (omega arith) in (found.0, 0 ∷ [], found.1, found.2)
     by_both true false e f = λ x tail more is h.
         let slot : s ≡ byte_at 1 x.slot = ap (λ (l : List ℕ). get_or l 1 0) h in
-        unlike (nat_lt s 16) (ap (λ (m : ℕ). nat_lt m 16) slot ∙ lt16 (byte_at 1 x.slot) (let top = is.1 in omega (arith, top))) f
+        clash (nat_lt s 16) (ap (λ (m : ℕ). nat_lt m 16) slot ∙ lt16 (byte_at 1 x.slot) (let top = is.1 in omega (arith, top))) f
     by_both false u e f = λ x tail more is h.
         let node : n ≡ x.node.0 = ap (λ (l : List ℕ). get_or l 0 0) h in
-        unlike (nat_lt n 8) (ap (λ (m : ℕ). nat_lt m 8) node ∙ lt x.node.0 is.0) e
+        clash (nat_lt n 8) (ap (λ (m : ℕ). nat_lt m 8) node ∙ lt x.node.0 is.0) e
 addr_judged (n ∷ (s ∷ (low ∷ more))) small none = long_none IsAddr addr_bytes (n ∷ (s ∷ (low ∷ more))) (λ x. omega arith) none

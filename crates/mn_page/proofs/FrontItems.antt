@@ -1,6 +1,7 @@
 -- The keys of a page with what they hold, read one behind the other.
 use Rattle.std.proofs.Common.{◌≡◌, ℕ, suc, Bool, true, false, List, ◌++◌, Option, sym, subst, refl}
 use Rattle.mn_base.specs.declared.ids.Addr.{Addr}
+use Rattle.mn_base.proofs.Booleans.{clash}
 use Rattle.mn_page.specs.Grammar.{IsAddr, addr_bytes, counted}
 use Rattle.mn_page.specs.Reading.{Begins, as_they_stand}
 use Rattle.mn_page.specs.PageFronts.{BehindCount, BehindFences, Decides, HasKeys, IsCount, IsHeld, IsKeyAt, IsKeyIn, IsLeastOver, Items, Judged, Then, count_text}
@@ -39,24 +40,21 @@ held_whole leaf high n key behind held rest b goes d = then_whole (IsHeld leaf) 
 
 -- Behind the count
 
-unlike : (t : Bool) → t ≡ true → t ≡ false → ⊥
-unlike t e f = absurd cc
-
 pub body_leaf : (leaf : Bool) (low : List ℕ) (high : Option (List ℕ)) (keys : ℕ) (behind bytes : List ℕ) → leaf ≡ true → Begins (IsCount leaf low high) (count_text leaf) bytes keys behind → (goes : Bool) → Decides (Items true true low high keys) behind goes
     → Decides (BehindFences leaf low high) bytes goes
 body_leaf true low high keys behind bytes e b goes d = then_whole (IsCount true low high) (count_text true) (BehindCount true low high) bytes keys behind (count_cuts true (IsCount true low high)) b goes d
-body_leaf false low high keys behind bytes e b goes d = absurd (unlike false e refl)
+body_leaf false low high keys behind bytes e b goes d = absurd (clash false e refl)
 
 pub body_addr : (leaf : Bool) (low : List ℕ) (high : Option (List ℕ)) (keys : ℕ) (behind bytes : List ℕ) → leaf ≡ false → Begins (IsCount leaf low high) (count_text leaf) bytes keys behind → (goes : Bool) → Judged IsAddr addr_bytes behind goes
     → Decides (BehindFences leaf low high) bytes goes
-body_addr true low high keys behind bytes e b goes j = absurd (unlike true refl e)
+body_addr true low high keys behind bytes e b goes j = absurd (clash true refl e)
 body_addr false low high keys behind bytes e b goes j =
     then_whole (IsCount false low high) (count_text false) (BehindCount false low high) bytes keys behind (count_cuts false (IsCount false low high)) b goes
     (then_cut IsAddr addr_bytes (λ (addr : Addr) more. Items false false low high keys more) behind goes (λ addr is. some_items false keys false low high (b.may).2) j)
 
 pub body_inner : (leaf : Bool) (low : List ℕ) (high : Option (List ℕ)) (keys : ℕ) (behind bytes rest : List ℕ) (addr : Addr) → leaf ≡ false → Begins (IsCount leaf low high) (count_text leaf) bytes keys behind
     → Begins IsAddr addr_bytes behind addr rest → (goes : Bool) → Decides (Items false false low high keys) rest goes → Decides (BehindFences leaf low high) bytes goes
-body_inner true low high keys behind bytes rest addr e b a goes d = absurd (unlike true refl e)
+body_inner true low high keys behind bytes rest addr e b a goes d = absurd (clash true refl e)
 body_inner false low high keys behind bytes rest addr e b a goes d =
     then_whole (IsCount false low high) (count_text false) (BehindCount false low high) bytes keys behind (count_cuts false (IsCount false low high)) b goes
     (then_whole IsAddr addr_bytes (λ (addr : Addr) more. Items false false low high keys more) behind addr rest addr_cuts a goes d)

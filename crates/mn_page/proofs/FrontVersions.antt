@@ -10,11 +10,13 @@ use Rattle.std.proofs.lemmas.Nat.Bits.{bit_at-zero, bit_at_above}
 use Rattle.std.proofs.Math.Nat.{div-div-eq-div-mul, div-one}
 use Rattle.byteorder.specs.Endian.{big_bytes}
 use Rattle.mn_base.specs.Tree.{has_version}
+use Rattle.mn_base.proofs.Naturals.{lt_from}
+use Rattle.mn_base.proofs.Booleans.{clash}
 use Rattle.mn_page.specs.Reading.{AreVersions, Begins, are_above, eight, versions_text}
 use Rattle.mn_page.specs.PageFronts.{Judged}
 use Rattle.mn_page.proofs.KeyRoom.{filled_small}
 use Rattle.mn_page.proofs.EntryFronts.{number_of}
-use Rattle.mn_page.proofs.FrontFields.{front_of, long_none, unlike}
+use Rattle.mn_page.proofs.FrontFields.{front_of, long_none}
 
 -- Bits of bytes
 
@@ -46,9 +48,6 @@ bit_of_byte k j n h =
     ap (λ (p : ℕ). n / p % 2) (pow-add 2 (8 * k) j ∙ ap (λ (p : ℕ). p * 2 ^ j) (pow_256 k))
     ∙ (ap (λ (q : ℕ). q % 2) (sym (div-div-eq-div-mul n (256 ^ k) (2 ^ j)))
     ∙ (low_bit j (n / 256 ^ k) h ∙ ap (λ (b : ℕ). b / 2 ^ j % 2) (sym (byte_is k n))))
-
-less : (a b : ℕ) → nat_lt a b ≡ true → a < b
-less a b e = grind (arith, nat_tests)
 
 at_least : (a b : ℕ) → nat_lt a b ≡ false → b ≤ a
 at_least a b e = grind (arith, nat_tests)
@@ -84,7 +83,7 @@ bits_kept (suc k) a b w [] r e f h one = by_order (λ low. bits_kept k a b w [] 
     zero_one j g = let no : bit_at 0 j ≡ 1 = sym (ap (λ (m : ℕ). bit_at m j) none) ∙ g in let is = bit_at-zero j in absurd (omega (arith, no, is))
 
     by_order : (w < 8 * k → bit_at b w ≡ 1) → (t : Bool) → nat_lt w (8 * k) ≡ t → bit_at b w ≡ 1
-    by_order low true g = low (less w (8 * k) g)
+    by_order low true g = low (lt_from w (8 * k) g)
     by_order low false g = high_bit k a b w (at_least w (8 * k) g) h (zero_one (w - 8 * k)) one
 bits_kept (suc k) a b w (c ∷ cs) r e f h one = by_order (λ low. bits_kept k a b w cs r rest (ap (drop 1) f) low one) (nat_lt w (8 * k)) refl
   where
@@ -98,7 +97,7 @@ bits_kept (suc k) a b w (c ∷ cs) r e f h one = by_order (λ low. bits_kept k a
         one_less n m = omega arith
 
     by_order : (w < 8 * k → bit_at b w ≡ 1) → (t : Bool) → nat_lt w (8 * k) ≡ t → bit_at b w ≡ 1
-    by_order low true g = low (less w (8 * k) g)
+    by_order low true g = low (lt_from w (8 * k) g)
     by_order low false g = high_bit k a b w (at_least w (8 * k) g) h (λ x. sym (ap (λ (m : ℕ). bit_at m (w - 8 * k)) same) ∙ x) one
 
 -- Sets
@@ -121,7 +120,7 @@ fewer p has more within (w ∷ ws) h = by_both (has w) (more w) (within w) (filt
 
     by_both : (s t : Bool) → (s ≡ true → t ≡ true) → (few many : List ℕ) → (list_all p many ≡ true → list_all p few ≡ true) → list_all p (cond t (w ∷ many) many) ≡ true → list_all p (cond s (w ∷ few) few) ≡ true
     by_both true true in' few many rest h = both (p w) (list_all p few) (left_true (p w) (list_all p many) h) (rest (right_true (p w) (list_all p many) h))
-    by_both true false in' few many rest h = absurd (unlike false (in' refl) refl)
+    by_both true false in' few many rest h = absurd (clash false (in' refl) refl)
     by_both false true in' few many rest h = rest (right_true (p w) (list_all p many) h)
     by_both false false in' few many rest h = rest h
 
@@ -139,7 +138,7 @@ unfolding are_above
 above_kept made a b cs r top e f h = fewer (nat_lt made) (has_version a) (has_version b) (λ w is. by_order w is (nat_lt w 64) refl) (range_with_len 0 64) h
   where
     by_order : (w : ℕ) → has_version a w ≡ true → (t : Bool) → nat_lt w 64 ≡ t → has_version b w ≡ true
-    by_order w is true g = bit_has b w (bits_kept 8 a b w cs r e f (less w 64 g) (has_bit a w is))
+    by_order w is true g = bit_has b w (bits_kept 8 a b w cs r e f (lt_from w 64 g) (has_bit a w is))
     by_order w is false g = let none = bit_at_above a 64 w top (at_least w 64 g) in let one = has_bit a w is in absurd (omega (arith, none, one))
 
 -- A number of eight bytes

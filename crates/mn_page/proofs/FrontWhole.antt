@@ -1,11 +1,11 @@
 -- What begins a page is what goes on field by field.
-use Rattle.std.proofs.Common.{◌≡◌, ℕ, ◌+◌, ◌-◌, ◌/◌, ◌<◌, ◌≤◌, Bool, true, false, ◌&&◌, List, [], ◌∷◌, ◌++◌, length, min, take, replicate, refl, sym, ap, ◌∙◌, subst, arith, append_assoc, length-append}
+use Rattle.std.proofs.Common.{◌≡◌, ℕ, ◌+◌, ◌-◌, ◌/◌, ◌<◌, ◌≤◌, Bool, true, false, List, [], ◌∷◌, ◌++◌, length, min, take, replicate, refl, sym, ap, ◌∙◌, subst, arith, append_assoc, length-append}
 use Rattle.std.specs.Prelude.{nat_eq, ◌↔◌, IsTrue}
-use Rattle.std.proofs.lemmas.Bool.Decides.{nat_tests}
 use Rattle.mn_page.specs.declared.page.Page.{Page}
 use Rattle.mn_page.specs.declared.page_ref.Head.{Head}
 use Rattle.mn_page.specs.Grammar.{IsPage, counted, high_bytes}
 use Rattle.std.proofs.lemmas.List.{length-take-le}
+use Rattle.mn_base.proofs.Booleans.{left_true, right_true}
 use Rattle.mn_page.specs.Fronts.{BeginsPage, IsLongest}
 use Rattle.mn_page.proofs.PageFronts.{some_page}
 use Rattle.mn_page.specs.Reading.{AreFences, IsHead, body_text, eight, fences_text, head_of, head_text, height_text, page_seen, page_text, versions_text}
@@ -13,7 +13,7 @@ use Rattle.mn_page.specs.PageFronts.{AreZeros, Decides, FromSeq}
 use Rattle.mn_page.proofs.KeyRoom.{at_most_le}
 use Rattle.mn_page.proofs.PageText.{are_zeros, page_fences, page_head, page_is, page_padded, page_spelled, text_parts, whole_front}
 use Rattle.mn_page.proofs.Spelled.{page_length}
-use Rattle.mn_page.proofs.FrontBodies.{body_in, body_out, room_below}
+use Rattle.mn_page.proofs.FrontBodies.{body_in, body_out, room_below, is_flat}
 
 -- a page goes on field by field
 page_out : (p : Page) (zs : List ℕ) → IsPage p → AreZeros zs → FromSeq (page_text p ++ zs)
@@ -87,23 +87,12 @@ page_in text f =
 
 -- Zeros of another number
 
-left_true : (s t : Bool) → (s && t) ≡ true → s ≡ true
-left_true true t e = refl
-left_true false t e = e
-
-right_true : (s t : Bool) → (s && t) ≡ true → t ≡ true
-right_true true t e = e
-right_true false t e = absurd cc
-
-is_zero : (n : ℕ) → nat_eq n 0 ≡ true → n ≡ 0
-is_zero n e = grind (arith, nat_tests)
-
 zeros_front : (front rest zs other : List ℕ) → front ++ rest ≡ zs → AreZeros zs → AreZeros other → length front ≤ length other → (r : List ℕ) × (front ++ r ≡ other)
 zeros_front [] rest zs other e all same l = (other, refl)
 zeros_front (b ∷ front) rest zs [] e all same l = absurd (omega arith)
 zeros_front (b ∷ front) rest zs (c ∷ other) e all same l =
     let here : AreZeros (b ∷ (front ++ rest)) = subst (λ (x : List ℕ). AreZeros x) (sym e) all in
-    let first : b ≡ c = is_zero b (left_true (nat_eq b 0) _ here) ∙ sym (is_zero c (left_true (nat_eq c 0) _ same)) in
+    let first : b ≡ c = is_flat b (left_true (nat_eq b 0) _ here) ∙ sym (is_flat c (left_true (nat_eq c 0) _ same)) in
     let more = zeros_front front rest (front ++ rest) other refl (right_true (nat_eq b 0) _ here) (right_true (nat_eq c 0) _ same) (omega arith) in
     (more.0, ap (λ (n : ℕ). n ∷ (front ++ more.0)) first ∙ ap (λ (x : List ℕ). c ∷ x) more.1)
 

@@ -5,6 +5,7 @@ use Rattle.std.specs.List.{flat_map, AllByRecursion}
 use Rattle.std.specs.Option.{option_and_then}
 use Rattle.std.proofs.lemmas.List.Elements.{filter-append}
 use Rattle.std.proofs.lemmas.List.{length-append, length-set}
+use Rattle.mn_base.proofs.Lists.{all_append, last_at}
 
 abbrev pub get_in : {X : Type 0} → List (List X) → ℕ → ℕ → Option X
 get_in xss n s = option_and_then (λ xs. slice_get xs s) (slice_get xss n)
@@ -99,10 +100,6 @@ lengths-set_in P (xs ∷ xss) zero s q all = (subst P (sym (length-set xs s q)) 
 lengths-set_in P (xs ∷ xss) (suc n) s q all = (all.0, lengths-set_in P xss n s q all.1)
 
 -- All elements, by their places
-
-pub all_append : {X : Type 0} (P : X → Type 0) (xs ys : List X) → AllByRecursion P xs → AllByRecursion P ys → AllByRecursion P (xs ++ ys)
-all_append P [] ys p q = q
-all_append P (x ∷ xs) ys p q = (p.0, all_append P xs ys p.1 q)
 
 pub all_split : {X : Type 0} (P : X → Type 0) (xs ys : List X) → AllByRecursion P (xs ++ ys) → AllByRecursion P xs × AllByRecursion P ys
 all_split P [] ys all = (tt, all)
@@ -264,10 +261,6 @@ get-push_old [] x s p e = absurd cc
 get-push_old (y ∷ xs) x zero p e = e
 get-push_old (y ∷ xs) x (suc s) p e = get-push_old xs x s p e
 
-get-push_new : {X : Type 0} (xs : List X) (x : X) → slice_get (xs ++ x ∷ []) (length xs) ≡ Some x
-get-push_new [] x = refl
-get-push_new (y ∷ xs) x = get-push_new xs x
-
 get-push_cases : {X : Type 0} (xs : List X) (x : X) (s : ℕ) (y : X) → slice_get (xs ++ x ∷ []) s ≡ Some y → (slice_get xs s ≡ Some y) ⊎ ((s ≡ length xs) × (y ≡ x))
 get-push_cases [] x zero y e = inr (refl, cc)
 get-push_cases [] x (suc s) y e = absurd cc
@@ -286,7 +279,7 @@ get_in-add_old (xs ∷ xss) (suc m) x (suc n) s p e = get_in-add_old xss m x n s
 
 pub get_in-add_new : {X : Type 0} (xss : List (List X)) (n : ℕ) (x : X) → n < length xss → get_in (add_in xss n x) n (length (slice_index_or xss n [])) ≡ Some x
 get_in-add_new [] n x in' = absurd (omega arith)
-get_in-add_new (xs ∷ xss) zero x in' = get-push_new xs x
+get_in-add_new (xs ∷ xss) zero x in' = last_at xs x
 get_in-add_new (xs ∷ xss) (suc n) x in' = get_in-add_new xss n x (omega arith)
 
 pub get_in-add_cases : {X : Type 0} (xss : List (List X)) (m : ℕ) (x : X) (n s : ℕ) (y : X) → get_in (add_in xss m x) n s ≡ Some y → (get_in xss n s ≡ Some y) ⊎ ((n ≡ m) × (s ≡ length (slice_index_or xss m [])) × (y ≡ x))

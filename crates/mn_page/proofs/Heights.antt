@@ -1,16 +1,17 @@
 -- No page of a forest is higher than 14: a page of height h has 2^h leaves below it, which stand at
 -- different addresses since their ranges lie apart, and all nodes together have 2^15 slots.
 use Rattle.std.proofs.Common.{◌≡◌, ℕ, zero, suc, ◌+◌, ◌*◌, ◌<◌, ◌≤◌, ◌⊎◌, inl, inr, Bool, true, false, ◌||◌, List, [], ◌∷◌, ◌++◌, length, Option, Some, None, refl, subst, sym, ap, ◌∙◌, arith, slice_get}
-use Rattle.std.specs.Prelude.{nat_lt}
 use Rattle.std.specs.List.{AllByRecursion, IsDistinct, list_any}
 use Rattle.std.proofs.Math.Dec.{eqb}
 use Rattle.std.proofs.lemmas.Bool.{eqb-true}
-use Rattle.std.proofs.lemmas.Bool.Decides.{eqb_tells, nat_tests}
+use Rattle.std.proofs.lemmas.Bool.Decides.{eqb_tells}
 use Rattle.std.proofs.lemmas.Map.Steps.{length-le_from_distinct_below}
 use Rattle.std.proofs.lemmas.List.{length-append}
 use Rattle.std.proofs.lemmas.Option.{slice_get_within, option_and_then_some}
 use Rattle.mn_base.specs.Order.{below_bound}
 use Rattle.mn_base.specs.declared.ids.Addr.{Addr}
+use Rattle.mn_base.proofs.Naturals.{below_or}
+use Rattle.mn_base.proofs.Lists.{all_append, weaker}
 use Rattle.mn_page.specs.declared.page.Page.{Page}
 use Rattle.mn_page.specs.declared.page.Body.{Body}
 use Rattle.mn_page.specs.declared.page.Body.TheVariants.{Leaf, Inner}
@@ -18,7 +19,7 @@ use Rattle.mn_page.specs.Grammar.{IsBody, height_of}
 use Rattle.mn_page.specs.Forest.{Forest, page_at, ChildRange, body_children}
 use Rattle.mn_page.specs.Holds.{IsForest, IsChild}
 use Rattle.mn_page.specs.Laws.{NoneTooHigh}
-use Rattle.mn_page.proofs.Grid.{all_append, all_at_place}
+use Rattle.mn_page.proofs.Grid.{all_at_place}
 use Rattle.mn_page.proofs.Counted.{same_addr}
 use Rattle.mn_page.proofs.KeyOrder.{Below, AtMost, lt_below, below_is_at_most, at_most_itself, at_most_all, below_at_most, apart}
 
@@ -86,18 +87,13 @@ apart_slots f s low mid high a b x y = by (eqb_tells a b)
         absurd (apart mid y.page.low y.from (subst (λ (p : Page). Below p.low mid) one x.to))
     by (inr differ) = differ.0
 
-all_more : {X : Type 0} (P Q : X → Type 0) → ((x : X) → P x → Q x) → (xs : List X)
-    → AllByRecursion P xs → AllByRecursion Q xs
-all_more P Q f [] all = tt
-all_more P Q f (x ∷ xs) all = (f x all.0, all_more P Q f xs all.1)
-
 distinct_append : (P Q : ℕ → Type 0) → ((a b : ℕ) → P a → Q b → eqb a b ≡ false) → (xs ys : List ℕ)
     → AllByRecursion P xs → AllByRecursion Q ys → IsDistinct eqb xs → IsDistinct eqb ys
     → IsDistinct eqb (xs ++ ys)
 unfolding IsDistinct
 distinct_append P Q differ [] ys all those one other = other
 distinct_append P Q differ (x ∷ xs) ys all those one other = (
-  all_append (λ y. eqb x y ≡ false) xs ys one.0 (all_more Q (λ y. eqb x y ≡ false) (λ y q. differ x y all.0 q) ys those),
+  all_append (λ y. eqb x y ≡ false) xs ys one.0 (weaker Q (λ y. eqb x y ≡ false) (λ y q. differ x y all.0 q) ys those),
   distinct_append P Q differ xs ys all.1 those one.1 other,
 )
 
@@ -127,8 +123,8 @@ both f s low mid high to height down here up one other = record {
   numbers = one.numbers ++ other.numbers;
   many = length-append one.numbers other.numbers ∙ (ap (λ k. k + length other.numbers) one.many ∙ ap (λ k. doubled height + k) other.many);
   leaves = all_append (LeafAt f low high) one.numbers other.numbers
-      (all_more (LeafAt f low (Some mid)) (LeafAt f low high) (wider f low low high (Some mid) (at_most_itself low) (λ key h. bound_up key mid high h here)) one.numbers one.leaves)
-      (all_more (LeafAt f mid to) (LeafAt f low high) (wider f low mid high to down up) other.numbers other.leaves);
+      (weaker (LeafAt f low (Some mid)) (LeafAt f low high) (wider f low low high (Some mid) (at_most_itself low) (λ key h. bound_up key mid high h here)) one.numbers one.leaves)
+      (weaker (LeafAt f mid to) (LeafAt f low high) (wider f low mid high to down up) other.numbers other.leaves);
   distinct = distinct_append (LeafAt f low (Some mid)) (LeafAt f mid to) (apart_slots f s low mid to) one.numbers other.numbers one.leaves other.leaves one.distinct other.distinct;
 }
 
@@ -167,12 +163,9 @@ leaves_below f s (suc height) addr p there level = by (λ a q here at. leaves_be
 
 -- Counting
 
-low_or_high : (a b : ℕ) → (a < b) ⊎ (b ≤ a)
-low_or_high a b = elim (nat_lt a b) as (λ t. nat_lt a b ≡ t → (a < b) ⊎ (b ≤ a)) [ true ↦ λ e. inl (grind (arith, nat_tests)) | false ↦ λ e. inr (grind (arith, nat_tests)) ] refl
-
 many_leaves : (height : ℕ) → 15 ≤ height → 32768 ≤ doubled height
 many_leaves zero high = absurd (omega arith)
-many_leaves (suc n) high = by (low_or_high n 15) (λ more. many_leaves n more)
+many_leaves (suc n) high = by (below_or n 15) (λ more. many_leaves n more)
   where
     by : (n < 15) ⊎ (15 ≤ n) → (15 ≤ n → 32768 ≤ doubled n) → 32768 ≤ doubled n + doubled n
     by (inl last) deeper = let is : n ≡ 14 = omega arith in subst (λ (k : ℕ). 32768 ≤ doubled k + doubled k) (sym is) (omega arith)
@@ -199,7 +192,7 @@ other_slots : (f : Forest) → IsForest f → (addr : Addr) (p : Page) → page_
     → 1 ≤ height_of p.body → (low : List ℕ) (high : Option (List ℕ)) (ns : List ℕ)
     → AllByRecursion (LeafAt f low high) ns
     → AllByRecursion (λ n. eqb (slot_number addr) n ≡ false) ns
-other_slots f s addr p there inner low high ns all = all_more (LeafAt f low high) (λ n. eqb (slot_number addr) n ≡ false) differ ns all
+other_slots f s addr p there inner low high ns all = weaker (LeafAt f low high) (λ n. eqb (slot_number addr) n ≡ false) differ ns all
   where
     differ : (n : ℕ) → LeafAt f low high n → eqb (slot_number addr) n ≡ false
     differ n l = by (eqb_tells (slot_number addr) n)
@@ -216,7 +209,7 @@ other_slots f s addr p there inner low high ns all = all_more (LeafAt f low high
 pub forest_low : (f : Forest) → IsForest f → (addr : Addr) (p : Page) → page_at f addr ≡ Some p
     → height_of p.body ≤ 14
 unfolding IsDistinct
-forest_low f s addr p there = by (low_or_high (height_of p.body) 15)
+forest_low f s addr p there = by (below_or (height_of p.body) 15)
   where
     by : (height_of p.body < 15) ⊎ (15 ≤ height_of p.body) → height_of p.body ≤ 14
     by (inl low) = omega arith

@@ -1,5 +1,5 @@
 -- The order of keys, place by place, and the least key above another.
-use Rattle.std.proofs.Common.{◌≡◌, ℕ, zero, suc, ◌+◌, ◌<◌, ◌≤◌, Bool, true, false, ◌&&◌, ◌⊎◌, inl, inr, List, [], ◌∷◌, ◌++◌, length, refl, sym, ap, ◌∙◌, subst, arith, replicate, cond, if◌then◌else◌}
+use Rattle.std.proofs.Common.{◌≡◌, ℕ, zero, suc, ◌+◌, ◌<◌, ◌≤◌, Bool, true, false, ◌⊎◌, inl, inr, List, [], ◌∷◌, ◌++◌, length, refl, sym, ap, ◌∙◌, subst, arith, replicate, cond, if◌then◌else◌}
 use Rattle.std.specs.Prelude.{nat_eq, nat_lt, Option, Some, None}
 use Rattle.std.specs.List.{list_all}
 use Rattle.std.proofs.lemmas.Bool.Decides.{nat_tests}
@@ -7,6 +7,7 @@ use Rattle.std.specs.declared.cmp.Ordering.{Ordering}
 use Rattle.std.specs.declared.cmp.Ordering.TheVariants.{Less, Equal, Greater}
 use Rattle.std.specs.Ordering.{is_lt, nat_cmp, ordering_then}
 use Rattle.mn_base.specs.Order.{key_cmp, key_lt}
+use Rattle.mn_base.proofs.Booleans.{clash, left_true, right_true}
 use Rattle.mn_page.specs.KeyRoom.{raised, raised_on}
 
 -- a stands before b
@@ -131,14 +132,11 @@ at_most_not_lt [] (x ∷ a) h = refl
 at_most_not_lt (y ∷ b) [] h = absurd h
 at_most_not_lt (y ∷ b) (x ∷ a) h = elim h [ inl less ↦ more_first x y (key_cmp a b) less | inr rest ↦ ap is_lt (same_first x y (key_cmp a b) (sym rest.0)) ∙ at_most_not_lt b a rest.1 ]
 
-unlike : (c : Bool) → c ≡ true → c ≡ false → ⊥
-unlike c g h = cc
-
 pub lt_below : (a b : List ℕ) → key_lt a b ≡ true → Below a b
-lt_below a b e = elim (compared b a) [ inl h ↦ absurd (unlike (key_lt a b) e (at_most_not_lt b a h)) | inr h ↦ h ]
+lt_below a b e = elim (compared b a) [ inl h ↦ absurd (clash (key_lt a b) e (at_most_not_lt b a h)) | inr h ↦ h ]
 
 pub not_lt_at_most : (a b : List ℕ) → key_lt a b ≡ false → AtMost b a
-not_lt_at_most a b e = elim (compared b a) [ inl h ↦ h | inr h ↦ absurd (unlike (key_lt a b) (below_lt a b h) e) ]
+not_lt_at_most a b e = elim (compared b a) [ inl h ↦ h | inr h ↦ absurd (clash (key_lt a b) (below_lt a b h) e) ]
 
 -- The least key above another
 
@@ -182,19 +180,11 @@ pub record HasRaised (k m : List ℕ) : Type 0 where
   pub is : raised k ≡ Some next
   pub least : AtMost next m
 
-below_byte : (n : ℕ) → nat_lt n 256 ≡ true → n < 256
+pub below_byte : (n : ℕ) → nat_lt n 256 ≡ true → n < 256
 below_byte n e = grind (arith, nat_tests)
 
 is_small : (n : ℕ) → n < 255 → nat_lt n 255 ≡ true
 is_small n h = grind (arith, nat_tests)
-
-left_true : (s t : Bool) → (s && t) ≡ true → s ≡ true
-left_true true t e = refl
-left_true false t e = e
-
-right_true : (s t : Bool) → (s && t) ≡ true → t ≡ true
-right_true true t e = e
-right_true false t e = absurd cc
 
 -- a key above it that isn't longer is at or above the raised one
 pub raised_least : (k m : List ℕ) → length m ≤ length k → list_all (λ b. nat_lt b 256) m ≡ true → Below k m → HasRaised k m

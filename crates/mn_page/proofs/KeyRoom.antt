@@ -1,9 +1,10 @@
 -- The least key above another, the least one of a size that begins so, and the room that they leave.
-use Rattle.std.proofs.Common.{◌≡◌, ℕ, zero, suc, ◌+◌, ◌-◌, ◌<◌, ◌≤◌, Bool, true, false, not, ◌&&◌, List, [], ◌∷◌, ◌++◌, inl, inr, length, take, replicate, refl, sym, ap, ◌∙◌, subst, arith, add-one, length-append, if◌then◌else◌}
+use Rattle.std.proofs.Common.{◌≡◌, ℕ, zero, suc, ◌+◌, ◌-◌, ◌<◌, ◌≤◌, Bool, true, false, not, List, [], ◌∷◌, ◌++◌, inl, inr, length, take, replicate, refl, sym, ap, ◌∙◌, subst, arith, add-one, length-append, if◌then◌else◌}
 use Rattle.std.specs.Prelude.{nat_lt, Option, Some, None, MatchOption, option_map}
 use Rattle.std.specs.List.{list_all}
 use Rattle.std.proofs.lemmas.Bool.Decides.{nat_tests}
 use Rattle.mn_base.specs.Order.{key_le, key_lt}
+use Rattle.mn_base.proofs.Booleans.{both_true, left_true, right_true}
 use Rattle.mn_page.specs.KeyRoom.{HasNoneFrom, HasRoom, IsKeyFrom, IsLast, IsLeastFrom, IsNext, LeavesRoom, raised, raised_on}
 use Rattle.mn_page.proofs.KeyOrder.{Below, AtMost, below_lt, lt_below, not_lt_at_most, at_most_not_lt, at_most_below, at_most_all, below_is_at_most, zero_above, zero_least, raised_is, raised_least, filled_least, front_at_most, between}
 use Rattle.mn_page.proofs.Scanned.{all_take}
@@ -29,19 +30,6 @@ raised_past bs b h = raised_more bs b ∙ ap (λ (t : Bool). if t then Some (bs 
   where
     more : (n : ℕ) → 255 ≤ n → nat_lt n 255 ≡ false
     more n h = grind (arith, nat_tests)
-
-both_true : (s t : Bool) → s ≡ true → t ≡ true → (s && t) ≡ true
-both_true true true e f = refl
-both_true true false e f = f
-both_true false t e f = e
-
-left_true : (s t : Bool) → (s && t) ≡ true → s ≡ true
-left_true true t e = refl
-left_true false t e = e
-
-right_true : (s t : Bool) → (s && t) ≡ true → t ≡ true
-right_true true t e = e
-right_true false t e = absurd cc
 
 small_more : (bs : List ℕ) (b : ℕ) → list_all (λ x. nat_lt x 256) bs ≡ true → nat_lt b 256 ≡ true → list_all (λ x. nat_lt x 256) (bs ++ b ∷ []) ≡ true
 small_more [] b s t = both_true (nat_lt b 256) true t refl

@@ -1,5 +1,5 @@
 -- What is lent from the bytes of a page, and the page.
-use Rattle.std.proofs.Common.{◌≡◌, ℕ, zero, suc, ◌+◌, ◌<◌, ◌≤◌, Bool, true, false, cond, List, [], ◌∷◌, length, take, map, Some, refl, subst, sym, ap, ◌∙◌, arith, slice_get, slice_index_or}
+use Rattle.std.proofs.Common.{◌≡◌, ℕ, zero, suc, ◌+◌, ◌<◌, ◌≤◌, Bool, true, cond, List, [], ◌∷◌, length, take, map, Some, refl, subst, sym, ap, ◌∙◌, arith, slice_get, slice_index_or}
 use Rattle.std.specs.Prelude.{nat_eq}
 use Rattle.std.proofs.lemmas.Bool.Decides.{nat_tests}
 use Rattle.mn_page.specs.declared.page.Body.{Body}
@@ -9,18 +9,16 @@ use Rattle.mn_page.specs.declared.page_ref.PairRef.{PairRef}
 use Rattle.mn_page.specs.declared.page_ref.ChildRef.{ChildRef}
 use Rattle.mn_page.specs.Grammar.{count_in}
 use Rattle.mn_page.specs.Reading.{body_seen, pair_seen, child_seen, pairs_seen, children_seen, HasCounted, keys_in, values_in, addrs_in}
+use Rattle.mn_page.proofs.FrontBodies.{not_flat}
 
 is_zero : (n : ℕ) → n ≡ 0 → nat_eq n 0 ≡ true
 is_zero n h = grind (arith, nat_tests)
-
-not_zero : (n : ℕ) → 1 ≤ n → nat_eq n 0 ≡ false
-not_zero n h = grind (arith, nat_tests)
 
 pub leaf_seen : (b : BodyRef) → b.height ≡ 0 → body_seen b ≡ Leaf (pairs_seen b.count b.pairs)
 leaf_seen b h = ap (λ (t : Bool). cond t (Leaf (pairs_seen b.count b.pairs)) (Inner b.height b.first (children_seen b.count b.rest))) (is_zero b.height h)
 
 pub inner_seen : (b : BodyRef) → 1 ≤ b.height → body_seen b ≡ Inner b.height b.first (children_seen b.count b.rest)
-inner_seen b h = ap (λ (t : Bool). cond t (Leaf (pairs_seen b.count b.pairs)) (Inner b.height b.first (children_seen b.count b.rest))) (not_zero b.height h)
+inner_seen b h = ap (λ (t : Bool). cond t (Leaf (pairs_seen b.count b.pairs)) (Inner b.height b.first (children_seen b.count b.rest))) (not_flat b.height h)
 
 seen_length : {A B : Type 0} (f : A → B) (xs : List A) (count : ℕ) → count ≤ length xs → length (map f (take count xs)) ≡ count
 seen_length f xs zero h = refl

@@ -1,6 +1,6 @@
 -- A page by its parts, and its text.
 use Rattle.std.proofs.Common.{◌≡◌, ℕ, zero, suc, ◌+◌, ◌-◌, ◌<◌, ◌≤◌, Bool, true, false, List, [], ◌∷◌, ◌++◌, length, Option, refl, subst, sym, ap, ◌∙◌, arith, append_assoc, length-append, replicate, take}
-use Rattle.std.specs.Prelude.{nat_eq, ◌↔◌, cond, ◌&&◌}
+use Rattle.std.specs.Prelude.{nat_eq, ◌↔◌, cond}
 use Rattle.std.specs.List.{flat_map, list_all}
 use Rattle.std.proofs.lemmas.Bool.Decides.{nat_tests}
 use Rattle.byteorder.specs.Endian.{big_bytes}
@@ -13,8 +13,10 @@ use Rattle.mn_page.specs.declared.page.Page.{Page}
 use Rattle.mn_page.specs.declared.page_ref.Head.{Head}
 use Rattle.mn_page.proofs.Spelled.{big_bytes-inj}
 use Rattle.mn_base.specs.declared.ids.VersionNo.{VersionNo}
+use Rattle.mn_base.proofs.Booleans.{left_true, right_true}
 use Rattle.mn_page.specs.Grammar.{count_in, body_bytes, height_of, kind_of, high_bytes, pair_bytes, page_bytes, padded, IsBody, IsPage, IsFree, SpellsPage}
 use Rattle.mn_page.specs.Reading.{IsBodyAt, ArePairsOf, AreChildrenOf, children_text, body_text, head_text, fences_text, page_text, head_of, page_seen, IsHead, AreFences, are_above, eight, kind_at, Begins}
+use Rattle.mn_page.proofs.FrontBodies.{is_flat}
 
 -- a body of height 0 is a leaf
 pub leaf_parts : (height count : ℕ) (low : List ℕ) (high : Option (List ℕ)) (behind more : List ℕ) (body : Body) → height ≡ 0 → IsBodyAt height low high body → count ≡ count_in body → behind ≡ body_bytes body ++ more
@@ -109,22 +111,11 @@ page_back head low high body p e0 e1 e2 e3 =
 
 -- Zeros
 
-is_zero : (b : ℕ) → nat_eq b 0 ≡ true → b ≡ 0
-is_zero b h = grind (arith, nat_tests)
-
-left_true : (s t : Bool) → (s && t) ≡ true → s ≡ true
-left_true true t e = refl
-left_true false t e = e
-
-right_true : (s t : Bool) → (s && t) ≡ true → t ≡ true
-right_true true t e = e
-right_true false t e = absurd cc
-
 pub zeros_are : (bs : List ℕ) → list_all (λ b. nat_eq b 0) bs ≡ true → bs ≡ replicate (length bs) 0
 zeros_are [] h = refl
 zeros_are (b ∷ bs) h =
     ap (λ (l : List ℕ). b ∷ l) (zeros_are bs (right_true (nat_eq b 0) (list_all (λ c. nat_eq c 0) bs) h))
-    ∙ ap (λ (x : ℕ). x ∷ replicate (length bs) 0) (is_zero b (left_true (nat_eq b 0) (list_all (λ c. nat_eq c 0) bs) h))
+    ∙ ap (λ (x : ℕ). x ∷ replicate (length bs) 0) (is_flat b (left_true (nat_eq b 0) (list_all (λ c. nat_eq c 0) bs) h))
 
 pub are_zeros : (n : ℕ) → list_all (λ b. nat_eq b 0) (replicate n 0) ≡ true
 are_zeros zero = refl

@@ -5,20 +5,16 @@ use Rattle.std.proofs.lemmas.List.{map-append}
 use Rattle.std.specs.Prelude.{nat_lt}
 use Rattle.std.specs.List.{flat_map, list_all, AllByRecursion}
 use Rattle.std.proofs.lemmas.Bool.Decides.{nat_tests}
+use Rattle.mn_base.proofs.Booleans.{both_true}
 use Rattle.mn_page.specs.Reading.{Begins, AreMany}
 
 small : (b : ℕ) → b < 256 → nat_lt b 256 ≡ true
 small b h = grind (arith, nat_tests)
 
-both : (s t : Bool) → s ≡ true → t ≡ true → (s && t) ≡ true
-both true true e f = refl
-both true false e f = f
-both false t e f = e
-
 -- the items of a slice of bytes are bytes
 pub are_bytes : (bs : List ℕ) → ((i : ℕ) → get_or bs i 0 < 256) → list_all (λ b. nat_lt b 256) bs ≡ true
 are_bytes [] h = refl
-are_bytes (b ∷ bs) h = both (nat_lt b 256) (list_all (λ c. nat_lt c 256) bs) (small b (h 0)) (are_bytes bs (λ i. h (suc i)))
+are_bytes (b ∷ bs) h = both_true (nat_lt b 256) (list_all (λ c. nat_lt c 256) bs) (small b (h 0)) (are_bytes bs (λ i. h (suc i)))
 
 -- Lists of values, one behind the other
 
@@ -100,7 +96,7 @@ progress_only {X = X} Is spelling count bytes read rest p xs more are spelled =
 pub all_take : (p : ℕ → Bool) (n : ℕ) (bs : List ℕ) → list_all p bs ≡ true → list_all p (take n bs) ≡ true
 all_take p zero bs h = refl
 all_take p (suc n) [] h = refl
-all_take p (suc n) (b ∷ bs) h = both (p b) (list_all p (take n bs)) (left_true (p b) (list_all p bs) h) (all_take p n bs (right_true (p b) (list_all p bs) h))
+all_take p (suc n) (b ∷ bs) h = both_true (p b) (list_all p (take n bs)) (left_true (p b) (list_all p bs) h) (all_take p n bs (right_true (p b) (list_all p bs) h))
   where
     left_true : (s t : Bool) → (s && t) ≡ true → s ≡ true
     left_true true t e = refl

@@ -9,6 +9,7 @@ use Rattle.mn_base.specs.declared.ids.Addr.{Addr}
 use Rattle.mn_base.specs.declared.ids.NodeNo.{NodeNo}
 use Rattle.mn_base.specs.declared.ids.VersionNo.{VersionNo}
 use Rattle.mn_base.specs.declared.reply.Pair.{Pair}
+use Rattle.mn_base.proofs.Lists.{weaker}
 use Rattle.mn_page.specs.declared.page.Page.{Page}
 use Rattle.mn_page.specs.declared.page.Body.{Body}
 use Rattle.mn_page.specs.declared.page.Body.TheVariants.{Leaf, Inner}
@@ -101,10 +102,6 @@ children_cut (p ∷ ps) (q ∷ qs) c d is iq l e =
     let first = r.0 in
     let rest = children_cut ps qs c d is.1 iq.1 (omega arith) r.1 in cc
 
-weaker : {X : Type 0} (P Q : X → Type 0) → ((x : X) → P x → Q x) → (xs : List X) → AllByRecursion P xs → AllByRecursion Q xs
-weaker P Q more [] all = tt
-weaker P Q more (x ∷ xs) all = (more x all.0, weaker P Q more xs all.1)
-
 child_addrs : (low : List ℕ) (high : Option (List ℕ)) (height : ℕ) (first : Addr) (rest : List Child) → IsBody low high (Inner height first rest) → AllByRecursion (λ x. IsAddr x.addr) rest
 child_addrs low high height first rest body = weaker _ (λ (x : Child). IsAddr x.addr) (λ x is. is.1) rest body.6
 
@@ -176,11 +173,11 @@ page_spelled_once p q is iq e =
 
 -- Lengths
 
-text_parts : (a b : List ℕ) (k : ℕ) (c : List ℕ) → length (a ++ b ++ k ∷ [] ++ c) ≡ length a + length b + 1 + length c
+pub text_parts : (a b : List ℕ) (k : ℕ) (c : List ℕ) → length (a ++ b ++ k ∷ [] ++ c) ≡ length a + length b + 1 + length c
 text_parts a b k c =
     length-append (a ++ b ++ k ∷ []) c ∙ ap (λ n. n + length c) (length-append (a ++ b) (k ∷ []) ∙ ap (λ n. n + 1) (length-append a b))
 
-high_length : (h : Option (List ℕ)) → IsBound h → length (high_bytes h) ≤ 34
+pub high_length : (h : Option (List ℕ)) → IsBound h → length (high_bytes h) ≤ 34
 high_length None is = omega arith
 high_length (Some key) is = let low = is.1 in omega arith
 

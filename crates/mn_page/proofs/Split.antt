@@ -19,11 +19,14 @@ use Rattle.mn_page.specs.Forest.{Forest, ChildRange, page_at, entry_head, childr
 use Rattle.mn_page.specs.Holds.{page_covers, pairs_in}
 use Rattle.mn_page.proofs.Grid.{get_in, set_in, add_in, get_in-set_same, get_in-set_other, get_in-add_old, get_in-add_new, get_in-add_cases, count-set, count-add, lengths-set_in, lengths-add_in, all_by_places, all_at_places, all_filter, all_of_filter}
 use Rattle.mn_page.proofs.Ancestors.{is_own_ancestor, serves_alone, serves_own, serves_made}
-use Rattle.mn_page.proofs.Alike.{re_paired, heads_stay, all-set, get-set_same, get-set_other}
+use Rattle.mn_page.proofs.Alike.{re_paired, heads_stay, all-set, get-set_other, same_place}
 use Rattle.mn_base.proofs.Keys.{not_below}
 use Rattle.mn_base.proofs.PairsWith.{filter-below}
+use Rattle.mn_base.proofs.Lists.{set_at, weaker}
 use Rattle.std.proofs.lemmas.List.Elements.{filter_agree}
 use Rattle.mn_page.proofs.Counted.{IsChildIn, IsCounted, IsPageIn, IsRootIn, ListsStore, all_pages, forest_heads, height_in, is_on_path, is_on_path_from, on_path_count, one_on_path, root_in, serves_in, serving_pages}
+use Rattle.mn_page.proofs.Added.{covers_all}
+use Rattle.mn_page.proofs.Copy.{page_same}
 
 -- The pages
 
@@ -90,16 +93,6 @@ pub data Place_of (s : Split) (n m : ℕ) (y : Page) : Type 0 where
   at_right : n ≡ s.right.node.0 → m ≡ s.right.slot → y ≡ right_page s → Place_of s n m y
   kept : (s.root.node.0 ≡ n → s.root.slot ≡ m → ⊥) → get_in s.forest.pages n m ≡ Some y → Place_of s n m y
 
-same_place : (a b c d : ℕ) → ((a ≡ b) × (c ≡ d)) ⊎ (a ≡ b → c ≡ d → ⊥)
-same_place a b c d =
-    elim (cases_eq a b) as (λ _. ((a ≡ b) × (c ≡ d)) ⊎ (a ≡ b → c ≡ d → ⊥)) [
-      | inl e ↦ elim (cases_eq c d) as (λ _. ((a ≡ b) × (c ≡ d)) ⊎ (a ≡ b → c ≡ d → ⊥)) [
-        | inl f ↦ inl (e, f)
-        | inr f ↦ inr (λ _ g. f g)
-      ]
-      | inr e ↦ inr (λ g _. e g)
-    ]
-
 root_now : (s : Split) (v : ℕ) (entry : CatEntry) (h : Head) → CanSplit s v entry h → get_in (split_forest s).pages s.root.node.0 s.root.slot ≡ Some (new_root s)
 root_now s v entry h can =
     get_in-add_old (with_left s) s.right.node.0 (right_page s) s.root.node.0 s.root.slot (new_root s)
@@ -164,9 +157,6 @@ counted s v entry h can u =
     omega arith
 
 -- The root
-
-page_same : (a b : Page) → Some a ≡ Some b → a ≡ b
-page_same a b e = cc
 
 root_page_is : (s : Split) (v : ℕ) (entry : CatEntry) (h : Head) → CanSplit s v entry h → root_in s.forest v ≡ Some s.old
 root_page_is s v entry h can =
@@ -256,13 +246,10 @@ right_covers s key = and_true (not (key_lt key s.sep))
     and_true true = refl
     and_true false = refl
 
-all_covered : (key : List ℕ) → covers_key [] None key ≡ true
-all_covered key = ap (λ b. not b && true) (lt_nil key)
-
 pub old_covers : (s : Split) (v : ℕ) (entry : CatEntry) (h : Head) → CanSplit s v entry h → (key : List ℕ) → page_covers key s.old ≡ true
 old_covers s v entry h can key =
     let is = old_is_root s v entry h can in
-    ap (λ (l : List ℕ). covers_key l s.old.high key) is.1 ∙ (ap (λ (b : Option (List ℕ)). covers_key [] b key) is.2 ∙ all_covered key)
+    ap (λ (l : List ℕ). covers_key l s.old.high key) is.1 ∙ (ap (λ (b : Option (List ℕ)). covers_key [] b key) is.2 ∙ covers_all key)
 
 -- The counts
 
@@ -320,7 +307,7 @@ partition_v s v entry h can (suc zero) low key =
     at_top (length (filter (is_on_path s.forest v 1 key) (all_pages (split_forest s)))) (is_on_path s.forest v 1 key s.old) (is_on_path s.forest v 1 key (new_root s)) (is_on_path s.forest v 1 key (left_page s)) (is_on_path s.forest v 1 key (right_page s))
     (counted_from s v entry h can (is_on_path s.forest v 1 key) 0 (on_path_count s.forest v 1 key ∙ ap (count_by (page_covers key)) (none_at s v entry h can 1 (omega arith))))
     (other_height s.forest v 1 key s.old (ap (λ k. nat_eq k 1) can.leaf))
-    (is_on_path_from s.forest v 1 key (new_root s) refl (old_serves s v entry h can) (all_covered key))
+    (is_on_path_from s.forest v 1 key (new_root s) refl (old_serves s v entry h can) (covers_all key))
     (other_height s.forest v 1 key (left_page s) refl)
     (other_height s.forest v 1 key (right_page s) refl)
 partition_v s v entry h can (suc (suc height)) low key = absurd (omega arith)
@@ -358,10 +345,6 @@ not_a_child s v entry h can n m y at height serves =
         all_at_places (λ p. (serves_in s.forest v p && nat_eq (height_of p.body) 1) ≡ true → ⊥) s.forest.pages n m y
         (all_of_filter (λ p. ⊥) (λ p. serves_in s.forest v p && nat_eq (height_of p.body) 1) (all_pages s.forest) (subst (AllByRecursion (λ p. ⊥)) (sym (none_at s v entry h can 1 (omega arith))) tt))
         at (and_from _ _ serves_v (eq-eqb (height_of y.body) 1 top))
-
-weaker : {X : Type 0} (P Q : X → Type 0) → ((x : X) → P x → Q x) → (xs : List X) → AllByRecursion P xs → AllByRecursion Q xs
-weaker P Q more [] all = tt
-weaker P Q more (x ∷ xs) all = (more x all.0, weaker P Q more xs all.1)
 
 child_stays : (s : Split) (v : ℕ) (entry : CatEntry) (h : Head) → CanSplit s v entry h → (n m : ℕ) (y : Page) → get_in s.forest.pages n m ≡ Some y → (c : ChildRange) → IsChildIn s.forest y c → IsChildIn (split_forest s) y c
 child_stays s v entry h can n m y at c is =
@@ -523,7 +506,7 @@ shows_split s v entry h can store version cut = record {
         → (serves_in s.forest w y && nat_eq (height_of y.body) 0) ≡ true → filter (λ pair. page_covers pair.key y) other.pairs ≡ pairs_in y.body
     own w other at e n m y here pass =
         let at_v : slice_get (slice_set store v (re_paired version (s.lows ++ s.highs))) v ≡ Some other = subst (λ k. slice_get (slice_set store v (re_paired version (s.lows ++ s.highs))) k ≡ Some other) (sym e) at in
-        let set : slice_get (slice_set store v (re_paired version (s.lows ++ s.highs))) v ≡ Some (re_paired version (s.lows ++ s.highs)) = get-set_same store v version (re_paired version (s.lows ++ s.highs)) cut.at in
+        let set : slice_get (slice_set store v (re_paired version (s.lows ++ s.highs))) v ≡ Some (re_paired version (s.lows ++ s.highs)) = set_at store v version (re_paired version (s.lows ++ s.highs)) cut.at in
         let both : Some (re_paired version (s.lows ++ s.highs)) ≡ Some other = sym set ∙ at_v in
         let pairs : s.lows ++ s.highs ≡ other.pairs = ap (λ (o : Option StoreVersion). option_map_or (λ (x : StoreVersion). x.pairs) o []) both in
         ap (filter (λ pair. page_covers pair.key y)) (sym pairs) ∙ own_pages n m y here (subst (λ k. (serves_in s.forest k y && nat_eq (height_of y.body) 0) ≡ true) (sym e) pass)

@@ -8,10 +8,10 @@ use Rattle.mn_base.specs.declared.reply.Reply.TheVariants as says
 use Rattle.mn_base.specs.declared.op.Op.{Op}
 use Rattle.mn_base.specs.declared.op.Op.TheVariants.{Tx, Snapshot, Branch}
 use Rattle.mn_base.specs.declared.op.Step.{Step}
-use Rattle.mn_base.specs.declared.op.Step.TheVariants.{Get, Put, Del, Check}
 use Rattle.mn_base.specs.Store.{Store, StoreVersion, Ran, Applied, heads_of, pairs_named, with_pairs, with_frozen, frozen_head, child_of, child_refusal, is_change, pairs_after_step, ran, refusal, refusal_at, admitted, unless_refused, applied}
 use Rattle.mn_base.specs.Stores.{IsStore}
 use Rattle.mn_base.proofs.Stores.{store_stays}
+use Rattle.mn_base.proofs.Frozen.{kept_by_step, push_keeps}
 use Rattle.mn_plain.specs.Kept.{IsNamed, Freezes, AddsChild}
 use Rattle.mn_plain.specs.Run.{Does, pairs_after, pairs_left, is_unmet_reply}
 
@@ -27,12 +27,6 @@ set_same [] at v there = absurd cc
 set_same (x ∷ store) zero v there = let same : v ≡ x = cc in ap (λ (y : StoreVersion). y ∷ store) same
 set_same (x ∷ store) (suc at) v there = ap (λ (s : Store). x ∷ s) (set_same store at v there)
 
--- a version that stands before a new one
-still_there : (store : Store) (child : StoreVersion) (at : ℕ) (v : StoreVersion) → slice_get store at ≡ Some v → slice_get (store ++ child ∷ []) at ≡ Some v
-still_there [] child at v there = absurd cc
-still_there (x ∷ store) child zero v there = there
-still_there (x ∷ store) child (suc at) v there = still_there store child at v there
-
 set_before : (store : Store) (child : StoreVersion) (at : ℕ) (v new : StoreVersion) → slice_get store at ≡ Some v → set (store ++ child ∷ []) at new ≡ set store at new ++ child ∷ []
 set_before [] child at v new there = absurd cc
 set_before (x ∷ store) child zero v new there = refl
@@ -41,7 +35,7 @@ set_before (x ∷ store) child (suc at) v new there = ap (λ (s : Store). x ∷ 
 pub room_after : (old mid : Store) (name child : List ℕ) (at : ℕ) (v : StoreVersion) → IsNamed old name at v → AddsChild old at child mid → at < length mid
 room_after old mid name child at v named added =
     let new : StoreVersion = record { head = record { name = child; parent = Some at; frozen = false }; pairs = v.pairs } in
-    let there = still_there old new at v named.there in
+    let there = push_keeps old new at v named.there in
     slice_get_within mid at v (ap (λ (s : Store). slice_get s at) (added v named.there) ∙ there)
 
 pub snapshot_is : (old mid new : Store) (name child : List ℕ) (at : ℕ) (v : StoreVersion) → IsNamed old name at v → v.head.frozen ≡ false → child_refusal (heads_of old) child ≡ None
@@ -53,7 +47,7 @@ snapshot_is old mid new name child at v named open_still unrefused added frozen 
     let kid : StoreVersion = record { head = record { name = child; parent = Some at; frozen = false }; pairs = v.pairs } in
     let shut : StoreVersion = record v { head = frozen_head v.head } in
     let mid_is : mid ≡ old ++ kid ∷ [] = added v named.there in
-    let there : slice_get mid at ≡ Some v = ap (λ (s : Store). slice_get s at) mid_is ∙ still_there old kid at v named.there in
+    let there : slice_get mid at ≡ Some v = ap (λ (s : Store). slice_get s at) mid_is ∙ push_keeps old kid at v named.there in
     let new_is : new ≡ set old at shut ++ kid ∷ [] = frozen v there ∙ ap (λ (s : Store). set s at shut) mid_is ∙ set_before old kid at v shut named.there in
     let kid_is : child_of old name child ≡ kid =
     ap (λ (p : Option ℕ). let k : StoreVersion = record { head = record { name = child; parent = p; frozen = false }; pairs = pairs_named old name } in k) named.number
@@ -76,10 +70,6 @@ branch_is old new name child at v named shut unrefused added =
     let open_op = free old op allowed in
     (added v named.there ∙ want ∙ sym (ap (λ (a : Applied). a.store) open_op), sym (ap (λ (a : Applied). a.reply) open_op))
 
-pub not_true : (b : Bool) → not b ≡ false → b ≡ true
-not_true true e = refl
-not_true false e = absurd cc
-
 -- what an operation does leaves a store
 pub store_left : (op : Op) (old new : Store) (reply : Reply) → IsStore old → Does op old new (Ok reply) → IsStore new
 store_left op old new reply is does = subst IsStore (sym does.0) (store_stays old op is)
@@ -93,13 +83,6 @@ tx_is old new name steps at v reply named allows ran_is new_is =
     let end : ran (pairs_named old name) steps ≡ record { pairs = pairs_left v.pairs steps reply; reply = reply } = ap (λ (ps : List Pair). ran ps steps) named.pairs ∙ ran_is in
     let want : (admitted old op).store ≡ set old at (record v { pairs = pairs_left v.pairs steps reply }) = ap (λ (r : Ran). with_pairs old name r.pairs) end ∙ named.changed (pairs_left v.pairs steps reply) in
     (new_is ∙ sym want ∙ sym (ap (λ (a : Applied). a.store) open_op), sym (ap (λ (r : Ran). r.reply) end) ∙ sym (ap (λ (a : Applied). a.reply) open_op))
-
--- steps that change nothing
-kept_by_step : (ps : List Pair) (step : Step) → is_change step ≡ false → pairs_after_step ps step ≡ ps
-kept_by_step ps (Get key) e = refl
-kept_by_step ps (Put key value) e = absurd cc
-kept_by_step ps (Del key) e = absurd cc
-kept_by_step ps (Check key want) e = refl
 
 kept_by_steps : (ps : List Pair) (steps : List Step) → list_any is_change steps ≡ false → pairs_after ps steps ≡ ps
 kept_by_steps ps [] e = refl

@@ -1,19 +1,13 @@
 -- What a key has after steps.
 use Rattle.std.proofs.Common.{◌≡◌, ◌+◌, ℕ, suc, Bool, true, false, not, List, [], ◌∷◌, ◌++◌, Option, Some, None, refl, ap, sym, ◌∙◌, bytes_eq, if◌then◌else◌, take, drop, add-one}
-use Rattle.std.proofs.lemmas.Slice.Eq.{bytes_eq-Decides}
 use Rattle.mn_base.specs.declared.reply.Pair.{Pair}
 use Rattle.mn_base.specs.declared.op.Step.{Step}
 use Rattle.mn_base.specs.declared.op.Step.TheVariants.{Get, Put, Del, Check}
 use Rattle.mn_base.specs.Order.{key_lt}
 use Rattle.mn_base.specs.Store.{value_at, pairs_with, pairs_without, pairs_after_step, ran_from, noted_by, step_key}
 use Rattle.mn_base.specs.declared.reply.Reply.TheVariants.{Unmet}
+use Rattle.mn_base.proofs.Keys.{bytes_eq-refl, bytes_eq-true}
 use Rattle.mn_plain.specs.Run.{left_by, left_by_all, pairs_after, Tells}
-
-pub bytes_eq-same : (a : List ℕ) → bytes_eq a a ≡ true
-bytes_eq-same a = (bytes_eq-Decides a a).1 refl
-
-pub bytes_eq-is : (a b : List ℕ) → bytes_eq a b ≡ true → a ≡ b
-bytes_eq-is a b e = (bytes_eq-Decides a b).0 e
 
 -- the value of a key, where two keys are compared with a third
 abbrev KeepsOthers : List Pair → List Pair → List ℕ → Option (List ℕ) → List ℕ → Type 0
@@ -26,9 +20,9 @@ behind_other p new old key other value e rest = cases (bytes_eq p.key other) (by
     cases : (x y : Bool) → bytes_eq p.key other ≡ x → bytes_eq key other ≡ y
         → (if x then Some p.value else value_at new other) ≡ (if y then value else (if x then Some p.value else value_at old other))
     cases true true f g =
-        let one : p.key ≡ other = bytes_eq-is p.key other f in
-        let two : key ≡ other = bytes_eq-is key other g in
-        let both : bytes_eq p.key key ≡ true = rw (one, two) (bytes_eq-same other) in
+        let one : p.key ≡ other = bytes_eq-true p.key other f in
+        let two : key ≡ other = bytes_eq-true key other g in
+        let both : bytes_eq p.key key ≡ true = rw (one, two) (bytes_eq-refl other) in
         absurd (cc)
     cases true false f g = refl
     cases false y f g = rest ∙ ap (λ (b : Bool). if b then value else value_at old other) g
@@ -37,7 +31,7 @@ behind_other p new old key other value e rest = cases (bytes_eq p.key other) (by
 behind_same : (p : Pair) (old : List Pair) (key other : List ℕ) (value : Option (List ℕ)) → bytes_eq p.key key ≡ true
     → (if bytes_eq key other then value else value_at old other) ≡ (if bytes_eq key other then value else value_at (p ∷ old) other)
 behind_same p old key other value e =
-    let same : p.key ≡ key = bytes_eq-is p.key key e in
+    let same : p.key ≡ key = bytes_eq-true p.key key e in
     rw same (elim (bytes_eq key other) as (λ b. (if b then value else value_at old other) ≡ (if b then value else (if b then Some p.value else value_at old other))) [ true ↦ refl | false ↦ refl ])
 
 value_at-with : (ps : List Pair) (key value other : List ℕ) → KeepsOthers (pairs_with ps key value) ps key (Some value) other

@@ -12,6 +12,7 @@ use Rattle.mn_base.specs.declared.ids.Addr.{Addr}
 use Rattle.mn_base.specs.declared.ids.VersionNo.{VersionNo}
 use Rattle.mn_base.specs.declared.op.Op.{Op}
 use Rattle.mn_base.specs.declared.op.Op.TheVariants.{Tx, Snapshot, Branch, Scan, Versions}
+use Rattle.mn_base.proofs.Booleans.{both_parts, not_true}
 use Rattle.mn_page.specs.declared.page.Page.{Page}
 use Rattle.mn_page.specs.declared.entry.CatEntry.{CatEntry}
 use Rattle.mn_page.specs.Forest.{entry_head, heads_in}
@@ -27,14 +28,6 @@ use Rattle.mn_proxy.specs.declared.next.Taken.{Taken}
 use Rattle.mn_proxy.specs.declared.next.Taken.TheVariants.{GoesOn, Leaf, Replies, Fails}
 use Rattle.mn_proxy.specs.Children.{IsOnItsWay, IsUnderWay, KeepsTry, MayPlan, TakesRoot, UnlessFails, WantsPage, WantsRoot, failing, may_copy, may_copy_by}
 use Rattle.mn_proxy.specs.Walks.{Admits}
-
-both : (x y : Bool) → (x && y) ≡ true → (x ≡ true) × (y ≡ true)
-both true y h = (refl, h)
-both false y h = absurd cc
-
-not_true : (x : Bool) → not x ≡ true → x ≡ false
-not_true true e = absurd cc
-not_true false e = refl
 
 -- a kept root page is taken, or makes the try fail
 pub takes_kept : (known : Known) (before after : Child) (page : Page) (taken : Taken) → IsPage page
@@ -148,7 +141,7 @@ live_made : (entries : List CatEntry) (v : ℕ) (p : Page)
     → is_live (parents_of (heads_in entries)) v p.made.0 p.copied ≡ true → p.made.0 < length entries
 unfolding is_live
 live_made entries v p live =
-    let up = (both (is_ancestor (parents_of (heads_in entries)) p.made.0 v) _ live).0 in
+    let up = (both_parts (is_ancestor (parents_of (heads_in entries)) p.made.0 v) _ live).0 in
     let low = above_low (reverse (parents_of (heads_in entries))) p.made.0 v up in
     let long = length-reverse (parents_of (heads_in entries)) in
     let heads = length-map (heads_in entries) (λ (h : Head). h.parent) in
@@ -162,8 +155,8 @@ module _ (nodes : ℕ) (entries : List CatEntry) (c : Child) (root : Page) (slot
       → MayHaveChild entries nodes (op_version op) root slot
   has_child op way =
       let its = subst (λ (o : Option Page). MatchOption o ⊤ (λ p. IsPage p × (may_copy entries c.version.0 p ≡ true) × (c.root.node.0 < nodes))) page way.page in
-      let may = both (is_on_path (parents_of (heads_in entries)) c.version.0 [] None (front_of root)) (not (has_version root.copied (length entries))) its.1 in
-      let live = both (is_live (parents_of (heads_in entries)) c.version.0 root.made.0 root.copied) _ may.0 in
+      let may = both_parts (is_on_path (parents_of (heads_in entries)) c.version.0 [] None (front_of root)) (not (has_version root.copied (length entries))) its.1 in
+      let live = both_parts (is_live (parents_of (heads_in entries)) c.version.0 root.made.0 root.copied) _ may.0 in
       record {
         version = c.version;
         entry = way.admits.entry;

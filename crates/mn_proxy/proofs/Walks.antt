@@ -10,6 +10,7 @@ use Rattle.mn_base.specs.Tree.{parents_of, serves}
 use Rattle.mn_base.specs.declared.ids.Addr.{Addr}
 use Rattle.mn_base.specs.declared.op.Op.{Op}
 use Rattle.mn_base.specs.declared.answer.Busy.TheVariants.{Path}
+use Rattle.mn_base.proofs.Booleans.{both_parts}
 use Rattle.mn_page.specs.declared.page.Page.{Page}
 use Rattle.mn_page.specs.declared.page.Body.TheVariants.{Inner}
 use Rattle.mn_page.specs.declared.page.Child.{Child}
@@ -23,10 +24,6 @@ use Rattle.mn_world.specs.Answers.{Reached, ReachesAddr, is_wrong_height, IsPage
 use Rattle.mn_world.specs.Answers.Reached.{by_child}
 use Rattle.mn_proxy.specs.Seen.{SpellsNone}
 use Rattle.mn_proxy.specs.Walks.{IsAbove, height_below, seen_page}
-
-both : (x y : Bool) → (x && y) ≡ true → (x ≡ true) × (y ≡ true)
-both true y h = (refl, h)
-both false y h = absurd cc
 
 -- one of two fails
 either : (x y : Bool) → (x && y) ≡ false → (x ≡ false) ⊎ (y ≡ false)
@@ -88,8 +85,8 @@ pub serves_named : (entries : List CatEntry) (op : Op) (v : ℕ) (key : List ℕ
     → is_on_path (parents_of (heads_in entries)) v key above (front_of page) ≡ true
     → ServesNamed entries (op_version op) page × (page_covers key page ≡ true)
 serves_named entries op v key above page named on =
-    let first = both (is_live (parents_of (heads_in entries)) v page.made.0 page.copied) (covers_key page.low page.high key && may_stand above (height_of page.body)) on in
-    let second = both (covers_key page.low page.high key) (may_stand above (height_of page.body)) first.1 in
+    let first = both_parts (is_live (parents_of (heads_in entries)) v page.made.0 page.copied) (covers_key page.low page.high key && may_stand above (height_of page.body)) on in
+    let second = both_parts (covers_key page.low page.high key) (may_stand above (height_of page.body)) first.1 in
     ((v, named, sym (live_is entries v page) ∙ first.0), second.0)
 
 -- where it doesn't go on, the page is at fault
@@ -162,7 +159,7 @@ module _ (nodes : ℕ) (seens : List Seen) (op : Op) (entries : List CatEntry) (
       → page.body ≡ Inner level first rest → page_covers key page ≡ true
       → ReachesAddr seens op entries key (child_from first rest key) (height_below (Some level))
   goes_below bytes page level first rest has spells body covers =
-      let parts = both (key_le page.low key) (below_bound key page.high) covers in
+      let parts = both_parts (key_le page.low key) (below_bound key page.high) covers in
       let child = child_of first rest page.low page.high key parts.0 parts.1 in
       let among : Contains (children_of page) child.range =
       subst (λ b. Contains (body_children page.low page.high b) child.range) (sym body) child.among in

@@ -1,19 +1,22 @@
 -- A recovery makes only entries that the commit protocol allows its client.
 use Rattle.std.proofs.Common.{◌≡◌, ℕ, zero, suc, ◌+◌, ◌<◌, ◌≤◌, ◌⊎◌, inl, inr, Bool, true, false, ◌&&◌, ◌||◌, List, [], ◌∷◌, ◌++◌, length, Option, Some, None, refl, sym, ap, subst, ◌∙◌, arith, if◌then◌else◌}
 use Rattle.std.specs.Prelude.{nat_lt, Contains, ⊤}
-use Rattle.std.specs.List.{list_any, list_all, AllByRecursion}
+use Rattle.std.specs.List.{list_all, AllByRecursion}
 use Rattle.std.proofs.lemmas.Bool.{ltb-true, ltb-false}
 use Rattle.mn_base.specs.Ids.{node_same, tid_same}
 use Rattle.mn_base.specs.declared.ids.NodeNo.{NodeNo}
 use Rattle.mn_base.specs.declared.ids.Tid.{Tid}
+use Rattle.mn_base.proofs.Booleans.{and_false, or_left}
+use Rattle.mn_coord.proofs.Legal.{any_more}
 use Rattle.mn_mini.specs.declared.request.Request.{Request}
 use Rattle.mn_mini.specs.declared.request.Request.TheVariants as Ask
 use Rattle.mn_mini.specs.declared.reply.NodeReply.{NodeReply}
 use Rattle.mn_mini.specs.declared.reply.NodeReply.TheVariants as Say
+use Rattle.mn_mini.proofs.Parts.{same_self}
 use Rattle.mn_world.specs.declared.entry.Entry.{Entry}
 use Rattle.mn_world.specs.Calls.{Call, call_in, calls_of, is_last_of, was_told, is_prepare, is_exec, is_force, is_done, is_yes, is_no, is_stopped, has_yes, has_no, is_in_doubt, lists_doubt, Lists, WasListed}
 use Rattle.mn_world.specs.Clients.{Sends}
-use Rattle.mn_world.proofs.Reading.Same.{node_same-refl, tid_same-refl}
+use Rattle.mn_world.proofs.Reading.Same.{tid_same-refl}
 use Rattle.mn_recov.specs.declared.stage.RecovStage.{RecovStage}
 use Rattle.mn_recov.specs.declared.stage.RecovStage.TheVariants.{Looking, Found}
 use Rattle.mn_recov.specs.declared.step.RecovStep.TheVariants.{Send, Ended}
@@ -67,23 +70,12 @@ steps_are_allowed es r a = at r.stage a.shown
 more : (es : List Entry) (e : Entry) (call : Call) → call_in e.node e.what ≡ call ∷ [] → calls_of (e ∷ es) ≡ call ∷ calls_of es
 more es e call is = ap (λ (cs : List Call). cs ++ calls_of es) is
 
-any_more : (t : Call → Bool) (es : List Entry) (e : Entry) (call : Call) → call_in e.node e.what ≡ call ∷ [] → list_any t (calls_of (e ∷ es)) ≡ (t call || list_any t (calls_of es))
-any_more t es e call is = ap (list_any t) (more es e call is)
-
 or_true : (a b : Bool) → b ≡ true → (a || b) ≡ true
 or_true true b e = refl
 or_true false b e = e
 
-or_here : (a b : Bool) → a ≡ true → (a || b) ≡ true
-or_here true b e = refl
-or_here false b e = absurd cc
-
-and_false : (a : Bool) → (a && false) ≡ false
-and_false true = refl
-and_false false = refl
-
 or_parts : (a b c d : Bool) → (a || b) ≡ true → (b ≡ true → d ≡ true) → (a ≡ true → c ≡ true) → (c || d) ≡ true
-or_parts true b c d e f g = or_here c d (g refl)
+or_parts true b c d e f g = or_left c d (g refl)
 or_parts false b c d e f g = or_true c d (f e)
 
 yes_stays : (es : List Entry) (e : Entry) (call : Call) (tid : Tid) (n : NodeNo) → call_in e.node e.what ≡ call ∷ [] → has_yes tid n es ≡ true → has_yes tid n (e ∷ es) ≡ true
@@ -174,14 +166,14 @@ vote_shown es e tid ps voted true true is votes = λ i low. each i low (cases i 
     here =
         or_true (was_told (is_prepare tid) is_done (participant ps voted) (e ∷ es)) (was_told (is_force tid) is_yes (participant ps voted) (e ∷ es))
         (any_more (λ (c : Call). node_same c.node (participant ps voted) && (is_force tid c.request && is_yes c.reply)) es e (record { node = participant ps voted; request = Ask.Force tid; reply = Say.Vote true }) is
-        ∙ or_here _ _ (ap (λ b. b && (tid_same tid tid && true)) (node_same-refl (participant ps voted)) ∙ ap (λ b. b && true) (tid_same-refl tid)))
+        ∙ or_left _ _ (ap (λ b. b && (tid_same tid tid && true)) (same_self (participant ps voted)) ∙ ap (λ b. b && true) (tid_same-refl tid)))
 
     each : (i : ℕ) → i < voted + 1 → (i < voted) ⊎ (i ≡ voted) → has_yes tid (participant ps i) (e ∷ es) ≡ true
     each i low (inl old) = yes_stays es e (record { node = participant ps voted; request = Ask.Force tid; reply = Say.Vote true }) tid (participant ps i) is (votes i old)
     each i low (inr same) = ap (λ k. has_yes tid (participant ps k) (e ∷ es)) same ∙ here
 vote_shown es e tid ps voted true false is votes =
     any_more (λ (c : Call). is_force tid c.request && is_no c.reply) es e (record { node = participant ps voted; request = Ask.Force tid; reply = Say.Vote false }) is
-    ∙ or_here _ _ (ap (λ b. b && true) (tid_same-refl tid))
+    ∙ or_left _ _ (ap (λ b. b && true) (tid_same-refl tid))
 vote_shown es e tid ps voted false vote is against = no_stays es e (record { node = participant ps voted; request = Ask.Force tid; reply = Say.Vote vote }) tid is against
 
 after_force_shown : (es : List Entry) (e : Entry) (tid : Tid) (ps : List NodeNo) (voted : ℕ) (verdict : Bool) (decided : ℕ) (reply : NodeReply) → IsAnswered e (participant ps voted) (Ask.Force tid) reply

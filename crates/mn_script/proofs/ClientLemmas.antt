@@ -3,12 +3,14 @@ use Rattle.std.proofs.Common.{◌≡◌, ◌<◌, ◌≤◌, ℕ, zero, suc, ◌
 use Rattle.std.specs.Prelude.{nat_lt, nat_le}
 use Rattle.mn_script.specs.declared.elements.ScriptClient.{ScriptClient}
 use Rattle.mn_base.specs.declared.op.Op.{Op}
+use Rattle.mn_base.proofs.Booleans.{both_parts}
+use Rattle.mn_base.proofs.Naturals.{lt_from}
 use Rattle.mn_script.specs.declared.draft.Phase.{Phase}
 use Rattle.mn_script.specs.declared.draft.Phase.TheVariants.{Start, Head, Begun, Section, Points, Schedule}
 use Rattle.mn_script.specs.Lines.{ops_of, AreFew}
 use Rattle.mn_script.specs.Reading.{Draft, with_op, HasClient, fits_op}
 use Rattle.mn_script.specs.Script.{steps_in, limit_in}
-use Rattle.mn_script.proofs.Parts.{both, less, at_most}
+use Rattle.mn_script.proofs.Parts.{at_most}
 
 pub ops_of-at : (cs : List ScriptClient) (n : ℕ) (c : ScriptClient) → n < length cs → c ≡ get_or cs n c → ops_of cs n ≡ length c.ops
 ops_of-at [] n c within is = absurd (omega arith)
@@ -65,7 +67,7 @@ has_client_with_op Schedule cs op has = tt
 -- what room for an operation means
 pub room_for : (d : Draft) (op : Op) → fits_op d op ≡ true → (ops_of d.clients (length d.clients - 1) < 2000) × (d.ops < 8000) × (d.steps + steps_in op ≤ 20000) × (d.limits + limit_in op ≤ 100000)
 room_for d op e =
-    let one = both (nat_lt (ops_of d.clients (length d.clients - 1)) 2000) (nat_lt d.ops 8000 && (nat_le (d.steps + steps_in op) 20000 && nat_le (d.limits + limit_in op) 100000)) e in
-    let two = both (nat_lt d.ops 8000) (nat_le (d.steps + steps_in op) 20000 && nat_le (d.limits + limit_in op) 100000) one.1 in
-    let three = both (nat_le (d.steps + steps_in op) 20000) (nat_le (d.limits + limit_in op) 100000) two.1 in
-    (less _ _ one.0, less _ _ two.0, at_most _ _ three.0, at_most _ _ three.1)
+    let one = both_parts (nat_lt (ops_of d.clients (length d.clients - 1)) 2000) (nat_lt d.ops 8000 && (nat_le (d.steps + steps_in op) 20000 && nat_le (d.limits + limit_in op) 100000)) e in
+    let two = both_parts (nat_lt d.ops 8000) (nat_le (d.steps + steps_in op) 20000 && nat_le (d.limits + limit_in op) 100000) one.1 in
+    let three = both_parts (nat_le (d.steps + steps_in op) 20000) (nat_le (d.limits + limit_in op) 100000) two.1 in
+    (lt_from _ _ one.0, lt_from _ _ two.0, at_most _ _ three.0, at_most _ _ three.1)

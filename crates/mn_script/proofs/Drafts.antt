@@ -8,6 +8,8 @@ use Rattle.std.proofs.lemmas.Cmp.{nat_list_eq_equiv}
 use Rattle.std.proofs.lemmas.List.{map-append}
 use Rattle.mn_base.specs.Name.{IsName}
 use Rattle.mn_base.specs.declared.op.Op.{Op}
+use Rattle.mn_base.proofs.Booleans.{both_parts, not_true}
+use Rattle.mn_base.proofs.Naturals.{lt_from}
 use Rattle.mn_script.specs.declared.draft.Phase.{Phase}
 use Rattle.mn_script.specs.declared.draft.Phase.TheVariants.{Start, Head, Begun, Section, Points, Schedule}
 use Rattle.mn_script.specs.declared.elements.Mark.{Mark}
@@ -20,7 +22,7 @@ use Rattle.mn_script.specs.Words.{Text, word_at, next_at, column_at, name_word}
 use Rattle.mn_script.specs.Lines.{client_named, ops_of, mark_at}
 use Rattle.mn_script.specs.Script.{Script, IsOp, IsClient, steps_in, limit_in, all_ops, all_steps, all_limits, AreClients, IsPoint, IsAct, IsScript}
 use Rattle.mn_script.specs.Reading.{Draft, empty_draft, with_op, fits_op, add_op, op_line, add_client, new_name, client_line, add_point, add_act, act_line, kill_line, stop_line, nodes_line, recoverers_line, schedule_line, is_head, is_section, is_points, HasClient, script_in, AreParts, IsDraft, middle_line, line_in, is_passed, line_at, ended, read_from, lines_of, script_of}
-use Rattle.mn_script.proofs.Parts.{Right, right-ok, right-err, right-bind, right-if, right-either, right-when, right-gives, right-told, right-end, both, less, name_right}
+use Rattle.mn_script.proofs.Parts.{Right, right-ok, right-err, right-bind, right-if, right-either, right-when, right-gives, right-told, right-end, name_right}
 use Rattle.mn_script.proofs.ClientLemmas.{length-with_op, room_for}
 use Rattle.mn_script.proofs.Kept.{number_at-right, WithinPart, op_at-right, kill_point-right, stop_point-right, act_at-right}
 
@@ -138,7 +140,7 @@ client-draft d name mark old parts is none =
     right-if IsDraft (nat_lt (length d.clients) 16) _ _ (λ e.
     let c : ScriptClient = record { name = name; mark = mark; ops = [] } in
     let new : Draft = record d { phase = Section; clients = d.clients ++ c ∷ [] } in
-    let room = less (length d.clients) 16 e in
+    let room = lt_from (length d.clients) 16 e in
     let ops = old.ops in
     let steps = old.steps in
     let limits = old.limits in
@@ -185,7 +187,7 @@ point-draft : (d : Draft) (point : Point) → IsDraft d → IsScript (script_in 
 point-draft d point old script empty one =
     right-if IsDraft (nat_lt (length d.points) 64) _ _ (λ e.
     let new : Draft = record d { phase = Points; points = d.points ++ point ∷ [] } in
-    let room = less (length d.points) 64 e in
+    let room = lt_from (length d.points) 64 e in
     right-ok IsDraft new (record {
       parts = (
         record {
@@ -219,7 +221,7 @@ act-draft : (d : Draft) (act : Act) → IsDraft d → d.phase ≡ Schedule → I
 act-draft d act old is script one =
     right-if IsDraft (nat_lt (length d.schedule) 20000) _ _ (λ e.
     let new : Draft = record d { schedule = d.schedule ++ act ∷ [] } in
-    let room = less (length d.schedule) 20000 e in
+    let room = lt_from (length d.schedule) 20000 e in
     right-ok IsDraft new (record {
       parts = subst (λ (p : Phase). AreParts p new) (sym is) (record {
         some_nodes = script.some_nodes;
@@ -292,18 +294,14 @@ recoverers_line-right d line old parts =
 
 -- Any line
 
-not-true : (b : Bool) → not b ≡ true → b ≡ false
-not-true true e = absurd cc
-not-true false e = refl
-
 middle_line-right : (d : Draft) (line : Text) → IsDraft d → IsScript (script_in d) → d.schedule ≡ [] → (is_points d.phase ≡ false → d.points ≡ []) → (is_head d.phase ≡ true → is_points d.phase ≡ false)
     → (is_section d.phase ≡ true → (d.phase ≡ Section) × (1 ≤ length d.clients) × (d.points ≡ [])) → Right IsDraft (middle_line d line)
 unfolding middle_line
 middle_line-right d line old script empty points head section =
     right-when IsDraft (is_head d.phase && bytes_eq (word_at line 0) (codes "recoverers")) _ _ (λ e.
-    let one = both (is_head d.phase) (bytes_eq (word_at line 0) (codes "recoverers")) e in recoverers_line-right d line old (script, points (head one.0), empty)) (
+    let one = both_parts (is_head d.phase) (bytes_eq (word_at line 0) (codes "recoverers")) e in recoverers_line-right d line old (script, points (head one.0), empty)) (
     right-when IsDraft (not (is_points d.phase) && bytes_eq (word_at line 0) (codes "client")) _ _ (λ e.
-    let one = both (not (is_points d.phase)) (bytes_eq (word_at line 0) (codes "client")) e in client_line-right d line old (script, points (not-true (is_points d.phase) one.0), empty)) (
+    let one = both_parts (not (is_points d.phase)) (bytes_eq (word_at line 0) (codes "client")) e in client_line-right d line old (script, points (not_true (is_points d.phase) one.0), empty)) (
     right-either IsDraft (bytes_eq (word_at line 0) (codes "kill")) _ _ (kill_line-right d line old script empty) (
     right-either IsDraft (bytes_eq (word_at line 0) (codes "stop")) _ _ (stop_line-right d line old script empty) (
     right-either IsDraft (bytes_eq (word_at line 0) (codes "schedule")) _ _ (schedule_line-right d line old script) (

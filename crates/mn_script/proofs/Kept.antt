@@ -9,13 +9,14 @@ use Rattle.mn_base.specs.declared.gate.StopAt.{StopAt}
 use Rattle.mn_base.specs.declared.op.Step.{Step}
 use Rattle.mn_base.specs.declared.op.Step.TheVariants as steps
 use Rattle.mn_base.specs.declared.op.Op.TheVariants.{Tx, Snapshot, Branch, Scan, Versions}
+use Rattle.mn_base.proofs.Booleans.{both_parts}
 use Rattle.mn_script.specs.declared.elements.ScriptClient.{ScriptClient}
 use Rattle.mn_script.specs.declared.elements.Point.TheVariants.{Kill, Stop}
 use Rattle.mn_script.specs.declared.elements.Act.TheVariants as acts
 use Rattle.mn_script.specs.Words.{Text, word_at, next_at, column_at, name_word, number_word, key_word, value_word}
 use Rattle.mn_script.specs.Lines.{name_at, number_at, key_at, value_at, bound_at, absent_or_is, want_at, literal, get_step, put_step, del_step, check_step, step_at, entry_at, steps_at, few_steps, tx_op, put_op, get_op, del_op, snapshot_op, branch_op, scan_op, op_at, client_named, client_at, ops_of, stop_word, target_at, kill_point, stop_point, by_client, by_node, by_recoverer, act_at}
 use Rattle.mn_script.specs.Script.{IsKey, IsValue, IsStep, IsOp, IsTarget, IsPoint, IsRecovery, IsAct}
-use Rattle.mn_script.proofs.Parts.{Right, right-ok, right-err, right-bind, right-if, right-either, right-told, right-end, both, at_most, some-map, some-either, name_right, IsWithin, number_right, key_right, value_right}
+use Rattle.mn_script.proofs.Parts.{Right, right-ok, right-err, right-bind, right-if, right-either, right-told, right-end, at_most, some-map, some-either, name_right, IsWithin, number_right, key_right, value_right}
 
 name_at-right : (line : Text) (at : ℕ) → Right (λ (p : Text × ℕ). IsName p.0) (name_at line at)
 name_at-right line at = right-told IsName line at (name_word (word_at line at)) (name_right (word_at line at))
@@ -110,7 +111,7 @@ steps_at-right (suc more) line at =
 few_steps-right : (version : Text) (list : List Step) → IsName version → AllByRecursion IsStep list → Right IsOp (few_steps version list)
 few_steps-right version list n r =
     right-if IsOp (nat_le 1 (length list) && nat_le (length list) 16) _ _ (λ e.
-    let one = both (nat_le 1 (length list)) (nat_le (length list) 16) e in
+    let one = both_parts (nat_le 1 (length list)) (nat_le (length list) 16) e in
     right-ok IsOp (Tx version list) (n, at_most 1 (length list) one.0, at_most (length list) 16 one.1, r)) (λ _. right-err IsOp 1)
 
 tx_op-right : (line : Text) (at : ℕ) → Right IsOp (tx_op line at)

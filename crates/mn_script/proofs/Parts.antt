@@ -3,6 +3,7 @@ use Rattle.std.proofs.Common.{◌≡◌, ◌≤◌, ◌<◌, ◌+◌, ◌*◌, �
 use Rattle.std.specs.Prelude.{not, ◌==◌, option_map, option_and_then, nat_lt, nat_le, if◌then◌else◌, IfSome}
 use Rattle.std.proofs.lemmas.Bool.Decides.{nat_tests}
 use Rattle.mn_base.specs.Name.{IsName}
+use Rattle.mn_base.proofs.Booleans.{both_parts}
 use Rattle.mn_report.specs.Spelling.{is_plain}
 use Rattle.mn_script.specs.Words.{Text, column_at, ◌>>=◌, told_at, end_at, is_name, name_word, is_number, number_from, number_word, in_range, is_digit, digit_value, unless_plain, escaped, unspelled, string_word, of_length, key_word, value_word}
 use Rattle.mn_script.specs.Script.{AreBytes, IsKey, IsValue}
@@ -50,13 +51,6 @@ right-told Q line at (Some x) h = h
 pub right-end : {X : Type 0} (P : X → Type 0) (line : Text) (at : ℕ) (x : X) → P x → Right P (end_at line at x)
 right-end P line at x h = right-if P (nat_lt (length line) at) (Ok x) (Err (column_at line at)) (λ _. right-ok P x h) (λ _. right-err P (column_at line at))
 
-pub both : (a b : Bool) → (a && b) ≡ true → (a ≡ true) × (b ≡ true)
-both true b e = (refl, e)
-both false b e = absurd cc
-
-pub less : (m n : ℕ) → nat_lt m n ≡ true → m < n
-less m n e = grind (arith, nat_tests)
-
 pub at_most : (m n : ℕ) → nat_le m n ≡ true → m ≤ n
 at_most m n e = grind (arith, nat_tests)
 
@@ -87,8 +81,8 @@ some-then Q P f (Some x) h g = g x h
 pub name_right : (word : Text) → IfSome (name_word word) IsName
 name_right word =
     some-if IsName (is_name word) word (λ e.
-    let one = both _ _ e in
-    let two = both _ _ one.1 in
+    let one = both_parts _ _ e in
+    let two = both_parts _ _ one.1 in
     (at_most 1 (length word) one.0, at_most (length word) 16 two.0, two.1))
 
 abbrev pub IsWithin : ℕ → ℕ → ℕ → Type 0
@@ -98,13 +92,13 @@ pub number_right : (low high : ℕ) (word : Text) → IfSome (number_word low hi
 number_right low high word =
     some-when (IsWithin low high) (is_number word) (in_range low high (number_from 0 word)) (λ _.
     some-if (IsWithin low high) (nat_le low (number_from 0 word) && nat_le (number_from 0 word) high) (number_from 0 word) (λ e.
-    let one = both _ _ e in (at_most low (number_from 0 word) one.0, at_most (number_from 0 word) high one.1)))
+    let one = both_parts _ _ e in (at_most low (number_from 0 word) one.0, at_most (number_from 0 word) high one.1)))
 
 plain_byte : (b : ℕ) → is_plain b ≡ true → b < 256
 plain_byte b e =
-    let one = both (nat_le 33 b && nat_le b 126 && not (b == 37)) (not (b == 59)) e in
-    let two = both (nat_le 33 b && nat_le b 126) (not (b == 37)) one.0 in
-    let three = both (nat_le 33 b) (nat_le b 126) two.0 in
+    let one = both_parts (nat_le 33 b && nat_le b 126 && not (b == 37)) (not (b == 59)) e in
+    let two = both_parts (nat_le 33 b && nat_le b 126) (not (b == 37)) one.0 in
+    let three = both_parts (nat_le 33 b) (nat_le b 126) two.0 in
     let small = at_most b 126 three.1 in
     omega arith
 
@@ -112,11 +106,11 @@ digit_right : (d : ℕ) → IfSome (digit_value d) (λ n. n < 16)
 digit_right d = first (is_digit d) refl
   where
     second : (t : Bool) → (nat_le 97 d && nat_le d 102) ≡ t → IfSome (if t then Some (d - 87) else None) (λ n. n < 16)
-    second true e = (let one = both (nat_le 97 d) (nat_le d 102) e in let h = at_most d 102 one.1 in omega arith)
+    second true e = (let one = both_parts (nat_le 97 d) (nat_le d 102) e in let h = at_most d 102 one.1 in omega arith)
     second false e = tt
 
     first : (t : Bool) → is_digit d ≡ t → IfSome (if t then Some (d - 48) else (if nat_le 97 d && nat_le d 102 then Some (d - 87) else None)) (λ n. n < 16)
-    first true e = (let one = both (nat_le 48 d) (nat_le d 57) e in let h = at_most d 57 one.1 in omega arith)
+    first true e = (let one = both_parts (nat_le 48 d) (nat_le d 57) e in let h = at_most d 57 one.1 in omega arith)
     first false e = second (nat_le 97 d && nat_le d 102) refl
 
 escaped_right : (high low : ℕ) → IfSome (escaped high low) (λ b. b < 256)
@@ -147,10 +141,10 @@ pub key_right : (word : Text) → IfSome (key_word word) IsKey
 key_right word =
     some-then AreBytes IsKey (of_length 1 32) (string_word word) (string_right word) (λ bs r.
     some-if IsKey (nat_le 1 (length bs) && nat_le (length bs) 32) bs (λ e.
-    let one = both (nat_le 1 (length bs)) (nat_le (length bs) 32) e in (at_most 1 (length bs) one.0, at_most (length bs) 32 one.1, r)))
+    let one = both_parts (nat_le 1 (length bs)) (nat_le (length bs) 32) e in (at_most 1 (length bs) one.0, at_most (length bs) 32 one.1, r)))
 
 pub value_right : (word : Text) → IfSome (value_word word) IsValue
 value_right word =
     some-then AreBytes IsValue (of_length 0 64) (string_word word) (string_right word) (λ bs r.
     some-if IsValue (nat_le 0 (length bs) && nat_le (length bs) 64) bs (λ e.
-    let one = both (nat_le 0 (length bs)) (nat_le (length bs) 64) e in (at_most (length bs) 64 one.1, r)))
+    let one = both_parts (nat_le 0 (length bs)) (nat_le (length bs) 64) e in (at_most (length bs) 64 one.1, r)))

@@ -8,26 +8,20 @@ use Rattle.std.specs.Ordering.{nat_cmp, is_eq, match_ordering}
 use Rattle.std.specs.declared.cmp.Ordering.{Ordering}
 use Rattle.std.specs.declared.cmp.Ordering.TheVariants.{Less, Equal, Greater}
 use Rattle.std.proofs.lemmas.Map.Text.{is_eq-slice_cmp}
-use Rattle.std.proofs.lemmas.Slice.Eq.{bytes_eq-Decides}
 use Rattle.std.proofs.lemmas.Bool.{false_from_ne_true}
 use Rattle.mn_base.specs.declared.op.Op.{Op}
+use Rattle.mn_base.proofs.Keys.{bytes_eq-refl, bytes_eq-true}
 use Rattle.mn_script.specs.declared.elements.ScriptClient.{ScriptClient}
 use Rattle.mn_script.specs.Lines.{client_named}
 use Rattle.mn_script.specs.Reading.{with_op}
 use Rattle.mn_script.specs.Roster.{AreNumbered}
 
-same : (xs ys : List ℕ) → bytes_eq xs ys ≡ true → xs ≡ ys
-same xs ys is = (bytes_eq-Decides xs ys).0 is
-
-alike : (xs : List ℕ) → bytes_eq xs xs ≡ true
-alike xs = (bytes_eq-Decides xs xs).1 refl
-
 apart : (xs ys : List ℕ) → (xs ≡ ys → ⊥) → bytes_eq xs ys ≡ false
-apart xs ys not = false_from_ne_true (bytes_eq xs ys) (λ is. not (same xs ys is))
+apart xs ys not = false_from_ne_true (bytes_eq xs ys) (λ is. not (bytes_eq-true xs ys is))
 
 turned : (xs ys : List ℕ) (b : Bool) → bytes_eq xs ys ≡ b → bytes_eq ys xs ≡ b
-turned xs ys true is = ap (λ (l : List ℕ). bytes_eq ys l) (same xs ys is) ∙ alike ys
-turned xs ys false is = apart ys xs (λ e. let no : true ≡ false = sym (alike xs) ∙ (ap (λ (l : List ℕ). bytes_eq xs l) (sym e) ∙ is) in absurd (cc))
+turned xs ys true is = ap (λ (l : List ℕ). bytes_eq ys l) (bytes_eq-true xs ys is) ∙ bytes_eq-refl ys
+turned xs ys false is = apart ys xs (λ e. let no : true ≡ false = sym (bytes_eq-refl xs) ∙ (ap (λ (l : List ℕ). bytes_eq xs l) (sym e) ∙ is) in absurd (cc))
 
 -- One entry more
 
@@ -57,14 +51,14 @@ module _ {K : Type 0} (bytes : K → List ℕ) where
       at_head true rest = refl
       at_head false rest = refl
   in_place e es k v name more Equal is rest =
-      let one : bytes k ≡ bytes e.0 = same (bytes k) (bytes e.0) (sym (is_eq-slice_cmp (bytes k) (bytes e.0)) ∙ ap is_eq is) in
+      let one : bytes k ≡ bytes e.0 = bytes_eq-true (bytes k) (bytes e.0) (sym (is_eq-slice_cmp (bytes k) (bytes e.0)) ∙ ap is_eq is) in
       let both : test name e.0 ≡ bytes_eq name (bytes k) = here name e.0 ∙ ap (λ (l : List ℕ). bytes_eq name l) (sym one) in
       ap (λ (b : Bool). cond b (Some v) (lookup (test name) es)) both ∙ at_same (bytes_eq name (bytes k)) v (Some e.1) (lookup (test name) es)
       ∙ ap (λ (b : Bool). if bytes_eq name (bytes k) then Some v else cond b (Some e.1) (lookup (test name) es)) (sym both)
   in_place e es k v name more Greater is rest =
       at_other (bytes_eq name (bytes k)) (test name e.0) v (Some e.1) (lookup (test name) es) (lookup (test name) more)
-      (λ t b. let one : bytes k ≡ bytes e.0 = sym (same name (bytes k) b) ∙ same name (bytes e.0) (sym (here name e.0) ∙ t) in
-      let equal : is_eq (slice_cmp nat_cmp (bytes k) (bytes e.0)) ≡ true = is_eq-slice_cmp (bytes k) (bytes e.0) ∙ (ap (λ (l : List ℕ). bytes_eq l (bytes e.0)) one ∙ alike (bytes e.0)) in
+      (λ t b. let one : bytes k ≡ bytes e.0 = sym (bytes_eq-true name (bytes k) b) ∙ bytes_eq-true name (bytes e.0) (sym (here name e.0) ∙ t) in
+      let equal : is_eq (slice_cmp nat_cmp (bytes k) (bytes e.0)) ≡ true = is_eq-slice_cmp (bytes k) (bytes e.0) ∙ (ap (λ (l : List ℕ). bytes_eq l (bytes e.0)) one ∙ bytes_eq-refl (bytes e.0)) in
       let no : false ≡ true = ap is_eq (sym is) ∙ equal in absurd (cc))
       rest
 
@@ -98,7 +92,7 @@ named_more [] c name new = ap (λ (b : Bool). if b then Some 0 else None) (turne
 named_more (x ∷ cs) c name new =
     let other = first_step (bytes_eq x.name c.name) (client_named cs c.name) new in
     later_step (bytes_eq x.name name) (bytes_eq name c.name) (length cs) (client_named cs name) (client_named (cs ++ c ∷ []) name)
-    (λ t b. let no : true ≡ false = sym (alike x.name) ∙ (ap (λ (l : List ℕ). bytes_eq x.name l) (same x.name name t ∙ same name c.name b) ∙ other.0) in absurd (cc))
+    (λ t b. let no : true ≡ false = sym (bytes_eq-refl x.name) ∙ (ap (λ (l : List ℕ). bytes_eq x.name l) (bytes_eq-true x.name name t ∙ bytes_eq-true name c.name b) ∙ other.0) in absurd (cc))
     (named_more cs c name other.1)
 
 pub numbered_push : {K : Type 0} (bytes : K → List ℕ) (old new : BTreeMap K ℕ) (k : K) (cs : List ScriptClient) (c : ScriptClient) → AreNumbered bytes old cs → client_named cs c.name ≡ None → bytes k ≡ c.name

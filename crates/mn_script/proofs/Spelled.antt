@@ -6,12 +6,12 @@ use Rattle.std.proofs.lemmas.List.Folds.{list_all-append}
 use Rattle.std.proofs.lemmas.Bool.Decides.{nat_tests}
 use Rattle.std.proofs.lemmas.Fmt.{decimal_by_steps}
 use Rattle.mn_base.specs.Name.{IsName, is_name_byte}
+use Rattle.mn_base.proofs.Booleans.{both_parts, both_true}
 use Rattle.mn_report.specs.Spelling.{is_plain, hex_digit, spelled_byte, spelled, word_of}
 use Rattle.mn_script.specs.Words.{Text, is_name, name_word, is_digit, is_number, number_from, number_word, digit_value, escaped, unspelled, string_word, key_word, value_word}
 use Rattle.mn_script.specs.Script.{AreBytes, IsKey, IsValue}
 use Rattle.mn_script.proofs.StringLemmas.{unspelled-plain}
-use Rattle.mn_script.proofs.Parts.{both}
-use Rattle.mn_script.proofs.Texts.{From, from-cons, from-append, and-true, le-true, other-byte}
+use Rattle.mn_script.proofs.Texts.{From, from-cons, from-append, le-true, other-byte}
 
 -- Names
 
@@ -21,7 +21,7 @@ name-byte b e = grind (arith, nat_tests)
 name-from : (name : Text) → list_all is_name_byte name ≡ true → From 33 name
 name-from [] p = refl
 name-from (b ∷ bs) p =
-    let one = both (is_name_byte b) (list_all is_name_byte bs) p in
+    let one = both_parts (is_name_byte b) (list_all is_name_byte bs) p in
     from-cons 33 b bs (name-byte b one.0) (name-from bs one.1)
 
 pub from-name : (name : Text) → IsName name → From 33 name
@@ -31,7 +31,7 @@ pub name_word-is : (name : Text) → IsName name → name_word name ≡ Some nam
 name_word-is name is =
     let first = le-true 1 (length name) is.0 in
     let second = le-true (length name) 16 is.1 in
-    let all : is_name name ≡ true = and-true _ _ first (and-true _ _ second is.2) in
+    let all : is_name name ≡ true = both_true _ _ first (both_true _ _ second is.2) in
     rw all refl
 
 -- Numbers
@@ -45,10 +45,10 @@ number-push : (ds : Text) (d : ℕ) → is_number ds ≡ true → Leads ds → i
 number-push [] d p l q = absurd l
 number-push (b ∷ []) d p l q = rw (p, l, q) refl
 number-push (b ∷ c ∷ cs) d p l q =
-    let one = both (is_digit b) (not (b == 48) && list_all is_digit (c ∷ cs)) p in
-    let two = both (not (b == 48)) (list_all is_digit (c ∷ cs)) one.1 in
-    let tail : list_all is_digit ((c ∷ cs) ++ d ∷ []) ≡ true = list_all-append is_digit (c ∷ cs) (d ∷ []) ∙ and-true _ _ two.1 (and-true _ _ q refl) in
-    and-true (is_digit b) (not (b == 48) && list_all is_digit ((c ∷ cs) ++ d ∷ [])) one.0 (and-true (not (b == 48)) (list_all is_digit ((c ∷ cs) ++ d ∷ [])) two.0 tail)
+    let one = both_parts (is_digit b) (not (b == 48) && list_all is_digit (c ∷ cs)) p in
+    let two = both_parts (not (b == 48)) (list_all is_digit (c ∷ cs)) one.1 in
+    let tail : list_all is_digit ((c ∷ cs) ++ d ∷ []) ≡ true = list_all-append is_digit (c ∷ cs) (d ∷ []) ∙ both_true _ _ two.1 (both_true _ _ q refl) in
+    both_true (is_digit b) (not (b == 48) && list_all is_digit ((c ∷ cs) ++ d ∷ [])) one.0 (both_true (not (b == 48)) (list_all is_digit ((c ∷ cs) ++ d ∷ [])) two.0 tail)
 
 leads-push : (ds : Text) (d : ℕ) → Leads ds → Leads (ds ++ d ∷ [])
 leads-push [] d l = absurd l
@@ -59,7 +59,7 @@ number_from-append n [] b = refl
 number_from-append n (x ∷ xs) b = number_from-append (min (n * 10 + (x - 48)) 10000) xs b
 
 digit-is : (n : ℕ) → n < 10 → is_digit (48 + n) ≡ true
-digit-is n h = and-true (nat_le 48 (48 + n)) (nat_le (48 + n) 57) (le-true 48 (48 + n) (omega arith)) (le-true (48 + n) 57 (omega arith))
+digit-is n h = both_true (nat_le 48 (48 + n)) (nat_le (48 + n) 57) (le-true 48 (48 + n) (omega arith)) (le-true (48 + n) 57 (omega arith))
 
 -- digits that spell a number
 record Spells (n : ℕ) (ds : Text) : Type 0 where

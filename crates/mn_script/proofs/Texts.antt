@@ -1,14 +1,15 @@
 -- Texts: their lines, and the words that stand at the places of a line.
-use Rattle.std.proofs.Common.{◌≡◌, ◌≤◌, ◌<◌, ◌+◌, ℕ, zero, suc, Bool, true, false, ◌&&◌, [], ◌∷◌, ◌++◌, Option, Some, Result, Ok, refl, ap, sym, ◌∙◌, subst, length, drop, length-append, length-drop, add-one, arith}
+use Rattle.std.proofs.Common.{◌≡◌, ◌≤◌, ◌<◌, ◌+◌, ℕ, zero, suc, true, false, [], ◌∷◌, ◌++◌, Option, Some, Result, Ok, refl, ap, sym, ◌∙◌, subst, length, drop, length-append, length-drop, add-one, arith}
 use Rattle.std.specs.Prelude.{◌==◌, nat_lt, nat_le}
 use Rattle.std.specs.List.{list_all}
 use Rattle.std.proofs.Math.Seq.{take-append_seam, drop-append_seam}
 use Rattle.std.proofs.lemmas.List.Folds.{list_all-append}
 use Rattle.std.proofs.lemmas.Bool.Decides.{nat_tests}
+use Rattle.mn_base.proofs.Booleans.{both_parts, both_true}
 use Rattle.mn_report.specs.Spelling.{spaced}
 use Rattle.mn_script.specs.Words.{Text, len_to, word_at, next_at, Part, ◌>>=◌, told_at, end_at}
 use Rattle.mn_script.specs.Reading.{lines_of}
-use Rattle.mn_script.proofs.Parts.{both, at_most}
+use Rattle.mn_script.proofs.Parts.{at_most}
 
 -- Bytes from a least one on
 
@@ -21,16 +22,13 @@ from-append low a b p q = rw (list_all-append (nat_le low) a b, p, q) refl
 pub le-true : (m n : ℕ) → m ≤ n → nat_le m n ≡ true
 le-true m n h = grind (arith, nat_tests)
 
-pub and-true : (a b : Bool) → a ≡ true → b ≡ true → (a && b) ≡ true
-and-true a b p q = rw (p, q) refl
-
 pub from-cons : (low b : ℕ) (text : Text) → low ≤ b → From low text → From low (b ∷ text)
-from-cons low b text h p = and-true (nat_le low b) (list_all (nat_le low) text) (le-true low b h) p
+from-cons low b text h p = both_true (nat_le low b) (list_all (nat_le low) text) (le-true low b h) p
 
 pub from-less : (low high : ℕ) (text : Text) → low ≤ high → From high text → From low text
 from-less low high [] h p = refl
 from-less low high (b ∷ bs) h p =
-    let one = both (nat_le high b) (list_all (nat_le high) bs) p in
+    let one = both_parts (nat_le high b) (list_all (nat_le high) bs) p in
     let least = at_most high b one.0 in
     from-cons low b bs (omega arith) (from-less low high bs h one.1)
 
@@ -46,7 +44,7 @@ other-byte m n h = grind (arith, nat_tests)
 pub lines_of-line : (text rest : Text) → From 32 text → lines_of (text ++ 10 ∷ rest) ≡ text ∷ lines_of rest
 lines_of-line [] rest p = refl
 lines_of-line (b ∷ bs) rest p =
-    let one = both (nat_le 32 b) (list_all (nat_le 32) bs) p in
+    let one = both_parts (nat_le 32 b) (list_all (nat_le 32) bs) p in
     let least = at_most 32 b one.0 in
     rw (other-byte b 10 (omega arith), lines_of-line bs rest one.1) refl
 
@@ -61,7 +59,7 @@ len_to-word : (word tail : Text) → From 33 word → Tail tail → len_to 32 (w
 len_to-word [] [] p t = refl
 len_to-word [] (b ∷ bs) p t = rw t refl
 len_to-word (b ∷ bs) tail p t =
-    let one = both (nat_le 33 b) (list_all (nat_le 33) bs) p in
+    let one = both_parts (nat_le 33 b) (list_all (nat_le 33) bs) p in
     let least = at_most 33 b one.0 in
     rw (other-byte b 32 (omega arith), len_to-word bs tail one.1 t) (add-one (length bs))
 

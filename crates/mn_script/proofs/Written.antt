@@ -6,6 +6,7 @@ use Rattle.std.proofs.lemmas.List.Sums.{sum_by-cons, sum_by_push}
 use Rattle.mn_base.specs.Name.{IsName}
 use Rattle.mn_base.specs.declared.op.Op.{Op}
 use Rattle.mn_base.specs.declared.op.Op.TheVariants.{Tx, Snapshot, Branch, Scan, Versions}
+use Rattle.mn_base.proofs.Naturals.{lt_true}
 use Rattle.mn_report.specs.Spelling.{spaced, spaced_number}
 use Rattle.mn_script.specs.declared.draft.Phase.{Phase}
 use Rattle.mn_script.specs.declared.draft.Phase.TheVariants.{Start, Head, Begun, Section, Points, Schedule}
@@ -138,9 +139,6 @@ with_op-last [] c op = refl
 with_op-last (x ∷ []) c op = refl
 with_op-last (x ∷ y ∷ xs) c op = ap (λ (l : List ScriptClient). x ∷ l) (with_op-last (y ∷ xs) c op)
 
-lt-true : (m n : ℕ) → m < n → nat_lt m n ≡ true
-lt-true m n h = le-true (suc m) n h
-
 op-line : (n r : ℕ) (cs : List ScriptClient) (c : ScriptClient) (op : Op) → IsOp op → length c.ops < 2000 → all_ops (cs ++ c ∷ []) < 8000 → all_steps (cs ++ c ∷ []) + steps_in op ≤ 20000
     → all_limits (cs ++ c ∷ []) + limit_in op ≤ 100000
     → line_at (counted Section n r (cs ++ c ∷ []) [] []) (op_text op) ≡ Ok (counted Section n r (cs ++ record c { ops = c.ops ++ op ∷ [] } ∷ []) [] [])
@@ -150,8 +148,8 @@ op-line n r cs c op is room ops steps limits =
     let d : Draft = counted Section n r old [] [] in
     let some : 1 ≤ length old = omega (arith, length-append cs (c ∷ [])) in
     let last : ops_of old (length old - 1) ≡ length c.ops = ops_of-last cs c in
-    let one : nat_lt (ops_of old (length old - 1)) 2000 ≡ true = rw last (lt-true (length c.ops) 2000 room) in
-    let two = lt-true (all_ops old) 8000 ops in
+    let one : nat_lt (ops_of old (length old - 1)) 2000 ≡ true = rw last (lt_true (length c.ops) 2000 room) in
+    let two = lt_true (all_ops old) 8000 ops in
     let three = le-true (all_steps old + steps_in op) 20000 steps in
     let four = le-true (all_limits old + limit_in op) 100000 limits in
     let fits : fits_op d op ≡ true = rw (one, two, three, four) refl in
@@ -257,7 +255,7 @@ client-line p n r cs c o is none room =
     let at = next_at t 0 in
     let behind = next_at-is t 0 (codes "client") rest (at_front t) refl refl in
     let named : new_name cs c.name ≡ Some c.name = rw none (name_word-is c.name is) in
-    let fits = lt-true (length cs) 16 room in
+    let fits = lt_true (length cs) 16 room in
     let new : Draft = draft_of Section n r (cs ++ begun c ∷ []) [] [] (all_ops cs) (all_steps cs) (all_limits cs) in
     let same : new ≡ counted Section n r (cs ++ begun c ∷ []) [] [] =
     counts-are Section n r (cs ++ begun c ∷ []) [] [] (all_ops cs) (all_steps cs) (all_limits cs) (omega (arith, all_ops-last cs (begun c))) (omega (arith, all_steps-last cs (begun c))) (omega (arith, all_limits-last cs (begun c))) in
@@ -334,14 +332,14 @@ point-line p n r cs ps (Kill client number votes) g few are is room =
     let point : Point = Kill client number votes in
     let d : Draft = counted p n r cs ps [] in
     let t = point_text cs point in
-    let fits = lt-true (length ps) 64 room in
+    let fits = lt_true (length ps) 64 room in
     let added : add_point d point ≡ Ok (counted Points n r cs (ps ++ point ∷ []) []) = rw fits refl in
     middle-is p n r cs ps [] (codes "kill") t g (word_at-is t 0 (codes "kill") (drop 4 t) (at_front t) refl refl) ∙ kill-middle p n r cs ps t g ∙ ap (λ (x : Result Point ℕ). x >>= add_point d) (kill_point-is n cs client number votes are is) ∙ added
 point-line p n r cs ps (Stop node client number stop) g few are is room =
     let point : Point = Stop node client number stop in
     let d : Draft = counted p n r cs ps [] in
     let t = point_text cs point in
-    let fits = lt-true (length ps) 64 room in
+    let fits = lt_true (length ps) 64 room in
     let added : add_point d point ≡ Ok (counted Points n r cs (ps ++ point ∷ []) []) = rw fits refl in
     middle-is p n r cs ps [] (codes "stop") t g (word_at-is t 0 (codes "stop") (drop 4 t) (at_front t) refl refl) ∙ stop-middle p n r cs ps t g ∙ ap (λ (x : Result Point ℕ). x >>= add_point d) (stop_point-is n cs node client number stop few are is) ∙ added
 
@@ -380,7 +378,7 @@ unfolding act_line
 act-line n r cs ps as' act few low are is room =
     let d : Draft = counted Schedule n r cs ps as' in
     let t = act_text cs act in
-    let fits = lt-true (length as') 20000 room in
+    let fits = lt_true (length as') 20000 room in
     let passed : line_at d t ≡ line_in Schedule d t = ap (λ (b : Bool). if b then Ok d else line_in Schedule d t) (act-passed cs act) in
     let added : add_act d act ≡ Ok (counted Schedule n r cs ps (as' ++ act ∷ [])) = rw fits refl in
     passed ∙ ap (λ (x : Result Act ℕ). x >>= add_act d) (act_at-is n r cs act few low are is) ∙ added

@@ -3,6 +3,7 @@ use Rattle.std.proofs.Common.{MatchOption, ◌≡◌, ◌≢◌, ◌≤◌, ◌<
 use Rattle.std.specs.List.{list_any}
 use Rattle.std.proofs.lemmas.Bool.{ne_eqb}
 use Rattle.std.proofs.lemmas.List.Folds.{list_any-append}
+use Rattle.mn_mini.proofs.Fits.{unsome}
 use Rattle.mn_top.specs.CommandLine.{AllPlain, HasFolder, HasNumber, MayBeNumber, Split, is_option}
 use Rattle.mn_top.specs.Words.{Asked, Asks, MayBeFolder, MayHaveFolder, MayHaveNumber, Text, command_word, folder_words, number_words}
 use Rattle.mn_top.specs.declared.words.Command.{Command}
@@ -132,9 +133,6 @@ pub none_says : {X : Type 0} (P : Type 0) (Q : X → Type 0) (r : Option X) → 
 none_says P Q None e says = says
 none_says P Q (Some x) e says = cc
 
-the_some : {X : Type 0} (y x : X) → Some y ≡ Some x → y ≡ x
-the_some y x e = cc
-
 pub some_says : {X : Type 0} (P : Type 0) (Q : X → Type 0) (r : Option X) (x : X) → r ≡ Some x → MatchOption r P Q → Q x
 some_says P Q None x e says = cc
-some_says P Q (Some y) x e says = subst Q (the_some y x e) says
+some_says P Q (Some y) x e says = subst Q (unsome y x e) says

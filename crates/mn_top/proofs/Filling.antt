@@ -13,10 +13,10 @@ use Rattle.mn_base.specs.declared.reply.Reply.{Reply}
 use Rattle.mn_base.specs.declared.reply.Reply.TheVariants.{Unmet}
 use Rattle.mn_base.specs.History.{store_after_ops}
 use Rattle.mn_base.specs.Store.{Store, applied, is_unmet, main_name, main_store, pairs_after_step, ran, step_key, value_at}
+use Rattle.mn_base.proofs.Booleans.{or_split}
 use Rattle.mn_script.specs.declared.elements.ScriptClient.{ScriptClient}
 use Rattle.mn_top.specs.Run.{AreTaken}
 use Rattle.mn_top.specs.Served.{is_of_versions, op_overfills, ops_overfill, overfills}
-use Rattle.mn_top.proofs.Transacting.{or_parts}
 
 -- a step by itself
 
@@ -100,8 +100,8 @@ overfill-append store (op ∷ ops) more =
 pub taken_from : (store : Store) (ops : List Op) → list_any is_of_versions ops ≡ false → ops_overfill store ops ≡ false → AreTaken store ops
 taken_from store [] plain room = tt
 taken_from store (op ∷ ops) plain room =
-    let first = or_parts (is_of_versions op) (list_any is_of_versions ops) plain in
-    let here = or_parts (op_overfills store op) (ops_overfill (applied store op).store ops) room in
+    let first = or_split (is_of_versions op) (list_any is_of_versions ops) plain in
+    let here = or_split (op_overfills store op) (ops_overfill (applied store op).store ops) room in
     (first.0, here.0, taken_from (applied store op).store ops first.1 here.1)
 
 pub taken_rest : (store : Store) (ops more : List Op) → AreTaken store (ops ++ more) → AreTaken (store_after_ops store ops) more
@@ -123,7 +123,7 @@ pub record GoesOn (old new : Store) (ops rest : List Op) : Type 0 where
 pub goes_on : (old new : Store) (pairs : List Pair) (op : Op) (rest : List Op) → old ≡ main_store pairs → op_overfills old op ≡ false → new ≡ (applied old op).store
     → list_any is_of_versions (op ∷ rest) ≡ false → GoesOn old new (op ∷ rest) rest
 goes_on old new pairs op rest old_is room new_is plain =
-    let parts = or_parts (is_of_versions op) (list_any is_of_versions rest) plain in
+    let parts = or_split (is_of_versions op) (list_any is_of_versions rest) plain in
     let stays = main_stays pairs op parts.0 in
     record {
       main = (stays.0, new_is ∙ ap (λ (s : Store). (applied s op).store) old_is ∙ stays.1);
@@ -135,14 +135,14 @@ goes_on old new pairs op rest old_is room new_is plain =
 all_stay : (store : Store) (pairs : List Pair) (ops : List Op) → store ≡ main_store pairs → list_any is_of_versions ops ≡ false → (left : List Pair) × (store_after_ops store ops ≡ main_store left)
 all_stay store pairs [] e plain = (pairs, e)
 all_stay store pairs (op ∷ ops) e plain =
-    let parts = or_parts (is_of_versions op) (list_any is_of_versions ops) plain in
+    let parts = or_split (is_of_versions op) (list_any is_of_versions ops) plain in
     let stays = main_stays pairs op parts.0 in
     all_stay (applied store op).store stays.0 ops (ap (λ (s : Store). (applied s op).store) e ∙ stays.1) parts.1
 
 plain_parts : (ops rest : List Op) → list_any is_of_versions (ops ++ rest) ≡ false → (list_any is_of_versions ops ≡ false) × (list_any is_of_versions rest ≡ false)
 plain_parts [] rest e = (refl, e)
 plain_parts (op ∷ ops) rest e =
-    let parts = or_parts (is_of_versions op) (list_any is_of_versions (ops ++ rest)) e in
+    let parts = or_split (is_of_versions op) (list_any is_of_versions (ops ++ rest)) e in
     let more = plain_parts ops rest parts.1 in
     (rw (parts.0, more.0) refl, more.1)
 

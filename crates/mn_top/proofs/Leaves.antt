@@ -1,5 +1,5 @@
 -- The leaf in its slot, and the space round it.
-use Rattle.std.proofs.Common.{◌≡◌, ◌≤◌, ◌<◌, ◌+◌, ◌-◌, ◌^◌, ℕ, Bool, true, false, not, zero, suc, lit≤, lit<, append-nil, List, [], ◌∷◌, ◌++◌, length, take, drop, refl, ap, sym, ◌∙◌, arith, subst, IsTrue, None, length-append, length-drop, slice_index_or, Fits, w8}
+use Rattle.std.proofs.Common.{◌≡◌, ◌≤◌, ◌<◌, ◌+◌, ◌-◌, ◌^◌, ℕ, true, suc, lit≤, lit<, append-nil, List, [], ◌∷◌, ◌++◌, length, take, drop, refl, ap, sym, ◌∙◌, arith, subst, IsTrue, None, length-append, length-drop, slice_index_or, Fits, w8}
 use Rattle.std.specs.List.{list_all, AllByRecursion}
 use Rattle.mn_base.specs.Order.{covers_key}
 use Rattle.mn_base.specs.Store.{is_ascending}
@@ -9,6 +9,7 @@ use Rattle.std.specs.Prelude.{nat_lt}
 use Rattle.std.proofs.lemmas.Bool.Decides.{nat_tests}
 use Rattle.std.proofs.lemmas.List.{take-append-le, drop-append-le}
 use Rattle.mn_base.specs.declared.reply.Pair.{Pair}
+use Rattle.mn_node.proofs.Space.{overwritten-inside}
 use Rattle.mn_mini.specs.Mini.{space_size}
 use Rattle.mn_mini.specs.Flat.{bytes_in, overwritten}
 use Rattle.mn_page.proofs.Spelled.{page_length, page_spelled_once}
@@ -18,9 +19,9 @@ use Rattle.mn_page.specs.Grammar.{IsPage, IsKey, IsValue, page_bytes, entry_byte
 use Rattle.mn_page.specs.Forest.{main_entry}
 use Rattle.mn_page.specs.Space.{space_length}
 use Rattle.mn_page.specs.Base.{base_of}
+use Rattle.mn_page.proofs.Added.{covers_all}
 use Rattle.mn_top.specs.Leaf.{leaf_page, leaf_space, front, ArePairs, HoldsLeaf}
 use Rattle.mn_top.proofs.LeafLemmas.{behind, length-behind, leaf_space-is, empty_is_page}
-use Rattle.mn_top.proofs.SpaceLemmas.{overwritten-inside}
 
 -- the elements of a slice of bytes are bytes
 pub bytes_fit : (bytes : List ℕ) → ((i : ℕ) → Fits w8 (slice_index_or bytes i 0)) → IsTrue (list_all (λ b. nat_lt b 256) bytes)
@@ -114,10 +115,6 @@ slot_read space seq pairs read holds e = subst (HasRead space) (sym (slot_is spa
 pub slot_inside : (space : List ℕ) (seq : ℕ) (pairs : List Pair) → HoldsLeaf space seq pairs → 21504 ≤ length space
 slot_inside space seq pairs holds = let whole = (holds_read space seq pairs holds).whole in omega arith
 
-every_key : (key : List ℕ) → covers_key [] None key ≡ true
-every_key [] = refl
-every_key (b ∷ key) = refl
-
 -- pairs in order of key, not too many, are those of a leaf
 pub leaf_is_page : (seq : ℕ) (pairs : List Pair) → 1 ≤ seq → seq < 2 ^ 64 → length pairs ≤ 8 → is_ascending pairs ≡ true → ArePairs pairs → IsPage (leaf_page seq pairs)
 leaf_is_page seq pairs some small few ascend are = record {
@@ -134,23 +131,13 @@ leaf_is_page seq pairs some small few ascend are = record {
   where
     each : (ps : List Pair) → ArePairs ps → AllByRecursion (λ p. IsKey p.key × IsValue p.value × IsTrue (covers_key [] None p.key)) ps
     each [] all = tt
-    each (p ∷ ps) all = ((all.0.0, all.0.1, every_key p.key), each ps all.1)
+    each (p ∷ ps) all = ((all.0.0, all.0.1, covers_all p.key), each ps all.1)
 
 -- bytes written back into the place that they came from
 pub written_back : (n : ℕ) (new old : List ℕ) → length old ≡ n → length new ≡ n → take n (new ++ drop (length new) old) ≡ new
 written_back n new old long same =
     let none : drop (length new) old ≡ [] = drop_of_length-le old (omega arith) in
     ap (λ (l : List ℕ). take n (new ++ l)) none ∙ ap (λ (l : List ℕ). take n l) (append-nil new) ∙ ap (λ (k : ℕ). take k new) (sym same) ∙ take-length new
-
-pub length-overwritten : (space : List ℕ) (start : ℕ) (bytes : List ℕ) → length (overwritten space start bytes) ≡ length space
-length-overwritten [] start bytes = refl
-length-overwritten (x ∷ space) zero [] = refl
-length-overwritten (x ∷ space) zero (b ∷ bytes) = ap suc (length-overwritten space zero bytes)
-length-overwritten (x ∷ space) (suc start) bytes = ap suc (length-overwritten space start bytes)
-
-pub unnot : (b : Bool) → not b ≡ false → b ≡ true
-unnot true e = refl
-unnot false e = sym e
 
 -- the base space holds the empty leaf
 pub base_holds : HoldsLeaf (base_of 1 0) 1 []

@@ -22,6 +22,7 @@ use Rattle.mn_top.specs.Disk.{Grew, IsBetween, IsCutShort, IsDamagedBehind, IsUn
 use Rattle.mn_top.specs.Leaf.{MakesLeaf, is_executed}
 use Rattle.mn_node.specs.declared.start.StartCause.{StartCause}
 use Rattle.mn_node.specs.declared.start.StartCause.TheVariants as starting
+use Rattle.mn_node.proofs.Steps.{rose_later}
 use Rattle.mn_redo.specs.declared.open.OpenCause.TheVariants as opening
 use Rattle.mn_top.specs.declared.due.DamageRule.TheVariants.{Log, Runs}
 use Rattle.mn_top.specs.declared.due.Due.{Due}
@@ -34,7 +35,6 @@ use Rattle.mn_top.specs.Serve.{Serves}
 use Rattle.mn_top.specs.Served.{is_of_versions, ops_of}
 use Rattle.mn_top.proofs.Executing.{none_held_on}
 use Rattle.mn_top.proofs.Filling.{taken_from}
-use Rattle.mn_top.proofs.Serving.{rose_later}
 
 -- bodies are those of one list of records
 bodies_once : (a b : List Record) → AllByRecursion IsRecord a → AllByRecursion IsRecord b → bodies_of a ≡ bodies_of b → a ≡ b

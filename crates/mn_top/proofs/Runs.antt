@@ -9,9 +9,11 @@ use Rattle.mn_base.specs.declared.reply.Pair.{Pair}
 use Rattle.mn_base.specs.declared.reply.Reply.{Reply}
 use Rattle.mn_base.specs.History.{store_after_ops}
 use Rattle.mn_base.specs.Store.{Store, applied, main_store}
+use Rattle.mn_base.proofs.Lists.{all_append}
 use Rattle.mn_io.specs.DiskModel.{DiskState}
 use Rattle.mn_mini.specs.declared.record.Record.{Record}
 use Rattle.mn_node.specs.State.{NodeState, GoesOn}
+use Rattle.mn_node.proofs.Steps.{rose_later}
 use Rattle.mn_report.specs.declared.lines.AnswerLine.{AnswerLine}
 use Rattle.mn_report.specs.declared.lines.LineAnswer.TheVariants.{Answered}
 use Rattle.mn_report.specs.declared.lines.Ranked.{Ranked}
@@ -26,7 +28,7 @@ use Rattle.mn_top.specs.Report.{answers_from, answers_of, history_of, ranks_from
 use Rattle.mn_top.specs.Run.{AreTaken, Runs}
 use Rattle.mn_top.specs.Serve.{DoesOn, Fails, IsTaken, Serves, Stays}
 use Rattle.mn_top.specs.Served.{op_overfills, ops_of}
-use Rattle.mn_top.proofs.Serving.{keeps_old, rose_later, serves_still}
+use Rattle.mn_top.proofs.Serving.{keeps_old, serves_still}
 use Rattle.mn_top.proofs.Filling.{after-append, taken_front, taken_rest}
 
 -- Lists
@@ -62,15 +64,11 @@ next_at xs ys index x e within is = subst (λ l. Next l index x) e (record {
 pub all_taken : {A : Type 0} (xs ys : List A) (index : ℕ) → ys ≡ xs → length ys ≤ index → take index xs ≡ xs
 all_taken xs ys index e far = subst (λ l. take index l ≡ l) e (take_all index ys far)
 
-all_split : {A : Type 0} (P : A → Type 0) (xs ys : List A) → AllByRecursion P xs → AllByRecursion P ys → AllByRecursion P (xs ++ ys)
-all_split P [] ys p q = q
-all_split P (x ∷ xs) ys p q = (p.0, all_split P xs ys p.1 q)
-
 pub grew_more : (run : ℕ) (a b c : List Record) → Grew run a b → Grew run b c → Grew run a c
 grew_more run a b c p q = record {
   added = p.added ++ q.added;
   new_is = q.new_is ∙ ap (λ (l : List Record). l ++ q.added) p.new_is ∙ append_assoc a p.added q.added;
-  of_run = all_split (λ r. record_run r ≡ run) p.added q.added p.of_run q.of_run;
+  of_run = all_append (λ r. record_run r ≡ run) p.added q.added p.of_run q.of_run;
 }
 
 pub grew_none : (run : ℕ) (a : List Record) → Grew run a a
@@ -296,7 +294,7 @@ told_from client number store (op ∷ ops) = (tt, told_from client (number + 1) 
 pub all_told : (store : Store) (clients : List ScriptClient) → AllByRecursion (λ a. CanTellLine a.answer) (answers_of store clients)
 all_told store [] = tt
 all_told store (c ∷ clients) =
-    all_split (λ a. CanTellLine a.answer) (answers_from c.name 1 store c.ops) (answers_of (store_after_ops store c.ops) clients) (told_from c.name 1 store c.ops) (all_told (store_after_ops store c.ops) clients)
+    all_append (λ a. CanTellLine a.answer) (answers_from c.name 1 store c.ops) (answers_of (store_after_ops store c.ops) clients) (told_from c.name 1 store c.ops) (all_told (store_after_ops store c.ops) clients)
 
 -- a read behind a run fails
 pub read_behind : {D : Type 0} (X : Type 0) (state : D → DiskState) (faults : D → ℕ) (run : ℕ) (start : Store) (ops : List Op) (old mid new : NodeState D) (so : SoFar state run start ops old mid) (e : Stop)

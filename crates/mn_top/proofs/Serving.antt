@@ -1,7 +1,7 @@
 -- What the node's answers make of it.
-use Rattle.std.proofs.Common.{◌≡◌, ◌≤◌, ◌+◌, ◌-◌, ◌^◌, ℕ, Bool, true, false, List, [], reverse, refl, ap, sym, subst, ◌∙◌, inl, inr, if◌then◌else◌, Result, Ok, Err, append-nil, arith}
+use Rattle.std.proofs.Common.{◌≡◌, ◌-◌, ℕ, Bool, true, false, List, [], reverse, refl, ap, sym, subst, ◌∙◌, inl, inr, if◌then◌else◌, Result, Ok, Err, append-nil}
 use Rattle.std.proofs.lemmas.Bool.{false≢true}
-use Rattle.std.specs.Prelude.{Some, None, ◌⊎◌, min}
+use Rattle.std.specs.Prelude.{Some, None, ◌⊎◌}
 use Rattle.std.specs.List.{list_all}
 use Rattle.mn_base.specs.declared.ids.Tid.{Tid}
 use Rattle.mn_base.specs.declared.reply.Pair.{Pair}
@@ -9,7 +9,6 @@ use Rattle.mn_base.specs.declared.op.Op.{Op}
 use Rattle.mn_base.specs.declared.reply.Reply.{Reply}
 use Rattle.mn_base.specs.Store.{applied, main_store}
 use Rattle.mn_io.specs.DiskModel.{DiskState}
-use Rattle.mn_io.specs.Faults.{Rose}
 use Rattle.mn_mini.specs.declared.item.Item.{Item}
 use Rattle.mn_mini.specs.declared.part.PartItem.{PartItem}
 use Rattle.mn_mini.specs.declared.record.Record.{Record}
@@ -24,6 +23,7 @@ use Rattle.mn_mini.specs.Node.{Response, answer}
 use Rattle.mn_page.specs.Base.{base_of}
 use Rattle.mn_node.specs.Node.{added_to, bodies_of}
 use Rattle.mn_node.specs.State.{NodeState, GoesOn, StandsForRecords, response_to}
+use Rattle.mn_node.proofs.Steps.{rose_later}
 use Rattle.mn_redo.specs.Grammar.{Stands}
 use Rattle.mn_redo.specs.Redo.{StandsFor}
 use Rattle.mn_top.specs.declared.caller.Stop.{Stop}
@@ -123,12 +123,6 @@ pub fails_on : {D : Type 0} (state : D → DiskState) (faults : D → ℕ) (run 
     → Fails state faults old e new → DoesOn state faults run seq pairs op old (Err e) new
 fails_on state faults run seq pairs op old new NoMemory serves stays = serves_still state old new seq pairs serves stays
 fails_on state faults run seq pairs op old new Fault serves failed = (failed.0, λ honest c image. inl (keeps_old state old seq pairs c serves (failed.1 honest c image)))
-
-pub rose_later : (a b c : ℕ) → a ≤ b → Rose b c → Rose a c
-rose_later a b c later rose = min_later a b c later rose
-  where
-    min_later : (a b c : ℕ) → a ≤ b → min (b + 1) (2 ^ 64 - 1) ≤ c → min (a + 1) (2 ^ 64 - 1) ≤ c
-    min_later a b c later rose = grind arith
 
 -- an operation that goes on behind a read
 pub does_behind : {D : Type 0} (state : D → DiskState) (faults : D → ℕ) (run seq : ℕ) (pairs : List Pair) (op : Op) (old mid new : NodeState D) (result : Result Reply Stop) → Stays state old mid

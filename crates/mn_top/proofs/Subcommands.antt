@@ -1,9 +1,10 @@
 -- A parse takes exactly the words of a command, and gives their parts.
-use Rattle.std.proofs.Common.{◌≡◌, List, [], ◌∷◌, ◌++◌, Option, Some, None, Bool, true, false, bytes_eq, codes, sym, refl, ap, ◌∙◌, subst, ◌||◌, true≢false, inl, inr}
+use Rattle.std.proofs.Common.{◌≡◌, List, [], ◌∷◌, ◌++◌, Option, Some, None, Bool, true, false, bytes_eq, codes, sym, refl, ap, ◌∙◌, subst, true≢false, inl, inr}
 use Rattle.std.specs.List.{list_any}
 use Rattle.std.specs.Prelude.{⊤}
 use Rattle.std.proofs.lemmas.Slice.Eq.{bytes_eq-Decides}
 use Rattle.std.specs.Prelude.{option_map}
+use Rattle.mn_base.proofs.Booleans.{or_split}
 use Rattle.clap.specs.Words.{HasKind, Row, first_of, is_simple, is_simple_and_free, kind_of, subcommand_name_of, subcommand_of, subcommand_rows_of}
 use Rattle.clap.specs.declared.error.Error.{Error}
 use Rattle.clap.specs.declared.error.ErrorKind.TheVariants.{OutOfMemory}
@@ -158,13 +159,9 @@ plain_word : (w : Text) → is_option w ≡ false → IsPlain w
 plain_word [] e = record { no_long = refl; no_short = refl; no_end = refl }
 plain_word (b ∷ bs) e = p.plain b bs e
 
-neither : (a b : Bool) → (a || b) ≡ false → (a ≡ false) × (b ≡ false)
-neither true b e = absurd (true≢false e)
-neither false b e = (refl, e)
-
 pub are_plain : (words : List Text) → list_any is_option words ≡ false → ArePlain words
 are_plain [] e = tt
-are_plain (w ∷ ws) e = let both = neither (is_option w) (list_any is_option ws) e in (plain_word w both.0, are_plain ws both.1)
+are_plain (w ∷ ws) e = let both = or_split (is_option w) (list_any is_option ws) e in (plain_word w both.0, are_plain ws both.1)
 
 -- the parse
 

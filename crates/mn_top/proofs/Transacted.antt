@@ -28,6 +28,7 @@ use Rattle.mn_top.proofs.Leaves.{HasRead, leaf_is_page, length-leaf, slot_is, sl
 use Rattle.mn_top.proofs.Planning.{FillsSlot, plan_fills, plan_holds, plan_leaves, plan_of, plan_writes}
 use Rattle.mn_top.proofs.Serving.{keeps_old, serves_still}
 use Rattle.mn_top.proofs.Transacting.{ran_ascends, ran_fits, tx_applied}
+use Rattle.mn_top.proofs.Filling.{pairs_first}
 
 -- what is known of a transaction's page, and of the pairs that it leaves
 pub record Facts (space : List ℕ) (seq : ℕ) (pairs : List Pair) (op : Op) (steps : List Step) (page : List ℕ) (leaf_seq : ℕ) (after : List Pair) : Type 0 where
@@ -41,9 +42,6 @@ pub record Facts (space : List ℕ) (seq : ℕ) (pairs : List Pair) (op : Op) (s
   pub same : IsPage (leaf_page seq after) → page ≡ page_bytes (leaf_page seq after) → after ≡ pairs
   pub done : applied (main_store pairs) op ≡ record { store = main_store after; reply = (ran pairs steps).reply }
 
-first_pairs : (store : Store) (pairs slice : List Pair) → store ≡ main_store pairs → IsSomeAnd (slice_get store 0) (λ kept. slice ≡ kept.pairs) → slice ≡ pairs
-first_pairs store pairs slice e told = subst (λ (s : Store). IsSomeAnd (slice_get s 0) (λ kept. slice ≡ kept.pairs)) e told
-
 pub facts : {D : Type 0} (state : D → DiskState) (node : NodeState D) (seq : ℕ) (pairs : List Pair) (op : Op) (steps : List Step) (page : List ℕ) (leaf_seq : ℕ) (leaf_pairs : List Pair) (store new : Store)
     (slice : List Pair) → Serves state node seq pairs → IsTaken pairs op → op ≡ Tx main_name steps → page ≡ bytes_in (space_on node) 20480 1024
     → ((n : ℕ) (ps : List Pair) → IsPage (leaf_page n ps) → page ≡ page_bytes (leaf_page n ps) → (leaf_seq ≡ n) × (leaf_pairs ≡ ps)) → store ≡ main_store leaf_pairs → new ≡ (applied store op).store
@@ -55,7 +53,7 @@ facts state node seq pairs op steps page leaf_seq leaf_pairs store new slice ser
     let old_store = store_is ∙ ap (λ (l : List Pair). main_store l) is.1 in
     let does = ap (λ (o : Op). applied (main_store pairs) o) on_main ∙ tx_applied pairs steps in
     let new_store = new_is ∙ ap (λ (s : Store). (applied s op).store) old_store ∙ ap (λ (a : Applied). a.store) does in
-    let after = first_pairs new (ran pairs steps).pairs slice new_store told in
+    let after = pairs_first new (ran pairs steps).pairs slice new_store told in
     let room = ap (λ (o : Op). op_overfills (main_store pairs) o) (sym on_main) ∙ taken.room in
     record {
       slot = slot;

@@ -1,7 +1,6 @@
 -- What transactions on the pairs of the leaf leave of them.
 use Rattle.std.proofs.Common.{◌≡◌, ◌≤◌, ◌+◌, ℕ, Bool, true, false, not, List, [], ◌∷◌, ◌++◌, length, refl, sym, subst, ◌∙◌, arith, if◌then◌else◌, cond}
 use Rattle.std.specs.Prelude.{Option, bytes_eq, filter, nat_lt, ◌||◌}
-use Rattle.std.proofs.lemmas.Bool.{false≢true}
 use Rattle.std.proofs.lemmas.Bool.Decides.{nat_tests}
 use Rattle.std.proofs.lemmas.Slice.Eq.{bytes_eq-Decides}
 use Rattle.mn_base.specs.declared.op.Op.{Op}
@@ -11,9 +10,10 @@ use Rattle.mn_base.specs.declared.op.Step.TheVariants.{Get, Put, Del, Check}
 use Rattle.mn_base.specs.declared.reply.Pair.{Pair}
 use Rattle.mn_base.specs.Store.{Ran, applied, is_ascending, is_unmet, main_name, main_store, noted_by, pairs_after_step, ran, ran_from, step_key, value_at}
 use Rattle.mn_base.specs.declared.reply.Reply.TheVariants.{Unmet}
-use Rattle.mn_base.proofs.PairsWith.{AllAbove, all_above, ascending-put, ascending_cons, ascending_parts, first_above}
+use Rattle.mn_base.proofs.PairsWith.{AllAbove, first_above}
+use Rattle.mn_base.proofs.Booleans.{not_false, or_split}
+use Rattle.mn_base.proofs.Stores.{after_steps}
 use Rattle.mn_top.specs.Serve.{IsGet, IsOneGet}
-use Rattle.mn_top.proofs.Leaves.{unnot}
 use Rattle.mn_top.specs.Served.{overfills}
 
 one_get_stays : (pairs : List Pair) (steps : List Step) → IsOneGet steps → (applied (main_store pairs) (Tx main_name steps)).store ≡ main_store pairs
@@ -34,7 +34,7 @@ get_stays pairs Versions get = absurd get
 
 -- a word that is compared with `main`
 pub is_main : (version a b : List ℕ) (differ : Bool) → differ ≡ not (bytes_eq a b) → differ ≡ false → a ≡ version → b ≡ main_name → version ≡ main_name
-is_main version a b differ e f is_a is_b = sym is_a ∙ (bytes_eq-Decides a b).0 (unnot (bytes_eq a b) (sym e ∙ f)) ∙ is_b
+is_main version a b differ e f is_a is_b = sym is_a ∙ (bytes_eq-Decides a b).0 (not_false (bytes_eq a b) (sym e ∙ f)) ∙ is_b
 
 pub tx_applied : (pairs : List Pair) (steps : List Step) → applied (main_store pairs) (Tx main_name steps) ≡ record { store = main_store (ran pairs steps).pairs; reply = (ran pairs steps).reply }
 tx_applied pairs steps = refl
@@ -52,45 +52,14 @@ above_kept key t (p ∷ pairs) all = elim (t p) as (λ b. AllAbove key (cond b (
   | false ↦ above_kept key t pairs all.1
 ]
 
-ascending-filter : (t : Pair → Bool) (pairs : List Pair) → is_ascending pairs ≡ true → is_ascending (filter t pairs) ≡ true
-ascending-filter t [] e = refl
-ascending-filter t (p ∷ pairs) e =
-    let parts = ascending_parts p pairs e in
-    let rest = ascending-filter t pairs parts.1 in
-    let above = above_kept p.key t pairs (all_above p.key pairs parts.0 parts.1) in
-    elim (t p) as (λ b. is_ascending (cond b (p ∷ filter t pairs) (filter t pairs)) ≡ true) [
-      | true ↦ ascending_cons p (filter t pairs) (first_of p.key (filter t pairs) above) rest
-      | false ↦ rest
-    ]
-
-step_ascends : (pairs : List Pair) (step : Step) → is_ascending pairs ≡ true → is_ascending (pairs_after_step pairs step) ≡ true
-step_ascends pairs (Get key) e = e
-step_ascends pairs (Put key value) e = ascending-put key value pairs e
-step_ascends pairs (Del key) e = ascending-filter (λ p. not (bytes_eq p.key key)) pairs e
-step_ascends pairs (Check key want) e = e
-
 -- the pairs of what is left
 abbrev left : Bool → List Pair → ℕ → Option (List ℕ) → Ran → List Pair
 left unmet old n found next = (if unmet then record { pairs = old; reply = Unmet n found } else next).pairs
 
-from_ascends : (old : List Pair) (n : ℕ) (pairs : List Pair) (found : List (Option (List ℕ))) (steps : List Step) → is_ascending old ≡ true → is_ascending pairs ≡ true
-    → is_ascending (ran_from old n pairs found steps).pairs ≡ true
-from_ascends old n pairs found [] e f = f
-from_ascends old n pairs found (step ∷ steps) e f = by_met (is_unmet pairs step) (from_ascends old (n + 1) (pairs_after_step pairs step) (found ++ noted_by pairs step) steps e (step_ascends pairs step f))
-  where
-    by_met : (u : Bool) → is_ascending (ran_from old (n + 1) (pairs_after_step pairs step) (found ++ noted_by pairs step) steps).pairs ≡ true
-        → is_ascending (left u old n (value_at pairs (step_key step)) (ran_from old (n + 1) (pairs_after_step pairs step) (found ++ noted_by pairs step) steps)) ≡ true
-    by_met true next = e
-    by_met false next = next
-
 pub ran_ascends : (pairs : List Pair) (steps : List Step) → is_ascending pairs ≡ true → is_ascending (ran pairs steps).pairs ≡ true
-ran_ascends pairs steps e = from_ascends pairs 1 pairs [] steps e e
+ran_ascends pairs steps e = after_steps pairs 1 pairs [] steps e e
 
 -- and no more than the leaf has room for
-
-pub or_parts : (a b : Bool) → (a || b) ≡ false → (a ≡ false) × (b ≡ false)
-or_parts true b e = absurd (false≢true (sym e))
-or_parts false b e = (refl, e)
 
 pub few_of : (n : ℕ) → nat_lt 8 n ≡ false → n ≤ 8
 few_of n e = grind (arith, nat_tests)
@@ -108,7 +77,7 @@ from_fits old n pairs found (step ∷ steps) few now room =
         → (if u then false else nat_lt 8 (length next) || overfills next steps) ≡ false
         → length (left u old n (value_at pairs (step_key step)) (ran_from old (n + 1) next (found ++ noted_by pairs step) steps)) ≤ 8
     by_met true go e = few
-    by_met false go e = let parts = or_parts (nat_lt 8 (length next)) (overfills next steps) e in go (few_of (length next) parts.0) parts.1
+    by_met false go e = let parts = or_split (nat_lt 8 (length next)) (overfills next steps) e in go (few_of (length next) parts.0) parts.1
 
 pub ran_fits : (pairs : List Pair) (steps : List Step) → length pairs ≤ 8 → overfills pairs steps ≡ false → length (ran pairs steps).pairs ≤ 8
 ran_fits pairs steps few room = from_fits pairs 1 pairs [] steps few few room

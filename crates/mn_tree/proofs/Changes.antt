@@ -18,7 +18,7 @@ use Rattle.mn_tree.specs.State.{Drafted, draft_written, all_drafted}
 
 -- Lists of writes
 
-all_written-append : (o : Overlay) (ws more : List Write) → all_written o (ws ++ more) ≡ all_written (all_written o ws) more
+pub all_written-append : (o : Overlay) (ws more : List Write) → all_written o (ws ++ more) ≡ all_written (all_written o ws) more
 all_written-append o [] more = refl
 all_written-append o (w ∷ ws) more = all_written-append (written o w) ws more
 

@@ -1,18 +1,15 @@
 -- A walk that reaches a leaf goes the way of the plain model.
-use Rattle.std.proofs.Common.{◌≡◌, ℕ, zero, suc, ◌<◌, Bool, true, false, ◌&&◌, List, [], ◌∷◌, Option, Some, None, refl, ap, ◌∙◌, arith, nat_eq, eq-eqb, ne_eqb, eqb-true}
+use Rattle.std.proofs.Common.{◌≡◌, ℕ, zero, suc, ◌<◌, Bool, true, false, List, [], ◌∷◌, Option, Some, None, refl, ap, ◌∙◌, arith, nat_eq, eq-eqb, ne_eqb, eqb-true}
 use Rattle.std.specs.Prelude.{if◌then◌else◌}
 use Rattle.std.specs.Option.{option_map_or, option_and_then}
 use Rattle.mn_base.specs.declared.ids.Addr.{Addr}
+use Rattle.mn_base.proofs.Booleans.{left_true}
 use Rattle.mn_page.specs.declared.page.Page.{Page}
 use Rattle.mn_page.specs.Grammar.{height_of}
 use Rattle.mn_page.specs.Forest.{children_of}
 use Rattle.mn_page.specs.Overlay.{Held, held_at, child_for, path_to, max_path}
 use Rattle.mn_tree.specs.Walk.{held, is_met, goes_on, Missing, Wrong, Reached, walk_down, walk}
 use Rattle.mn_tree.specs.Laws.{WalksArePaths}
-
-both : (x y : Bool) → (x && y) ≡ true → x ≡ true
-both true y h = refl
-both false y h = cc
 
 -- one level of the plain model's path
 abbrev path_step : ℕ → List Held → List ℕ → Addr → List Held → Page → Option (List Held)
@@ -52,7 +49,7 @@ down parents v (suc height) (suc fuel) pages key addr p above path enough is the
     let inner : path_step fuel pages key addr above p ≡ option_and_then (λ next. path_to fuel pages next key (held addr p ∷ above)) (child_for (children_of p) key) =
     rw (ne_eqb (height_of p.body) 0 (λ e. absurd (omega (arith, is, e)))) refl in
     let later = λ (next : Addr) (q : Page) (goes : goes_on parents v height key q ≡ true) (at : held_at pages next ≡ Some q) (way : walk_down parents v height pages key (held next q) (held addr p ∷ above) ≡ Reached path).
-    down parents v height fuel pages key next q (held addr p ∷ above) path (omega (arith, enough)) (eqb-true (height_of q.body) height (both (nat_eq (height_of q.body) height) (is_met parents v key q) goes)) at way in
+    down parents v height fuel pages key next q (held addr p ∷ above) path (omega (arith, enough)) (eqb-true (height_of q.body) height (left_true (nat_eq (height_of q.body) height) (is_met parents v key q) goes)) at way in
     ap (option_and_then (path_step fuel pages key addr above)) there ∙ inner ∙ at_child parents v height fuel pages key addr (held addr p ∷ above) path later (child_for (children_of p) key) way
 
 module _ (parents : List (Option ℕ)) (v : ℕ) (pages : List Held) (root : Addr) (key : List ℕ) (path : List Held) where

@@ -9,6 +9,7 @@ use Rattle.std.proofs.lemmas.Cmp.{nat_eq_equiv}
 use Rattle.indexmap.specs.IndexMap.{insert_entry}
 use Rattle.mn_base.specs.Ids.{addr_same}
 use Rattle.mn_base.specs.declared.ids.Addr.{Addr}
+use Rattle.mn_base.proofs.Booleans.{both_parts}
 use Rattle.mn_page.specs.Overlay.{held_at, held_with, is_new}
 use Rattle.mn_tree.specs.declared.held.HeldPage.{HeldPage}
 use Rattle.mn_tree.specs.declared.place.Place.{Place}
@@ -21,13 +22,9 @@ use Rattle.mn_tree.specs.Places.{place_of, pages_of, AreAtHome, AreTheirOwn}
 abbrev pub same : Place → Place → Bool
 same a b = nat_eq a.node b.node && nat_eq a.slot b.slot
 
-both : (x y : Bool) → (x && y) ≡ true → (x ≡ true) × (y ≡ true)
-both true y h = (refl, h)
-both false y h = cc
-
 tells_apart : (a b : Place) → same a b ≡ true → a ≡ b
 tells_apart a b h =
-    let two = both (nat_eq a.node b.node) (nat_eq a.slot b.slot) h in
+    let two = both_parts (nat_eq a.node b.node) (nat_eq a.slot b.slot) h in
     ap (λ n. record { node = n; slot = a.slot }) (eqb-true a.node b.node two.0)
     ∙ ap (λ n. record { node = b.node; slot = n }) (eqb-true a.slot b.slot two.1)
 

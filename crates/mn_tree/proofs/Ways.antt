@@ -1,9 +1,10 @@
 -- How a walk goes on at an inner page.
 use Rattle.std.specs.Prelude.{if◌then◌else◌}
-use Rattle.std.proofs.Common.{◌≡◌, ℕ, suc, ◌+◌, Bool, true, false, ◌&&◌, not, List, [], ◌∷◌, Option, Some, None, refl, sym, ap, ◌∙◌, add-one}
+use Rattle.std.proofs.Common.{◌≡◌, ℕ, suc, ◌+◌, Bool, true, false, not, List, [], ◌∷◌, Option, Some, None, refl, sym, ap, ◌∙◌, add-one}
 use Rattle.std.specs.Option.{option_map_or}
 use Rattle.mn_base.specs.Order.{key_lt, key_le, below_bound}
 use Rattle.mn_base.specs.declared.ids.Addr.{Addr}
+use Rattle.mn_base.proofs.Booleans.{both_parts}
 use Rattle.mn_page.specs.declared.page.Page.{Page}
 use Rattle.mn_page.specs.declared.page.Body.TheVariants.{Inner}
 use Rattle.mn_page.specs.declared.page.Child.{Child}
@@ -12,10 +13,6 @@ use Rattle.mn_page.specs.Holds.{page_covers}
 use Rattle.mn_page.specs.Overlay.{Held, held_at, child_for}
 use Rattle.mn_tree.specs.Walk.{held, goes_on, Walk, Missing, Wrong, walk_down}
 use Rattle.mn_tree.specs.Found.{child_from}
-
-both : (x y : Bool) → (x && y) ≡ true → (x ≡ true) × (y ≡ true)
-both true y h = (refl, h)
-both false y h = cc
 
 pub child_is : (first : Addr) (rest : List Child) (low : List ℕ) (high : Option (List ℕ)) (key : List ℕ) → key_le low key ≡ true → below_bound key high ≡ true → child_for (ranges_from first low rest high) key ≡ Some (child_from first rest key)
 child_is first [] low high key above below = rw (above, below) refl
@@ -33,7 +30,7 @@ module _ (parents : List (Option ℕ)) (v left : ℕ) (pages : List Held) (key :
   pub follows : (height : ℕ) (first : Addr) (rest : List Child) (addr : Addr) → h.page.body ≡ Inner height first rest → page_covers key h.page ≡ true → addr ≡ child_from first rest key
       → walk_down parents v (left + 1) pages key h above ≡ followed parents v left pages key h above addr (held_at pages addr)
   follows height first rest addr is covers child =
-      let two = both (key_le h.page.low key) (below_bound key h.page.high) covers in
+      let two = both_parts (key_le h.page.low key) (below_bound key h.page.high) covers in
       let next : child_for (children_of h.page) key ≡ Some addr = ap (λ b. child_for (body_children h.page.low h.page.high b) key) is ∙ child_is first rest h.page.low h.page.high key two.0 two.1 ∙ ap (λ a. Some a) (sym child) in
       ap (λ n. walk_down parents v n pages key h above) (add-one left)
       ∙ ap (λ o. option_map_or (λ a. followed parents v left pages key h above a (held_at pages a)) o (Wrong h.addr)) next

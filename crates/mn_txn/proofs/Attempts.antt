@@ -11,6 +11,7 @@ use Rattle.mn_base.specs.declared.ids.NodeNo.{NodeNo}
 use Rattle.mn_base.specs.declared.op.Step.{Step}
 use Rattle.mn_base.specs.declared.op.Op.TheVariants.{Tx}
 use Rattle.mn_base.specs.declared.reply.Pair.{Pair}
+use Rattle.mn_base.proofs.Lists.{all_append}
 use Rattle.mn_mini.specs.declared.item.Item.{Item}
 use Rattle.mn_mini.specs.Mini.{Mini}
 use Rattle.mn_mini.specs.Flat.{memory_after}
@@ -22,19 +23,23 @@ use Rattle.mn_page.specs.Holds.{Holds, page_covers}
 use Rattle.mn_page.specs.Overlay.{Held}
 use Rattle.mn_page.specs.SlotOrder.{AreInSlotOrder}
 use Rattle.mn_page.proofs.Spelled.{page_length}
+use Rattle.mn_page.proofs.Grid.{all_split}
 use Rattle.mn_tree.specs.Trees.{is_noted}
 use Rattle.mn_tree.specs.Moves.{done_in, came_at, leaves_at}
 use Rattle.mn_tree.specs.MoveLaws.{AreTold}
 use Rattle.mn_world.specs.Places.{Place, page_place, entry_place, catalog_node, count_place, IsPagePlace}
 use Rattle.mn_world.specs.Planned.{IsWholePlace, ComeOnce, compare_places, write_places, IsCompared, HasNextNumber, IsPickOf, page_write, WritesPages, PlanActs}
 use Rattle.mn_world.specs.Growth.{GoOn, node_no, addrs_of}
+use Rattle.mn_world.proofs.Plans.PutInPlace.{not_count}
+use Rattle.mn_world.proofs.Plans.SplitRoot.{page_places_apart}
+use Rattle.mn_world.proofs.Plans.Told.{all_there}
 use Rattle.mn_txn.specs.declared.image.Image.{Image}
 use Rattle.mn_txn.specs.State.{is_at, AreApart}
 use Rattle.mn_txn.specs.Plan.{compare_of, write_of}
 use Rattle.mn_txn.specs.Laws.{image_place}
 use Rattle.mn_txn.specs.Attempt.{Attempt, page_image, came_images, entry_images, count_image}
 use Rattle.mn_txn.proofs.Plans.{compared, written}
-use Rattle.mn_txn.proofs.Lists.{contains_map, mapped_back, all_contained, noted_has, has_noted, all_joined, all_apart, pick_behind}
+use Rattle.mn_txn.proofs.Lists.{contains_map, mapped_back, noted_has, has_noted, pick_behind}
 
 -- Places of images
 
@@ -43,17 +48,6 @@ same_length node start n m e = ap (λ k. let r : Place = record { node = node; s
 
 pub page_is : (addr : Addr) (p : Page) → IsPage p → image_place (page_image addr p) ≡ page_place addr
 page_is addr p is = same_length addr.node (20480 + 1024 * addr.slot) (length (page_bytes p)) 1024 (page_length p is)
-
--- a page's address by its place
-addr_of : (a b : Addr) → page_place a ≡ page_place b → a ≡ b
-addr_of a b e =
-    let node : a.node ≡ b.node = ap (λ (p : Place). p.node) e in
-    let start : 20480 + 1024 * a.slot ≡ 20480 + 1024 * b.slot = ap (λ (p : Place). p.start) e in
-    let slot : a.slot ≡ b.slot = omega arith in
-    ap (λ (n : NodeNo). let r : Addr = record { node = n; slot = a.slot } in r) node ∙ ap (λ s. let r : Addr = record { node = b.node; slot = s } in r) slot
-
-pub no_count : (a : Addr) (n : NodeNo) (place : Place) → page_place a ≡ place → place ≡ count_place n → ⊥
-no_count a n place e f = let same : ◌≡◌ {A = ℕ} 1024 8 = ap (λ (p : Place). p.length) (e ∙ f) in absurd (omega arith)
 
 -- images at one place are not apart
 not_same : (x y : Image) → is_at x.node x.start y ≡ false → image_place y ≡ image_place x → ⊥
@@ -175,7 +169,7 @@ module _ (f : Forest) (store : Store) (nodes : ℕ) (a : Attempt) (version : Sto
               let l = facts.told.leaves x leaf in
               inl (x, l.0, sym is, l.1, l.2, l.3, subst (λ (ss : List Step). list_any (λ step. page_covers (step_key step) l.0) ss ≡ true) run l.4)
           | inr change ↦
-              let c' = all_contained (λ y. (p : Page) × (came_at a.moves y ≡ Some p) × (page_at f y ≡ Some p) × IsPage p) addrs x facts.came has in
+              let c' = all_there (λ y. (p : Page) × (came_at a.moves y ≡ Some p) × (page_at f y ≡ Some p) × IsPage p) addrs x facts.came has in
               inr (inr (inl (x, c'.0, sym is, c'.2, subst (Contains (write_places mini)) is (changed_written x change))))
         ]
 
@@ -201,19 +195,19 @@ module _ (f : Forest) (store : Store) (nodes : ℕ) (a : Attempt) (version : Sto
     ]
       where
         at : (x : Addr) → page_place x ≡ place → x ≡ old.0
-        at x is = addr_of x old.0 (is ∙ old.2)
+        at x is = page_places_apart x old.0 (is ∙ old.2)
 
         as_read : (x : Addr) → x ≡ old.0 → Contains (addrs_of changed) x → Contains (map page_place addrs ++ (entries ++ counts)) place
         as_read x same c =
             let h = mapped_back (λ (g : Held). g.addr) changed x c in
-            let noted = (all_contained (λ g. (is_noted addrs g.addr ≡ true) × ((p : Page) × (page_at f g.addr ≡ Some p) × (g.page.seq ≡ p.seq + 1))) changed h.0 facts.changes h.1).0 in
+            let noted = (all_there (λ g. (is_noted addrs g.addr ≡ true) × ((p : Page) × (page_at f g.addr ≡ Some p) × (g.page.seq ≡ p.seq + 1))) changed h.0 facts.changes h.1).0 in
             Contains-append_left (map page_place addrs) (entries ++ counts) place
             (subst (Contains (map page_place addrs)) (ap page_place (h.2 ∙ same) ∙ sym old.2) (contains_map page_place addrs (h.0).addr (noted_has addrs (h.0).addr noted)))
 
         as_new : (x : Addr) → x ≡ old.0 → Contains (addrs_of new) x → Contains (map page_place addrs ++ (entries ++ counts)) place
         as_new x same c =
             let h = mapped_back (λ (g : Held). g.addr) new x c in
-            let none = (all_contained (λ g. (page_at f g.addr ≡ None) × (g.addr.node.0 < node_count f) × (g.addr.slot < max_slots) × (g.page.seq ≡ 1)) new h.0 facts.news h.1).0 in
+            let none = (all_there (λ g. (page_at f g.addr ≡ None) × (g.addr.node.0 < node_count f) × (g.addr.slot < max_slots) × (g.page.seq ≡ 1)) new h.0 facts.news h.1).0 in
             absurd (nothing (page_at f old.0) (ap (page_at f) (sym (h.2 ∙ same)) ∙ none) old.3)
           where
             nothing : (o : Option Page) → o ≡ None → o ≡ Some old.1 → ⊥
@@ -226,14 +220,14 @@ module _ (f : Forest) (store : Store) (nodes : ℕ) (a : Attempt) (version : Sto
         ]
 
         of_count : (n : ℕ) × Contains giving n × (count_place (node_no n) ≡ place) → Contains (map page_place addrs ++ (entries ++ counts)) place
-        of_count (n, has, is) = absurd (no_count old.0 (node_no n) place (sym old.2) (sym is))
+        of_count (n, has, is) = absurd (not_count old.0 (node_no n) place (sym old.2) (sym is))
     back place (inr (inr (inr count))) = elim (Contains-append_cases (map page_place (addrs_of (changed ++ new))) counts place (subst (λ (l : List Place). Contains l place) written_are count.1)) as (λ _. Contains (map page_place addrs ++ (entries ++ counts)) place) [
       | inl page ↦ of_page (mapped_back page_place (addrs_of (changed ++ new)) place page)
       | inr c ↦ Contains-append_right (map page_place addrs) (entries ++ counts) place (Contains-append_right entries counts place c)
     ]
       where
         of_page : (x : Addr) × Contains (addrs_of (changed ++ new)) x × (page_place x ≡ place) → Contains (map page_place addrs ++ (entries ++ counts)) place
-        of_page (x, has, is) = absurd (no_count x count.0.0 place is count.0.1)
+        of_page (x, has, is) = absurd (not_count x count.0.0 place is count.0.1)
 
     pub compares_are : (place : Place) → Contains (compare_places mini) place ↔ Compared place
     compares_are place = (λ c. there place (subst (λ (l : List Place). Contains l place) compared_are c), λ c. subst (λ (l : List Place). Contains l place) (sym compared_are) (back place c))
@@ -246,17 +240,17 @@ module _ (f : Forest) (store : Store) (nodes : ℕ) (a : Attempt) (version : Sto
 
     pub numbers : (memory : List (List ℕ)) → GoOn f memory → AllByRecursion (HasNextNumber memory) mini.items
     numbers memory go =
-        let parts = all_apart (λ h. IsPage h.page) changed new facts.pages in
-        all_joined (HasNextNumber memory) (map compare_of reads) (map write_of writes) (compare_numbers memory reads)
+        let parts = all_split (λ h. IsPage h.page) changed new facts.pages in
+        all_append (HasNextNumber memory) (map compare_of reads) (map write_of writes) (compare_numbers memory reads)
         (subst (AllByRecursion (HasNextNumber memory)) (sym (map-append write_of (map held_image (changed ++ new)) (map (λ n. count_image n (now n)) giving)))
-        (all_joined (HasNextNumber memory) (map write_of (map held_image (changed ++ new))) (map write_of (map (λ n. count_image n (now n)) giving)) (both changed parts.0 facts.changes) (of_counts giving)))
+        (all_append (HasNextNumber memory) (map write_of (map held_image (changed ++ new))) (map write_of (map (λ n. count_image n (now n)) giving)) (both changed parts.0 facts.changes) (of_counts giving)))
       where
         of_new : (hs : List Held) → AllByRecursion (λ h. IsPage h.page) hs → AllByRecursion (λ h. (page_at f h.addr ≡ None) × (h.addr.node.0 < node_count f) × (h.addr.slot < max_slots) × (h.page.seq ≡ 1)) hs → AllByRecursion (HasNextNumber memory) (map write_of (map held_image hs))
         of_new [] pages all = tt
         of_new (h ∷ hs) pages all = (go.new h.addr h.page (all.0).0 (all.0).1 (all.0).2 pages.0 (all.0).3, of_new hs pages.1 all.1)
 
         both : (hs : List Held) → AllByRecursion (λ h. IsPage h.page) hs → AllByRecursion (λ h. (is_noted addrs h.addr ≡ true) × ((p : Page) × (page_at f h.addr ≡ Some p) × (h.page.seq ≡ p.seq + 1))) hs → AllByRecursion (HasNextNumber memory) (map write_of (map held_image (hs ++ new)))
-        both [] pages all = of_new new (all_apart (λ h. IsPage h.page) changed new facts.pages).1 facts.news
+        both [] pages all = of_new new (all_split (λ h. IsPage h.page) changed new facts.pages).1 facts.news
         both (h ∷ hs) pages all = (go.changed h.addr (all.0).1.0 h.page (all.0).1.1 pages.0 (all.0).1.2, both hs pages.1 all.1)
 
         of_counts : (ns : List ℕ) → AllByRecursion (HasNextNumber memory) (map write_of (map (λ n. count_image n (now n)) ns))
@@ -273,7 +267,7 @@ module _ (f : Forest) (store : Store) (nodes : ℕ) (a : Attempt) (version : Sto
       written = written_are ∙ ap (λ (l : List Addr). map page_place l ++ counts) (map-append (λ (h : Held). h.addr) changed new);
       as_compared = subst (IsPickOf (map page_place (addrs_of changed))) (sym compared_are) (pick_behind (map page_place (addrs_of changed)) (map page_place addrs) (entries ++ counts) facts.picks);
       free = free new facts.news;
-      items = items new there_new (all_apart (λ h. IsPage h.page) changed new facts.pages).1;
+      items = items new there_new (all_split (λ h. IsPage h.page) changed new facts.pages).1;
       in_order = facts.ascend;
       no_more = no_more giving;
     }
@@ -293,14 +287,14 @@ module _ (f : Forest) (store : Store) (nodes : ℕ) (a : Attempt) (version : Sto
 
         no_more : (ns : List ℕ) → AllByRecursion (λ place. IsPagePlace place → ⊥) (map (λ n. count_place (node_no n)) ns)
         no_more [] = tt
-        no_more (n ∷ ns) = ((λ is. no_count is.0 (node_no n) (count_place (node_no n)) (sym is.1) refl), no_more ns)
+        no_more (n ∷ ns) = ((λ is. not_count is.0 (node_no n) (count_place (node_no n)) (sym is.1) refl), no_more ns)
 
     -- Whole places
 
     pub wholes : AllByRecursion IsWholePlace (write_places mini)
     wholes =
         subst (AllByRecursion IsWholePlace) (sym written_are)
-        (all_joined IsWholePlace (map page_place (addrs_of (changed ++ new))) counts (of_pages (addrs_of (changed ++ new))) (of_counts giving))
+        (all_append IsWholePlace (map page_place (addrs_of (changed ++ new))) counts (of_pages (addrs_of (changed ++ new))) (of_counts giving))
       where
         of_pages : (xs : List Addr) → AllByRecursion IsWholePlace (map page_place xs)
         of_pages [] = tt

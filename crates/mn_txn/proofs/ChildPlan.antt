@@ -28,10 +28,13 @@ use Rattle.mn_page.specs.Forest.{heads_in, entry_head}
 use Rattle.mn_page.specs.Copies.{CopiesArePages, marked_for, copy_for}
 use Rattle.mn_page.specs.Added.{frozen_entry, child_entry}
 use Rattle.mn_base.proofs.VersionTree.{child_admitted}
-use Rattle.mn_page.proofs.Spelled.{page_length, entry_length}
+use Rattle.mn_base.proofs.Booleans.{and_false}
+use Rattle.mn_page.proofs.Spelled.{page_length, entry_length, same_addr}
+use Rattle.mn_page.proofs.Grid.{all_split}
 use Rattle.mn_catalog.specs.Grammar.{IsCatalog}
 use Rattle.mn_catalog.specs.Versions.{Numbered, numbered, branch_entries, snapshot_entries, AreEntries}
 use Rattle.mn_world.specs.Growth.{node_no}
+use Rattle.mn_world.proofs.Meaning.Faults.{same_number}
 use Rattle.mn_txn.specs.declared.error.PlanError.{PlanError}
 use Rattle.mn_txn.specs.declared.error.PlanError.TheVariants.{Worn, NoMemory}
 use Rattle.mn_txn.specs.declared.image.Image.{Image}
@@ -48,7 +51,6 @@ use Rattle.mn_txn.specs.ChildPlan.{IsPlanOf, OfChild, IsChildPlan, MayPlanChild,
 use Rattle.mn_txn.proofs.Children.{frozen_one, writable_one}
 use Rattle.mn_txn.proofs.Fits.{IsIn, in_space, page_in, count_in_space, test_passes}
 use Rattle.mn_txn.proofs.Images.{turned, worn_read, worn_unread}
-use Rattle.mn_txn.proofs.Lists.{all_apart}
 use Rattle.mn_txn.proofs.Worn.{at_read, last_is, no_count}
 
 -- Images that join
@@ -64,7 +66,7 @@ joined_last (x ∷ xs) i all =
 before_it : (xs : List Image) (i : Image) (is : List Image) → AreApart (xs ++ i ∷ is)
     → AllByRecursion (λ x. is_at x.node x.start i ≡ false) xs
 before_it [] i is apart = tt
-before_it (x ∷ xs) i is apart = (((all_apart (λ y. is_at x.node x.start y ≡ false) xs (i ∷ is) apart.0).1).0, before_it xs i is apart.1)
+before_it (x ∷ xs) i is apart = (((all_split (λ y. is_at x.node x.start y ≡ false) xs (i ∷ is) apart.0).1).0, before_it xs i is apart.1)
 
 -- images apart join as they are listed
 joined_all : (xs is : List Image) → AreApart (xs ++ is) → with_images xs is ≡ xs ++ is
@@ -75,17 +77,8 @@ joined_all xs (i ∷ is) apart =
 
 -- Places
 
-and_false : (b : Bool) → (b && false) ≡ false
-and_false true = refl
-and_false false = refl
-
 starts_differ : (a b : Image) → (a.start ≡ b.start → ⊥) → is_at a.node a.start b ≡ false
 starts_differ a b differ = ap (λ t. nat_eq a.node.0 b.node.0 && t) (ne_eqb a.start b.start differ) ∙ and_false (nat_eq a.node.0 b.node.0)
-
-addr_is : (a b : Addr) → a.node.0 ≡ b.node.0 → a.slot ≡ b.slot → a ≡ b
-addr_is a b nodes slots =
-    ap (λ k. let x : Addr = record { node = record { 0 = k }; slot = a.slot } in x) nodes
-    ∙ ap (λ k. let x : Addr = record { node = b.node; slot = k } in x) slots
 
 pages_differ : (a b : Addr) (q : Page) → (b ≡ a → ⊥)
     → is_at a.node (20480 + 1024 * a.slot) (page_image b q) ≡ false
@@ -95,7 +88,7 @@ pages_differ a b q differ = by_test (is_at a.node (20480 + 1024 * a.slot) (page_
     by_test true e =
         let both = and_parts (nat_eq a.node.0 b.node.0) (nat_eq (20480 + 1024 * a.slot) (20480 + 1024 * b.slot)) e in
         let starts = eqb-true (20480 + 1024 * a.slot) (20480 + 1024 * b.slot) both.1 in
-        absurd (differ (sym (addr_is a b (eqb-true a.node.0 b.node.0 both.0) (omega (arith, starts)))))
+        absurd (differ (sym (same_addr a b (eqb-true a.node.0 b.node.0 both.0) (omega (arith, starts)))))
     by_test false e = refl
 
 none_at : (xs : List Image) (i : Image) → AllByRecursion (λ x. is_at x.node x.start i ≡ false) xs
@@ -519,14 +512,11 @@ branch_room es name child admitted =
 entry_same : (x y : CatEntry) → Some x ≡ Some y → x ≡ y
 entry_same x y e = cc
 
-number_same : (m n : ℕ) → Some m ≡ Some n → m ≡ n
-number_same m n e = cc
-
 module _ (entries : List CatEntry) (nodes : ℕ) (name child : List ℕ) (version : VersionNo) (root : Page) (slot : Addr)
     (may : MayHaveChild entries nodes name root slot) (named : number_named (heads_in entries) name ≡ Some version.0)
     (catalog : IsCatalog entries) (many : length entries < 64) (used : List CatEntry) (same : used ≡ entries) (es : List Numbered) where
   its_entry : slice_get entries version.0 ≡ Some may.entry
-  its_entry = subst (λ k. slice_get entries k ≡ Some may.entry) (number_same may.version.0 version.0 (sym may.is.named ∙ named)) may.is.there
+  its_entry = subst (λ k. slice_get entries k ≡ Some may.entry) (same_number may.version.0 version.0 (sym may.is.named ∙ named)) may.is.there
 
   its_version : IsVersion entries name version may.entry
   its_version = record { named = named; there = its_entry }

@@ -26,6 +26,7 @@ use Rattle.mn_page.specs.Overlay.{Held, held_at, next_number}
 use Rattle.mn_page.specs.Copies.{CopiesArePages, marked_for, copy_for}
 use Rattle.mn_page.specs.Added.{Addition, MayBeAdded, HasCopy, Adds, AreShown, frozen_entry, child_entry, after_snapshot, after_branch, SnapshotIsShown, BranchIsShown}
 use Rattle.mn_base.proofs.VersionTree.{child_admitted}
+use Rattle.mn_base.proofs.Lists.{all_append}
 use Rattle.mn_page.proofs.Spelled.{entry_length}
 use Rattle.mn_tree.proofs.Trees.Puts.{same_itself}
 use Rattle.mn_world.specs.Places.{Place, page_place, entry_place, catalog_node, count_place, IsPagePlace}
@@ -36,6 +37,8 @@ use Rattle.mn_world.specs.Growth.{taken_on, AreNextSlots, node_no, count_in, cou
 use Rattle.mn_world.proofs.Plans.Compares.{still_named}
 use Rattle.mn_world.proofs.Plans.Entries.{with_within, with_behind}
 use Rattle.mn_world.proofs.Plans.Grown.{addr_differs}
+use Rattle.mn_world.proofs.Plans.PutInPlace.{not_count}
+use Rattle.mn_world.proofs.Meaning.Kept.{number_within}
 use Rattle.mn_txn.specs.declared.image.Image.{Image}
 use Rattle.mn_txn.specs.State.{image, AreApart}
 use Rattle.mn_txn.specs.Order.{in_item_order}
@@ -43,9 +46,9 @@ use Rattle.mn_txn.specs.Plan.{plan_of, compare_of, write_of}
 use Rattle.mn_txn.specs.Laws.{image_place, PlansAreInOrder}
 use Rattle.mn_txn.specs.Attempt.{page_image}
 use Rattle.mn_txn.specs.Children.{ChildTry, IsChildTry, entry_image, unused_image, count_read, count_written, root_written, copy_written, child_reads, snapshot_writes, branch_writes, SnapshotIsPlanned, BranchIsPlanned}
-use Rattle.mn_txn.proofs.Attempts.{page_is, same_length, no_count, places_once, compares_pass}
-use Rattle.mn_txn.proofs.Known.{named_low, nodes_are}
-use Rattle.mn_txn.proofs.Lists.{contains_map, all_joined}
+use Rattle.mn_txn.proofs.Attempts.{page_is, same_length, places_once, compares_pass}
+use Rattle.mn_txn.proofs.Known.{nodes_are}
+use Rattle.mn_txn.proofs.Lists.{contains_map}
 use Rattle.mn_txn.proofs.Plans.{compared, written, apart_in_order}
 
 -- The node that gives the slot
@@ -155,7 +158,7 @@ module _ (copies_are_pages : CopiesArePages) (next_slots_are_free : NextSlotsAre
   room = child_admitted kept c.child admitted
 
   pub low : v < length kept
-  low = named_low kept c.name v is.named
+  low = number_within kept c.name v is.named
 
   pub few : v < 64
   few = omega (arith, low, room.1)
@@ -337,8 +340,8 @@ module _ (copies_are_pages : CopiesArePages) (next_slots_are_free : NextSlotsAre
     back place (inr (inr (inr count))) = (3, omega arith, of_write (subst (λ (l : List Place). Contains l place) written_are count.1))
       where
         of_write : Contains (page_place c.entry.root ∷ page_place c.slot ∷ others) place → count_place (node_no node) ≡ place
-        of_write (zero, l, e) = absurd (no_count c.entry.root count.0.0 place e count.0.1)
-        of_write (suc zero, l, e) = absurd (no_count c.slot count.0.0 place e count.0.1)
+        of_write (zero, l, e) = absurd (not_count c.entry.root count.0.0 place e count.0.1)
+        of_write (suc zero, l, e) = absurd (not_count c.slot count.0.0 place e count.0.1)
         of_write (suc (suc k), l, e) = only_count count.0.0 place count.0.1 ws (k, omega arith, e)
 
     pub compares_are : (place : Place) → Contains (compare_places mini) place ↔ Wanted place
@@ -361,7 +364,7 @@ module _ (copies_are_pages : CopiesArePages) (next_slots_are_free : NextSlotsAre
                   (
                     go.new c.slot copy (free.0).0.0 (free.0).0.1 (free.0).0.3 are_pages.1 refl,
                     subst (AllByRecursion (HasNextNumber memory)) (sym (map-append write_of (map numbered_image ws) (count_written c ∷ [])))
-                        (all_joined (HasNextNumber memory) (map write_of (map numbered_image ws)) (write_count (node_no node) (c.slot.slot + 1) ∷ []) (each ws of_entries) (go.counts (node_no node) (c.slot.slot + 1), tt)),
+                        (all_append (HasNextNumber memory) (map write_of (map numbered_image ws)) (write_count (node_no node) (c.slot.slot + 1) ∷ []) (each ws of_entries) (go.counts (node_no node) (c.slot.slot + 1), tt)),
                   ),
                 ),
               ),
@@ -389,7 +392,7 @@ module _ (copies_are_pages : CopiesArePages) (next_slots_are_free : NextSlotsAre
     }
       where
         no_more : (xs : List Numbered) → AllByRecursion (λ place. IsPagePlace place → ⊥) (map (λ (x : Numbered). entry_place catalog_node x.0) xs ++ count_place (node_no node) ∷ [])
-        no_more [] = ((λ page. no_count page.0 (node_no node) (count_place (node_no node)) (sym page.1) refl), tt)
+        no_more [] = ((λ page. not_count page.0 (node_no node) (count_place (node_no node)) (sym page.1) refl), tt)
         no_more (x ∷ xs) = ((λ page. let same : ◌≡◌ {A = ℕ} 64 1024 = ap (λ (p : Place). p.length) page.1 in absurd (omega arith)), no_more xs)
 
     pub wholes : AllByRecursion IsWholePlace (write_places mini)

@@ -11,6 +11,7 @@ use Rattle.mn_base.specs.declared.ids.Addr.{Addr}
 use Rattle.mn_base.specs.declared.op.Step.{Step}
 use Rattle.mn_base.specs.declared.op.Op.TheVariants.{Tx}
 use Rattle.mn_base.specs.declared.reply.Pair.{Pair}
+use Rattle.mn_base.proofs.Lists.{all_both, weaker}
 use Rattle.mn_mini.specs.declared.item.Item.{Item}
 use Rattle.mn_mini.specs.Mini.{Mini}
 use Rattle.mn_mini.specs.Flat.{memory_after}
@@ -23,6 +24,8 @@ use Rattle.mn_page.specs.Overlay.{Held, next_number, placed_old}
 use Rattle.mn_page.specs.SlotOrder.{AreInSlotOrder}
 use Rattle.mn_page.proofs.Alike.{re_paired}
 use Rattle.mn_page.proofs.Spelled.{entry_length}
+use Rattle.mn_page.proofs.Copy.{page_same}
+use Rattle.mn_page.proofs.Grid.{all_filter}
 use Rattle.mn_tree.specs.State.{Drafted}
 use Rattle.mn_tree.specs.Trees.{is_noted}
 use Rattle.mn_tree.specs.Order.{is_changed, changed_order, placed, pair_of}
@@ -35,6 +38,7 @@ use Rattle.mn_world.specs.declared.entry.Entry.{Entry}
 use Rattle.mn_world.specs.Planned.{Continues, PlanActs, IsPickOf, ComparesHold}
 use Rattle.mn_world.specs.Plans.{write_count}
 use Rattle.mn_world.specs.Growth.{AreNextSlots, taken_on, giving_nodes, node_no, count_writes, addrs_of, AreCounts, AreDifferent, NextSlotsAreFree, write_held, WritesLeaveStore, ComparesTell, NumbersGoOn}
+use Rattle.mn_world.proofs.Plans.Grown.{all_mapped}
 use Rattle.mn_txn.specs.declared.image.Image.{Image}
 use Rattle.mn_txn.specs.State.{AreApart}
 use Rattle.mn_txn.specs.Order.{in_item_order}
@@ -48,27 +52,6 @@ use Rattle.mn_txn.proofs.Known.{few_nodes, number, version, shown, none_new, agr
 use Rattle.mn_txn.proofs.Attempts.{Facts, mini, acts, compares_pass, held_image}
 
 -- Lists
-
-all_unmapped : {X Y : Type 0} (P : Y → Type 0) (f : X → Y) (xs : List X) → AllByRecursion P (map f xs) → AllByRecursion (λ x. P (f x)) xs
-all_unmapped P f [] all = tt
-all_unmapped P f (x ∷ xs) all = (all.0, all_unmapped P f xs all.1)
-
-both_hold : {X : Type 0} (P Q R : X → Type 0) → ((x : X) → P x → Q x → R x) → (xs : List X) → AllByRecursion P xs → AllByRecursion Q xs → AllByRecursion R xs
-both_hold P Q R join [] all more = tt
-both_hold P Q R join (x ∷ xs) all more = (join x all.0 more.0, both_hold P Q R join xs all.1 more.1)
-
-weaker : {X : Type 0} (P Q : X → Type 0) → ((x : X) → P x → Q x) → (xs : List X) → AllByRecursion P xs → AllByRecursion Q xs
-weaker P Q more [] all = tt
-weaker P Q more (x ∷ xs) all = (more x all.0, weaker P Q more xs all.1)
-
--- the chosen ones pass
-all_filter : {X : Type 0} (P : X → Type 0) (t : X → Bool) (xs : List X) → AllByRecursion (λ x. t x ≡ true → P x) xs → AllByRecursion P (filter t xs)
-all_filter P t [] all = tt
-all_filter {X} P t (x ∷ xs) all = by_test (t x) refl (all_filter P t xs all.1)
-  where
-    by_test : (b : Bool) → t x ≡ b → AllByRecursion P (filter t xs) → AllByRecursion P (if b then x ∷ filter t xs else filter t xs)
-    by_test true e rest = (all.0 e, rest)
-    by_test false e rest = rest
 
 none_pass : {X : Type 0} (t : X → Bool) → ((x : X) → t x ≡ false) → (xs : List X) → filter t xs ≡ []
 none_pass t off [] = refl
@@ -138,10 +121,7 @@ no_counts counts = ap (map (λ n. record_of counts n)) (none_pass (λ n. not (na
     record_of : List ℕ → ℕ → Item
     record_of cs n = write_count (node_no n) (slice_index_or cs n 0 + taken_on [] n)
 
-page_same : (p q : Page) → Some p ≡ Some q → p ≡ q
-page_same p q e = cc
-
-images_held : (xs : List (Addr × Page)) → map (λ h. page_image h.0 h.1) xs ≡ map held_image (map held_pair xs)
+pub images_held : (xs : List (Addr × Page)) → map (λ h. page_image h.0 h.1) xs ≡ map held_image (map held_pair xs)
 images_held [] = refl
 images_held (x ∷ xs) = ap (λ (l : List Image). page_image x.0 x.1 ∷ l) (images_held xs)
 
@@ -221,7 +201,7 @@ module _ (moves_tell : MovesTell) (moves_read : MovesRead) (moves_come_once : Mo
   -- changed pages are of the read set
   noted_changed : (changed : List Held) → addrs_of changed ≡ changed_order a.draft → AllByRecursion (λ h. (is_noted a.draft.read h.addr ≡ true) × (is_noted a.draft.overlay.changed h.addr ≡ true)) changed
   noted_changed changed order =
-      all_unmapped (λ x. (is_noted a.draft.read x ≡ true) × (is_noted a.draft.overlay.changed x ≡ true)) (λ (h : Held). h.addr) changed
+      all_mapped (λ x. (is_noted a.draft.read x ≡ true) × (is_noted a.draft.overlay.changed x ≡ true)) (λ (h : Held). h.addr) changed
       (subst (AllByRecursion (λ x. (is_noted a.draft.read x ≡ true) × (is_noted a.draft.overlay.changed x ≡ true))) (sym order)
       (all_filter (λ x. (is_noted a.draft.read x ≡ true) × (is_noted a.draft.overlay.changed x ≡ true)) (is_changed a.draft.overlay.changed) a.draft.read
       (all_noted (λ x. is_changed a.draft.overlay.changed x ≡ true → (is_noted a.draft.read x ≡ true) × (is_noted a.draft.overlay.changed x ≡ true)) a.draft.read (λ x noted e. (noted, e)))))
@@ -263,7 +243,7 @@ module _ (moves_tell : MovesTell) (moves_read : MovesRead) (moves_come_once : Mo
           ∙ ap (λ (ps : List Pair). slice_set store a.version.0 (re_paired in_f.version ps)) (all_run.1 ∙ sym (ap (pairs_after in_f.version.pairs) done_is))
 
       olds : AllByRecursion (λ h. (was : Page) × (page_at f h.addr ≡ Some was)) p.changed
-      olds = both_hold (λ h. (is_noted a.draft.read h.addr ≡ true) × (is_noted a.draft.overlay.changed h.addr ≡ true)) (λ h. (was : Page) × (came_at a.moves h.addr ≡ Some was) × (h.page.seq ≡ next_number was.seq)) (λ h. (was : Page) × (page_at f h.addr ≡ Some was))
+      olds = all_both (λ h. (is_noted a.draft.read h.addr ≡ true) × (is_noted a.draft.overlay.changed h.addr ≡ true)) (λ h. (was : Page) × (came_at a.moves h.addr ≡ Some was) × (h.page.seq ≡ next_number was.seq)) (λ h. (was : Page) × (page_at f h.addr ≡ Some was))
           (λ h noted next. (next.0, (stands h.addr next.0 noted.0 next.1).0)) p.changed (noted_changed p.changed p.in_order) p.next
 
   -- where all steps only read
@@ -306,12 +286,12 @@ module _ (moves_tell : MovesTell) (moves_read : MovesRead) (moves_come_once : Mo
     came = all_noted (λ x. (p : Page) × (came_at a.moves x ≡ Some p) × (page_at f x ≡ Some p) × IsPage p) a.draft.read (λ x noted. let c = reads.came x noted in (c.0, c.1, page x c.0 noted c.1 c.2, c.2));
     sorts = λ x noted. let c = reads.came x noted in sorted x noted c.0 c.1 c.4;
     leaves = subset;
-    changes = both_hold (λ h. (is_noted a.draft.read h.addr ≡ true) × (is_noted a.draft.overlay.changed h.addr ≡ true)) (λ h. (was : Page) × (came_at a.moves h.addr ≡ Some was) × (h.page.seq ≡ next_number was.seq))
+    changes = all_both (λ h. (is_noted a.draft.read h.addr ≡ true) × (is_noted a.draft.overlay.changed h.addr ≡ true)) (λ h. (was : Page) × (came_at a.moves h.addr ≡ Some was) × (h.page.seq ≡ next_number was.seq))
         (λ h. (is_noted a.draft.read h.addr ≡ true) × ((p : Page) × (page_at f h.addr ≡ Some p) × (h.page.seq ≡ p.seq + 1)))
         (λ h noted next. (noted.0, (next.0, (stands h.addr next.0 noted.0 next.1).0, next.2 ∙ next_is next.0.seq (dn.numbers h.addr next.0 noted.1 next.1)))) settled.changed (noted_changed settled.changed settled.in_order) settled.next;
-    news = both_hold (λ h. (page_at f h.addr ≡ None) × (h.addr.node.0 < node_count f) × (h.addr.node.0 < 8) × (h.addr.slot < max_slots)) (λ h. h.page.seq ≡ 1)
+    news = all_both (λ h. (page_at f h.addr ≡ None) × (h.addr.node.0 < node_count f) × (h.addr.node.0 < 8) × (h.addr.slot < max_slots)) (λ h. h.page.seq ≡ 1)
         (λ h. (page_at f h.addr ≡ None) × (h.addr.node.0 < node_count f) × (h.addr.slot < max_slots) × (h.page.seq ≡ 1)) (λ h slot first. (slot.0, slot.1, slot.3, first)) settled.new
-        (all_unmapped (λ s. (page_at f s ≡ None) × (s.node.0 < node_count f) × (s.node.0 < 8) × (s.slot < max_slots)) (λ (h : Held). h.addr) settled.new
+        (all_mapped (λ s. (page_at f s ≡ None) × (s.node.0 < node_count f) × (s.node.0 < 8) × (s.slot < max_slots)) (λ (h : Held). h.addr) settled.new
         (subst (AllByRecursion (λ s. (page_at f s ≡ None) × (s.node.0 < node_count f) × (s.node.0 < 8) × (s.slot < max_slots))) (sym settled.in_slots) free.0)) settled.first;
     pages = settled.pages;
     ascend = settled.ascend;

@@ -15,11 +15,13 @@ use Rattle.mn_base.specs.declared.ids.VersionNo.{VersionNo}
 use Rattle.mn_base.specs.declared.op.Step.{Step}
 use Rattle.mn_base.specs.declared.reply.Reply.{Reply}
 use Rattle.mn_base.specs.declared.reply.Reply.TheVariants as Say
+use Rattle.mn_base.proofs.Lists.{all_append, all_both, weaker}
 use Rattle.mn_page.specs.declared.page.Page.{Page}
 use Rattle.mn_page.specs.Space.{max_slots}
 use Rattle.mn_page.specs.Grammar.{IsAddr, page_bytes, entry_bytes}
 use Rattle.mn_page.specs.Overlay.{Held, path_pairs}
 use Rattle.mn_page.proofs.Spelled.{page_length, entry_length}
+use Rattle.mn_page.proofs.Grid.{all_split}
 use Rattle.mn_tree.specs.State.{Drafted, drafted_with, drafted_after, no_pages}
 use Rattle.mn_tree.specs.Trees.{is_noted}
 use Rattle.mn_tree.specs.Order.{is_changed, placed}
@@ -40,17 +42,12 @@ use Rattle.mn_txn.specs.Attempt.{Attempt, IsAttempt, page_image, came_images, en
 use Rattle.mn_txn.specs.Attempt.{counts_written, done_reads, done_writes, unmet_reads}
 use Rattle.mn_txn.specs.Tries.{DoneMayBePlanned, UnmetMayBePlanned}
 use Rattle.mn_txn.proofs.Sound.{length_in_order}
-use Rattle.mn_txn.proofs.Lists.{all_noted, all_joined, all_apart, all_mapped}
+use Rattle.mn_txn.proofs.Lists.{all_noted, all_mapped}
 use Rattle.mn_txn.proofs.Known.{came_of}
 use Rattle.mn_txn.proofs.Attempts.{held_image}
 use Rattle.mn_txn.proofs.Worn.{writes_are}
 
 -- Lists
-
-weaker : {X : Type 0} (P Q : X → Type 0) → ((x : X) → P x → Q x) → (xs : List X)
-    → AllByRecursion P xs → AllByRecursion Q xs
-weaker P Q more [] all = tt
-weaker P Q more (x ∷ xs) all = (more x all.0, weaker P Q more xs all.1)
 
 all_filter : {X : Type 0} (P : X → Type 0) (t : X → Bool) (xs : List X) → AllByRecursion P xs
     → AllByRecursion P (filter t xs)
@@ -61,11 +58,6 @@ all_filter {X} P t (x ∷ xs) all = by_test (t x) (all_filter P t xs all.1)
         → AllByRecursion P (if b then x ∷ filter t xs else filter t xs)
     by_test true rest = (all.0, rest)
     by_test false rest = rest
-
-both_hold : {X : Type 0} (P Q R : X → Type 0) → ((x : X) → P x → Q x → R x) → (xs : List X)
-    → AllByRecursion P xs → AllByRecursion Q xs → AllByRecursion R xs
-both_hold P Q R join [] all more = tt
-both_hold P Q R join (x ∷ xs) all more = (join x all.0 more.0, both_hold P Q R join xs all.1 more.1)
 
 all_unmapped : {X Y : Type 0} (P : Y → Type 0) (f : X → Y) (xs : List X)
     → AllByRecursion P (map f xs) → AllByRecursion (λ x. P (f x)) xs
@@ -217,7 +209,7 @@ module _ (moves_read : MovesRead) (moves_are_few : MovesAreFew) (moves_touch_lea
   run_many = let e = ap (λ (l : List Step). length l) (sym run.1) in let f = length-append (done_in a.moves) run.0 in let many = is.many in omega arith
 
   run_steps : AllByRecursion IsStep (done_in a.moves)
-  run_steps = (all_apart IsStep (done_in a.moves) run.0 (subst (AllByRecursion IsStep) (sym run.1) is.steps)).0
+  run_steps = (all_split IsStep (done_in a.moves) run.0 (subst (AllByRecursion IsStep) (sym run.1) is.steps)).0
 
   limits : (length a.draft.read ≤ 241) × (a.draft.overlay.fresh ≤ 518)
   limits = moves_are_few (parents_of kept) a.version a.entry.root a.moves a.draft is.entry.root is.leads run_many
@@ -282,8 +274,8 @@ module _ (moves_read : MovesRead) (moves_are_few : MovesAreFew) (moves_touch_lea
 
     reads_in : AllByRecursion (IsIn nodes) (done_reads a)
     reads_in =
-        all_joined (IsIn nodes) (came_images a.moves a.draft.read) (entry_images a ++ counts_read a) (images_in a.draft.read (λ x e. e))
-        (all_joined (IsIn nodes) (entry_images a) (counts_read a) entry_inside (counts_in (λ n. slice_index_or a.counts n 0)))
+        all_append (IsIn nodes) (came_images a.moves a.draft.read) (entry_images a ++ counts_read a) (images_in a.draft.read (λ x e. e))
+        (all_append (IsIn nodes) (entry_images a) (counts_read a) entry_inside (counts_in (λ n. slice_index_or a.counts n 0)))
 
     -- where the pages of the plan stand
     abbrev StandsIn : Addr → Type 0
@@ -307,10 +299,10 @@ module _ (moves_read : MovesRead) (moves_are_few : MovesAreFew) (moves_touch_lea
     writes_in : AllByRecursion (IsIn nodes) (done_writes a)
     writes_in =
         subst (AllByRecursion (IsIn nodes)) (sym (writes_are a put))
-        (all_joined (IsIn nodes) (map held_image (put.changed ++ put.new)) (counts_written a)
+        (all_append (IsIn nodes) (map held_image (put.changed ++ put.new)) (counts_written a)
         (all_mapped (IsIn nodes) held_image (put.changed ++ put.new)
-        (both_hold (λ h. StandsIn h.addr) (λ h. length (page_bytes h.page) ≡ 1024) (λ h. IsIn nodes (held_image h)) (λ h low fills. page_in nodes h.addr h.page few low.0 low.1 fills) (put.changed ++ put.new)
-        (all_joined (λ h. StandsIn h.addr) put.changed put.new changed_stand new_stand) filled))
+        (all_both (λ h. StandsIn h.addr) (λ h. length (page_bytes h.page) ≡ 1024) (λ h. IsIn nodes (held_image h)) (λ h low fills. page_in nodes h.addr h.page few low.0 low.1 fills) (put.changed ++ put.new)
+        (all_append (λ h. StandsIn h.addr) put.changed put.new changed_stand new_stand) filled))
         (counts_in (λ n. slice_index_or a.counts n 0 + taken_on a.slots n)))
 
     reads_few : length (done_reads a) ≤ 250
@@ -366,7 +358,7 @@ pub unmet_may_be_planned : MovesRead → MovesAreFew → MovesTouchLeaves → Un
 unmet_may_be_planned moves_read moves_are_few moves_touch_leaves kept t a is steps few reads_are none =
     test_passes t (omega (arith, r, some, e)) (omega (arith, r, w, e, one, two, l, k))
     (order_back (IsIn t.nodes) t.reads (subst (AllByRecursion (IsIn t.nodes)) (sym reads_are)
-    (all_joined (IsIn t.nodes) (came_images a.moves addrs) (entry_images a) (images_in moves_read moves_are_few moves_touch_leaves kept t.nodes a is steps few addrs subset) (entry_inside moves_read moves_are_few moves_touch_leaves kept t.nodes a is steps few))))
+    (all_append (IsIn t.nodes) (came_images a.moves addrs) (entry_images a) (images_in moves_read moves_are_few moves_touch_leaves kept t.nodes a is steps few addrs subset) (entry_inside moves_read moves_are_few moves_touch_leaves kept t.nodes a is steps few))))
     (subst (AllByRecursion (IsIn t.nodes)) (sym none) tt)
   where
     addrs : List Addr

@@ -1,6 +1,6 @@
 -- What a forest has where the compares of a try are met in its memory.
 use Rattle.std.proofs.Common.{◌≡◌, inl, inr, ℕ, zero, suc, ◌+◌, ◌*◌, ◌^◌, ◌<◌, ◌≤◌, Bool, true, false, not, ◌&&◌, ◌||◌, List, [], ◌∷◌, ◌++◌, map, length, Contains, Option, Some, None, refl, subst, sym, ap, ◌∙◌, arith, slice_get, slice_set, slice_index_or, if◌then◌else◌}
-use Rattle.std.specs.Prelude.{filter, nat_eq, bytes_eq}
+use Rattle.std.specs.Prelude.{filter, nat_eq}
 use Rattle.std.specs.List.{AllByRecursion, list_any, range_with_len}
 use Rattle.std.specs.Option.{option_map, option_to_list}
 use Rattle.std.proofs.lemmas.Bool.{eqb-true, ne_eqb, cases_eq, and_parts}
@@ -31,6 +31,7 @@ use Rattle.mn_world.specs.Planned.{Continues, ComparesHold}
 use Rattle.mn_world.specs.Growth.{AreNextSlots, taken_on, giving_nodes, node_no, count_in, AreMet, ComparesTell}
 use Rattle.mn_world.proofs.Plans.Compares.{still_named}
 use Rattle.mn_world.proofs.Plans.Kept.{serves_kept}
+use Rattle.mn_world.proofs.Meaning.Kept.{number_within}
 use Rattle.mn_txn.specs.declared.image.Image.{Image}
 use Rattle.mn_txn.specs.Plan.{compare_of}
 use Rattle.mn_txn.specs.Attempt.{Attempt, IsAttempt, page_image, came_images, entry_images, count_image}
@@ -81,19 +82,6 @@ contains_range a (suc k) n low high = elim (cases_eq a n) as (λ _. Contains (a 
   | inr off ↦ let c = contains_range (a + 1) k n (omega (arith, off)) (omega arith) in (suc c.0, (let l = c.1 in omega arith), c.2)
 ]
 
--- a version of a name is one of the catalog's
-pub named_low : (kept : List Head) (name : List ℕ) (v : ℕ) → number_named kept name ≡ Some v → v < length kept
-named_low [] name v e = absurd cc
-named_low (k ∷ kept) name v e = by_name (bytes_eq k.name name) e (λ n f. named_low kept name n f)
-  where
-    by_rest : (o : Option ℕ) → number_named kept name ≡ o → option_map (λ n. n + 1) o ≡ Some v → ((n : ℕ) → number_named kept name ≡ Some n → n < length kept) → v < suc (length kept)
-    by_rest None f g rest = absurd cc
-    by_rest (Some n) f g rest = let low = rest n f in let same : n + 1 ≡ v = cc in omega arith
-
-    by_name : (t : Bool) → (if t then Some 0 else option_map (λ n. n + 1) (number_named kept name)) ≡ Some v → ((n : ℕ) → number_named kept name ≡ Some n → n < length kept) → v < suc (length kept)
-    by_name true g rest = let same : 0 ≡ v = cc in omega arith
-    by_name false g rest = by_rest (number_named kept name) refl g rest
-
 -- The forest
 
 pub nodes_are : (memory : List (List ℕ)) (store : Store) (holds : Holds memory store) → length memory ≡ node_count holds.forest
@@ -129,7 +117,7 @@ module _ (kept : List Head) (nodes : ℕ) (a : Attempt) (is : IsAttempt kept nod
   pub agrees : Agrees (parents_of kept) f.entries a.version.0
   unfolding is_live
   agrees p =
-      sym (serves_kept kept (heads_of store) on p.made.0 p.copied a.version.0 (named_low kept a.name a.version.0 is.named)) ∙ ap (λ (hs : List Head). serves (parents_of hs) p.made.0 p.copied a.version.0) holds.shown.heads
+      sym (serves_kept kept (heads_of store) on p.made.0 p.copied a.version.0 (number_within kept a.name a.version.0 is.named)) ∙ ap (λ (hs : List Head). serves (parents_of hs) p.made.0 p.copied a.version.0) holds.shown.heads
 
   pub few_nodes : nodes ≡ node_count f
   few_nodes = sym many ∙ nodes_are memory store holds

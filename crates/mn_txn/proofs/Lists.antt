@@ -1,5 +1,5 @@
 -- Lists: what they have, and what is left of them.
-use Rattle.std.proofs.Common.{◌≡◌, inl, inr, zero, suc, Bool, true, false, ◌||◌, List, [], ◌∷◌, ◌++◌, filter, map, Contains, refl, subst, sym, ap, ◌∙◌, arith, if◌then◌else◌}
+use Rattle.std.proofs.Common.{◌≡◌, inl, inr, zero, suc, Bool, true, false, ◌||◌, List, [], ◌∷◌, ◌++◌, filter, map, Contains, refl, sym, ap, ◌∙◌, arith, if◌then◌else◌}
 use Rattle.std.specs.List.{AllByRecursion}
 use Rattle.mn_base.specs.Ids.{addr_same}
 use Rattle.mn_base.specs.declared.ids.Addr.{Addr}
@@ -22,11 +22,6 @@ mapped_back f (x ∷ xs) y (suc k, low, is) =
     let there = rest.1 in
     (rest.0, (suc there.0, (let l = there.1 in omega arith), there.2), rest.2)
 
-pub all_contained : {X : Type 0} (P : X → Type 0) (xs : List X) (x : X) → AllByRecursion P xs → Contains xs x → P x
-all_contained P [] x all (k, low, is) = absurd (omega arith)
-all_contained P (y ∷ ys) x all (zero, low, is) = subst P is all.0
-all_contained P (y ∷ ys) x all (suc k, low, is) = all_contained P ys x all.1 (k, omega arith, is)
-
 -- noted addresses are those of the list
 pub noted_has : (addrs : List Addr) (a : Addr) → is_noted addrs a ≡ true → Contains addrs a
 noted_has [] a noted = absurd cc
@@ -44,14 +39,6 @@ has_noted (x ∷ addrs) a (suc k, low, is) = or_right (addr_same x a) (has_noted
     or_right : (b : Bool) {c : Bool} → c ≡ true → (b || c) ≡ true
     or_right true e = refl
     or_right false e = e
-
-pub all_joined : {X : Type 0} (P : X → Type 0) (xs ys : List X) → AllByRecursion P xs → AllByRecursion P ys → AllByRecursion P (xs ++ ys)
-all_joined P [] ys all more = more
-all_joined P (x ∷ xs) ys all more = (all.0, all_joined P xs ys all.1 more)
-
-pub all_apart : {X : Type 0} (P : X → Type 0) (xs ys : List X) → AllByRecursion P (xs ++ ys) → AllByRecursion P xs × AllByRecursion P ys
-all_apart P [] ys all = (tt, all)
-all_apart P (x ∷ xs) ys all = let rest = all_apart P xs ys all.1 in ((all.0, rest.0), rest.1)
 
 pub all_mapped : {X Y : Type 0} (P : Y → Type 0) (f : X → Y) (xs : List X) → AllByRecursion (λ x. P (f x)) xs → AllByRecursion P (map f xs)
 all_mapped P f [] all = tt

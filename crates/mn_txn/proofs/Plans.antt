@@ -6,6 +6,7 @@ use Rattle.std.specs.Ordering.{is_lt}
 use Rattle.std.proofs.lemmas.Bool.Decides.{nat_tests}
 use Rattle.std.proofs.lemmas.List.Elements.{All-from_recursion, recursion_from_All, All-contains, All-contains_itself}
 use Rattle.std.proofs.lemmas.List.Sorted.{IsPermutation-refl, IsPermutation-sym, IsPermutation-cons, IsPermutation-trans, IsPermutation-swap, IsPermutation-map, Contains-permutation}
+use Rattle.mn_base.proofs.Booleans.{both_true}
 use Rattle.mn_mini.specs.declared.item.Item.{Item}
 use Rattle.mn_mini.specs.declared.item.Item.TheVariants.{Compare, Write}
 use Rattle.mn_world.specs.Places.{Place}
@@ -81,14 +82,10 @@ by_turn r q s t n m late apart = grind (arith, nat_tests)
 precedes : (a b : Image) → stands_before b a ≡ false → is_at a.node a.start b ≡ false → may_precede a.node a.start b.node b.start ≡ true
 precedes a b late apart = by_turn (place_rank a.start) (place_rank b.start) a.start b.start a.node.0 b.node.0 late apart
 
-and_true : (a b : Bool) → a ≡ true → b ≡ true → (a && b) ≡ true
-and_true true b h k = k
-and_true false b h k = absurd cc
-
 writes_in_order : (xs : List Image) → IsUp xs → AreApart xs → are_in_order (map write_of xs) ≡ true
 writes_in_order [] u a = refl
 writes_in_order (x ∷ []) u a = refl
-writes_in_order (x ∷ (y ∷ ys)) u a = and_true (may_precede x.node x.start y.node y.start) (are_in_order (map write_of (y ∷ ys))) (precedes x y u.0.0 a.0.0) (writes_in_order (y ∷ ys) u.1 a.1)
+writes_in_order (x ∷ (y ∷ ys)) u a = both_true (may_precede x.node x.start y.node y.start) (are_in_order (map write_of (y ∷ ys))) (precedes x y u.0.0 a.0.0) (writes_in_order (y ∷ ys) u.1 a.1)
 
 behind : (x : Image) (ys : List Image) → IsUp ys → AreApart ys → are_in_order (compare_of x ∷ map write_of ys) ≡ true
 behind x [] u a = refl
@@ -98,7 +95,7 @@ all_in_turn : (xs ys : List Image) → IsUp xs → AreApart xs → IsUp ys → A
 all_in_turn [] ys u a v b = writes_in_order ys v b
 all_in_turn (x ∷ []) ys u a v b = behind x ys v b
 all_in_turn (x ∷ (z ∷ zs)) ys u a v b =
-    and_true (may_precede x.node x.start z.node z.start) (are_in_order (map compare_of (z ∷ zs) ++ map write_of ys)) (precedes x z u.0.0 a.0.0) (all_in_turn (z ∷ zs) ys u.1 a.1 v b)
+    both_true (may_precede x.node x.start z.node z.start) (are_in_order (map compare_of (z ∷ zs) ++ map write_of ys)) (precedes x z u.0.0 a.0.0) (all_in_turn (z ∷ zs) ys u.1 a.1 v b)
 
 pub in_order : laws.PlansAreInOrder
 in_order t a b = all_in_turn (in_item_order t.reads) (in_item_order t.writes) (up_in_order t.reads) (apart_in_order t.reads a) (up_in_order t.writes) (apart_in_order t.writes b)

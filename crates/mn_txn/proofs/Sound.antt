@@ -1,6 +1,7 @@
 -- The items of a plan are sound.
-use Rattle.std.proofs.Common.{◌≡◌, ℕ, zero, suc, ◌+◌, Bool, true, false, cond, ◌&&◌, nat_lt, nat_le, ltb-true, leb-true, List, [], ◌∷◌, ◌++◌, length, map, refl, ap, arith, length-append}
+use Rattle.std.proofs.Common.{◌≡◌, ℕ, zero, suc, ◌+◌, Bool, true, false, cond, nat_lt, nat_le, ltb-true, leb-true, List, [], ◌∷◌, ◌++◌, length, map, refl, ap, arith, length-append}
 use Rattle.std.specs.List.{AllByRecursion}
+use Rattle.mn_base.proofs.Booleans.{both_parts}
 use Rattle.mn_mini.specs.declared.item.Item.{Item}
 use Rattle.mn_mini.specs.declared.error.MiniError.{MiniError}
 use Rattle.mn_mini.specs.declared.error.MiniError.TheVariants.{NoItems, TooMany, OutOfSpace, NoMemory}
@@ -28,25 +29,21 @@ pub all_in_order : (P : Image → Type 0) (xs : List Image) → AllByRecursion P
 all_in_order P [] a = tt
 all_in_order P (x ∷ xs) a = all_placed P x (in_item_order xs) a.0 (all_in_order P xs a.1)
 
-both : (a b : Bool) → (a && b) ≡ true → (a ≡ true) × (b ≡ true)
-both true b h = (refl, h)
-both false b h = cc
-
 -- what the test of a plan says of an image
 abbrev IsInside : ℕ → Image → Type 0
 IsInside nodes i = IsNodeOf nodes i.node × IsInSpace i.start (length i.bytes)
 
 inside : (nodes : ℕ) (i : Image) → is_inside nodes i ≡ true → IsInside nodes i
 inside nodes i h =
-    let a = both (nat_lt i.node.0 nodes) _ h in
-    let b = both (nat_lt i.node.0 8) _ a.1 in
-    let c = both (nat_le 1 (length i.bytes)) _ b.1 in
-    let d = both (nat_le (length i.bytes) 4096) _ c.1 in
+    let a = both_parts (nat_lt i.node.0 nodes) _ h in
+    let b = both_parts (nat_lt i.node.0 8) _ a.1 in
+    let c = both_parts (nat_le 1 (length i.bytes)) _ b.1 in
+    let d = both_parts (nat_le (length i.bytes) 4096) _ c.1 in
     ((ltb-true _ _ a.0, ltb-true _ _ b.0), (leb-true _ _ c.0, leb-true _ _ d.0, leb-true _ _ d.1))
 
 all_inside : (nodes : ℕ) (xs : List Image) → are_inside nodes xs ≡ true → AllByRecursion (IsInside nodes) xs
 all_inside nodes [] h = tt
-all_inside nodes (x ∷ xs) h = let two = both (is_inside nodes x) (are_inside nodes xs) h in (inside nodes x two.0, all_inside nodes xs two.1)
+all_inside nodes (x ∷ xs) h = let two = both_parts (is_inside nodes x) (are_inside nodes xs) h in (inside nodes x two.0, all_inside nodes xs two.1)
 
 all_compares : (nodes : ℕ) (xs : List Image) (more : List Item) → AllByRecursion (IsInside nodes) xs → AllByRecursion (IsSoundItem nodes) more → AllByRecursion (IsSoundItem nodes) (map compare_of xs ++ more)
 all_compares nodes [] more a b = b
@@ -72,9 +69,9 @@ length_items t = omega (
 
 pub sound : (t : State) → can_plan t ≡ true → IsSound (plan_of t)
 sound t h =
-    let a = both (nat_le 1 (length t.reads + length t.writes)) _ h in
-    let b = both (nat_le (length t.reads + length t.writes) 1024) _ a.1 in
-    let c = both (are_inside t.nodes t.reads) (are_inside t.nodes t.writes) b.1 in
+    let a = both_parts (nat_le 1 (length t.reads + length t.writes)) _ h in
+    let b = both_parts (nat_le (length t.reads + length t.writes) 1024) _ a.1 in
+    let c = both_parts (are_inside t.nodes t.reads) (are_inside t.nodes t.writes) b.1 in
     record {
       some = omega (arith, leb-true _ _ a.0, length_items t);
       few = omega (arith, leb-true _ _ b.0, length_items t);

@@ -13,19 +13,21 @@ use Rattle.mn_base.specs.Store.{Head}
 use Rattle.mn_base.specs.Tree.{parents_of}
 use Rattle.mn_base.specs.declared.ids.Addr.{Addr}
 use Rattle.mn_base.specs.declared.ids.NodeNo.{NodeNo}
+use Rattle.mn_base.proofs.Booleans.{clash}
 use Rattle.mn_alloc.specs.Plan.{new_slots, one_given}
 use Rattle.mn_page.specs.declared.page.Page.{Page}
 use Rattle.mn_page.specs.Grammar.{IsPage, page_bytes}
 use Rattle.mn_page.specs.Overlay.{Held}
 use Rattle.mn_page.proofs.Spelled.{page_length}
+use Rattle.mn_page.proofs.Copy.{page_same}
 use Rattle.mn_tree.specs.Trees.{is_noted}
 use Rattle.mn_tree.specs.Order.{is_changed, changed_order, placed}
-use Rattle.mn_tree.specs.Laws.{held_pair}
 use Rattle.mn_tree.specs.Moves.{came_at}
 use Rattle.mn_tree.specs.MoveLaws.{AreReads, MovesRead}
 use Rattle.mn_tree.specs.Limits.{ArePut, PlacedArePut}
 use Rattle.mn_tree.proofs.Trees.Told.{noted_filter}
 use Rattle.mn_world.specs.Growth.{AreNextSlots, taken_on, giving_nodes}
+use Rattle.mn_world.proofs.Plans.Told.{all_there}
 use Rattle.mn_txn.specs.declared.image.Image.{Image}
 use Rattle.mn_txn.specs.State.{State, is_at, bytes_at, AreApart}
 use Rattle.mn_txn.specs.Order.{in_item_order}
@@ -34,17 +36,12 @@ use Rattle.mn_txn.specs.Attempt.{Attempt, IsAttempt, page_image, came_images, en
 use Rattle.mn_txn.specs.Attempt.{counts_read, counts_written, done_writes}
 use Rattle.mn_txn.specs.Tries.{IsFor, PlannedIsDone, IsWornPage, IsReadSlot, WornIsChanged}
 use Rattle.mn_txn.proofs.Images.{turned, worn_read}
-use Rattle.mn_txn.proofs.Lists.{contains_map, mapped_back, all_contained, noted_has, has_noted}
+use Rattle.mn_txn.proofs.Lists.{contains_map, mapped_back, noted_has, has_noted}
 use Rattle.mn_txn.proofs.Plans.{same_images}
 use Rattle.mn_txn.proofs.Known.{came_has}
 use Rattle.mn_txn.proofs.Attempts.{held_image}
 use Rattle.mn_txn.proofs.Slots.{new_slots_are_next}
-
-clash : (b : Bool) → b ≡ true → b ≡ false → ⊥
-clash b e f = absurd cc
-
-page_same : (p q : Page) → Some p ≡ Some q → p ≡ q
-page_same p q e = cc
+use Rattle.mn_txn.proofs.Done.{images_held}
 
 -- The first that is worn
 
@@ -93,7 +90,7 @@ at_read (x ∷ xs) i apart (zero, low, is) =
     ∙ ap (λ (y : Image). Some y.bytes) is
 at_read (x ∷ xs) i apart (suc k, low, is) =
     let c : Contains xs i = (k, omega arith, is) in
-    ap (λ b. if b then Some x.bytes else bytes_at i.node i.start xs) (sym (turned x i) ∙ all_contained (λ y. is_at x.node x.start y ≡ false) xs i apart.0 c) ∙ at_read xs i apart.1 c
+    ap (λ b. if b then Some x.bytes else bytes_at i.node i.start xs) (sym (turned x i) ∙ all_there (λ y. is_at x.node x.start y ≡ false) xs i apart.0 c) ∙ at_read xs i apart.1 c
 
 in_order_back : (xs : List Image) (i : Image) → Contains (in_item_order xs) i → Contains xs i
 in_order_back xs i c = Contains-permutation (in_item_order xs) xs i (IsPermutation-sym xs (in_item_order xs) (same_images xs)) c
@@ -134,11 +131,6 @@ worn_bytes t i worn =
     by_read None None e f last = absurd cc
 
 -- What the try writes
-
-images_held : (xs : List (Addr × Page))
-    → map (λ h. page_image h.0 h.1) xs ≡ map held_image (map held_pair xs)
-images_held [] = refl
-images_held (x ∷ xs) = ap (λ (l : List Image). page_image x.0 x.1 ∷ l) (images_held xs)
 
 pub writes_are : (a : Attempt) (put : ArePut a.draft a.slots)
     → done_writes a ≡ map held_image (put.changed ++ put.new) ++ counts_written a
@@ -187,7 +179,7 @@ module _ (moves_read : MovesRead) (placed_are_put : PlacedArePut) (kept : List H
       let c = reads.came addr known in
       let spelled : IsPage page = subst IsPage (page_same c.0 page (sym c.1 ∙ came)) c.2 in
       let w = changed_put addr noted in
-      let fine : is_worn t (held_image w.0) ≡ false = all_contained (λ i. is_worn t i ≡ false) (done_writes a) (held_image w.0) (subst (AllByRecursion (λ i. is_worn t i ≡ false)) for.writes (worn_none t (in_item_order t.writes) none)) w.1 in
+      let fine : is_worn t (held_image w.0) ≡ false = all_there (λ i. is_worn t i ≡ false) (done_writes a) (held_image w.0) (subst (AllByRecursion (λ i. is_worn t i ≡ false)) for.writes (worn_none t (in_item_order t.writes) none)) w.1 in
       not_last page spelled (worn_as w.0 page (ap (is_noted a.draft.read) w.2 ∙ known) (ap (came_at a.moves) w.2 ∙ came) ∙ fine)
 
   -- Where a plan is refused

@@ -1,9 +1,9 @@
 -- Which versions a page serves, as far as a walk up the tree has come.
-use Rattle.std.proofs.Common.{◌≡◌, ℕ, ◌^◌, ◌<◌, ◌≤◌, length, Bool, true, false, ◌||◌, ◌&&◌, not, Option, Some, None, List, refl, sym, ap, ◌∙◌, ⊎_elim, nat_eq, ne_eqb, eq-eqb}
+use Rattle.std.proofs.Common.{◌≡◌, ℕ, ◌^◌, ◌<◌, ◌≤◌, length, Bool, true, false, ◌||◌, ◌&&◌, not, Option, Some, None, List, refl, sym, ap, ◌∙◌, nat_eq}
 use Rattle.std.specs.Prelude.{slice_get}
 use Rattle.std.specs.List.{list_any}
-use Rattle.std.proofs.lemmas.Bool.{cases_eq}
 use Rattle.mn_base.specs.Tree.{is_ancestor, has_version, versions_in, serves}
+use Rattle.mn_base.proofs.Naturals.{eq_turned}
 use Rattle.mn_vtree.specs.Parents.{IsLess}
 use Rattle.mn_vtree.proofs.Walks.{above_parent, ancestor_step, ancestor_past}
 use Rattle.mn_vtree.proofs.Sets.{any_or, any_same, any_never, in_set}
@@ -15,12 +15,6 @@ served_from parents made copied meets at = (meets || is_ancestor parents made at
 pub served_first : (parents : List (Option ℕ)) (made copied v : ℕ) → served_from parents made copied false v ≡ serves parents made copied v
 unfolding served_from
 served_first parents made copied v = refl
-
-same_turned : (a b : ℕ) → nat_eq a b ≡ nat_eq b a
-same_turned a b = ⊎_elim
-    (λ (e : a ≡ b). eq-eqb a b e ∙ sym (eq-eqb b a (sym e)))
-    (λ (ne : a ≡ b → ⊥). ne_eqb a b ne ∙ sym (ne_eqb b a (λ e. ne (sym e))))
-    (cases_eq a b)
 
 or_assoc : (a b c : Bool) → (a || (b || c)) ≡ ((a || b) || c)
 or_assoc true b c = refl
@@ -34,7 +28,7 @@ module _ (parents : List (Option ℕ)) (made : ℕ) (s : List ℕ) (at : ℕ) (x
       ∙ (any_or (λ w. nat_eq w at) (λ w. above_parent parents w x) s ∙ ap (λ (b : Bool). b || list_any (λ w. above_parent parents w x) s) there)
 
   made_above : (meets : Bool) → (meets || is_ancestor parents made at) ≡ ((meets || nat_eq at made) || above_parent parents made x)
-  made_above meets = ap (λ (b : Bool). meets || b) (ancestor_step parents at x made less is ∙ ap (λ (b : Bool). b || above_parent parents made x) (same_turned made at)) ∙ or_assoc meets (nat_eq at made) (above_parent parents made x)
+  made_above meets = ap (λ (b : Bool). meets || b) (ancestor_step parents at x made less is ∙ ap (λ (b : Bool). b || above_parent parents made x) (eq_turned made at)) ∙ or_assoc meets (nat_eq at made) (above_parent parents made x)
 
   served_step : (meets : Bool) → ((meets || is_ancestor parents made at) && not (list_any (λ w. is_ancestor parents w at) s))
       ≡ (((meets || nat_eq at made) || above_parent parents made x) && not (has || list_any (λ w. above_parent parents w x) s))

@@ -1,10 +1,12 @@
 -- Sets of versions, and tests of what is above a version.
-use Rattle.std.proofs.Common.{◌≡◌, ◌⊎◌, ℕ, zero, suc, ◌+◌, ◌^◌, ◌<◌, ◌≤◌, Bool, true, false, ◌||◌, ◌&&◌, List, [], ◌∷◌, refl, sym, ap, ◌∙◌, ⊎_elim, inl, inr, arith, nat_eq, ne_eqb, eq-eqb, cond}
+use Rattle.std.proofs.Common.{◌≡◌, ◌⊎◌, ℕ, zero, suc, ◌+◌, ◌^◌, ◌<◌, ◌≤◌, Bool, true, false, ◌||◌, ◌&&◌, List, [], ◌∷◌, refl, sym, ap, ◌∙◌, ⊎_elim, arith, nat_eq, ne_eqb, eq-eqb, cond}
 use Rattle.std.specs.Prelude.{filter}
 use Rattle.std.specs.List.{list_any, range_with_len}
 use Rattle.std.proofs.lemmas.Bool.{cases_eq}
 use Rattle.std.proofs.lemmas.Nat.Bits.{bit_at_above}
 use Rattle.mn_base.specs.Tree.{has_version, versions_in}
+use Rattle.mn_base.proofs.Naturals.{below_or}
+use Rattle.mn_base.proofs.Booleans.{and_false}
 
 either_first : (b c d e : Bool) → ((b || c) || (d || e)) ≡ ((b || d) || (c || e))
 either_first true c d e = refl
@@ -29,15 +31,11 @@ kept : (b : Bool) (at w : ℕ) (s : List ℕ) → list_any (λ v. nat_eq v at) (
 kept true at w s = refl
 kept false at w s = refl
 
-other : (b : Bool) → (b && false) ≡ false
-other true = refl
-other false = refl
-
 missing : (q : ℕ → Bool) (at a n : ℕ) → at < a → list_any (λ v. nat_eq v at) (filter q (range_with_len a n)) ≡ false
 missing q at a zero lt = refl
 missing q at a (suc n) lt =
     let apart : nat_eq a at ≡ false = ne_eqb a at (λ e. absurd (omega arith)) in
-    kept (q a) at a (filter q (range_with_len (a + 1) n)) ∙ (rw (apart, other (q a)) (missing q at (a + 1) n (omega arith)))
+    kept (q a) at a (filter q (range_with_len (a + 1) n)) ∙ (rw (apart, and_false (q a)) (missing q at (a + 1) n (omega arith)))
 
 one_is : (b : Bool) (rest : Bool) → rest ≡ false → ((b && true) || rest) ≡ b
 one_is true rest e = refl
@@ -51,19 +49,14 @@ found q at a (suc n) le lt = ⊎_elim
     kept (q a) at a (filter q (range_with_len (a + 1) n)) ∙ (rw here (one_is (q a) (list_any (λ v. nat_eq v at) (filter q (range_with_len (a + 1) n))) (missing q at (a + 1) n (omega arith)) ∙ ap q e)))
     (λ (ne : a ≡ at → ⊥).
     let apart : nat_eq a at ≡ false = ne_eqb a at ne in
-    kept (q a) at a (filter q (range_with_len (a + 1) n)) ∙ (rw (apart, other (q a)) (found q at (a + 1) n (omega arith) (omega arith))))
+    kept (q a) at a (filter q (range_with_len (a + 1) n)) ∙ (rw (apart, and_false (q a)) (found q at (a + 1) n (omega arith) (omega arith))))
     (cases_eq a at)
 
 past : (q : ℕ → Bool) (at a n : ℕ) → a + n ≤ at → list_any (λ v. nat_eq v at) (filter q (range_with_len a n)) ≡ false
 past q at a zero le = refl
 past q at a (suc n) le =
     let apart : nat_eq a at ≡ false = ne_eqb a at (λ e. absurd (omega arith)) in
-    kept (q a) at a (filter q (range_with_len (a + 1) n)) ∙ (rw (apart, other (q a)) (past q at (a + 1) n (omega arith)))
-
-below_or : (m n : ℕ) → (m < n) ⊎ (n ≤ m)
-below_or m zero = inr (omega arith)
-below_or zero (suc n) = inl (omega arith)
-below_or (suc m) (suc n) = ⊎_elim (λ h. inl (omega arith)) (λ h. inr (omega arith)) (below_or m n)
+    kept (q a) at a (filter q (range_with_len (a + 1) n)) ∙ (rw (apart, and_false (q a)) (past q at (a + 1) n (omega arith)))
 
 pub has_none_above : (copied at : ℕ) → copied < 2 ^ 64 → 64 ≤ at → has_version copied at ≡ false
 has_none_above copied at small le = rw (bit_at_above copied 64 at small le) refl

@@ -3,13 +3,14 @@ use Rattle.std.proofs.Common.{◌≡◌, ℕ, suc, ◌⊎◌, inl, inr, Bool, tr
 use Rattle.std.specs.Option.{option_to_list}
 use Rattle.mn_base.specs.Ids.{addr_same}
 use Rattle.mn_base.specs.declared.ids.Addr.{Addr}
+use Rattle.mn_base.proofs.Booleans.{clash}
 use Rattle.mn_page.specs.declared.page.Page.{Page}
 use Rattle.mn_page.specs.declared.page.Body.{Body}
 use Rattle.mn_page.specs.declared.page.Body.TheVariants.{Leaf, Inner}
 use Rattle.mn_page.specs.declared.page.Child.{Child}
 use Rattle.mn_page.specs.Forest.{ChildRange, ranges_from, body_children}
 use Rattle.mn_page.specs.Overlay.{rest_with, body_with}
-use Rattle.mn_tree.proofs.Trees.Puts.{same_itself, differs, clash}
+use Rattle.mn_tree.proofs.Trees.Puts.{same_itself, differs}
 use Rattle.mn_tree.proofs.Trees.SplitBelow.{HasChild}
 
 abbrev pub Among : Addr → List Addr → Type 0

@@ -10,6 +10,8 @@ use Rattle.mn_base.specs.Store.{Store, StoreVersion}
 use Rattle.mn_base.specs.Tree.{is_ancestor, parents_of}
 use Rattle.mn_base.specs.declared.ids.Addr.{Addr}
 use Rattle.mn_base.specs.declared.ids.VersionNo.{VersionNo}
+use Rattle.mn_base.proofs.Booleans.{clash}
+use Rattle.mn_base.proofs.Lists.{weaker}
 use Rattle.mn_page.specs.declared.entry.CatEntry.{CatEntry}
 use Rattle.mn_page.specs.declared.page.Page.{Page}
 use Rattle.mn_page.specs.Grammar.{height_of}
@@ -17,8 +19,10 @@ use Rattle.mn_page.specs.Forest.{ChildRange, children_of, heads_in, entry_head}
 use Rattle.mn_page.specs.Holds.{PagesAt, page_covers, page_serves, root_page, root_height, pairs_in, IsRoot, IsChild, HasVersions, IsOnPath, OneOnPath}
 use Rattle.mn_page.specs.Overlay.{page_with, new_page, copied_for, body_with}
 use Rattle.mn_page.proofs.Grid.{all_at_place}
+use Rattle.mn_page.proofs.Added.{addr_cases}
+use Rattle.mn_page.proofs.Copy.{page_same}
 use Rattle.mn_tree.specs.Trees.{IsOrdered, IsShown, IsWritable}
-use Rattle.mn_tree.proofs.Trees.Puts.{put, put_here, put_else, stood, now, still, addr_cases, clash, nothing, page_same, weaker}
+use Rattle.mn_tree.proofs.Trees.Puts.{put, put_here, put_else, stood, now, still, nothing}
 use Rattle.mn_tree.proofs.Trees.Twins.{Twin, SameFor, changed_tree, twin_itself, serves_its, serves_one, head_at}
 use Rattle.mn_tree.proofs.Trees.Ranges.{Cuts, body_cut, body_rising, children_within, cut_range}
 use Rattle.mn_tree.proofs.Trees.SplitBelow.{HasChild, same_level}

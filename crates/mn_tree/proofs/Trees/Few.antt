@@ -23,7 +23,11 @@ use Rattle.mn_page.specs.Holds.{pairs_in}
 use Rattle.mn_page.specs.Overlay.{Held, Overlay, Halves, Asked, Nothing, Child_is, held_at, held_with, is_new}
 use Rattle.mn_page.specs.Overlay.{new_addr, page_with, new_page, child_at}
 use Rattle.mn_page.specs.Overlay.{leaf_halves, inner_halves, halves_of, rest_with, body_with, placed_addr, step_on}
+use Rattle.mn_page.proofs.Copy.{page_same}
+use Rattle.mn_page.proofs.Added.{addr_cases}
 use Rattle.mn_base.proofs.PairsWith.{length-put}
+use Rattle.mn_base.proofs.Booleans.{clash}
+use Rattle.mn_base.proofs.Lists.{all_append}
 use Rattle.mn_tree.specs.declared.write.Write.{Write}
 use Rattle.mn_tree.specs.Walk.{Reached, walk}
 use Rattle.mn_tree.specs.Writes.{own_writes, other_writes, root_writes, page_writes, page_asks, origins_in}
@@ -33,12 +37,11 @@ use Rattle.mn_tree.specs.Trees.{is_noted}
 use Rattle.mn_tree.specs.Moves.{Move, Comes, Does, MayCome, LeadsTo, comes_in, done_in}
 use Rattle.mn_tree.specs.Moves.{came_at, is_leaf_at}
 use Rattle.mn_tree.specs.Limits.{MovesAreFew, MovesTouchLeaves}
-use Rattle.mn_tree.proofs.Changes.{step_is, fresh_after}
-use Rattle.mn_tree.proofs.Trees.Puts.{clash, page_same, addr_cases}
+use Rattle.mn_tree.proofs.Changes.{step_is, fresh_after, all_written-append}
 use Rattle.mn_tree.proofs.Trees.Tidy.{held_here}
 use Rattle.mn_tree.proofs.Trees.SplitBelow.{same_level}
 use Rattle.mn_tree.proofs.Trees.Filled.{shorter}
-use Rattle.mn_tree.proofs.Trees.Moved.{all_both, all_joined_has, leads_reads}
+use Rattle.mn_tree.proofs.Trees.Moved.{all_joined_has, leads_reads}
 use Rattle.mn_tree.proofs.Trees.Placed.{joined_has, joined_itself}
 use Rattle.mn_tree.proofs.Trees.MoveReads.{old_addr}
 use Rattle.mn_tree.proofs.Trees.Told.{noted_filter, moves_come_once}
@@ -106,11 +109,6 @@ joined_on : (l : List Addr) (ws more : List Write)
     → all_joined l (ws ++ more) ≡ all_joined (all_joined l ws) more
 joined_on l [] more = refl
 joined_on l (w ∷ ws) more = joined_on (joined l w.addr) ws more
-
-written_on : (o : Overlay) (ws more : List Write)
-    → all_written o (ws ++ more) ≡ all_written (all_written o ws) more
-written_on o [] more = refl
-written_on o (w ∷ ws) more = written_on (written o w) ws more
 
 origins_on : (ws more : List Write)
     → length (origins_in (ws ++ more)) ≡ length (origins_in ws) + length (origins_in more)
@@ -406,10 +404,10 @@ module _ (parents : List (Option ℕ)) (v : VersionNo) (root : Addr) (old : is_n
       new = subst (λ n. n ≤ suc (length above) + (15 - level) + 2 * rest.split) (sym (origins_on ws more)) (new_by page.new);
       end = λ o at.
           let e = rest.end (all_written o ws) (written_past ws o root page.off ∙ at) in
-          (e.0, ap (λ (x : Overlay). held_at x.pages root) (written_on o ws more) ∙ e.1, (let f = e.2 in omega arith), (let f = e.3 in omega arith));
+          (e.0, ap (λ (x : Overlay). held_at x.pages root) (all_written-append o ws more) ∙ e.1, (let f = e.2 in omega arith), (let f = e.3 in omega arith));
       read = λ l. subst (Grew (15 - level) l) (sym (joined_on l ws more ∙ ap (λ (m : List Addr). all_joined m more) (page.read l))) (reads l (rest.read (joined l h.addr)));
-      lows = all_both _ ws more page.lows rest.lows;
-      owns = all_both _ ws more page.owns rest.owns;
+      lows = all_append _ ws more page.lows rest.lows;
+      owns = all_append _ ws more page.owns rest.owns;
     }
       where
         new_by : (length (origins_in ws) ≤ 1) ⊎ ((length (origins_in ws) ≤ 2) × (level ≤ 14))

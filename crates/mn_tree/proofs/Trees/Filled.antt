@@ -18,9 +18,8 @@ use Rattle.mn_page.specs.Holds.{pairs_in}
 use Rattle.mn_page.specs.Overlay.{Halves, halves_of, leaf_halves, inner_halves, is_new, rest_with, body_with}
 use Rattle.mn_page.proofs.Grid.{all_split, all_filter}
 use Rattle.mn_base.proofs.Keys.{not_below, turned}
-use Rattle.mn_base.proofs.PairsWith.{two_parts, ascending-put, all-put, length-put}
-use Rattle.mn_tree.proofs.Trees.Puts.{weaker}
-use Rattle.mn_tree.proofs.Trees.Fits.{ascending-filter}
+use Rattle.mn_base.proofs.PairsWith.{two_parts, ascending-put, all-put, length-put, ascending-filter}
+use Rattle.mn_base.proofs.Lists.{all_both, weaker}
 
 -- a slot's address, or that of one of so many new pages
 abbrev pub IsPlace : ℕ → Addr → Type 0
@@ -112,10 +111,6 @@ abbrev pub ArePartsFilled : ℕ → ℕ → List ℕ → Option (List ℕ) → B
 ArePartsFilled fresh top low high b None = IsFilled 8 fresh top low high b
 ArePartsFilled fresh top low high b (Some h) = AreFilled fresh top low high h
 
-both_all : {X : Type 0} (P Q R : X → Type 0) → ((x : X) → P x → Q x → R x) → (xs : List X) → AllByRecursion P xs → AllByRecursion Q xs → AllByRecursion R xs
-both_all P Q R both [] p q = tt
-both_all P Q R both (x ∷ xs) p q = (both x p.0 q.0, both_all P Q R both xs p.1 q.1)
-
 leaf_filled : (fresh top : ℕ) (low : List ℕ) (high : Option (List ℕ)) (a b c d e : Pair) (rest : List Pair) → IsFilled 9 fresh top low high (Leaf (a ∷ b ∷ c ∷ d ∷ e ∷ rest))
     → AreFilled fresh top low high (record { left = Leaf (a ∷ b ∷ c ∷ d ∷ []); separator = e.key; right = Leaf (e ∷ rest) })
 leaf_filled fresh top low high a b c d e rest is =
@@ -123,13 +118,13 @@ leaf_filled fresh top low high a b c d e rest is =
     let split = all_split (IsFitting low high) (a ∷ b ∷ c ∷ d ∷ []) (e ∷ rest) is.2 in
     let count = is.0 in
     record {
-      left = (omega arith, parts.lows, both_all (IsFitting low high) (λ p. key_lt p.key e.key ≡ true) (IsFitting low (Some e.key)) (λ p f g. (f.0, f.1, and_from _ _ (and_parts _ _ f.2).0 g)) (a ∷ b ∷ c ∷ d ∷ []) split.0 parts.below);
+      left = (omega arith, parts.lows, all_both (IsFitting low high) (λ p. key_lt p.key e.key ≡ true) (IsFitting low (Some e.key)) (λ p f g. (f.0, f.1, and_from _ _ (and_parts _ _ f.2).0 g)) (a ∷ b ∷ c ∷ d ∷ []) split.0 parts.below);
       right = (
         omega arith,
         parts.highs,
         (
           (((split.1).0).0, ((split.1).0).1, and_from _ _ (ap not (not_below e.key)) (and_parts _ _ ((split.1).0).2).1),
-          both_all (IsFitting low high) (λ p. key_lt e.key p.key ≡ true) (IsFitting e.key high) (λ p f g. (f.0, f.1, and_from _ _ (ap not (turned e.key p.key g)) (and_parts _ _ f.2).1)) rest (split.1).1 parts.above,
+          all_both (IsFitting low high) (λ p. key_lt e.key p.key ≡ true) (IsFitting e.key high) (λ p f g. (f.0, f.1, and_from _ _ (ap not (turned e.key p.key g)) (and_parts _ _ f.2).1)) rest (split.1).1 parts.above,
         ),
       );
       key = ((split.1).0).0;

@@ -14,7 +14,7 @@ use Rattle.mn_page.specs.declared.page.Body.TheVariants.{Leaf, Inner}
 use Rattle.mn_page.specs.Grammar.{height_of}
 use Rattle.mn_page.specs.Forest.{entry_head}
 use Rattle.mn_page.specs.Holds.{PagesAt, page_covers, page_serves, pairs_in, ShowsStore}
-use Rattle.mn_base.proofs.PairsWith.{AllAbove, ascending_parts, ascending_cons, all_above, first_above}
+use Rattle.mn_base.proofs.PairsWith.{AllAbove, first_above, ascending-filter}
 use Rattle.mn_page.proofs.Grid.{all_at_place}
 use Rattle.mn_tree.proofs.Trees.Halved.{PairsFit}
 
@@ -36,18 +36,6 @@ filter_above key t (p ∷ ps) all = elim (t p) as (λ b. AllAbove key (cond b (p
 first_of : (key : List ℕ) (ps : List Pair) → AllAbove key ps → first_above key ps ≡ true
 first_of key [] all = refl
 first_of key (p ∷ ps) all = all.0
-
--- pairs left out leave the order
-pub ascending-filter : (t : Pair → Bool) (ps : List Pair) → is_ascending ps ≡ true → is_ascending (filter t ps) ≡ true
-ascending-filter t [] e = refl
-ascending-filter t (p ∷ ps) e =
-    let parts = ascending_parts p ps e in
-    let above = filter_above p.key t ps (all_above p.key ps parts.0 parts.1) in
-    let rest = ascending-filter t ps parts.1 in
-    elim (t p) as (λ b. is_ascending (cond b (p ∷ filter t ps) (filter t ps)) ≡ true) [
-      | true ↦ ascending_cons p (filter t ps) (first_of p.key (filter t ps) above) rest
-      | false ↦ rest
-    ]
 
 -- each entry's version is in the store
 pub some_version : (entries : List CatEntry) (at : PagesAt) (store : Store) (v : ℕ) → ShowsStore entries at store → v < length entries → (version : StoreVersion) × (slice_get store v ≡ Some version)

@@ -19,6 +19,7 @@ use Rattle.mn_page.specs.Forest.{ChildRange, ranges_from, children_of, body_chil
 use Rattle.mn_page.specs.Holds.{PagesAt, page_covers, page_serves, root_page, IsChild, IsOnPath, IsTree}
 use Rattle.mn_page.specs.Overlay.{Held, held_at, child_for, path_to}
 use Rattle.mn_page.proofs.Grid.{all_at_place}
+use Rattle.mn_page.proofs.Copy.{page_same}
 use Rattle.mn_tree.specs.Found.{child_from}
 use Rattle.mn_tree.specs.Trees.{laid_over, IsShown, IsOrdered}
 use Rattle.mn_tree.proofs.Ways.{child_is}
@@ -26,7 +27,7 @@ use Rattle.mn_tree.proofs.Trees.Twins.{serves_its, serves_one}
 use Rattle.mn_tree.proofs.Trees.Grows.{all_covered}
 use Rattle.mn_tree.proofs.Trees.Among.{Among, rest_addrs, body_addrs, has_child}
 use Rattle.mn_tree.proofs.Trees.Raised.{OnPath}
-use Rattle.mn_tree.proofs.Trees.Puts.{nothing, page_same}
+use Rattle.mn_tree.proofs.Trees.Puts.{nothing}
 
 -- the child that the path goes down to
 record Covering (rs : List ChildRange) (key : List ℕ) (addr : Addr) : Type 0 where

@@ -9,6 +9,7 @@ use Rattle.mn_base.specs.Order.{covers_key}
 use Rattle.mn_base.specs.Store.{Store, StoreVersion}
 use Rattle.mn_base.specs.declared.ids.Addr.{Addr}
 use Rattle.mn_base.specs.declared.ids.VersionNo.{VersionNo}
+use Rattle.mn_base.proofs.Lists.{weaker}
 use Rattle.mn_page.specs.declared.entry.CatEntry.{CatEntry}
 use Rattle.mn_page.specs.declared.page.Page.{Page}
 use Rattle.mn_page.specs.declared.page.Body.TheVariants.{Inner}
@@ -16,8 +17,10 @@ use Rattle.mn_page.specs.Grammar.{height_of}
 use Rattle.mn_page.specs.Forest.{ChildRange, children_of}
 use Rattle.mn_page.specs.Holds.{PagesAt, page_covers, page_serves, root_page, root_height, pairs_in, IsChild, HasVersions, IsOnPath, OneOnPath}
 use Rattle.mn_page.specs.Overlay.{page_with, new_page}
+use Rattle.mn_page.proofs.Added.{addr_cases}
+use Rattle.mn_page.proofs.Copy.{page_same}
 use Rattle.mn_tree.specs.Trees.{IsOrdered, IsShown, IsWritable, children_after}
-use Rattle.mn_tree.proofs.Trees.Puts.{put, put_here, put_else, stood, now, still, addr_cases, nothing, page_same, weaker}
+use Rattle.mn_tree.proofs.Trees.Puts.{put, put_here, put_else, stood, now, still, nothing}
 use Rattle.mn_tree.proofs.Trees.Twins.{Twin, SameFor, changed_tree, twin_itself, serves_its, serves_one}
 use Rattle.mn_tree.proofs.Trees.Ranges.{rising_below}
 

@@ -16,6 +16,7 @@ use Rattle.mn_page.specs.Holds.{pairs_in}
 use Rattle.mn_page.specs.Overlay.{Halves, halves_of, leaf_halves, inner_halves}
 use Rattle.mn_base.proofs.Keys.{bytes_eq-true, key_lt-trans, key_lt-else}
 use Rattle.mn_base.proofs.PairsWith.{filter-below, two_parts}
+use Rattle.mn_base.proofs.Booleans.{not_true}
 use Rattle.mn_tree.specs.Trees.{AreRising, children_after}
 use Rattle.mn_tree.proofs.Trees.Ranges.{rising_below}
 
@@ -40,10 +41,6 @@ halves_same g h e = cc
 
 not_none : (h : Halves) → None ≡ Some h → ⊥
 not_none h e = absurd cc
-
-not_true : (b : Bool) → not b ≡ true → b ≡ false
-not_true true e = absurd cc
-not_true false e = refl
 
 -- m isn't below l, and s is above m
 over : (l m s : List ℕ) → key_lt m l ≡ false → key_lt m s ≡ true → key_lt l s ≡ true

@@ -8,6 +8,7 @@ use Rattle.mn_base.specs.declared.ids.VersionNo.{VersionNo}
 use Rattle.mn_base.specs.declared.op.Step.{Step}
 use Rattle.mn_base.specs.declared.op.Step.TheVariants.{Get, Put, Del, Check}
 use Rattle.mn_base.specs.declared.reply.Pair.{Pair}
+use Rattle.mn_base.proofs.Lists.{all_append}
 use Rattle.mn_page.specs.declared.page.Page.{Page}
 use Rattle.mn_page.specs.declared.page.Body.{Body}
 use Rattle.mn_page.specs.declared.page.Body.TheVariants.{Leaf, Inner}
@@ -19,7 +20,6 @@ use Rattle.mn_tree.specs.declared.write.Write.{Write}
 use Rattle.mn_tree.specs.Writes.{own_writes, other_writes, root_writes, page_writes, page_asks, origins_in, writes_if, writes_up, step_writes, written, all_written}
 use Rattle.mn_tree.proofs.Changes.{step_is}
 use Rattle.mn_tree.proofs.Trees.SplitBelow.{same_level}
-use Rattle.mn_tree.proofs.Trees.Moved.{all_both}
 use Rattle.mn_tree.proofs.Trees.Reached.{AreHeld}
 use Rattle.mn_tree.proofs.Trees.StepWrites.{is_now, is_still, held_now}
 
@@ -94,7 +94,7 @@ up_low top v n origins h [] body all low = by_halves (halves_of body) (parts_low
     by_halves None parts = (omega arith, tt)
     by_halves (Some hs) parts = let left = parts.0 in let right = parts.1 in (omega arith, (omega arith, (omega arith, tt)))
 up_low top v n origins h (parent ∷ above) body all low =
-    all_both (λ w. height_of w.page.body ≤ top + 1) (page_writes v n (placed_addr origins h.addr) h body) _ (page_low top v n (placed_addr origins h.addr) h body all.0 low)
+    all_append (λ w. height_of w.page.body ≤ top + 1) (page_writes v n (placed_addr origins h.addr) h body) _ (page_low top v n (placed_addr origins h.addr) h body all.0 low)
     (by_asked (page_asks v n h body) (λ now more.
     up_low top v (n + length (origins_in (page_writes v n (placed_addr origins h.addr) h body))) origins parent above (body_with parent.page.body h.addr now more) all.1
     (subst (λ m. m ≤ top) (sym (same_level parent.page.body h.addr now more)) (all.1).0)))

@@ -1,21 +1,15 @@
 -- A page that was copied for one more version: which versions it serves.
-use Rattle.std.proofs.Common.{◌≡◌, ℕ, zero, suc, ◌+◌, ◌^◌, ◌<◌, ◌≤◌, Bool, true, false, cond, not, ◌&&◌, ◌||◌, List, [], ◌∷◌, Some, refl, subst, sym, ap, ◌∙◌, arith, slice_get}
-use Rattle.std.specs.Prelude.{filter, nat_eq, nat_lt, reverse}
+use Rattle.std.proofs.Common.{◌≡◌, ℕ, ◌+◌, ◌^◌, ◌<◌, ◌≤◌, Bool, true, false, not, ◌&&◌, ◌||◌, List, Some, refl, sym, ap, ◌∙◌, arith, slice_get}
+use Rattle.std.specs.Prelude.{nat_lt, reverse}
 use Rattle.std.specs.Int.Bits.{bit_or}
-use Rattle.std.specs.List.{AllByRecursion, list_any, list_all, range_with_len}
-use Rattle.std.proofs.lemmas.Bool.{eqb-true, eq-eqb, lt-ltb, and_parts, and_from, and_right}
+use Rattle.std.specs.List.{AllByRecursion, list_all, range_with_len}
+use Rattle.std.proofs.lemmas.Bool.{eq-eqb, lt-ltb, and_right}
 use Rattle.mn_base.specs.Store.{Head, max_versions}
 use Rattle.mn_base.specs.Tree.{IsVersionTree, serves, parents_of, is_ancestor, has_version, versions_in}
+use Rattle.mn_base.proofs.Lists.{range_at}
 use Rattle.mn_page.proofs.Ancestors.{alone, is_own_ancestor, above_le}
-use Rattle.mn_page.proofs.Copy.{joined_bit, any_same, any_joined, all_joined, range_at}
-
-all_as_list : (t : ℕ → Bool) (ws : List ℕ) → AllByRecursion (λ w. t w ≡ true) ws → list_all t ws ≡ true
-all_as_list t [] all = refl
-all_as_list t (w ∷ ws) all = and_from (t w) (list_all t ws) all.0 (all_as_list t ws all.1)
-
-list_as_all : (t : ℕ → Bool) (ws : List ℕ) → list_all t ws ≡ true → AllByRecursion (λ w. t w ≡ true) ws
-list_as_all t [] e = tt
-list_as_all t (w ∷ ws) e = let parts = and_parts (t w) (list_all t ws) e in (parts.0, list_as_all t ws parts.1)
+use Rattle.mn_page.proofs.Copy.{joined_bit, any_same, any_joined, all_joined}
+use Rattle.mn_page.proofs.Copied.{all_as_list, list_as_all}
 
 abbrev pub joined : ℕ → ℕ → ℕ
 joined copied v = bit_or copied (2 ^ v)

@@ -9,6 +9,7 @@ use Rattle.mn_base.specs.Store.{Store, StoreVersion, is_ascending}
 use Rattle.mn_base.specs.declared.ids.Addr.{Addr}
 use Rattle.mn_base.specs.declared.ids.VersionNo.{VersionNo}
 use Rattle.mn_base.specs.declared.reply.Pair.{Pair}
+use Rattle.mn_base.proofs.Lists.{set_at, weaker}
 use Rattle.mn_page.specs.declared.entry.CatEntry.{CatEntry}
 use Rattle.mn_page.specs.declared.page.Page.{Page}
 use Rattle.mn_page.specs.declared.page.Body.TheVariants.{Leaf}
@@ -16,9 +17,11 @@ use Rattle.mn_page.specs.Grammar.{height_of}
 use Rattle.mn_page.specs.Forest.{ChildRange, children_of}
 use Rattle.mn_page.specs.Holds.{PagesAt, page_covers, page_serves, root_page, root_height, pairs_in, IsRoot, IsChild, HasVersions, IsOnPath, OneOnPath}
 use Rattle.mn_page.specs.Overlay.{page_with}
-use Rattle.mn_page.proofs.Alike.{re_paired, heads_stay, all-set, get-set_same, get-set_other}
+use Rattle.mn_page.proofs.Alike.{re_paired, heads_stay, all-set, get-set_other}
+use Rattle.mn_page.proofs.Added.{addr_cases}
+use Rattle.mn_page.proofs.Copy.{page_same}
 use Rattle.mn_tree.specs.Trees.{children_after, AreRising, IsOrdered, IsShown, IsWritable}
-use Rattle.mn_tree.proofs.Trees.Puts.{put, put_here, put_else, stood, now, still, addr_cases, page_same, weaker}
+use Rattle.mn_tree.proofs.Trees.Puts.{put, put_here, put_else, stood, now, still}
 use Rattle.mn_tree.proofs.Trees.Twins.{Twin, SameFor, changed_tree, twin_itself, serves_its, serves_one}
 
 -- the leaf at a covers the key, and only there the version's new pairs differ from the old ones
@@ -215,7 +218,7 @@ module _ (entries : List CatEntry) (at : PagesAt) (store : Store) (v : VersionNo
       → filter (λ pair. page_covers pair.key y) other.pairs ≡ pairs_in y.body
   leaves_now can w other x y at_w there flat on = elim (cases_eq v.0 w) as (λ _. filter (λ pair. page_covers pair.key y) other.pairs ≡ pairs_in y.body) [
     | inl e ↦
-        let both : Some (re_paired version ps) ≡ Some other = sym (get-set_same store v.0 version (re_paired version ps) can.found) ∙ (ap (slice_get store_now) e ∙ at_w) in
+        let both : Some (re_paired version ps) ≡ Some other = sym (set_at store v.0 version (re_paired version ps) can.found) ∙ (ap (slice_get store_now) e ∙ at_w) in
         let same : ps ≡ other.pairs = ap (λ (o : Option StoreVersion). option_map_or (λ (z : StoreVersion). z.pairs) o []) both in
         ap (filter (λ pair. page_covers pair.key y)) (sym same) ∙ own_leaf can x y there flat (subst (λ k. page_serves entries k y ≡ true) (sym e) on)
     | inr differ ↦ other_leaf can w other x y (λ e. differ (sym e)) (sym (get-set_other store v.0 w (re_paired version ps) differ) ∙ at_w) there flat on

@@ -6,19 +6,21 @@ use Rattle.mn_base.specs.Ids.{addr_same}
 use Rattle.mn_base.specs.declared.ids.Addr.{Addr}
 use Rattle.mn_base.specs.declared.ids.VersionNo.{VersionNo}
 use Rattle.mn_base.specs.declared.reply.Pair.{Pair}
+use Rattle.mn_base.proofs.Lists.{all_append, weaker}
 use Rattle.mn_page.specs.declared.page.Page.{Page}
 use Rattle.mn_page.specs.declared.page.Body.{Body}
 use Rattle.mn_page.specs.declared.page.Body.TheVariants.{Leaf, Inner}
 use Rattle.mn_page.specs.declared.page.Child.{Child}
 use Rattle.mn_page.specs.Grammar.{height_of}
 use Rattle.mn_page.specs.Overlay.{Held, Overlay, Halves, Asked, Nothing, Child_is, held_at, is_new, new_addr, halves_of, inner_halves, copied_for, body_with, placed_addr}
+use Rattle.mn_page.proofs.Added.{addr_cases}
+use Rattle.mn_page.proofs.Copy.{page_same}
 use Rattle.mn_tree.specs.declared.write.Write.{Write}
 use Rattle.mn_tree.specs.Writes.{own_writes, other_writes, root_writes, page_writes, page_asks, origins_in, writes_if, writes_up, joined, all_joined, written, all_written}
 use Rattle.mn_tree.specs.Trees.{is_noted}
-use Rattle.mn_tree.proofs.Trees.Puts.{held_with_is, addr_is, addr_cases, same_itself, page_same, weaker}
+use Rattle.mn_tree.proofs.Trees.Puts.{held_with_is, addr_is, same_itself}
 use Rattle.mn_tree.proofs.Trees.SplitBelow.{same_level}
 use Rattle.mn_tree.proofs.Trees.Placed.{joined_back}
-use Rattle.mn_tree.proofs.Trees.Moved.{all_both}
 
 -- Where a page of the written ones comes from
 
@@ -71,7 +73,7 @@ up_places P v n origins h [] body news own all = by_halves (halves_of body)
     by_halves None = (own, tt)
     by_halves (Some halves) = (news n, (news (n + 1), (own, tt)))
 up_places P v n origins h (parent ∷ above) body news own all =
-    all_both (λ w. P w.addr) (page_writes v n (placed_addr origins h.addr) h body) _ (page_places P v n (placed_addr origins h.addr) h body news own)
+    all_append (λ w. P w.addr) (page_writes v n (placed_addr origins h.addr) h body) _ (page_places P v n (placed_addr origins h.addr) h body news own)
     (by_asked (page_asks v n h body) (λ now more.
     up_places P v (n + length (origins_in (page_writes v n (placed_addr origins h.addr) h body))) origins parent above (body_with parent.page.body h.addr now more) news all.0 all.1))
   where
@@ -129,7 +131,7 @@ up_high v n origins h [] body all high = by_halves (halves_of body) refl
     by_halves None e = (high, tt)
     by_halves (Some hs) e = let parts = halves_high body hs high e in (parts.0, (parts.1, (more_high (height_of body), tt)))
 up_high v n origins h (parent ∷ above) body all high =
-    all_both (λ w. IsHigh w.page.body) (page_writes v n (placed_addr origins h.addr) h body) _ (page_high v n (placed_addr origins h.addr) h body all.0 high)
+    all_append (λ w. IsHigh w.page.body) (page_writes v n (placed_addr origins h.addr) h body) _ (page_high v n (placed_addr origins h.addr) h body all.0 high)
     (by_asked (page_asks v n h body) (λ now more.
     up_high v (n + length (origins_in (page_writes v n (placed_addr origins h.addr) h body))) origins parent above (body_with parent.page.body h.addr now more) all.1 (with_high parent.page.body h.addr now more (all.1).0)))
   where
@@ -166,7 +168,7 @@ leaf_places v n origins h [] body all = by_halves (halves_of body)
     by_halves None = (λ e. inr refl, tt)
     by_halves (Some halves) = (λ e. inl refl, (λ e. inl refl, (λ e. inr refl, tt)))
 leaf_places v n origins h (parent ∷ above) body all =
-    all_both (λ w. height_of w.page.body ≡ 0 → IsLeafPlace h w.addr) (page_writes v n (placed_addr origins h.addr) h body) _
+    all_append (λ w. height_of w.page.body ≡ 0 → IsLeafPlace h w.addr) (page_writes v n (placed_addr origins h.addr) h body) _
     (weaker (λ w. IsLeafPlace h w.addr) (λ w. height_of w.page.body ≡ 0 → IsLeafPlace h w.addr) (λ w is e. is) (page_writes v n (placed_addr origins h.addr) h body)
     (page_places (IsLeafPlace h) v n (placed_addr origins h.addr) h body (λ m. inl refl) (inr refl)))
     (weaker (λ w. IsHigh w.page.body) (λ w. height_of w.page.body ≡ 0 → IsLeafPlace h w.addr) (λ w high e. absurd (high e)) _ (upper_high v n origins h parent above body all))
@@ -218,17 +220,17 @@ module _ (IsLive : Page → Type 0) (v : VersionNo) (off : (p : Page) → IsLive
       by_own : (t : Bool) (x : Option Halves) → halves_of (Leaf new) ≡ x → AllByRecursion (λ w. IsHigh w.page.body) higher → LeafWrites IsLive h new (mine t x ++ higher)
       by_own true None e rest =
           stays h.addr (λ f. refl)
-          (all_both (λ w. height_of w.page.body ≡ 0 → IsLive w.page → IsWhole h.addr h.page new w.addr w.page) (mine true None) higher (λ level live. (refl, refl, refl, refl), tt) (never (λ w. IsWhole h.addr h.page new w.addr w.page) higher rest))
+          (all_append (λ w. height_of w.page.body ≡ 0 → IsLive w.page → IsWhole h.addr h.page new w.addr w.page) (mine true None) higher (λ level live. (refl, refl, refl, refl), tt) (never (λ w. IsWhole h.addr h.page new w.addr w.page) higher rest))
       by_own true (Some hs) e rest =
           splits hs h.addr (new_addr n) e (λ f. refl) refl
-          (all_both (λ w. height_of w.page.body ≡ 0 → IsLive w.page → IsHalf h.addr (new_addr n) h.page hs w.addr w.page) (mine true (Some hs)) higher
+          (all_append (λ w. height_of w.page.body ≡ 0 → IsLive w.page → IsHalf h.addr (new_addr n) h.page hs w.addr w.page) (mine true (Some hs)) higher
           (λ level live. inr (refl, refl, refl, refl), (λ level live. inl (refl, refl, refl, refl), tt)) (never (λ w. IsHalf h.addr (new_addr n) h.page hs w.addr w.page) higher rest))
       by_own false None e rest =
           stays (new_addr n) (λ f. absurd cc)
-          (all_both (λ w. height_of w.page.body ≡ 0 → IsLive w.page → IsWhole (new_addr n) h.page new w.addr w.page) (mine false None) higher
+          (all_append (λ w. height_of w.page.body ≡ 0 → IsLive w.page → IsWhole (new_addr n) h.page new w.addr w.page) (mine false None) higher
           (λ level live. (refl, refl, refl, refl), (λ level live. absurd (off h.page live), tt)) (never (λ w. IsWhole (new_addr n) h.page new w.addr w.page) higher rest))
       by_own false (Some hs) e rest =
           splits hs (new_addr n) (new_addr (n + 1)) e (λ f. absurd cc) refl
-          (all_both (λ w. height_of w.page.body ≡ 0 → IsLive w.page → IsHalf (new_addr n) (new_addr (n + 1)) h.page hs w.addr w.page) (mine false (Some hs)) higher
+          (all_append (λ w. height_of w.page.body ≡ 0 → IsLive w.page → IsHalf (new_addr n) (new_addr (n + 1)) h.page hs w.addr w.page) (mine false (Some hs)) higher
           (λ level live. inl (refl, refl, refl, refl), (λ level live. inr (refl, refl, refl, refl), (λ level live. absurd (off h.page live), tt)))
           (never (λ w. IsHalf (new_addr n) (new_addr (n + 1)) h.page hs w.addr w.page) higher rest))

@@ -8,6 +8,8 @@ use Rattle.mn_base.specs.Order.{key_lt, below_bound, covers_key}
 use Rattle.mn_base.specs.Store.{is_ascending}
 use Rattle.mn_base.specs.declared.ids.Addr.{Addr}
 use Rattle.mn_base.specs.declared.reply.Pair.{Pair}
+use Rattle.mn_base.proofs.PairsWith.{ascending-filter}
+use Rattle.mn_base.proofs.Booleans.{clash}
 use Rattle.mn_page.specs.declared.entry.CatEntry.{CatEntry}
 use Rattle.mn_page.specs.declared.page.Page.{Page}
 use Rattle.mn_page.specs.declared.page.Body.TheVariants.{Leaf}
@@ -16,11 +18,10 @@ use Rattle.mn_page.specs.Holds.{PagesAt, page_covers, page_serves, pairs_in}
 use Rattle.mn_page.specs.Overlay.{Halves, halves_of, is_new}
 use Rattle.mn_page.proofs.Grid.{filter_both}
 use Rattle.mn_tree.specs.Trees.{is_noted}
-use Rattle.mn_tree.proofs.Trees.Fits.{passes, ascending-filter}
+use Rattle.mn_tree.proofs.Trees.Fits.{passes}
 use Rattle.mn_tree.proofs.Trees.Halved.{Halved, halved}
 use Rattle.mn_tree.proofs.Trees.LeafWrites.{IsWhole, IsLeft, IsRight, IsHalf}
 use Rattle.mn_tree.proofs.Trees.OnlyAt.{is_kept}
-use Rattle.mn_tree.proofs.Trees.Puts.{clash}
 use Rattle.mn_tree.proofs.Trees.Ranges.{left_covers, right_covers}
 
 -- the memory's leaf of the version at this address, one of those that were read, covers the key

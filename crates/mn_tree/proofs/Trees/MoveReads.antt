@@ -8,9 +8,12 @@ use Rattle.mn_base.specs.Store.{step_key}
 use Rattle.mn_base.specs.declared.ids.Addr.{Addr}
 use Rattle.mn_base.specs.declared.ids.VersionNo.{VersionNo}
 use Rattle.mn_base.specs.declared.op.Step.{Step}
+use Rattle.mn_base.proofs.Booleans.{clash}
 use Rattle.mn_page.specs.declared.page.Page.{Page}
 use Rattle.mn_page.specs.Grammar.{IsPage, IsAddr, height_of}
 use Rattle.mn_page.specs.Overlay.{Held, Overlay, held_at, held_with, is_new, new_addr}
+use Rattle.mn_page.proofs.Copy.{page_same}
+use Rattle.mn_page.proofs.Added.{addr_cases}
 use Rattle.mn_tree.specs.declared.write.Write.{Write}
 use Rattle.mn_tree.specs.Writes.{step_writes, joined, all_joined, written, all_written}
 use Rattle.mn_tree.specs.State.{Drafted, drafted_after, leaf_joined, no_pages}
@@ -18,7 +21,7 @@ use Rattle.mn_tree.specs.Trees.{is_noted}
 use Rattle.mn_tree.specs.Moves.{Move, Comes, Does, MayCome, LeadsTo, comes_in}
 use Rattle.mn_tree.specs.MoveLaws.{AreOnce, MovesRead}
 use Rattle.mn_tree.proofs.Changes.{step_is}
-use Rattle.mn_tree.proofs.Trees.Puts.{clash, page_same, nothing, same_itself, differs, addr_cases}
+use Rattle.mn_tree.proofs.Trees.Puts.{nothing, same_itself, differs}
 use Rattle.mn_tree.proofs.Trees.Tidy.{noted_more, held_kept, held_here}
 use Rattle.mn_tree.proofs.Trees.Placing.{held_append}
 use Rattle.mn_tree.proofs.Trees.Placed.{joined_has, joined_itself, joined_back}
@@ -99,7 +102,7 @@ read_more came changed a x is =
     (is.0, is.1, is.2, is.3, elim is.4 as (λ _. (height_of (is.0).body ≡ 0) ⊎ (is_noted (joined changed a) x ≡ true)) [ inl e ↦ inl e | inr e ↦ inr (joined_has changed a x e) ])
 
 -- a page that isn't there now wasn't before
-was_absent : (pages : List Held) (a : Addr) (p : Page) (x : Addr) → held_at (held_with pages a p) x ≡ None → held_at pages x ≡ None
+pub was_absent : (pages : List Held) (a : Addr) (p : Page) (x : Addr) → held_at (held_with pages a p) x ≡ None → held_at pages x ≡ None
 was_absent pages a p x none = elim (addr_cases a x) as (λ _. held_at pages x ≡ None) [
   | inl e ↦ absurd (nothing p (held_at (held_with pages a p) x) none (ap (held_at (held_with pages a p)) (sym e) ∙ held_here pages a p))
   | inr apart ↦ sym (held_past pages a p x apart) ∙ none

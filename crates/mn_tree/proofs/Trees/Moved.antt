@@ -1,5 +1,5 @@
 -- The moves of a transaction keep the tree, where the pages that they write or read stand in the memory as they came in.
-use Rattle.std.proofs.Common.{◌≡◌, ℕ, ◌+◌, Bool, true, false, ◌&&◌, ◌||◌, List, [], ◌∷◌, ◌++◌, Option, Some, None, refl, subst, sym, ap, ◌∙◌, arith, slice_get, slice_set}
+use Rattle.std.proofs.Common.{◌≡◌, ℕ, Bool, true, false, ◌&&◌, ◌||◌, List, [], ◌∷◌, Option, Some, None, refl, subst, sym, ap, ◌∙◌, arith, slice_get, slice_set}
 use Rattle.std.specs.List.{AllByRecursion, list_any}
 use Rattle.std.specs.Option.{option_or}
 use Rattle.std.proofs.lemmas.Bool.{ne_eqb}
@@ -8,11 +8,12 @@ use Rattle.mn_base.specs.declared.ids.Addr.{Addr}
 use Rattle.mn_base.specs.declared.ids.VersionNo.{VersionNo}
 use Rattle.mn_base.specs.declared.op.Step.{Step}
 use Rattle.mn_base.specs.declared.reply.Pair.{Pair}
+use Rattle.mn_base.proofs.Lists.{set_at}
 use Rattle.mn_page.specs.declared.entry.CatEntry.{CatEntry}
 use Rattle.mn_page.specs.declared.page.Page.{Page}
 use Rattle.mn_page.specs.Holds.{PagesAt}
 use Rattle.mn_page.specs.Overlay.{Held, Overlay, held_at, held_with, is_new, step_on}
-use Rattle.mn_page.proofs.Alike.{re_paired, get-set_same}
+use Rattle.mn_page.proofs.Alike.{re_paired}
 use Rattle.mn_tree.specs.declared.write.Write.{Write}
 use Rattle.mn_tree.specs.Walk.{Reached, walk}
 use Rattle.mn_tree.specs.Writes.{joined, all_joined, step_writes, all_written}
@@ -64,10 +65,6 @@ leads_reads parents v root d after (Does step ∷ moves) leads x noted =
     leads_reads parents v root (drafted_after v d step leads.0) after moves leads.2 x
     (all_joined_has (leaf_joined d.read leads.0) (step_writes v d.overlay.fresh d.origins step leads.0) x (leaf_joined_has d.read leads.0 x noted))
 
-pub all_both : {X : Type 0} (P : X → Type 0) (xs ys : List X) → AllByRecursion P xs → AllByRecursion P ys → AllByRecursion P (xs ++ ys)
-all_both P [] ys all more = more
-all_both P (x ∷ xs) ys all more = (all.0, all_both P xs ys all.1 more)
-
 -- The tree that is left
 
 module _ (entries : List CatEntry) (at : PagesAt) (store : Store) (parents : List (Option ℕ)) (v : VersionNo) (version : StoreVersion) (entry : CatEntry) (agrees : Agrees parents entries v.0) (found : slice_get store v.0 ≡ Some version)
@@ -100,7 +97,7 @@ module _ (entries : List CatEntry) (at : PagesAt) (store : Store) (parents : Lis
   stepped d step path ps may way reads now =
       subst (λ (s : Store). IsDraft entries at s (only_at read (step_on v d.overlay step path))) (set_twice store v.0 (re_paired version ps) (re_paired version (pairs_after_step ps step)))
       (subst (λ (o : Overlay). IsDraft entries at (slice_set (store_with ps) v.0 (re_paired version (pairs_after_step ps step))) o) same_overlay
-      (step_found entries at (store_with ps) (only_at read d.overlay) v (re_paired version ps) entry step (real.leaf ∷ real.above) now (get-set_same store v.0 version (re_paired version ps) found) there may real.found))
+      (step_found entries at (store_with ps) (only_at read d.overlay) v (re_paired version ps) entry step (real.leaf ∷ real.above) now (set_at store v.0 version (re_paired version ps) found) there may real.found))
     where
       o : Overlay
       o = d.overlay

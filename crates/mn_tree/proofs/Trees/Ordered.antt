@@ -5,12 +5,13 @@ use Rattle.std.specs.List.{AllByRecursion, range_with_len}
 use Rattle.std.proofs.lemmas.Bool.{eqb-true, eq-eqb, cases_eq}
 use Rattle.mn_base.specs.Ids.{addr_same}
 use Rattle.mn_base.specs.declared.ids.Addr.{Addr}
+use Rattle.mn_base.proofs.Booleans.{clash}
 use Rattle.mn_page.specs.Holds.{PagesAt}
 use Rattle.mn_page.specs.Overlay.{Held, is_new, new_addr}
 use Rattle.mn_tree.specs.Trees.{is_noted}
 use Rattle.mn_tree.specs.Order.{precedes, with_number, with_numbers, place_in, slot_of, slots_by_number, is_changed}
 use Rattle.mn_tree.specs.Laws.{AreFreeSlots}
-use Rattle.mn_tree.proofs.Trees.Puts.{addr_is, clash}
+use Rattle.mn_tree.proofs.Trees.Puts.{addr_is}
 use Rattle.mn_tree.proofs.Trees.Placing.{some_slot, slot_free, slot_once}
 
 -- Numbers in an order

@@ -11,6 +11,7 @@ use Rattle.mn_base.specs.declared.ids.VersionNo.{VersionNo}
 use Rattle.mn_base.specs.declared.op.Step.{Step}
 use Rattle.mn_base.specs.declared.op.Step.TheVariants.{Get, Put, Del, Check}
 use Rattle.mn_base.specs.declared.reply.Pair.{Pair}
+use Rattle.mn_base.proofs.Lists.{all_append, weaker}
 use Rattle.mn_page.specs.declared.page.Page.{Page}
 use Rattle.mn_page.specs.declared.page.Body.{Body}
 use Rattle.mn_page.specs.declared.page.Body.TheVariants.{Leaf}
@@ -19,7 +20,7 @@ use Rattle.mn_page.specs.Grammar.{height_of}
 use Rattle.mn_page.specs.Forest.{children_of}
 use Rattle.mn_page.specs.Holds.{pairs_in}
 use Rattle.mn_page.specs.Overlay.{Held, Overlay, Halves, Asked, Nothing, Child_is, held_at, is_new, new_addr, halves_of, path_pairs, child_for, body_with, placed_addr}
-use Rattle.mn_page.proofs.Grid.{all_append, all_at_place}
+use Rattle.mn_page.proofs.Grid.{all_at_place}
 use Rattle.mn_tree.specs.declared.stepped.Stepped.TheVariants as Tell
 use Rattle.mn_tree.specs.declared.write.Write.{Write}
 use Rattle.mn_tree.specs.Walk.{held, is_met, goes_on, Walk, Missing, Wrong, Reached, walk_down, walk}
@@ -28,9 +29,8 @@ use Rattle.mn_tree.specs.State.{Drafted, TreeState, drafted_with, drafted_after,
 use Rattle.mn_tree.specs.Moves.{Move, Comes, Does, LeadsTo, comes_in}
 use Rattle.mn_tree.specs.Tries.{BadPathsCame}
 use Rattle.mn_tree.proofs.Changes.{step_is, fresh_after}
-use Rattle.mn_tree.proofs.Trees.Puts.{nothing, weaker}
+use Rattle.mn_tree.proofs.Trees.Puts.{nothing}
 use Rattle.mn_tree.proofs.Trees.Placing.{some_slot}
-use Rattle.mn_tree.proofs.Trees.Moved.{all_both}
 use Rattle.mn_tree.proofs.Trees.MoveReads.{Reads, came_more, comes_reads, step_reads, append_nil, all_moves, no_reads}
 use Rattle.mn_tree.proofs.Trees.Reached.{AreHeld, reached}
 
@@ -70,7 +70,7 @@ up_origins P v n origins h [] body all = by_halves (halves_of body)
     by_halves None = (tt, tt)
     by_halves (Some halves) = (all.0, (all.0, (tt, tt)))
 up_origins P v n origins h (parent ∷ above) body all =
-    all_both (λ w. HasOrigin P w.origin) (page_writes v n (placed_addr origins h.addr) h body) _ (page_origins P v n (placed_addr origins h.addr) h body all.0)
+    all_append (λ w. HasOrigin P w.origin) (page_writes v n (placed_addr origins h.addr) h body) _ (page_origins P v n (placed_addr origins h.addr) h body all.0)
     (by_asked (page_asks v n h body) (λ now more.
     up_origins P v (n + length (origins_in (page_writes v n (placed_addr origins h.addr) h body))) origins parent above (body_with parent.page.body h.addr now more) all.1))
   where

@@ -19,11 +19,12 @@ use Rattle.mn_page.specs.Grammar.{height_of}
 use Rattle.mn_page.specs.Forest.{children_of}
 use Rattle.mn_page.specs.Holds.{PagesAt, page_covers, pairs_in, root_page, root_height, IsOnPath, IsTree}
 use Rattle.mn_page.specs.Overlay.{Held, Halves, Asked, Nothing, Child_is, held_at, halves_of, child_for, body_with, placed_addr}
+use Rattle.mn_page.proofs.Grid.{all_split}
+use Rattle.mn_page.proofs.Copy.{page_same}
 use Rattle.mn_tree.specs.declared.write.Write.{Write}
 use Rattle.mn_tree.specs.Walk.{held, is_live, is_met, goes_on, Missing, Wrong, Reached, walk_down, walk}
 use Rattle.mn_tree.specs.Writes.{own_writes, own_asks, other_writes, root_writes, page_writes, page_asks, origins_in, writes_if, writes_up, step_writes}
 use Rattle.mn_tree.specs.MoveLaws.{Agrees}
-use Rattle.mn_tree.proofs.Trees.Puts.{page_same}
 use Rattle.mn_tree.proofs.Trees.Found.{IsUp}
 
 -- What a walk passes
@@ -113,10 +114,6 @@ root_writes_itself : (v : VersionNo) (n : ℕ) (origin : Addr) (h : Held) (body 
 root_writes_itself v n origin h body None P all = (_, refl, all.0)
 root_writes_itself v n origin h body (Some halves) P all = (_, refl, ((all.1).1).0)
 
-pub all_front : {X : Type 0} (P : X → Type 0) (xs ys : List X) → AllByRecursion P (xs ++ ys) → AllByRecursion P xs × AllByRecursion P ys
-all_front P [] ys all = (tt, all)
-all_front P (x ∷ xs) ys all = let rest = all_front P xs ys all.1 in ((all.0, rest.0), rest.1)
-
 pub own_page_writes : (v : VersionNo) (n : ℕ) (origin : Addr) (h : Held) (body : Body) → h.page.made.0 ≡ v.0 → page_writes v n origin h body ≡ own_writes v n origin h body (halves_of body)
 own_page_writes v n origin h body made = rw (eq-eqb h.page.made.0 v.0 made) refl
 
@@ -126,7 +123,7 @@ own_page_asks v n h body made = rw (eq-eqb h.page.made.0 v.0 made) refl
 pub up_writes_itself : (v : VersionNo) (n : ℕ) (origins : List Addr) (h : Held) (above : List Held) (body : Body) (P : Write → Type 0) → AllByRecursion P (writes_up v n origins h above body) → (w : Write) × (w.addr ≡ h.addr) × P w
 up_writes_itself v n origins h [] body P all = root_writes_itself v n (placed_addr origins h.addr) h body (halves_of body) P all
 up_writes_itself v n origins h (parent ∷ above) body P all =
-    writes_itself v n (placed_addr origins h.addr) h body (nat_eq h.page.made.0 v.0) (halves_of body) P (all_front P (page_writes v n (placed_addr origins h.addr) h body) _ all).0
+    writes_itself v n (placed_addr origins h.addr) h body (nat_eq h.page.made.0 v.0) (halves_of body) P (all_split P (page_writes v n (placed_addr origins h.addr) h body) _ all).0
 
 -- The tree, and the pages that a walk passes: those of them that are to be written, or are read, stand in the tree as they are held
 module _ (entries : List CatEntry) (at : PagesAt) (parents : List (Option ℕ)) (v : VersionNo) (entry : CatEntry) (there : slice_get entries v.0 ≡ Some entry) (tree : IsTree entries at) (agrees : Agrees parents entries v.0)
@@ -198,7 +195,7 @@ module _ (entries : List CatEntry) (at : PagesAt) (parents : List (Option ℕ)) 
       by_halves None e =
           ap (λ (x : Option Halves). ws x ++ writes_if (own_asks n h x) (later (n + length (origins_in (ws x))))) e ∙ sym (ap (root_writes v n (placed_addr origins h.addr) h body) e)
       by_halves (Some halves) e =
-          absurd (higher _ _ _ (all_front (λ w. IsKnown w.addr) (ws (Some halves)) _ (subst (AllByRecursion (λ w. IsKnown w.addr)) (own ∙ ap (λ (x : Option Halves). ws x ++ writes_if (own_asks n h x) (later (n + length (origins_in (ws x))))) e) all)).1)
+          absurd (higher _ _ _ (all_split (λ w. IsKnown w.addr) (ws (Some halves)) _ (subst (AllByRecursion (λ w. IsKnown w.addr)) (own ∙ ap (λ (x : Option Halves). ws x ++ writes_if (own_asks n h x) (later (n + length (origins_in (ws x))))) e) all)).1)
   same_writes height n origins h (parent ∷ above) (upper ∷ real) body passed up all =
       by_asked (page_asks v n h body) refl (λ now more parts same.
       ap (λ (g : Held). writes_up v (n + length (origins_in ws)) origins g above (body_with g.page.body h.addr now more)) same
@@ -216,7 +213,7 @@ module _ (entries : List CatEntry) (at : PagesAt) (parents : List (Option ℕ)) 
           → ws ++ writes_if (page_asks v n h body) (later parent above) ≡ ws ++ writes_if (page_asks v n h body) (later upper real)
       by_asked Nothing e rest = ap (λ (a : Asked). ws ++ writes_if a (later parent above)) e ∙ sym (ap (λ (a : Asked). ws ++ writes_if a (later upper real)) e)
       by_asked (Child_is now more) e rest =
-          let parts = (all_front (λ w. IsKnown w.addr) ws _ (subst (λ (a : Asked). AllByRecursion (λ w. IsKnown w.addr) (ws ++ writes_if a (later parent above))) e all)).1 in
+          let parts = (all_split (λ w. IsKnown w.addr) ws _ (subst (λ (a : Asked). AllByRecursion (λ w. IsKnown w.addr) (ws ++ writes_if a (later parent above))) e all)).1 in
           let pp = first_passed parents v.0 pages entry.root key (suc height) parent above passed.1 in
           let w = up_writes_itself v (n + length (origins_in ws)) origins parent above (body_with parent.page.body h.addr now more) (λ w. IsKnown w.addr) parts in
           let same = same_held (suc height) parent upper (on_path (suc height) parent (subst IsKnown w.1 w.2) pp) (first_up entries at v.0 entry.root key (suc height) upper real up.1) in

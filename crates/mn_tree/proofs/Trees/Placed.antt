@@ -6,6 +6,7 @@ use Rattle.mn_base.specs.declared.ids.Addr.{Addr}
 use Rattle.mn_page.specs.Overlay.{Held, Overlay, is_new, placed_old, placed_new}
 use Rattle.mn_tree.specs.declared.write.Write.{Write}
 use Rattle.mn_base.specs.Store.{Store}
+use Rattle.mn_base.proofs.Booleans.{or_cases, or_left, or_right}
 use Rattle.mn_page.specs.declared.entry.CatEntry.{CatEntry}
 use Rattle.mn_page.specs.Holds.{PagesAt, IsTree}
 use Rattle.mn_tree.specs.Trees.{laid_over, is_noted, IsShown, IsDraft}
@@ -15,18 +16,11 @@ use Rattle.mn_tree.specs.Order.{new_order, changed_order, slot_of, slots_by_numb
 use Rattle.mn_tree.specs.Laws.{AreFreeSlots, ReadsChanged, StepReadsChanged, PlacedKeepsTree, held_pair}
 use Rattle.mn_tree.proofs.Changes.{step_is}
 use Rattle.mn_tree.proofs.Trees.Puts.{addr_is, same_itself}
-use Rattle.mn_tree.proofs.Trees.Tidy.{noted_more, or_true}
+use Rattle.mn_tree.proofs.Trees.Tidy.{noted_more}
 use Rattle.mn_tree.proofs.Trees.Placing.{placed_shown, range_low}
 use Rattle.mn_tree.proofs.Trees.Ordered.{Has, has_all, length_all, all_all, has_range, length_range, has_place, slots_free, noted_in_order}
 
 -- The read set has each changed page
-
-or_left : (s t : Bool) → s ≡ true → (s || t) ≡ true
-or_left s t e = ap (λ b. b || t) e
-
-pub or_right : (s t : Bool) → t ≡ true → (s || t) ≡ true
-or_right true t e = refl
-or_right false t e = e
 
 -- a page that joins is there, unless it is new, and the others stay
 pub joined_has : (addrs : List Addr) (a x : Addr) → is_noted addrs x ≡ true → is_noted (joined addrs a) x ≡ true
@@ -51,7 +45,7 @@ joined_back addrs a x noted = cases (is_new a) (is_noted addrs a) refl noted
     cases : (s t : Bool) → is_new a ≡ s → is_noted (if s || t then addrs else addrs ++ a ∷ []) x ≡ true → (is_noted addrs x ≡ true) ⊎ ((is_new a ≡ false) × (a ≡ x))
     cases true t e f = inl f
     cases false true e f = inl f
-    cases false false e f = elim (or_true (is_noted addrs x) (addr_same a x) (sym (noted_more addrs a x) ∙ f)) as (λ _. (is_noted addrs x ≡ true) ⊎ ((is_new a ≡ false) × (a ≡ x))) [
+    cases false false e f = elim (or_cases (is_noted addrs x) (addr_same a x) (sym (noted_more addrs a x) ∙ f)) as (λ _. (is_noted addrs x ≡ true) ⊎ ((is_new a ≡ false) × (a ≡ x))) [
       | inl g ↦ inl g
       | inr g ↦ inr (e, addr_is a x g)
     ]

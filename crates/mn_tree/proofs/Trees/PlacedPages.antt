@@ -12,18 +12,18 @@ use Rattle.mn_page.specs.declared.page.Body.TheVariants.{Leaf, Inner}
 use Rattle.mn_page.specs.declared.page.Child.{Child}
 use Rattle.mn_page.specs.Grammar.{IsPage, IsBody, IsKey, IsAddr, are_ascending}
 use Rattle.mn_page.specs.Overlay.{held_at, is_new, new_addr, child_at, placed_addr, placed_body, placed_page, placed_old, placed_new, next_number}
-use Rattle.mn_page.proofs.Grid.{all_append, all_at_place}
+use Rattle.mn_page.proofs.Grid.{all_at_place}
 use Rattle.mn_base.proofs.Keys.{key_lt-trans}
+use Rattle.mn_base.proofs.Lists.{all_append}
+use Rattle.mn_base.proofs.Booleans.{clash, or_right}
 use Rattle.mn_tree.specs.State.{max_height}
 use Rattle.mn_tree.specs.Trees.{is_noted, AreRising, children_after, IsOrdered}
 use Rattle.mn_tree.specs.Order.{new_order, changed_order, place_in, slot_of, slots_by_number, is_changed, pair_of}
 use Rattle.mn_tree.specs.Moves.{done_in}
 use Rattle.mn_tree.specs.MoveLaws.{PlacedArePages}
-use Rattle.mn_tree.proofs.Trees.Puts.{clash}
 use Rattle.mn_tree.proofs.Trees.Ranges.{rising_below}
 use Rattle.mn_tree.proofs.Trees.Fits.{passes}
 use Rattle.mn_tree.proofs.Trees.Placing.{some_slot, range_low}
-use Rattle.mn_tree.proofs.Trees.Placed.{or_right}
 use Rattle.mn_tree.proofs.Trees.Ordered.{has_all, length_all, has_range, length_range, place_low}
 use Rattle.mn_tree.proofs.Trees.MoveReads.{old_addr}
 use Rattle.mn_tree.proofs.Trees.Filled.{IsPlace, IsBranch, IsFilled, IsSized}

@@ -9,6 +9,7 @@ use Rattle.mn_base.specs.Ids.{addr_same}
 use Rattle.mn_base.specs.Store.{Store}
 use Rattle.mn_base.specs.declared.ids.Addr.{Addr}
 use Rattle.mn_base.specs.declared.ids.NodeNo.{NodeNo}
+use Rattle.mn_base.proofs.Lists.{range_at}
 use Rattle.mn_page.specs.declared.entry.CatEntry.{CatEntry}
 use Rattle.mn_page.specs.declared.page.Page.{Page}
 use Rattle.mn_page.specs.declared.page.Body.{Body}
@@ -16,11 +17,11 @@ use Rattle.mn_page.specs.declared.page.Body.TheVariants.{Leaf, Inner}
 use Rattle.mn_page.specs.declared.page.Child.{Child}
 use Rattle.mn_page.specs.Holds.{PagesAt, IsTree}
 use Rattle.mn_page.specs.Overlay.{Held, Overlay, is_new, new_addr, held_at, child_at, placed_addr, placed_body, placed_page, placed_old, placed_new, next_number}
+use Rattle.mn_page.proofs.Copy.{page_same}
 use Rattle.mn_tree.specs.Trees.{laid_over, is_noted, IsShown, IsDraft}
 use Rattle.mn_tree.specs.Laws.{AreFreeSlots, PlacingKeepsTree}
-use Rattle.mn_tree.proofs.Trees.Puts.{addr_is, same_itself, differs, page_same, nothing}
+use Rattle.mn_tree.proofs.Trees.Puts.{addr_is, same_itself, differs, nothing}
 use Rattle.mn_tree.proofs.Trees.Among.{Among, rest_addrs, body_addrs}
-use Rattle.mn_page.proofs.Copy.{range_at}
 use Rattle.mn_tree.proofs.Trees.Found.{settled}
 use Rattle.mn_tree.proofs.Trees.Renamed.{Moved, Came, renamed_body, renamed_shown}
 

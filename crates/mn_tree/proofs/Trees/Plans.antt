@@ -10,6 +10,7 @@ use Rattle.mn_base.specs.declared.ids.Addr.{Addr}
 use Rattle.mn_base.specs.declared.ids.VersionNo.{VersionNo}
 use Rattle.mn_base.specs.declared.op.Step.{Step}
 use Rattle.mn_base.specs.declared.op.Step.TheVariants.{Get, Put, Del, Check}
+use Rattle.mn_base.proofs.Lists.{weaker}
 use Rattle.mn_page.specs.declared.page.Page.{Page}
 use Rattle.mn_page.specs.Grammar.{IsPage}
 use Rattle.mn_page.specs.Overlay.{Held, Overlay, held_at, is_new, new_addr, next_number, placed_addr, placed_page, placed_old, placed_new, step_on}
@@ -20,7 +21,6 @@ use Rattle.mn_tree.specs.Order.{both_stand, precedes, with_number, with_numbers,
 use Rattle.mn_tree.specs.Laws.{held_pair}
 use Rattle.mn_tree.specs.Moves.{Move, Comes, Does, LeadsTo, done_in, came_at, only_at, pairs_after}
 use Rattle.mn_tree.specs.MoveLaws.{AreReads, MovesRead, PlacedArePages, MovesArePlaced, QuietMoves}
-use Rattle.mn_tree.proofs.Trees.Puts.{weaker}
 use Rattle.mn_tree.proofs.Trees.Fits.{passes}
 use Rattle.mn_tree.proofs.Trees.Ordered.{all_with, all_all, length_all, length_range}
 use Rattle.mn_tree.proofs.Trees.Sorted.{placed_stands, Ascend, ascend_all}

@@ -1,27 +1,26 @@
 -- Where the pages of a plan stand, and how long they are.
 use Rattle.std.proofs.Common.{◌≡◌, ℕ, suc, ◌+◌, ◌*◌, ◌<◌, ◌≤◌, List, [], ◌∷◌, ◌++◌, map, length, Option}
-use Rattle.std.proofs.Common.{true, Some, None, refl, subst, sym, ap, ◌∙◌, arith, length-append}
+use Rattle.std.proofs.Common.{true, Some, None, refl, subst, sym, ◌∙◌, arith, length-append}
 use Rattle.std.specs.List.{AllByRecursion, flat_map, range_with_len}
 use Rattle.std.specs.Option.{option_map, option_to_list}
 use Rattle.std.proofs.lemmas.List.FromFn.{get_or-map-range_with_len}
 use Rattle.mn_base.specs.declared.ids.Addr.{Addr}
 use Rattle.mn_base.specs.declared.reply.Pair.{Pair}
+use Rattle.mn_base.proofs.Lists.{all_append, weaker}
 use Rattle.mn_page.specs.declared.page.Page.{Page}
 use Rattle.mn_page.specs.declared.page.Body.{Body}
 use Rattle.mn_page.specs.declared.page.Body.TheVariants.{Leaf, Inner}
 use Rattle.mn_page.specs.declared.page.Child.{Child}
-use Rattle.mn_page.specs.Grammar.{IsBound, counted, addr_bytes, high_bytes, pair_bytes}
+use Rattle.mn_page.specs.Grammar.{counted, addr_bytes, high_bytes, pair_bytes}
 use Rattle.mn_page.specs.Grammar.{child_bytes, body_bytes, page_bytes, count_in}
 use Rattle.mn_page.specs.Overlay.{Held, held_at, new_addr, next_number, child_at, placed_addr, placed_body}
 use Rattle.mn_page.specs.Overlay.{placed_page, placed_old, placed_new}
-use Rattle.mn_page.proofs.Grid.{all_append}
-use Rattle.mn_page.proofs.Spelled.{length-padded, page_text}
+use Rattle.mn_page.proofs.Spelled.{length-padded, page_text, high_length, text_parts}
 use Rattle.mn_tree.specs.State.{max_height}
 use Rattle.mn_tree.specs.Order.{new_order, changed_order, slot_of, slots_by_number, is_changed, pair_of}
 use Rattle.mn_tree.specs.Moves.{done_in}
 use Rattle.mn_tree.specs.MoveLaws.{AreReads, MovesRead}
 use Rattle.mn_tree.specs.Limits.{PlacedArePut, PlacedFillSlots}
-use Rattle.mn_tree.proofs.Trees.Puts.{weaker}
 use Rattle.mn_tree.proofs.Trees.Fits.{passes}
 use Rattle.mn_tree.proofs.Trees.Placing.{range_low}
 use Rattle.mn_tree.proofs.Trees.Ordered.{all_all, length_all, length_range}
@@ -73,17 +72,6 @@ placed_are_put moves_read parents v root moves d slots leads long = record {
 
 -- Lengths
 
--- five lists behind each other
-parts_length : (a b : List ℕ) (k : ℕ) (c : List ℕ)
-    → length (a ++ b ++ k ∷ [] ++ c) ≡ length a + length b + 1 + length c
-parts_length a b k c =
-    length-append (a ++ b ++ k ∷ []) c
-    ∙ ap (λ n. n + length c) (length-append (a ++ b) (k ∷ []) ∙ ap (λ n. n + 1) (length-append a b))
-
-high_length : (h : Option (List ℕ)) → IsBound h → length (high_bytes h) ≤ 34
-high_length None is = omega arith
-high_length (Some key) is = let low = is.1 in omega arith
-
 pairs_length : (low : List ℕ) (high : Option (List ℕ)) (ps : List Pair)
     → AllByRecursion (IsFitting low high) ps → length (flat_map pair_bytes ps) ≤ 98 * length ps
 pairs_length low high [] all = omega arith
@@ -122,7 +110,7 @@ page_length fresh top seq by p is =
     let low = is.low.0 in
     let high = high_length p.high is.high in
     let body = body_length fresh top by p.low p.high p.body is.body in
-    let parts = parts_length p.low (high_bytes p.high) (count_in (placed_body by p.body)) (body_bytes (placed_body by p.body)) in
+    let parts = text_parts p.low (high_bytes p.high) (count_in (placed_body by p.body)) (body_bytes (placed_body by p.body)) in
     length-padded 1024 (page_text (placed_page by seq p))
     (fits (length (p.low ++ high_bytes p.high ++ count_in (placed_body by p.body) ∷ [] ++ body_bytes (placed_body by p.body))) (subst (λ n. n ≤ 851) (sym parts) (omega arith)))
   where

@@ -1,32 +1,23 @@
 -- Pages with one more, or with another one in its place.
-use Rattle.std.proofs.Common.{◌≡◌, ◌⊎◌, inl, inr, Bool, true, false, List, [], ◌∷◌, Option, Some, None, refl, sym, ap, ◌∙◌, if◌then◌else◌}
+use Rattle.std.proofs.Common.{◌≡◌, inl, inr, Bool, true, false, List, [], ◌∷◌, Option, Some, None, refl, sym, ap, ◌∙◌, if◌then◌else◌}
 use Rattle.std.specs.Prelude.{nat_eq}
-use Rattle.std.specs.List.{AllByRecursion}
 use Rattle.std.specs.Option.{option_or}
 use Rattle.std.proofs.lemmas.Bool.{eqb-true, eq-eqb, and_parts, and_from}
 use Rattle.mn_base.specs.Ids.{addr_same}
 use Rattle.mn_base.specs.declared.ids.Addr.{Addr}
 use Rattle.mn_base.specs.declared.ids.NodeNo.{NodeNo}
+use Rattle.mn_base.proofs.Booleans.{clash}
 use Rattle.mn_page.specs.declared.page.Page.{Page}
 use Rattle.mn_page.specs.Holds.{PagesAt}
 use Rattle.mn_page.specs.Overlay.{Held, held_at, held_with}
+use Rattle.mn_page.proofs.Added.{addr_cases}
+use Rattle.mn_page.proofs.Copy.{page_same}
 use Rattle.mn_tree.specs.Trees.{laid_over}
 
 -- What is told apart
 
-pub clash : (b : Bool) → b ≡ true → b ≡ false → ⊥
-clash b e f = absurd cc
-
-pub page_same : (p q : Page) → Some p ≡ Some q → p ≡ q
-page_same p q e = cc
-
 pub nothing : (p : Page) (o : Option Page) → o ≡ None → o ≡ Some p → ⊥
 nothing p o e f = absurd cc
-
--- what holds of each element, and with more of it
-pub weaker : {X : Type 0} (P Q : X → Type 0) → ((x : X) → P x → Q x) → (xs : List X) → AllByRecursion P xs → AllByRecursion Q xs
-weaker P Q more [] all = tt
-weaker P Q more (x ∷ xs) all = (more x all.0, weaker P Q more xs all.1)
 
 -- Addresses
 
@@ -46,13 +37,6 @@ differs a b apart = cases (addr_same a b) refl
     cases : (t : Bool) → addr_same a b ≡ t → addr_same a b ≡ false
     cases true e = absurd (apart (addr_is a b e))
     cases false e = e
-
-pub addr_cases : (a b : Addr) → (a ≡ b) ⊎ (a ≡ b → ⊥)
-addr_cases a b = cases (addr_same a b) refl
-  where
-    cases : (t : Bool) → addr_same a b ≡ t → (a ≡ b) ⊎ (a ≡ b → ⊥)
-    cases true e = inl (addr_is a b e)
-    cases false e = inr (λ same. clash (addr_same a b) (ap (λ (x : Addr). addr_same a x) (sym same) ∙ same_itself a) e)
 
 -- One page
 

@@ -13,8 +13,9 @@ use Rattle.mn_page.specs.declared.page.Body.TheVariants.{Inner}
 use Rattle.mn_page.specs.Grammar.{height_of}
 use Rattle.mn_page.specs.Holds.{PagesAt}
 use Rattle.mn_page.specs.Overlay.{Held, Overlay, Halves, Changed, new_addr, with_changed, with_new, halves_of, page_with, new_page, copied_for, body_with, child_at, root_changed, own_changed, other_changed, when_asked, raised}
+use Rattle.mn_page.proofs.Copy.{page_same}
 use Rattle.mn_tree.specs.Trees.{laid_over, IsShown, IsWritable}
-use Rattle.mn_tree.proofs.Trees.Puts.{put, put_here, put_else, put_swap, put_twice, put_same, laid_with, same_itself, nothing, page_same}
+use Rattle.mn_tree.proofs.Trees.Puts.{put, put_here, put_else, put_swap, put_twice, put_same, laid_with, same_itself, nothing}
 use Rattle.mn_tree.proofs.Trees.SplitBelow.{same_level}
 use Rattle.mn_tree.proofs.Trees.Grows.{grows, grown_child}
 use Rattle.mn_tree.proofs.Trees.Among.{Among, body_addrs, among_with, body_twice}

@@ -13,9 +13,10 @@ use Rattle.mn_page.specs.declared.page.Child.{Child}
 use Rattle.mn_page.specs.Forest.{ChildRange, ranges_from, body_children}
 use Rattle.mn_page.specs.Overlay.{rest_with, body_with}
 use Rattle.mn_base.proofs.Keys.{key_lt-trans, not_below}
-use Rattle.mn_page.proofs.Grid.{all_append}
+use Rattle.mn_base.proofs.Lists.{all_append}
+use Rattle.mn_base.proofs.Booleans.{clash}
 use Rattle.mn_tree.specs.Trees.{AreRising, children_after}
-use Rattle.mn_tree.proofs.Trees.Puts.{addr_is, same_itself, clash}
+use Rattle.mn_tree.proofs.Trees.Puts.{addr_is, same_itself}
 
 -- Keys and bounds
 

@@ -7,6 +7,7 @@ use Rattle.mn_base.specs.Store.{Store, StoreVersion, is_ascending}
 use Rattle.mn_base.specs.declared.ids.Addr.{Addr}
 use Rattle.mn_base.specs.declared.ids.VersionNo.{VersionNo}
 use Rattle.mn_base.specs.declared.reply.Pair.{Pair}
+use Rattle.mn_base.proofs.Booleans.{clash}
 use Rattle.mn_page.specs.declared.entry.CatEntry.{CatEntry}
 use Rattle.mn_page.specs.declared.page.Page.{Page}
 use Rattle.mn_page.specs.declared.page.Body.{Body}
@@ -15,8 +16,9 @@ use Rattle.mn_page.specs.Grammar.{height_of}
 use Rattle.mn_page.specs.Holds.{PagesAt, page_covers}
 use Rattle.mn_page.specs.Overlay.{Held, new_page, copied_for, body_with}
 use Rattle.mn_page.proofs.Alike.{re_paired}
+use Rattle.mn_page.proofs.Copy.{page_same}
 use Rattle.mn_tree.specs.Trees.{IsShown, IsWritable}
-use Rattle.mn_tree.proofs.Trees.Puts.{put, put_here, put_else, put_swap, put_twice, put_same, clash, nothing, page_same}
+use Rattle.mn_tree.proofs.Trees.Puts.{put, put_here, put_else, put_swap, put_twice, put_same, nothing}
 use Rattle.mn_tree.proofs.Trees.CopyBelow.{copies_below}
 use Rattle.mn_tree.proofs.Trees.LeafSet.{sets_leaf}
 use Rattle.mn_tree.proofs.Trees.Among.{Among, body_addrs, has_child}

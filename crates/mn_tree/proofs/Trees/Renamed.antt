@@ -18,8 +18,8 @@ use Rattle.mn_page.specs.Grammar.{height_of}
 use Rattle.mn_page.specs.Forest.{ChildRange, ranges_from, children_of, body_children}
 use Rattle.mn_page.specs.Holds.{PagesAt, page_covers, page_serves, root_page, root_height, pairs_in, IsRoot, IsChild, HasVersions, IsOnPath, OneOnPath}
 use Rattle.mn_page.specs.Overlay.{child_at}
+use Rattle.mn_page.proofs.Copy.{page_same}
 use Rattle.mn_tree.specs.Trees.{AreRising, children_after, IsOrdered, IsShown}
-use Rattle.mn_tree.proofs.Trees.Puts.{page_same}
 
 -- a body whose children stand elsewhere
 abbrev pub renamed_body : (Addr → Addr) → Body → Body

@@ -13,8 +13,9 @@ use Rattle.mn_page.specs.Grammar.{height_of}
 use Rattle.mn_page.specs.Overlay.{Held, held_at, new_addr, placed_body, placed_page}
 use Rattle.mn_page.specs.SlotOrder.{stands_first}
 use Rattle.mn_base.proofs.Keys.{key_lt-trans, not_below}
+use Rattle.mn_base.proofs.Booleans.{clash, falsely}
+use Rattle.mn_base.proofs.Lists.{weaker}
 use Rattle.mn_tree.specs.Order.{both_stand, precedes, with_number, with_numbers}
-use Rattle.mn_tree.proofs.Trees.Puts.{clash, weaker}
 use Rattle.mn_tree.proofs.Trees.Ordered.{all_with}
 
 -- Two pages
@@ -89,21 +90,17 @@ Ascend pages (m ∷ ms) = AllByRecursion (λ k. precedes pages k m ≡ false) ms
 precedes_on : (pages : List Held) (n m k : ℕ) → precedes pages n m ≡ true → precedes pages m k ≡ true → precedes pages n k ≡ true
 precedes_on pages n m k e f = both_on (held_at pages (new_addr n)) (held_at pages (new_addr m)) (held_at pages (new_addr k)) e f
 
-is_false : (b : Bool) → (b ≡ true → ⊥) → b ≡ false
-is_false true never = absurd (never refl)
-is_false false never = refl
-
 ascend_with : (pages : List Held) (n : ℕ) (order : List ℕ) → Ascend pages order → Ascend pages (with_number pages n order)
 ascend_with pages n [] sorted = (tt, tt)
 ascend_with pages n (m ∷ ms) sorted = cases (precedes pages n m) refl (ascend_with pages n ms sorted.1)
   where
     behind : precedes pages n m ≡ true → (k : ℕ) → precedes pages k m ≡ false → precedes pages k n ≡ false
-    behind e k off = is_false (precedes pages k n) (λ f. clash (precedes pages k m) (precedes_on pages k n m f e) off)
+    behind e k off = falsely (precedes pages k n) (λ f. clash (precedes pages k m) (precedes_on pages k n m f e) off)
 
     cases : (t : Bool) → precedes pages n m ≡ t → Ascend pages (with_number pages n ms) → Ascend pages (if t then n ∷ m ∷ ms else m ∷ with_number pages n ms)
     cases true e rest = (
       (
-        is_false (precedes pages m n) (λ f. never_both (held_at pages (new_addr n)) (precedes_on pages n m n e f)),
+        falsely (precedes pages m n) (λ f. never_both (held_at pages (new_addr n)) (precedes_on pages n m n e f)),
         weaker (λ k. precedes pages k m ≡ false) (λ k. precedes pages k n ≡ false) (behind e) ms sorted.0,
       ),
       sorted,

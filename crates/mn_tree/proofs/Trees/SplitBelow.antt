@@ -20,13 +20,17 @@ use Rattle.mn_page.specs.Forest.{ChildRange, children_of, body_children}
 use Rattle.mn_page.specs.Holds.{PagesAt, page_covers, page_serves, root_page, root_height, pairs_in, IsRoot, IsChild, HasVersions, IsOnPath, OneOnPath}
 use Rattle.mn_page.specs.Overlay.{Halves, halves_of, page_with, new_page, rest_with, body_with, child_at}
 use Rattle.mn_page.proofs.Grid.{all_at_place, all_split, filter_both}
+use Rattle.mn_page.proofs.Added.{addr_cases}
+use Rattle.mn_page.proofs.Copy.{page_same}
 use Rattle.mn_tree.specs.Trees.{IsOrdered, IsShown, IsWritable}
-use Rattle.mn_tree.proofs.Trees.Puts.{put, put_here, put_else, stood, now, still, addr_cases, clash, nothing, page_same, weaker}
+use Rattle.mn_tree.proofs.Trees.Puts.{put, put_here, put_else, stood, now, still, nothing}
 use Rattle.mn_tree.proofs.Trees.Twins.{Twin, SameFor, changed_tree, twin_itself, serves_its, serves_one}
 use Rattle.mn_tree.proofs.Trees.Ranges.{Cuts, body_cut, body_rising, children_within, cut_range, left_covers, right_covers}
 use Rattle.mn_tree.proofs.Trees.Halved.{Halved, halved}
 use Rattle.mn_tree.proofs.Trees.Fits.{pairs_fit}
 use Rattle.mn_base.specs.Ids.{addr_same}
+use Rattle.mn_base.proofs.Booleans.{clash}
+use Rattle.mn_base.proofs.Lists.{weaker}
 
 pub same_level : (b : Body) (addr to : Addr) (more : Option Child) → height_of (body_with b addr to more) ≡ height_of b
 same_level (Leaf pairs) addr to more = refl

@@ -14,10 +14,12 @@ use Rattle.mn_page.specs.declared.page.Child.{Child}
 use Rattle.mn_page.specs.Grammar.{height_of}
 use Rattle.mn_page.specs.Holds.{pairs_in}
 use Rattle.mn_page.specs.Overlay.{Held, Overlay, Halves, Asked, Nothing, Child_is, held_at, held_with, new_addr, halves_of, page_with, new_page, copied_for, child_at, body_with, placed_addr}
+use Rattle.mn_page.proofs.Copy.{page_same}
+use Rattle.mn_page.proofs.Added.{addr_cases}
 use Rattle.mn_tree.specs.declared.write.Write.{Write}
 use Rattle.mn_tree.specs.Writes.{change, creation, own_writes, other_writes, root_writes, page_writes, page_asks, writes_if, writes_up, step_writes, joined, written, all_written}
 use Rattle.mn_tree.proofs.Changes.{fresh_after}
-use Rattle.mn_tree.proofs.Trees.Puts.{page_same, nothing, differs, addr_cases, held_with_is}
+use Rattle.mn_tree.proofs.Trees.Puts.{nothing, differs, held_with_is}
 use Rattle.mn_tree.proofs.Trees.Tidy.{held_here}
 
 -- elsewhere the pages stay

@@ -4,7 +4,7 @@ use Rattle.std.specs.Prelude.{filter, is_some, bytes_eq}
 use Rattle.std.specs.List.{AllByRecursion, list_any}
 use Rattle.std.specs.Option.{option_eq, option_map}
 use Rattle.std.proofs.lemmas.Option.{option_and_then_some, slice_get-map}
-use Rattle.mn_base.specs.Store.{Store, StoreVersion, heads_of, is_ascending, number_named, value_at, pairs_with, pairs_without, is_unmet, is_change, step_key, pairs_after_step, noted_by, ran_from, refusal, refusal_at, unless_refused, Head, pairs_named, with_pairs}
+use Rattle.mn_base.specs.Store.{Store, StoreVersion, heads_of, is_ascending, number_named, value_at, pairs_with, pairs_without, is_unmet, is_change, step_key, pairs_after_step, noted_by, ran_from, refusal, refusal_at, unless_refused, pairs_named, with_pairs}
 use Rattle.mn_base.specs.declared.ids.Addr.{Addr}
 use Rattle.mn_base.specs.declared.ids.VersionNo.{VersionNo}
 use Rattle.mn_base.specs.declared.op.Step.{Step}
@@ -18,15 +18,16 @@ use Rattle.mn_page.specs.declared.page.Body.TheVariants.{Leaf}
 use Rattle.mn_page.specs.Forest.{heads_in, entry_head}
 use Rattle.mn_page.specs.Holds.{PagesAt, page_covers, pairs_in}
 use Rattle.mn_page.specs.Overlay.{Held, Overlay, overlay_of, max_path, path_to, path_pairs, step_on, steps_on, raised}
-use Rattle.mn_page.proofs.Alike.{re_paired, get-set_same}
+use Rattle.mn_page.proofs.Alike.{re_paired}
 use Rattle.mn_page.proofs.Grid.{all_at_place}
 use Rattle.mn_base.proofs.Keys.{value_at-filter}
 use Rattle.mn_base.proofs.Named.{named}
-use Rattle.mn_base.proofs.PairsWith.{ascending-put, filter-put_inside, filter-put_outside}
+use Rattle.mn_base.proofs.PairsWith.{ascending-put, filter-put_inside, filter-put_outside, ascending-filter}
+use Rattle.mn_base.proofs.AddedVersion.{head_same}
+use Rattle.mn_base.proofs.Lists.{set_at}
 use Rattle.mn_tree.specs.Trees.{laid_over, IsShown, IsWritable, IsDraft}
 use Rattle.mn_tree.specs.Laws.{PathTells, StepKeepsTree, TransactionKeepsTree, TransactionTells, found_on}
 use Rattle.mn_tree.proofs.Trees.Twins.{head_at}
-use Rattle.mn_tree.proofs.Trees.Fits.{ascending-filter}
 use Rattle.mn_tree.proofs.Trees.Raised.{OnPath, raises, IsReady, Raises}
 use Rattle.mn_tree.proofs.Trees.Tidy.{AllExist, draft_tidy, tidy_changes, step_tidy}
 use Rattle.mn_tree.proofs.Trees.Ready.{LeafChanges, copies_ready, leaf_ready}
@@ -197,7 +198,7 @@ rest_may false c d e = refl
 
 module _ (entries : List CatEntry) (at : PagesAt) (store : Store) (v : VersionNo) (version : StoreVersion) (entry : CatEntry) (found : slice_get store v.0 ≡ Some version) (there : slice_get entries v.0 ≡ Some entry) where
   found_now : (ps : List Pair) → slice_get (slice_set store v.0 (re_paired version ps)) v.0 ≡ Some (re_paired version ps)
-  found_now ps = get-set_same store v.0 version (re_paired version ps) found
+  found_now ps = set_at store v.0 version (re_paired version ps) found
 
   tells : (o : Overlay) (ps : List Pair) (key : List ℕ) (path : List Held) → Stands entries at store v version ps o → path_to max_path o.pages entry.root key [] ≡ Some path → value_at (path_pairs path) key ≡ value_at ps key
   tells o ps key path stands way = path_tells entries at (slice_set store v.0 (re_paired version ps)) o v (re_paired version ps) entry key path stands (found_now ps) there way
@@ -258,9 +259,6 @@ record Admitted (entries : List CatEntry) (store : Store) (name : List ℕ) (v :
   pairs : pairs_named store name ≡ version.pairs
   changed : (ps : List Pair) → with_pairs store name ps ≡ slice_set store v.0 (re_paired version ps)
   may : (entry.frozen && list_any is_change steps) ≡ false
-
-head_same : (a b : Head) → Some a ≡ Some b → a ≡ b
-head_same a b e = cc
 
 admits : (b : Bool) → (if b then Some Say.Frozen else None) ≡ None → b ≡ false
 admits true e = absurd cc

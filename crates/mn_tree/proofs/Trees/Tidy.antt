@@ -8,6 +8,7 @@ use Rattle.mn_base.specs.declared.ids.Addr.{Addr}
 use Rattle.mn_base.specs.declared.ids.VersionNo.{VersionNo}
 use Rattle.mn_base.specs.declared.op.Step.{Step}
 use Rattle.mn_base.specs.declared.op.Step.TheVariants.{Get, Put, Del, Check}
+use Rattle.mn_base.proofs.Booleans.{clash, or_cases, or_split}
 use Rattle.mn_page.specs.declared.entry.CatEntry.{CatEntry}
 use Rattle.mn_page.specs.declared.page.Page.{Page}
 use Rattle.mn_page.specs.declared.page.Body.{Body}
@@ -15,7 +16,8 @@ use Rattle.mn_page.specs.declared.page.Body.TheVariants.{Leaf}
 use Rattle.mn_page.specs.declared.page.Child.{Child}
 use Rattle.mn_page.specs.Holds.{PagesAt, pairs_in}
 use Rattle.mn_page.specs.Overlay.{Held, Overlay, Halves, Asked, Nothing, Child_is, is_new, new_addr, held_at, held_with, with_changed, with_new, halves_of, page_with, body_with, root_changed, own_changed, other_changed, page_changed, when_asked, raised, step_on}
-use Rattle.mn_tree.proofs.Trees.Puts.{put, put_here, put_else, clash, addr_is, addr_cases, same_itself, held_with_is, laid_with}
+use Rattle.mn_page.proofs.Added.{addr_cases}
+use Rattle.mn_tree.proofs.Trees.Puts.{put, put_here, put_else, addr_is, same_itself, held_with_is, laid_with}
 use Rattle.mn_tree.specs.Trees.{laid_over, is_noted, IsChanged, IsDraft}
 
 -- a page that the memory has
@@ -59,14 +61,6 @@ held_kept pages a p x was = cases (addr_same a x) refl
 pub held_here : (pages : List Held) (a : Addr) (p : Page) → held_at (held_with pages a p) a ≡ Some p
 held_here pages a p = held_with_is pages a p a ∙ ap (λ b. if b then Some p else held_at pages a) (same_itself a)
 
-or_false : (s t : Bool) → (s || t) ≡ false → (s ≡ false) × (t ≡ false)
-or_false true t e = absurd cc
-or_false false t e = (refl, e)
-
-pub or_true : (s t : Bool) → (s || t) ≡ true → (s ≡ true) ⊎ (t ≡ true)
-or_true true t e = inl refl
-or_true false t e = inr e
-
 pub tidy_changed : (at : PagesAt) (o : Overlay) (a : Addr) (p : Page) → IsTidy at o → Exists (laid_over o.pages at) a → IsTidy at (with_changed o a p)
 tidy_changed at o a p tidy there = by_note (is_new a) (is_noted o.changed a) refl refl
   where
@@ -87,9 +81,9 @@ tidy_changed at o a p tidy there = by_note (is_new a) (is_noted o.changed a) ref
     joins : is_new a ≡ false → is_noted o.changed a ≡ false → IsTidy at (record { pages = held_with o.pages a p; changed = o.changed ++ a ∷ []; fresh = o.fresh })
     joins old_a off_a = record {
       same = λ x old off.
-          let parts = or_false (is_noted o.changed x) (addr_same a x) (sym (noted_more o.changed a x) ∙ off) in
+          let parts = or_split (is_noted o.changed x) (addr_same a x) (sym (noted_more o.changed a x) ∙ off) in
           tree x (λ e. clash (addr_same a x) (ap (addr_same a) (sym e) ∙ same_itself a) parts.1) ∙ tidy.same x old parts.0;
-      old = λ x noted. of x (or_true (is_noted o.changed x) (addr_same a x) (sym (noted_more o.changed a x) ∙ noted));
+      old = λ x noted. of x (or_cases (is_noted o.changed x) (addr_same a x) (sym (noted_more o.changed a x) ∙ noted));
     }
       where
         of : (x : Addr) → (is_noted o.changed x ≡ true) ⊎ (addr_same a x ≡ true) → (is_new x ≡ false) × Exists at x × ((y : Page) × (held_at (held_with o.pages a p) x ≡ Some y))

@@ -23,8 +23,10 @@ use Rattle.mn_page.specs.Forest.{heads_in, entry_head}
 use Rattle.mn_page.specs.Holds.{PagesAt, page_covers, page_serves, pairs_in, IsTree}
 use Rattle.mn_page.specs.Overlay.{Held, Overlay, held_at, held_with, is_new, copied_for, path_pairs, step_on}
 use Rattle.mn_page.proofs.Grid.{all_at_place}
+use Rattle.mn_page.proofs.Copy.{page_same}
 use Rattle.mn_base.proofs.Keys.{value_at-filter}
-use Rattle.mn_base.proofs.PairsWith.{ascending-put, filter-put_inside, filter-put_outside}
+use Rattle.mn_base.proofs.PairsWith.{ascending-put, filter-put_inside, filter-put_outside, ascending-filter}
+use Rattle.mn_base.proofs.Booleans.{clash, or_left, or_right}
 use Rattle.mn_tree.specs.declared.write.Write.{Write}
 use Rattle.mn_tree.specs.Walk.{is_live}
 use Rattle.mn_tree.specs.Writes.{joined, all_joined, writes_up, step_writes, all_written}
@@ -33,9 +35,9 @@ use Rattle.mn_tree.specs.Trees.{is_noted}
 use Rattle.mn_tree.specs.Moves.{Move, Comes, Does, LeadsTo, comes_in, done_in, AreAnswered, came_at, is_leaf_at, leaves_at}
 use Rattle.mn_tree.specs.MoveLaws.{Agrees, MovesTell, MovesComeOnce}
 use Rattle.mn_tree.proofs.Changes.{step_is}
-use Rattle.mn_tree.proofs.Trees.Puts.{held_with_is, addr_is, same_itself, clash, nothing, page_same}
+use Rattle.mn_tree.proofs.Trees.Puts.{held_with_is, addr_is, same_itself, nothing}
 use Rattle.mn_tree.proofs.Trees.Twins.{head_at, some_entry}
-use Rattle.mn_tree.proofs.Trees.Fits.{ascending-filter, entry_in}
+use Rattle.mn_tree.proofs.Trees.Fits.{entry_in}
 use Rattle.mn_tree.proofs.Trees.Joined.{serves_never}
 use Rattle.mn_tree.proofs.Trees.Pairs.{filter-without, without_outside, without_none}
 use Rattle.mn_tree.proofs.Trees.Placed.{joined_has, joined_itself, joined_back}
@@ -46,16 +48,9 @@ use Rattle.mn_tree.proofs.Trees.Passing.{IsPassed, ArePassed, Passed, walk_passe
 use Rattle.mn_tree.proofs.Trees.Moved.{all_joined_has, joined_kept, kept_more, leads_reads}
 use Rattle.mn_tree.proofs.Trees.LeafWrites.{IsHigh, IsWhole, IsHalf, IsLeafPlace, LeafWrites, stays, splits, leaf_writes, leaf_places, from_written, all_joined_back, up_places}
 use Rattle.mn_tree.proofs.Trees.LeavesTell.{CameFrom, Tells, AllTell, Differs, whole_tells, halves_tell}
+use Rattle.mn_tree.proofs.Trees.MoveReads.{was_absent}
 
 -- Lists
-
-or_left : (b c : Bool) → b ≡ true → (b || c) ≡ true
-or_left true c e = refl
-or_left false c e = absurd cc
-
-or_right : (b c : Bool) → c ≡ true → (b || c) ≡ true
-or_right true c e = refl
-or_right false c e = e
 
 -- what is among the chosen ones is among all, and passes
 pub noted_filter : (t : Addr → Bool) (addrs : List Addr) (x : Addr) → is_noted (filter t addrs) x ≡ (t x && is_noted addrs x)
@@ -81,16 +76,9 @@ put_cases pages h a p there = by_same (addr_same h.addr a) refl (sym (held_with_
     by_same true e f = inl (sym (addr_is h.addr a e), page_same p h.page (sym f))
     by_same false e f = inr f
 
-put_none : (pages : List Held) (x : Addr) (q : Page) (a : Addr) → held_at (held_with pages x q) a ≡ None → held_at pages a ≡ None
-put_none pages x q a none = by_same (addr_same x a) (sym (held_with_is pages x q a) ∙ none)
-  where
-    by_same : (t : Bool) → (if t then Some q else held_at pages a) ≡ None → held_at pages a ≡ None
-    by_same true f = absurd cc
-    by_same false f = f
-
 all_none : (ws : List Write) (o : Overlay) (a : Addr) → held_at (all_written o ws).pages a ≡ None → held_at o.pages a ≡ None
 all_none [] o a none = none
-all_none (w ∷ ws) o a none = put_none o.pages w.addr w.page a (all_none ws _ a none)
+all_none (w ∷ ws) o a none = was_absent o.pages w.addr w.page a (all_none ws _ a none)
 
 -- The tree, its leaves that were read, and which addresses a leaf came in at
 module _ (entries : List CatEntry) (at : PagesAt) (parents : List (Option ℕ)) (v : VersionNo) (low_v : v.0 < length entries) (tree : IsTree entries at) (agrees : Agrees parents entries v.0) (root : Addr) (leaves : List Addr)
@@ -156,7 +144,7 @@ module _ (entries : List CatEntry) (at : PagesAt) (parents : List (Option ℕ)) 
       tells = λ a p there keep flat alive. tells a p keep flat alive (put_cases pages h a p there);
       apart = λ a b p q k there also keep keeps flat flats alive lives covers covered. apart a b p q k keep keeps flat flats alive lives covers covered (put_cases pages h a p there) (put_cases pages h b q also);
     };
-    still = λ a p none there serves flat. known.still a p (put_none pages h.addr h.page a none) there serves flat;
+    still = λ a p none there serves flat. known.still a p (was_absent pages h.addr h.page a none) there serves flat;
     came = λ a p there off flat. came a p off flat (put_cases pages h a p there);
     grown = λ a p there off leaf_a high. grown a p off leaf_a high (put_cases pages h a p there);
   }
@@ -185,7 +173,7 @@ module _ (entries : List CatEntry) (at : PagesAt) (parents : List (Option ℕ)) 
           (own (ap (is_kept leaves) (sym is.0) ∙ keep) (ap (λ (y : Page). height_of y.body) (sym is.1) ∙ flat)))
       tells a p keep flat alive (inr was) =
           let t = known.tell.tells a p was keep flat alive in
-          record { pairs = t.pairs; fences = t.fences; from = λ k covers. let o = t.from k covers in (o.0, o.1, o.2, λ none. o.3 (put_none pages h.addr h.page o.0 none)) }
+          record { pairs = t.pairs; fences = t.fences; from = λ k covers. let o = t.from k covers in (o.0, o.1, o.2, λ none. o.3 (was_absent pages h.addr h.page o.0 none)) }
 
       -- a leaf that was held covers none of the new one's keys
       clear : (b : Addr) (q : Page) (k : List ℕ) → held_at pages b ≡ Some q → is_kept leaves b ≡ true → height_of q.body ≡ 0 → IsLive q → page_covers k q ≡ true → is_kept leaves h.addr ≡ true → height_of h.page.body ≡ 0 → page_covers k h.page ≡ true → ⊥
@@ -532,7 +520,7 @@ each_came parents v root (Comes h ∷ moves) d after before none leads = (
 )
   where
     later : (x : Addr) → held_at (held_with d.overlay.pages h.addr h.page) x ≡ None → held_at (before ++ h ∷ []) x ≡ None
-    later x e = held_append before (h ∷ []) x ∙ (ap (λ o. option_or o (held_at (h ∷ []) x)) (none x (put_none d.overlay.pages h.addr h.page x e)) ∙ by_same (addr_same h.addr x) (sym (held_with_is d.overlay.pages h.addr h.page x) ∙ e))
+    later x e = held_append before (h ∷ []) x ∙ (ap (λ o. option_or o (held_at (h ∷ []) x)) (none x (was_absent d.overlay.pages h.addr h.page x e)) ∙ by_same (addr_same h.addr x) (sym (held_with_is d.overlay.pages h.addr h.page x) ∙ e))
       where
         by_same : (t : Bool) → (if t then Some h.page else held_at d.overlay.pages x) ≡ None → (if t then Some h.page else None) ≡ None
         by_same true f = absurd cc

@@ -13,6 +13,7 @@ use Rattle.mn_base.specs.declared.op.Step.{Step}
 use Rattle.mn_base.specs.declared.op.Step.TheVariants.{Get, Put, Del, Check}
 use Rattle.mn_base.specs.declared.reply.Pair.{Pair}
 use Rattle.mn_base.specs.declared.reply.Reply.TheVariants as Say
+use Rattle.mn_base.proofs.Lists.{all_append, weaker}
 use Rattle.mn_page.specs.declared.page.Page.{Page}
 use Rattle.mn_page.specs.declared.page.Body.{Body}
 use Rattle.mn_page.specs.declared.page.Body.TheVariants.{Leaf, Inner}
@@ -21,14 +22,13 @@ use Rattle.mn_page.specs.Grammar.{IsPage, IsAddr, count_in, height_of}
 use Rattle.mn_page.specs.Forest.{children_of, ranges_from, body_children}
 use Rattle.mn_page.specs.Holds.{page_covers}
 use Rattle.mn_page.specs.Overlay.{Held, held_at, new_addr, path_pairs, child_for, child_at, placed_addr, placed_body, placed_page, placed_old, placed_new, next_number}
-use Rattle.mn_page.proofs.Grid.{all_append}
 use Rattle.mn_tree.specs.declared.stepped.Stepped.TheVariants as Tell
 use Rattle.mn_tree.specs.Walk.{held, is_live, is_met, goes_on, Walk, Missing, Wrong, Reached, walk_down, walk}
 use Rattle.mn_tree.specs.State.{Drafted, TreeState, drafted_with, drafted_after, no_pages, max_height, is_below, fits, with_page, stepping, told}
 use Rattle.mn_tree.specs.Order.{new_order, changed_order, slots_by_number, pair_of}
 use Rattle.mn_tree.specs.Moves.{Move, Comes, Does, MayCome, LeadsTo, comes_in, done_in, AreAnswered}
 use Rattle.mn_tree.specs.Tries.{HaveFound, ComeTo, EndsUnmet, GoesOn, MovesTakePages, MovesTakeSteps, MovesAreMet, NeedsAreAbsent, NeedsAreSlots, NeedsMayCome, PlacedHaveRoom}
-use Rattle.mn_tree.proofs.Trees.Puts.{nothing, weaker}
+use Rattle.mn_tree.proofs.Trees.Puts.{nothing}
 use Rattle.mn_tree.proofs.Trees.MoveReads.{moves_read}
 use Rattle.mn_tree.proofs.Trees.Filled.{IsPlace, IsBranch, IsFilled, IsSized}
 use Rattle.mn_tree.proofs.Trees.Sizes.{AreSized, moves_sized}

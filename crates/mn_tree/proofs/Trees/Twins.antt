@@ -8,14 +8,16 @@ use Rattle.std.proofs.lemmas.Option.{option_and_then_some, slice_get-map}
 use Rattle.mn_base.specs.Order.{covers_key}
 use Rattle.mn_base.specs.Tree.{IsVersionTree, serves}
 use Rattle.mn_base.specs.declared.ids.Addr.{Addr}
+use Rattle.mn_base.proofs.Booleans.{clash}
+use Rattle.mn_base.proofs.Lists.{weaker}
 use Rattle.mn_page.specs.declared.entry.CatEntry.{CatEntry}
 use Rattle.mn_page.specs.declared.page.Page.{Page}
 use Rattle.mn_page.specs.Grammar.{height_of}
 use Rattle.mn_page.specs.Forest.{ChildRange, children_of, body_children, heads_in, entry_head}
 use Rattle.mn_page.specs.Holds.{PagesAt, page_covers, page_serves, root_page, root_height, IsRoot, IsChild, HasVersions, IsOnPath, OneOnPath, IsTree}
 use Rattle.mn_page.proofs.Ancestors.{serves_alone, serves_made}
+use Rattle.mn_page.proofs.Copy.{page_same}
 use Rattle.mn_tree.specs.Trees.{IsOrdered, IsWritable}
-use Rattle.mn_tree.proofs.Trees.Puts.{clash, page_same, weaker}
 
 -- Heads
 

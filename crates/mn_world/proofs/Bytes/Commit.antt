@@ -1,9 +1,11 @@
 -- A minitransaction that commits finds its compares in the flat memory, and takes effect on it all at once.
-use Rattle.std.proofs.Common.{◌≡◌, ℕ, ◌⊎◌, inl, inr, Bool, true, false, List, [], ◌∷◌, Some, None, refl, subst, sym, ap, ◌∙◌, if◌then◌else◌}
+use Rattle.std.proofs.Common.{◌≡◌, ℕ, Bool, true, false, List, [], ◌∷◌, Some, None, subst, sym, ap, ◌∙◌, if◌then◌else◌}
 use Rattle.std.specs.List.{AllByRecursion, list_any}
 use Rattle.mn_base.specs.Ids.{node_same, tid_same}
 use Rattle.mn_base.specs.declared.ids.NodeNo.{NodeNo}
 use Rattle.mn_base.specs.declared.ids.Tid.{Tid}
+use Rattle.mn_base.proofs.Booleans.{clash}
+use Rattle.mn_base.proofs.Lists.{all_both}
 use Rattle.mn_mini.specs.declared.part.PartItem.{PartItem}
 use Rattle.mn_mini.specs.declared.record.Record.{Record}
 use Rattle.mn_mini.specs.declared.record.Record.TheVariants.{Voted, Executed}
@@ -17,16 +19,9 @@ use Rattle.mn_world.specs.declared.entry.Entry.{Entry}
 use Rattle.mn_world.specs.Protocol.{Start, base_at, records_of}
 use Rattle.mn_world.specs.Commits.{flat_after}
 use Rattle.mn_world.specs.Opened.{opened_memory}
-use Rattle.mn_world.proofs.Bytes.Layers.{IsFree, same_layers, push_layer, mismatch_below, All-both}
+use Rattle.mn_world.proofs.Bytes.Layers.{IsFree, same_layers, push_layer, mismatch_below}
 use Rattle.mn_world.proofs.Votes.Backing.{IsOld}
 use Rattle.mn_world.proofs.Bytes.Even.{comm, AgreesAt, ComparesAt, SameComm, keep_node}
-
-clash : (b : Bool) → b ≡ true → b ≡ false → ⊥
-clash b p q = absurd cc
-
-true_or_false : (b : Bool) → (b ≡ true) ⊎ (b ≡ false)
-true_or_false true = inl refl
-true_or_false false = inr refl
 
 -- the flat memory after an entry that commits the minitransaction
 abbrev pub Takes : Start → List Entry → Entry → Mini → Type 0
@@ -34,7 +29,7 @@ Takes start past e mini = (n : NodeNo) → space_in (flat_after (opened_memory s
 
 -- a part that found no clash is free of the parts of other ids
 pub free_of : (hs : List HeldPart) (t : Tid) (part : List PartItem) → clash_of hs t part ≡ None → AllByRecursion (λ h. tid_same h.tid t ≡ false) hs → IsFree part hs
-free_of hs t part free other = All-both (λ g. tid_same g.tid t ≡ false → parts_conflict part g.part ≡ false) (λ h. tid_same h.tid t ≡ false) (λ g. parts_conflict part g.part ≡ false) (λ g p q. p q) hs (no_clash hs t part free) other
+free_of hs t part free other = all_both (λ g. tid_same g.tid t ≡ false → parts_conflict part g.part ≡ false) (λ h. tid_same h.tid t ≡ false) (λ g. parts_conflict part g.part ≡ false) (λ g p q. p q) hs (no_clash hs t part free) other
 
 -- its compares, tested on the space, hold in the flat memory
 pub holds_flat : (start : Start) (past : List Entry) (k : NodeNo) (part : List PartItem) → IsFree part (held_parts (records_of start past k)) → AgreesAt start past k
@@ -95,7 +90,7 @@ vote_node start past e k t ps part new off flat holds commits agrees compares =
           ),
       subst (λ (r : List Record). AllByRecursion (λ h. (IsOld start h.tid → ⊥) → comm start (e ∷ past) h.tid ≡ false → part_mismatch_from (space_in (flat_after (opened_memory start) (e ∷ past)) k) 0 h.part ≡ None) (held_parts r)) (sym new) (
         (λ _ _. ap (λ (w : List ℕ). part_mismatch_from w 0 part) flat ∙ holds),
-        All-both (λ h. comm start (e ∷ past) h.tid ≡ comm start past h.tid) (λ h. (IsOld start h.tid → ⊥) → comm start past h.tid ≡ false → part_mismatch_from (space_in (flat_after (opened_memory start) past) k) 0 h.part ≡ None) (λ h. (IsOld start h.tid → ⊥) → comm start (e ∷ past) h.tid ≡ false → part_mismatch_from (space_in (flat_after (opened_memory start) (e ∷ past)) k) 0 h.part ≡ None)
+        all_both (λ h. comm start (e ∷ past) h.tid ≡ comm start past h.tid) (λ h. (IsOld start h.tid → ⊥) → comm start past h.tid ≡ false → part_mismatch_from (space_in (flat_after (opened_memory start) past) k) 0 h.part ≡ None) (λ h. (IsOld start h.tid → ⊥) → comm start (e ∷ past) h.tid ≡ false → part_mismatch_from (space_in (flat_after (opened_memory start) (e ∷ past)) k) 0 h.part ≡ None)
             (λ h c o new off'. ap (λ (w : List ℕ). part_mismatch_from w 0 h.part) flat ∙ o new (sym c ∙ off')) held commits compares,
       ),
     )

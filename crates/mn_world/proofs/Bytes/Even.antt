@@ -4,6 +4,7 @@ use Rattle.std.specs.Option.{option_map_or}
 use Rattle.std.specs.List.{AllByRecursion, list_all}
 use Rattle.mn_base.specs.declared.ids.NodeNo.{NodeNo}
 use Rattle.mn_base.specs.declared.ids.Tid.{Tid}
+use Rattle.mn_base.proofs.Lists.{all_both, weaker}
 use Rattle.mn_mini.specs.declared.record.Record.{Record}
 use Rattle.mn_mini.specs.declared.record.Record.TheVariants.{Voted, Executed, Decided, Forced}
 use Rattle.mn_mini.specs.Mini.{Mini, participants_of}
@@ -17,9 +18,9 @@ use Rattle.mn_world.specs.Opened.{is_committed, opened_memory}
 use Rattle.mn_world.proofs.Reading.Unchanged.{issue_stays}
 use Rattle.mn_world.proofs.Votes.Backing.{mini_of, IsOld, PartAt, AllVoted, IsLost, RecordSound, Kept}
 use Rattle.mn_world.specs.Laws.{StartsSound}
-use Rattle.mn_world.proofs.Votes.Start.{names_old, start_committed, start_uncommitted}
+use Rattle.mn_world.proofs.Votes.Start.{names_old, start_committed, start_uncommitted, all_pass, all_true}
 use Rattle.mn_world.proofs.Votes.Preserved.{new_not_old, issued_or_lost}
-use Rattle.mn_world.proofs.Bytes.Layers.{AreDistinct, same_layers, drop_layer, remove_layer, own_layer, All-both}
+use Rattle.mn_world.proofs.Bytes.Layers.{AreDistinct, same_layers, drop_layer, remove_layer, own_layer}
 
 -- Which ids are committed
 
@@ -34,22 +35,6 @@ pub all_same : (f g : NodeNo → Bool) (xs : List NodeNo) → ((x : NodeNo) → 
 all_same f g [] e = refl
 all_same f g (x ∷ xs) e = let h = e x in let r = all_same f g xs e in cc
 
-pub all_true : (f : NodeNo → Bool) (xs : List NodeNo) → list_all f xs ≡ true → AllByRecursion (λ x. f x ≡ true) xs
-all_true f [] e = tt
-all_true f (x ∷ xs) e = (left (f x) _ e, all_true f xs (right (f x) _ e))
-  where
-    left : (a b : Bool) → (a && b) ≡ true → a ≡ true
-    left true b h = refl
-    left false b h = absurd cc
-
-    right : (a b : Bool) → (a && b) ≡ true → b ≡ true
-    right true b h = h
-    right false b h = absurd cc
-
-pub true_all : (f : NodeNo → Bool) (xs : List NodeNo) → AllByRecursion (λ x. f x ≡ true) xs → list_all f xs ≡ true
-true_all f [] a = refl
-true_all f (x ∷ xs) a = let h = a.0 in let r = true_all f xs a.1 in cc
-
 pub comm_same : (start : Start) (past : List Entry) (e : Entry) (tid : Tid) (mini : Mini) → mini_of past tid ≡ Some mini → mini_of (e ∷ past) tid ≡ Some mini
     → ((n : NodeNo) → has_voted (records_of start (e ∷ past) n) tid ≡ has_voted (records_of start past n) tid) → comm start (e ∷ past) tid ≡ comm start past tid
 comm_same start past e tid mini is is' same = comm_is start (e ∷ past) tid mini is' ∙ (all_same _ _ (participants_of mini) same ∙ sym (comm_is start past tid mini is))
@@ -63,7 +48,7 @@ comm_old start past tid kept old = by (mini_of past tid) refl
     by (Some mini) is = absurd (new_not_old start past tid.client tid mini kept is old)
 
 pub voted_comm : (start : Start) (past : List Entry) (tid : Tid) → Kept start past → AllVoted start past tid → comm start past tid ≡ true
-voted_comm start past tid kept (inl (ps, (mini, is, all), voted)) = comm_is start past tid mini is ∙ true_all _ (participants_of mini) (subst (λ (x : List NodeNo). AllByRecursion (λ k. has_voted (records_of start past k) tid ≡ true) x) all voted)
+voted_comm start past tid kept (inl (ps, (mini, is, all), voted)) = comm_is start past tid mini is ∙ all_pass _ (participants_of mini) (subst (λ (x : List NodeNo). AllByRecursion (λ k. has_voted (records_of start past k) tid ≡ true) x) all voted)
 voted_comm start past tid kept (inr old) = comm_old start past tid kept (names_old start tid old.0 old.1) ∙ start_committed start tid old
 
 pub lost_comm : (start : Start) (past : List Entry) (tid : Tid) → StartsSound start → Kept start past → IsLost start past tid → comm start past tid ≡ false
@@ -88,7 +73,7 @@ held_at start past k (Voted tid ps part ∷ records) a = (by a.0, held_at start 
     by (inl h) = inl h.2
     by (inr h) = inr (names_old start tid ps (k, h))
 held_at start past k (Executed tid part ∷ records) a = held_at start past k records a.1
-held_at start past k (Decided tid verdict ∷ records) a = Rattle.mn_world.proofs.Votes.Preserved.All-without (PartOf start past k) tid (held_parts records) (held_at start past k records a.1)
+held_at start past k (Decided tid verdict ∷ records) a = Rattle.mn_mini.proofs.Apart.All-without (PartOf start past k) tid (held_parts records) (held_at start past k records a.1)
 held_at start past k (Forced tid ∷ records) a = held_at start past k records a.1
 
 -- Agreement at a node
@@ -113,19 +98,15 @@ keep_node start past e n same flat commits agrees compares =
       subst (λ (r : List Record). space_in (flat_after (opened_memory start) (e ∷ past)) n ≡ with_held (comm start (e ∷ past)) (space_of (base_at start n) r) (held_parts r)) (sym same)
           (flat ∙ (agrees ∙ sym (same_layers (comm start (e ∷ past)) (comm start past) space held commits))),
       subst (λ (r : List Record). AllByRecursion (λ h. (IsOld start h.tid → ⊥) → comm start (e ∷ past) h.tid ≡ false → part_mismatch_from (space_in (flat_after (opened_memory start) (e ∷ past)) n) 0 h.part ≡ None) (held_parts r)) (sym same)
-          (All-both (λ h. comm start (e ∷ past) h.tid ≡ comm start past h.tid) (λ h. (IsOld start h.tid → ⊥) → comm start past h.tid ≡ false → part_mismatch_from (space_in (flat_after (opened_memory start) past) n) 0 h.part ≡ None) (λ h. (IsOld start h.tid → ⊥) → comm start (e ∷ past) h.tid ≡ false → part_mismatch_from (space_in (flat_after (opened_memory start) (e ∷ past)) n) 0 h.part ≡ None)
+          (all_both (λ h. comm start (e ∷ past) h.tid ≡ comm start past h.tid) (λ h. (IsOld start h.tid → ⊥) → comm start past h.tid ≡ false → part_mismatch_from (space_in (flat_after (opened_memory start) past) n) 0 h.part ≡ None) (λ h. (IsOld start h.tid → ⊥) → comm start (e ∷ past) h.tid ≡ false → part_mismatch_from (space_in (flat_after (opened_memory start) (e ∷ past)) n) 0 h.part ≡ None)
           (λ h c o new off. ap (λ (w : List ℕ). part_mismatch_from w 0 h.part) flat ∙ o new (sym c ∙ off)) held commits compares),
     )
-
-pub All-map : {A : Type 0} (P Q : A → Type 0) → ((x : A) → P x → Q x) → (xs : List A) → AllByRecursion P xs → AllByRecursion Q xs
-All-map P Q f [] a = tt
-All-map P Q f (x ∷ xs) a = (f x a.0, All-map P Q f xs a.1)
 
 -- where no vote is added anywhere, the same ids are committed of what is held
 pub same_comm : (start : Start) (past : List Entry) (e : Entry) (n : NodeNo) → Kept start past → Kept start (e ∷ past) → KeepsProtocol start past e
     → ((tid : Tid) (m : NodeNo) → has_voted (records_of start (e ∷ past) m) tid ≡ has_voted (records_of start past m) tid) → SameComm start past e n
 same_comm start past e n kept after keeps same =
-    All-map (PartOf start past n) (λ h. comm start (e ∷ past) h.tid ≡ comm start past h.tid) by (held_parts (records_of start past n)) (held_at start past n (records_of start past n) (kept.records n))
+    weaker (PartOf start past n) (λ h. comm start (e ∷ past) h.tid ≡ comm start past h.tid) by (held_parts (records_of start past n)) (held_at start past n (records_of start past n) (kept.records n))
   where
     by : (h : HeldPart) → PartOf start past n h → comm start (e ∷ past) h.tid ≡ comm start past h.tid
     by h (inl p) = comm_same start past e h.tid p.0 p.1 (issue_stays start past e h.tid.client h.tid p.0 kept keeps p.1) (same h.tid)
@@ -141,7 +122,7 @@ pub decide_node : (start : Start) (past : List Entry) (e : Entry) (n : NodeNo) (
 decide_node start past e n t true g new is on flat commits distinct apart agrees =
     let space = space_of (base_at start n) (records_of start past n) in
     let held = held_parts (records_of start past n) in
-    let less : AllByRecursion (λ h. comm start (e ∷ past) h.tid ≡ comm start past h.tid) (without_tid t held) = Rattle.mn_world.proofs.Votes.Preserved.All-without _ t held commits in
+    let less : AllByRecursion (λ h. comm start (e ∷ past) h.tid ≡ comm start past h.tid) (without_tid t held) = Rattle.mn_mini.proofs.Apart.All-without _ t held commits in
     subst (λ (r : List Record). space_in (flat_after (opened_memory start) (e ∷ past)) n ≡ with_held (comm start (e ∷ past)) (space_of (base_at start n) r) (held_parts r)) (sym new) (
     flat ∙ (agrees ∙ (sym (remove_layer (comm start past) space held t g distinct apart is on)
     ∙ (sym (same_layers (comm start (e ∷ past)) (comm start past) (space_after_part space g.part) (without_tid t held) less)
@@ -150,7 +131,7 @@ decide_node start past e n t true g new is on flat commits distinct apart agrees
 decide_node start past e n t false g new is off flat commits distinct apart agrees =
     let space = space_of (base_at start n) (records_of start past n) in
     let held = held_parts (records_of start past n) in
-    let less : AllByRecursion (λ h. comm start (e ∷ past) h.tid ≡ comm start past h.tid) (without_tid t held) = Rattle.mn_world.proofs.Votes.Preserved.All-without _ t held commits in
+    let less : AllByRecursion (λ h. comm start (e ∷ past) h.tid ≡ comm start past h.tid) (without_tid t held) = Rattle.mn_mini.proofs.Apart.All-without _ t held commits in
     subst (λ (r : List Record). space_in (flat_after (opened_memory start) (e ∷ past)) n ≡ with_held (comm start (e ∷ past)) (space_of (base_at start n) r) (held_parts r)) (sym new) (
     flat ∙ (agrees ∙ (sym (drop_layer (comm start past) space held t off) ∙ sym (same_layers (comm start (e ∷ past)) (comm start past) space (without_tid t held) less)))
     )

@@ -1,5 +1,5 @@
 -- A run with its memory has the flat meaning.
-use Rattle.std.proofs.Common.{ℕ, List, [], ◌∷◌, ◌++◌, subst, sym, ap, ◌∙◌}
+use Rattle.std.proofs.Common.{ℕ, List, ◌∷◌, subst, sym, ap, ◌∙◌}
 use Rattle.mn_mini.specs.Flat.{outcome_on, space_in}
 use Rattle.mn_world.specs.declared.entry.Entry.{Entry}
 use Rattle.mn_world.specs.Protocol.{Start, FollowsProtocol}
@@ -8,18 +8,15 @@ use Rattle.mn_world.specs.Laws.{IsRunFrom, IsFlatRun}
 use Rattle.mn_world.proofs.Votes.Held.{held_parts_apart}
 use Rattle.mn_world.proofs.Bytes.Spaces.{commits_are_flat, spaces_agree, memory_is_flat}
 use Rattle.mn_world.proofs.Bytes.Reads.{execs_are_flat}
-
-older : (start : Start) (later past : List Entry) → FollowsProtocol start (later ++ past) → FollowsProtocol start past
-older start [] past run = run
-older start (e ∷ later) past run = older start later past run.0
+use Rattle.mn_world.proofs.Meaning.Prefixes.{older_follows}
 
 pub flat_run : (start : Start) (memory : List (List ℕ)) (past : List Entry) → IsRunFrom start memory past → IsFlatRun start memory (flat_after memory past) past
 flat_run start memory past r = record {
   commits = λ later e before i split c.
-      let o = commits_are_flat start before e i r.sound (older start later (e ∷ before) (subst (FollowsProtocol start) split r.keeps)) c in
+      let o = commits_are_flat start before e i r.sound (older_follows start later (e ∷ before) (subst (FollowsProtocol start) split r.keeps)) c in
       (o.0, o.1, ap (λ (m : List (List ℕ)). outcome_on (flat_after m before) i.mini) (sym r.opened) ∙ o.2);
   execs = λ later e before k tid part reads split at is.
-      let o = execs_are_flat start before e k tid part reads r.sound (older start later (e ∷ before) (subst (FollowsProtocol start) split r.keeps)) at is in
+      let o = execs_are_flat start before e k tid part reads r.sound (older_follows start later (e ∷ before) (subst (FollowsProtocol start) split r.keeps)) at is in
       (o.0, o.1, o.2, o.3, ap (λ (m : List (List ℕ)). outcome_on (flat_after m before) o.0.mini) (sym r.opened) ∙ o.4);
   spaces = λ n place low free.
       spaces_agree start past n place r.sound r.keeps low free ∙ ap (λ (m : List (List ℕ)). Rattle.std.specs.Prelude.slice_get (space_in (flat_after m past) n) place) r.opened;

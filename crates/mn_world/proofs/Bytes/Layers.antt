@@ -4,6 +4,7 @@ use Rattle.std.specs.Bool.{⊤}
 use Rattle.std.specs.List.{AllByRecursion}
 use Rattle.mn_base.specs.Ids.{tid_same}
 use Rattle.mn_base.specs.declared.ids.Tid.{Tid}
+use Rattle.mn_base.proofs.Lists.{all_both}
 use Rattle.mn_mini.specs.declared.part.PartItem.{PartItem}
 use Rattle.mn_mini.specs.Mini.{parts_conflict}
 use Rattle.mn_mini.specs.Flat.{space_after_part, part_mismatch_from}
@@ -61,7 +62,7 @@ others_free : (h : HeldPart) (hs : List HeldPart) → AllByRecursion (λ g. tid_
 others_free h [] d a = tt
 others_free h (g ∷ hs) d a = (a.0 d.0, others_free h hs d.1 a.1)
 
-same_part : (h g : HeldPart) → Some h ≡ Some g → h ≡ g
+pub same_part : (h g : HeldPart) → Some h ≡ Some g → h ≡ g
 same_part h g e = cc
 
 -- a part that is committed goes into the space
@@ -102,10 +103,6 @@ held_fact P t (h ∷ hs) g all is =
       | false ↦ λ _ there. held_fact P t hs g all.1 there
     ] refl is
 
-pub All-both : {A : Type 0} (P Q R : A → Type 0) → ((x : A) → P x → Q x → R x) → (xs : List A) → AllByRecursion P xs → AllByRecursion Q xs → AllByRecursion R xs
-All-both P Q R f [] p q = tt
-All-both P Q R f (x ∷ xs) p q = (f x p.0 q.0, All-both P Q R f xs p.1 q.1)
-
 -- a held part becomes committed
 pub flip_layer : (f f' : Tid → Bool) (space : List ℕ) (hs : List HeldPart) (t : Tid) (g : HeldPart) → AreDistinct hs → AreApart hs → held_part_of t hs ≡ Some g → f t ≡ false → f' t ≡ true
     → AllByRecursion (λ h. tid_same h.tid t ≡ false → f' h.tid ≡ f h.tid) hs → with_held f' space hs ≡ space_after_part (with_held f space hs) g.part
@@ -117,7 +114,7 @@ flip_layer f f' space (h ∷ hs) t g d a is off on same =
           let one : h ≡ g = same_part h g here in
           let on' : f' h.tid ≡ true = ap f' eq ∙ on in
           let off' : f h.tid ≡ false = ap f eq ∙ off in
-          let rest : AllByRecursion (λ x. f' x.tid ≡ f x.tid) hs = All-both (λ x. tid_same x.tid h.tid ≡ false) (λ x. tid_same x.tid t ≡ false → f' x.tid ≡ f x.tid) (λ x. f' x.tid ≡ f x.tid) (λ x p q. q (subst (λ (u : Tid). tid_same x.tid u ≡ false) eq p)) hs d.0 same.1 in
+          let rest : AllByRecursion (λ x. f' x.tid ≡ f x.tid) hs = all_both (λ x. tid_same x.tid h.tid ≡ false) (λ x. tid_same x.tid t ≡ false → f' x.tid ≡ f x.tid) (λ x. f' x.tid ≡ f x.tid) (λ x p q. q (subst (λ (u : Tid). tid_same x.tid u ≡ false) eq p)) hs d.0 same.1 in
           ap (λ (b : Bool). if b then space_after_part (with_held f' space hs) h.part else with_held f' space hs) on'
           ∙ (ap (λ (w : List ℕ). space_after_part w h.part) (same_layers f' f space hs rest)
           ∙ (ap (λ (x : HeldPart). space_after_part (with_held f space hs) x.part) one

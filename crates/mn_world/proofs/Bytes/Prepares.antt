@@ -1,25 +1,25 @@
 -- A Prepare that is done answers no reads.
-use Rattle.std.proofs.Common.{◌≡◌, ℕ, zero, suc, ◌+◌, ◌<◌, ◌≤◌, ◌⊎◌, inl, inr, Bool, true, false, ◌&&◌, ◌||◌, List, [], ◌∷◌, ◌++◌, length, Option, Some, None, refl, ap, ◌∙◌, arith, map}
+use Rattle.std.proofs.Common.{◌≡◌, ℕ, zero, suc, ◌+◌, ◌<◌, ◌≤◌, inl, inr, true, false, ◌||◌, List, [], ◌∷◌, ◌++◌, length, Option, Some, None, refl, ap, ◌∙◌, arith, map}
 use Rattle.std.specs.Prelude.{filter, cond}
 use Rattle.std.specs.List.{flat_map, range_with_len}
 use Rattle.mn_base.specs.Ids.{node_same}
 use Rattle.mn_base.specs.declared.ids.NodeNo.{NodeNo}
 use Rattle.mn_base.specs.declared.ids.ClientNo.{ClientNo}
 use Rattle.mn_base.specs.declared.ids.Tid.{Tid}
+use Rattle.mn_base.proofs.Booleans.{or_cases}
 use Rattle.mn_mini.specs.declared.item.Item.{Item}
 use Rattle.mn_mini.specs.declared.item.Item.TheVariants.{Compare, Read, Write}
 use Rattle.mn_mini.specs.declared.part.PartItem.{PartItem}
 use Rattle.mn_mini.specs.declared.request.Request.TheVariants as Ask
 use Rattle.mn_mini.specs.declared.reply.NodeReply.TheVariants as Say
-use Rattle.mn_mini.specs.Mini.{Mini, item_node, participants_of, compare_at, read_at, write_at, part_of}
+use Rattle.mn_mini.specs.Mini.{Mini, participants_of, compare_at, read_at, write_at, part_of}
 use Rattle.mn_mini.specs.Flat.{space_in, part_reads}
-use Rattle.mn_mini.proofs.Parts.{reads-append, reads-compares, reads-writes}
+use Rattle.mn_mini.proofs.Parts.{reads-append, reads-compares, reads-writes, same_true}
 use Rattle.mn_world.specs.declared.entry.Entry.{Entry}
 use Rattle.mn_world.specs.declared.entry.What.TheVariants.{Called}
 use Rattle.mn_world.specs.Clients.{is_read, is_plan}
 use Rattle.mn_world.specs.Protocol.{Start, KeepsProtocol}
 use Rattle.mn_world.specs.Laws.{PreparesReadNothing}
-use Rattle.mn_world.proofs.Reading.Same.{node_same-true}
 use Rattle.mn_world.proofs.Votes.Acts.{sent_unvoted}
 use Rattle.mn_world.proofs.Bytes.Step.{flat, IsMade}
 use Rattle.mn_world.proofs.Bytes.Through.{Whole}
@@ -35,7 +35,7 @@ none_above : (node : NodeNo) (from count : ℕ) → node.0 < from → filter (λ
 none_above node from zero low = refl
 none_above node from (suc count) low =
     elim (node_same node (record { 0 = from })) as (λ b. node_same node (record { 0 = from }) ≡ b → cond (b || false) (record { 0 = from } ∷ filter (λ n. node_same node n || false) (numbers (from + 1) count)) (filter (λ n. node_same node n || false) (numbers (from + 1) count)) ≡ []) [
-      | true ↦ λ same. let eq : node.0 ≡ from = ap (λ (n : NodeNo). n.0) (node_same-true node (record { 0 = from }) same) in absurd (omega (arith, eq, low))
+      | true ↦ λ same. let eq : node.0 ≡ from = ap (λ (n : NodeNo). n.0) (same_true node (record { 0 = from }) same) in absurd (omega (arith, eq, low))
       | false ↦ λ _. none_above node (from + 1) count (omega (arith, low))
     ] refl
 
@@ -44,7 +44,7 @@ one_at_most node from zero = omega arith
 one_at_most node from (suc count) =
     elim (node_same node (record { 0 = from })) as (λ b. node_same node (record { 0 = from }) ≡ b → length (cond (b || false) (record { 0 = from } ∷ filter (λ n. node_same node n || false) (numbers (from + 1) count)) (filter (λ n. node_same node n || false) (numbers (from + 1) count))) ≤ 1) [
       | true ↦ λ same.
-          let eq : node.0 ≡ from = ap (λ (n : NodeNo). n.0) (node_same-true node (record { 0 = from }) same) in
+          let eq : node.0 ≡ from = ap (λ (n : NodeNo). n.0) (same_true node (record { 0 = from }) same) in
           let none = none_above node (from + 1) count (omega (arith, eq)) in
           let empty : length (filter (λ n. node_same node n || false) (numbers (from + 1) count)) ≡ 0 = ap (λ (ns : List NodeNo). length ns) none in
           omega (arith, empty)
@@ -60,14 +60,6 @@ read_alone nodes (Compare node start bytes ∷ is) e = absurd cc
 read_alone nodes (Write node start bytes ∷ is) e = absurd cc
 
 -- a plan has no reads
-
-and_right : (a b : Bool) → (a && b) ≡ true → b ≡ true
-and_right true b e = e
-and_right false b e = absurd cc
-
-or_cases : (a b : Bool) → (a || b) ≡ true → (a ≡ true) ⊎ (b ≡ true)
-or_cases true b e = inl refl
-or_cases false b e = inr e
 
 no_reads : (n : NodeNo) (items : List Item) → is_plan items ≡ true → flat_map (read_at n) items ≡ []
 no_reads n [] e = refl

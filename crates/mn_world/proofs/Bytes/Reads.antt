@@ -5,6 +5,7 @@ use Rattle.mn_base.specs.Ids.{node_same}
 use Rattle.mn_base.specs.declared.ids.NodeNo.{NodeNo}
 use Rattle.mn_base.specs.declared.ids.ClientNo.{ClientNo}
 use Rattle.mn_base.specs.declared.ids.Tid.{Tid}
+use Rattle.mn_base.proofs.Booleans.{clash}
 use Rattle.mn_mini.specs.declared.item.Item.{Item}
 use Rattle.mn_mini.specs.declared.part.PartItem.{PartItem}
 use Rattle.mn_mini.specs.declared.record.Record.{Record}
@@ -16,7 +17,7 @@ use Rattle.mn_mini.specs.Mini.{Mini, item_node, participants_of, has_write}
 use Rattle.mn_mini.specs.Flat.{Mismatched, Committed, space_in, mismatch_from, reads_in, memory_after, outcome_on, unless_mismatched, part_mismatch_from, part_reads, space_after_part}
 use Rattle.mn_mini.specs.Node.{HeldPart, Clash, held_parts, clash_of, has_forced, only_reply, after_locks, after_compares, tested, space_of, answer, with_held}
 use Rattle.mn_mini.proofs.Bytes.{reads-after_part}
-use Rattle.mn_mini.proofs.Parts.{AreAt, reads_of_one}
+use Rattle.mn_mini.proofs.Parts.{AreAt, reads_of_one, same_self}
 use Rattle.mn_world.specs.declared.entry.Entry.{Entry}
 use Rattle.mn_world.specs.declared.entry.What.{What}
 use Rattle.mn_world.specs.declared.entry.What.TheVariants.{Called}
@@ -25,7 +26,6 @@ use Rattle.mn_world.specs.Nodes.{is_down}
 use Rattle.mn_world.specs.Protocol.{Start, base_at, records_of, KeepsProtocol, FollowsProtocol}
 use Rattle.mn_world.specs.Commits.{committed_by}
 use Rattle.mn_world.specs.Laws.{part_of_request, ReadsAreFlat, ExecsAreFlat}
-use Rattle.mn_world.proofs.Reading.Same.{node_same-refl}
 use Rattle.mn_world.proofs.Votes.Backing.{ExecAt, Kept}
 use Rattle.mn_world.proofs.Votes.Preserved.{kept_run, new_not_old}
 use Rattle.mn_world.proofs.Bytes.Layers.{IsFree}
@@ -35,9 +35,6 @@ use Rattle.mn_world.proofs.Bytes.Commit.{free_of}
 use Rattle.mn_world.proofs.Bytes.Step.{flat, IsMade, unvoted_unheld, exec_unheld, issued_is, unnamed}
 use Rattle.mn_world.proofs.Bytes.Through.{Whole, commit_holds}
 use Rattle.mn_world.proofs.Bytes.Spaces.{whole_run}
-
-clash : (b : Bool) → b ≡ true → b ≡ false → ⊥
-clash b p q = absurd cc
 
 -- the reads of a part see nothing of the layers that it does not conflict with
 pub reads_below : (f : Tid → Bool) (space : List ℕ) (hs : List HeldPart) (part : List PartItem) → IsFree part hs → part_reads (with_held f space hs) part ≡ part_reads space part
@@ -130,7 +127,7 @@ items_at start mini k made alone (i ∷ is) sub = (here (node_same (item_node i)
 
     here : (b : Bool) → node_same (item_node i) k ≡ b → node_same (item_node i) k ≡ true
     here true e = e
-    here false e = absurd (clash _ (sub (item_node i) (ap (λ (b : Bool). b || list_any (λ j. node_same (item_node j) (item_node i)) is) (node_same-refl (item_node i)))) (unnamed start mini k (item_node i) made alone e))
+    here false e = absurd (clash _ (sub (item_node i) (ap (λ (b : Bool). b || list_any (λ j. node_same (item_node j) (item_node i)) is) (same_self (item_node i)))) (unnamed start mini k (item_node i) made alone e))
 
 exec_flat : (start : Start) (past : List Entry) (by : Option ClientNo) (k : NodeNo) (tid : Tid) (part : List PartItem) (reads : List (List ℕ)) → Whole start past → Kept start (record { node = Some k; client = by; what = Called (Ask.Exec tid part) (Say.Done reads) } ∷ past)
     → KeepsProtocol start past (record { node = Some k; client = by; what = Called (Ask.Exec tid part) (Say.Done reads) })

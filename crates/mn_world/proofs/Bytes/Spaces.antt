@@ -1,19 +1,21 @@
 -- Runs agree with the flat memory.
 use Rattle.std.proofs.Common.{◌≡◌, ℕ, ◌<◌, ◌≤◌, ◌⊎◌, inl, inr, Bool, true, false, ◌||◌, List, [], ◌∷◌, length, Option, Some, None, refl, subst, sym, ap, ◌∙◌, arith, if◌then◌else◌, get_or}
-use Rattle.std.specs.Bool.{⊤}
 use Rattle.std.specs.Option.{option_map_or}
-use Rattle.std.specs.List.{AllByRecursion, list_any, list_all, range_with_len}
+use Rattle.std.specs.List.{AllByRecursion, list_any, range_with_len}
 use Rattle.std.proofs.lemmas.List.{get_or_past, ext_get_or}
 use Rattle.std.proofs.lemmas.List.{get_or-map}
 use Rattle.std.proofs.lemmas.List.FromFn.{get_or-map-range_with_len, length-range_with_len}
 use Rattle.mn_base.specs.Ids.{tid_same, node_numbers}
 use Rattle.mn_base.specs.declared.ids.NodeNo.{NodeNo}
 use Rattle.mn_base.specs.declared.ids.Tid.{Tid}
+use Rattle.mn_base.proofs.Booleans.{clash, falsely, or_cases}
+use Rattle.mn_base.proofs.Naturals.{below_or}
+use Rattle.mn_base.proofs.Lists.{weaker}
 use Rattle.mn_mini.specs.declared.part.PartItem.{PartItem}
 use Rattle.mn_mini.specs.declared.record.Record.{Record}
 use Rattle.mn_mini.specs.declared.record.Record.TheVariants.{Voted, Executed, Decided, Forced}
 use Rattle.mn_mini.specs.Mini.{Mini, participants_of}
-use Rattle.mn_mini.specs.Flat.{space_in, mismatch_from, reads_in, memory_after, Outcome, outcome_on, unless_mismatched}
+use Rattle.mn_mini.specs.Flat.{space_in, reads_in, memory_after, unless_mismatched}
 use Rattle.mn_mini.specs.Node.{HeldPart, held_parts, has_voted, has_executed, space_of, with_held}
 use Rattle.mn_world.specs.declared.entry.Entry.{Entry}
 use Rattle.mn_world.specs.Protocol.{Start, start_nodes, base_at, start_records, records_of, FollowsProtocol}
@@ -21,7 +23,7 @@ use Rattle.mn_world.specs.Opened.{voted_participants, have_voted, is_committed, 
 use Rattle.mn_world.specs.Laws.{StartsSound, CommitsAreFlat, SpacesAgree, MemoryIsFlat}
 use Rattle.mn_world.proofs.Reading.Same.{tid_same-true}
 use Rattle.mn_world.proofs.Votes.Backing.{IsOld, IssuedTo, PartAt, ExecAt, RecordSound, Kept}
-use Rattle.mn_world.proofs.Votes.Start.{names_old, low_or_high, no_records, vote_names, named_record, voted_old, all_false, is_true_at, in_numbers}
+use Rattle.mn_world.proofs.Votes.Start.{names_old, no_records, vote_names, named_record, voted_old, all_false, is_true_at, in_numbers}
 use Rattle.mn_world.proofs.Votes.Held.{in_place_apart}
 use Rattle.mn_world.specs.Opened.{AreInPlace}
 use Rattle.mn_mini.specs.Laws.{AreApart}
@@ -29,7 +31,7 @@ use Rattle.mn_world.proofs.Bytes.Bases.{no_base}
 use Rattle.mn_world.proofs.Bytes.Layers.{AreDistinct}
 use Rattle.mn_world.proofs.Votes.Preserved.{kept_run, new_not_old}
 use Rattle.mn_world.proofs.Commits.Told.{votes_agree, issues_agree}
-use Rattle.mn_world.proofs.Bytes.Even.{comm, comm_is, comm_old, All-map, PartOf, held_at, AgreesAt, ComparesAt}
+use Rattle.mn_world.proofs.Bytes.Even.{comm, comm_is, comm_old, PartOf, held_at, AgreesAt}
 use Rattle.mn_world.proofs.Bytes.Step.{flat, Even, held_voted, unvoted_unheld}
 use Rattle.mn_world.proofs.Bytes.Through.{Whole, AreDistinct-without, pending_unvoted, pending_unexecuted, even_step, commit_holds}
 use Rattle.mn_world.proofs.Bytes.EachByte.{byte_of_layers, same_pending}
@@ -51,13 +53,6 @@ space-memory_in nodes bases lists n low =
 
 -- The start
 
-clash : (b : Bool) → b ≡ true → b ≡ false → ⊥
-clash b p q = absurd cc
-
-falsely : (b : Bool) → (b ≡ true → ⊥) → b ≡ false
-falsely true f = absurd (f refl)
-falsely false f = refl
-
 distinct_in_place : (nodes : ℕ) (n : NodeNo) (records : List Record) → AreInPlace nodes n records → AreDistinct (held_parts records)
 distinct_in_place nodes n [] place = tt
 distinct_in_place nodes n (Voted tid ps part ∷ older) place =
@@ -68,12 +63,12 @@ distinct_in_place nodes n (Forced tid ∷ older) place = distinct_in_place nodes
 
 even_start : (start : Start) → StartsSound start → Even start []
 even_start start sound = record {
-  agrees = λ n. agrees n (low_or_high n.0 (start_nodes start));
+  agrees = λ n. agrees n (below_or n.0 (start_nodes start));
   compares = λ n.
-      All-map (λ h. has_voted (start_records start n) h.tid ≡ true) (λ h. (IsOld start h.tid → ⊥) → comm start [] h.tid ≡ false → Rattle.mn_mini.specs.Flat.part_mismatch_from (space_in (flat start []) n) 0 h.part ≡ None)
+      weaker (λ h. has_voted (start_records start n) h.tid ≡ true) (λ h. (IsOld start h.tid → ⊥) → comm start [] h.tid ≡ false → Rattle.mn_mini.specs.Flat.part_mismatch_from (space_in (flat start []) n) 0 h.part ≡ None)
       (λ h v new. absurd (new (voted_old start n h.tid v))) (held_parts (start_records start n)) (held_voted (start_records start n));
-  distinct = λ n. distinct n (low_or_high n.0 (start_nodes start));
-  apart = λ n. apart n (low_or_high n.0 (start_nodes start));
+  distinct = λ n. distinct n (below_or n.0 (start_nodes start));
+  apart = λ n. apart n (below_or n.0 (start_nodes start));
   spaces = length-memory_in (start_nodes start) (base_at start) (start_records start);
   minis = λ tid mini is. absurd cc;
 }
@@ -120,10 +115,6 @@ commits_are_flat start past e i sound run is =
     (reads_in (flat start past) i.mini.items, memory_after (flat start past) i.mini.items, ap (λ o. unless_mismatched (flat start past) i.mini o) holds)
 
 -- Which held ids are committed
-
-or_cases : (a b : Bool) → (a || b) ≡ true → (a ≡ true) ⊎ (b ≡ true)
-or_cases true b e = inl refl
-or_cases false b e = inr e
 
 pub executed_exec : (start : Start) (past : List Entry) (k : NodeNo) (tid : Tid) (records : List Record) → (IsOld start tid → ⊥) → AllByRecursion (RecordSound start past k) records → has_executed records tid ≡ true → (part : List PartItem) × ExecAt past tid k part
 executed_exec start past k tid [] new a e = absurd cc
@@ -222,7 +213,7 @@ spaces_agree start past n place sound run low none =
     let records = records_of start past n in
     let held = held_parts records in
     let same : AllByRecursion (λ h. is_committed (start_nodes start) (records_of start past) h.tid ≡ comm start past h.tid) held =
-    Rattle.mn_world.proofs.Bytes.Layers.All-both (PartOf start past n) (λ h. has_voted records h.tid ≡ true) (λ h. is_committed (start_nodes start) (records_of start past) h.tid ≡ comm start past h.tid)
+    Rattle.mn_base.proofs.Lists.all_both (PartOf start past n) (λ h. has_voted records h.tid ≡ true) (λ h. is_committed (start_nodes start) (records_of start past) h.tid ≡ comm start past h.tid)
     (λ h p v. held_committed start past n h w.kept low p v) held (held_at start past n records (w.kept.records n)) (held_voted records) in
     let none' = sym (same_pending (is_committed (start_nodes start) (records_of start past)) (comm start past) place held same) ∙ none in
     sym (ap (λ (x : List ℕ). Rattle.std.specs.List.slice_get x place) (w.even.agrees n) ∙ byte_of_layers (comm start past) (space_of (base_at start n) records) held place none')
@@ -241,7 +232,7 @@ memory_is_flat start past sound run =
         let records = records_of start past n in
         let held = held_parts records in
         let same : AllByRecursion (λ h. is_committed (start_nodes start) (records_of start past) h.tid ≡ comm start past h.tid) held =
-        Rattle.mn_world.proofs.Bytes.Layers.All-both (PartOf start past n) (λ h. has_voted records h.tid ≡ true) (λ h. is_committed (start_nodes start) (records_of start past) h.tid ≡ comm start past h.tid)
+        Rattle.mn_base.proofs.Lists.all_both (PartOf start past n) (λ h. has_voted records h.tid ≡ true) (λ h. is_committed (start_nodes start) (records_of start past) h.tid ≡ comm start past h.tid)
         (λ h p v. held_committed start past n h w.kept low p v) held (held_at start past n records (w.kept.records n)) (held_voted records) in
         space-memory_in (start_nodes start) (base_at start) (records_of start past) n low
         ∙ (Rattle.mn_world.proofs.Bytes.Layers.same_layers (is_committed (start_nodes start) (records_of start past)) (comm start past) (space_of (base_at start n) records) held same ∙ sym (w.even.agrees n))

@@ -1,11 +1,13 @@
 -- One entry keeps the agreement of the spaces with the flat memory, and commits only what holds there.
-use Rattle.std.proofs.Common.{◌≡◌, ℕ, ◌≤◌, ◌<◌, ◌⊎◌, inl, inr, Bool, true, false, not, ◌&&◌, ◌||◌, List, [], ◌∷◌, length, Option, Some, None, refl, subst, sym, ap, ◌∙◌, arith, if◌then◌else◌, Contains}
+use Rattle.std.proofs.Common.{◌≡◌, ℕ, ◌<◌, ◌⊎◌, inl, inr, Bool, true, false, not, ◌&&◌, ◌||◌, List, [], ◌∷◌, length, Option, Some, None, refl, subst, sym, ap, ◌∙◌, arith, if◌then◌else◌, Contains}
 use Rattle.std.specs.Bool.{⊤}
 use Rattle.std.specs.List.{AllByRecursion, list_any, list_all}
 use Rattle.std.proofs.lemmas.List.Elements.{All-contains, All-from_recursion}
 use Rattle.mn_base.specs.Ids.{node_same, tid_same}
 use Rattle.mn_base.specs.declared.ids.NodeNo.{NodeNo}
 use Rattle.mn_base.specs.declared.ids.Tid.{Tid}
+use Rattle.mn_base.proofs.Booleans.{clash, or_cases}
+use Rattle.mn_base.proofs.Lists.{all_both, weaker}
 use Rattle.mn_mini.specs.declared.item.Item.{Item}
 use Rattle.mn_mini.specs.declared.item.Item.TheVariants.{Compare, Read, Write}
 use Rattle.mn_mini.specs.declared.part.PartItem.{PartItem}
@@ -14,11 +16,11 @@ use Rattle.mn_mini.specs.declared.record.Record.TheVariants.{Voted, Executed, De
 use Rattle.mn_mini.specs.declared.request.Request.{Request}
 use Rattle.mn_mini.specs.declared.request.Request.TheVariants as Ask
 use Rattle.mn_mini.specs.Mini.{Mini, item_node, participants_of, part_of, parts_conflict, has_write, IsSoundItem, IsSound}
-use Rattle.mn_mini.specs.Flat.{space_in, mismatch_from, memory_after, part_mismatch_from, space_after_part}
+use Rattle.mn_mini.specs.Flat.{space_in, mismatch_from, part_mismatch_from, space_after_part}
 use Rattle.mn_mini.specs.Node.{HeldPart, held_parts, held_part_of, without_tid, is_held, space_of, clash_of, has_voted, has_decided_yes, has_decided_no, with_added, with_held}
 use Rattle.mn_mini.specs.Laws.{AreApart}
 use Rattle.mn_mini.proofs.Bytes.{mismatch-after_part, conflict_turned}
-use Rattle.mn_mini.proofs.Parts.{AreIn, space-after_mini, mini_holds, no_part, named_takes_part}
+use Rattle.mn_mini.proofs.Parts.{AreIn, space-after_mini, mini_holds, no_part, named_takes_part, same_self, same_true}
 use Rattle.mn_world.specs.declared.entry.Entry.{Entry}
 use Rattle.mn_world.specs.Calls.{Issued, issue_named, issues_of}
 use Rattle.std.specs.Prelude.{IsTrue}
@@ -26,19 +28,16 @@ use Rattle.mn_world.specs.Clients.{is_read, is_plan}
 use Rattle.mn_world.specs.Protocol.{Start, start_nodes, base_at, records_of, KeepsProtocol}
 use Rattle.mn_world.specs.Commits.{has_vote, issued_as, committed_with, committed_by, flat_after, memory_after_commit}
 use Rattle.mn_world.specs.Opened.{opened_memory}
-use Rattle.mn_world.proofs.Reading.Same.{tid_same-true, tid_same-refl, node_same-true, node_same-refl}
+use Rattle.mn_world.proofs.Reading.Same.{tid_same-true, tid_same-refl}
 use Rattle.mn_world.proofs.Reading.Unchanged.{issue_stays}
 use Rattle.mn_world.specs.Laws.{StartsSound}
 use Rattle.mn_world.proofs.Votes.Backing.{mini_of, IsOld, ExecAt, RecordSound, Kept}
 use Rattle.mn_world.proofs.Votes.Lost.{IsLost_stays}
-use Rattle.mn_world.proofs.Votes.Preserved.{new_not_old, decided_yes_voted, decided_no_lost}
-use Rattle.mn_world.proofs.Bytes.Layers.{AreDistinct, IsFree, same_layers, flip_layer, held_fact, All-both}
+use Rattle.mn_world.proofs.Votes.Preserved.{new_not_old, decided_yes_voted, decided_no_lost, same_mini}
+use Rattle.mn_world.proofs.Bytes.Layers.{AreDistinct, IsFree, same_layers, flip_layer, held_fact, same_part}
 use Rattle.mn_world.proofs.Votes.Acts.{Act, IsIdle, idle, votes, executes, decides, forces}
-use Rattle.mn_world.proofs.Bytes.Even.{comm, comm_is, PartOf, comm_same, comm_old, voted_comm, lost_comm, all_same, All-map, held_at, AgreesAt, ComparesAt, SameComm, keep_node, same_comm, decide_node}
+use Rattle.mn_world.proofs.Bytes.Even.{comm, comm_is, PartOf, comm_same, comm_old, voted_comm, lost_comm, all_same, held_at, AgreesAt, ComparesAt, SameComm, keep_node, same_comm, decide_node}
 use Rattle.mn_world.proofs.Bytes.Commit.{Takes, free_of, holds_flat, execute_node, other_node, vote_node, last_vote_node}
-
-clash : (b : Bool) → b ≡ true → b ≡ false → ⊥
-clash b p q = absurd cc
 
 abbrev pub flat : Start → List Entry → List (List ℕ)
 flat start past = flat_after (opened_memory start) past
@@ -46,15 +45,15 @@ flat start past = flat_after (opened_memory start) past
 -- Facts of lists
 
 by_node : (P : NodeNo → Type 0) (k : NodeNo) → P k → ((n : NodeNo) → node_same n k ≡ false → P n) → (n : NodeNo) → P n
-by_node P k here there n = elim (node_same n k) as (λ b. node_same n k ≡ b → P n) [ true ↦ λ e. subst P (sym (node_same-true n k e)) here | false ↦ λ e. there n e ] refl
+by_node P k here there n = elim (node_same n k) as (λ b. node_same n k ≡ b → P n) [ true ↦ λ e. subst P (sym (same_true n k e)) here | false ↦ λ e. there n e ] refl
 
 same_turned : (n k : NodeNo) → node_same n k ≡ false → node_same k n ≡ false
 same_turned n k e = elim (node_same k n) as (λ b. node_same k n ≡ b → node_same k n ≡ false) [
-  | true ↦ λ h. absurd (clash _ (subst (λ (m : NodeNo). node_same m k ≡ true) (node_same-true k n h) (node_same-refl k)) e)
+  | true ↦ λ h. absurd (clash _ (subst (λ (m : NodeNo). node_same m k ≡ true) (same_true k n h) (same_self k)) e)
   | false ↦ λ h. h
 ] refl
 
-tid_turned : (t u : Tid) → tid_same t u ≡ false → tid_same u t ≡ false
+pub tid_turned : (t u : Tid) → tid_same t u ≡ false → tid_same u t ≡ false
 tid_turned t u e = elim (tid_same u t) as (λ b. tid_same u t ≡ b → tid_same u t ≡ false) [
   | true ↦ λ h. absurd (clash _ (subst (λ (v : Tid). tid_same v u ≡ true) (tid_same-true u t h) (tid_same-refl u)) e)
   | false ↦ λ h. h
@@ -62,14 +61,6 @@ tid_turned t u e = elim (tid_same u t) as (λ b. tid_same u t ≡ b → tid_same
 
 contained : (f : NodeNo → Bool) (ps : List NodeNo) (n : NodeNo) → AllByRecursion (λ m. f m ≡ true) ps → Contains ps n → f n ≡ true
 contained f ps n all has = All-contains (λ m. f m ≡ true) ps n (All-from_recursion (λ m. f m ≡ true) ps all) has
-
-or_split : (a b : Bool) → (a || b) ≡ false → (a ≡ false) × (b ≡ false)
-or_split true b e = absurd cc
-or_split false b e = (refl, e)
-
-or_cases : (a b : Bool) → (a || b) ≡ true → (a ≡ true) ⊎ (b ≡ true)
-or_cases true b e = inl refl
-or_cases false b e = inr e
 
 -- What is held of an id
 
@@ -118,19 +109,19 @@ pub held_voted : (records : List Record) → AllByRecursion (λ h. has_voted rec
 held_voted [] = tt
 held_voted (Voted u ps part ∷ records) = (
   ap (λ (b : Bool). b || has_voted records u) (tid_same-refl u),
-  All-map (λ h. has_voted records h.tid ≡ true) (λ h. (tid_same u h.tid || has_voted records h.tid) ≡ true) (λ h v. right (tid_same u h.tid) _ v) (held_parts records) (held_voted records),
+  weaker (λ h. has_voted records h.tid ≡ true) (λ h. (tid_same u h.tid || has_voted records h.tid) ≡ true) (λ h v. right (tid_same u h.tid) _ v) (held_parts records) (held_voted records),
 )
   where
     right : (a b : Bool) → b ≡ true → (a || b) ≡ true
     right true b e = refl
     right false b e = e
 held_voted (Executed u part ∷ records) = held_voted records
-held_voted (Decided u verdict ∷ records) = Rattle.mn_world.proofs.Votes.Preserved.All-without (λ h. has_voted records h.tid ≡ true) u (held_parts records) (held_voted records)
+held_voted (Decided u verdict ∷ records) = Rattle.mn_mini.proofs.Apart.All-without (λ h. has_voted records h.tid ≡ true) u (held_parts records) (held_voted records)
 held_voted (Forced u ∷ records) = held_voted records
 
 -- an id that has not voted is not held
 pub unvoted_unheld : (records : List Record) (t : Tid) → has_voted records t ≡ false → AllByRecursion (λ h. tid_same h.tid t ≡ false) (held_parts records)
-unvoted_unheld records t none = All-map (λ h. has_voted records h.tid ≡ true) (λ h. tid_same h.tid t ≡ false) (λ h v. differs h v) (held_parts records) (held_voted records)
+unvoted_unheld records t none = weaker (λ h. has_voted records h.tid ≡ true) (λ h. tid_same h.tid t ≡ false) (λ h v. differs h v) (held_parts records) (held_voted records)
   where
     differs : (h : HeldPart) → has_voted records h.tid ≡ true → tid_same h.tid t ≡ false
     differs h v = elim (tid_same h.tid t) as (λ b. tid_same h.tid t ≡ b → tid_same h.tid t ≡ false) [
@@ -146,9 +137,6 @@ none_held t (h ∷ hs) e =
       | false ↦ λ f h. (f, none_held t hs h)
     ] refl e
 
-same_held : (h g : HeldPart) → Some h ≡ Some g → h ≡ g
-same_held h g e = cc
-
 -- the other held parts are apart from the one of the id
 apart_from_held : (t : Tid) (hs : List HeldPart) (g : HeldPart) → AreDistinct hs → AreApart hs → held_part_of t hs ≡ Some g → AllByRecursion (λ h. tid_same h.tid t ≡ false → parts_conflict h.part g.part ≡ false) hs
 apart_from_held t [] g d a is = tt
@@ -156,11 +144,11 @@ apart_from_held t (h ∷ hs) g d a is =
     elim (tid_same h.tid t) as (λ b. tid_same h.tid t ≡ b → (if b then Some h else held_part_of t hs) ≡ Some g → (tid_same h.tid t ≡ false → parts_conflict h.part g.part ≡ false) × AllByRecursion (λ h. tid_same h.tid t ≡ false → parts_conflict h.part g.part ≡ false) hs) [
       | true ↦ λ e here.
           let eq : h.tid ≡ t = tid_same-true h.tid t e in
-          let one : h ≡ g = same_held h g here in (
+          let one : h ≡ g = same_part h g here in (
             λ other. absurd (clash _ e other),
             subst (λ (x : HeldPart). AllByRecursion (λ y. tid_same y.tid t ≡ false → parts_conflict y.part x.part ≡ false) hs) one
                 (subst (λ (u : Tid). AllByRecursion (λ y. tid_same y.tid u ≡ false → parts_conflict y.part h.part ≡ false) hs) eq
-                (All-map (λ y. tid_same y.tid h.tid ≡ false → parts_conflict h.part y.part ≡ false) (λ y. tid_same y.tid h.tid ≡ false → parts_conflict y.part h.part ≡ false) (λ y p other. conflict_turned h.part y.part (p other)) hs a.0)),
+                (weaker (λ y. tid_same y.tid h.tid ≡ false → parts_conflict h.part y.part ≡ false) (λ y. tid_same y.tid h.tid ≡ false → parts_conflict y.part h.part ≡ false) (λ y p other. conflict_turned h.part y.part (p other)) hs a.0)),
           )
       | false ↦ λ other there.
           let held = held_fact (λ x. tid_same x.tid h.tid ≡ false → parts_conflict h.part x.part ≡ false) t hs g a.0 there in
@@ -173,7 +161,7 @@ apart_from_held t (h ∷ hs) g d a is =
 abbrev pub IsMade : Start → Mini → Type 0
 IsMade start mini = (mini.nodes ≡ start_nodes start) × IsSound mini × IsTrue (is_read mini.items || is_plan mini.items)
 
-item_below : (nodes : ℕ) (item : Item) → IsSoundItem nodes item → (item_node item).0 < nodes
+pub item_below : (nodes : ℕ) (item : Item) → IsSoundItem nodes item → (item_node item).0 < nodes
 item_below nodes (Compare node start bytes) s = (s.0).0
 item_below nodes (Read node start n) s = (s.0).0
 item_below nodes (Write node start bytes) s = (s.0).0
@@ -186,7 +174,7 @@ named_below : (nodes : ℕ) (items : List Item) (n : NodeNo) → AreIn nodes ite
 named_below nodes [] n a e = absurd cc
 named_below nodes (i ∷ is) n a e =
     elim (or_cases (node_same (item_node i) n) (list_any (λ i. node_same (item_node i) n) is) e) as (λ _. n.0 < nodes) [
-      | inl here ↦ subst (λ (m : NodeNo). m.0 < nodes) (node_same-true (item_node i) n here) a.0
+      | inl here ↦ subst (λ (m : NodeNo). m.0 < nodes) (same_true (item_node i) n here) a.0
       | inr there ↦ named_below nodes is n a.1 there
     ]
 
@@ -195,7 +183,7 @@ any_contains : (ps : List NodeNo) (n : NodeNo) (f : NodeNo → Bool) → AllByRe
 any_contains [] n f all e = absurd cc
 any_contains (p ∷ ps) n f all e =
     elim (or_cases (node_same p n) (list_any (λ m. node_same m n) ps) e) as (λ _. f n ≡ true) [
-      | inl here ↦ subst (λ (m : NodeNo). f m ≡ true) (node_same-true p n here) all.0
+      | inl here ↦ subst (λ (m : NodeNo). f m ≡ true) (same_true p n here) all.0
       | inr there ↦ any_contains ps n f all.1 there
     ]
 
@@ -308,7 +296,7 @@ forced_node start past e k t new still commits agrees compares =
       subst (λ (r : List Record). space_in (flat start (e ∷ past)) k ≡ with_held (comm start (e ∷ past)) (space_of (base_at start k) r) (held_parts r)) (sym new)
           (still ∙ (agrees ∙ sym (same_layers (comm start (e ∷ past)) (comm start past) space held commits))),
       subst (λ (r : List Record). AllByRecursion (λ h. (IsOld start h.tid → ⊥) → comm start (e ∷ past) h.tid ≡ false → part_mismatch_from (space_in (flat start (e ∷ past)) k) 0 h.part ≡ None) (held_parts r)) (sym new)
-          (All-both (λ h. comm start (e ∷ past) h.tid ≡ comm start past h.tid) (λ h. (IsOld start h.tid → ⊥) → comm start past h.tid ≡ false → part_mismatch_from (space_in (flat start past) k) 0 h.part ≡ None) (λ h. (IsOld start h.tid → ⊥) → comm start (e ∷ past) h.tid ≡ false → part_mismatch_from (space_in (flat start (e ∷ past)) k) 0 h.part ≡ None)
+          (all_both (λ h. comm start (e ∷ past) h.tid ≡ comm start past h.tid) (λ h. (IsOld start h.tid → ⊥) → comm start past h.tid ≡ false → part_mismatch_from (space_in (flat start past) k) 0 h.part ≡ None) (λ h. (IsOld start h.tid → ⊥) → comm start (e ∷ past) h.tid ≡ false → part_mismatch_from (space_in (flat start (e ∷ past)) k) 0 h.part ≡ None)
           (λ h c o new off. ap (λ (w : List ℕ). part_mismatch_from w 0 h.part) still ∙ o new (sym c ∙ off)) held commits compares),
     )
 
@@ -349,8 +337,8 @@ goes_decided start past e k eff t verdict none is s =
       by_node (λ n. AgreesAt start (e ∷ past) n × ComparesAt start (e ∷ past) n) k (
         decide_node start past e k t verdict g.0 s.here g.1 on still (same k) (s.even.distinct k) (s.even.apart k) (s.even.agrees k),
         subst (λ (r : List Record). AllByRecursion (λ h. (IsOld start h.tid → ⊥) → comm start (e ∷ past) h.tid ≡ false → part_mismatch_from (space_in (flat start (e ∷ past)) k) 0 h.part ≡ None) (held_parts r)) (sym s.here)
-            (Rattle.mn_world.proofs.Votes.Preserved.All-without (λ h. (IsOld start h.tid → ⊥) → comm start (e ∷ past) h.tid ≡ false → part_mismatch_from (space_in (flat start (e ∷ past)) k) 0 h.part ≡ None) t held
-            (All-both (λ h. comm start (e ∷ past) h.tid ≡ comm start past h.tid) (λ h. (IsOld start h.tid → ⊥) → comm start past h.tid ≡ false → part_mismatch_from (space_in (flat start past) k) 0 h.part ≡ None) (λ h. (IsOld start h.tid → ⊥) → comm start (e ∷ past) h.tid ≡ false → part_mismatch_from (space_in (flat start (e ∷ past)) k) 0 h.part ≡ None)
+            (Rattle.mn_mini.proofs.Apart.All-without (λ h. (IsOld start h.tid → ⊥) → comm start (e ∷ past) h.tid ≡ false → part_mismatch_from (space_in (flat start (e ∷ past)) k) 0 h.part ≡ None) t held
+            (all_both (λ h. comm start (e ∷ past) h.tid ≡ comm start past h.tid) (λ h. (IsOld start h.tid → ⊥) → comm start past h.tid ≡ false → part_mismatch_from (space_in (flat start past) k) 0 h.part ≡ None) (λ h. (IsOld start h.tid → ⊥) → comm start (e ∷ past) h.tid ≡ false → part_mismatch_from (space_in (flat start (e ∷ past)) k) 0 h.part ≡ None)
             (λ h c o new off. ap (λ (w : List ℕ). part_mismatch_from w 0 h.part) still ∙ o new (sym c ∙ off)) held (same k) (s.even.compares k))),
       )
           (λ n other. away start past e k eff (Some (Decided t verdict)) s nothing n (same n) other),
@@ -359,16 +347,13 @@ goes_decided start past e k eff t verdict none is s =
 
 -- An execution
 
-same_mini : (a b : Mini) → Some a ≡ Some b → a ≡ b
-same_mini a b e = cc
-
 pub issued_is : (start : Start) (past : List Entry) (t : Tid) (mini : Mini) → issue_named t (issues_of past) ≡ mini_of past t → mini_of past t ≡ Some mini → issued_as t past ≡ Some (record { tid = t; mini = mini })
 issued_is start past t mini agree is = ap (λ (o : Option Mini). Rattle.std.specs.Option.option_map (λ (m : Mini). let i : Issued = record { tid = t; mini = m } in i) o) (agree ∙ is)
 
 -- an id with one participant is not held
 pub exec_unheld : (start : Start) (past : List Entry) (k : NodeNo) (t : Tid) (mini : Mini) (n : NodeNo) → (IsOld start t → ⊥) → mini_of past t ≡ Some mini → participants_of mini ≡ n ∷ [] → (hs : List HeldPart)
     → AllByRecursion (PartOf start past k) hs → AllByRecursion (λ h. tid_same h.tid t ≡ false) hs
-exec_unheld start past k t mini n new is alone hs parts = All-map (PartOf start past k) (λ h. tid_same h.tid t ≡ false) (λ h p. differs h p) hs parts
+exec_unheld start past k t mini n new is alone hs parts = weaker (PartOf start past k) (λ h. tid_same h.tid t ≡ false) (λ h p. differs h p) hs parts
   where
     differs : (h : HeldPart) → PartOf start past k h → tid_same h.tid t ≡ false
     differs h (inl (other, is', own, has, several)) = elim (tid_same h.tid t) as (λ b. tid_same h.tid t ≡ b → tid_same h.tid t ≡ false) [
@@ -425,7 +410,7 @@ votes_after : (start : Start) (past : List Entry) (e : Entry) (k : NodeNo) (t : 
     → (tid : Tid) (n : NodeNo) → has_voted (records_of start (e ∷ past) n) tid ≡ ((node_same n k && tid_same t tid) || has_voted (records_of start past n) tid)
 votes_after start past e k t ps part s tid =
     by_node (λ n. has_voted (records_of start (e ∷ past) n) tid ≡ ((node_same n k && tid_same t tid) || has_voted (records_of start past n) tid)) k
-    (ap (λ (r : List Record). has_voted r tid) s.here ∙ sym (ap (λ (b : Bool). (b && tid_same t tid) || has_voted (records_of start past k) tid) (node_same-refl k)))
+    (ap (λ (r : List Record). has_voted r tid) s.here ∙ sym (ap (λ (b : Bool). (b && tid_same t tid) || has_voted (records_of start past k) tid) (same_self k)))
     (λ n other. ap (λ (r : List Record). has_voted r tid) (s.elsewhere n other) ∙ sym (ap (λ (b : Bool). (b && tid_same t tid) || has_voted (records_of start past n) tid) other))
 
 -- of other ids the same are committed
@@ -460,7 +445,7 @@ comm_complete start past e k t ps part mini s is all =
 comm_before : (start : Start) (past : List Entry) (k : NodeNo) (t : Tid) (mini : Mini) → mini_of past t ≡ Some mini → Contains (participants_of mini) k → has_voted (records_of start past k) t ≡ false → comm start past t ≡ false
 comm_before start past k t mini is has unvoted = elim (comm start past t) as (λ b. comm start past t ≡ b → comm start past t ≡ false) [
   | true ↦ λ e.
-      let all : AllByRecursion (λ n. has_voted (records_of start past n) t ≡ true) (participants_of mini) = Rattle.mn_world.proofs.Bytes.Even.all_true (λ n. has_voted (records_of start past n) t) (participants_of mini) (sym (comm_is start past t mini is) ∙ e) in
+      let all : AllByRecursion (λ n. has_voted (records_of start past n) t ≡ true) (participants_of mini) = Rattle.mn_world.proofs.Votes.Start.all_true (λ n. has_voted (records_of start past n) t) (participants_of mini) (sym (comm_is start past t mini is) ∙ e) in
       absurd (clash _ (contained (λ n. has_voted (records_of start past n) t) (participants_of mini) k all has) unvoted)
   | false ↦ λ e. e
 ] refl
@@ -475,7 +460,7 @@ goes_voted start past e k t ps part mini is all own has unvoted clear tested s l
     let off : comm start (e ∷ past) t ≡ false = comm_complete start past e k t ps part mini s is all ∙ last in
     let before : comm start past t ≡ false = comm_before start past k t mini is has unvoted in
     let same : (n : NodeNo) → SameComm start past e n = λ n.
-    All-map (PartOf start past n) (λ h. comm start (e ∷ past) h.tid ≡ comm start past h.tid) (λ h p. stays off before n h p) (held_parts (records_of start past n)) (held_at start past n (records_of start past n) (s.kept.records n)) in (
+    weaker (PartOf start past n) (λ h. comm start (e ∷ past) h.tid ≡ comm start past h.tid) (λ h p. stays off before n h p) (held_parts (records_of start past n)) (held_at start past n (records_of start past n) (s.kept.records n)) in (
       by_node (λ n. AgreesAt start (e ∷ past) n × ComparesAt start (e ∷ past) n) k
           (vote_node start past e k t ps part s.here off (flat_stays start past e nothing k) (holds_flat start past k part clear (s.even.agrees k) tested) (same k) (s.even.agrees k) (s.even.compares k))
           (λ n other. away start past e k (Some (Ask.Prepare t ps part)) (Some (Voted t ps part)) s nothing n (same n) other),
@@ -565,17 +550,17 @@ goes_completed start past e k t ps part mini is all own has unvoted clear tested
     parts_at n = held_at start past n (records_of start past n) (s.kept.records n)
 
     others_at : (n : NodeNo) → AllByRecursion (λ h. tid_same h.tid t ≡ false → comm start (e ∷ past) h.tid ≡ comm start past h.tid) (held_parts (records_of start past n))
-    others_at n = All-map (PartOf start past n) (λ h. tid_same h.tid t ≡ false → comm start (e ∷ past) h.tid ≡ comm start past h.tid) (λ h p other. comm_other start past e k t ps part s n h p other) (held_parts (records_of start past n)) (parts_at n)
+    others_at n = weaker (PartOf start past n) (λ h. tid_same h.tid t ≡ false → comm start (e ∷ past) h.tid ≡ comm start past h.tid) (λ h p other. comm_other start past e k t ps part s n h p other) (held_parts (records_of start past n)) (parts_at n)
 
     same_if : (n : NodeNo) → AllByRecursion (λ h. tid_same h.tid t ≡ false) (held_parts (records_of start past n)) → SameComm start past e n
-    same_if n none = All-both (λ h. tid_same h.tid t ≡ false) (λ h. tid_same h.tid t ≡ false → comm start (e ∷ past) h.tid ≡ comm start past h.tid) (λ h. comm start (e ∷ past) h.tid ≡ comm start past h.tid) (λ h p q. q p) (held_parts (records_of start past n)) none (others_at n)
+    same_if n none = all_both (λ h. tid_same h.tid t ≡ false) (λ h. tid_same h.tid t ≡ false → comm start (e ∷ past) h.tid ≡ comm start past h.tid) (λ h. comm start (e ∷ past) h.tid ≡ comm start past h.tid) (λ h p q. q p) (held_parts (records_of start past n)) none (others_at n)
 
     -- a node that is named and is not the one that votes holds its part
     unnamed_there : comm start past t ≡ false → comm start (e ∷ past) t ≡ true → IsMade start mini → (n : NodeNo) → node_same n k ≡ false → held_part_of t (held_parts (records_of start past n)) ≡ None → list_any (λ i. node_same (item_node i) n) mini.items ≡ false
     unnamed_there off on made n other none = elim (list_any (λ i. node_same (item_node i) n) mini.items) as (λ b. list_any (λ i. node_same (item_node i) n) mini.items ≡ b → list_any (λ i. node_same (item_node i) n) mini.items ≡ false) [
       | true ↦ λ named.
           let issued' = issue_stays start past e t.client t mini s.kept s.keeps is in
-          let voted : AllByRecursion (λ m. has_voted (records_of start (e ∷ past) m) t ≡ true) (participants_of mini) = Rattle.mn_world.proofs.Bytes.Even.all_true (λ m. has_voted (records_of start (e ∷ past) m) t) (participants_of mini) (sym (comm_is start (e ∷ past) t mini issued') ∙ on) in
+          let voted : AllByRecursion (λ m. has_voted (records_of start (e ∷ past) m) t ≡ true) (participants_of mini) = Rattle.mn_world.proofs.Votes.Start.all_true (λ m. has_voted (records_of start (e ∷ past) m) t) (participants_of mini) (sym (comm_is start (e ∷ past) t mini issued') ∙ on) in
           let now : has_voted (records_of start (e ∷ past) n) t ≡ true = any_contains (participants_of mini) n (λ m. has_voted (records_of start (e ∷ past) m) t) voted (named_part start mini n made named) in
           let then' : has_voted (records_of start past n) t ≡ true = sym (ap (λ (r : List Record). has_voted r t) (s.elsewhere n other)) ∙ now in
           let g = voter_holds start past e k (Some (Ask.Prepare t ps part)) (Some (Voted t ps part)) t mini s is off on n then' in

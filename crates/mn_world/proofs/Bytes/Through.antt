@@ -13,7 +13,7 @@ use Rattle.mn_mini.specs.declared.request.Request.TheVariants as Ask
 use Rattle.mn_mini.specs.Mini.{Mini, has_write}
 use Rattle.mn_mini.specs.Flat.{Mismatched, mismatch_from, unless_mismatched}
 use Rattle.mn_mini.specs.Node.{HeldPart, without_tid, held_parts, has_voted, has_executed, with_added}
-use Rattle.mn_mini.proofs.Parts.{length-memory_after}
+use Rattle.mn_mini.proofs.Parts.{length-memory_after, same_true}
 use Rattle.mn_world.specs.declared.entry.Entry.{Entry}
 use Rattle.mn_world.specs.declared.entry.What.{What}
 use Rattle.mn_world.specs.declared.entry.What.TheVariants.{Begin, Issue, Called, Stopped, Restarted, Abandoned, Answered}
@@ -23,7 +23,6 @@ use Rattle.mn_world.specs.Clients.{AllowsIssue}
 use Rattle.mn_world.specs.Protocol.{Start, base_at, start_records, records_of, KeepsProtocol}
 use Rattle.mn_world.specs.Commits.{has_vote, effect_of, committed_by, memory_of_outcome, memory_after_commit}
 use Rattle.mn_world.specs.Laws.{StartsSound}
-use Rattle.mn_world.proofs.Reading.Same.{node_same-true}
 use Rattle.mn_world.proofs.Reading.Steps.{records_grow}
 use Rattle.mn_world.proofs.Votes.Held.{grown}
 use Rattle.mn_world.proofs.Reading.NewCalls.{records_here}
@@ -37,7 +36,7 @@ use Rattle.mn_world.proofs.Bytes.Step.{flat, IsMade, Even, Step, Goes, goes, unv
 -- No id is held twice
 
 absent_without : (t u : Tid) (hs : List HeldPart) → AllByRecursion (λ g. tid_same g.tid t ≡ false) hs → AllByRecursion (λ g. tid_same g.tid t ≡ false) (without_tid u hs)
-absent_without t u hs a = Rattle.mn_world.proofs.Votes.Preserved.All-without (λ g. tid_same g.tid t ≡ false) u hs a
+absent_without t u hs a = Rattle.mn_mini.proofs.Apart.All-without (λ g. tid_same g.tid t ≡ false) u hs a
 
 pub AreDistinct-without : (t : Tid) (hs : List HeldPart) → AreDistinct hs → AreDistinct (without_tid t hs)
 AreDistinct-without t [] d = tt
@@ -134,7 +133,7 @@ exec_here start past by k (Answered number answer) t part kept pending keeps dow
 
 at_some : (k : NodeNo) (at : Option NodeNo) (by : Option ClientNo) (what : What) → is_at k (record { node = at; client = by; what = what }) ≡ true → at ≡ Some k
 at_some k None by what e = absurd cc
-at_some k (Some n) by what e = ap (λ (x : NodeNo). Some x) (sym (node_same-true k n e))
+at_some k (Some n) by what e = ap (λ (x : NodeNo). Some x) (sym (same_true k n e))
 
 pub pending_unvoted : (start : Start) (past : List Entry) (e : Entry) → Kept start past → KeepsProtocol start past e → PendingUnvoted start past → PendingUnvoted start (e ∷ past)
 pending_unvoted start past e kept keeps pending k t ps part down is =
@@ -203,7 +202,7 @@ goes_here start past by (Some k) what w after keeps =
     let act = act_here start past by k what w.kept w.pending w.once keeps in (
       goes start past e k (eff_at past k what) (added_at start past k what) act (step_at start past by k what w after keeps),
       λ n. elim (node_same n k) as (λ b. node_same n k ≡ b → AreDistinct (held_parts (records_of start (e ∷ past) n))) [
-        | true ↦ λ same. subst (λ (m : NodeNo). AreDistinct (held_parts (records_of start (e ∷ past) m))) (sym (node_same-true n k same))
+        | true ↦ λ same. subst (λ (m : NodeNo). AreDistinct (held_parts (records_of start (e ∷ past) m))) (sym (same_true n k same))
             (subst (λ (r : List Record). AreDistinct (held_parts r)) (sym (records_here start past k by what)) (distinct_after start past k (eff_at past k what) (added_at start past k what) act (w.even.distinct k)))
         | false ↦ λ other. subst (λ (r : List Record). AreDistinct (held_parts r)) (sym (elsewhere start past by k what n other)) (w.even.distinct n)
       ] refl,

@@ -11,6 +11,8 @@ use Rattle.mn_base.specs.declared.ids.NodeNo.{NodeNo}
 use Rattle.mn_base.specs.declared.ids.ClientNo.{ClientNo}
 use Rattle.mn_base.specs.declared.ids.Tid.{Tid}
 use Rattle.mn_base.specs.declared.answer.Answer.{Answer}
+use Rattle.mn_base.proofs.Lists.{weaker}
+use Rattle.mn_base.proofs.Booleans.{clash, falsely, left_true, not_true, or_cases, or_left, or_right, right_true}
 use Rattle.mn_mini.specs.declared.part.PartItem.{PartItem}
 use Rattle.mn_mini.specs.declared.record.Record.{Record}
 use Rattle.mn_mini.specs.declared.request.Request.{Request}
@@ -18,64 +20,27 @@ use Rattle.mn_mini.specs.declared.request.Request.TheVariants as Ask
 use Rattle.mn_mini.specs.declared.reply.NodeReply.{NodeReply}
 use Rattle.mn_mini.specs.Mini.{Mini, participants_of}
 use Rattle.mn_mini.specs.Node.{has_voted, is_vote_of, with_added}
+use Rattle.mn_mini.proofs.Parts.{same_self, same_true}
 use Rattle.mn_world.specs.declared.entry.Entry.{Entry}
 use Rattle.mn_world.specs.declared.entry.What.{What}
 use Rattle.mn_world.specs.declared.entry.What.TheVariants.{Begin, Issue, Called, Stopped, Restarted, Abandoned, Answered}
-use Rattle.mn_world.specs.Calls.{Call, Issued, is_by, is_try, is_exec, is_done, is_stopped, is_abandonment, node_entries, client_entries, call_in, calls_of, was_told, was_told_somewhere, was_sent, was_done, was_stopped, was_abandoned, issue_in, issue_named, issues_of, since_begin, since_begin_after}
+use Rattle.mn_world.specs.Calls.{Call, Issued, is_by, is_try, is_exec, is_done, is_stopped, is_abandonment, node_entries, client_entries, call_in, calls_of, was_told, was_told_somewhere, was_sent, was_done, was_stopped, was_abandoned, issue_named, issues_of, since_begin, since_begin_after}
 use Rattle.mn_world.specs.Clients.{Sends, AllowsIssue, AllowsAbandoned}
 use Rattle.mn_world.specs.Protocol.{Start, records_of, KeepsProtocol, FollowsProtocol}
 use Rattle.mn_world.specs.Commits.{has_vote, effect_of, issued_as, committed_with, committed_by}
 use Rattle.mn_world.specs.Laws.{StartsSound, IsNeverCommitted, AbandonedIsNever, RefusedIsNever, GivenUpIsNever}
-use Rattle.mn_world.proofs.Reading.Same.{tid_same-true, tid_same-refl, client_same-refl, node_same-true, node_same-refl}
+use Rattle.mn_world.proofs.Reading.Same.{tid_same-true, tid_same-refl, client_same-refl}
 use Rattle.mn_world.proofs.Reading.NewCalls.{IsCallOf, records_here, new_call, call_stays, by_of}
 use Rattle.mn_world.proofs.Reading.Unchanged.{as_own, current_issue, record_stays, issue_stays, IssuedTo_stays, ExecAt_stays, WasExecuted_stays, abandoned_stays, try_stays_untold}
 use Rattle.mn_world.proofs.Votes.Lost.{told_here}
 use Rattle.mn_world.proofs.Commits.Told.{votes_agree, issues_agree}
 use Rattle.mn_world.proofs.Votes.Backing.{mini_of, ExecAt, WasTried, WasExecuted, IssuedVoted, Kept}
 use Rattle.mn_world.proofs.Votes.Start.{voted_old, all_true}
-use Rattle.mn_world.proofs.Votes.Preserved.{kept_run, new_not_old, voted_or_lost, executed_was_tried}
+use Rattle.mn_world.proofs.Votes.Preserved.{kept_run, new_not_old, voted_or_lost, executed_was_tried, same_mini}
 use Rattle.mn_world.proofs.Votes.Acts.{Act, idle, votes, executes, decides, forces, act_here}
 use Rattle.mn_world.proofs.Bytes.Step.{idle_commits, issued_is}
 use Rattle.mn_world.proofs.Bytes.Through.{eff_at, added_at}
 use Rattle.mn_world.proofs.Votes.Records.{fits_run, voted_part, alone_or_several}
-
-clash : (b : Bool) → b ≡ true → b ≡ false → ⊥
-clash b p q = absurd cc
-
-falsely : (b : Bool) → (b ≡ true → ⊥) → b ≡ false
-falsely true f = absurd (f refl)
-falsely false f = refl
-
-or_cases : (a b : Bool) → (a || b) ≡ true → (a ≡ true) ⊎ (b ≡ true)
-or_cases true b e = inl refl
-or_cases false b e = inr e
-
-or_right : (a b : Bool) → b ≡ true → (a || b) ≡ true
-or_right true b e = refl
-or_right false b e = e
-
-or_left : (a b : Bool) → a ≡ true → (a || b) ≡ true
-or_left true b e = refl
-or_left false b e = absurd cc
-
-and_left : (a b : Bool) → (a && b) ≡ true → a ≡ true
-and_left true b e = refl
-and_left false b e = absurd cc
-
-and_right : (a b : Bool) → (a && b) ≡ true → b ≡ true
-and_right true b e = e
-and_right false b e = absurd cc
-
-not_true : (b : Bool) → not b ≡ true → b ≡ false
-not_true true e = absurd cc
-not_true false e = refl
-
-same_mini : (a b : Mini) → Some a ≡ Some b → a ≡ b
-same_mini a b e = cc
-
-All-map : {A : Type 0} (P Q : A → Type 0) → ((x : A) → P x → Q x) → (xs : List A) → AllByRecursion P xs → AllByRecursion Q xs
-All-map P Q f [] a = tt
-All-map P Q f (x ∷ xs) a = (f x a.0, All-map P Q f xs a.1)
 
 -- What a commit rests on
 
@@ -85,7 +50,7 @@ IsBacked start past tid = IssuedVoted start past tid ⊎ ((k : NodeNo) × (part 
 
 backed_stays : (start : Start) (past : List Entry) (e : Entry) (tid : Tid) → Kept start past → KeepsProtocol start past e → IsBacked start past tid → IsBacked start (e ∷ past) tid
 backed_stays start past e tid kept keeps (inl (ps, to, all)) =
-    inl (ps, IssuedTo_stays start past e tid ps kept keeps to, All-map (λ k. has_voted (records_of start past k) tid ≡ true) (λ k. has_voted (records_of start (e ∷ past) k) tid ≡ true) (λ k h. record_stays start past e k (is_vote_of tid) h) ps all)
+    inl (ps, IssuedTo_stays start past e tid ps kept keeps to, weaker (λ k. has_voted (records_of start past k) tid ≡ true) (λ k. has_voted (records_of start (e ∷ past) k) tid ≡ true) (λ k h. record_stays start past e k (is_vote_of tid) h) ps all)
 backed_stays start past e tid kept keeps (inr (k, part, exec, was)) = inr (k, part, ExecAt_stays start past e tid k part kept keeps exec, WasExecuted_stays past e tid k was)
 
 -- an Exec that takes effect was sent
@@ -129,7 +94,7 @@ backed_of start past e k eff added sound kept run keeps here told (votes t ps pa
   where
     now : (m : NodeNo) → (node_same m k || has_vote t m past) ≡ true → has_voted (records_of start (e ∷ past) m) t ≡ true
     now m h = elim (or_cases (node_same m k) (has_vote t m past) h) as (λ _. has_voted (records_of start (e ∷ past) m) t ≡ true) [
-      | inl same ↦ subst (λ (j : NodeNo). has_voted (records_of start (e ∷ past) j) t ≡ true) (sym (node_same-true m k same)) (subst (λ (r : List Record). has_voted r t ≡ true) (sym here) (or_left _ _ (tid_same-refl t)))
+      | inl same ↦ subst (λ (j : NodeNo). has_voted (records_of start (e ∷ past) j) t ≡ true) (sym (same_true m k same)) (subst (λ (r : List Record). has_voted r t ≡ true) (sym here) (or_left _ _ (tid_same-refl t)))
       | inr voted ↦ record_stays start past e m (is_vote_of t) (sym (votes_agree start past m t (falsely _ (λ v. new_not_old start past t.client t mini kept has (voted_old start m t v))) run) ∙ voted)
     ]
 
@@ -137,7 +102,7 @@ backed_of start past e k eff added sound kept run keeps here told (votes t ps pa
     by false last h = absurd (none_some i h)
     by true last h =
         let eq : record { tid = t; mini = mini } ≡ i = same_issued _ i (sym (issued_is start past t mini (issues_agree start past t run) has) ∙ h) in
-        let voted = All-map (λ m. (node_same m k || has_vote t m past) ≡ true) (λ m. has_voted (records_of start (e ∷ past) m) t ≡ true) now ps (all_true (λ m. node_same m k || has_vote t m past) ps last) in
+        let voted = weaker (λ m. (node_same m k || has_vote t m past) ≡ true) (λ m. has_voted (records_of start (e ∷ past) m) t ≡ true) now ps (all_true (λ m. node_same m k || has_vote t m past) ps last) in
         subst (λ (j : Issued). IsBacked start (e ∷ past) j.tid) eq (inl (ps, IssuedTo_stays start past e t ps kept keeps (mini, has, all), voted))
 
 commit_here : (start : Start) (past : List Entry) (by : Option ClientNo) (at : Option NodeNo) (what : What) → StartsSound start → FollowsProtocol start past → KeepsProtocol start past (record { node = at; client = by; what = what })
@@ -181,8 +146,8 @@ untold_here start past c t kept keeps (mini, is, some) =
     let e : Entry = record { node = None; client = Some c; what = Abandoned t } in
     let any = Any-from_list_any (λ n. not (was_done t n (client_entries c past)) && not (was_stopped t n (client_entries c past))) (participants_of mini) some in
     let own : t.client ≡ c = (kept.issued c t mini is).0 in
-    let undone : was_done t any.1 (client_entries t.client past) ≡ false = subst (λ (d : ClientNo). was_done t any.1 (client_entries d past) ≡ false) (sym own) (not_true _ (and_left _ _ any.4)) in
-    let unstopped : was_stopped t any.1 (client_entries t.client past) ≡ false = subst (λ (d : ClientNo). was_stopped t any.1 (client_entries d past) ≡ false) (sym own) (not_true _ (and_right _ _ any.4)) in
+    let undone : was_done t any.1 (client_entries t.client past) ≡ false = subst (λ (d : ClientNo). was_done t any.1 (client_entries d past) ≡ false) (sym own) (not_true _ (left_true _ _ any.4)) in
+    let unstopped : was_stopped t any.1 (client_entries t.client past) ≡ false = subst (λ (d : ClientNo). was_stopped t any.1 (client_entries d past) ≡ false) (sym own) (not_true _ (right_true _ _ any.4)) in
     let mine : mini_of past t ≡ Some mini = subst (λ (d : ClientNo). issue_named t (issues_of (client_entries d past)) ≡ Some mini) (sym own) is in (
       mini,
       issue_stays start past e t.client t mini kept keeps mine,
@@ -291,7 +256,7 @@ unsent_none c past tid k mini is alone (d ∷ ds) all unsent =
         let same : mini ≡ to.0 = same_mini mini to.0 (sym is ∙ to.1) in
         let lists : k ∷ [] ≡ d.node ∷ [] = sym alone ∙ (ap participants_of same ∙ to.2) in
         let one : k ≡ d.node = head k d.node lists in
-        let near : node_same d.node k ≡ true = subst (λ (m : NodeNo). node_same d.node m ≡ true) (sym one) (node_same-refl d.node) in
+        let near : node_same d.node k ≡ true = subst (λ (m : NodeNo). node_same d.node m ≡ true) (sym one) (same_self d.node) in
         let try : is_try tid d.request ≡ true = or_right (Rattle.mn_world.specs.Calls.is_prepare tid d.request) _ x in
         clash _ (all_three (node_same d.node k) (is_try tid d.request) near try) none
       where
@@ -310,22 +275,22 @@ once_call : (start : Start) (past : List Entry) (e : Entry) (c : ClientNo) (tid 
 once_call start past e c tid call kept keeps sends o = (
   (
     (λ x. let s = exec_sent start past c call.node tid call.request x sends in (s.0, issue_stays start past e c tid s.0 kept keeps (current_issue (client_entries c past) tid s.0 s.1), s.2)),
-    All-map (IsToOne c past tid) (IsToOne c (e ∷ past) tid) (λ d h. to_one_stays start past e c tid d kept keeps h) (calls_of (client_entries c past)) o.0,
+    weaker (IsToOne c past tid) (IsToOne c (e ∷ past) tid) (λ d h. to_one_stays start past e c tid d kept keeps h) (calls_of (client_entries c past)) o.0,
   ),
   ((λ x. let s = exec_sent start past c call.node tid call.request x sends in unsent_none c past tid call.node s.0 (current_issue (client_entries c past) tid s.0 s.1) s.2 (calls_of (client_entries c past)) o.0 s.3), o.1),
 )
 
 once_here : (start : Start) (past : List Entry) (e : Entry) (c : ClientNo) (at : Option NodeNo) (what : What) (tid : Tid) → Kept start past → KeepsProtocol start past e → KeepsProtocol start past (record { node = at; client = Some c; what = what }) → ExecsOnce c past tid
     → AllByRecursion (IsToOne c (e ∷ past) tid) (call_in at what ++ calls_of (client_entries c past)) × IsOnce tid (call_in at what ++ calls_of (client_entries c past))
-once_here start past e c None what tid kept keeps own o = (All-map (IsToOne c past tid) (IsToOne c (e ∷ past) tid) (λ d h. to_one_stays start past e c tid d kept keeps h) (calls_of (client_entries c past)) o.0, o.1)
+once_here start past e c None what tid kept keeps own o = (weaker (IsToOne c past tid) (IsToOne c (e ∷ past) tid) (λ d h. to_one_stays start past e c tid d kept keeps h) (calls_of (client_entries c past)) o.0, o.1)
 once_here start past e c (Some k) (Called request reply) tid kept keeps own o = once_call start past e c tid (record { node = k; request = request; reply = reply }) kept keeps own.by_client o
 once_here start past e c (Some k) (Stopped (Some request) asked) tid kept keeps own o = once_call start past e c tid (record { node = k; request = request; reply = Rattle.mn_mini.specs.declared.reply.NodeReply.TheVariants.Stopped }) kept keeps own.by_client o
-once_here start past e c (Some k) (Stopped None asked) tid kept keeps own o = (All-map (IsToOne c past tid) (IsToOne c (e ∷ past) tid) (λ d h. to_one_stays start past e c tid d kept keeps h) (calls_of (client_entries c past)) o.0, o.1)
-once_here start past e c (Some k) (Restarted restored) tid kept keeps own o = (All-map (IsToOne c past tid) (IsToOne c (e ∷ past) tid) (λ d h. to_one_stays start past e c tid d kept keeps h) (calls_of (client_entries c past)) o.0, o.1)
-once_here start past e c (Some k) (Begin number op) tid kept keeps own o = (All-map (IsToOne c past tid) (IsToOne c (e ∷ past) tid) (λ d h. to_one_stays start past e c tid d kept keeps h) (calls_of (client_entries c past)) o.0, o.1)
-once_here start past e c (Some k) (Issue u m) tid kept keeps own o = (All-map (IsToOne c past tid) (IsToOne c (e ∷ past) tid) (λ d h. to_one_stays start past e c tid d kept keeps h) (calls_of (client_entries c past)) o.0, o.1)
-once_here start past e c (Some k) (Abandoned u) tid kept keeps own o = (All-map (IsToOne c past tid) (IsToOne c (e ∷ past) tid) (λ d h. to_one_stays start past e c tid d kept keeps h) (calls_of (client_entries c past)) o.0, o.1)
-once_here start past e c (Some k) (Answered number answer) tid kept keeps own o = (All-map (IsToOne c past tid) (IsToOne c (e ∷ past) tid) (λ d h. to_one_stays start past e c tid d kept keeps h) (calls_of (client_entries c past)) o.0, o.1)
+once_here start past e c (Some k) (Stopped None asked) tid kept keeps own o = (weaker (IsToOne c past tid) (IsToOne c (e ∷ past) tid) (λ d h. to_one_stays start past e c tid d kept keeps h) (calls_of (client_entries c past)) o.0, o.1)
+once_here start past e c (Some k) (Restarted restored) tid kept keeps own o = (weaker (IsToOne c past tid) (IsToOne c (e ∷ past) tid) (λ d h. to_one_stays start past e c tid d kept keeps h) (calls_of (client_entries c past)) o.0, o.1)
+once_here start past e c (Some k) (Begin number op) tid kept keeps own o = (weaker (IsToOne c past tid) (IsToOne c (e ∷ past) tid) (λ d h. to_one_stays start past e c tid d kept keeps h) (calls_of (client_entries c past)) o.0, o.1)
+once_here start past e c (Some k) (Issue u m) tid kept keeps own o = (weaker (IsToOne c past tid) (IsToOne c (e ∷ past) tid) (λ d h. to_one_stays start past e c tid d kept keeps h) (calls_of (client_entries c past)) o.0, o.1)
+once_here start past e c (Some k) (Abandoned u) tid kept keeps own o = (weaker (IsToOne c past tid) (IsToOne c (e ∷ past) tid) (λ d h. to_one_stays start past e c tid d kept keeps h) (calls_of (client_entries c past)) o.0, o.1)
+once_here start past e c (Some k) (Answered number answer) tid kept keeps own o = (weaker (IsToOne c past tid) (IsToOne c (e ∷ past) tid) (λ d h. to_one_stays start past e c tid d kept keeps h) (calls_of (client_entries c past)) o.0, o.1)
 
 pub once_run : (start : Start) (past : List Entry) (c : ClientNo) (tid : Tid) → StartsSound start → FollowsProtocol start past → ExecsOnce c past tid
 once_run start [] c tid sound run = (tt, tt)
@@ -334,14 +299,14 @@ once_run start (e ∷ past) c tid sound run =
     let o = once_run start past c tid sound run.0 in
     elim (is_by c e) as (λ b. is_by c e ≡ b → AllByRecursion (IsToOne c (e ∷ past) tid) (calls_of (if b then e ∷ client_entries c past else client_entries c past)) × IsOnce tid (calls_of (if b then e ∷ client_entries c past else client_entries c past))) [
       | true ↦ λ by. once_here start past e c e.node e.what tid kept run.1 (as_own start past c e by run.1) o
-      | false ↦ λ _. (All-map (IsToOne c past tid) (IsToOne c (e ∷ past) tid) (λ d h. to_one_stays start past e c tid d kept run.1 h) (calls_of (client_entries c past)) o.0, o.1)
+      | false ↦ λ _. (weaker (IsToOne c past tid) (IsToOne c (e ∷ past) tid) (λ d h. to_one_stays start past e c tid d kept run.1 h) (calls_of (client_entries c past)) o.0, o.1)
     ] refl
 
 -- one call is not told of in two ways
 pub asked_some : (tid : Tid) (say : NodeReply → Bool) (calls : List Call) → list_any (λ c. is_exec tid c.request && say c.reply) calls ≡ true → list_any (λ c. is_exec tid c.request) calls ≡ true
 asked_some tid say [] e = absurd cc
 asked_some tid say (c ∷ cs) e = elim (or_cases (is_exec tid c.request && say c.reply) (list_any (λ c. is_exec tid c.request && say c.reply) cs) e) as (λ _. (is_exec tid c.request || list_any (λ c. is_exec tid c.request) cs) ≡ true) [
-  | inl here ↦ or_left (is_exec tid c.request) (list_any (λ c. is_exec tid c.request) cs) (and_left (is_exec tid c.request) (say c.reply) here)
+  | inl here ↦ or_left (is_exec tid c.request) (list_any (λ c. is_exec tid c.request) cs) (left_true (is_exec tid c.request) (say c.reply) here)
   | inr there ↦ or_right (is_exec tid c.request) (list_any (λ c. is_exec tid c.request) cs) (asked_some tid say cs there)
 ]
 
@@ -351,16 +316,16 @@ told_twice tid one other [] apart o p q = absurd cc
 told_twice tid one other (c ∷ cs) apart o p q = by (told_twice tid one other cs apart o.1) (or_cases _ _ p) (or_cases _ _ q)
   where
     by : (list_any (λ d. is_exec tid d.request && one d.reply) cs ≡ true → list_any (λ d. is_exec tid d.request && other d.reply) cs ≡ true → ⊥) → ((is_exec tid c.request && one c.reply) ≡ true) ⊎ (list_any (λ d. is_exec tid d.request && one d.reply) cs ≡ true) → ((is_exec tid c.request && other c.reply) ≡ true) ⊎ (list_any (λ d. is_exec tid d.request && other d.reply) cs ≡ true) → ⊥
-    by older (inl a) (inl b) = apart c.reply (and_right (is_exec tid c.request) (one c.reply) a) (and_right (is_exec tid c.request) (other c.reply) b)
-    by older (inl a) (inr b) = clash _ (asked_some tid other cs b) (o.0 (and_left (is_exec tid c.request) (one c.reply) a))
-    by older (inr a) (inl b) = clash _ (asked_some tid one cs a) (o.0 (and_left (is_exec tid c.request) (other c.reply) b))
+    by older (inl a) (inl b) = apart c.reply (right_true (is_exec tid c.request) (one c.reply) a) (right_true (is_exec tid c.request) (other c.reply) b)
+    by older (inl a) (inr b) = clash _ (asked_some tid other cs b) (o.0 (left_true (is_exec tid c.request) (one c.reply) a))
+    by older (inr a) (inl b) = clash _ (asked_some tid one cs a) (o.0 (left_true (is_exec tid c.request) (other c.reply) b))
     by older (inr a) (inr b) = older a b
 
 -- told at a node is told
 told_somewhere : (ask : Request → Bool) (say : NodeReply → Bool) (k : NodeNo) (calls : List Call) → list_any (λ c. node_same c.node k && (ask c.request && say c.reply)) calls ≡ true → list_any (λ c. ask c.request && say c.reply) calls ≡ true
 told_somewhere ask say k [] e = absurd cc
 told_somewhere ask say k (c ∷ cs) e = elim (or_cases (node_same c.node k && (ask c.request && say c.reply)) (list_any (λ c. node_same c.node k && (ask c.request && say c.reply)) cs) e) as (λ _. ((ask c.request && say c.reply) || list_any (λ c. ask c.request && say c.reply) cs) ≡ true) [
-  | inl here ↦ or_left _ _ (and_right (node_same c.node k) (ask c.request && say c.reply) here)
+  | inl here ↦ or_left _ _ (right_true (node_same c.node k) (ask c.request && say c.reply) here)
   | inr there ↦ or_right _ _ (told_somewhere ask say k cs there)
 ]
 
@@ -526,7 +491,7 @@ IsClosed c past tid =
     (k : NodeNo) × (mini : Mini) × (issue_named tid (issues_of (client_entries c past)) ≡ Some mini) × (participants_of mini ≡ k ∷ [])
     × (issue_named tid (issues_of (since_begin (client_entries c past))) ≡ None) × (was_told_somewhere (is_exec tid) is_result (client_entries c past) ≡ false)
 
-none_is_some : (m : Mini) → None ≡ Some m → ⊥
+pub none_is_some : (m : Mini) → None ≡ Some m → ⊥
 none_is_some m e = absurd cc
 
 pub closed_since : (start : Start) (past : List Entry) (c : ClientNo) (at : Option NodeNo) (what : What) (tid : Tid) (mini : Mini) → Kept start past → KeepsProtocol start past (record { node = at; client = Some c; what = what })
@@ -562,10 +527,10 @@ closed_stays start past e c tid kept keeps (k, mini, is, alone, none, untold) = 
     new : (list_any (is_exec_result tid) (calls_of (client_entries c past)) ≡ true) ⊎ ((call : Call) × IsCallOf start past c e call × (is_exec_result tid call ≡ true)) → ⊥
     new (inl old) = clash _ old untold
     new (inr (call, of, passes)) =
-        let s = exec_sent start past c call.node tid call.request (and_left (is_exec tid call.request) (is_result call.reply) passes) of.sends in
+        let s = exec_sent start past c call.node tid call.request (left_true (is_exec tid call.request) (is_result call.reply) passes) of.sends in
         none_is_some s.0 (sym none ∙ s.1)
 
-follows_past : (start : Start) (past later : List Entry) → FollowsProtocol start (later ++ past) → FollowsProtocol start past
+pub follows_past : (start : Start) (past later : List Entry) → FollowsProtocol start (later ++ past) → FollowsProtocol start past
 follows_past start past [] run = run
 follows_past start past (e ∷ later) run = follows_past start past later run.0
 
@@ -614,8 +579,8 @@ given_up_is_never start past later e c number answer i sound run by what is gone
         ⊎ ((nat_eq (length (participants_of i.mini)) 1 && not (was_told_somewhere (is_exec i.tid) is_result (since_begin (client_entries c past)))) ≡ true) → IsNeverCommitted i.tid (later ++ e ∷ past)
     cases (inl abandoned) = abandoned_is_never start (e ∷ past) later c i.tid sound run (abandoned_stays past e c i.tid (since_abandoned (client_entries c past) i.tid abandoned))
     cases (inr h) =
-        let few = and_left (nat_eq (length (participants_of i.mini)) 1) (not (was_told_somewhere (is_exec i.tid) is_result (since_begin (client_entries c past)))) h in
-        let untold = not_true _ (and_right (nat_eq (length (participants_of i.mini)) 1) (not (was_told_somewhere (is_exec i.tid) is_result (since_begin (client_entries c past)))) h) in
+        let few = left_true (nat_eq (length (participants_of i.mini)) 1) (not (was_told_somewhere (is_exec i.tid) is_result (since_begin (client_entries c past)))) h in
+        let untold = not_true _ (right_true (nat_eq (length (participants_of i.mini)) 1) (not (was_told_somewhere (is_exec i.tid) is_result (since_begin (client_entries c past)))) h) in
         let closed : IsClosed c (e ∷ past) i.tid =
         subst (λ (o : Option ClientNo). KeepsProtocol start past (record { node = e.node; client = o; what = e.what }) → IsClosed c (record { node = e.node; client = o; what = e.what } ∷ past) i.tid) (sym by)
         (subst (λ (w : What). KeepsProtocol start past (record { node = e.node; client = Some c; what = w }) → IsClosed c (record { node = e.node; client = Some c; what = w } ∷ past) i.tid) (sym what)

@@ -6,39 +6,34 @@ use Rattle.mn_base.specs.Ids.{node_same}
 use Rattle.mn_base.specs.declared.ids.NodeNo.{NodeNo}
 use Rattle.mn_base.specs.declared.ids.ClientNo.{ClientNo}
 use Rattle.mn_base.specs.declared.ids.Tid.{Tid}
+use Rattle.mn_base.proofs.Booleans.{clash}
 use Rattle.mn_mini.specs.declared.part.PartItem.{PartItem}
 use Rattle.mn_mini.specs.declared.record.Record.{Record}
 use Rattle.mn_mini.specs.declared.request.Request.{Request}
 use Rattle.mn_mini.specs.declared.request.Request.TheVariants as Ask
 use Rattle.mn_mini.specs.declared.reply.NodeReply.{NodeReply}
 use Rattle.mn_mini.specs.declared.reply.NodeReply.TheVariants as Say
-use Rattle.mn_mini.specs.Mini.{Mini, participants_of}
+use Rattle.mn_mini.specs.Mini.{participants_of}
 use Rattle.mn_mini.specs.Node.{has_voted, answer}
+use Rattle.mn_mini.proofs.Parts.{same_self, same_true}
 use Rattle.mn_world.specs.declared.entry.Entry.{Entry}
 use Rattle.mn_world.specs.declared.entry.What.{What}
 use Rattle.mn_world.specs.declared.entry.What.TheVariants.{Begin, Issue, Called, Stopped, Restarted, Abandoned, Answered}
-use Rattle.mn_world.specs.Calls.{Issued, is_at, is_try, is_exec, is_done, is_stopped, node_entries, client_entries, calls_of, was_told, was_sent}
+use Rattle.mn_world.specs.Calls.{Issued, is_at, is_try, is_done, is_stopped, node_entries, client_entries, calls_of, was_sent}
 use Rattle.mn_world.specs.Nodes.{is_down, is_down_after, stopped_request, stopped_request_after}
 use Rattle.mn_world.specs.Clients.{Sends}
 use Rattle.mn_world.specs.Protocol.{Start, base_at, records_of, KeepsProtocol, FollowsProtocol}
 use Rattle.mn_world.specs.Commits.{has_vote, effect_of, issued_as, committed_with, committed_by}
 use Rattle.mn_world.specs.Laws.{StartsSound, IsNeverCommitted, CommitsOnce}
-use Rattle.mn_world.proofs.Reading.Same.{node_same-true, node_same-refl}
 use Rattle.mn_world.proofs.Commits.Told.{issues_agree}
 use Rattle.mn_world.proofs.Reading.Unchanged.{current_issue}
 use Rattle.mn_world.proofs.Votes.Backing.{mini_of, ExecAt, PartAt, WasTried, WasExecuted, Kept}
-use Rattle.mn_world.proofs.Votes.Preserved.{kept_run, executed_was_tried}
+use Rattle.mn_world.proofs.Votes.Preserved.{kept_run, executed_was_tried, same_mini}
 use Rattle.mn_world.proofs.Votes.Acts.{Act, idle, votes, executes, decides, forces, sent_unvoted, act_here, told_sent}
 use Rattle.mn_world.proofs.Bytes.Step.{idle_commits, issued_is}
 use Rattle.mn_world.proofs.Bytes.Through.{eff_at, added_at}
 use Rattle.mn_world.proofs.Votes.Records.{fits_run, alone_or_several}
 use Rattle.mn_world.proofs.Commits.Never.{IsBacked, never_from, alone_unvoted, none_some, same_issued}
-
-clash : (b : Bool) → b ≡ true → b ≡ false → ⊥
-clash b p q = absurd cc
-
-same_mini : (a b : Mini) → Some a ≡ Some b → a ≡ b
-same_mini a b e = cc
 
 -- an Exec that may be sent is of an id that nothing backs
 pub sent_unbacked : (start : Start) (past : List Entry) (c : ClientNo) (k : NodeNo) (t : Tid) (part : List PartItem) → Kept start past → Sends (client_entries c past) (Some k) (Ask.Exec t part) → IsBacked start past t → ⊥
@@ -145,10 +140,10 @@ before_here start past by k (Answered number answer) t part sound run pending ke
 
 pub at_some : (k : NodeNo) (at : Option NodeNo) (by : Option ClientNo) (what : What) → is_at k (record { node = at; client = by; what = what }) ≡ true → at ≡ Some k
 at_some k None by what e = absurd cc
-at_some k (Some n) by what e = ap (λ (x : NodeNo). Some x) (sym (node_same-true k n e))
+at_some k (Some n) by what e = ap (λ (x : NodeNo). Some x) (sym (same_true k n e))
 
 pub not_at : (k : NodeNo) (at : Option NodeNo) (by : Option ClientNo) (what : What) → is_at k (record { node = at; client = by; what = what }) ≡ false → at ≡ Some k → ⊥
-not_at k at by what e is = clash _ (subst (λ (o : Option NodeNo). is_at k (record { node = o; client = by; what = what }) ≡ true) (sym is) (node_same-refl k)) e
+not_at k at by what e is = clash _ (subst (λ (o : Option NodeNo). is_at k (record { node = o; client = by; what = what }) ≡ true) (sym is) (same_self k)) e
 
 pub pending_never : (start : Start) (past : List Entry) → StartsSound start → FollowsProtocol start past → IsPendingNever past
 pending_never start [] sound run k t part down is = tt

@@ -6,6 +6,7 @@ use Rattle.mn_base.specs.Ids.{client_same, tid_same}
 use Rattle.mn_base.specs.declared.ids.NodeNo.{NodeNo}
 use Rattle.mn_base.specs.declared.ids.ClientNo.{ClientNo}
 use Rattle.mn_base.specs.declared.ids.Tid.{Tid}
+use Rattle.mn_base.proofs.Booleans.{clash}
 use Rattle.mn_mini.specs.declared.record.Record.{Record}
 use Rattle.mn_mini.specs.declared.record.Record.TheVariants.{Voted, Executed, Decided, Forced}
 use Rattle.mn_mini.specs.declared.request.Request.{Request}
@@ -15,20 +16,17 @@ use Rattle.mn_mini.specs.declared.reply.NodeReply.TheVariants as Say
 use Rattle.mn_mini.specs.Mini.{Mini, has_write}
 use Rattle.mn_mini.specs.Flat.{Mismatched, part_mismatch_from}
 use Rattle.mn_mini.specs.Node.{Clash, held_parts, is_held, clash_of, has_voted, has_forced, only_reply, after_locks, after_compares, tested, space_of, answer, with_added}
+use Rattle.mn_mini.proofs.Parts.{same_true}
 use Rattle.mn_world.specs.declared.entry.Entry.{Entry}
 use Rattle.mn_world.specs.declared.entry.What.{What}
 use Rattle.mn_world.specs.declared.entry.What.TheVariants.{Begin, Issue, Called, Stopped, Restarted, Abandoned, Answered}
 use Rattle.mn_world.specs.Calls.{is_at, is_by, is_prepare, is_done, node_entries, client_entries, issue_in, issue_named, issues_of}
-use Rattle.mn_world.specs.Nodes.{stopped_request_after, stopped_request, is_down, added_by, entry_adds, node_records}
+use Rattle.mn_world.specs.Nodes.{stopped_request, is_down, added_by, entry_adds, node_records}
 use Rattle.mn_world.specs.Clients.{AllowsIssue}
 use Rattle.mn_world.specs.Protocol.{Start, base_at, start_records, records_of, KeepsProtocol}
-use Rattle.mn_world.proofs.Reading.Same.{tid_same-true, client_same-true, node_same-true, node_same-refl, client_same-refl}
+use Rattle.mn_world.proofs.Reading.Same.{tid_same-true, client_same-refl}
 use Rattle.mn_world.proofs.Votes.Backing.{mini_of}
-use Rattle.mn_world.proofs.Reading.Same.{tid_same-refl}
 use Rattle.mn_world.specs.Protocol.{FollowsProtocol}
-
-clash : (b : Bool) → b ≡ true → b ≡ false → ⊥
-clash b p q = absurd cc
 
 -- a request that takes effect has voted, where it is a Prepare; and only that
 vote_effect : (base : List ℕ) (old : List Record) (request : Request) (tid : Tid)
@@ -133,7 +131,7 @@ vote_here start past by k (Answered number answer) tid keeps = refl
 
 at_some : (k : NodeNo) (at : Option NodeNo) (by : Option ClientNo) (what : What) → is_at k (record { node = at; client = by; what = what }) ≡ true → at ≡ Some k
 at_some k None by what e = absurd cc
-at_some k (Some n) by what e = ap (λ (x : NodeNo). Some x) (sym (node_same-true k n e))
+at_some k (Some n) by what e = ap (λ (x : NodeNo). Some x) (sym (same_true k n e))
 
 -- the log has a node's vote exactly where its records have it
 pub votes_agree : (start : Start) (past : List Entry) (n : NodeNo) (tid : Tid) → has_voted (start_records start n) tid ≡ false → FollowsProtocol start past → has_vote tid n past ≡ has_voted (records_of start past n) tid

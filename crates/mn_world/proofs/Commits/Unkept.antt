@@ -26,7 +26,7 @@ use Rattle.mn_world.proofs.Votes.Acts.{Act, idle, votes, executes, decides, forc
 use Rattle.mn_world.proofs.Bytes.Step.{idle_commits, issued_is}
 use Rattle.mn_world.proofs.Bytes.Through.{eff_at, added_at}
 use Rattle.mn_world.proofs.Votes.Records.{fits_run, alone_or_several}
-use Rattle.mn_world.proofs.Commits.Never.{none_some, same_issued}
+use Rattle.mn_world.proofs.Commits.Never.{none_some, same_issued, follows_past}
 use Rattle.mn_world.proofs.Commits.Once.{sent_unbacked, pending_never, exec_place, at_some}
 
 -- an entry that commits an id with one participant is its Exec
@@ -120,12 +120,8 @@ dropped_here start past by k tid part sound run keeps is =
       ExecAt_stays start past e tid k part kept keeps s.1,
       WasExecuted_stays past e tid k s.0,
       ((λ i c eq. none_some i c), pending_never start past sound run k tid part keeps.at_node.1 is),
-      λ own. subst (λ (b : Bool). is_down (if b then e ∷ node_entries k past else node_entries k past) ≡ true → stopped_request (if b then e ∷ node_entries k past else node_entries k past) ≡ Some (Ask.Exec tid own) → ⊥) (sym (Rattle.mn_world.proofs.Reading.Same.node_same-refl k)) (λ down h. absurd cc),
+      λ own. subst (λ (b : Bool). is_down (if b then e ∷ node_entries k past else node_entries k past) ≡ true → stopped_request (if b then e ∷ node_entries k past else node_entries k past) ≡ Some (Ask.Exec tid own) → ⊥) (sym (Rattle.mn_mini.proofs.Parts.same_self k)) (λ down h. absurd cc),
     )
-
-follows_past : (start : Start) (past later : List Entry) → FollowsProtocol start (later ++ past) → FollowsProtocol start past
-follows_past start past [] run = run
-follows_past start past (e ∷ later) run = follows_past start past later run.0
 
 pub unkept_is_never : UnkeptIsNever
 unkept_is_never start past later e k tid part sound run at what is =

@@ -19,7 +19,7 @@ mini_in : (tid : Tid) (o : Option Mini) → option_map (λ (i : Issued). i.mini)
 mini_in tid None = refl
 mini_in tid (Some mini) = refl
 
-all_same : (t u : NodeNo → Bool) → ((n : NodeNo) → t n ≡ u n) → (ns : List NodeNo) → list_all t ns ≡ list_all u ns
+pub all_same : (t u : NodeNo → Bool) → ((n : NodeNo) → t n ≡ u n) → (ns : List NodeNo) → list_all t ns ≡ list_all u ns
 all_same t u same [] = refl
 all_same t u same (n ∷ ns) = ap (λ b. b && list_all t ns) (same n) ∙ ap (λ b. u n && b) (all_same t u same ns)
 

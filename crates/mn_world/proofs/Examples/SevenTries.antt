@@ -1,12 +1,13 @@
 -- Seven failed tries are not enough for Busy, where the first used the kept catalog: each later one
 -- asks for it.
-use Rattle.std.proofs.Common.{◌≡◌, ℕ, ◌+◌, ◌≤◌, Bool, true, false, ◌&&◌, ◌||◌, nat_eq, List, [], ◌∷◌, ◌++◌, length, filter, if◌then◌else◌, refl, ap, ◌∙◌, arith}
+use Rattle.std.proofs.Common.{◌≡◌, ℕ, ◌+◌, ◌≤◌, Bool, true, false, ◌&&◌, ◌||◌, nat_eq, List, [], ◌∷◌, ◌++◌, length, filter, if◌then◌else◌, ap, ◌∙◌, arith}
 use Rattle.std.specs.List.{list_any, list_all, flat_map}
 use Rattle.std.proofs.lemmas.List.{length-append}
 use Rattle.std.proofs.lemmas.List.Elements.{filter-append}
 use Rattle.mn_base.specs.declared.op.Op.{Op}
 use Rattle.mn_base.specs.declared.answer.Busy.{Busy}
 use Rattle.mn_base.specs.declared.answer.Answer.TheVariants as Gives
+use Rattle.mn_base.proofs.Booleans.{left_true, right_true}
 use Rattle.mn_mini.specs.declared.request.Request.TheVariants as Ask
 use Rattle.mn_mini.specs.declared.reply.NodeReply.TheVariants as Say
 use Rattle.mn_world.specs.declared.entry.Entry.{Entry}
@@ -40,23 +41,15 @@ asked_once (c ∷ cs) e = by (asked_once cs) (asks c) e
     by more true f = omega arith
     by more false f = more f
 
-pub both_left : (a b : Bool) → (a && b) ≡ true → a ≡ true
-both_left true b e = refl
-both_left false b e = absurd cc
-
-pub both_right : (a b : Bool) → (a && b) ≡ true → b ≡ true
-both_right true b e = e
-both_right false b e = absurd cc
-
 pub anew_asks : (try : List Entry) → reads_anew try ≡ true → 1 ≤ times_asked try
-anew_asks try e = asked_once (calls_of try) (both_left (list_any asks (calls_of try)) _ e)
+anew_asks try e = asked_once (calls_of try) (left_true (list_any asks (calls_of try)) _ e)
 
 pub all_ask : (tries : List (List Entry)) → list_all reads_anew tries ≡ true
     → length tries ≤ times_asked (flat_map (λ try. try) tries)
 all_ask [] e = omega arith
 all_ask (try ∷ tries) e =
-    let here = anew_asks try (both_left (reads_anew try) _ e) in
-    let there = all_ask tries (both_right (reads_anew try) _ e) in
+    let here = anew_asks try (left_true (reads_anew try) _ e) in
+    let there = all_ask tries (right_true (reads_anew try) _ e) in
     let all = asked_append try (flat_map (λ try. try) tries) in
     omega arith
 
@@ -64,8 +57,8 @@ all_ask (try ∷ tries) e =
 eight_ask : (nodes : ℕ) (op : Op) (now : List Entry) (busy : Busy) → FailedTries nodes op now busy
     → 7 ≤ times_asked now
 eight_ask nodes op now busy failed =
-    let last = anew_asks failed.last (both_left (reads_anew failed.last) _ failed.anew) in
-    let middle = all_ask failed.middle (both_right (reads_anew failed.last) _ failed.anew) in
+    let last = anew_asks failed.last (left_true (reads_anew failed.last) _ failed.anew) in
+    let middle = all_ask failed.middle (right_true (reads_anew failed.last) _ failed.anew) in
     let six = failed.six in
     let a = asked_append failed.rest failed.last in
     let b = asked_append (failed.rest ++ failed.last) (flat_map (λ try. try) failed.middle) in

@@ -6,6 +6,7 @@ use Rattle.std.proofs.lemmas.List.{append_assoc, append-nil, length-append}
 use Rattle.std.proofs.lemmas.List.Elements.{filter-append}
 use Rattle.mn_base.specs.declared.answer.Busy.{Busy}
 use Rattle.mn_base.specs.declared.answer.Answer.TheVariants as Gives
+use Rattle.mn_base.proofs.Booleans.{left_true, right_true}
 use Rattle.mn_mini.specs.declared.request.Request.TheVariants as Ask
 use Rattle.mn_mini.specs.declared.reply.NodeReply.TheVariants as Say
 use Rattle.mn_mini.specs.Mini.{part_of}
@@ -19,7 +20,7 @@ use Rattle.mn_world.proofs.Examples.TwoNodes.{node, id, prepare}
 use Rattle.mn_world.proofs.Examples.Entries.{read_of, own, called, exec_read, issue_read, calls_append, seen_in_part, only}
 use Rattle.mn_world.proofs.Examples.Tries.{catalog_bytes, catalog_seen, leaf_bytes, put, plan, locked, six_tries, first_try}
 use Rattle.mn_world.proofs.Examples.SoundReads.{no_fault}
-use Rattle.mn_world.proofs.Examples.SevenTries.{times_asked, asked_append, both_left, both_right, anew_asks}
+use Rattle.mn_world.proofs.Examples.SevenTries.{times_asked, asked_append, anew_asks}
 
 -- How often a list peeks
 
@@ -42,7 +43,7 @@ none_peeks (c ∷ cs) e = by (none_peeks cs) (is_peek c.request) e
     by more false f = more f
 
 anew_peeks : (try : List Entry) → reads_anew try ≡ true → times_peeked try ≡ 0
-anew_peeks try e = none_peeks (calls_of try) (both_right (list_any _ (calls_of try)) _ e)
+anew_peeks try e = none_peeks (calls_of try) (right_true (list_any _ (calls_of try)) _ e)
 
 -- Where a list is cut in two ways
 
@@ -74,9 +75,9 @@ oldest_of : (nodes : ℕ) (tries : List (List Entry)) → 1 ≤ length tries
     → AllByRecursion (λ t. (cause : Busy) × FailsAs nodes put t cause) tries → Oldest nodes tries
 oldest_of nodes [] some anew fail = absurd (omega arith)
 oldest_of nodes (t ∷ []) some anew fail =
-    record { newer = []; try = t; cause = fail.0.0; split = append-nil t; anew = both_left (reads_anew t) _ anew; fails = fail.0.1; asked = omega arith }
+    record { newer = []; try = t; cause = fail.0.0; split = append-nil t; anew = left_true (reads_anew t) _ anew; fails = fail.0.1; asked = omega arith }
 oldest_of nodes (t ∷ (u ∷ ts)) some anew fail =
-    let more = oldest_of nodes (u ∷ ts) (omega arith) (both_right (reads_anew t) _ anew) fail.1 in
+    let more = oldest_of nodes (u ∷ ts) (omega arith) (right_true (reads_anew t) _ anew) fail.1 in
     record {
       newer = t ++ more.newer;
       try = more.try;
@@ -84,7 +85,7 @@ oldest_of nodes (t ∷ (u ∷ ts)) some anew fail =
       split = ap (λ (l : List Entry). t ++ l) more.split ∙ sym (append_assoc t more.newer more.try);
       anew = more.anew;
       fails = more.fails;
-      asked = let one = anew_asks t (both_left (reads_anew t) _ anew) in let sum = asked_append t more.newer in let asked = more.asked in omega arith;
+      asked = let one = anew_asks t (left_true (reads_anew t) _ anew) in let sum = asked_append t more.newer in let asked = more.asked in omega arith;
     }
 
 -- Seven tries, the first of which read the catalog and then looked at the leaf
@@ -177,7 +178,7 @@ long_fails_not w m first split anew none = by (cut_twice w (looks ∷ reads ∷ 
 seven_are_not_enough : (es : List Entry) (busy : Busy) → Shows es seven_tries put (Gives.Busy busy)
     → ⊥
 seven_are_not_enough es busy (given_up, failed) =
-    let oldest = oldest_of 2 failed.middle (let six = failed.six in omega arith) (both_right (reads_anew failed.last) _ failed.anew) failed.others_fail in
+    let oldest = oldest_of 2 failed.middle (let six = failed.six in omega arith) (right_true (reads_anew failed.last) _ failed.anew) failed.others_fail in
     let before : List Entry = failed.rest ++ failed.last in
     let whole : seven_tries ≡ before ++ flat_map (λ t. t) failed.middle ++ failed.first =
     failed.split ∙ (ap (λ (l : List Entry). before ++ flat_map (λ t. t) failed.middle ++ failed.first ++ l) failed.whole ∙ append-nil (before ++ flat_map (λ t. t) failed.middle ++ failed.first)) in
@@ -189,7 +190,7 @@ seven_are_not_enough es busy (given_up, failed) =
     let b = asked_append before oldest.newer in
     let c = asked_append failed.rest failed.last in
     let d = asked_append oldest.try failed.first in
-    let last = anew_asks failed.last (both_left (reads_anew failed.last) _ failed.anew) in
+    let last = anew_asks failed.last (left_true (reads_anew failed.last) _ failed.anew) in
     let here = anew_asks oldest.try oldest.anew in
     let newer = oldest.asked in
     let six = failed.six in

@@ -1,24 +1,11 @@
 -- Which records are sound: none at all, and not those that decide without votes or both ways.
-use Rattle.std.proofs.Common.{◌≡◌, true, false, List, [], ◌∷◌, None, refl, sym, ap, subst, lit<, if◌then◌else◌, nat_eq}
+use Rattle.std.proofs.Common.{true, false, List, [], ◌∷◌, refl, lit<, if◌then◌else◌, nat_eq}
 use Rattle.mn_base.specs.declared.ids.NodeNo.{NodeNo}
 use Rattle.mn_mini.specs.declared.part.PartItem.TheVariants.{Read}
 use Rattle.mn_mini.specs.declared.record.Record.{Record}
 use Rattle.mn_mini.specs.declared.record.Record.TheVariants.{Voted, Decided}
-use Rattle.mn_mini.specs.Node.{has_executed, has_decided_yes, has_decided_no}
-use Rattle.mn_world.specs.Protocol.{Start, start_nodes, start_records}
-use Rattle.mn_world.specs.Opened.{AreSound, AreInPlace, voted_participants}
-use Rattle.mn_world.specs.Laws.{StartsSound, StartsFresh}
+use Rattle.mn_world.specs.Opened.{AreSound}
 use Rattle.mn_world.proofs.Examples.TwoNodes.{node, id}
-
--- fresh nodes are sound
-fresh_sound : (start : Start) → StartsFresh start → StartsSound start
-fresh_sound start fresh = record {
-  in_place = λ n below. subst (λ (r : List Record). AreInPlace (start_nodes start) n r) (sym (fresh n)) tt;
-  same = λ n m tid one other bn bm p q. let none : voted_participants tid (start_records start n) ≡ None = ap (voted_participants tid) (fresh n) in absurd (cc (none, p));
-  alone = λ n m tid bn bm p q. let none : has_executed (start_records start n) tid ≡ false = ap (λ (r : List Record). has_executed r tid) (fresh n) in absurd (cc (none, p));
-  yes = λ n tid ps bn p q. let none : has_decided_yes (start_records start n) tid ≡ false = ap (λ (r : List Record). has_decided_yes r tid) (fresh n) in absurd (cc (none, p));
-  no = λ n m tid bn bm p. let none : has_decided_no (start_records start n) tid ≡ false = ap (λ (r : List Record). has_decided_no r tid) (fresh n) in absurd (cc (none, p));
-}
 
 abbrev two : List NodeNo
 two = node 0 ∷ node 1 ∷ []

@@ -8,6 +8,7 @@ use Rattle.mn_base.specs.declared.op.Op.{Op}
 use Rattle.mn_base.specs.declared.ids.NodeNo.{NodeNo}
 use Rattle.mn_base.specs.declared.ids.ClientNo.{ClientNo}
 use Rattle.mn_base.specs.declared.ids.Tid.{Tid}
+use Rattle.mn_base.proofs.Booleans.{or_cases}
 use Rattle.mn_mini.specs.declared.record.Record.{Record}
 use Rattle.mn_mini.specs.declared.record.Record.TheVariants.{Voted, Executed, Decided, Forced}
 use Rattle.mn_mini.specs.declared.request.Request.{Request}
@@ -30,7 +31,6 @@ use Rattle.mn_world.proofs.Votes.Backing.{IsOld, mini_of, RecordSound, Kept}
 use Rattle.mn_world.proofs.Votes.Start.{held_has_vote, names_old, old_below}
 use Rattle.mn_world.proofs.Votes.Preserved.{kept_run}
 use Rattle.mn_world.proofs.Meaning.Splits.{shorter_by}
-use Rattle.mn_world.proofs.Meaning.Over.{or_cases}
 use Rattle.mn_world.proofs.Meaning.Prefixes.{keeps_there}
 use Rattle.mn_world.proofs.Meaning.Positions.{issued_since}
 use Rattle.mn_world.proofs.Meaning.Heard.{none_found}

@@ -1,6 +1,6 @@
 -- What an answer says of its operation's plans.
 use Rattle.std.proofs.Common.{◌≡◌, ℕ, ◌<◌, ◌≤◌, inl, inr, Bool, true, false, ◌&&◌, ◌||◌, List, [], ◌∷◌, ◌++◌, length, Option, Some, refl, subst, sym, ap, ◌∙◌, arith}
-use Rattle.std.specs.List.{AllByRecursion, list_any, list_all}
+use Rattle.std.specs.List.{AllByRecursion, list_any}
 use Rattle.std.proofs.lemmas.List.{append_assoc}
 use Rattle.mn_base.specs.declared.ids.NodeNo.{NodeNo}
 use Rattle.mn_base.specs.declared.ids.ClientNo.{ClientNo}
@@ -11,6 +11,7 @@ use Rattle.mn_base.specs.declared.answer.Answer.TheVariants.{Replied, Busy as Ga
 use Rattle.mn_base.specs.Ids.{node_same}
 use Rattle.mn_mini.specs.declared.item.Item.{Item}
 use Rattle.mn_mini.specs.Mini.{Mini, item_node, participants_of}
+use Rattle.mn_mini.proofs.Parts.{same_self}
 use Rattle.mn_world.specs.declared.entry.Entry.{Entry}
 use Rattle.mn_world.specs.declared.entry.What.{What}
 use Rattle.mn_world.specs.declared.entry.What.TheVariants.{Answered}
@@ -20,7 +21,6 @@ use Rattle.mn_world.specs.Protocol.{Start, FollowsProtocol}
 use Rattle.mn_world.specs.Run.{IsRun, Means}
 use Rattle.mn_world.specs.Laws.{StartsSound}
 use Rattle.mn_world.specs.Meaning.{MeansNoEffect}
-use Rattle.mn_world.proofs.Reading.Same.{node_same-refl}
 use Rattle.mn_world.proofs.Reading.MakeRun.{runs_follow_protocol}
 use Rattle.mn_world.proofs.Votes.Backing.{mini_of}
 use Rattle.mn_world.proofs.Votes.Preserved.{kept_run}
@@ -33,6 +33,7 @@ use Rattle.mn_world.proofs.Meaning.Positions.{AnswerAt, older_own, answered_op, 
 use Rattle.mn_world.proofs.Meaning.Done.{CommittedIn, done_committed}
 use Rattle.mn_world.proofs.Meaning.Plans.{PlanIn, one_place, given_up_none}
 use Rattle.mn_world.proofs.Meaning.LastPlan.{IsLast, last_is}
+use Rattle.mn_world.proofs.Votes.Start.{all_true}
 
 -- what shows an answer
 pub record ShownAnswer (past : List Entry) (c : ClientNo) (number : ℕ) (answer : Answer) (e : AnswerAt past c number answer) : Type 0 where
@@ -72,23 +73,10 @@ pub record PlanReplied (past : List Entry) (a : ℕ) (c : ClientNo) (number : �
   pub now : under_way (client_entries c e.at.before) ≡ Some (record { number = number; op = op })
   pub planned : IsPlanBy (client_entries c x.issue.at.before) op x.issued.mini reply
 
-pub all_of : (f : NodeNo → Bool) (xs : List NodeNo) → list_all f xs ≡ true
-    → AllByRecursion (λ x. f x ≡ true) xs
-all_of f [] e = tt
-all_of f (x ∷ xs) e = (first (f x) (list_all f xs) e, all_of f xs (second (f x) (list_all f xs) e))
-  where
-    first : (a b : Bool) → (a && b) ≡ true → a ≡ true
-    first true b h = refl
-    first false b h = absurd cc
-
-    second : (a b : Bool) → (a && b) ≡ true → b ≡ true
-    second true b h = h
-    second false b h = absurd cc
-
 first_named : (items : List Item) → 1 ≤ length items
     → (n : NodeNo) × (list_any (λ i. node_same (item_node i) n) items ≡ true)
 first_named [] few = absurd (omega arith)
-first_named (i ∷ items) few = (item_node i, ap (λ (b : Bool). b || list_any (λ j. node_same (item_node j) (item_node i)) items) (node_same-refl (item_node i)))
+first_named (i ∷ items) few = (item_node i, ap (λ (b : Bool). b || list_any (λ j. node_same (item_node j) (item_node i)) items) (same_self (item_node i)))
 
 any_some : (ps : List NodeNo) (n : NodeNo) → list_any (λ m. node_same m n) ps ≡ true → 1 ≤ length ps
 any_some [] n e = absurd cc
@@ -137,7 +125,7 @@ plan_replied start past sound run c number reply e a x = by s.shows
         let made = (whole_run start e.at.before sound before).even.minis x.issued.tid x.issued.mini mine in
         done_committed start e.at.before x.issued.tid x.issued.mini sound before mine (some_participant start x.issued.mini made)
         (subst (λ (d : ClientNo). AllByRecursion (λ n. was_done x.issued.tid n (client_entries d e.at.before) ≡ true) (participants_of x.issued.mini)) (sym own)
-        (all_of (λ n. was_done x.issued.tid n (client_entries c e.at.before)) (participants_of x.issued.mini) done))
+        (all_true (λ n. was_done x.issued.tid n (client_entries c e.at.before)) (participants_of x.issued.mini) done))
 
     low : CommittedIn e.at.before x.issued.tid → a < length e.at.before
     low co =

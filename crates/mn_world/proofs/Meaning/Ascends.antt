@@ -9,7 +9,7 @@ use Rattle.mn_base.specs.declared.op.Op.{Op}
 use Rattle.mn_base.specs.declared.op.Op.TheVariants.{Scan}
 use Rattle.mn_base.specs.declared.reply.Reply.{Reply}
 use Rattle.mn_base.specs.declared.reply.Reply.TheVariants as Say
-use Rattle.mn_page.proofs.Grid.{all_append}
+use Rattle.mn_base.proofs.Lists.{all_append}
 use Rattle.mn_world.specs.declared.entry.Entry.{Entry}
 use Rattle.mn_world.specs.declared.entry.What.{What}
 use Rattle.mn_world.specs.declared.entry.What.TheVariants.{Begin, Issue, Called, Stopped, Restarted, Abandoned, Answered}
@@ -27,6 +27,7 @@ use Rattle.mn_world.proofs.Meaning.Positions.{client_split}
 use Rattle.mn_world.proofs.Meaning.Origins.{RepliedAt, Origin, by_plan, by_answer, Puts, nothing_new, read_new, plan_new, all_put, puts_of, origins, begun_as}
 use Rattle.mn_world.proofs.Meaning.Once.{Differs, none_past}
 use Rattle.mn_world.proofs.Meaning.Between.{none_begun, read_low}
+use Rattle.mn_world.proofs.Meaning.Clients.{same_begun}
 
 -- Lists
 
@@ -180,9 +181,6 @@ replied_there past p r =
 
 same_client : (a b : ClientNo) → Some a ≡ Some b → a ≡ b
 same_client a b e = cc
-
-same_begun : (a b : Begun) → Some a ≡ Some b → a ≡ b
-same_begun a b e = cc
 
 apart : (start : Start) (past : List Entry) → StartsSound start
     → FollowsProtocol start past → (p q : Placed) → RepliedAt past p → Origin past q → Differs q p

@@ -33,6 +33,7 @@ use Rattle.mn_world.proofs.Meaning.Plans.{plan_in}
 use Rattle.mn_world.proofs.Meaning.Answered.{plan_replied}
 use Rattle.mn_world.proofs.Meaning.LastPlan.{Lifted, lift}
 use Rattle.mn_world.proofs.Meaning.Once.{answer_at, plan_of}
+use Rattle.mn_world.proofs.Meaning.Clients.{same_begun}
 
 -- A read is no Begin
 
@@ -93,7 +94,7 @@ pub none_begun : (es : List Entry)
 none_begun [] = tt
 none_begun (e ∷ es) = none_step e.node e.client e.what (since_begin es) (none_begun es)
 
-all_mid : (P : Entry → Type 0) (xs : List Entry) (x : Entry) (ys : List Entry)
+pub all_mid : (P : Entry → Type 0) (xs : List Entry) (x : Entry) (ys : List Entry)
     → AllByRecursion P (xs ++ x ∷ ys) → P x
 all_mid P [] x ys all = all.0
 all_mid P (z ∷ xs) x ys all = all_mid P xs x ys all.1
@@ -244,9 +245,6 @@ record Began (es : List Entry) (b : Begun) : Type 0 where
 
 began_more : (e : Entry) (es : List Entry) (b : Begun) → Began es b → Began (e ∷ es) b
 began_more e es b g = record { newer = e ∷ g.newer; entry = g.entry; older = g.older; split = ap (λ (l : List Entry). e ∷ l) g.split; begins = g.begins }
-
-same_begun : (a b : Begun) → Some a ≡ Some b → a ≡ b
-same_begun a b e = cc
 
 no_begun : (b : Begun) → None ≡ Some b → ⊥
 no_begun b e = cc

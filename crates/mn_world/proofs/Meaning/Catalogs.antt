@@ -6,6 +6,7 @@ use Rattle.std.proofs.lemmas.List.{take_all, get_or_past}
 use Rattle.std.proofs.lemmas.Option.{slice_get_within, slice_get_cases}
 use Rattle.mn_base.specs.Store.{Store}
 use Rattle.mn_base.specs.declared.ids.Addr.{Addr}
+use Rattle.mn_base.proofs.Naturals.{below_or}
 use Rattle.mn_mini.specs.Mini.{space_size}
 use Rattle.mn_mini.specs.Flat.{bytes_in, space_in}
 use Rattle.mn_page.specs.declared.page.Page.{Page}
@@ -16,7 +17,6 @@ use Rattle.mn_page.specs.Holds.{Holds}
 use Rattle.mn_page.proofs.Grid.{all_at_place}
 use Rattle.mn_page.proofs.Spelled.{length-padded, page_length, entry_spelled_once}
 use Rattle.mn_page.proofs.Counted.{counted, IsCounted}
-use Rattle.mn_world.proofs.Votes.Start.{low_or_high}
 use Rattle.mn_world.proofs.Plans.Pieces.{bytes_in-padded, AreZeros, zeros_behind, length-pieces, read_piece}
 use Rattle.mn_world.proofs.Plans.Spaces.{memory_by_pages, space_bytes, catalog_bytes, entries_length, catalog_length, head_length, front_length, text_length, node_slots, space_in-memory_by_pages, entry_sizes, node_0, catalog_region, not_unused, page_there, memory_length}
 use Rattle.mn_world.proofs.Plans.Sizes.{index_below}
@@ -101,7 +101,7 @@ nothing_in (suc s) (suc k) = refl
 pub page_tells : (memory : List (List ℕ)) (store : Store) (holds : Holds memory store) (addr : Addr) (p : Page) → IsPage p
     → bytes_in (space_in memory addr.node) (20480 + 1024 * addr.slot) 1024 ≡ page_bytes p
     → page_at holds.forest addr ≡ Some p
-page_tells memory store holds addr p is read = by (low_or_high addr.node.0 (node_count holds.forest))
+page_tells memory store holds addr p is read = by (below_or addr.node.0 (node_count holds.forest))
   where
     spelled : memory ≡ memory_by_pages holds.forest
     spelled = holds.spelled ∙ laid_is holds.forest

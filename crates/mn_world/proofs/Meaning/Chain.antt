@@ -6,8 +6,8 @@ use Rattle.std.proofs.lemmas.Bool.Decides.{nat_tests}
 use Rattle.mn_base.specs.Store.{Store, applied}
 use Rattle.mn_base.specs.History.{IsLegal, store_after}
 use Rattle.mn_base.specs.declared.history.Past.{Past}
+use Rattle.mn_base.proofs.Naturals.{below_or}
 use Rattle.mn_world.specs.History.{Placed, placed_in, pasts_of}
-use Rattle.mn_world.proofs.Votes.Start.{low_or_high}
 
 -- from a place on, with this store there: it holds up to the next operation, whose reply is the
 -- store's, and behind that the store that it leaves goes on, at the same place, or at the next one
@@ -35,7 +35,7 @@ chain_end H P end store from (p ∷ ps) fits c =
 pub chain_at : (H : ℕ → Store → Type 0) (P : ℕ → Type 0) (end : ℕ) (store : Store) (from : ℕ) (ps : List Placed) (n : ℕ) → from ≤ n → n ≤ end → Chain H P end store from ps
     → (history : List Past) × H n (store_after store history)
 chain_at H P end store from [] n low high c = ([], c n low high)
-chain_at H P end store from (p ∷ ps) n low high c = by (low_or_high p.place n) (λ fits. chain_at H P end (applied store p.past.op).store c.4.0 ps n fits high c.4.4)
+chain_at H P end store from (p ∷ ps) n low high c = by (below_or p.place n) (λ fits. chain_at H P end (applied store p.past.op).store c.4.0 ps n fits high c.4.4)
   where
     by : (p.place < n) ⊎ (n ≤ p.place)
         → (c.4.0 ≤ n → (history : List Past) × H n (store_after (applied store p.past.op).store history)) → (history : List Past) × H n (store_after store history)
@@ -50,7 +50,7 @@ Between H m n = (store : Store) × (history : List Past) × H m store × H n (st
 
 pub chain_between : (H : ℕ → Store → Type 0) (P : ℕ → Type 0) (end : ℕ) (store : Store) (from : ℕ) (ps : List Placed) (m n : ℕ) → from ≤ m → m ≤ n → n ≤ end → Chain H P end store from ps → Between H m n
 chain_between H P end store from [] m n low up high c = (store, [], c m low (omega arith), c n (omega arith) high)
-chain_between H P end store from (p ∷ ps) m n low up high c = by (low_or_high p.place m) (λ fits. chain_between H P end (applied store p.past.op).store c.4.0 ps m n fits up high c.4.4)
+chain_between H P end store from (p ∷ ps) m n low up high c = by (below_or p.place m) (λ fits. chain_between H P end (applied store p.past.op).store c.4.0 ps m n fits up high c.4.4)
   where
     by : (p.place < m) ⊎ (m ≤ p.place) → (c.4.0 ≤ m → Between H m n) → Between H m n
     by (inl behind) rest = let next : c.4.0 ≤ p.place + 1 = c.4.2 in rest (omega arith)
@@ -99,7 +99,7 @@ chain_put H P end store from (x ∷ xs) read silent free low high c =
         )
     by false e rest =
         let behind : x.place ≤ read.place = grind (arith, nat_tests) in
-        (c.0, c.1, c.2, c.3, (c.4.0, c.4.1, c.4.2, c.4.3, rest (next (low_or_high read.place c.4.0) behind)))
+        (c.0, c.1, c.2, c.3, (c.4.0, c.4.1, c.4.2, c.4.3, rest (next (below_or read.place c.4.0) behind)))
 
 -- the log goes on by an entry that leaves the memory's store
 pub chain_quiet : (H H' : ℕ → Store → Type 0) (P P' : ℕ → Type 0) (end : ℕ)
@@ -107,7 +107,7 @@ pub chain_quiet : (H H' : ℕ → Store → Type 0) (P P' : ℕ → Type 0) (end
     → ((s : Store) → H end s → H' (suc end) s)
     → (store : Store) (from : ℕ) (ps : List Placed) → from ≤ end → Chain H P end store from ps
     → Chain H' P' (suc end) store from ps
-chain_quiet H H' P P' end older plans newest store from [] fits c = λ m lo hi. by m lo hi (low_or_high m (suc end))
+chain_quiet H H' P P' end older plans newest store from [] fits c = λ m lo hi. by m lo hi (below_or m (suc end))
   where
     by : (m : ℕ) → from ≤ m → m ≤ suc end → (m < suc end) ⊎ (suc end ≤ m) → H' m store
     by m lo hi (inl less) = older m store (omega arith) (c m lo (omega arith))

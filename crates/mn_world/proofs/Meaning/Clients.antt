@@ -13,7 +13,7 @@ use Rattle.mn_world.specs.declared.entry.What.{What}
 use Rattle.mn_world.specs.declared.entry.What.TheVariants.{Begin, Issue, Called, Stopped, Restarted, Abandoned, Answered}
 use Rattle.mn_world.specs.Calls.{Issued, issue_in, issues_of, issue_named, Begun, begun_in, begun_of, under_way, under_way_after, since_begin, is_by, client_entries}
 use Rattle.mn_world.specs.Clients.{last_number, ClientAllows}
-use Rattle.mn_world.specs.Protocol.{Start, KeepsProtocol, FollowsProtocol}
+use Rattle.mn_world.specs.Protocol.{Start, FollowsProtocol}
 use Rattle.mn_world.proofs.Reading.Same.{tid_same-true, tid_same-refl}
 use Rattle.mn_world.proofs.Reading.NewCalls.{by_of}
 
@@ -60,7 +60,7 @@ numbers_rise c (e ∷ newer) older a =
     let two : last_number (begun_of (newer ++ older)) ≤ last_number (begun_in e.what ++ begun_of (newer ++ older)) = begun_rises e.node c e.what (newer ++ older) a.1 in
     omega arith
 
-same_begun : (a b : Begun) → Some a ≡ Some b → a ≡ b
+pub same_begun : (a b : Begun) → Some a ≡ Some b → a ≡ b
 same_begun a b e = cc
 
 numbered_step : (at : Option NodeNo) (c : ClientNo) (what : What) (es : List Entry) (b : Begun)

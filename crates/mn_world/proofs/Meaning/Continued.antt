@@ -8,8 +8,8 @@ use Rattle.mn_base.specs.declared.history.Past.{Past}
 use Rattle.mn_base.specs.declared.op.Step.TheVariants.{Get}
 use Rattle.mn_base.specs.declared.op.Op.{Op}
 use Rattle.mn_base.specs.declared.op.Op.TheVariants.{Tx, Snapshot, Branch, Scan, Versions}
-use Rattle.mn_base.specs.declared.reply.Pair.{Pair}
 use Rattle.mn_base.specs.declared.reply.Reply.{Reply}
+use Rattle.mn_base.proofs.Stores.{same_heads}
 use Rattle.mn_world.specs.Planned.{Continues}
 use Rattle.mn_world.specs.Shown.{CatalogReplies}
 
@@ -29,15 +29,6 @@ continues_longer [] s t p = tt
 continues_longer (x ∷ a) [] t p = absurd p
 continues_longer (x ∷ a) (v ∷ s) t p = (p.0, p.1, p.2, continues_longer a s t p.3)
 
-heads_with_pairs : (store : Store) (name : List ℕ) (ps : List Pair)
-    → heads_of (with_pairs store name ps) ≡ heads_of store
-heads_with_pairs [] name ps = refl
-heads_with_pairs (v ∷ vs) name ps =
-    elim (bytes_eq v.head.name name) as (λ b. heads_of (if b then record v { pairs = ps } ∷ vs else v ∷ with_pairs vs name ps) ≡ v.head ∷ heads_of vs) [
-      | true ↦ refl
-      | false ↦ ap (λ (hs : List Head). v.head ∷ hs) (heads_with_pairs vs name ps)
-    ]
-
 continues_frozen : (store : Store) (name : List ℕ)
     → Continues (heads_of store) (heads_of (with_frozen store name))
 continues_frozen [] name = tt
@@ -49,7 +40,7 @@ continues_frozen (v ∷ vs) name =
 
 continues_admitted : (store : Store) (op : Op)
     → Continues (heads_of store) (heads_of (admitted store op).store)
-continues_admitted store (Tx name steps) = subst (λ (hs : List Head). Continues (heads_of store) hs) (sym (heads_with_pairs store name (ran (pairs_named store name) steps).pairs)) (continues_same (heads_of store))
+continues_admitted store (Tx name steps) = subst (λ (hs : List Head). Continues (heads_of store) hs) (sym (same_heads store name (ran (pairs_named store name) steps).pairs)) (continues_same (heads_of store))
 continues_admitted store (Snapshot name child) = continues_longer (heads_of store) (with_frozen store name) (child_of store name child ∷ []) (continues_frozen store name)
 continues_admitted store (Branch name child) = continues_longer (heads_of store) store (child_of store name child ∷ []) (continues_same (heads_of store))
 continues_admitted store (Scan name low high limit) = continues_same (heads_of store)

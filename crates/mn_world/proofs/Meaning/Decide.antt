@@ -151,7 +151,7 @@ find_slot begins (suc n) = by (find_slot begins n) (dec_nat (20480 + 1024 * suc 
         → SlotAt begins ⊎ ((k : ℕ) → k ≤ suc n → 20480 + 1024 * k ≡ begins → ⊥)
     by (inl s) d = inl s
     by (inr none) (inl e) = inl (suc n, e)
-    by (inr none) (inr f) = inr (λ k low e. each k low e (Rattle.mn_world.proofs.Votes.Start.low_or_high n k))
+    by (inr none) (inr f) = inr (λ k low e. each k low e (Rattle.mn_base.proofs.Naturals.below_or n k))
       where
         each : (k : ℕ) → k ≤ suc n → 20480 + 1024 * k ≡ begins → (n < k) ⊎ (k ≤ n) → ⊥
         each k low e (inr le) = none k le e

@@ -6,6 +6,7 @@ use Rattle.mn_base.specs.Ids.{node_same}
 use Rattle.mn_base.specs.declared.ids.NodeNo.{NodeNo}
 use Rattle.mn_base.specs.declared.ids.ClientNo.{ClientNo}
 use Rattle.mn_base.specs.declared.ids.Tid.{Tid}
+use Rattle.mn_base.proofs.Booleans.{left_true, or_cases, or_left, or_right, right_true}
 use Rattle.mn_mini.specs.declared.record.Record.{Record}
 use Rattle.mn_mini.specs.declared.request.Request.{Request}
 use Rattle.mn_mini.specs.declared.request.Request.TheVariants as Ask
@@ -30,11 +31,7 @@ use Rattle.mn_world.proofs.Bytes.Step.{issued_is}
 use Rattle.mn_world.proofs.Bytes.Through.{Whole}
 use Rattle.mn_world.proofs.Bytes.Spaces.{whole_run}
 use Rattle.mn_world.proofs.Bytes.Reads.{execs_are_flat}
-use Rattle.mn_world.proofs.Meaning.Over.{or_cases, or_left, or_right, and_left}
-
-and_right : (a b : Bool) → (a && b) ≡ true → b ≡ true
-and_right true b e = e
-and_right false b e = absurd cc
+use Rattle.mn_world.proofs.Votes.Start.{all_pass}
 
 -- some entry commits the id
 pub record CommittedIn (past : List Entry) (tid : Tid) : Type 0 where
@@ -86,8 +83,8 @@ exec_entry : (start : Start) (past : List Entry) (by : Option ClientNo) (at : Op
 exec_entry start past by None what tid sound run any = absurd cc
 exec_entry start past by (Some k) (Called request reply) tid sound run any =
     let both = or_false (is_exec tid request && is_done reply) any in
-    exec_call start past by k request reply tid sound run (and_left (is_exec tid request) (is_done reply) both) (and_right (is_exec tid request) (is_done reply) both)
-exec_entry start past by (Some k) (Stopped (Some request) asked) tid sound run any = absurd (never (and_right (is_exec tid request) false (or_false (is_exec tid request && false) any)))
+    exec_call start past by k request reply tid sound run (left_true (is_exec tid request) (is_done reply) both) (right_true (is_exec tid request) (is_done reply) both)
+exec_entry start past by (Some k) (Stopped (Some request) asked) tid sound run any = absurd (never (right_true (is_exec tid request) false (or_false (is_exec tid request && false) any)))
   where
     never : false ≡ true → ⊥
     never e = cc
@@ -125,11 +122,6 @@ vote_not_idle tid (Some (Ask.Force t)) none e = cc
 vote_not_idle tid (Some Ask.List) none e = cc
 vote_not_idle tid (Some (Ask.Peek at length)) none e = cc
 
-pass_all : (f : NodeNo → Bool) (xs : List NodeNo) → AllByRecursion (λ x. f x ≡ true) xs
-    → list_all f xs ≡ true
-pass_all f [] all = refl
-pass_all f (x ∷ xs) all = ap (λ (b : Bool). b && list_all f xs) all.0 ∙ pass_all f xs all.1
-
 vote_commits : (start : Start) (past : List Entry) (m : NodeNo) (tid : Tid) (ps : List NodeNo) (eff : Option Request) (added : Option Record) → Whole start past → Act start past m eff added → is_vote_effect tid eff ≡ true
     → ((mini : Mini) → mini_of past tid ≡ Some mini → participants_of mini ≡ ps)
     → AllByRecursion (λ n. (node_same n m || has_vote tid n past) ≡ true) ps
@@ -145,7 +137,7 @@ vote_commits start past m tid ps eff added w (votes t qs part unforced free test
     let same : t ≡ tid = tid_same-true t tid vote in
     let those : qs ≡ ps = asked ∙ named mini (subst (λ (x : Tid). mini_of past x ≡ Some mini) same has) in
     let every : list_all (λ n. node_same n m || has_vote t n past) qs ≡ true =
-    pass_all (λ n. node_same n m || has_vote t n past) qs (subst (λ (x : Tid). AllByRecursion (λ n. (node_same n m || has_vote x n past) ≡ true) qs) (sym same) (subst (λ (xs : List NodeNo). AllByRecursion (λ n. (node_same n m || has_vote tid n past) ≡ true) xs) (sym those) all)) in
+    all_pass (λ n. node_same n m || has_vote t n past) qs (subst (λ (x : Tid). AllByRecursion (λ n. (node_same n m || has_vote x n past) ≡ true) qs) (sym same) (subst (λ (xs : List NodeNo). AllByRecursion (λ n. (node_same n m || has_vote tid n past) ≡ true) xs) (sym those) all)) in
     (record { tid = t; mini = mini }, ap (λ (b : Bool). if b then issued_as t past else None) every ∙ issued_is start past t mini (w.issued t) has, same)
 
 -- a vote that is new is the entry's
@@ -164,7 +156,7 @@ old_or_new past e tid (n ∷ ps) all = by (or_cases (is_at n e && is_vote_effect
         ⊎ (has_vote tid n past ≡ true)
         → AllByRecursion (λ n. has_vote tid n past ≡ true) ps ⊎ NewVote past e tid
         → AllByRecursion (λ n. has_vote tid n past ≡ true) (n ∷ ps) ⊎ NewVote past e tid
-    by (inl new) rest = inr (record { node = n; here = and_left (is_at n e) _ new; vote = and_right (is_at n e) _ new })
+    by (inl new) rest = inr (record { node = n; here = left_true (is_at n e) _ new; vote = right_true (is_at n e) _ new })
     by (inr old) (inl olds) = inl (old, olds)
     by (inr old) (inr new) = inr new
 
@@ -174,7 +166,7 @@ all_at past m by what tid (n ∷ ps) all = (one (or_cases (node_same n m && is_v
   where
     one : ((node_same n m && is_vote_effect tid (effect_of (node_entries n past) what)) ≡ true)
         ⊎ (has_vote tid n past ≡ true) → (node_same n m || has_vote tid n past) ≡ true
-    one (inl h) = or_left (node_same n m) (has_vote tid n past) (and_left (node_same n m) _ h)
+    one (inl h) = or_left (node_same n m) (has_vote tid n past) (left_true (node_same n m) _ h)
     one (inr h) = or_right (node_same n m) (has_vote tid n past) h
 
 new_vote : (start : Start) (past : List Entry) (by : Option ClientNo) (at : Option NodeNo) (what : What) (m : NodeNo) (tid : Tid) (ps : List NodeNo) → Whole start past → KeepsProtocol start past (record { node = at; client = by; what = what }) → at ≡ Some m

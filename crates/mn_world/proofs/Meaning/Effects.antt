@@ -36,7 +36,7 @@ use Rattle.mn_world.proofs.Bytes.Seen.{IsSeenBy, lone, nothing, stopped_unseen}
 
 -- What commits was issued
 
-issued_named : (tid : Tid) (past : List Entry) (i : Issued) → issued_as tid past ≡ Some i
+pub issued_named : (tid : Tid) (past : List Entry) (i : Issued) → issued_as tid past ≡ Some i
     → issue_named i.tid (issues_of past) ≡ Some i.mini
 issued_named tid past i is = by (issue_named tid (issues_of past)) refl is
   where
@@ -47,7 +47,7 @@ issued_named tid past i is = by (issue_named tid (issues_of past)) refl is
         let this : record { tid = tid; mini = mini } ≡ i = same_issued _ i f in
         subst (λ (j : Issued). issue_named j.tid (issues_of past) ≡ Some j.mini) this e
 
-with_named : (past : List Entry) (n : NodeNo) (request : Option Request) (i : Issued)
+pub with_named : (past : List Entry) (n : NodeNo) (request : Option Request) (i : Issued)
     → committed_with past n request ≡ Some i → issue_named i.tid (issues_of past) ≡ Some i.mini
 with_named past n None i is = absurd (none_some i is)
 with_named past n (Some (Ask.Prepare tid ps part)) i is = by (list_all (λ m. node_same m n || has_vote tid m past) ps) is

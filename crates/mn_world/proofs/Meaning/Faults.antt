@@ -9,10 +9,12 @@ use Rattle.std.proofs.lemmas.Option.{slice_get-map, slice_get_within}
 use Rattle.std.proofs.lemmas.List.{length-map}
 use Rattle.mn_base.specs.Order.{covers_key}
 use Rattle.mn_base.specs.Store.{Store, number_named, op_version}
-use Rattle.mn_base.specs.Tree.{HaveParents, parents_of, has_version, versions_in}
+use Rattle.mn_base.specs.Tree.{HaveParents, parents_of, has_version}
 use Rattle.mn_base.specs.declared.ids.Addr.{Addr}
 use Rattle.mn_base.specs.declared.op.Op.{Op}
 use Rattle.mn_base.specs.declared.answer.Busy.TheVariants.{Path}
+use Rattle.mn_base.proofs.Booleans.{right_true}
+use Rattle.mn_base.proofs.Naturals.{below_or}
 use Rattle.mn_mini.specs.Flat.{bytes_in, space_in}
 use Rattle.mn_page.specs.declared.page.Page.{Page}
 use Rattle.mn_page.specs.declared.entry.CatEntry.{CatEntry}
@@ -24,6 +26,7 @@ use Rattle.mn_page.proofs.Counted.{counted}
 use Rattle.mn_page.proofs.Heights.{none_too_high}
 use Rattle.mn_page.proofs.Grid.{all_of_filter}
 use Rattle.mn_page.proofs.Split.{lt_nil}
+use Rattle.mn_page.proofs.Copy.{page_same}
 use Rattle.mn_world.specs.Places.{page_place, count_place}
 use Rattle.mn_world.specs.Shown.{Seen, SeesPage}
 use Rattle.mn_world.specs.Answers.{Reached, is_wrong_height, is_copying, is_copied_root, IsPageAtFault, IsAtFault, MeetsBadPage, AreBelow, IsBadCatalog, IsBadCount, MeetsFault}
@@ -34,7 +37,6 @@ use Rattle.mn_world.proofs.Plans.Spaces.{memory_by_pages, page_read, page_node, 
 use Rattle.mn_world.proofs.Plans.SplitRoot.{count_read}
 use Rattle.mn_world.proofs.Plans.Sizes.{index_below}
 use Rattle.mn_world.proofs.Plans.Laying.{laid_is}
-use Rattle.mn_world.proofs.Votes.Start.{low_or_high}
 use Rattle.mn_world.proofs.Meaning.Kept.{at_place, page_seen, number_within}
 use Rattle.mn_world.proofs.Meaning.Tell.{sees_entries, sees_those}
 
@@ -56,10 +58,7 @@ record OnTree (memory : List (List ℕ)) (store : Store) (holds : Holds memory s
   pub covers : page_covers key page ≡ true
   pub level : (h : ℕ) → height ≡ Some h → height_of page.body ≡ h
 
-same_page : (p q : Page) → Some p ≡ Some q → p ≡ q
-same_page p q e = cc
-
-same_number : (a b : ℕ) → Some a ≡ Some b → a ≡ b
+pub same_number : (a b : ℕ) → Some a ≡ Some b → a ≡ b
 same_number a b e = cc
 
 root_of : (memory : List (List ℕ)) (store : Store) (holds : Holds memory store) (op : Op) (key : List ℕ) (v : ℕ) (e : CatEntry) → number_named (heads_in holds.forest.entries) (op_version op) ≡ Some v → slice_get holds.forest.entries v ≡ Some e
@@ -95,7 +94,7 @@ reached memory store holds seens all op key _ _ (by_root seen entries v e has se
 reached memory store holds seens all op key _ _ (by_child addr height seen page child above has sees of covers) =
     let up = reached memory store holds seens all op key addr height above in
     let there = page_seen memory store holds seen addr page (all seen has).0 sees in
-    let same : up.page ≡ page = same_page up.page page (sym up.there ∙ there) in
+    let same : up.page ≡ page = page_same up.page page (sym up.there ∙ there) in
     let c : IsChild holds.forest.entries (page_at holds.forest) page child = all_there (IsChild holds.forest.entries (page_at holds.forest) page) (children_of page) child (holds.sound.tree.children addr page there) of in
     let few : up.version < length holds.forest.entries = subst (λ (k : ℕ). up.version < k) (length-map holds.forest.entries entry_head) (number_within (heads_in holds.forest.entries) (op_version op) up.version up.named) in
     let lower : height_of c.page.body + 1 ≡ height_of page.body = c.height in
@@ -117,14 +116,14 @@ no_bit copied low = rw (bit_at_above copied 64 64 low (omega arith)) refl
 in_range : (P : ℕ → Type 0) (a k w : ℕ) → AllByRecursion P (range_with_len a k) → a ≤ w → w < a + k
     → P w
 in_range P a zero w all low high = absurd (omega arith)
-in_range P a (suc k) w all low high = by (low_or_high a w) (λ l. in_range P (a + 1) k w all.1 l (omega arith))
+in_range P a (suc k) w all low high = by (below_or a w) (λ l. in_range P (a + 1) k w all.1 l (omega arith))
   where
     by : (a < w) ⊎ (w ≤ a) → (a + 1 ≤ w → P w) → P w
     by (inl less) rest = rest (omega arith)
     by (inr here) rest = let same : a ≡ w = omega arith in subst P same all.0
 
 not_copied : (memory : List (List ℕ)) (store : Store) (holds : Holds memory store) (addr : Addr) (p : Page) → page_at holds.forest addr ≡ Some p → has_version p.copied (length holds.forest.entries) ≡ true → ⊥
-not_copied memory store holds addr p there copied = by (low_or_high (length holds.forest.entries) 64)
+not_copied memory store holds addr p there copied = by (below_or (length holds.forest.entries) 64)
   where
     of : HasVersions holds.forest.entries p
     of = holds.sound.tree.pages addr p there
@@ -144,15 +143,11 @@ not_copied memory store holds addr p there copied = by (low_or_high (length hold
         let is : length holds.forest.entries ≡ 64 = omega (arith, few) in
         clash (has_version p.copied (length holds.forest.entries)) copied (ap (has_version p.copied) is ∙ no_bit p.copied (holds.sound.laid.pages addr p there).copied)
 
-and_right : (a b : Bool) → (a && b) ≡ true → b ≡ true
-and_right true b e = e
-and_right false b e = absurd cc
-
 -- a root that was copied for the new version has it in its copied set
 copied_root : (entries : List CatEntry) (op : Op) (height : Option ℕ) (page : Page)
     → is_copied_root entries op height page ≡ true
     → has_version page.copied (length entries) ≡ true
-copied_root entries op None page copied = and_right (is_copying op) (has_version page.copied (length entries)) copied
+copied_root entries op None page copied = right_true (is_copying op) (has_version page.copied (length entries)) copied
 copied_root entries op (Some height) page copied = absurd cc
 
 bad_page : (memory : List (List ℕ)) (store : Store) (holds : Holds memory store) (seens : List Seen)
@@ -184,7 +179,7 @@ bad_page memory store holds seens all op addr seq (seen, key, height, entries, h
     too_high page is e = (seen, addr, page, has, (place, is), Rattle.std.proofs.lemmas.Bool.ltb-true 14 (height_of page.body) e)
 
     page_is : (page : Page) → SpellsPage seen.bytes page → on.page ≡ page
-    page_is page is = same_page on.page page (sym on.there ∙ page_seen memory store holds seen addr page (all seen has).0 (place, is))
+    page_is page is = page_same on.page page (sym on.there ∙ page_seen memory store holds seen addr page (all seen has).0 (place, is))
 
     wrong : (h : Option ℕ) → height ≡ h → (page : Page) → SpellsPage seen.bytes page
         → is_wrong_height h (height_of page.body) ≡ true → TooHigh seens

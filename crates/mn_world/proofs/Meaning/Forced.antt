@@ -7,6 +7,7 @@ use Rattle.mn_base.specs.declared.ids.NodeNo.{NodeNo}
 use Rattle.mn_base.specs.declared.ids.ClientNo.{ClientNo}
 use Rattle.mn_base.specs.declared.ids.Tid.{Tid}
 use Rattle.mn_base.specs.declared.answer.Busy.TheVariants.{Forced}
+use Rattle.mn_base.proofs.Booleans.{or_cases, or_left, or_right}
 use Rattle.mn_mini.specs.declared.part.PartItem.{PartItem}
 use Rattle.mn_mini.specs.declared.record.Record.{Record}
 use Rattle.mn_mini.specs.declared.record.Record.TheVariants as Rec
@@ -30,7 +31,6 @@ use Rattle.mn_world.proofs.Reading.MakeRun.{runs_follow_protocol}
 use Rattle.mn_world.proofs.Reading.Same.{tid_same-refl}
 use Rattle.mn_world.proofs.Reading.Unchanged.{record_stays, current_issue}
 use Rattle.mn_world.proofs.Votes.Preserved.{new_not_old, kept_run}
-use Rattle.mn_world.proofs.Meaning.Over.{or_cases, or_left, or_right}
 use Rattle.mn_world.proofs.Meaning.Splits.{Front, front}
 use Rattle.mn_world.proofs.Meaning.Prefixes.{follows_before, keeps_there}
 use Rattle.mn_world.proofs.Meaning.LastTry.{as_in_last, busy_tries, in_log}
@@ -67,7 +67,7 @@ forced_by base records tid ps part is = by (has_forced records tid) refl is
     by false e f = absurd (locks (clash_of (held_parts records) tid part) f)
 
 -- a Forced is a record of its id
-forced_recorded : (records : List Record) (tid : Tid) → has_forced records tid ≡ true
+pub forced_recorded : (records : List Record) (tid : Tid) → has_forced records tid ≡ true
     → has_record records tid ≡ true
 forced_recorded [] tid has = absurd cc
 forced_recorded (Rec.Forced t ∷ records) tid has = by (or_cases (tid_same t tid) (has_forced records tid) has) (λ f. forced_recorded records tid f)

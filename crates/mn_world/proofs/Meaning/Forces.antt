@@ -6,6 +6,7 @@ use Rattle.mn_base.specs.Ids.{tid_same, node_same}
 use Rattle.mn_base.specs.declared.ids.NodeNo.{NodeNo}
 use Rattle.mn_base.specs.declared.ids.ClientNo.{ClientNo}
 use Rattle.mn_base.specs.declared.ids.Tid.{Tid}
+use Rattle.mn_base.proofs.Booleans.{clash, left_true, or_cases, or_left, right_true}
 use Rattle.mn_mini.specs.declared.part.PartItem.{PartItem}
 use Rattle.mn_mini.specs.declared.record.Record.{Record}
 use Rattle.mn_mini.specs.declared.record.Record.TheVariants.{Voted, Executed, Decided, Forced}
@@ -15,6 +16,7 @@ use Rattle.mn_mini.specs.declared.reply.NodeReply.TheVariants as Say
 use Rattle.mn_mini.specs.Mini.{Mini, participants_of, has_write}
 use Rattle.mn_mini.specs.Flat.{Mismatched, part_mismatch_from}
 use Rattle.mn_mini.specs.Node.{Clash, clash_of, held_parts, is_held, has_forced, has_voted, only_reply, after_compares, after_locks, tested, answer, space_of, with_added}
+use Rattle.mn_mini.proofs.Parts.{same_true}
 use Rattle.mn_world.specs.declared.entry.Entry.{Entry}
 use Rattle.mn_world.specs.declared.entry.What.{What}
 use Rattle.mn_world.specs.declared.entry.What.TheVariants.{Begin, Issue, Called, Stopped, Restarted, Abandoned, Answered}
@@ -24,23 +26,16 @@ use Rattle.mn_world.specs.Clients.{AllowsPrepare, AllowsDecide, Sends}
 use Rattle.mn_world.specs.Protocol.{Start, base_at, start_records, records_of, KeepsProtocol, FollowsProtocol}
 use Rattle.mn_world.specs.Laws.{StartsSound}
 use Rattle.mn_world.specs.Causes.{prepared_after_decide, is_recovery, recovers_nothing, WasForcedBy}
-use Rattle.mn_world.proofs.Reading.Same.{tid_same-true, node_same-true}
+use Rattle.mn_world.proofs.Reading.Same.{tid_same-true}
 use Rattle.mn_world.proofs.Reading.NewCalls.{IsCallOf, WasAnswered, own_calls, some_call, new_call, new_member, call_stays}
 use Rattle.mn_world.proofs.Reading.Unchanged.{issue_stays, current_issue, abandoned_stays}
 use Rattle.mn_world.proofs.Votes.Backing.{Kept}
 use Rattle.mn_world.proofs.Votes.Preserved.{kept_run}
 use Rattle.mn_world.proofs.Commits.Once.{at_some}
 use Rattle.mn_world.proofs.Plans.Told.{all_there}
-use Rattle.mn_world.proofs.Meaning.Over.{or_cases, or_left, and_left, told_weaker}
+use Rattle.mn_world.proofs.Meaning.Over.{told_weaker}
 use Rattle.mn_world.proofs.Meaning.Positions.{is_own}
 use Rattle.mn_world.proofs.Meaning.Heard.{decide_is}
-
-and_right : (a b : Bool) → (a && b) ≡ true → b ≡ true
-and_right true b e = e
-and_right false b e = absurd cc
-
-clash : (b : Bool) → b ≡ true → b ≡ false → ⊥
-clash b p q = cc
 
 -- Which request adds a Forced
 
@@ -133,7 +128,7 @@ forced_more e past n tid (sender, f) = (
   },
 )
 
-same_request : (a b : Request) → Some a ≡ Some b → a ≡ b
+pub same_request : (a b : Request) → Some a ≡ Some b → a ≡ b
 same_request a b e = cc
 
 -- the node stopped in it
@@ -275,19 +270,19 @@ NoneAsked calls = list_all (λ (call : Call). not (is_recovery call.request)) ca
 none_such : (f : Call → Bool) → ((call : Call) → f call ≡ true → is_recovery call.request ≡ true)
     → (cs : List Call) → NoneAsked cs → list_any f cs ≡ true → ⊥
 none_such f such [] none any = absurd cc
-none_such f such (c ∷ cs) none any = by (or_cases (f c) (list_any f cs) any) (λ there. none_such f such cs (and_right (not (is_recovery c.request)) _ none) there)
+none_such f such (c ∷ cs) none any = by (or_cases (f c) (list_any f cs) any) (λ there. none_such f such cs (right_true (not (is_recovery c.request)) _ none) there)
   where
     not_true : (b : Bool) → not b ≡ true → b ≡ true → ⊥
     not_true true e h = absurd cc
     not_true false e h = absurd cc
 
     by : (f c ≡ true) ⊎ (list_any f cs ≡ true) → (list_any f cs ≡ true → ⊥) → ⊥
-    by (inl here) rest = not_true (is_recovery c.request) (and_left (not (is_recovery c.request)) _ none) (such c here)
+    by (inl here) rest = not_true (is_recovery c.request) (left_true (not (is_recovery c.request)) _ none) (such c here)
     by (inr there) rest = rest there
 
 none_older : (new old : List Call) → NoneAsked (new ++ old) → NoneAsked old
 none_older [] old none = none
-none_older (c ∷ new) old none = none_older new old (and_right (not (is_recovery c.request)) _ none)
+none_older (c ∷ new) old none = none_older new old (right_true (not (is_recovery c.request)) _ none)
 
 none_before : (c : ClientNo) (e : Entry) (past : List Entry)
     → NoneAsked (calls_of (client_entries c (e ∷ past)))
@@ -369,7 +364,7 @@ unlisted start past c tid ps run none (call, has, lists) = at (calls_of (client_
     all : (cs : List Call) → NoneAsked cs
         → AllByRecursion (λ (d : Call). not (is_recovery d.request) ≡ true) cs
     all [] h = tt
-    all (d ∷ cs) h = (and_left (not (is_recovery d.request)) _ h, all cs (and_right (not (is_recovery d.request)) _ h))
+    all (d ∷ cs) h = (left_true (not (is_recovery d.request)) _ h, all cs (right_true (not (is_recovery d.request)) _ h))
 
     at : (cs : List Call) → NoneAsked cs → Contains cs call → ⊥
     at cs h there =
@@ -393,7 +388,7 @@ all_done_by es t (k ∷ ps) none all = (by (or_cases (was_told (is_prepare t) is
         → was_told (is_prepare t) is_done k es ≡ true
     by (inl h) = h
     by (inr h) =
-        absurd (none_such (λ (c : Call). node_same c.node k && (is_force t c.request && is_yes c.reply)) (λ c e. force_asks t c.request (and_left (is_force t c.request) _ (and_right (node_same c.node k) _ e))) (calls_of es) none h)
+        absurd (none_such (λ (c : Call). node_same c.node k && (is_force t c.request && is_yes c.reply)) (λ c e. force_asks t c.request (left_true (is_force t c.request) _ (right_true (node_same c.node k) _ e))) (calls_of es) none h)
 
 backed_now : (start : Start) (past : List Entry) (c : ClientNo) (t : Tid) (verdict : Bool)
     → FollowsProtocol start past → NoneAsked (calls_of (client_entries c past))
@@ -406,7 +401,7 @@ backed_now start past c t false run none decides = by (or_cases (was_abandoned t
     by : (was_abandoned t (client_entries c past) ≡ true)
         ⊎ (list_any (λ (d : Call). is_force t d.request && is_no d.reply) (calls_of (client_entries c past)) ≡ true) → Backed (client_entries c past) t
     by (inl gone) = inl gone
-    by (inr forced) = absurd (none_such (λ (d : Call). is_force t d.request && is_no d.reply) (λ d e. force_asks t d.request (and_left (is_force t d.request) _ e)) (calls_of (client_entries c past)) none forced)
+    by (inr forced) = absurd (none_such (λ (d : Call). is_force t d.request && is_no d.reply) (λ d e. force_asks t d.request (left_true (is_force t d.request) _ e)) (calls_of (client_entries c past)) none forced)
 
 backed_on : (start : Start) (past : List Entry) (e : Entry) (c : ClientNo) (t : Tid)
     → Kept start past → KeepsProtocol start past e → Backed (client_entries c past) t
@@ -433,7 +428,7 @@ backed start (e ∷ past) c t n sound run none told =
         → Backed (client_entries c past) t
     by (inl old) older = older old
     by (inr (call, is, passes)) older =
-        let ask = decide_is t call.request (and_left (is_decide t call.request) true (and_right (node_same call.node n) _ passes)) in
+        let ask = decide_is t call.request (left_true (is_decide t call.request) true (right_true (node_same call.node n) _ passes)) in
         let sends : Sends (client_entries c past) (Some call.node) (Ask.Decide t ask.0) = subst (λ (q : Request). Sends (client_entries c past) (Some call.node) q) ask.1 is.sends in
         backed_now start past c t ask.0 run.0 (none_before c e past none) sends.1
 
@@ -483,8 +478,8 @@ early_none start (e ∷ past) t n sound run none = by_client (early_none start p
         → list_any (λ (c : Call). node_same c.node n && is_prepare t c.request) (call_in e.node e.what) ≡ true → was_decided t n (client_entries t.client past) ≡ true → ⊥
     never by any decided =
         let s = some_call (IsCallOf start past t.client e) (λ (c : Call). node_same c.node n && is_prepare t c.request) (call_in e.node e.what) (own_calls start past t.client e run.1 by) any in
-        let ask = prepare_is t s.0.request (and_right (node_same s.0.node n) _ s.2) in
-        let node : s.0.node ≡ n = node_same-true s.0.node n (and_left (node_same s.0.node n) _ s.2) in
+        let ask = prepare_is t s.0.request (right_true (node_same s.0.node n) _ s.2) in
+        let node : s.0.node ≡ n = same_true s.0.node n (left_true (node_same s.0.node n) _ s.2) in
         let sends : AllowsPrepare (client_entries t.client past) s.0.node t ask.0 ask.1 = subst (λ (q : Request). Sends (client_entries t.client past) (Some s.0.node) q) ask.2 s.1.sends in
         late_none start past t.client t n ask.0 ask.1 sound run.0 (none_before t.client e past none) decided (subst (λ (k : NodeNo). AllowsPrepare (client_entries t.client past) k t ask.0 ask.1) node sends)
 

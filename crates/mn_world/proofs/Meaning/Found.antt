@@ -3,7 +3,7 @@
 use Rattle.std.proofs.Common.{◌≡◌, ℕ, ◌⊎◌, inl, inr, Bool, true, false, List, [], ◌∷◌, ◌++◌, length, Option, Some, None, refl, subst, sym, ap, ◌∙◌, if◌then◌else◌, Contains}
 use Rattle.std.specs.Prelude.{IsTrue}
 use Rattle.std.specs.List.{AllByRecursion}
-use Rattle.std.proofs.lemmas.List.{append_assoc, append_cancel_right}
+use Rattle.std.proofs.lemmas.List.{append_assoc}
 use Rattle.mn_base.specs.Ids.{tid_same}
 use Rattle.mn_base.specs.declared.history.Past.{Past}
 use Rattle.mn_base.specs.declared.ids.NodeNo.{NodeNo}
@@ -12,6 +12,7 @@ use Rattle.mn_base.specs.declared.ids.Tid.{Tid}
 use Rattle.mn_base.specs.declared.op.Op.{Op}
 use Rattle.mn_base.specs.declared.reply.Reply.{Reply}
 use Rattle.mn_base.specs.declared.reply.Reply.TheVariants as Say
+use Rattle.mn_base.proofs.Booleans.{clash}
 use Rattle.mn_mini.specs.Mini.{Mini, participants_of}
 use Rattle.mn_mini.specs.declared.item.Item.{Item}
 use Rattle.mn_mini.specs.declared.item.Item.TheVariants.{Compare, Read, Write}
@@ -39,9 +40,10 @@ use Rattle.mn_world.proofs.Meaning.Positions.{IssueAt, issue_keeps}
 use Rattle.mn_world.proofs.Meaning.Origins.{begun_as, issue_of}
 use Rattle.mn_world.proofs.Meaning.Done.{CommittedIn, done_committed}
 use Rattle.mn_world.proofs.Meaning.LastPlan.{Lifted, lift}
-use Rattle.mn_world.proofs.Meaning.Answered.{all_of, some_participant}
+use Rattle.mn_world.proofs.Meaning.Answered.{some_participant}
 use Rattle.mn_world.proofs.Meaning.Once.{Differs, none_past}
 use Rattle.mn_world.proofs.Meaning.Stands.{OlderHistory, older_history, put_plan, client_of, one_issue}
+use Rattle.mn_world.proofs.Votes.Start.{all_true}
 
 -- The issue of what commits
 
@@ -93,9 +95,6 @@ record IssueFacts (before : List Entry) (by : Option ClientNo) (i : Issued) : Ty
   of : under_way (client_entries client before) ≡ Some begun
   reply : Reply
   planned : IsPlanBy (client_entries client before) begun.op i.mini reply
-
-clash : (b : Bool) → b ≡ true → b ≡ false → ⊥
-clash b p q = cc
 
 issue_facts : (before : List Entry) (by : Option ClientNo) (at : Option NodeNo) (what : What) (i : Issued) → AllowedBy before by at what → Means before by what → issue_in what ≡ i ∷ [] → is_read i.mini.items ≡ false → IssueFacts before by i
 issue_facts before None at (Issue tid mini) i allowed means is not_read = absurd allowed
@@ -205,7 +204,7 @@ plan_stands start past old sound run history c number op now i bef last plan don
     co : CommittedIn past i.tid
     co =
         done_committed start past i.tid i.mini sound follows mine (some_participant start i.mini ((whole_run start past sound follows).even.minis i.tid i.mini mine))
-        (subst (λ (d : ClientNo). AllByRecursion (λ n. was_done i.tid n (client_entries d past) ≡ true) (participants_of i.mini)) (sym own) (all_of (λ n. was_done i.tid n (client_entries c past)) (participants_of i.mini) done))
+        (subst (λ (d : ClientNo). AllByRecursion (λ n. was_done i.tid n (client_entries d past) ≡ true) (participants_of i.mini)) (sym own) (all_true (λ n. was_done i.tid n (client_entries c past)) (participants_of i.mini) done))
 
     older_follows : FollowsProtocol start co.before
     older_follows = (follows_before start past co.later (co.entry ∷ co.before) co.split follows).0

@@ -6,6 +6,7 @@ use Rattle.std.proofs.lemmas.List.Folds.{list_any-append}
 use Rattle.mn_base.specs.Ids.{tid_same, node_same}
 use Rattle.mn_base.specs.declared.ids.NodeNo.{NodeNo}
 use Rattle.mn_base.specs.declared.ids.Tid.{Tid}
+use Rattle.mn_base.proofs.Booleans.{clash, left_true, or_cases, or_left, or_right, right_true}
 use Rattle.mn_mini.specs.declared.record.Record.{Record}
 use Rattle.mn_mini.specs.declared.record.Record.TheVariants.{Voted, Executed, Decided, Forced}
 use Rattle.mn_mini.specs.declared.request.Request.{Request}
@@ -13,29 +14,24 @@ use Rattle.mn_mini.specs.declared.request.Request.TheVariants as Ask
 use Rattle.mn_mini.specs.declared.reply.NodeReply.{NodeReply}
 use Rattle.mn_mini.specs.declared.reply.NodeReply.TheVariants as Say
 use Rattle.mn_mini.specs.Node.{HeldPart, held_parts, held_part_of, is_held, without_tid, has_voted, answer, with_added}
+use Rattle.mn_mini.proofs.Parts.{same_true}
+use Rattle.mn_mini.proofs.Apart.{All-without}
 use Rattle.mn_world.specs.declared.entry.Entry.{Entry}
 use Rattle.mn_world.specs.Calls.{Call, call_in, is_by, was_decided, is_prepare, is_force, is_decide, is_done, is_yes, calls_of, client_entries, was_told}
 use Rattle.mn_world.specs.Opened.{has_record, AreInPlace}
 use Rattle.mn_world.specs.Protocol.{Start, start_nodes, base_at, records_of, FollowsProtocol}
 use Rattle.mn_world.specs.Laws.{StartsSound}
 use Rattle.mn_world.specs.Causes.{prepared_after_decide}
-use Rattle.mn_world.proofs.Reading.Same.{tid_same-true, node_same-true}
+use Rattle.mn_world.proofs.Reading.Same.{tid_same-true}
 use Rattle.mn_world.proofs.Reading.Steps.{Grows, records_grow}
 use Rattle.mn_world.proofs.Reading.NewCalls.{IsCallOf, WasAnswered, new_call, call_stays}
 use Rattle.mn_world.proofs.Reading.Unchanged.{record_stays}
 use Rattle.mn_world.proofs.Votes.Backing.{Kept}
 use Rattle.mn_world.proofs.Votes.Start.{vote_names, named_record}
-use Rattle.mn_world.proofs.Votes.Preserved.{All-without, kept_run}
+use Rattle.mn_world.proofs.Votes.Preserved.{kept_run}
 use Rattle.mn_world.proofs.Votes.Records.{records_stay_sound}
-use Rattle.mn_world.proofs.Meaning.Over.{or_cases, or_left, or_right, and_left, told_weaker}
+use Rattle.mn_world.proofs.Meaning.Over.{told_weaker}
 use Rattle.mn_world.proofs.Meaning.OlderSettled.{is_lost}
-
-and_right : (a b : Bool) → (a && b) ≡ true → b ≡ true
-and_right true b e = e
-and_right false b e = absurd cc
-
-clash : (b : Bool) → b ≡ true → b ≡ false → ⊥
-clash b p q = cc
 
 -- Not held
 
@@ -221,9 +217,9 @@ heard start (e ∷ past) t n sound run low told = by (new_call start past t.clie
         → (node_same call.node n && (is_decide t call.request && is_heard call.reply)) ≡ true
         → Rests (client_entries t.client (e ∷ past)) t n (Released start (e ∷ past) t n)
     here call is passes =
-        let node : call.node ≡ n = node_same-true call.node n (and_left (node_same call.node n) _ passes) in
-        let ask = decide_is t call.request (and_left (is_decide t call.request) _ (and_right (node_same call.node n) _ passes)) in
-        let up : WasAnswered start past e call = heard_up call.reply (WasAnswered start past e call) (and_right (is_decide t call.request) _ (and_right (node_same call.node n) _ passes)) is.answered in
+        let node : call.node ≡ n = same_true call.node n (left_true (node_same call.node n) _ passes) in
+        let ask = decide_is t call.request (left_true (is_decide t call.request) _ (right_true (node_same call.node n) _ passes)) in
+        let up : WasAnswered start past e call = heard_up call.reply (WasAnswered start past e call) (right_true (is_decide t call.request) _ (right_true (node_same call.node n) _ passes)) is.answered in
         let records : records_of start (e ∷ past) n ≡ with_added (answer (base_at start n) (records_of start past n) (Ask.Decide t ask.0)).added (records_of start past n) =
         subst (λ (q : Request). records_of start (e ∷ past) n ≡ with_added (answer (base_at start n) (records_of start past n) q).added (records_of start past n)) ask.1
         (subst (λ (k : NodeNo). records_of start (e ∷ past) k ≡ with_added (answer (base_at start k) (records_of start past k) call.request).added (records_of start past k)) node up.records) in

@@ -9,7 +9,7 @@ use Rattle.mn_base.specs.declared.ids.Tid.{Tid}
 use Rattle.mn_base.specs.declared.answer.Busy.TheVariants.{Lock}
 use Rattle.mn_mini.specs.declared.part.PartItem.{PartItem}
 use Rattle.mn_mini.specs.declared.record.Record.{Record}
-use Rattle.mn_mini.specs.declared.record.Record.TheVariants.{Voted, Executed, Decided}
+use Rattle.mn_mini.specs.declared.record.Record.TheVariants.{Voted, Executed}
 use Rattle.mn_mini.specs.declared.request.Request.{Request}
 use Rattle.mn_mini.specs.declared.request.Request.TheVariants as Ask
 use Rattle.mn_mini.specs.declared.reply.NodeReply.{NodeReply}
@@ -17,6 +17,7 @@ use Rattle.mn_mini.specs.declared.reply.NodeReply.TheVariants as Say
 use Rattle.mn_mini.specs.Mini.{range_of, item_conflicts_with, has_write}
 use Rattle.mn_mini.specs.Flat.{Mismatched, part_mismatch_from}
 use Rattle.mn_base.specs.Ranges.{least_tid, lesser_tid}
+use Rattle.mn_base.proofs.Booleans.{or_cases}
 use Rattle.mn_mini.specs.Node.{HeldPart, held_parts, has_forced, has_voted, holders, Clash, clash_or, clash_of, only_reply, after_compares, after_locks, tested, answer, space_of}
 use Rattle.mn_world.specs.declared.entry.Entry.{Entry}
 use Rattle.mn_world.specs.declared.entry.What.{What}
@@ -33,17 +34,12 @@ use Rattle.mn_world.specs.Causes.{prepared_after_decide, missed_decision, missed
 use Rattle.mn_world.proofs.Reading.MakeRun.{runs_follow_protocol}
 use Rattle.mn_world.proofs.Reading.Same.{tid_same-true}
 use Rattle.mn_world.proofs.Meaning.Prefixes.{follows_before, keeps_there, older_run}
-use Rattle.mn_world.proofs.Meaning.Over.{or_cases}
 use Rattle.mn_world.proofs.Meaning.LastTry.{as_in_last, busy_tries, in_log}
 use Rattle.mn_world.proofs.Meaning.Refused.{LastRefused, last_refused, call_in_last}
 use Rattle.mn_world.proofs.Meaning.Forces.{recovers_before, early_none}
 use Rattle.mn_world.proofs.Meaning.Another.{of_another, issue_by}
-
-contains_here : {X : Type 0} (x : X) (xs : List X) → Contains (x ∷ xs) x
-contains_here x xs = (0, omega arith, refl)
-
-contains_more : {X : Type 0} (x : X) (xs : List X) (y : X) → Contains xs y → Contains (x ∷ xs) y
-contains_more x xs y (k, in', is) = (suc k, omega arith, is)
+use Rattle.mn_world.proofs.Bytes.Step.{tid_turned}
+use Rattle.mn_world.proofs.Meaning.Stands.{contains_here, contains_more}
 
 -- Who holds
 
@@ -156,28 +152,18 @@ tested_lock base records tid part added clash is = locks (clash_of (held_parts r
         λ i. Some (record { range = record { start = parts.0 i; length = parts.1 i }; holder = parts.2 i })
     locks None e = absurd (compares (part_mismatch_from (space_of base records) 0 part) e)
 
-not_same : (t u : Tid) → tid_same t u ≡ false → tid_same u t ≡ false
-not_same t u e = by (tid_same u t) refl
-  where
-    clash : (b : Bool) → b ≡ true → b ≡ false → ⊥
-    clash b p q = cc
-
-    by : (b : Bool) → tid_same u t ≡ b → tid_same u t ≡ false
-    by true f = absurd (clash (tid_same t u) (subst (λ (x : Tid). tid_same t x ≡ true) (sym (tid_same-true u t f)) (Rattle.mn_world.proofs.Reading.Same.tid_same-refl t)) e)
-    by false f = f
-
 locked_by : (base : List ℕ) (records : List Record) (request : Request) (clash : Clash)
     → (answer base records request).reply ≡ Say.BadLock clash.range.start clash.range.length clash.holder → LockedBy records request clash
 locked_by base records (Ask.Prepare tid ps part) clash is = by (has_forced records tid) is
   where
     own : (t : Tid) → tid_same t tid ≡ false → (tid_same tid t || false) ≡ false
-    own t e = ap (λ (b : Bool). b || false) (not_same t tid e)
+    own t e = ap (λ (b : Bool). b || false) (tid_turned t tid e)
 
     by : (b : Bool)
         → (if b then only_reply Say.BadForced else tested base records tid part (Some (Voted tid ps part))).reply ≡ Say.BadLock clash.range.start clash.range.length clash.holder → LockedBy records (Ask.Prepare tid ps part) clash
     by true e = absurd cc
     by false e = record { tid = tid; part = part; asked = refl; clashes = tested_lock base records tid part (Some (Voted tid ps part)) clash e; own = own; tries = ap (λ (b : Bool). b || false) (Rattle.mn_world.proofs.Reading.Same.tid_same-refl tid) }
-locked_by base records (Ask.Exec tid part) clash is = record { tid = tid; part = part; asked = refl; clashes = tested_lock base records tid part (if has_write part then Some (Executed tid part) else None) clash is; own = λ t e. not_same t tid e; tries = Rattle.mn_world.proofs.Reading.Same.tid_same-refl tid }
+locked_by base records (Ask.Exec tid part) clash is = record { tid = tid; part = part; asked = refl; clashes = tested_lock base records tid part (if has_write part then Some (Executed tid part) else None) clash is; own = λ t e. tid_turned t tid e; tries = Rattle.mn_world.proofs.Reading.Same.tid_same-refl tid }
 locked_by base records (Ask.Decide tid verdict) clash is = absurd cc
 locked_by base records (Ask.Force tid) clash is = absurd (by (has_voted records tid) is)
   where

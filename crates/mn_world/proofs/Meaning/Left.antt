@@ -8,6 +8,7 @@ use Rattle.mn_base.specs.declared.ids.ClientNo.{ClientNo}
 use Rattle.mn_base.specs.declared.ids.Tid.{Tid}
 use Rattle.mn_base.specs.declared.answer.Answer.TheVariants.{Replied}
 use Rattle.mn_base.specs.Store.{Store}
+use Rattle.mn_base.proofs.Booleans.{clash, or_left}
 use Rattle.mn_mini.specs.declared.part.PartItem.{PartItem}
 use Rattle.mn_mini.specs.declared.request.Request.{Request}
 use Rattle.mn_mini.specs.declared.request.Request.TheVariants as Ask
@@ -15,6 +16,7 @@ use Rattle.mn_mini.specs.declared.reply.NodeReply.{NodeReply}
 use Rattle.mn_mini.specs.declared.reply.NodeReply.TheVariants as Say
 use Rattle.mn_mini.specs.Mini.{Mini, participants_of}
 use Rattle.mn_mini.specs.Node.{HeldPart, held_parts, held_part_of, has_voted, has_decided_yes, has_decided_no}
+use Rattle.mn_mini.proofs.Parts.{same_self}
 use Rattle.mn_world.specs.declared.entry.Entry.{Entry}
 use Rattle.mn_world.specs.declared.entry.What.{What}
 use Rattle.mn_world.specs.declared.entry.What.TheVariants.{Called}
@@ -26,20 +28,20 @@ use Rattle.mn_world.specs.History.{Placed}
 use Rattle.mn_world.specs.Laws.{StartsSound, IsNeverCommitted}
 use Rattle.mn_world.specs.Meaning.{HistoryRun}
 use Rattle.mn_world.specs.OneHistory.{is_yes_vote, EndsWithVote, StandsNowhere, IsNeverAlone, TookEffect, AreFree, LeftAreSettled}
-use Rattle.mn_world.proofs.Reading.Same.{node_same-refl, tid_same-refl, tid_same-true}
+use Rattle.mn_world.proofs.Reading.Same.{tid_same-refl, tid_same-true}
 use Rattle.mn_world.proofs.Reading.MakeRun.{runs_follow_protocol}
 use Rattle.mn_world.proofs.Reading.Unchanged.{current_issue, issue_stays}
 use Rattle.mn_world.proofs.Votes.Backing.{mini_of, IsLost, AllVoted, Kept}
 use Rattle.mn_world.proofs.Votes.Start.{names_old}
 use Rattle.mn_world.proofs.Votes.Lost.{IsLost_stays}
-use Rattle.mn_world.proofs.Votes.Preserved.{kept_run, new_not_old, decided_yes_voted, decided_no_lost, voted_or_lost}
+use Rattle.mn_world.proofs.Votes.Preserved.{kept_run, new_not_old, decided_yes_voted, decided_no_lost, voted_or_lost, same_mini}
 use Rattle.mn_world.proofs.Commits.Never.{IsBacked, never_from, since_abandoned, once_run, some_to_one, asked_some}
 use Rattle.mn_world.proofs.Bytes.Step.{voted_held}
 use Rattle.mn_world.proofs.Bytes.Through.{Whole}
 use Rattle.mn_world.proofs.Bytes.Spaces.{whole_run}
 use Rattle.mn_world.proofs.Bytes.Prepares.{read_alone}
 use Rattle.mn_world.proofs.Plans.Told.{all_there}
-use Rattle.mn_world.proofs.Meaning.Over.{GoneIn, behind, all_over, gone_since, gone_never, since_told, or_left}
+use Rattle.mn_world.proofs.Meaning.Over.{GoneIn, behind, all_over, gone_since, gone_never, since_told}
 use Rattle.mn_world.proofs.Meaning.Splits.{SameSplit, same_split}
 use Rattle.mn_world.proofs.Meaning.Prefixes.{follows_before, keeps_there}
 use Rattle.mn_world.proofs.Meaning.Clients.{Allowed, client_allowed, behind_answer}
@@ -50,12 +52,7 @@ use Rattle.mn_world.proofs.Meaning.Origins.{Origin, by_plan, by_answer}
 use Rattle.mn_world.proofs.Meaning.Once.{answer_as}
 use Rattle.mn_world.proofs.Meaning.Between.{origin_of}
 use Rattle.mn_world.proofs.Meaning.Settled.{InOlder, InLater, where_is, Stands, stands_or_not, took_effect, CommitsLater, commits_later, never_later}
-
-clash : (b : Bool) → b ≡ true → b ≡ false → ⊥
-clash b p q = cc
-
-same_mini : (a b : Mini) → Some a ≡ Some b → a ≡ b
-same_mini a b e = cc
+use Rattle.mn_world.proofs.Meaning.Shut.{not_false}
 
 -- The vote that was the client's last step
 
@@ -66,12 +63,9 @@ record YesVote (what : What) : Type 0 where
   reads : List (List ℕ)
   is : what ≡ Called (Ask.Prepare tid participants part) (Say.Done reads)
 
-not_yes : false ≡ true → ⊥
-not_yes e = cc
-
 yes_vote : (what : What) → is_yes_vote what ≡ true → YesVote what
 yes_vote (Called (Ask.Prepare tid ps part) (Say.Done reads)) e = record { tid = tid; participants = ps; part = part; reads = reads; is = refl }
-yes_vote what e = absurd (not_yes e)
+yes_vote what e = absurd (not_false e)
 
 record Voter (start : Start) (past : List Entry) (c : ClientNo) : Type 0 where
   at : OwnAt past c
@@ -112,7 +106,7 @@ voter start past c run ends = by (client_entries c past) refl ends
 
 told_yes : (k : NodeNo) (tid : Tid) (ps : List NodeNo) (part : List PartItem) (reads : List (List ℕ)) (by : Option ClientNo) (es : List Entry) → has_yes tid k (record { node = Some k; client = by; what = Called (Ask.Prepare tid ps part) (Say.Done reads) } ∷ es) ≡ true
 told_yes k tid ps part reads by es =
-    let n = node_same-refl k in
+    let n = same_self k in
     let t = tid_same-refl tid in
     let test : (node_same k k && (tid_same tid tid && true)) ≡ true = cc in
     or_left _ _ (or_left _ _ test)

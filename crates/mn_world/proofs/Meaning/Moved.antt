@@ -38,7 +38,7 @@ use Rattle.mn_world.specs.Laws.{StartsSound, part_of_request}
 use Rattle.mn_world.specs.Meaning.{OpenedRun, StandsAt, AnswersOp}
 use Rattle.mn_world.specs.Causes.{BusyTries, CommitsOther, WasMoved, MovedByOther}
 use Rattle.mn_world.proofs.Reading.MakeRun.{runs_follow_protocol}
-use Rattle.mn_world.proofs.Reading.Sees.{calls-append, seen_in-cons}
+use Rattle.mn_world.proofs.Reading.Sees.{seen_in-cons}
 use Rattle.mn_world.proofs.Votes.Backing.{ExecAt}
 use Rattle.mn_world.proofs.Votes.Preserved.{new_not_old}
 use Rattle.mn_world.proofs.Votes.Acts.{sent_unvoted}
@@ -49,7 +49,6 @@ use Rattle.mn_world.proofs.Bytes.Step.{flat, exec_unheld, unvoted_unheld}
 use Rattle.mn_world.proofs.Bytes.Through.{Whole}
 use Rattle.mn_world.proofs.Bytes.Spaces.{whole_run}
 use Rattle.mn_world.proofs.Bytes.Seen.{StandsIn, here_seen, nothing}
-use Rattle.mn_world.proofs.Meaning.Splits.{shorter}
 use Rattle.mn_world.proofs.Meaning.Prefixes.{follows_before, older_run}
 use Rattle.mn_world.proofs.Meaning.Effects.{flat_none, flat_read, no_plan_at_read}
 use Rattle.mn_world.proofs.Meaning.Once.{others_commit_nothing}
@@ -57,6 +56,7 @@ use Rattle.mn_world.proofs.Meaning.Found.{plan_exists}
 use Rattle.mn_world.proofs.Meaning.LastTry.{Deeper, deeper, as_in_last, busy_tries, in_log}
 use Rattle.mn_world.proofs.Meaning.Refused.{LastRefused, last_refused, call_in_last}
 use Rattle.mn_world.proofs.Meaning.Held.{call_answer}
+use Rattle.mn_world.proofs.Examples.Entries.{calls_append}
 
 -- Bytes of a range of a range
 
@@ -237,7 +237,7 @@ brought (e ∷ es) seen has = by (Contains-append_cases (seen_at e) (seen_in es)
 
 none_first : (newer older : List Entry) → none_refused (newer ++ older) ≡ true
     → none_refused newer ≡ true
-none_first newer older e = first (calls_of newer) (ap (list_all (λ (c : Call). not (is_refusal c.reply))) (sym (calls-append newer older)) ∙ e)
+none_first newer older e = first (calls_of newer) (ap (list_all (λ (c : Call). not (is_refusal c.reply))) (sym (calls_append newer older)) ∙ e)
   where
     and_left : (a b : Bool) → (a && b) ≡ true → a ≡ true
     and_left true b h = refl

@@ -7,6 +7,7 @@ use Rattle.mn_base.specs.Ids.{tid_same, node_same}
 use Rattle.mn_base.specs.declared.ids.NodeNo.{NodeNo}
 use Rattle.mn_base.specs.declared.ids.ClientNo.{ClientNo}
 use Rattle.mn_base.specs.declared.ids.Tid.{Tid}
+use Rattle.mn_base.proofs.Booleans.{clash, left_true, not_true, or_cases, or_right, right_true}
 use Rattle.mn_mini.specs.declared.request.Request.{Request}
 use Rattle.mn_mini.specs.declared.request.Request.TheVariants as Ask
 use Rattle.mn_mini.specs.declared.reply.NodeReply.{NodeReply}
@@ -24,7 +25,7 @@ use Rattle.mn_world.proofs.Reading.NewCalls.{by_of}
 use Rattle.mn_world.proofs.Votes.Start.{all_true}
 use Rattle.mn_world.proofs.Plans.Told.{all_there}
 use Rattle.mn_world.proofs.Commits.Never.{since_abandoned}
-use Rattle.mn_world.proofs.Meaning.Over.{or_cases, or_right, and_left, told_weaker, behind}
+use Rattle.mn_world.proofs.Meaning.Over.{told_weaker, behind}
 
 -- each entry is allowed by the older ones, and means what it says
 abbrev pub Legal : ClientNo → List Entry → Type 0
@@ -62,17 +63,6 @@ Over now i =
     ((was_abandoned i.tid now ≡ true) × ((is_read i.mini.items ≡ true) ⊎ HasSettled now i))
     ⊎ (was_told_somewhere (is_exec i.tid) any_reply now ≡ true)
 
-not_true : (b : Bool) → not b ≡ true → b ≡ false
-not_true true e = absurd cc
-not_true false e = refl
-
-clash : (b : Bool) → b ≡ true → b ≡ false → ⊥
-clash b p q = cc
-
-and_right : (a b : Bool) → (a && b) ≡ true → b ≡ true
-and_right true b e = e
-and_right false b e = absurd cc
-
 any_exec : (tid : Tid) (say : NodeReply → Bool) (now : List Entry)
     → was_told_somewhere (is_exec tid) say now ≡ true
     → was_told_somewhere (is_exec tid) any_reply now ≡ true
@@ -106,11 +96,11 @@ over_here now i over settled = first (or_cases _ _ over)
         ⊎ ((is_read i.mini.items && was_told_somewhere (is_exec i.tid) is_done now) ≡ true)
         → Over now i
     last (inl h) = inr (any_exec i.tid is_refused now h)
-    last (inr h) = inr (any_exec i.tid is_done now (and_right (is_read i.mini.items) _ h))
+    last (inr h) = inr (any_exec i.tid is_done now (right_true (is_read i.mini.items) _ h))
 
     first : ((was_abandoned i.tid now && not (was_told_somewhere (is_prepare i.tid) is_lost now)) ≡ true)
         ⊎ ((was_told_somewhere (is_exec i.tid) is_refused now || (is_read i.mini.items && was_told_somewhere (is_exec i.tid) is_done now)) ≡ true) → Over now i
-    first (inl h) = inl (and_left (was_abandoned i.tid now) _ h, settle (not_true _ (and_right (was_abandoned i.tid now) _ h)) (or_cases (is_read i.mini.items) (is_settled now i) settled))
+    first (inl h) = inl (left_true (was_abandoned i.tid now) _ h, settle (not_true _ (right_true (was_abandoned i.tid now) _ h)) (or_cases (is_read i.mini.items) (is_settled now i) settled))
     first (inr h) = last (or_cases _ _ h)
 
 -- An entry leaves it so: after an id was abandoned no Prepare of it is sent
@@ -188,7 +178,7 @@ all_settled : (now : List Entry) (is : List Issued) → may_follow now is ≡ tr
     → list_all (λ (i : Issued). is_read i.mini.items || is_settled now i) is ≡ true
     → AllByRecursion (Over now) (behind is) → AllByRecursion (Over now) is
 all_settled now [] may settled all = tt
-all_settled now (i ∷ is) may settled all = (over_here now i may (and_left (is_read i.mini.items || is_settled now i) _ settled), all)
+all_settled now (i ∷ is) may settled all = (over_here now i may (left_true (is_read i.mini.items || is_settled now i) _ settled), all)
 
 abbrev pub AllOver : List Entry → Type 0
 AllOver now = AllByRecursion (Over now) (behind (issues_of now))

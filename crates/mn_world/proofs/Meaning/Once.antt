@@ -11,7 +11,7 @@ use Rattle.mn_base.specs.declared.history.Past.{Past}
 use Rattle.mn_base.specs.declared.ids.ClientNo.{ClientNo}
 use Rattle.mn_base.specs.declared.answer.Answer.{Answer}
 use Rattle.mn_base.specs.declared.answer.Answer.TheVariants.{Replied}
-use Rattle.mn_page.proofs.Grid.{all_append}
+use Rattle.mn_base.proofs.Lists.{all_append}
 use Rattle.mn_world.specs.declared.entry.Entry.{Entry}
 use Rattle.mn_world.specs.Protocol.{Start}
 use Rattle.mn_world.specs.Run.{IsRun}

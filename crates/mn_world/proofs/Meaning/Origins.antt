@@ -9,7 +9,7 @@ use Rattle.mn_base.specs.declared.ids.NodeNo.{NodeNo}
 use Rattle.mn_base.specs.declared.ids.ClientNo.{ClientNo}
 use Rattle.mn_base.specs.declared.answer.Answer.{Answer}
 use Rattle.mn_base.specs.declared.answer.Answer.TheVariants.{Replied, Busy as GaveUp, Down, InDoubt, Full, Worn, NoMemory}
-use Rattle.mn_page.proofs.Grid.{all_append}
+use Rattle.mn_base.proofs.Lists.{all_append}
 use Rattle.mn_world.specs.declared.entry.Entry.{Entry}
 use Rattle.mn_world.specs.declared.entry.What.{What}
 use Rattle.mn_world.specs.declared.entry.What.TheVariants.{Begin, Issue, Called, Stopped, Restarted, Abandoned, Answered}
@@ -20,6 +20,7 @@ use Rattle.mn_world.specs.Protocol.{Start, FollowsProtocol, AllowedBy}
 use Rattle.mn_world.specs.History.{Placed, placed_in, PlanOf, ReadPlace, has_past, AnswerPuts, StepPuts, EntryPuts, IsHistory}
 use Rattle.mn_world.proofs.Meaning.Splits.{shorter_by}
 use Rattle.mn_world.proofs.Meaning.Positions.{OwnAt, IssueAt, AnswerAt}
+use Rattle.mn_world.proofs.Meaning.Clients.{same_begun}
 
 -- A committed plan
 
@@ -109,9 +110,6 @@ pub data Puts (past : List Entry) (e : Entry) (old new : List Placed) : Type 0 w
       → Puts past e old new
   plan_new : (p : Past) → PlanAt (e ∷ past) (length past) p
       → new ≡ old ++ record { place = length past; past = p } ∷ [] → Puts past e old new
-
-same_begun : (a b : Begun) → Some a ≡ Some b → a ≡ b
-same_begun a b e = cc
 
 answer_puts : (past : List Entry) (at : Option NodeNo) (c : ClientNo) (number : ℕ) (answer : Answer) (begun : Option Begun) (old new : List Placed) → under_way (client_entries c past) ≡ begun
     → AllowedBy past (Some c) at (Answered number answer) → AnswerPuts past c begun answer old new

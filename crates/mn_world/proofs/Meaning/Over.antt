@@ -6,6 +6,7 @@ use Rattle.std.proofs.lemmas.List.Elements.{Contains-append_right}
 use Rattle.mn_base.specs.declared.ids.NodeNo.{NodeNo}
 use Rattle.mn_base.specs.declared.ids.ClientNo.{ClientNo}
 use Rattle.mn_base.specs.declared.ids.Tid.{Tid}
+use Rattle.mn_base.proofs.Booleans.{left_true, or_cases, or_left, or_right}
 use Rattle.mn_mini.specs.declared.reply.NodeReply.{NodeReply}
 use Rattle.mn_mini.specs.declared.reply.NodeReply.TheVariants as Say
 use Rattle.mn_world.specs.declared.entry.Entry.{Entry}
@@ -18,22 +19,6 @@ use Rattle.mn_world.specs.Protocol.{Start, FollowsProtocol}
 use Rattle.mn_world.specs.Laws.{StartsSound, IsNeverCommitted}
 use Rattle.mn_world.proofs.Commits.Never.{since_abandoned, abandoned_is_never, refused_is_never}
 use Rattle.mn_world.proofs.Meaning.Clients.{Allowed}
-
-pub or_cases : (a b : Bool) → (a || b) ≡ true → (a ≡ true) ⊎ (b ≡ true)
-or_cases true b e = inl refl
-or_cases false b e = inr e
-
-pub or_left : (a b : Bool) → a ≡ true → (a || b) ≡ true
-or_left true b e = refl
-or_left false b e = absurd cc
-
-pub or_right : (a b : Bool) → b ≡ true → (a || b) ≡ true
-or_right true b e = refl
-or_right false b e = e
-
-pub and_left : (a b : Bool) → (a && b) ≡ true → a ≡ true
-and_left true b e = refl
-and_left false b e = absurd cc
 
 -- by this list the issue is never committed, if it is no read
 abbrev pub GoneIn : List Entry → Issued → Type 0
@@ -52,11 +37,11 @@ over_gone now i e = first (or_cases _ _ e)
         ⊎ ((is_read i.mini.items && was_told_somewhere (is_exec i.tid) is_done now) ≡ true)
         → GoneIn now i
     last (inl h) = inr (inl h)
-    last (inr h) = inr (inr (and_left (is_read i.mini.items) (was_told_somewhere (is_exec i.tid) is_done now) h))
+    last (inr h) = inr (inr (left_true (is_read i.mini.items) (was_told_somewhere (is_exec i.tid) is_done now) h))
 
     first : ((was_abandoned i.tid now && not (was_told_somewhere (Rattle.mn_world.specs.Calls.is_prepare i.tid) (λ reply. Rattle.mn_world.specs.Calls.is_down_reply reply || is_stopped reply) now)) ≡ true)
         ⊎ ((was_told_somewhere (is_exec i.tid) is_refused now || (is_read i.mini.items && was_told_somewhere (is_exec i.tid) is_done now)) ≡ true) → GoneIn now i
-    first (inl h) = inl (and_left (was_abandoned i.tid now) _ h)
+    first (inl h) = inl (left_true (was_abandoned i.tid now) _ h)
     first (inr h) = last (or_cases _ _ h)
 
 abbrev pub behind : List Issued → List Issued

@@ -5,6 +5,7 @@ use Rattle.mn_base.specs.Ids.{tid_same, node_same}
 use Rattle.mn_base.specs.declared.ids.NodeNo.{NodeNo}
 use Rattle.mn_base.specs.declared.ids.ClientNo.{ClientNo}
 use Rattle.mn_base.specs.declared.ids.Tid.{Tid}
+use Rattle.mn_base.proofs.Booleans.{clash, left_true, or_cases, or_left, or_right, right_true}
 use Rattle.mn_mini.specs.declared.request.Request.{Request}
 use Rattle.mn_mini.specs.declared.request.Request.TheVariants as Ask
 use Rattle.mn_mini.specs.declared.reply.NodeReply.{NodeReply}
@@ -15,7 +16,7 @@ use Rattle.mn_mini.specs.Node.{HeldPart, held_parts, is_held, has_voted}
 use Rattle.mn_world.specs.declared.entry.Entry.{Entry}
 use Rattle.mn_world.specs.declared.entry.What.{What}
 use Rattle.mn_world.specs.declared.entry.What.TheVariants.{Begin, Issue, Called, Stopped, Restarted, Abandoned, Answered}
-use Rattle.mn_world.specs.Calls.{Call, Issued, call_in, calls_of, issues_of, issue_named, is_prepare, is_exec, is_decide, is_try, is_done, is_stopped, is_by, was_told, was_told_somewhere, was_done, was_stopped, was_abandoned, was_decided, was_sent, has_no, since_begin, since_begin_after, client_entries}
+use Rattle.mn_world.specs.Calls.{Call, Issued, call_in, calls_of, issues_of, issue_named, is_prepare, is_exec, is_decide, is_try, is_done, is_stopped, is_by, was_told, was_told_somewhere, was_abandoned, was_decided, was_sent, since_begin, since_begin_after, client_entries}
 use Rattle.mn_world.specs.Clients.{Sends}
 use Rattle.mn_world.specs.Protocol.{Start, start_nodes, records_of, KeepsProtocol, FollowsProtocol}
 use Rattle.mn_world.specs.Run.{IsRun}
@@ -27,24 +28,14 @@ use Rattle.mn_world.proofs.Reading.NewCalls.{IsCallOf, new_call, by_of}
 use Rattle.mn_world.proofs.Reading.Unchanged.{as_own, issue_stays, current_issue, may_try}
 use Rattle.mn_world.proofs.Votes.Backing.{IsOld, PartAt, WasTried, Kept}
 use Rattle.mn_world.proofs.Votes.Start.{held_has_vote}
-use Rattle.mn_world.proofs.Votes.Preserved.{new_not_old, voted_tried, kept_run}
+use Rattle.mn_world.proofs.Votes.Preserved.{new_not_old, voted_tried, kept_run, same_mini}
 use Rattle.mn_world.proofs.Votes.Records.{voted_part}
 use Rattle.mn_world.proofs.Plans.Told.{all_there}
 use Rattle.mn_world.proofs.Bytes.Prepares.{read_alone}
 use Rattle.mn_world.proofs.Commits.Never.{once_run, some_to_one, unsent_none, issued_anew, since_abandoned}
-use Rattle.mn_world.proofs.Meaning.Over.{or_cases, or_left, or_right, and_left, told_weaker, more, since_told, behind}
+use Rattle.mn_world.proofs.Meaning.Over.{told_weaker, more, since_told, behind}
 use Rattle.mn_world.proofs.Meaning.OlderSettled.{Over, HasSettled, any_reply, is_lost, all_over, client_legal}
 use Rattle.mn_world.proofs.Meaning.Heard.{NotHeld, Released, Rests, is_heard, heard, none_found}
-
-and_right : (a b : Bool) → (a && b) ≡ true → b ≡ true
-and_right true b e = e
-and_right false b e = absurd cc
-
-clash : (b : Bool) → b ≡ true → b ≡ false → ⊥
-clash b p q = cc
-
-same_mini : (a b : Mini) → Some a ≡ Some b → a ≡ b
-same_mini a b e = cc
 
 -- What was sent since Begin
 
@@ -122,7 +113,7 @@ exec_list : (es : List Entry) (tid : Tid)
     → was_told_somewhere (is_exec tid) any_reply (since_begin es) ≡ true
     → list_any (λ (d : Call). is_exec tid d.request) (calls_of es) ≡ true
 exec_list es tid told =
-    told_weaker (λ (d : Call). is_exec tid d.request && true) (λ (d : Call). is_exec tid d.request) (λ d h. and_left (is_exec tid d.request) true h) (calls_of es) (since_told (λ (d : Call). is_exec tid d.request && true) es told)
+    told_weaker (λ (d : Call). is_exec tid d.request && true) (λ (d : Call). is_exec tid d.request) (λ d h. left_true (is_exec tid d.request) true h) (calls_of es) (since_told (λ (d : Call). is_exec tid d.request && true) es told)
 
 over_sends : (start : Start) (past : List Entry) (c : ClientNo) (n : NodeNo) (request : Request) (i : Issued) → StartsSound start → FollowsProtocol start past → is_try i.tid request ≡ true → Sends (client_entries c past) (Some n) request → Over (since_begin (client_entries c past)) i → ⊥
 over_sends start past c n (Ask.Prepare t ps part) i sound run try s over = by over
@@ -235,7 +226,7 @@ try_split tid say n (c ∷ cs) e = by (or_cases (node_same c.node n && (is_try t
   where
     one : (a p x s : Bool) → (a && ((p || x) && s)) ≡ true → ((a && (p && s)) ≡ true) ⊎ (x ≡ true)
     one true true x s h = inl h
-    one true false x s h = inr (and_left x s h)
+    one true false x s h = inr (left_true x s h)
     one false p x s h = absurd cc
 
     here : ((node_same c.node n && (is_prepare tid c.request && say c.reply)) ≡ true)
@@ -352,7 +343,7 @@ own_decided start past n request tid holder mini held sound run low try sends di
             → was_told (is_prepare holder) say n (since_begin (client_entries holder.client past)) ≡ true
         by (inl h) =
             current_run start past holder.client holder (λ (c : Call). node_same c.node n && (is_prepare holder c.request && say c.reply))
-            (λ call e. or_left (is_prepare holder call.request) _ (and_left (is_prepare holder call.request) _ (and_right (node_same call.node n) _ e))) sound follows mini named h
+            (λ call e. or_left (is_prepare holder call.request) _ (left_true (is_prepare holder call.request) _ (right_true (node_same call.node n) _ e))) sound follows mini named h
         by (inr h) = absurd (no_exec h)
 
     done : HasSettled (since_begin (client_entries holder.client past)) (record { tid = holder; mini = mini }) → was_told (is_prepare holder) is_done n (since_begin (client_entries holder.client past)) ≡ true

@@ -9,6 +9,7 @@ use Rattle.mn_base.specs.declared.ids.NodeNo.{NodeNo}
 use Rattle.mn_base.specs.declared.ids.ClientNo.{ClientNo}
 use Rattle.mn_base.specs.declared.ids.Tid.{Tid}
 use Rattle.mn_base.specs.declared.answer.Answer.{Answer}
+use Rattle.mn_base.proofs.Booleans.{clash, or_cases}
 use Rattle.mn_mini.specs.declared.request.Request.{Request}
 use Rattle.mn_mini.specs.declared.request.Request.TheVariants as Ask
 use Rattle.mn_mini.specs.Mini.{Mini}
@@ -30,19 +31,17 @@ use Rattle.mn_world.proofs.Reading.Unchanged.{current_issue}
 use Rattle.mn_world.proofs.Votes.Backing.{Kept}
 use Rattle.mn_world.proofs.Votes.Preserved.{kept_run}
 use Rattle.mn_world.proofs.Commits.Never.{none_some}
-use Rattle.mn_world.proofs.Meaning.Over.{or_cases}
 use Rattle.mn_world.proofs.Meaning.Splits.{shorter_by}
 use Rattle.mn_world.proofs.Meaning.Prefixes.{follows_before, keeps_there}
-use Rattle.mn_world.proofs.Meaning.Clients.{Allowed, client_allowed, Still, Ended, since_op}
+use Rattle.mn_world.proofs.Meaning.Clients.{Allowed, client_allowed, Still, Ended, since_op, same_begun}
 use Rattle.mn_world.proofs.Meaning.Positions.{IssueAt, AnswerAt, behind_issue, answered_once, client_split, is_own}
 use Rattle.mn_world.proofs.Meaning.LastPlan.{Lifted, lift}
 use Rattle.mn_world.proofs.Meaning.Origins.{begun_as}
 use Rattle.mn_world.proofs.Meaning.Stands.{client_of}
 use Rattle.mn_world.proofs.Meaning.Settled.{InOlder, InLater, where_is, longer}
-use Rattle.mn_world.proofs.Meaning.Shut.{none_down, shut_quiet, effect_try, answer_shuts, answer_later}
-
-clash : (b : Bool) → b ≡ true → b ≡ false → ⊥
-clash b p q = cc
+use Rattle.mn_world.proofs.Meaning.Shut.{none_down, shut_quiet, effect_try, answer_shuts, answer_later, no_request}
+use Rattle.mn_world.proofs.Meaning.Between.{all_mid}
+use Rattle.mn_world.proofs.Meaning.Forces.{same_request}
 
 -- What a client's entry commits, it sent for its operation under way
 
@@ -60,12 +59,6 @@ sent_named es k (Ask.Decide t verdict) tid s try = absurd cc
 sent_named es k (Ask.Force t) tid s try = absurd cc
 sent_named es k Ask.List tid s try = absurd cc
 sent_named es k (Ask.Peek at n) tid s try = absurd cc
-
-no_request : (r : Request) → None ≡ Some r → ⊥
-no_request r e = cc
-
-same_request : (a b : Request) → Some a ≡ Some b → a ≡ b
-same_request a b e = cc
 
 effect_named : (start : Start) (past : List Entry) (c : ClientNo) (k : NodeNo) (what : What) (tid : Tid) (request : Request) → KeepsProtocol start past (record { node = Some k; client = Some c; what = what }) → AreUp start past
     → effect_of (node_entries k past) what ≡ Some request → is_try tid request ≡ true
@@ -113,14 +106,6 @@ still_or_answered start past c b newer older run split is = by (since_op c b new
         inr (record { answer = e.answer; at = record { at = record { entry = e.entry; later = l.later; before = l.before; split = l.split; by = l.by }; answers = e.answers } })
 
 -- The entry that commits
-
-all_mid : (P : Entry → Type 0) (xs : List Entry) (x : Entry) (ys : List Entry)
-    → AllByRecursion P (xs ++ x ∷ ys) → P x
-all_mid P [] x ys all = all.0
-all_mid P (z ∷ xs) x ys all = all_mid P xs x ys all.1
-
-same_begun : (a b : Begun) → Some a ≡ Some b → a ≡ b
-same_begun a b e = cc
 
 -- a plan that is committed by an entry of the client, while each node is up and the operation is
 -- under way

@@ -21,6 +21,7 @@ use Rattle.mn_world.proofs.Meaning.Prefixes.{follows_before}
 use Rattle.mn_world.proofs.Meaning.Over.{GoneIn, gone_never, never_there}
 use Rattle.mn_world.proofs.Meaning.Positions.{inner_split, IssueAt, AnswerAt, followed_gone, answered_since, issue_before_answer, ordered}
 use Rattle.mn_world.proofs.Meaning.Origins.{PlanAt, issue_of, issue_low}
+use Rattle.mn_world.proofs.Meaning.Effects.{either}
 
 -- an id is committed at one place
 pub one_place : (start : Start) (past : List Entry) → StartsSound start → FollowsProtocol start past
@@ -127,10 +128,6 @@ given_up_all now (i ∷ is) e = (first (is_read i.mini.items || is_given_up now 
     second : (a b : Bool) → (a && b) ≡ true → b ≡ true
     second true b h = h
     second false b h = absurd cc
-
-either : (a b : Bool) → (a || b) ≡ true → a ≡ false → b ≡ true
-either true b e f = absurd cc
-either false b e f = e
 
 -- no plan of the operation is committed, before or after
 pub given_up_none : (start : Start) (past : List Entry) → StartsSound start

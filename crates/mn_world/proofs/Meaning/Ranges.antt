@@ -11,14 +11,8 @@ use Rattle.mn_page.specs.Holds.{page_covers, pairs_in}
 use Rattle.mn_page.proofs.Grid.{filter_both}
 use Rattle.mn_base.proofs.Keys.{bytes_eq-true, key_lt-trans, key_lt-else}
 use Rattle.mn_base.proofs.PairsWith.{AllAbove, all_above, ascending_parts}
+use Rattle.mn_base.proofs.Booleans.{and_false, clash}
 use Rattle.mn_world.specs.Shown.{IsChain, EndsAtOrAbove, ReachesEnd, BeginsAt, leaf_pairs}
-
-clash : (b : Bool) → b ≡ true → b ≡ false → ⊥
-clash b p q = cc
-
-and_false : (b : Bool) → (b && false) ≡ false
-and_false true = refl
-and_false false = refl
 
 -- Keys
 

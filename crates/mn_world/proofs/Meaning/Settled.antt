@@ -8,6 +8,8 @@ use Rattle.mn_base.specs.declared.ids.NodeNo.{NodeNo}
 use Rattle.mn_base.specs.declared.ids.ClientNo.{ClientNo}
 use Rattle.mn_base.specs.declared.answer.Answer.TheVariants.{Replied, InDoubt}
 use Rattle.mn_base.specs.Store.{Store}
+use Rattle.mn_base.proofs.Booleans.{clash}
+use Rattle.mn_page.proofs.FrontFields.{is_at}
 use Rattle.mn_world.specs.declared.entry.Entry.{Entry}
 use Rattle.mn_world.specs.Calls.{client_entries, since_begin}
 use Rattle.mn_world.specs.Protocol.{Start, FollowsProtocol}
@@ -15,7 +17,7 @@ use Rattle.mn_world.specs.History.{Placed}
 use Rattle.mn_world.specs.Laws.{StartsSound, IsNeverCommitted}
 use Rattle.mn_world.specs.Meaning.{HistoryRun, CommitsPlanAt}
 use Rattle.mn_world.specs.OneHistory.{IsOp, StandsNowhere, IsNever, OthersHaveNone, TookEffect, AreUp, AreSettled}
-use Rattle.mn_world.proofs.Reading.Same.{client_same-refl, client_same-true, nat_eq-refl, nat_eq-true}
+use Rattle.mn_world.proofs.Reading.Same.{client_same-refl, client_same-true, nat_eq-refl}
 use Rattle.mn_world.proofs.Reading.MakeRun.{runs_follow_protocol}
 use Rattle.mn_world.proofs.Meaning.Over.{never_there}
 use Rattle.mn_world.proofs.Meaning.Splits.{shorter_by}
@@ -64,9 +66,6 @@ longer (x ∷ older) past = let rest = longer older past in omega arith
 
 -- an operation stands in a history, or nowhere there
 
-clash : (b : Bool) → b ≡ true → b ≡ false → ⊥
-clash b p q = cc
-
 pub record Stands (placed : List Placed) (c : ClientNo) (number : ℕ) : Type 0 where
   pub p : Placed
   pub there : Contains placed p
@@ -90,7 +89,7 @@ stands_or_not c number (q ∷ qs) = by (client_same q.past.client c) refl (nat_e
     by : (a : Bool) → client_same q.past.client c ≡ a → (b : Bool) → nat_eq q.past.number number ≡ b
         → Stands qs c number ⊎ StandsNowhere qs c number
         → Stands (q ∷ qs) c number ⊎ StandsNowhere (q ∷ qs) c number
-    by true e true f rest = inl (record { p = q; there = (0, omega arith, refl); of = (client_same-true q.past.client c e, nat_eq-true q.past.number number f) })
+    by true e true f rest = inl (record { p = q; there = (0, omega arith, refl); of = (client_same-true q.past.client c e, is_at q.past.number number f) })
     by true e false f rest = other (λ client is. clash (nat_eq q.past.number number) (subst (λ (k : ℕ). nat_eq q.past.number k ≡ true) is (nat_eq-refl q.past.number)) f) rest
     by false e b f rest = other (λ client is. clash (client_same q.past.client c) (subst (λ (d : ClientNo). client_same q.past.client d ≡ true) client (client_same-refl q.past.client)) e) rest
 

@@ -9,6 +9,7 @@ use Rattle.mn_base.specs.declared.ids.NodeNo.{NodeNo}
 use Rattle.mn_base.specs.declared.ids.ClientNo.{ClientNo}
 use Rattle.mn_base.specs.declared.ids.Tid.{Tid}
 use Rattle.mn_base.specs.declared.answer.Answer.{Answer}
+use Rattle.mn_base.proofs.Booleans.{clash, or_cases}
 use Rattle.mn_mini.specs.declared.request.Request.{Request}
 use Rattle.mn_mini.specs.declared.request.Request.TheVariants as Ask
 use Rattle.mn_mini.specs.Mini.{Mini}
@@ -27,12 +28,12 @@ use Rattle.mn_world.proofs.Reading.NewCalls.{by_of}
 use Rattle.mn_world.proofs.Reading.Unchanged.{as_own, current_issue, issue_stays}
 use Rattle.mn_world.proofs.Votes.Backing.{Kept}
 use Rattle.mn_world.proofs.Votes.Preserved.{kept_run}
-use Rattle.mn_world.proofs.Commits.Never.{none_some, same_issued, closed_since}
+use Rattle.mn_world.proofs.Commits.Never.{none_some, same_issued, closed_since, none_is_some}
 use Rattle.mn_world.proofs.Commits.Once.{at_some}
-use Rattle.mn_world.proofs.Meaning.Over.{or_cases}
 use Rattle.mn_world.proofs.Meaning.Prefixes.{older_follows}
 use Rattle.mn_world.proofs.Meaning.Positions.{IssueAt, AnswerAt, issue_before_answer, answered_since}
 use Rattle.mn_world.proofs.Meaning.Done.{CommittedIn, committed_more}
+use Rattle.mn_world.proofs.Meaning.Forces.{same_request}
 
 -- Nothing more is sent for the id
 
@@ -52,10 +53,7 @@ shut_stays start past e c tid kept keeps (mini, is, none) = (
   ] refl,
 )
 
-none_is_some : (m : Mini) → None ≡ Some m → ⊥
-none_is_some m e = absurd cc
-
-not_false : false ≡ true → ⊥
+pub not_false : false ≡ true → ⊥
 not_false e = cc
 
 -- what a client may send of an id is of its operation under way
@@ -83,10 +81,7 @@ sends_none start past d k (Ask.Peek at n) tid c kept shut s try = not_false try
 abbrev pub NonePending : List Entry → Tid → Type 0
 NonePending past tid = (k : NodeNo) (request : Request) → is_try tid request ≡ true → is_down (node_entries k past) ≡ true → stopped_request (node_entries k past) ≡ Some request → ⊥
 
-same_request : (a b : Request) → Some a ≡ Some b → a ≡ b
-same_request a b e = cc
-
-no_request : (r : Request) → None ≡ Some r → ⊥
+pub no_request : (r : Request) → None ≡ Some r → ⊥
 no_request r e = cc
 
 not_pending : (start : Start) (past : List Entry) (by : Option ClientNo) (k : NodeNo) (what : What) (tid : Tid) (c : ClientNo) (request : Request) → Kept start past → KeepsProtocol start past (record { node = Some k; client = by; what = what }) → IsShut c past tid → NonePending past tid
@@ -127,9 +122,6 @@ down_low start (e ∷ past) k run down =
     low at =
         let keeps : KeepsProtocol start past (record { node = Some k; client = e.client; what = e.what }) = subst (λ (o : Option NodeNo). KeepsProtocol start past (record { node = o; client = e.client; what = e.what })) (at_some k e.node e.client e.what at) run.1 in
         keeps.at_node.0
-
-clash : (b : Bool) → b ≡ true → b ≡ false → ⊥
-clash b p q = cc
 
 pub none_down : (start : Start) (past : List Entry) (tid : Tid) → FollowsProtocol start past
     → AreUp start past → NonePending past tid

@@ -16,6 +16,7 @@ use Rattle.mn_base.specs.declared.reply.Reply.{Reply}
 use Rattle.mn_base.specs.declared.answer.Answer.{Answer}
 use Rattle.mn_base.specs.declared.answer.Answer.TheVariants.{Replied}
 use Rattle.mn_page.specs.Holds.{Holds}
+use Rattle.mn_page.proofs.FrontFields.{is_at}
 use Rattle.mn_world.specs.declared.entry.Entry.{Entry}
 use Rattle.mn_world.specs.declared.entry.What.{What}
 use Rattle.mn_world.specs.declared.entry.What.TheVariants.{Begin, Issue, Called, Stopped, Restarted, Abandoned, Answered}
@@ -29,7 +30,7 @@ use Rattle.mn_world.specs.Laws.{StartsSound}
 use Rattle.mn_world.specs.History.{Placed, placed_in, PlanOf, ReadPlace, has_past, AnswerPuts, StepPuts, EntryPuts, IsHistory}
 use Rattle.mn_world.specs.Opened.{opened_memory}
 use Rattle.mn_world.specs.Meaning.{CommittedStands}
-use Rattle.mn_world.proofs.Reading.Same.{client_same-true, nat_eq-true}
+use Rattle.mn_world.proofs.Reading.Same.{client_same-true}
 use Rattle.mn_world.proofs.Reading.MakeRun.{runs_follow_protocol}
 use Rattle.mn_world.proofs.Meaning.Splits.{SameSplit, same_split, shorter_by}
 use Rattle.mn_world.proofs.Meaning.Prefixes.{older_run}
@@ -44,10 +45,10 @@ use Rattle.mn_world.proofs.Meaning.Once.{answer_more, plan_more}
 
 -- What stands in a list
 
-contains_here : {X : Type 0} (x : X) (xs : List X) → Contains (x ∷ xs) x
+pub contains_here : {X : Type 0} (x : X) (xs : List X) → Contains (x ∷ xs) x
 contains_here x xs = (0, omega arith, refl)
 
-contains_more : {X : Type 0} (x : X) (xs : List X) (y : X) → Contains xs y → Contains (x ∷ xs) y
+pub contains_more : {X : Type 0} (x : X) (xs : List X) (y : X) → Contains xs y → Contains (x ∷ xs) y
 contains_more x xs y (k, in', is) = (suc k, omega arith, is)
 
 put_new : (p : Placed) (ps : List Placed) → Contains (placed_in p ps) p
@@ -211,7 +212,7 @@ some_past c number (q ∷ qs) e = by (client_same q.past.client c && nat_eq q.pa
         → SomePast c number (q ∷ qs)
     by true here h rest =
         let parts = both (client_same q.past.client c) (nat_eq q.past.number number) here in
-        record { past = q; there = contains_here q qs; client = client_same-true q.past.client c parts.0; same = nat_eq-true q.past.number number parts.1 }
+        record { past = q; there = contains_here q qs; client = client_same-true q.past.client c parts.0; same = is_at q.past.number number parts.1 }
     by false here h rest = let r = rest h in record { past = r.past; there = contains_more q qs r.past r.there; client = r.client; same = r.same }
 
 -- the operation that is under way at the answer is the plan's

@@ -1,6 +1,5 @@
 -- Whether an entry of a run shows a reply can be told: the memory there holds a store.
 use Rattle.std.proofs.Common.{◌≡◌, ℕ, zero, suc, ◌+◌, ◌*◌, ◌≤◌, ◌⊎◌, inl, inr, true, false, List, [], ◌∷◌, ◌++◌, length, Option, Some, None, refl, subst, sym, ap, ◌∙◌, arith, if◌then◌else◌, Contains}
-use Rattle.std.specs.List.{AllByRecursion}
 use Rattle.std.proofs.lemmas.List.{append_assoc, length-map}
 use Rattle.std.proofs.lemmas.List.Elements.{Contains-append_left, Contains-append_right, Contains-append_cases}
 use Rattle.mn_base.specs.Store.{Head, Store, number_named, value_at, refusal, listing_of}
@@ -14,7 +13,7 @@ use Rattle.mn_base.specs.declared.reply.Reply.TheVariants as Say
 use Rattle.mn_mini.specs.Flat.{bytes_in, space_in}
 use Rattle.mn_page.specs.declared.page.Page.{Page}
 use Rattle.mn_page.specs.declared.entry.CatEntry.{CatEntry}
-use Rattle.mn_page.specs.Grammar.{page_bytes, height_of}
+use Rattle.mn_page.specs.Grammar.{height_of}
 use Rattle.mn_page.specs.Forest.{page_at, heads_in}
 use Rattle.mn_page.specs.Holds.{Holds, page_covers, page_serves, pairs_in}
 use Rattle.mn_page.proofs.Counted.{counted, IsCounted}
@@ -117,7 +116,7 @@ one_read e = by (seen_at e) refl
     by [] is = inl is
     by (s ∷ rest) is = inr (s, brings_one e.client e.node e.what s (subst (λ (l : List Seen). Contains l s) (sym is) (0, omega arith, refl)))
 
-only : (s x : Seen) → Contains (s ∷ []) x → s ≡ x
+pub only : (s x : Seen) → Contains (s ∷ []) x → s ≡ x
 only s x (zero, in', is) = is
 only s x (suc k, in', is) = absurd (omega arith)
 

@@ -10,6 +10,7 @@ use Rattle.mn_base.specs.declared.ids.Tid.{Tid}
 use Rattle.mn_base.specs.declared.op.Op.{Op}
 use Rattle.mn_base.specs.declared.answer.Answer.{Answer}
 use Rattle.mn_base.specs.declared.answer.Answer.TheVariants.{Replied, Busy as GaveUp, Down, InDoubt, Full, Worn, NoMemory}
+use Rattle.mn_base.proofs.Booleans.{clash, or_cases}
 use Rattle.mn_mini.specs.declared.part.PartItem.{PartItem}
 use Rattle.mn_mini.specs.declared.record.Record.{Record}
 use Rattle.mn_mini.specs.declared.request.Request.{Request}
@@ -20,6 +21,7 @@ use Rattle.mn_mini.specs.Mini.{has_write}
 use Rattle.mn_mini.specs.Flat.{part_mismatch_from}
 use Rattle.mn_mini.specs.Node.{Clash, clash_of, held_parts, has_voted, has_forced, only_reply, after_locks, after_compares, tested, space_of, answer}
 use Rattle.mn_mini.specs.declared.record.Record.TheVariants.{Voted, Executed, Forced}
+use Rattle.mn_mini.proofs.Parts.{same_self}
 use Rattle.mn_world.specs.declared.entry.Entry.{Entry}
 use Rattle.mn_world.specs.declared.entry.What.{What}
 use Rattle.mn_world.specs.declared.entry.What.TheVariants.{Begin, Issue, Called, Stopped, Restarted, Abandoned, Answered}
@@ -30,16 +32,11 @@ use Rattle.mn_world.specs.Protocol.{Start, base_at, records_of, KeepsProtocol, F
 use Rattle.mn_world.specs.Meaning.{BeginsOp}
 use Rattle.mn_world.specs.OneHistory.{AreUp}
 use Rattle.mn_world.specs.Undisturbed.{UpThroughout, IsOfUpNodes, UpIsSure}
-use Rattle.mn_world.proofs.Reading.Same.{node_same-refl}
 use Rattle.mn_world.proofs.Reading.MakeRun.{runs_follow_protocol}
-use Rattle.mn_world.proofs.Meaning.Over.{or_cases}
 use Rattle.mn_world.proofs.Meaning.Prefixes.{older_follows, keeps_there}
 use Rattle.mn_world.proofs.Meaning.Clients.{Allowed, client_allowed, same_op}
 use Rattle.mn_world.proofs.Meaning.Positions.{client_split, is_own}
 use Rattle.mn_world.proofs.Meaning.Answered.{ShownAnswer, shown_answer}
-
-clash : (b : Bool) → b ≡ true → b ≡ false → ⊥
-clash b p q = cc
 
 -- What a node that is up answers
 
@@ -90,7 +87,7 @@ down_call start past by (Some k) (Called request reply) f fails keeps up after a
     (ap is_none said ∙ answer_up (base_at start k) (records_of start past k) request)
 down_call start past by (Some k) (Stopped (Some request) asked) f fails keeps up after any =
     let e : Entry = record { node = Some k; client = by; what = Stopped (Some request) asked } in
-    let still : is_down (e ∷ node_entries k past) ≡ false = subst (λ (b : Bool). is_down (if b then e ∷ node_entries k past else node_entries k past) ≡ false) (node_same-refl k) (after k keeps.at_node.0) in
+    let still : is_down (e ∷ node_entries k past) ≡ false = subst (λ (b : Bool). is_down (if b then e ∷ node_entries k past else node_entries k past) ≡ false) (same_self k) (after k keeps.at_node.0) in
     clash true refl still
 down_call start past by (Some k) (Stopped None asked) f fails keeps up after any = no_call f refl any
 down_call start past by (Some k) (Restarted restored) f fails keeps up after any = no_call f refl any

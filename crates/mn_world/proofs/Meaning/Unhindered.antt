@@ -12,6 +12,7 @@ use Rattle.mn_base.specs.declared.answer.Answer.{Answer}
 use Rattle.mn_base.specs.declared.answer.Answer.TheVariants.{Replied, Busy as GaveUp, Down, InDoubt, Full, Worn, NoMemory}
 use Rattle.mn_base.specs.declared.answer.Busy.{Busy}
 use Rattle.mn_base.specs.declared.answer.Busy.TheVariants.{Lock, Moved, Forced, Path}
+use Rattle.mn_base.proofs.Booleans.{clash, right_true}
 use Rattle.mn_mini.specs.declared.part.PartItem.{PartItem}
 use Rattle.mn_mini.specs.declared.request.Request.{Request}
 use Rattle.mn_mini.specs.declared.request.Request.TheVariants as Ask
@@ -48,13 +49,6 @@ use Rattle.mn_world.proofs.Meaning.Forces.{recovers_before, early_none}
 use Rattle.mn_world.proofs.Meaning.Undisturbed.{none_fails, since_here}
 use Rattle.mn_world.proofs.Meaning.Unlocked.{held_since, names_since, issued_twice, issue_later}
 use Rattle.mn_world.proofs.Meaning.Sure.{under_behind, undisturbed_is_sure}
-
-clash : (b : Bool) → b ≡ true → b ≡ false → ⊥
-clash b p q = cc
-
-and_right : (a b : Bool) → (a && b) ≡ true → b ≡ true
-and_right true b e = e
-and_right false b e = absurd cc
 
 -- The operation's own entries
 
@@ -130,7 +124,7 @@ off holder tid request own other = by (tid_same holder tid) refl
 lost_fails : (n : NodeNo) (tid : Tid) (call : Call)
     → (node_same call.node n && (is_decide tid call.request && is_lost call.reply)) ≡ true
     → is_lost call.reply ≡ true
-lost_fails n tid call e = and_right (is_decide tid call.request) _ (and_right (node_same call.node n) _ e)
+lost_fails n tid call e = right_true (is_decide tid call.request) _ (right_true (node_same call.node n) _ e)
 
 no_lock : (start : Start) (store : Store) (past : List Entry) (c : ClientNo) (number : ℕ) (n : NodeNo) (begins size : ℕ) (holder : Tid) → OpenedRun start store past
     → (a : IsUnhindered start past c number (GaveUp (Lock n begins size holder))) → ⊥

@@ -7,13 +7,14 @@ use Rattle.std.proofs.lemmas.Bool.{eqb-true, eq-eqb, and_parts, and_from}
 use Rattle.std.proofs.lemmas.List.{length-set}
 use Rattle.mn_base.specs.Ids.{addr_same}
 use Rattle.mn_base.specs.declared.ids.Addr.{Addr}
+use Rattle.mn_base.proofs.Lists.{weaker}
 use Rattle.mn_page.specs.declared.page.Page.{Page}
 use Rattle.mn_page.specs.Overlay.{Held, held_at}
 use Rattle.mn_page.proofs.Grid.{get_in, set_in, add_in, get_in-set_same, get_in-set_other, get_in-add_new, lengths-set_in, lengths-add_in}
 use Rattle.mn_page.proofs.Counted.{same_addr}
 use Rattle.mn_world.specs.Growth.{taken_on, AreNextSlots, AreDifferent, addrs_of}
 use Rattle.mn_world.proofs.Plans.Sizes.{index-set_in, index-add_in}
-use Rattle.mn_world.proofs.Plans.NextSlots.{weaker, number_cases, taken_more, taken_here}
+use Rattle.mn_world.proofs.Plans.NextSlots.{number_cases, taken_more, taken_here}
 
 -- Addresses
 

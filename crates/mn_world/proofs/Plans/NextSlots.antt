@@ -6,17 +6,10 @@ use Rattle.std.proofs.lemmas.Bool.{eqb-true, eq-eqb}
 use Rattle.std.proofs.lemmas.List.{length-set}
 use Rattle.std.proofs.lemmas.Option.{slice_get_past}
 use Rattle.mn_base.specs.declared.ids.Addr.{Addr}
+use Rattle.mn_base.proofs.Lists.{all_both, weaker}
 use Rattle.mn_page.specs.Forest.{Forest, node_count, page_at}
 use Rattle.mn_world.specs.Growth.{taken_on, AreNextSlots, AreCounts, AreDifferent, NextSlotsAreFree, count_in}
 use Rattle.mn_world.proofs.Plans.Spaces.{get_in-index}
-
-pub weaker : {X : Type 0} (P Q : X → Type 0) → ((x : X) → P x → Q x) → (xs : List X) → AllByRecursion P xs → AllByRecursion Q xs
-weaker P Q more [] all = tt
-weaker P Q more (x ∷ xs) all = (more x all.0, weaker P Q more xs all.1)
-
-pub with_both : {X : Type 0} (P Q R : X → Type 0) → ((x : X) → P x → Q x → R x) → (xs : List X) → AllByRecursion P xs → AllByRecursion Q xs → AllByRecursion R xs
-with_both P Q R both [] p q = tt
-with_both P Q R both (x ∷ xs) p q = (both x p.0 q.0, with_both P Q R both xs p.1 q.1)
 
 pub number_cases : (a b : ℕ) → (a ≡ b) ⊎ (a ≡ b → ⊥)
 number_cases a b = cases (nat_eq a b) refl
@@ -111,7 +104,7 @@ none_past f s past = sym (get_in-index f.pages s.node.0 s.slot) ∙ slice_get_pa
 pub slots_free : (f : Forest) → node_count f ≤ 8 → (counts : List ℕ) (slots : List Addr) → AreCounts f counts slots → AreNextSlots counts slots
     → AllByRecursion (λ s. (page_at f s ≡ None) × (s.node.0 < node_count f) × (s.node.0 < 8) × (s.slot < 4096)) slots
 slots_free f few counts slots are next =
-    with_both (IsAbove counts) (λ s. taken_on slots s.node.0 ≡ 0 → ⊥) (λ s. (page_at f s ≡ None) × (s.node.0 < node_count f) × (s.node.0 < 8) × (s.slot < 4096)) one slots (slots_above counts slots next) (taken_here slots)
+    all_both (IsAbove counts) (λ s. taken_on slots s.node.0 ≡ 0 → ⊥) (λ s. (page_at f s ≡ None) × (s.node.0 < node_count f) × (s.node.0 < 8) × (s.slot < 4096)) one slots (slots_above counts slots next) (taken_here slots)
   where
     one : (s : Addr) → IsAbove counts s → (taken_on slots s.node.0 ≡ 0 → ⊥) → (page_at f s ≡ None) × (s.node.0 < node_count f) × (s.node.0 < 8) × (s.slot < 4096)
     one s above some =

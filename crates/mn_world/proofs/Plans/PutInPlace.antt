@@ -152,7 +152,7 @@ place_same node start a b e = ap (λ k. let r : Place = record { node = node; st
 sizes_differ : ◌≡◌ {A = ℕ} 1024 8 → ⊥
 sizes_differ e = absurd (omega arith)
 
-not_count : (addr : Addr) (n : NodeNo) (place : Place) → page_place addr ≡ place → place ≡ count_place n → ⊥
+pub not_count : (addr : Addr) (n : NodeNo) (place : Place) → page_place addr ≡ place → place ≡ count_place n → ⊥
 not_count addr n place e f = sizes_differ (ap (λ (x : Place). x.length) (e ∙ f))
 
 -- the list has just these places

@@ -1,10 +1,10 @@
 -- A Put that splits a root leaf is planned.
 use Rattle.std.proofs.Common.{◌≡◌, ℕ, zero, suc, ◌+◌, ◌-◌, ◌*◌, ◌^◌, ◌<◌, ◌≤◌, ◌⊎◌, inl, inr, Bool, true, false, not, ◌&&◌, ◌||◌, List, [], ◌∷◌, ◌++◌, length, take, replicate, Option, Some, None, refl, subst, sym, ap, ◌∙◌, arith, slice_get, slice_set, slice_index_or, Contains}
 use Rattle.std.specs.Prelude.{filter, nat_eq, nat_lt, IsTrue, ◌↔◌}
-use Rattle.std.specs.List.{AllByRecursion, list_any, list_all, flat_map}
+use Rattle.std.specs.List.{AllByRecursion, flat_map}
 use Rattle.std.specs.Option.{option_map}
 use Rattle.std.proofs.lemmas.Bool.{and_from, or_left}
-use Rattle.std.proofs.lemmas.List.{length-append, length-set, map-set, set-set, take-replicate, drop-replicate, take_at}
+use Rattle.std.proofs.lemmas.List.{length-append, length-set, set-set, take-replicate, drop-replicate}
 use Rattle.std.proofs.lemmas.Option.{slice_get-map, slice_get_past}
 use Rattle.byteorder.specs.Endian.{big_bytes}
 use Rattle.mn_base.specs.Order.{key_lt, covers_key}
@@ -23,20 +23,21 @@ use Rattle.mn_page.specs.Grammar.{padded, page_bytes, entry_bytes, IsPage, IsEnt
 use Rattle.mn_page.specs.Forest.{Forest, Laid, memory_laid, laid_of, front_of, header_bytes, page_at, entry_head}
 use Rattle.mn_page.specs.Holds.{Holds, page_covers, pairs_in}
 use Rattle.mn_page.specs.Laws.{IsLeafFor, OneLeaf}
-use Rattle.mn_page.proofs.Grid.{all_at_place, all_append, all_split}
+use Rattle.mn_page.proofs.Grid.{all_at_place, all_split}
 use Rattle.mn_base.proofs.Named.{NamedVersion, named}
 use Rattle.mn_page.proofs.Leaves.{version_in, one_leaf}
 use Rattle.mn_base.proofs.Keys.{not_below, turned}
 use Rattle.mn_base.proofs.PairsWith.{ascending-put, all-put, two_parts}
+use Rattle.mn_base.proofs.Lists.{all_append, all_both}
 use Rattle.mn_page.proofs.Alike.{re_paired, all-set}
 use Rattle.mn_page.proofs.Spelled.{length-padded, page_length, entry_length, entry_spelled_once, big_bytes-inj}
 use Rattle.mn_page.proofs.Split.{Split, CanSplit, split_forest, with_root, with_left, new_root, left_page, right_page, split_is_forest, CutPairs, shows_split, old_serves, old_covers, lt_nil}
 use Rattle.mn_world.specs.declared.entry.Entry.{Entry}
 use Rattle.mn_world.specs.Places.{catalog_node, Place, page_place, entry_place, count_place}
-use Rattle.mn_world.specs.Planned.{compare_places, write_places, IsCompared, HasNextNumber, WritesPages, ComparesHold, Continues, PlanActs, IsPlanned, place_rank, IsWholePlace, ComeOnce}
+use Rattle.mn_world.specs.Planned.{write_places, IsCompared, HasNextNumber, WritesPages, ComparesHold, Continues, PlanActs, place_rank, IsWholePlace, ComeOnce}
 use Rattle.mn_world.specs.Plans.{write_page, slot_at, left_half, right_half, parent_of_halves, HasSplit, split_items, SplitIsPlanned}
 use Rattle.mn_world.proofs.Plans.Pieces.{bytes_in-skip, bytes_in-within, bytes_in-padded}
-use Rattle.mn_world.proofs.Plans.Spaces.{memory_by_pages, catalog_bytes, page_there, page_read, entry_read, node_0, memory_length, space_in-memory_by_pages, head_length, front_length, catalog_length, AreSlots, node_slots, text_length, get_in-index}
+use Rattle.mn_world.proofs.Plans.Spaces.{memory_by_pages, catalog_bytes, page_there, entry_read, node_0, memory_length, space_in-memory_by_pages, front_length, catalog_length, AreSlots, node_slots, text_length, get_in-index}
 use Rattle.mn_world.proofs.Plans.Laying.{HasSlots, laid_is, forest_laid, page_over, page_new, count_over}
 use Rattle.mn_world.proofs.Plans.Sizes.{index-set_in, index-add_in, sizes_of, sizes-set_in, sizes-add_in, index_below, index-set-all}
 use Rattle.mn_world.proofs.Plans.Compares.{compares_met, still_named, page_rank, entry_rank, element_at}
@@ -89,10 +90,6 @@ nil_lt : (k : List ℕ) → 1 ≤ length k → key_lt [] k ≡ true
 nil_lt [] h = absurd (omega arith)
 nil_lt (x ∷ k) h = refl
 
-with_both : {X : Type 0} (P Q R : X → Type 0) → ((x : X) → P x → Q x → R x) → (xs : List X) → AllByRecursion P xs → AllByRecursion Q xs → AllByRecursion R xs
-with_both P Q R both [] p q = tt
-with_both P Q R both (x ∷ xs) p q = (both x p.0 q.0, with_both P Q R both xs p.1 q.1)
-
 abbrev IsKept : Pair → Type 0
 IsKept x = IsKey x.key × IsValue x.value
 
@@ -106,7 +103,7 @@ new_pairs : (kept : List Head) (nodes : ℕ) (name key value : List ℕ) (v : �
     → HasSplit kept nodes name key value v e p pairs n count lows first more → NewPairs lows first more
 new_pairs kept nodes name key value v e p pairs n count lows first more r =
     let old : IsBody p.low p.high (Leaf pairs) = subst (IsBody p.low p.high) r.leaf r.page.body in
-    let all : AllByRecursion IsKept (pairs_with pairs key value) = all-put IsKept key value pairs (with_both _ _ IsKept (λ x a b. (a.0, a.1)) pairs old.2 old.2) (r.is_key, r.is_value) in
+    let all : AllByRecursion IsKept (pairs_with pairs key value) = all-put IsKept key value pairs (all_both _ _ IsKept (λ x a b. (a.0, a.1)) pairs old.2 old.2) (r.is_key, r.is_value) in
     let parts = all_split IsKept lows (first ∷ more) (subst (AllByRecursion IsKept) r.parts all) in
     record { ascending = subst (λ (ps : List Pair). is_ascending ps ≡ true) r.parts (ascending-put key value pairs old.1); lows_kept = parts.0; highs_kept = parts.1 }
 
@@ -126,7 +123,7 @@ left_spelled p lows first more is new few =
       body = (
         few,
         two.lows,
-        with_both IsKept (λ x. key_lt x.key first.key ≡ true) (λ x. IsKey x.key × IsValue x.value × IsTrue (covers_key [] (Some first.key) x.key))
+        all_both IsKept (λ x. key_lt x.key first.key ≡ true) (λ x. IsKey x.key × IsValue x.value × IsTrue (covers_key [] (Some first.key) x.key))
             (λ x a b. (a.0, a.1, ap (λ t. not t && key_lt x.key first.key) (lt_nil x.key) ∙ b)) lows new.lows_kept two.below,
       );
     }
@@ -149,7 +146,7 @@ right_spelled p lows first more is new few =
         two.highs,
         (
           (sep, (new.highs_kept.0).1, ap (λ t. not t && true) (not_below first.key)),
-          with_both IsKept (λ x. key_lt first.key x.key ≡ true) (λ x. IsKey x.key × IsValue x.value × IsTrue (covers_key first.key None x.key))
+          all_both IsKept (λ x. key_lt first.key x.key ≡ true) (λ x. IsKey x.key × IsValue x.value × IsTrue (covers_key first.key None x.key))
               (λ x a b. (a.0, a.1, ap (λ t. not t && true) (turned first.key x.key b))) more new.highs_kept.1 two.above,
         ),
       );

@@ -6,6 +6,7 @@ use Rattle.std.specs.Option.{option_or}
 use Rattle.std.proofs.lemmas.Bool.{eq-eqb, ne_eqb}
 use Rattle.std.proofs.lemmas.List.{length-set, length-map, append_assoc}
 use Rattle.mn_base.specs.declared.ids.Addr.{Addr}
+use Rattle.mn_base.proofs.Lists.{all_append, weaker}
 use Rattle.mn_mini.specs.declared.item.Item.{Item}
 use Rattle.mn_mini.specs.Flat.{memory_after}
 use Rattle.mn_page.specs.declared.page.Page.{Page}
@@ -13,7 +14,7 @@ use Rattle.mn_page.specs.Grammar.{page_bytes, IsPage}
 use Rattle.mn_page.specs.Forest.{Forest, Laid, memory_laid, memory_of, laid_of, node_count, page_at}
 use Rattle.mn_page.specs.Holds.{PagesAt, IsTree, ShowsStore}
 use Rattle.mn_page.specs.Overlay.{Held, held_at}
-use Rattle.mn_page.proofs.Grid.{get_in, set_in, add_in, all_append, all_split}
+use Rattle.mn_page.proofs.Grid.{get_in, set_in, add_in, all_split}
 use Rattle.mn_page.proofs.Alike.{all-set}
 use Rattle.mn_page.proofs.Spelled.{page_length}
 use Rattle.mn_page.proofs.Counted.{counted}
@@ -22,7 +23,7 @@ use Rattle.mn_world.specs.Plans.{write_count}
 use Rattle.mn_world.proofs.Plans.Laying.{HasSlots, forest_laid, index-lengths, with_pages, with_counts, page_over, page_new, count_over}
 use Rattle.mn_world.proofs.Plans.Spaces.{AreSlots, page_node}
 use Rattle.mn_world.proofs.Plans.Sizes.{sizes_of, index-set-all}
-use Rattle.mn_world.proofs.Plans.NextSlots.{weaker, slots_free, slots_differ, number_cases}
+use Rattle.mn_world.proofs.Plans.NextSlots.{slots_free, slots_differ, number_cases}
 use Rattle.mn_world.proofs.Plans.Grown.{all_mapped, held_known, Stands, stands_still, over_in, over_in_nodes, over_in_sizes, over_in_lengths, AreFirst, are_first, added_in, added_in_nodes, added_in_sizes, added_in_lengths, grown_at}
 
 -- a held page fills a slot

@@ -5,6 +5,7 @@ use Rattle.std.specs.List.{AllByRecursion}
 use Rattle.std.specs.Option.{option_or}
 use Rattle.std.proofs.lemmas.List.{length-map, append_assoc}
 use Rattle.mn_base.specs.declared.ids.Addr.{Addr}
+use Rattle.mn_base.proofs.Lists.{weaker}
 use Rattle.mn_mini.specs.Flat.{memory_after}
 use Rattle.mn_page.specs.declared.page.Page.{Page}
 use Rattle.mn_page.specs.Grammar.{IsPage}
@@ -17,7 +18,7 @@ use Rattle.mn_page.proofs.Spelled.{page_length}
 use Rattle.mn_world.specs.Growth.{taken_on, AreCounts, addrs_of, giving_nodes, count_writes, over, write_held, Numbered, write_numbered, entries_after, AreNextEntries, WritesLeaveVersions}
 use Rattle.mn_world.proofs.Plans.Laying.{HasSlots, forest_laid, with_pages}
 use Rattle.mn_world.proofs.Plans.Spaces.{entry_sizes}
-use Rattle.mn_world.proofs.Plans.NextSlots.{weaker, slots_free, slots_differ}
+use Rattle.mn_world.proofs.Plans.NextSlots.{slots_free, slots_differ}
 use Rattle.mn_world.proofs.Plans.Grown.{all_mapped, held_known, Stands, over_in, over_in_nodes, over_in_sizes, over_in_lengths, AreFirst, are_first, added_in_nodes, added_in_sizes, added_in_lengths, grown_at}
 use Rattle.mn_world.proofs.Plans.Written.{FillsSlot, changed_written, changed_slots, new_written, new_slots, counts_written, range_below, grown_counts, grown_pages}
 use Rattle.mn_world.proofs.Plans.Entries.{HasEntries, entries_fit, with_entries, entries_written, after_has, after_all}

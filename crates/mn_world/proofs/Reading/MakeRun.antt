@@ -2,13 +2,14 @@
 use Rattle.std.proofs.Common.{Bool, true, false, List, [], ◌∷◌, Option, Some, None, subst, if◌then◌else◌}
 use Rattle.mn_base.specs.declared.ids.NodeNo.{NodeNo}
 use Rattle.mn_base.specs.declared.ids.ClientNo.{ClientNo}
+use Rattle.mn_mini.proofs.Parts.{same_self}
 use Rattle.mn_world.specs.declared.entry.Entry.{Entry}
 use Rattle.mn_world.specs.declared.entry.What.{What}
 use Rattle.mn_world.specs.Calls.{is_at, is_by, node_entries, client_entries}
 use Rattle.mn_world.specs.Protocol.{Start, AllowedAt, AllowedBy, IsActor}
 use Rattle.mn_world.specs.Run.{Means, HasNode, RunsFollowProtocol}
 use Rattle.mn_world.specs.Laws.{NodeListAllowed, ClientListLegal, IsAtNode, IsLegalAlone, ListsMakeRun}
-use Rattle.mn_world.proofs.Reading.Same.{node_same-refl, client_same-refl}
+use Rattle.mn_world.proofs.Reading.Same.{client_same-refl}
 
 -- the older part of a list is allowed
 node_older : (start : Start) (n : NodeNo) (e : Entry) (past : List Entry) → NodeListAllowed start n (node_entries n (e ∷ past)) → NodeListAllowed start n (node_entries n past)
@@ -31,7 +32,7 @@ at_node : (start : Start) (past : List Entry) (at : Option NodeNo) (by : Option 
 at_node start past None by what in' own lists = own
 at_node start past (Some n) by what in' own lists =
     let e : Entry = record { node = Some n; client = by; what = what } in
-    (in', (subst (λ (b : Bool). NodeListAllowed start n (if b then e ∷ node_entries n past else node_entries n past)) (node_same-refl n) (lists n)).1)
+    (in', (subst (λ (b : Bool). NodeListAllowed start n (if b then e ∷ node_entries n past else node_entries n past)) (same_self n) (lists n)).1)
 
 newest : (past : List Entry) (at : Option NodeNo) (by : Option ClientNo) (what : What) → IsLegalAlone (record { node = at; client = by; what = what }) by
     → ((c : ClientNo) → ClientListLegal (client_entries c (record { node = at; client = by; what = what } ∷ past))) → IsActor by × HasNode at what × AllowedBy past by at what × Means past by what

@@ -5,10 +5,12 @@ use Rattle.std.proofs.lemmas.List.Folds.{list_any-append}
 use Rattle.std.proofs.lemmas.List.Elements.{Contains-append_cases}
 use Rattle.mn_base.specs.declared.ids.NodeNo.{NodeNo}
 use Rattle.mn_base.specs.declared.ids.ClientNo.{ClientNo}
+use Rattle.mn_base.proofs.Booleans.{or_cases, or_right}
 use Rattle.mn_mini.specs.declared.request.Request.{Request}
 use Rattle.mn_mini.specs.declared.reply.NodeReply.{NodeReply}
 use Rattle.mn_mini.specs.declared.reply.NodeReply.TheVariants as Say
 use Rattle.mn_mini.specs.Node.{answer, with_added}
+use Rattle.mn_mini.proofs.Parts.{same_self}
 use Rattle.mn_world.specs.declared.entry.Entry.{Entry}
 use Rattle.mn_world.specs.declared.entry.What.{What}
 use Rattle.mn_world.specs.declared.entry.What.TheVariants.{Begin, Issue, Called, Stopped, Restarted, Abandoned, Answered}
@@ -16,7 +18,7 @@ use Rattle.mn_world.specs.Calls.{Call, is_by, node_entries, client_entries, call
 use Rattle.mn_world.specs.Nodes.{is_down, stopped_request, entry_adds, node_records}
 use Rattle.mn_world.specs.Clients.{Sends}
 use Rattle.mn_world.specs.Protocol.{Start, base_at, start_records, records_of, KeepsProtocol}
-use Rattle.mn_world.proofs.Reading.Same.{node_same-refl, client_same-true}
+use Rattle.mn_world.proofs.Reading.Same.{client_same-true}
 
 -- a node answered a call while it was up: the reply, and the record that it adds
 pub record WasAnswered (start : Start) (past : List Entry) (e : Entry) (call : Call) : Type 0 where
@@ -34,7 +36,7 @@ pub records_here : (start : Start) (past : List Entry) (k : NodeNo) (by : Option
     ≡ with_added (entry_adds (base_at start k) (records_of start past k) (is_down (node_entries k past)) (stopped_request (node_entries k past)) what) (records_of start past k)
 records_here start past k by what =
     let e : Entry = record { node = Some k; client = by; what = what } in
-    ap (λ (b : Bool). node_records (base_at start k) (start_records start k) (if b then e ∷ node_entries k past else node_entries k past)) (node_same-refl k)
+    ap (λ (b : Bool). node_records (base_at start k) (start_records start k) (if b then e ∷ node_entries k past else node_entries k past)) (same_self k)
 
 called : (start : Start) (past : List Entry) (c : ClientNo) (k : NodeNo) (request : Request) (reply : NodeReply) (down : Bool) → is_down (node_entries k past) ≡ down
     → reply ≡ (if down then Say.Down else (answer (base_at start k) (records_of start past k) request).reply)
@@ -84,10 +86,6 @@ some_call P test (call ∷ calls) all e =
       | false ↦ λ _ rest. some_call P test calls all.1 rest
     ] refl e
 
-or_cases : (a b : Bool) → (a || b) ≡ true → (a ≡ true) ⊎ (b ≡ true)
-or_cases true b e = inl refl
-or_cases false b e = inr e
-
 pub new_call : (start : Start) (past : List Entry) (c : ClientNo) (e : Entry) (test : Call → Bool) → KeepsProtocol start past e
     → list_any test (calls_of (client_entries c (e ∷ past))) ≡ true
     → (list_any test (calls_of (client_entries c past)) ≡ true) ⊎ ((call : Call) × IsCallOf start past c e call × (test call ≡ true))
@@ -100,11 +98,6 @@ new_call start past c e test keeps any =
     split : (list_any test (call_in e.node e.what) ≡ true) ⊎ (list_any test (calls_of (client_entries c past)) ≡ true) → is_by c e ≡ true → (list_any test (calls_of (client_entries c past)) ≡ true) ⊎ ((call : Call) × IsCallOf start past c e call × (test call ≡ true))
     split (inl here) by = inr (some_call (IsCallOf start past c e) test (call_in e.node e.what) (own_calls start past c e keeps by) here)
     split (inr there) by = inl there
-
--- a test that some call passes is passed ever after
-or_right : (a b : Bool) → b ≡ true → (a || b) ≡ true
-or_right true b e = refl
-or_right false b e = e
 
 pub call_stays : (past : List Entry) (c : ClientNo) (e : Entry) (test : Call → Bool) → list_any test (calls_of (client_entries c past)) ≡ true → list_any test (calls_of (client_entries c (e ∷ past))) ≡ true
 call_stays past c e test any =

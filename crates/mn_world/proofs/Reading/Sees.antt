@@ -1,7 +1,6 @@
 -- The reads of lists that are put together.
-use Rattle.std.proofs.Common.{◌≡◌, List, [], ◌∷◌, ◌++◌, refl, subst, sym, ap, ◌∙◌, Contains}
+use Rattle.std.proofs.Common.{◌≡◌, List, ◌∷◌, ◌++◌, subst, sym, ap, ◌∙◌, Contains}
 use Rattle.std.proofs.lemmas.Grind.{flat_map-append}
-use Rattle.std.proofs.lemmas.List.{append_assoc}
 use Rattle.std.proofs.lemmas.List.Elements.{Contains-append_left, Contains-append_right}
 use Rattle.mn_base.specs.declared.op.Op.{Op}
 use Rattle.mn_base.specs.declared.reply.Reply.{Reply}
@@ -9,14 +8,11 @@ use Rattle.mn_world.specs.declared.entry.Entry.{Entry}
 use Rattle.mn_world.specs.Calls.{Call, call_in, calls_of}
 use Rattle.mn_world.specs.Shown.{Seen, seen_by, seen_in, seen_at}
 use Rattle.mn_world.specs.Answers.{SomeReadShows}
-
-pub calls-append : (xs ys : List Entry) → calls_of (xs ++ ys) ≡ calls_of xs ++ calls_of ys
-calls-append [] ys = refl
-calls-append (x ∷ xs) ys = ap (λ (cs : List Call). call_in x.node x.what ++ cs) (calls-append xs ys) ∙ sym (append_assoc (call_in x.node x.what) (calls_of xs) (calls_of ys))
+use Rattle.mn_world.proofs.Examples.Entries.{calls_append}
 
 pub seen_in-append : (xs ys : List Entry) → seen_in (xs ++ ys) ≡ seen_in xs ++ seen_in ys
 seen_in-append xs ys =
-    ap (Rattle.std.specs.List.flat_map (λ (c : Call). seen_by c.node c.request c.reply)) (calls-append xs ys) ∙ flat_map-append (λ (c : Call). seen_by c.node c.request c.reply) (calls_of xs) (calls_of ys)
+    ap (Rattle.std.specs.List.flat_map (λ (c : Call). seen_by c.node c.request c.reply)) (calls_append xs ys) ∙ flat_map-append (λ (c : Call). seen_by c.node c.request c.reply) (calls_of xs) (calls_of ys)
 
 pub seen_in-cons : (x : Entry) (xs : List Entry) → seen_in (x ∷ xs) ≡ seen_at x ++ seen_in xs
 seen_in-cons x xs = flat_map-append (λ (c : Call). seen_by c.node c.request c.reply) (call_in x.node x.what) (calls_of xs)

@@ -19,10 +19,10 @@ use Rattle.mn_world.specs.declared.entry.Entry.{Entry}
 use Rattle.mn_world.specs.Calls.{Call, calls_of}
 use Rattle.mn_world.specs.Places.{Place, entry_place, catalog_node}
 use Rattle.mn_world.specs.Shown.{Seen, seen_by, shown_by, shown_in, GivesPlace, SeesCatalog, SeenIsShown, ShownStays, EntriesAreShown}
-use Rattle.mn_world.proofs.Reading.Sees.{calls-append}
 use Rattle.mn_world.proofs.Bytes.Seen.{seen_by_is}
 use Rattle.mn_world.proofs.Plans.Pieces.{bytes_in-padded, length-pieces, read_piece}
 use Rattle.mn_world.proofs.Plans.Spaces.{entry_sizes}
+use Rattle.mn_world.proofs.Examples.Entries.{calls_append}
 
 -- What a list has seen
 
@@ -49,7 +49,7 @@ seen_is_shown es seen has = given_in (calls_of es) seen has
 
 pub shown_in-append : (xs ys : List Entry) → shown_in (xs ++ ys) ≡ shown_in xs ++ shown_in ys
 shown_in-append xs ys =
-    ap (flat_map (λ (c : Call). shown_by c.node c.request c.reply)) (calls-append xs ys) ∙ flat_map-append (λ (c : Call). shown_by c.node c.request c.reply) (calls_of xs) (calls_of ys)
+    ap (flat_map (λ (c : Call). shown_by c.node c.request c.reply)) (calls_append xs ys) ∙ flat_map-append (λ (c : Call). shown_by c.node c.request c.reply) (calls_of xs) (calls_of ys)
 
 pub shown_stays : ShownStays
 shown_stays newer older place bytes (seen, has, gives) =

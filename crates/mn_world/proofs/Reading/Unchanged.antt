@@ -1,10 +1,11 @@
 -- What an entry leaves as it was.
-use Rattle.std.proofs.Common.{◌≡◌, ℕ, ◌+◌, ◌<◌, ◌≤◌, ◌⊎◌, inl, inr, Bool, true, false, not, ◌&&◌, ◌||◌, List, [], ◌∷◌, ◌++◌, length, Option, Some, None, refl, subst, sym, ap, ◌∙◌, arith, if◌then◌else◌, Contains}
+use Rattle.std.proofs.Common.{◌≡◌, ◌+◌, ◌≤◌, ◌⊎◌, inl, inr, Bool, true, false, ◌&&◌, List, [], ◌∷◌, ◌++◌, length, Option, Some, None, refl, subst, sym, ap, arith, if◌then◌else◌, Contains}
 use Rattle.std.specs.List.{list_any}
 use Rattle.mn_base.specs.Ids.{tid_same, node_same}
 use Rattle.mn_base.specs.declared.ids.NodeNo.{NodeNo}
 use Rattle.mn_base.specs.declared.ids.ClientNo.{ClientNo}
 use Rattle.mn_base.specs.declared.ids.Tid.{Tid}
+use Rattle.mn_base.proofs.Booleans.{left_true, or_cases, or_right, right_true}
 use Rattle.mn_mini.specs.declared.record.Record.{Record}
 use Rattle.mn_mini.specs.declared.request.Request.{Request}
 use Rattle.mn_mini.specs.declared.request.Request.TheVariants as Ask
@@ -22,10 +23,6 @@ use Rattle.mn_world.proofs.Reading.Same.{tid_same-true, client_same-true}
 use Rattle.mn_world.proofs.Reading.Steps.{Grows, records_grow}
 use Rattle.mn_world.proofs.Reading.NewCalls.{new_call, call_stays}
 use Rattle.mn_world.proofs.Votes.Backing.{PartAt, ExecAt, IssuedTo, WasTried, WasExecuted, Kept}
-
-or_right : (a b : Bool) → b ≡ true → (a || b) ≡ true
-or_right true b e = refl
-or_right false b e = e
 
 -- Records stay
 
@@ -114,18 +111,6 @@ current_issue (x ∷ es) tid mini e = current_step es tid mini x.node x.client x
 
 -- A Prepare or Exec comes from the client of the id, before it is abandoned
 
-and_left : (a b : Bool) → (a && b) ≡ true → a ≡ true
-and_left true b e = refl
-and_left false b e = absurd cc
-
-and_right : (a b : Bool) → (a && b) ≡ true → b ≡ true
-and_right true b e = e
-and_right false b e = absurd cc
-
-or_cases : (a b : Bool) → (a || b) ≡ true → (a ≡ true) ⊎ (b ≡ true)
-or_cases true b e = inl refl
-or_cases false b e = inr e
-
 -- what is known of a try that a client may send
 abbrev pub MayTry : List Entry → ClientNo → Tid → Type 0
 MayTry past c tid = (tid.client ≡ c) × (was_abandoned tid (client_entries c past) ≡ false) × ((mini : Mini) × (issue_named tid (issues_of (client_entries c past)) ≡ Some mini))
@@ -145,7 +130,7 @@ may_try start past c k tid (Ask.Force t) kept e sends = absurd cc
 may_try start past c k tid Ask.List kept e sends = absurd cc
 may_try start past c k tid (Ask.Peek at length) kept e sends = absurd cc
 
-true_or_false : (b : Bool) → (b ≡ true) ⊎ (b ≡ false)
+pub true_or_false : (b : Bool) → (b ≡ true) ⊎ (b ≡ false)
 true_or_false true = inl refl
 true_or_false false = inr refl
 
@@ -159,7 +144,7 @@ try_stays_untold start past e tid k say kept keeps gone untold =
       | inl h ↦ elim (new_call start past tid.client e (λ c. node_same c.node k && (is_try tid c.request && say c.reply)) keeps h) as (λ _. was_told (is_try tid) say k (client_entries tid.client (e ∷ past)) ≡ false) [
         | inl old ↦ absurd (clash _ old untold)
         | inr (call, is, passes) ↦
-            let ask : is_try tid call.request ≡ true = and_left _ _ (and_right _ _ passes) in
+            let ask : is_try tid call.request ≡ true = left_true _ _ (right_true _ _ passes) in
             absurd (clash _ gone (may_try start past tid.client call.node tid call.request kept ask is.sends).1)
       ]
     ]

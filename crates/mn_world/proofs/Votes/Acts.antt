@@ -6,6 +6,7 @@ use Rattle.mn_base.specs.Ids.{node_same}
 use Rattle.mn_base.specs.declared.ids.NodeNo.{NodeNo}
 use Rattle.mn_base.specs.declared.ids.ClientNo.{ClientNo}
 use Rattle.mn_base.specs.declared.ids.Tid.{Tid}
+use Rattle.mn_base.proofs.Booleans.{clash, falsely}
 use Rattle.mn_mini.specs.declared.part.PartItem.{PartItem}
 use Rattle.mn_mini.specs.declared.record.Record.{Record}
 use Rattle.mn_mini.specs.declared.record.Record.TheVariants.{Voted, Executed, Decided, Forced}
@@ -26,18 +27,7 @@ use Rattle.mn_world.specs.Protocol.{Start, base_at, records_of, KeepsProtocol}
 use Rattle.mn_world.specs.Commits.{effect_of}
 use Rattle.mn_world.proofs.Reading.Unchanged.{current_issue}
 use Rattle.mn_world.proofs.Votes.Backing.{MayList, mini_of, IssuedTo, PartAt, ExecAt, WasTried, Kept}
-use Rattle.mn_world.proofs.Votes.Preserved.{untried, voted_tried, executed_tried, new_not_old}
-
-clash : (b : Bool) → b ≡ true → b ≡ false → ⊥
-clash b p q = absurd cc
-
-and_left : (a b : Bool) → (a && b) ≡ true → a ≡ true
-and_left true b e = refl
-and_left false b e = absurd cc
-
-or_right : (a b : Bool) → b ≡ true → (a || b) ≡ true
-or_right true b e = refl
-or_right false b e = e
+use Rattle.mn_world.proofs.Votes.Preserved.{voted_tried, executed_tried, new_not_old}
 
 -- a request that takes no effect, or none that commits
 abbrev pub IsIdle : Option Request → Type 0
@@ -212,7 +202,7 @@ sent_unvoted start past c k request kept sends = record {
         (prepared t ps part s, (s.mini, is, s.all), (s.mini, is, s.own_part, subst (λ (x : List NodeNo). Contains x k) s.all s.named, subst (λ (x : List NodeNo). 2 ≤ length x) s.all s.several))
 
     executed : (t : Tid) (part : List PartItem) → Sends (client_entries c past) (Some k) (Ask.Exec t part) → IsFirstExec start past k t part
-    executed t part s = (untried _ (λ x. tried (executed_tried start past k t (records_of start past k) (new_not_old start past c t s.mini kept (current_issue (client_entries c past) t s.mini s.issued)) (kept.records k) x)), (s.mini, (mine t s.mini s.issued).1, s.own_part, s.alone))
+    executed t part s = (falsely _ (λ x. tried (executed_tried start past k t (records_of start past k) (new_not_old start past c t s.mini kept (current_issue (client_entries c past) t s.mini s.issued)) (kept.records k) x)), (s.mini, (mine t s.mini s.issued).1, s.own_part, s.alone))
       where
         unsent : Rattle.mn_world.specs.Calls.was_sent t k (client_entries t.client past) ≡ false
         unsent = subst (λ (d : ClientNo). Rattle.mn_world.specs.Calls.was_sent t k (client_entries d past) ≡ false) (sym (mine t s.mini s.issued).0) s.once

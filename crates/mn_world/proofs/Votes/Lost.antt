@@ -1,11 +1,12 @@
 -- Where the records of an entry come from, and that what is lost stays lost.
-use Rattle.std.proofs.Common.{◌≡◌, ℕ, ◌⊎◌, inl, inr, Bool, true, false, ◌&&◌, ◌||◌, List, [], ◌∷◌, length, Option, Some, None, refl, subst, sym, ap, if◌then◌else◌}
+use Rattle.std.proofs.Common.{◌≡◌, ℕ, ◌⊎◌, inl, inr, Bool, true, false, ◌&&◌, ◌||◌, List, ◌∷◌, length, Option, Some, None, refl, subst, sym, ap, if◌then◌else◌}
 use Rattle.std.specs.Bool.{⊤}
-use Rattle.std.specs.List.{AllByRecursion}
 use Rattle.mn_base.specs.Ids.{tid_same, node_same}
 use Rattle.mn_base.specs.declared.ids.NodeNo.{NodeNo}
 use Rattle.mn_base.specs.declared.ids.ClientNo.{ClientNo}
 use Rattle.mn_base.specs.declared.ids.Tid.{Tid}
+use Rattle.mn_base.proofs.Lists.{weaker}
+use Rattle.mn_base.proofs.Booleans.{clash}
 use Rattle.mn_mini.specs.declared.record.Record.{Record}
 use Rattle.mn_mini.specs.declared.record.Record.TheVariants.{Voted, Executed, Decided, Forced}
 use Rattle.mn_mini.specs.declared.request.Request.{Request}
@@ -14,8 +15,9 @@ use Rattle.mn_mini.specs.declared.reply.NodeReply.{NodeReply}
 use Rattle.mn_mini.specs.declared.reply.NodeReply.TheVariants as Say
 use Rattle.mn_mini.specs.declared.part.PartItem.{PartItem}
 use Rattle.mn_mini.specs.Mini.{has_write}
-use Rattle.mn_mini.specs.Flat.{Mismatched, part_mismatch_from}
+use Rattle.mn_mini.specs.Flat.{part_mismatch_from}
 use Rattle.mn_mini.specs.Node.{Clash, held_parts, is_held, clash_of, has_voted, has_forced, is_vote_of, is_force_of, only_reply, after_locks, after_compares, tested, space_of, answer, with_added}
+use Rattle.mn_mini.proofs.Parts.{same_self, same_true}
 use Rattle.mn_world.specs.declared.entry.Entry.{Entry}
 use Rattle.mn_world.specs.declared.entry.What.{What}
 use Rattle.mn_world.specs.declared.entry.What.TheVariants.{Begin, Issue, Called, Stopped, Restarted, Abandoned, Answered}
@@ -23,7 +25,7 @@ use Rattle.mn_world.specs.Calls.{is_at, is_try, is_done, is_stopped, node_entrie
 use Rattle.mn_world.specs.Nodes.{is_down, stopped_request, added_by, entry_adds, node_records}
 use Rattle.mn_world.specs.Clients.{Sends}
 use Rattle.mn_world.specs.Protocol.{Start, base_at, start_records, records_of, KeepsProtocol}
-use Rattle.mn_world.proofs.Reading.Same.{tid_same-true, client_same-true, node_same-true, node_same-refl, client_same-refl}
+use Rattle.mn_world.proofs.Reading.Same.{tid_same-true, client_same-refl}
 use Rattle.mn_world.proofs.Reading.Unchanged.{PartAt_stays, ExecAt_stays, record_stays, IssuedTo_stays, may_try, try_stays_untold, abandoned_stays, WasTried_stays, WasExecuted_stays}
 use Rattle.mn_world.proofs.Votes.Backing.{MayList, WasTried, IsStuck, IsLostAt, IsLost, AllVoted, RequestSound, RecordSound, Kept}
 
@@ -49,7 +51,7 @@ pub told_here : (start : Start) (past : List Entry) (c : ClientNo) (k : NodeNo) 
     → was_told ask say k (client_entries c (record { node = Some k; client = Some c; what = Called request reply } ∷ past)) ≡ true
 told_here start past c k request reply ask say asked said =
     let e : Entry = record { node = Some k; client = Some c; what = Called request reply } in
-    let test : (node_same k k && (ask request && say reply)) ≡ true = let n = node_same-refl k in cc in
+    let test : (node_same k k && (ask request && say reply)) ≡ true = let n = same_self k in cc in
     subst (λ (b : Bool). was_told ask say k (if b then e ∷ client_entries c past else client_entries c past) ≡ true) (sym (client_same-refl c)) (ap (λ (b : Bool). b || was_told ask say k (client_entries c past)) test)
 
 called_case : (start : Start) (past : List Entry) (by : Option ClientNo) (k : NodeNo) (request : Request) (reply : NodeReply)
@@ -88,7 +90,7 @@ here_case start past by k (Answered number answer) keeps = inl refl
 
 at_some : (k : NodeNo) (at : Option NodeNo) (by : Option ClientNo) (what : What) → is_at k (record { node = at; client = by; what = what }) ≡ true → at ≡ Some k
 at_some k None by what e = absurd cc
-at_some k (Some n) by what e = ap (λ (x : NodeNo). Some x) (sym (node_same-true k n e))
+at_some k (Some n) by what e = ap (λ (x : NodeNo). Some x) (sym (same_true k n e))
 
 pub node_case : (start : Start) (past : List Entry) (e : Entry) (k : NodeNo) → KeepsProtocol start past e → NodeCase start past e k (records_of start (e ∷ past) k)
 node_case start past e k keeps =
@@ -146,9 +148,6 @@ answer_adds base old (Ask.Peek at length) = tt
 
 -- What is lost stays lost
 
-clash : (b : Bool) → b ≡ true → b ≡ false → ⊥
-clash b p q = absurd cc
-
 -- a request that is allowed, or was stopped, is no Prepare of an id that is lost at the node
 lost_prepare : (start : Start) (past : List Entry) (e : Entry) (k : NodeNo) (tid : Tid) (ps : List NodeNo) (part : List PartItem) (request : Request) → Kept start past
     → IsLostAt start past tid k → request ≡ Ask.Prepare tid ps part → has_forced (records_of start past k) tid ≡ false
@@ -202,13 +201,9 @@ pub IsLost_stays : (start : Start) (past : List Entry) (e : Entry) (tid : Tid) �
 IsLost_stays start past e tid kept keeps (inl (ps, k, to, has, lost)) = inl (ps, k, IssuedTo_stays start past e tid ps kept keeps to, has, IsLostAt_stays start past e k tid kept keeps lost)
 IsLost_stays start past e tid kept keeps (inr old) = inr old
 
-All-map : {A : Type 0} (P Q : A → Type 0) → ((x : A) → P x → Q x) → (xs : List A) → AllByRecursion P xs → AllByRecursion Q xs
-All-map P Q f [] a = tt
-All-map P Q f (x ∷ xs) a = (f x a.0, All-map P Q f xs a.1)
-
 pub AllVoted_stays : (start : Start) (past : List Entry) (e : Entry) (tid : Tid) → Kept start past → KeepsProtocol start past e → AllVoted start past tid → AllVoted start (e ∷ past) tid
 AllVoted_stays start past e tid kept keeps (inl (ps, to, all)) =
-    inl (ps, IssuedTo_stays start past e tid ps kept keeps to, All-map (λ k. has_voted (records_of start past k) tid ≡ true) (λ k. has_voted (records_of start (e ∷ past) k) tid ≡ true) (λ k h. record_stays start past e k (is_vote_of tid) h) ps all)
+    inl (ps, IssuedTo_stays start past e tid ps kept keeps to, weaker (λ k. has_voted (records_of start past k) tid ≡ true) (λ k. has_voted (records_of start (e ∷ past) k) tid ≡ true) (λ k h. record_stays start past e k (is_vote_of tid) h) ps all)
 AllVoted_stays start past e tid kept keeps (inr old) = inr old
 
 pub MayList_stays : (start : Start) (past : List Entry) (e : Entry) (tid : Tid) (ps : List NodeNo) → Kept start past → KeepsProtocol start past e → MayList start past tid ps → MayList start (e ∷ past) tid ps

@@ -5,6 +5,8 @@ use Rattle.mn_base.specs.Ids.{tid_same, node_same}
 use Rattle.mn_base.specs.declared.ids.NodeNo.{NodeNo}
 use Rattle.mn_base.specs.declared.ids.ClientNo.{ClientNo}
 use Rattle.mn_base.specs.declared.ids.Tid.{Tid}
+use Rattle.mn_base.proofs.Booleans.{clash, falsely, left_true, not_true, or_cases, or_left, or_right, right_true}
+use Rattle.mn_base.proofs.Lists.{weaker}
 use Rattle.mn_mini.specs.declared.record.Record.{Record}
 use Rattle.mn_mini.specs.declared.record.Record.TheVariants.{Voted, Executed, Decided, Forced}
 use Rattle.mn_mini.specs.declared.request.Request.{Request}
@@ -14,19 +16,21 @@ use Rattle.mn_mini.specs.declared.reply.NodeReply.TheVariants as Say
 use Rattle.mn_mini.specs.declared.part.PartItem.{PartItem}
 use Rattle.mn_mini.specs.Mini.{Mini, participants_of}
 use Rattle.mn_mini.specs.Flat.{Mismatched, part_mismatch_from}
-use Rattle.mn_mini.specs.Node.{Clash, held_parts, is_held, clash_of, has_voted, has_forced, has_executed, is_vote_of, is_force_of, only_reply, after_locks, after_compares, tested, space_of, answer, with_added}
+use Rattle.mn_mini.specs.Node.{Clash, held_parts, clash_of, has_voted, has_forced, has_executed, is_vote_of, only_reply, after_locks, after_compares, tested, space_of, answer, with_added}
 use Rattle.mn_world.specs.declared.entry.Entry.{Entry}
 use Rattle.mn_world.specs.declared.entry.What.{What}
 use Rattle.mn_world.specs.declared.entry.What.TheVariants.{Begin, Issue, Called, Stopped, Restarted, Abandoned, Answered}
 use Rattle.mn_mini.specs.declared.doubt.Doubt.{Doubt}
-use Rattle.mn_mini.specs.Node.{HeldPart, without_tid, doubts_of, with_doubt}
+use Rattle.mn_mini.specs.Node.{HeldPart, doubts_of, with_doubt}
+use Rattle.mn_mini.proofs.Apart.{All-without}
+use Rattle.mn_mini.proofs.Parts.{same_true}
 use Rattle.mn_world.specs.Calls.{Call, is_force, is_yes, is_no, has_yes, has_no, lists_doubt, Lists, WasListed, is_at, is_by, is_try, is_prepare, is_exec, is_done, is_stopped, calls_of, node_entries, client_entries, issue_in, issue_named, issues_of, was_told, was_done, was_stopped, is_abandonment, was_abandoned}
 use Rattle.mn_world.specs.Nodes.{stopped_request_after, stopped_request}
 use Rattle.mn_world.specs.Clients.{Knows, AllowsAbandoned, AllowsIssue, Sends}
 use Rattle.mn_world.specs.Protocol.{Start, run_number, base_at, start_records, records_of, KeepsProtocol}
 use Rattle.mn_world.specs.Opened.{voted_participants}
 use Rattle.mn_world.proofs.Votes.Start.{names_old, old_below, start_sound}
-use Rattle.mn_world.proofs.Reading.Same.{tid_same-true, client_same-true, node_same-true, node_same-refl, client_same-refl}
+use Rattle.mn_world.proofs.Reading.Same.{tid_same-true, client_same-true, client_same-refl}
 use Rattle.mn_world.proofs.Reading.NewCalls.{IsCallOf, WasAnswered, new_call}
 use Rattle.mn_world.proofs.Reading.Unchanged.{PartAt_stays, ExecAt_stays, record_stays, IssuedTo_stays, current_issue}
 use Rattle.mn_world.proofs.Votes.Backing.{SameVotes, mini_of, IssuedTo, IsOld, Names, MayList, WasTried, WasAsked, WasExecuted, IssuedLost, StartLost, IsLost, IssuedVoted, StartVoted, AllVoted, RequestSound, RecordSound, Kept}
@@ -38,37 +42,6 @@ use Rattle.mn_world.proofs.Reading.NewCalls.{new_member}
 use Rattle.mn_world.proofs.Votes.Lost.{IsPending, FromCall, NodeCase, node_case, AddedAs, answer_adds, IsLost_stays, AllVoted_stays, MayList_stays, RequestSound_stays, RecordSound_stays}
 use Rattle.mn_world.specs.Protocol.{FollowsProtocol}
 use Rattle.mn_world.specs.Laws.{StartsSound, DecidedOneWay}
-
-clash : (b : Bool) → b ≡ true → b ≡ false → ⊥
-clash b p q = absurd cc
-
-and_left : (a b : Bool) → (a && b) ≡ true → a ≡ true
-and_left true b e = refl
-and_left false b e = absurd cc
-
-and_right : (a b : Bool) → (a && b) ≡ true → b ≡ true
-and_right true b e = e
-and_right false b e = absurd cc
-
-or_left : (a b : Bool) → a ≡ true → (a || b) ≡ true
-or_left true b e = refl
-or_left false b e = absurd cc
-
-or_right : (a b : Bool) → b ≡ true → (a || b) ≡ true
-or_right true b e = refl
-or_right false b e = e
-
-or_cases : (a b : Bool) → (a || b) ≡ true → (a ≡ true) ⊎ (b ≡ true)
-or_cases true b e = inl refl
-or_cases false b e = inr e
-
-All-map : {A : Type 0} (P Q : A → Type 0) → ((x : A) → P x → Q x) → (xs : List A) → AllByRecursion P xs → AllByRecursion Q xs
-All-map P Q f [] a = tt
-All-map P Q f (x ∷ xs) a = (f x a.0, All-map P Q f xs a.1)
-
-pub untried : (b : Bool) → (b ≡ true → ⊥) → b ≡ false
-untried true f = absurd (f refl)
-untried false f = refl
 
 -- Issues
 
@@ -149,11 +122,11 @@ sent_sound start past e c k (Ask.Decide tid true) kept keeps (doubt, (ps, knows,
     AllVoted_stays start past e tid kept keeps (by (known start past c tid ps kept knows))
   where
     voted : AllByRecursion (λ n. has_voted (records_of start past n) tid ≡ true) ps
-    voted = All-map (λ n. has_yes tid n (client_entries c past) ≡ true) (λ n. has_voted (records_of start past n) tid ≡ true) (λ n h. kept.yes c n tid h) ps all
+    voted = weaker (λ n. has_yes tid n (client_entries c past) ≡ true) (λ n. has_voted (records_of start past n) tid ≡ true) (λ n h. kept.yes c n tid h) ps all
 
     by : Names start past tid ps → AllVoted start past tid
     by (inl to) = inl (ps, to, voted)
-    by (inr old) = inr (ps, old, All-map (λ n. has_voted (records_of start past n) tid ≡ true) (λ n. has_voted (start_records start n) tid ≡ true) (λ n h. sym (kept.old n tid (names_old start tid ps old)).0 ∙ h) ps voted)
+    by (inr old) = inr (ps, old, weaker (λ n. has_voted (records_of start past n) tid ≡ true) (λ n. has_voted (start_records start n) tid ≡ true) (λ n h. sym (kept.old n tid (names_old start tid ps old)).0 ∙ h) ps voted)
 sent_sound start past e c k (Ask.Decide tid false) kept keeps (doubt, why) tried = IsLost_stays start past e tid kept keeps (because (or_cases _ _ why))
   where
     because : (was_abandoned tid (client_entries c past) ≡ true) ⊎ (has_no tid (client_entries c past) ≡ true) → IsLost start past tid
@@ -189,7 +162,7 @@ records_kept : (start : Start) (past : List Entry) (e : Entry) (k : NodeNo) → 
 records_kept start past e k kept keeps = grown (node_case start past e k keeps)
   where
     older : AllByRecursion (RecordSound start (e ∷ past) k) (records_of start past k)
-    older = All-map (RecordSound start past k) (RecordSound start (e ∷ past) k) (λ r h. RecordSound_stays start past e k r kept keeps h) (records_of start past k) (kept.records k)
+    older = weaker (RecordSound start past k) (RecordSound start (e ∷ past) k) (λ r h. RecordSound_stays start past e k r kept keeps h) (records_of start past k) (kept.records k)
 
     added : (request : Request) → FromCall start past e k request ⊎ IsPending past k request → (o : Option Record)
         → AddedAs (records_of start past k) request (answer (base_at start k) (records_of start past k) request).reply o → AllByRecursion (RecordSound start (e ∷ past) k) (with_added o (records_of start past k))
@@ -255,7 +228,7 @@ stopped_here : (past : List Entry) (c : ClientNo) (k : NodeNo) (request : Reques
     → was_told ask is_stopped k (client_entries c (record { node = Some k; client = Some c; what = Stopped (Some request) asked } ∷ past)) ≡ true
 stopped_here past c k request asked ask passes =
     let e : Entry = record { node = Some k; client = Some c; what = Stopped (Some request) asked } in
-    let n = Rattle.mn_world.proofs.Reading.Same.node_same-refl k in
+    let n = Rattle.mn_mini.proofs.Parts.same_self k in
     let test : (node_same k k && (ask request && true)) ≡ true = cc in
     subst (λ (b : Bool). was_told ask is_stopped k (if b then e ∷ client_entries c past else client_entries c past) ≡ true) (sym (Rattle.mn_world.proofs.Reading.Same.client_same-refl c)) (or_left _ _ test)
 
@@ -278,7 +251,7 @@ stop_kept start past (Some c) k (Stopped (Some r) asked) request kept keeps is =
 
 at_some : (k : NodeNo) (at : Option NodeNo) (by : Option ClientNo) (what : What) → is_at k (record { node = at; client = by; what = what }) ≡ true → at ≡ Some k
 at_some k None by what e = absurd cc
-at_some k (Some n) by what e = ap (λ (x : NodeNo). Some x) (sym (node_same-true k n e))
+at_some k (Some n) by what e = ap (λ (x : NodeNo). Some x) (sym (same_true k n e))
 
 pending_kept : (start : Start) (past : List Entry) (e : Entry) (k : NodeNo) (request : Request) → Kept start past → KeepsProtocol start past e
     → stopped_request (node_entries k (e ∷ past)) ≡ Some request → RequestSound start (e ∷ past) k request
@@ -361,23 +334,23 @@ yes_kept : (start : Start) (past : List Entry) (e : Entry) (c : ClientNo) (k : N
 yes_kept start past e c k tid kept keeps yes' = both (or_cases _ _ yes')
   where
     here : (call : Call) → node_same call.node k ≡ true → has_voted (records_of start (e ∷ past) call.node) tid ≡ true → has_voted (records_of start (e ∷ past) k) tid ≡ true
-    here call n h = subst (λ (m : NodeNo). has_voted (records_of start (e ∷ past) m) tid ≡ true) (node_same-true call.node k n) h
+    here call n h = subst (λ (m : NodeNo). has_voted (records_of start (e ∷ past) m) tid ≡ true) (same_true call.node k n) h
 
     prepared : (call : Call) → IsCallOf start past c e call → (node_same call.node k && (is_prepare tid call.request && is_done call.reply)) ≡ true → has_voted (records_of start (e ∷ past) k) tid ≡ true
     prepared call is passes =
-        let told : (is_prepare tid call.request && is_done call.reply) ≡ true = and_right (node_same call.node k) (is_prepare tid call.request && is_done call.reply) passes in
-        let said : is_done call.reply ≡ true = and_right (is_prepare tid call.request) (is_done call.reply) told in
-        let ask : is_prepare tid call.request ≡ true = and_left (is_prepare tid call.request) (is_done call.reply) told in
-        let near : node_same call.node k ≡ true = and_left (node_same call.node k) (is_prepare tid call.request && is_done call.reply) passes in
+        let told : (is_prepare tid call.request && is_done call.reply) ≡ true = right_true (node_same call.node k) (is_prepare tid call.request && is_done call.reply) passes in
+        let said : is_done call.reply ≡ true = right_true (is_prepare tid call.request) (is_done call.reply) told in
+        let ask : is_prepare tid call.request ≡ true = left_true (is_prepare tid call.request) (is_done call.reply) told in
+        let near : node_same call.node k ≡ true = left_true (node_same call.node k) (is_prepare tid call.request && is_done call.reply) passes in
         let w : WasAnswered start past e call = answered start past c e call is_done is said refl refl in
         here call near (subst (λ (r : List Record). has_voted r tid ≡ true) (sym w.records) (done_votes (base_at start call.node) (records_of start past call.node) call.request tid ask (subst (λ (r : NodeReply). is_done r ≡ true) w.replies said)))
 
     forced : (call : Call) → IsCallOf start past c e call → (node_same call.node k && (is_force tid call.request && is_yes call.reply)) ≡ true → has_voted (records_of start (e ∷ past) k) tid ≡ true
     forced call is passes =
-        let told : (is_force tid call.request && is_yes call.reply) ≡ true = and_right (node_same call.node k) (is_force tid call.request && is_yes call.reply) passes in
-        let said : is_yes call.reply ≡ true = and_right (is_force tid call.request) (is_yes call.reply) told in
-        let ask : is_force tid call.request ≡ true = and_left (is_force tid call.request) (is_yes call.reply) told in
-        let near : node_same call.node k ≡ true = and_left (node_same call.node k) (is_force tid call.request && is_yes call.reply) passes in
+        let told : (is_force tid call.request && is_yes call.reply) ≡ true = right_true (node_same call.node k) (is_force tid call.request && is_yes call.reply) passes in
+        let said : is_yes call.reply ≡ true = right_true (is_force tid call.request) (is_yes call.reply) told in
+        let ask : is_force tid call.request ≡ true = left_true (is_force tid call.request) (is_yes call.reply) told in
+        let near : node_same call.node k ≡ true = left_true (node_same call.node k) (is_force tid call.request && is_yes call.reply) passes in
         let w : WasAnswered start past e call = answered start past c e call is_yes is said refl refl in
         here call near (record_stays start past e call.node (is_vote_of tid) (force_yes (base_at start call.node) (records_of start past call.node) call.request tid ask (subst (λ (r : NodeReply). is_yes r ≡ true) w.replies said)))
 
@@ -411,13 +384,13 @@ no_kept start past e c tid kept keeps no' =
 
         by : MayList start past tid ps → IsLost start (e ∷ past) tid
         by (inl (to, several)) = inl (ps, call.node, IssuedTo_stays start past e tid ps kept keeps to, has, (now, inl (subst (λ (r : List Record). has_forced r tid ≡ true) (sym w.records) forced)))
-        by (inr old) = inr (ps, call.node, old, has, untried _ (λ voted. clash _ (start_stays start (e ∷ past) call.node (is_vote_of tid) voted) now))
+        by (inr old) = inr (ps, call.node, old, has, falsely _ (λ voted. clash _ (start_stays start (e ∷ past) call.node (is_vote_of tid) voted) now))
 
     forced : (call : Call) → IsCallOf start past c e call → (is_force tid call.request && is_no call.reply) ≡ true → IsLost start (e ∷ past) tid
     forced call is passes =
-        let said : is_no call.reply ≡ true = and_right (is_force tid call.request) (is_no call.reply) passes in
+        let said : is_no call.reply ≡ true = right_true (is_force tid call.request) (is_no call.reply) passes in
         let w : WasAnswered start past e call = answered start past c e call is_no is said refl refl in
-        let ask : is_force tid call.request ≡ true = and_left (is_force tid call.request) (is_no call.reply) passes in
+        let ask : is_force tid call.request ≡ true = left_true (is_force tid call.request) (is_no call.reply) passes in
         let f = force_no (base_at start call.node) (records_of start past call.node) call.request tid ask (subst (λ (r : NodeReply). is_no r ≡ true) w.replies said) in
         lost call w (subst (λ (q : Request). Sends (client_entries c past) (Some call.node) q) f.0 is.sends) f.1 f.2
 
@@ -475,18 +448,14 @@ executed_tried start past k tid (Voted t ps part ∷ records) new all x = execut
 executed_tried start past k tid (Decided t verdict ∷ records) new all x = executed_tried start past k tid records new all.1 x
 executed_tried start past k tid (Forced t ∷ records) new all x = executed_tried start past k tid records new all.1 x
 
-not_true : (b : Bool) → not b ≡ true → b ≡ false
-not_true true e = absurd cc
-not_true false e = refl
-
 gone_here : (start : Start) (past : List Entry) (c : ClientNo) (t : Tid) → Kept start past → KeepsProtocol start past (record { node = None; client = Some c; what = Abandoned t })
     → AllowsAbandoned (client_entries c past) t → IssuedLost start (record { node = None; client = Some c; what = Abandoned t } ∷ past) t
 gone_here start past c t kept keeps (mini, is, some) =
     let e : Entry = record { node = None; client = Some c; what = Abandoned t } in
     let any = Any-from_list_any (λ n. not (was_done t n (client_entries c past)) && not (was_stopped t n (client_entries c past))) (participants_of mini) some in
     let own : t.client ≡ c = (kept.issued c t mini is).0 in
-    let undone : was_done t any.1 (client_entries c past) ≡ false = not_true _ (and_left _ _ any.4) in
-    let unstopped : was_stopped t any.1 (client_entries c past) ≡ false = not_true _ (and_right _ _ any.4) in
+    let undone : was_done t any.1 (client_entries c past) ≡ false = not_true _ (left_true _ _ any.4) in
+    let unstopped : was_stopped t any.1 (client_entries c past) ≡ false = not_true _ (right_true _ _ any.4) in
     let undone' : was_done t any.1 (client_entries t.client past) ≡ false = subst (λ (d : ClientNo). was_done t any.1 (client_entries d past) ≡ false) (sym own) undone in
     let unstopped' : was_stopped t any.1 (client_entries t.client past) ≡ false = subst (λ (d : ClientNo). was_stopped t any.1 (client_entries d past) ≡ false) (sym own) unstopped in (
       participants_of mini,
@@ -494,7 +463,7 @@ gone_here start past c t kept keeps (mini, is, some) =
       IssuedTo_stays start past e t (participants_of mini) kept keeps (own_issue start past c t (participants_of mini) mini kept is refl),
       (any.0, any.2, any.3),
       (
-        untried _ (λ voted. elim (voted_tried start past any.1 t (records_of start past any.1) (new_not_old start past c t mini kept is) (kept.records any.1) voted) as (λ _. ⊥) [ inl h ↦ clash _ h undone' | inr h ↦ clash _ h unstopped' ]),
+        falsely _ (λ voted. elim (voted_tried start past any.1 t (records_of start past any.1) (new_not_old start past c t mini kept is) (kept.records any.1) voted) as (λ _. ⊥) [ inl h ↦ clash _ h undone' | inr h ↦ clash _ h unstopped' ]),
         inr (
           subst (λ (d : ClientNo). was_abandoned t (client_entries d (e ∷ past)) ≡ true) (sym own)
               (subst (λ (b : Bool). was_abandoned t (if b then e ∷ client_entries c past else client_entries c past) ≡ true) (sym (Rattle.mn_world.proofs.Reading.Same.client_same-refl c)) (or_left _ _ (tid_same-refl t))),
@@ -538,12 +507,7 @@ abandoned_kept start past e c tid kept keeps gone =
 
 -- What a Listed reply gives
 
-pub All-without : (P : HeldPart → Type 0) (t : Tid) (hs : List HeldPart) → AllByRecursion P hs → AllByRecursion P (without_tid t hs)
-All-without P t [] a = tt
-All-without P t (h ∷ hs) a =
-    elim (tid_same h.tid t) as (λ b. AllByRecursion P (if b then without_tid t hs else h ∷ without_tid t hs)) [ true ↦ All-without P t hs a.1 | false ↦ (a.0, All-without P t hs a.1) ]
-
-same_mini : (a b : Mini) → Some a ≡ Some b → a ≡ b
+pub same_mini : (a b : Mini) → Some a ≡ Some b → a ≡ b
 same_mini a b e = cc
 
 held_issued : (start : Start) (past : List Entry) (k : NodeNo) (records : List Record) → AllByRecursion (RecordSound start past k) records → AllByRecursion (λ h. MayList start past h.tid h.participants) (held_parts records)

@@ -8,22 +8,24 @@ use Rattle.mn_base.specs.Ids.{node_same, tid_same, node_numbers}
 use Rattle.mn_base.specs.declared.ids.NodeNo.{NodeNo}
 use Rattle.mn_base.specs.declared.ids.ClientNo.{ClientNo}
 use Rattle.mn_base.specs.declared.ids.Tid.{Tid}
+use Rattle.mn_base.proofs.Booleans.{clash, falsely, or_cases, or_right}
 use Rattle.mn_mini.specs.declared.part.PartItem.{PartItem}
 use Rattle.mn_mini.specs.declared.record.Record.{Record}
 use Rattle.mn_mini.specs.declared.record.Record.TheVariants.{Voted, Executed, Decided, Forced}
 use Rattle.mn_mini.specs.declared.request.Request.{Request}
 use Rattle.mn_mini.specs.Mini.{Mini, participants_of, parts_conflict, has_write, item_node}
-use Rattle.mn_mini.specs.Node.{HeldPart, held_parts, clash_of, has_voted, has_executed, has_forced, has_decided_yes, has_decided_no, with_added}
+use Rattle.mn_mini.specs.Node.{HeldPart, held_parts, has_voted, has_executed, has_forced, has_decided_no, with_added}
+use Rattle.mn_mini.proofs.Parts.{same_true}
 use Rattle.mn_world.specs.declared.entry.Entry.{Entry}
 use Rattle.mn_world.specs.declared.entry.What.{What}
 use Rattle.mn_world.specs.Protocol.{Start, start_nodes, start_records, records_of, KeepsProtocol, FollowsProtocol}
 use Rattle.mn_world.specs.Opened.{voted_participants, have_voted, is_committed, has_record, is_free, AreInPlace}
 use Rattle.mn_world.specs.Laws.{StartsSound, YesHasVotes, NoIsNotCommitted, RecordsStaySound}
-use Rattle.mn_world.proofs.Reading.Same.{tid_same-true, node_same-true}
+use Rattle.mn_world.proofs.Reading.Same.{tid_same-true}
 use Rattle.mn_world.proofs.Reading.NewCalls.{records_here}
 use Rattle.mn_world.proofs.Votes.Backing.{mini_of, IsOld, StartRecord, StartNames, Names, MayList, IssuedTo, PartAt, ExecAt, AllVoted, IsLost, RecordSound, Kept}
 use Rattle.mn_world.proofs.Votes.Start.{names_old, vote_names, named_record, named_voted, held_has_vote, voted_executed, executed_old, all_false, all_pass, all_true, start_uncommitted}
-use Rattle.mn_world.proofs.Votes.Preserved.{kept_run, new_not_old, start_stays, decided_yes_voted, decided_no_lost, decided_one_way}
+use Rattle.mn_world.proofs.Votes.Preserved.{kept_run, new_not_old, start_stays, decided_yes_voted, decided_no_lost, decided_one_way, same_mini}
 use Rattle.mn_world.proofs.Bytes.Layers.{IsFree}
 use Rattle.mn_world.proofs.Votes.Acts.{Act, idle, votes, executes, decides, forces, PendingUnvoted, PendingUnexecuted, act_here}
 use Rattle.mn_world.proofs.Bytes.Even.{held_at}
@@ -31,24 +33,6 @@ use Rattle.mn_world.proofs.Bytes.Commit.{free_of}
 use Rattle.mn_world.proofs.Bytes.Step.{IsMade, unvoted_unheld, exec_unheld}
 use Rattle.mn_world.proofs.Bytes.Through.{made_kept, pending_unvoted, pending_unexecuted, elsewhere, eff_at, added_at}
 use Rattle.mn_world.proofs.Bytes.Spaces.{executed_exec, old_committed}
-
-clash : (b : Bool) → b ≡ true → b ≡ false → ⊥
-clash b p q = absurd cc
-
-falsely : (b : Bool) → (b ≡ true → ⊥) → b ≡ false
-falsely true f = absurd (f refl)
-falsely false f = refl
-
-or_cases : (a b : Bool) → (a || b) ≡ true → (a ≡ true) ⊎ (b ≡ true)
-or_cases true b e = inl refl
-or_cases false b e = inr e
-
-or_right : (a b : Bool) → b ≡ true → (a || b) ≡ true
-or_right true b e = refl
-or_right false b e = e
-
-same_mini : (a b : Mini) → Some a ≡ Some b → a ≡ b
-same_mini a b e = cc
 
 -- Kinds of records
 
@@ -139,7 +123,7 @@ executed_named start tid k ps sound low x (m, (low', is)) =
 
 -- Participants are nodes
 
-filter_all : (P : NodeNo → Type 0) (test : NodeNo → Bool) (xs : List NodeNo) → AllByRecursion P xs → AllByRecursion P (filter test xs)
+pub filter_all : (P : NodeNo → Type 0) (test : NodeNo → Bool) (xs : List NodeNo) → AllByRecursion P xs → AllByRecursion P (filter test xs)
 filter_all P test [] a = tt
 filter_all P test (x ∷ xs) a = elim (test x) as (λ b. AllByRecursion P (cond b (x ∷ filter test xs) (filter test xs))) [ true ↦ (a.0, filter_all P test xs a.1) | false ↦ filter_all P test xs a.1 ]
 
@@ -228,7 +212,7 @@ place_here start past by (Some k) what sound f keeps n low =
     let e : Entry = record { node = Some k; client = by; what = what } in
     elim (node_same n k) as (λ b. node_same n k ≡ b → AreInPlace (start_nodes start) n (records_of start (e ∷ past) n)) [
       | true ↦ λ same.
-          let eq : n ≡ k = node_same-true n k same in
+          let eq : n ≡ k = same_true n k same in
           subst (λ (m : NodeNo). AreInPlace (start_nodes start) m (records_of start (e ∷ past) m)) (sym eq)
           (subst (λ (r : List Record). AreInPlace (start_nodes start) k r) (sym (records_here start past k by what)) (place_after start past k (eff_at past k what) (added_at start past k what) sound f (subst (λ (m : NodeNo). m.0 < start_nodes start) eq low) (act_here start past by k what f.kept f.pending f.once keeps)))
       | false ↦ λ other. subst (λ (r : List Record). AreInPlace (start_nodes start) n r) (sym (elsewhere start past by k what n other)) (f.place n low)

@@ -1,7 +1,6 @@
 -- What the records of a sound start say.
-use Rattle.std.proofs.Common.{◌≡◌, ℕ, zero, suc, ◌+◌, ◌<◌, ◌≤◌, ◌⊎◌, inl, inr, Bool, true, false, not, ◌&&◌, ◌||◌, List, [], ◌∷◌, ◌++◌, length, Option, Some, None, refl, subst, sym, ap, ◌∙◌, arith, if◌then◌else◌, Contains, reverse, get_or}
+use Rattle.std.proofs.Common.{◌≡◌, ℕ, zero, suc, ◌+◌, ◌<◌, ◌≤◌, ◌⊎◌, inl, inr, Bool, true, false, ◌&&◌, ◌||◌, List, [], ◌∷◌, ◌++◌, Option, Some, None, refl, subst, sym, ap, ◌∙◌, arith, if◌then◌else◌, Contains, reverse, get_or}
 use Rattle.std.specs.Prelude.{max}
-use Rattle.std.specs.Bool.{⊤}
 use Rattle.std.specs.Option.{option_map_or}
 use Rattle.std.specs.List.{AllByRecursion, list_any, list_all, flat_map}
 use Rattle.std.proofs.lemmas.Bool.Decides.{nat_tests}
@@ -11,25 +10,18 @@ use Rattle.std.proofs.lemmas.List.Sorted.{list_any-IsPermutation, IsPermutation-
 use Rattle.mn_base.specs.Ids.{tid_same, node_numbers}
 use Rattle.mn_base.specs.declared.ids.NodeNo.{NodeNo}
 use Rattle.mn_base.specs.declared.ids.Tid.{Tid}
+use Rattle.mn_base.proofs.Naturals.{below_or}
+use Rattle.mn_base.proofs.Lists.{weaker}
+use Rattle.mn_base.proofs.Booleans.{clash, or_cases, or_right}
 use Rattle.mn_mini.specs.declared.record.Record.{Record}
 use Rattle.mn_mini.specs.declared.record.Record.TheVariants.{Voted, Executed, Decided, Forced}
 use Rattle.mn_mini.specs.Node.{record_run, greatest_run, is_of, HeldPart, without_tid, held_part_of, held_parts, is_held, has_voted, has_executed, has_decided_yes, has_decided_no}
+use Rattle.mn_mini.proofs.Parts.{same_true}
 use Rattle.mn_world.specs.Protocol.{Start, start_nodes, start_records, run_number}
 use Rattle.mn_world.specs.Opened.{voted_participants, have_voted, is_committed, has_record, AreInPlace}
 use Rattle.mn_world.specs.Laws.{StartsSound, StartsFresh}
-use Rattle.mn_world.proofs.Reading.Same.{tid_same-true, tid_same-refl, node_same-true}
+use Rattle.mn_world.proofs.Reading.Same.{tid_same-true, tid_same-refl}
 use Rattle.mn_world.proofs.Votes.Backing.{IsOld, StartNames, StartVoted, StartLost, RecordSound}
-
-or_cases : (a b : Bool) → (a || b) ≡ true → (a ≡ true) ⊎ (b ≡ true)
-or_cases true b e = inl refl
-or_cases false b e = inr e
-
-or_right : (a b : Bool) → b ≡ true → (a || b) ≡ true
-or_right true b e = refl
-or_right false b e = e
-
-clash : (b : Bool) → b ≡ true → b ≡ false → ⊥
-clash b p q = absurd cc
 
 -- Runs of ids
 
@@ -115,9 +107,9 @@ vote_names tid (Forced t ∷ records) e = vote_names tid records e
 pub held_has_vote : (tid : Tid) (records : List Record) → is_held records tid ≡ true → has_voted records tid ≡ true
 held_has_vote tid records e = by (held_part_of tid (held_parts records)) refl e
   where
-    All-map : (P Q : HeldPart → Type 0) → ((x : HeldPart) → P x → Q x) → (xs : List HeldPart) → AllByRecursion P xs → AllByRecursion Q xs
-    All-map P Q f [] a = tt
-    All-map P Q f (x ∷ xs) a = (f x a.0, All-map P Q f xs a.1)
+    weaker : (P Q : HeldPart → Type 0) → ((x : HeldPart) → P x → Q x) → (xs : List HeldPart) → AllByRecursion P xs → AllByRecursion Q xs
+    weaker P Q f [] a = tt
+    weaker P Q f (x ∷ xs) a = (f x a.0, weaker P Q f xs a.1)
 
     All-without : (P : HeldPart → Type 0) (t : Tid) (hs : List HeldPart) → AllByRecursion P hs → AllByRecursion P (without_tid t hs)
     All-without P t [] a = tt
@@ -125,7 +117,7 @@ held_has_vote tid records e = by (held_part_of tid (held_parts records)) refl e
 
     voted : (rs : List Record) → AllByRecursion (λ h. has_voted rs h.tid ≡ true) (held_parts rs)
     voted [] = tt
-    voted (Voted u ps part ∷ rs) = (ap (λ (b : Bool). b || has_voted rs u) (tid_same-refl u), All-map (λ h. has_voted rs h.tid ≡ true) (λ h. (tid_same u h.tid || has_voted rs h.tid) ≡ true) (λ h v. or_right (tid_same u h.tid) _ v) (held_parts rs) (voted rs))
+    voted (Voted u ps part ∷ rs) = (ap (λ (b : Bool). b || has_voted rs u) (tid_same-refl u), weaker (λ h. has_voted rs h.tid ≡ true) (λ h. (tid_same u h.tid || has_voted rs h.tid) ≡ true) (λ h v. or_right (tid_same u h.tid) _ v) (held_parts rs) (voted rs))
     voted (Executed u part ∷ rs) = voted rs
     voted (Decided u verdict ∷ rs) = All-without (λ h. has_voted rs h.tid ≡ true) u (held_parts rs) (voted rs)
     voted (Forced u ∷ rs) = voted rs
@@ -168,10 +160,6 @@ newer nodes n r older (Decided tid true) place is = (or_right _ _ is.0, or_right
 newer nodes n r older (Decided tid false) place is = (or_right _ _ is.0, or_right _ _ is.1)
 newer nodes n r older (Forced tid) place is = or_right _ _ is
 
-All-map : {A : Type 0} (P Q : A → Type 0) → ((x : A) → P x → Q x) → (xs : List A) → AllByRecursion P xs → AllByRecursion Q xs
-All-map P Q f [] a = tt
-All-map P Q f (x ∷ xs) a = (f x a.0, All-map P Q f xs a.1)
-
 newest : (nodes : ℕ) (n : NodeNo) (r : Record) (older : List Record) → AreInPlace nodes n (r ∷ older) → StandsFor (r ∷ older) r
 newest nodes n (Voted tid ps part) older place = ap (λ (b : Bool). if b then Some ps else voted_participants tid older) (tid_same-refl tid)
 newest nodes n (Executed tid part) older place = ap (λ (b : Bool). b || has_record older tid) (tid_same-refl tid)
@@ -181,7 +169,7 @@ newest nodes n (Forced tid) older place = ap (λ (b : Bool). b || has_record old
 
 all_stand : (nodes : ℕ) (n : NodeNo) (records : List Record) → AreInPlace nodes n records → AllByRecursion (StandsFor records) records
 all_stand nodes n [] place = tt
-all_stand nodes n (r ∷ older) place = (newest nodes n r older place, All-map (StandsFor older) (StandsFor (r ∷ older)) (λ x h. newer nodes n r older x place h) older (all_stand nodes n older place.1))
+all_stand nodes n (r ∷ older) place = (newest nodes n r older place, weaker (StandsFor older) (StandsFor (r ∷ older)) (λ x h. newer nodes n r older x place h) older (all_stand nodes n older place.1))
 
 -- Sound records
 
@@ -214,7 +202,7 @@ any_false_at f [] n none e = absurd cc
 any_false_at f (x ∷ xs) n none e =
     let s = split (f x) (list_any f xs) none in
     elim (or_cases (Rattle.mn_base.specs.Ids.node_same x n) (list_any (λ m. Rattle.mn_base.specs.Ids.node_same m n) xs) e) as (λ _. f n ≡ false) [
-      | inl here ↦ subst (λ (m : NodeNo). f m ≡ false) (node_same-true x n here) s.0
+      | inl here ↦ subst (λ (m : NodeNo). f m ≡ false) (same_true x n here) s.0
       | inr there ↦ any_false_at f xs n s.1 there
     ]
   where
@@ -243,15 +231,12 @@ start_voted start sound k low tid agreed voted =
     let v = vote_names tid (start_records start k) voted in
     (v.0, (k, (low, v.1)), all_true (λ n. has_voted (start_records start n) tid) v.0 (sound.yes k tid v.0 low agreed v.1))
 
-pub low_or_high : (a b : ℕ) → (a < b) ⊎ (b ≤ a)
-low_or_high a b = elim (Rattle.std.specs.Prelude.nat_lt a b) as (λ t. Rattle.std.specs.Prelude.nat_lt a b ≡ t → (a < b) ⊎ (b ≤ a)) [ true ↦ λ e. inl (grind (arith, nat_tests)) | false ↦ λ e. inr (grind (arith, nat_tests)) ] refl
-
 -- a node that is none of the start's has no records
 pub no_records : (start : Start) (k : NodeNo) → start_nodes start ≤ k.0 → start_records start k ≡ []
 no_records start k high = ap (λ (r : List Record). reverse r) (get_or_past start.records k.0 [] high)
 
 pub start_sound : (start : Start) → StartsSound start → (k : NodeNo) → AllByRecursion (RecordSound start [] k) (start_records start k)
-start_sound start sound k = by (low_or_high k.0 (start_nodes start))
+start_sound start sound k = by (below_or k.0 (start_nodes start))
   where
     each : k.0 < start_nodes start → (r : Record) → StandsFor (start_records start k) r → RecordSound start [] k r
     each low (Voted tid ps part) is = inr (low, is)
@@ -261,7 +246,7 @@ start_sound start sound k = by (low_or_high k.0 (start_nodes start))
     each low (Forced tid) is = inr (low, is)
 
     by : (k.0 < start_nodes start) ⊎ (start_nodes start ≤ k.0) → AllByRecursion (RecordSound start [] k) (start_records start k)
-    by (inl low) = All-map (StandsFor (start_records start k)) (RecordSound start [] k) (each low) (start_records start k) (all_stand (start_nodes start) k (start_records start k) (sound.in_place k low))
+    by (inl low) = weaker (StandsFor (start_records start k)) (RecordSound start [] k) (each low) (start_records start k) (all_stand (start_nodes start) k (start_records start k) (sound.in_place k low))
     by (inr high) = subst (λ (r : List Record). AllByRecursion (RecordSound start [] k) r) (sym (no_records start k high)) tt
 
 -- fresh nodes are sound
@@ -319,7 +304,7 @@ pub is_true_at : (f : NodeNo → Bool) (xs : List NodeNo) (n : NodeNo) → f n �
 is_true_at f [] n t e = absurd cc
 is_true_at f (x ∷ xs) n t e =
     elim (or_cases (Rattle.mn_base.specs.Ids.node_same x n) (list_any (λ m. Rattle.mn_base.specs.Ids.node_same m n) xs) e) as (λ _. (f x || list_any f xs) ≡ true) [
-      | inl here ↦ let h : f x ≡ true = ap f (node_same-true x n here) ∙ t in ap (λ (b : Bool). b || list_any f xs) h
+      | inl here ↦ let h : f x ≡ true = ap f (same_true x n here) ∙ t in ap (λ (b : Bool). b || list_any f xs) h
       | inr there ↦ or_right (f x) _ (is_true_at f xs n t there)
     ]
 
@@ -334,7 +319,7 @@ start_committed start tid (ps, (m, (low, is)), voted) =
 
 pub start_uncommitted : (start : Start) (tid : Tid) → StartsSound start → StartLost start tid → is_committed (start_nodes start) (start_records start) tid ≡ false
 start_uncommitted start tid sound (ps, k, (m, (low, is)), has, unvoted) =
-    all_false (λ n. has_executed (start_records start n) tid || option_map_or (have_voted (start_records start) tid) (voted_participants tid (start_records start n)) false) (node_numbers (start_nodes start)) (λ n. at n (low_or_high n.0 (start_nodes start)))
+    all_false (λ n. has_executed (start_records start n) tid || option_map_or (have_voted (start_records start) tid) (voted_participants tid (start_records start n)) false) (node_numbers (start_nodes start)) (λ n. at n (below_or n.0 (start_nodes start)))
   where
     both : (a b : Bool) → a ≡ false → b ≡ false → (a || b) ≡ false
     both a b p q = cc
@@ -359,14 +344,14 @@ start_uncommitted start tid sound (ps, k, (m, (low, is)), has, unvoted) =
 
 -- a vote of the start is of an old id
 pub voted_old : (start : Start) (n : NodeNo) (tid : Tid) → has_voted (start_records start n) tid ≡ true → IsOld start tid
-voted_old start n tid voted = by (low_or_high n.0 (start_nodes start))
+voted_old start n tid voted = by (below_or n.0 (start_nodes start))
   where
     by : (n.0 < start_nodes start) ⊎ (start_nodes start ≤ n.0) → IsOld start tid
     by (inl low) = let v = vote_names tid (start_records start n) voted in (n, low, named_record tid v.0 (start_records start n) v.1)
     by (inr high) = absurd (clash _ voted (ap (λ (r : List Record). has_voted r tid) (no_records start n high)))
 
 pub executed_old : (start : Start) (n : NodeNo) (tid : Tid) → has_executed (start_records start n) tid ≡ true → IsOld start tid
-executed_old start n tid x = by (low_or_high n.0 (start_nodes start))
+executed_old start n tid x = by (below_or n.0 (start_nodes start))
   where
     executed_record : (records : List Record) (tid : Tid) → has_executed records tid ≡ true → has_record records tid ≡ true
     executed_record [] tid e = absurd cc

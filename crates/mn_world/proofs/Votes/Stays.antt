@@ -1,8 +1,9 @@
 -- What lost a vote for good stays so.
-use Rattle.std.proofs.Common.{◌≡◌, ℕ, ◌⊎◌, inl, inr, Bool, true, false, ◌||◌, List, [], ◌∷◌, ◌++◌, Some, refl, subst, ap, ◌∙◌}
+use Rattle.std.proofs.Common.{◌≡◌, ℕ, inl, inr, true, false, List, [], ◌∷◌, ◌++◌, Some, subst, ◌∙◌}
 use Rattle.mn_base.specs.Ids.{tid_same}
 use Rattle.mn_base.specs.declared.ids.NodeNo.{NodeNo}
 use Rattle.mn_base.specs.declared.ids.Tid.{Tid}
+use Rattle.mn_base.proofs.Booleans.{clash, falsely, or_cases}
 use Rattle.mn_mini.specs.declared.record.Record.{Record}
 use Rattle.mn_mini.specs.declared.record.Record.TheVariants.{Voted, Executed, Decided, Forced}
 use Rattle.mn_mini.specs.Mini.{Mini}
@@ -20,36 +21,14 @@ use Rattle.mn_world.proofs.Votes.Start.{vote_names, named_record}
 use Rattle.mn_world.proofs.Votes.Preserved.{kept_run, new_not_old, voted_tried}
 use Rattle.mn_world.proofs.Votes.Records.{fits_run}
 use Rattle.mn_world.proofs.Commits.Never.{untold_run}
-
-clash : (b : Bool) → b ≡ true → b ≡ false → ⊥
-clash b p q = absurd cc
-
-falsely : (b : Bool) → (b ≡ true → ⊥) → b ≡ false
-falsely true f = absurd (f refl)
-falsely false f = refl
-
-or_cases : (a b : Bool) → (a || b) ≡ true → (a ≡ true) ⊎ (b ≡ true)
-or_cases true b e = inl refl
-or_cases false b e = inr e
-
-or_right : (a b : Bool) → b ≡ true → (a || b) ≡ true
-or_right true b e = refl
-or_right false b e = e
-
-forced_record : (records : List Record) (tid : Tid) → has_forced records tid ≡ true → has_record records tid ≡ true
-forced_record [] tid e = absurd cc
-forced_record (Forced t ∷ rs) tid e =
-    (elim (or_cases (tid_same t tid) (has_forced rs tid) e) as (λ _. (tid_same t tid || has_record rs tid) ≡ true) [ inl h ↦ ap (λ (b : Bool). b || has_record rs tid) h | inr h ↦ or_right (tid_same t tid) (has_record rs tid) (forced_record rs tid h) ])
-forced_record (Voted t ps part ∷ rs) tid e = or_right (tid_same t tid) (has_record rs tid) (forced_record rs tid e)
-forced_record (Executed t part ∷ rs) tid e = or_right (tid_same t tid) (has_record rs tid) (forced_record rs tid e)
-forced_record (Decided t verdict ∷ rs) tid e = or_right (tid_same t tid) (has_record rs tid) (forced_record rs tid e)
+use Rattle.mn_world.proofs.Meaning.Forced.{forced_recorded}
 
 -- an id is not both voted and forced at a node
 voted_forced : (nodes : ℕ) (n : NodeNo) (records : List Record) (tid : Tid) → AreInPlace nodes n records → has_voted records tid ≡ true → has_forced records tid ≡ true → ⊥
 voted_forced nodes n [] tid place v f = absurd cc
 voted_forced nodes n (Voted t ps part ∷ older) tid place v f =
     elim (or_cases (tid_same t tid) (has_voted older tid) v) as (λ _. ⊥) [
-      | inl same ↦ clash _ (forced_record older tid f) (subst (λ (u : Tid). has_record older u ≡ false) (tid_same-true t tid same) place.0.0)
+      | inl same ↦ clash _ (forced_recorded older tid f) (subst (λ (u : Tid). has_record older u ≡ false) (tid_same-true t tid same) place.0.0)
       | inr there ↦ voted_forced nodes n older tid place.1 there f
     ]
 voted_forced nodes n (Forced t ∷ older) tid place v f =

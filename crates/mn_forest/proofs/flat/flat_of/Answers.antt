@@ -2,10 +2,10 @@ use Rattle.std.proofs.Common.{◌≡◌, ◌<◌, ◌≤◌, ◌+◌, ◌⊎◌,
 use Rattle.std.proofs.lemmas.Result.{err_from_is_err_and}
 use Rattle.mn_base.specs.Ids.{node_numbers}
 use Rattle.mn_base.specs.declared.ids.NodeNo.{NodeNo}
+use Rattle.mn_base.proofs.Naturals.{below_or}
 use Rattle.mn_mini.specs.declared.record.Record.{Record}
 use Rattle.mn_mini.specs.Node.{held_parts, space_of, with_held}
 use Rattle.mn_world.specs.Opened.{AreSound, is_committed}
-use Rattle.mn_world.proofs.Votes.Start.{low_or_high}
 use Rattle.mn_forest.specs.declared.error.VoteError.{VoteError}
 use Rattle.mn_page.specs.Base.{base_of}
 use Rattle.mn_forest.specs.Refusal.{RefusesRecords, IsWantOfMemory}
@@ -27,7 +27,7 @@ loop-n-preserved c =
           ∙ one_more (opened_space records (λ k. base_of (length records) k.0)) c.loop-n.spaces.items n c.in_ok-space_with.field-0 c.loop-n.invariant.spaces
           (c.in_ok-space_with.ensures.space records c.in_ok-told.ensures
           ∙ ap (λ (l : List Record). with_held (is_committed (length records) (lists_of records)) (space_of (base_of (length records) n) (reverse l)) (held_parts (reverse l))) list);
-      right = λ m low. by m low (low_or_high m.0 n) (subst (λ (l : List Record). AreRight records (numbered n) (reverse l)) list right);
+      right = λ m low. by m low (below_or m.0 n) (subst (λ (l : List Record). AreRight records (numbered n) (reverse l)) list right);
     }
   where
     by : (m : NodeNo) → m.0 < c.loop-n.n + 1 → (m.0 < c.loop-n.n) ⊎ (c.loop-n.n ≤ m.0) → AreRight c.args.records.now (numbered c.loop-n.n) (lists_of c.args.records.now (numbered c.loop-n.n)) → AreRight c.args.records.now m (lists_of c.args.records.now m)

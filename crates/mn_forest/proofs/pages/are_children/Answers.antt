@@ -1,9 +1,9 @@
-use Rattle.std.proofs.Common.{◌≡◌, ◌<◌, ℕ, Some, arith, slice_get, below_more}
+use Rattle.std.proofs.Common.{◌≡◌, Some, arith, slice_get, below_more}
 use Rattle.mn_page.specs.Forest.{ChildRange, children_of}
+use Rattle.mn_page.proofs.Grid.{all_by_place}
 use Rattle.mn_forest.specs.Rules.{IsChildAt}
 use Rattle.mn_forest.proofs.Lists.{place_in}
 use Rattle.mn_forest.proofs.Testing.{fails_so, passes_so}
-use Rattle.mn_forest.proofs.Children.{all_from}
 use Rattle.mn_forest.proofs.ChildTests.{no_child}
 use Rattle.mn_forest.proofs.pages.are_children.Goals as goal
 
@@ -19,4 +19,4 @@ loop-i-preserved c = λ entries are.
 
 pub returns : goal.returns
 returns c = λ entries are.
-    all_from (IsChildAt c.args.spaces.now entries c.args.page.now) (children_of c.args.page.now) (λ j child is. c.loop-i.invariant entries are j (let low = place_in (children_of c.args.page.now) j child is in omega (arith, c.child_count-i-end.ensures.children)) child is)
+    all_by_place (IsChildAt c.args.spaces.now entries c.args.page.now) (children_of c.args.page.now) (λ j child is. c.loop-i.invariant entries are j (let low = place_in (children_of c.args.page.now) j child is in omega (arith, c.child_count-i-end.ensures.children)) child is)

@@ -1,9 +1,10 @@
-use Rattle.std.proofs.Common.{◌≡◌, ℕ, ◌+◌, ◌-◌, ◌<◌, ◌≤◌, List, length, ap, sym, subst, arith, take, drop, reverse}
+use Rattle.std.proofs.Common.{◌≡◌, ℕ, ◌+◌, ◌-◌, ◌<◌, ap, subst, arith, take, drop, reverse}
 use Rattle.std.specs.List.{AllByRecursion}
 use Rattle.std.specs.Option.{option_map}
+use Rattle.mn_node.proofs.Built.{all-reverse}
 use Rattle.mn_hist.specs.History.{Note}
 use Rattle.mn_hist.specs.Shown.{seen_of, IsShown, IsUnshown, Tells}
-use Rattle.mn_hist.proofs.Loops.{all_drop, all_reverse, drop_whole, reverse_at}
+use Rattle.mn_hist.proofs.Loops.{all_drop, drop_whole, reverse_at}
 use Rattle.mn_hist.proofs.history.last_shown.Goals as goal
 
 back : (n : ℕ) → 0 < n → n ≡ n - 1 + 1
@@ -30,7 +31,7 @@ returns-then-branch c =
       is_place = ap (λ (n : Note). n.place) c.note.view_is;
       shown = subst (λ (n : Note). IsShown n.catalog n.seen c.args.op.now c.args.reply.now) c.note.view_is
           (subst (λ b. Tells b (option_map (λ x. x.now) c.note.inside.catalog) (seen_of c.note.inside.read) c.args.op.now c.args.reply.now) c.if-branch.true c.in_ok-shows.ensures);
-      none = all_reverse unshown (drop (c.loop-left.left - 1 + 1) c.args.notes.now) (subst (λ k. AllByRecursion unshown (drop k c.args.notes.now)) (back c.loop-left.left c.loop-left-test.true) c.loop-left.invariant.none);
+      none = all-reverse unshown (drop (c.loop-left.left - 1 + 1) c.args.notes.now) (subst (λ k. AllByRecursion unshown (drop k c.args.notes.now)) (back c.loop-left.left c.loop-left-test.true) c.loop-left.invariant.none);
     }
 
 pub loop-left-preserved : goal.loop-left-preserved

@@ -1,6 +1,6 @@
 use Rattle.std.proofs.Common.{ap, ◌∙◌}
+use Rattle.mn_node.proofs.FreshLog.{no_bodies, none_apart}
 use Rattle.mn_memdisk.specs.Memory.{MemoryState}
-use Rattle.mn_hist.proofs.FreshLog.{no_bodies, none_apart}
 use Rattle.mn_hist.proofs.tests.empty_log.Goals as goal
 
 pub returns-clause-bodies : goal.returns-clause-bodies

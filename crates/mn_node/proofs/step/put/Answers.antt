@@ -8,7 +8,7 @@ use Rattle.mn_node.proofs.Steps.{ok_both, stopped_after}
 use Rattle.mn_node.proofs.Resting.{stays_same}
 use Rattle.mn_redo.specs.Grammar.{header, IsBeforeOrAfter, IsStaged, Stands}
 use Rattle.mn_io.specs.DiskModel.{IsStable}
-use Rattle.mn_node.proofs.Moments.{only_weaker}
+use Rattle.mn_io.proofs.Moments.{LeavesOnly-weaker}
 use Rattle.mn_node.proofs.step.put.Goals as goal
 
 pub returns-in-Some-Before-clause-stopped : goal.returns-in-Some-Before-clause-stopped
@@ -44,4 +44,4 @@ returns-in-Some-After-clause-stopped g c _ =
 pub returns-in-Some-Half-clause-moments : goal.returns-in-Some-Half-clause-moments
 returns-in-Some-Half-clause-moments g c =
     let old = c.args.redo.now in
-    inr (λ h. only_weaker (g.D.Disk.state old.disk) (g.D.Disk.state c.write_half-half.new.self.disk) (λ l. Stands old.node old.nodes l old.bodies) (IsBeforeOrAfter old.node old.nodes old.bodies c.args.body.now) (λ l told. inl told) (c.write_half-half.ensures.any_moment h))
+    inr (λ h. LeavesOnly-weaker (g.D.Disk.state old.disk) (g.D.Disk.state c.write_half-half.new.self.disk) (λ l. Stands old.node old.nodes l old.bodies) (IsBeforeOrAfter old.node old.nodes old.bodies c.args.body.now) (λ l told. inl told) (c.write_half-half.ensures.any_moment h))

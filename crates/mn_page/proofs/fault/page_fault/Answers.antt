@@ -1,6 +1,6 @@
 use Rattle.std.proofs.Common.{sym, arith}
 use Rattle.std.proofs.lemmas.List.{length-take-le}
-use Rattle.mn_page.proofs.FrontFields.{unlike}
+use Rattle.mn_base.proofs.Booleans.{clash}
 use Rattle.mn_page.proofs.FrontWhole.{between_all, between_down, between_found, between_up, middle_of}
 use Rattle.mn_page.proofs.fault.page_fault.Goals as goal
 
@@ -32,7 +32,7 @@ loop-past-preserved c =
     let b = c.loop-past.invariant.between in
     let m = middle_of c.args.bytes.now c.loop-past.here c.loop-past.past b c.loop-past.invariant.end (omega arith) in
     record {
-      between = between_down c.args.bytes.now c.loop-past.here c.loop-past.past _ b m.0 m.1 (λ f. unlike c.begins_page.result (c.begins_page.ensures.1 f) c.if-begins_page.false);
+      between = between_down c.args.bytes.now c.loop-past.here c.loop-past.past _ b m.0 m.1 (λ f. clash c.begins_page.result (c.begins_page.ensures.1 f) c.if-begins_page.false);
       end = omega (arith, m.2);
     }
 

@@ -1,15 +1,13 @@
-use Rattle.std.proofs.Common.{◌≡◌, ◌-◌, ◌++◌, Bool, true, false, ℕ, List, length, drop, replicate, sym, ap, subst, ◌∙◌, arith}
+use Rattle.std.proofs.Common.{◌≡◌, ◌-◌, ◌++◌, true, false, ℕ, List, length, drop, replicate, sym, ap, subst, ◌∙◌, arith}
 use Rattle.std.specs.Ordering.{is_lt}
 use Rattle.std.proofs.lemmas.Bool.Decides.{Decides-eqb}
 use Rattle.std.proofs.lemmas.Slice.Eq.{starts_is}
 use Rattle.mn_base.specs.Order.{key_lt}
+use Rattle.mn_base.proofs.Booleans.{clash}
 use Rattle.mn_page.specs.KeyRoom.{IsLeastFrom}
 use Rattle.mn_page.proofs.Scanned.{are_bytes}
 use Rattle.mn_page.proofs.KeyRoom.{with_zeros, with_front, without_front}
 use Rattle.mn_page.proofs.key_room.least_with.Goals as goal
-
-unlike : (t : Bool) → t ≡ true → t ≡ false → ⊥
-unlike t e f = cc
 
 pub returns-then-not-is_lt : goal.returns-then-not-is_lt
 returns-then-not-is_lt c = λ low small fits.
@@ -40,4 +38,4 @@ returns-else-starts_with c = λ low small fits.
     let below : key_lt (front ++ replicate (size - length front) 0) least ≡ true =
     ap (λ (l : List ℕ). key_lt l least) (sym (c.as_slice.ensures.value ∙ items)) ∙ ap is_lt (sym c.cmp.ensures) ∙ sym c.is_lt.ensures ∙ c.if-not-is_lt.false in
     let lacks = (starts_is Decides-eqb c.as_slice-2.result.now front c.starts_with.result c.starts_with.ensures.value).1 in
-    without_front least front size k fits below (c.in_ok-from.ensures low small) (λ rest e. unlike c.starts_with.result (lacks rest (c.as_slice-2.ensures.value ∙ e)) c.if-starts_with.false)
+    without_front least front size k fits below (c.in_ok-from.ensures low small) (λ rest e. clash c.starts_with.result (lacks rest (c.as_slice-2.ensures.value ∙ e)) c.if-starts_with.false)

@@ -1,8 +1,9 @@
 use Rattle.std.proofs.Common.{◌≡◌, ◌∷◌, ℕ, List, length, ap, ◌∙◌, arith}
 use Rattle.std.specs.Prelude.{option_map}
+use Rattle.mn_base.proofs.Booleans.{clash}
 use Rattle.mn_page.specs.Grammar.{counted}
 use Rattle.mn_page.specs.PageFronts.{IsKeyIn}
-use Rattle.mn_page.proofs.FrontFields.{begin_none, none_first, short_text, key_cut, key_no, key_whole, unlike}
+use Rattle.mn_page.proofs.FrontFields.{begin_none, none_first, short_text, key_cut, key_no, key_whole}
 use Rattle.mn_page.proofs.page_front.front_key.Goals as goal
 
 pub returns-in_default : goal.returns-in_default
@@ -25,7 +26,7 @@ returns-then-not-leaves_room c = λ low some.
     let long : length c.in-Some-first_text.key.now ≡ c.in-Some.size = omega (arith, is) in
     key_no c.args.shortest room.least.now room.more (option_map (λ h. h.now) room.high) c.in-Some.size c.in-Some-first_text.key.now c.in-Some-first_text.rest.now c.args.bytes.now
     (c.in-Some.ensures.found ∙ ap (λ (l : List ℕ). c.in-Some.size ∷ l) found.spelled) (omega (arith, long))
-    (λ yes. unlike c.leaves_room-2.result ((c.leaves_room-2.ensures low (omega (arith, c.if-size-gt32.false)) (omega (arith, long))).1 yes) c.if-not-leaves_room.true)
+    (λ yes. clash c.leaves_room-2.result ((c.leaves_room-2.ensures low (omega (arith, c.if-size-gt32.false)) (omega (arith, long))).1 yes) c.if-not-leaves_room.true)
 
 pub returns : goal.returns
 returns c = λ low some.

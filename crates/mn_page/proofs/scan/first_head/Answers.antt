@@ -1,12 +1,9 @@
-use Rattle.std.proofs.Common.{◌≡◌, ◌++◌, ℕ, List, ap, ◌∙◌, append_assoc, arith}
+use Rattle.std.proofs.Common.{◌≡◌, ◌++◌, ℕ, ap, ◌∙◌, arith}
 use Rattle.std.proofs.lemmas.Grind.{common_steps}
 use Rattle.mn_page.specs.declared.page_ref.Head.{Head}
 use Rattle.mn_page.specs.Reading.{eight, height_text, versions_text}
 use Rattle.mn_page.proofs.scan.first_head.Goals as goal
-
--- the parts, one behind the other
-parts : (a b c more : List ℕ) → (a ++ (b ++ c)) ++ more ≡ a ++ (b ++ (c ++ more))
-parts a b c more = append_assoc a (b ++ c) more ∙ ap (λ (l : List ℕ). a ++ l) (append_assoc b c more)
+use Rattle.mn_page.proofs.PageText.{text_parts}
 
 same_head : (seq height made copied : ℕ) (g : Head) → seq ≡ g.seq → height ≡ g.height → made ≡ g.made.0 → copied ≡ g.copied
     → (let h : Head = record { seq = seq; height = height; made = record { 0 = made }; copied = copied } in h) ≡ g
@@ -19,13 +16,13 @@ same_head seq height made copied g e0 e1 e2 e3 =
 pub returns-in_err-seq-clause-only : goal.returns-in_err-seq-clause-only
 returns-in_err-seq-clause-only c = λ head more is spelled.
     let told = c.in_err-seq.ensures.only head.seq (height_text head.height ++ (versions_text (head.made.0, head.copied) ++ more)) is.seq
-    (spelled ∙ parts (eight head.seq) (height_text head.height) (versions_text (head.made.0, head.copied)) more) in
+    (spelled ∙ text_parts (eight head.seq) (height_text head.height) (versions_text (head.made.0, head.copied)) more) in
     grind (arith, common_steps, told)
 
 pub returns-in_err-made-clause-only : goal.returns-in_err-made-clause-only
 returns-in_err-made-clause-only c = λ head more is spelled.
     let behind = versions_text (head.made.0, head.copied) ++ more in
-    let seq = c.in_ok-seq.ensures.only head.seq (height_text head.height ++ behind) is.seq (spelled ∙ parts (eight head.seq) (height_text head.height) (versions_text (head.made.0, head.copied)) more) in
+    let seq = c.in_ok-seq.ensures.only head.seq (height_text head.height ++ behind) is.seq (spelled ∙ text_parts (eight head.seq) (height_text head.height) (versions_text (head.made.0, head.copied)) more) in
     let one : c.in_ok-seq.behind.now ≡ height_text head.height ++ behind = grind (arith, common_steps, seq) in
     let height = c.in_ok-height.ensures.only head.height behind is.height one in
     let two : c.in_ok-height.behind.now ≡ behind = grind (arith, common_steps, height) in
@@ -35,7 +32,7 @@ returns-in_err-made-clause-only c = λ head more is spelled.
 pub returns-clause-only : goal.returns-clause-only
 returns-clause-only c = λ head more is spelled.
     let behind = versions_text (head.made.0, head.copied) ++ more in
-    let seq = c.in_ok-seq.ensures.only head.seq (height_text head.height ++ behind) is.seq (spelled ∙ parts (eight head.seq) (height_text head.height) (versions_text (head.made.0, head.copied)) more) in
+    let seq = c.in_ok-seq.ensures.only head.seq (height_text head.height ++ behind) is.seq (spelled ∙ text_parts (eight head.seq) (height_text head.height) (versions_text (head.made.0, head.copied)) more) in
     let one : c.in_ok-seq.behind.now ≡ height_text head.height ++ behind = grind (arith, common_steps, seq) in
     let height = c.in_ok-height.ensures.only head.height behind is.height one in
     let two : c.in_ok-height.behind.now ≡ behind = grind (arith, common_steps, height) in

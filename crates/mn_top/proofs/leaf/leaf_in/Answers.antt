@@ -1,11 +1,11 @@
-use Rattle.std.proofs.Common.{◌≡◌, List, ℕ, rules, sym, ap, [], subst, refl, ◌∙◌, not}
+use Rattle.std.proofs.Common.{List, ℕ, sym, ap, [], subst, refl, ◌∙◌, not}
 use Rattle.std.proofs.lemmas.Bool.{false≢true}
 use Rattle.std.proofs.lemmas.Slice.Eq.{bytes_eq-Decides}
-use Rattle.mn_mini.specs.Flat.{bytes_in, overwritten}
+use Rattle.mn_base.proofs.Booleans.{not_false}
+use Rattle.mn_mini.specs.Flat.{overwritten}
 use Rattle.mn_page.specs.Base.{base_of}
-use Rattle.mn_page.specs.Grammar.{page_bytes}
-use Rattle.mn_top.specs.Leaf.{leaf_page, HoldsLeaf}
-use Rattle.mn_top.proofs.Leaves.{base_holds, slot_is, unnot, written_over}
+use Rattle.mn_top.specs.Leaf.{HoldsLeaf}
+use Rattle.mn_top.proofs.Leaves.{base_holds, slot_is, written_over}
 use Rattle.mn_top.proofs.leaf.leaf_in.Goals as goal
 
 pub returns-in_default : goal.returns-in_default
@@ -21,6 +21,6 @@ returns-then-ne c = λ seq pairs holds.
 pub returns : goal.returns
 returns c =
     let told = rw c.in-Some.is at c.in_ok-leaf.ensures in
-    let eq = (bytes_eq-Decides _ _).0 (unnot _ (sym c.ne.ensures ∙ c.if-ne.false)) in
+    let eq = (bytes_eq-Decides _ _).0 (not_false _ (sym c.ne.ensures ∙ c.if-ne.false)) in
     let same = sym (ap (λ (l : List ℕ). overwritten (base_of 1 0) 20480 l) told.1) ∙ sym c.in_ok-whole.ensures ∙ sym c.as_slice.ensures.value ∙ eq in
     subst (λ (l : List ℕ). HoldsLeaf l c.in-Some.leaf.seq c.in-Some.leaf.pairs.items) same (written_over (base_of 1 0) 1 [] c.in-Some.leaf.seq c.in-Some.leaf.pairs.items base_holds told.0)

@@ -1,6 +1,6 @@
 use Rattle.std.proofs.Common.{◌≡◌, ℕ, List, ap, sym, ◌∙◌, ◌++◌, ◌+◌, ◌-◌, length, take, drop, arith}
 use Rattle.std.proofs.lemmas.List.{drop-drop}
-use Rattle.mn_top.proofs.SpaceLemmas.{overwritten-inside}
+use Rattle.mn_node.proofs.Space.{overwritten-inside}
 use Rattle.mn_top.proofs.leaf.overwrite.Goals as goal
 
 pub returns : goal.returns

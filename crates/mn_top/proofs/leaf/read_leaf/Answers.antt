@@ -3,12 +3,10 @@ use Rattle.std.specs.Prelude.{Option, MatchOption}
 use Rattle.mn_base.specs.declared.reply.Pair.{Pair}
 use Rattle.mn_page.specs.declared.page.Page.{Page}
 use Rattle.mn_page.specs.Grammar.{SpellsPage}
+use Rattle.mn_page.proofs.Copy.{page_same}
 use Rattle.mn_top.specs.Leaf.{leaf_page}
 use Rattle.mn_top.specs.declared.leaf.Leaf.{Leaf}
 use Rattle.mn_top.proofs.leaf.read_leaf.Goals as goal
-
-same_page : (p q : Page) → Some p ≡ Some q → p ≡ q
-same_page p q e = cc
 
 none_there : (p : Page) → None ≡ Some p → ⊥
 none_there p e = cc
@@ -26,7 +24,7 @@ returns-in_ok-to_page-in-Ok-Some c =
     let told = rw c.in-Ok-Some.field-0-is at c.in-Ok-Some.ensures in
     let page = c.in_ok-to_page-in-Ok-Some.field-0 in
     let same : page ≡ c.in-Ok-Some.found = c.in_ok-to_page-in-Ok-Some.ensures in
-    by_page bytes page c.plain_leaf.result (subst (SpellsPage bytes) (sym same) told.read) (λ seq pairs s. same ∙ same_page c.in-Ok-Some.found (leaf_page seq pairs) (told.page (leaf_page seq pairs) s)) c.plain_leaf.ensures
+    by_page bytes page c.plain_leaf.result (subst (SpellsPage bytes) (sym same) told.read) (λ seq pairs s. same ∙ page_same c.in-Ok-Some.found (leaf_page seq pairs) (told.page (leaf_page seq pairs) s)) c.plain_leaf.ensures
 
 pub returns-in-Ok-None : goal.returns-in-Ok-None
 returns-in-Ok-None c = λ seq pairs s. let told = rw c.in-Ok-None.field-0-is at c.in-Ok-None.ensures in none_there (leaf_page seq pairs) (told.page (leaf_page seq pairs) s)

@@ -1,6 +1,7 @@
 use Rattle.std.proofs.Common.{sym, ap, ◌∙◌, length, ℕ, List}
 use Rattle.mn_mini.specs.Flat.{overwritten}
-use Rattle.mn_top.proofs.Leaves.{length-overwritten, written_back}
+use Rattle.mn_mini.proofs.Bytes.{length-overwritten}
+use Rattle.mn_top.proofs.Leaves.{written_back}
 use Rattle.mn_top.proofs.leaf.space_with.Goals as goal
 
 pub returns : goal.returns

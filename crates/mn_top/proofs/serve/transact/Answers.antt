@@ -1,8 +1,8 @@
 use Rattle.std.proofs.Common.{◌≡◌, sym, ap, subst, ◌∙◌, List, ℕ, Ok, Err}
 use Rattle.std.proofs.lemmas.Result.{err_from_is_err_and}
-use Rattle.std.specs.Prelude.{None, option_map, IsSomeAnd, slice_get}
+use Rattle.std.specs.Prelude.{None, option_map, IsSomeAnd, IsTrue, slice_get}
 use Rattle.mn_base.specs.declared.reply.Pair.{Pair}
-use Rattle.mn_base.specs.Store.{Store, applied, main_store}
+use Rattle.mn_base.specs.Store.{Store, applied, is_ascending, main_store}
 use Rattle.mn_mini.specs.declared.item.Item.{Item}
 use Rattle.mn_mini.specs.Flat.{part_mismatch_from}
 use Rattle.mn_mini.specs.Mini.{IsSound}
@@ -24,6 +24,13 @@ pub leaf_of-requires : goal.leaf_of-requires
 leaf_of-requires g c =
     let known = c.requires.serves in
     (known.0, known.1, (known.2).makes.holds.page, slot_is (space_on c.args.node.now) known.0 known.1 c.as_slice.result.now (known.2).makes.holds (c.as_slice.ensures ∙ c.in_ok-page.ensures.told.0))
+
+pub store_of-requires : goal.store_of-requires
+store_of-requires g c =
+    let known = c.requires.serves in
+    let page = (known.2).makes.holds.page in
+    let leaf = c.in_ok-leaf.ensures known.0 known.1 page (slot_is (space_on c.args.node.now) known.0 known.1 c.as_slice.result.now (known.2).makes.holds (c.as_slice.ensures ∙ c.in_ok-page.ensures.told.0)) in
+    subst (λ (l : List Pair). IsTrue (is_ascending l)) (sym leaf.1) page.body.1
 
 pub written-requires : goal.written-requires
 written-requires g c =

@@ -3,9 +3,10 @@ use Rattle.mn_base.specs.Store.{Store}
 use Rattle.mn_base.specs.Stores.{IsStore}
 use Rattle.mn_base.specs.declared.op.Op.TheVariants.{Branch}
 use Rattle.mn_base.specs.declared.reply.Reply.TheVariants.{Made}
+use Rattle.mn_base.proofs.Booleans.{not_false}
 use Rattle.mn_plain.specs.Kept.{store_of, AddsChild}
 use Rattle.mn_plain.specs.Run.{Does}
-use Rattle.mn_plain.proofs.ApplyLemmas.{branch_is, store_left, not_true}
+use Rattle.mn_plain.proofs.ApplyLemmas.{branch_is, store_left}
 use Rattle.mn_plain.proofs.store.Store.branch.Goals as goal
 
 pub invariant_of-self-2 : goal.invariant_of-self-2
@@ -16,5 +17,5 @@ invariant_of-self-2 c =
     let added = subst (λ (s : Store). AddsChild s c.in-Some.place.at c.args.child.now new) c.self.view_is c.in_ok-add_child_of.ensures.added in
     let does : Does (Branch c.args.version.now c.args.child.now) old new (Ok Made) =
     branch_is old new c.args.version.now c.args.child.now c.in-Some.place.at place.0 place.1
-    (sym place.2 ∙ not_true c.in-Some.place.frozen c.if-not-place.false) (sym c.in_default-child_refusal.ensures.refused) added in
+    (sym place.2 ∙ not_false c.in-Some.place.frozen c.if-not-place.false) (sym c.in_default-child_refusal.ensures.refused) added in
     store_left (Branch c.args.version.now c.args.child.now) old new Made (subst IsStore c.self.view_is c.self.invariant) does
