@@ -155,32 +155,36 @@ fn worked(alloc: Global, kept: bool) -> Result<Log, Fail> {
         client: None,
         what: What::Restarted { kept },
     })?;
-    let answers = [
-        Answer::InDoubt {
-            tid: tid(0),
-            node: NodeNo(1),
-        },
-        Answer::Replied {
-            reply: Reply::Values {
-                found: Founds::from_vec(Vec::from_array(alloc, [None])?),
+    for (client, answer) in [
+        (
+            0,
+            Answer::InDoubt {
+                tid: tid(0),
+                node: NodeNo(1),
             },
-        },
-        Answer::Replied {
-            reply: Reply::Listing {
-                versions: listing(alloc)?,
+        ),
+        (
+            1,
+            Answer::Replied {
+                reply: Reply::Values {
+                    found: Founds::from_vec(Vec::from_array(alloc, [None])?),
+                },
             },
-        },
-    ];
-    let mut client = 0;
-    for answer in answers {
+        ),
+        (
+            2,
+            Answer::Replied {
+                reply: Reply::Listing {
+                    versions: listing(alloc)?,
+                },
+            },
+        ),
+    ] {
         entries.push(own(client, What::Answered { number: 1, answer }))?;
-        client += 1;
     }
     let mut log = Vec::new(alloc);
-    let mut place = 0;
-    for entry in entries {
-        log.push((place, entry))?;
-        place += 1;
+    for (place, entry) in entries.into_iter().enumerate() {
+        log.push((place as u64, entry))?;
     }
     Ok(Log::from_vec(log))
 }

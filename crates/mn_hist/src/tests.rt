@@ -312,6 +312,13 @@ fn empty_log(rt: &impl Abort, alloc: Global, number: u8) -> Result<Redo<MemoryDi
     }
 }
 
+fn told_by(ended: Option<(Told, Log)>) -> Option<Told> {
+    match ended {
+        Some((told, _log)) => Some(told),
+        None => None,
+    }
+}
+
 #[test]
 fn two_threads_at_two_cells_make_one_log(rt: HostRuntime) -> Result<(), Fail> {
     let alloc = rt.alloc();
@@ -323,9 +330,7 @@ fn two_threads_at_two_cells_make_one_log(rt: HostRuntime) -> Result<(), Fail> {
         clock: 200,
         entries: 200,
     };
-    match run::<MemoryDisk, HostRuntime>(&rt, alloc, first, second).0 {
-        Some((told, _log)) => assert_eq!(rt; told, expected),
-        None => assert!(rt; false),
-    }
+    let (ended, _nodes) = run::<MemoryDisk, HostRuntime>(&rt, alloc, first, second);
+    assert!(rt; told_by(ended) == Some(expected));
     Ok(())
 }

@@ -1,5 +1,5 @@
 use Rattle.std.proofs.Common.{◌≡◌, false}
-use Rattle.mn_tests.proofs.recovery.race.Given as goal
+use Rattle.mn_vote_tests.proofs.recovery.race.Given as goal
 
 -- no request of the coordinator is out
 abbrev pub invariant-loop-n : goal.invariant-loop-n

@@ -1,7 +1,7 @@
 use Rattle.std.proofs.Common.{ap, ◌∙◌}
 use Rattle.mn_memdisk.specs.Memory.{MemoryState}
 use Rattle.mn_node.proofs.FreshLog.{no_bodies, none_apart}
-use Rattle.mn_tests.proofs.recovery_nodes.empty_log.Goals as goal
+use Rattle.mn_vote_tests.proofs.recovery_nodes.empty_log.Goals as goal
 
 pub returns-clause-bodies : goal.returns-clause-bodies
 returns-clause-bodies g c = λ records sound e.

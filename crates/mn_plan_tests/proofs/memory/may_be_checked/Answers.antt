@@ -6,7 +6,7 @@ use Rattle.std.proofs.lemmas.Bool.{eqb-true}
 use Rattle.mn_base.proofs.Booleans.{both_parts}
 use Rattle.mn_page.proofs.FrontBodies.{is_up}
 use Rattle.mn_mini.specs.Mini.{space_size}
-use Rattle.mn_tests.proofs.forest_check.may_be_checked.Goals as goal
+use Rattle.mn_plan_tests.proofs.memory.may_be_checked.Goals as goal
 
 all_whole : (spaces : List (List ℕ)) → list_all (λ space. nat_eq (length space) space_size) spaces ≡ true → AllByRecursion (λ space. length space ≡ space_size) spaces
 all_whole [] e = tt

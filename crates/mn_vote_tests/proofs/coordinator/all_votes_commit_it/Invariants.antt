@@ -1,5 +1,5 @@
 use Rattle.std.proofs.Common.{◌≡◌, false}
-use Rattle.mn_tests.proofs.coordinator.all_votes_commit_it.Given as goal
+use Rattle.mn_vote_tests.proofs.coordinator.all_votes_commit_it.Given as goal
 
 -- no request is out
 abbrev pub invariant-loop-n : goal.invariant-loop-n

@@ -4,7 +4,7 @@ use Rattle.std.proofs.lemmas.Option.{slice_get_read}
 use Rattle.mn_base.specs.Tree.{has_version}
 use Rattle.mn_base.specs.declared.ids.Addr.{Addr}
 use Rattle.mn_page.specs.declared.entry.CatEntry.{CatEntry}
-use Rattle.mn_tests.proofs.memory.may_have_child.Goals as goal
+use Rattle.mn_plan_tests.proofs.memory.may_have_child.Goals as goal
 
 -- addresses that a test tells apart
 differ : (a b : Addr) → (nat_eq a.node.0 b.node.0 && nat_eq a.slot b.slot) ≡ false → a ≡ b → ⊥

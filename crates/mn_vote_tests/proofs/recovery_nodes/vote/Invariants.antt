@@ -1,5 +1,5 @@
 use Rattle.std.proofs.Common.{◌≡◌, false}
-use Rattle.mn_tests.proofs.recovery_nodes.vote.Given as goal
+use Rattle.mn_vote_tests.proofs.recovery_nodes.vote.Given as goal
 
 -- no request of the coordinator is out
 abbrev pub invariant-loop : goal.invariant-loop
