@@ -55,7 +55,8 @@ module _ {E : Type 0} where
   ClientRoom v None = Unit {0}
   ClientRoom v (Some c) = HasRoom v (Client c)
 
-  -- the pass may add the line: it owns the actors, of which there is one at least, and the line is legal by their lists
+  -- the pass may add the line: it owns the actors, of which there is one at least, and the line is
+  -- legal by their lists
   pub record MayAppend (legal : List (ℕ × E) → List (ℕ × E) → Line E → Type 0) (v : View E) (x : Line E) : Type 0 where
     pub some_actor : SomeActor x.node x.client
     pub node_room : NodeRoom v x.node

@@ -41,12 +41,14 @@ module _ {E : Type 0} where
   abbrev pub StandsAt : ℕ → E → List (ℕ × E) → Type 0
   StandsAt p e l = (k : ℕ) × (slice_get l k ≡ Some (p, e))
 
-  -- the place is that of one line: its entry stands in the lists of its actors, and nothing else stands there in any list
+  -- the place is that of one line: its entry stands in the lists of its actors, and nothing else
+  -- stands there in any list
   pub record IsPlace (lists : Actor → List (ℕ × E)) (p : ℕ) (x : Line E) : Type 0 where
     pub stands : (a : Actor) → stands_in a x ≡ true → StandsAt p x.entry (lists a)
     pub alone : (a : Actor) (e : E) → StandsAt p e (lists a) → (stands_in a x ≡ true) × (e ≡ x.entry)
 
-  -- the lists of all actors are one log, as long as the clock, of lines that were legal when they were added
+  -- the lists of all actors are one log, as long as the clock, of lines that were legal when they
+  -- were added
   pub record IsOneLog (legal : List (ℕ × E) → List (ℕ × E) → Line E → Type 0) (nodes clients : ℕ) (owned : Actor → Option (List (ℕ × E))) (clock : ℕ) : Type 0 where
     pub log : List (Line E)
     pub clock_is : clock ≡ length log

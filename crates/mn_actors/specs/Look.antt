@@ -1,4 +1,5 @@
--- What a look at the clock tells of the place that a pass knows, and of the lists that it owns. Here too the newest line of a log comes first.
+-- What a look at the clock tells of the place that a pass knows, and of the lists that it owns.
+-- Here too the newest line of a log comes first.
 use Rattle.std.specs.Prelude.{ℕ, ◌≡◌, ◌≤◌, Some, List, length}
 use Rattle.atomic_table.specs.Table.{Me, Step}
 use Rattle.mn_actors.specs.declared.actor.Actor.{Actor}
@@ -14,7 +15,8 @@ module _ {E : Type 0} where
     pub legal_log : IsLegalLog legal log
     pub lists : (a : Actor) (l : List (ℕ × E)) → held v a ≡ Some l → l ≡ list_of a log
 
-  -- the pass knows how many lines the log of its lists has: what the clock says where it is looked at
+  -- the pass knows how many lines the log of its lists has: what the clock says where it is looked
+  -- at
   pub record KnowsAll (legal : List (ℕ × E) → List (ℕ × E) → Line E → Type 0) (v : View E) : Type 0 where
     pub of_log : IsOfLog legal v
     pub count : length of_log.log ≡ v.known

@@ -1,4 +1,5 @@
--- The rule of the clock, and its steps. Here the newest line of a log comes first, since that is where it grows.
+-- The rule of the clock, and its steps. Here the newest line of a log comes first, since that is
+-- where it grows.
 use Rattle.std.specs.Prelude.{ℕ, zero, suc, max, ◌≡◌, ◌+◌, ◌^◌, ◌<◌, ◌≤◌, Bool, true, false, Option, Some, None, List, [], ◌∷◌, ◌++◌, length, slice_index_or, slice_set, replicate}
 use mathlib.Core.Option.{some}
 use lib.ListN.{get_elem?}

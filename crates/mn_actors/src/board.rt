@@ -17,8 +17,8 @@ pub struct Board<L: Law> {
     ghost few: { (table.shared.key.nodes ≤ 8) × (table.shared.key.clients ≤ 21) },
 }
 
-/// The leave to add entries for the actors that it owns, whose lists it knows, and a place that the clock
-/// has reached.
+/// The leave to add entries for the actors that it owns, whose lists it knows, and a place that the
+/// clock has reached.
 #[derive(Drop)]
 pub struct Pass<L: Law> {
     known: u64,

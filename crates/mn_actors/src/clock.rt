@@ -12,8 +12,8 @@ pub struct Size {
     pub clients: u8,
 }
 
-/// What a pass knows: a place, and of each actor that it owns the list. It stands in proofs alone, and no
-/// value of it is made.
+/// What a pass knows: a place, and of each actor that it owns the list. It stands in proofs alone,
+/// and no value of it is made.
 pub struct View<E> {
     pub known: u64,
     pub nodes: LinkedList<Option<LinkedList<(u64, E)>>>,

@@ -5,7 +5,7 @@ pub trait Law {
 
     type Entry: Drop;
 
-    // Of the node's list, the client's list, and the entry with the actors that make it. A list holds
-    // entries with their places. The list of an absent actor is empty.
+    // Of the node's list, the client's list, and the entry with the actors that make it. A list
+    // holds entries with their places. The list of an absent actor is empty.
     ghost legal: { List (ℕ × Self.Entry) → List (ℕ × Self.Entry) → Line Self.Entry → Type 0 };
 }

@@ -1,5 +1,5 @@
-//! A log that many threads write by one shared clock. Each entry takes one place and ends the lists of
-//! its actors, and each actor's list belongs to one pass at a time.
+//! A log that many threads write by one shared clock. Each entry takes one place and ends the lists
+//! of its actors, and each actor's list belongs to one pass at a time.
 #![tactic(auto)]
 
 mod actor;

@@ -70,7 +70,8 @@ fn both<R: Threads + Sync>(rt: &R, alloc: Global) -> Option<(bool, bool, u64)> {
     Some((reached, beyond, clock))
 }
 
-// A pass looks at the clock after another added an entry. The answer is what `hear` says of 1 and 2.
+// A pass looks at the clock after another added an entry. The answer is what `hear` says of 1 and
+// 2.
 fn late(alloc: Global) -> Option<(bool, bool)> {
     let Ok((board, mut pass)) = Board::<Turns>::new(alloc, 1, 1) else {
         return None;

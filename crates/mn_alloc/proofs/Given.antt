@@ -29,7 +29,8 @@ read_is [] k d lt = absurd (omega arith)
 read_is (c ∷ counts) zero d lt = refl
 read_is (c ∷ counts) (suc k) d lt = read_is counts k d (omega arith)
 
--- where this node has the fewest given out and a slot is free: it has this slot, and one less is free when it is given out
+-- where this node has the fewest given out and a slot is free: it has this slot, and one less is
+-- free when it is given out
 taken : (counts : List ℕ) (k slot : ℕ) → 1 ≤ free_slots counts → k < length counts → ((j : ℕ) → j < length counts → get_or counts k 0 ≤ get_or counts j 0) → slot ≡ get_or counts k slot
     → (k < length counts) × (slot < 4096) × (free_slots (set counts k (slot + 1)) + 1 ≡ free_slots counts)
 taken counts k slot free lt least is =

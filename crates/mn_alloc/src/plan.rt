@@ -55,9 +55,10 @@ fn give(counts: &mut Vec<u16>) -> Addr
     }
 }
 
-/// As many new slots as are needed, where `counts` says how many each of 1 to 8 nodes has given out. Each
-/// goes to the node with the fewest given out, counting those of this plan, and among equals to the least
-/// number. Full: the nodes together have fewer slots left. NoMemory: there was no memory for the list.
+/// As many new slots as are needed, where `counts` says how many each of 1 to 8 nodes has given
+/// out. Each goes to the node with the fewest given out, counting those of this plan, and among
+/// equals to the least number. Full: the nodes together have fewer slots left. NoMemory: there was
+/// no memory for the list.
 pub fn plan_slots(alloc: Global, counts: &Counts, need: u32) -> Result<Slots, AllocError>
     requires nodes { (1 ≤ length counts.now) × (length counts.now ≤ 8) }
     requires given { All (λ count. count ≤ SLOTS) counts.now }

@@ -71,7 +71,8 @@ serving_by_ancestry : serves tree 0 2 0 ∷ serves tree 0 2 1 ∷ serves tree 0 
     ≡ true ∷ false ∷ true ∷ false ∷ true ∷ false ∷ []
 serving_by_ancestry = refl
 
--- branches of a frozen version until there are 64 versions: then a new name meets no room, and a known one is taken
+-- branches of a frozen version until there are 64 versions: then a new name meets no room, and a
+-- known one is taken
 abbrev branches : List Op
 branches = Rattle.std.specs.Prelude.map (λ n. Branch main (120 ∷ ((48 + n) ∷ []))) (Rattle.std.specs.List.range_with_len 0 62)
 

@@ -4,7 +4,8 @@ use Rattle.mn_base.specs.Ids.{tid_lt}
 use Rattle.mn_base.specs.declared.ids.Tid.{Tid}
 use Rattle.mn_base.specs.declared.ids.Range.{Range}
 
--- the ranges have a byte in common, at or behind both starts and in front of both ends; an empty range has none
+-- the ranges have a byte in common, at or behind both starts and in front of both ends; an empty
+-- range has none
 abbrev pub ranges_meet : Range → Range → Bool
 ranges_meet a b = nat_lt (max a.start b.start) (min (a.start + a.length) (b.start + b.length))
 

@@ -114,7 +114,8 @@ pub record Ran : Type 0 where
   pub pairs : List Pair
   pub reply : Reply
 
--- the steps from the n-th on, after these pairs and finds; the first Check that is not met brings the old pairs back
+-- the steps from the n-th on, after these pairs and finds; the first Check that is not met brings
+-- the old pairs back
 abbrev pub ran_from : List Pair → ℕ → List Pair → List (Option (List ℕ)) → List Step → Ran
 ran_from old n ps found [] = record { pairs = ps; reply = Values found }
 ran_from old n ps found (step ∷ steps) =

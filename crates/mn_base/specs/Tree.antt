@@ -27,7 +27,8 @@ has_version copied w = nat_eq (bit_at copied w) 1
 abbrev pub versions_in : ℕ → List ℕ
 versions_in copied = filter (has_version copied) (range_with_len 0 max_versions)
 
--- a page made in one version serves v if that is v or an ancestor of v, and nothing it was copied for is
+-- a page made in one version serves v if that is v or an ancestor of v, and nothing it was copied
+-- for is
 abbrev pub serves : List (Option ℕ) → ℕ → ℕ → ℕ → Bool
 serves parents made copied v = is_ancestor parents made v && not (list_any (λ w. is_ancestor parents w v) (versions_in copied))
 

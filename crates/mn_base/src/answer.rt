@@ -22,7 +22,8 @@ pub enum Busy {
     Forced {
         tid: Tid,
     },
-    /// The page at `addr` isn't one that the path can go on with. `seq` is its sequence number, 0 where no page stands.
+    /// The page at `addr` isn't one that the path can go on with. `seq` is its sequence number, 0
+    /// where no page stands.
     Path {
         addr: Addr,
         seq: u64,
@@ -63,18 +64,21 @@ impl TryCopy for Busy {
     }
 }
 
-/// What an operation is answered. Busy, Down, Full, Worn and NoMemory mean that it has no effect, now or later.
+/// What an operation is answered. Busy, Down, Full, Worn and NoMemory mean that it has no effect,
+/// now or later.
 #[derive(Debug, Drop)]
 pub enum Answer {
     Replied { reply: Reply },
     Busy { cause: Busy },
     /// The node was down, or it stopped before the operation could be in doubt.
     Down { node: NodeNo },
-    /// The node stopped inside the last vote on this id: the operation takes effect wholly or not at all.
+    /// The node stopped inside the last vote on this id: the operation takes effect wholly or not
+    /// at all.
     InDoubt { tid: Tid, node: NodeNo },
     /// The operation needs more new slots than are free on all nodes together.
     Full { need: u32, free: u32 },
-    /// The page or entry from `start` on has the greatest sequence number and can't be written again.
+    /// The page or entry from `start` on has the greatest sequence number and can't be written
+    /// again.
     Worn { node: NodeNo, start: u32 },
     NoMemory,
 }

@@ -42,7 +42,8 @@ pub enum BaseError {
 impl BaseError {
     ghost use Rattle.mn_base.specs.Refusal.{code_of};
 
-    /// The number of the refusal: 1 Empty, 2 TooLong, 3 BadName, 7 BadSteps; 0 for want of memory, which is none.
+    /// The number of the refusal: 1 Empty, 2 TooLong, 3 BadName, 7 BadSteps; 0 for want of memory,
+    /// which is none.
     pub fn code(&self) -> u8
         ensures { result ≡ code_of self.now }
     {

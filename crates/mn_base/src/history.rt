@@ -3,8 +3,8 @@ ghost use Rattle.std.specs.Prelude.{◌≡◌};
 use crate::{ClientNo, Op, Reply};
 use std::marker::Model;
 
-/// An operation that took effect or was replied to: who asked for it, its number among this client's operations (from 1),
-/// and the reply.
+/// An operation that took effect or was replied to: who asked for it, its number among this
+/// client's operations (from 1), and the reply.
 #[derive(Debug, Drop)]
 pub struct Past {
     pub client: ClientNo,

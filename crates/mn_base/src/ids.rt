@@ -2,8 +2,8 @@
 #[derive(Clone, Copy, Debug, PartialEq, Eq, PartialOrd, Ord)]
 pub struct NodeNo(pub u8);
 
-/// The number of an actor that calls nodes: a client (0 to 15), the coordinator that opens and closes (16), or a recovery
-/// coordinator (17 to 20).
+/// The number of an actor that calls nodes: a client (0 to 15), the coordinator that opens and
+/// closes (16), or a recovery coordinator (17 to 20).
 #[derive(Clone, Copy, Debug, PartialEq, Eq, PartialOrd, Ord)]
 pub struct ClientNo(pub u8);
 
@@ -18,8 +18,9 @@ pub struct Addr {
     pub slot: u16,
 }
 
-/// The id of a minitransaction: the run that it was made in (from 1), the actor that made it, and its number among those
-/// that this actor made in this run (from 1). Ids are ordered by run, then by client, then by serial.
+/// The id of a minitransaction: the run that it was made in (from 1), the actor that made it, and
+/// its number among those that this actor made in this run (from 1). Ids are ordered by run, then
+/// by client, then by serial.
 #[derive(Clone, Copy, Debug, PartialEq, Eq, PartialOrd, Ord)]
 pub struct Tid {
     pub run: u32,

@@ -24,7 +24,8 @@ impl Model for Key {
 }
 
 impl Key {
-    /// The key of these bytes. Empty: there is none. TooLong: there are `n`, more than 32. NoMemory: there was no memory for it.
+    /// The key of these bytes. Empty: there is none. TooLong: there are `n`, more than 32.
+    /// NoMemory: there was no memory for it.
     pub fn new(alloc: Global, bytes: &[u8]) -> Result<Self, BaseError>
         ensures ok { IfOk result (λ key. key ≡ bytes.now) }
         ensures within { OnOk result ((1 ≤ length bytes.now) × (length bytes.now ≤ MAX_KEY)) }

@@ -1,4 +1,5 @@
-//! The types of the store: keys, values, names, operations, replies and answers, and what they mean.
+//! The types of the store: keys, values, names, operations, replies and answers, and what they
+//! mean.
 #![tactic(auto)]
 
 mod answer;

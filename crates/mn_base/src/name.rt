@@ -9,7 +9,8 @@ use std::marker::Model;
 /// The most bytes of a name.
 pub const MAX_NAME: usize = 16;
 
-/// The name of a version or a client: 1 to 16 bytes of `a` to `z` and `0` to `9`. Contracts see it as a list.
+/// The name of a version or a client: 1 to 16 bytes of `a` to `z` and `0` to `9`. Contracts see it
+/// as a list.
 #[derive(Debug, Drop)]
 pub struct Name {
     bytes: Vec<u8>,
@@ -45,8 +46,8 @@ fn fault_of(bytes: &[u8]) -> Option<usize>
 }
 
 impl Name {
-    /// The name of these bytes. BadName: `at` is the first byte at fault, 16 for the first byte too many, 0 for no byte.
-    /// NoMemory: there was no memory for it.
+    /// The name of these bytes. BadName: `at` is the first byte at fault, 16 for the first byte too
+    /// many, 0 for no byte. NoMemory: there was no memory for it.
     #[tactic(auto, using(crate::proofs::Names::no_fault_is_name))]
     pub fn new(alloc: Global, bytes: &[u8]) -> Result<Self, BaseError>
         ensures ok { IfOk result (λ name. name ≡ bytes.now) }

@@ -16,7 +16,8 @@ pub enum Step {
     Put { key: Key, value: Value },
     /// Removes the key, if it is there.
     Del { key: Key },
-    /// Ends the transaction without effect where the key has another value, or none. No `want` wants none.
+    /// Ends the transaction without effect where the key has another value, or none. No `want`
+    /// wants none.
     Check { key: Key, want: Option<Value> },
 }
 
@@ -126,7 +127,8 @@ impl TryCopy for Steps {
 /// An operation on the store.
 #[derive(Debug, Drop)]
 pub enum Op {
-    /// Runs the steps in order on the version's pairs: all of them, or none where a Check isn't met.
+    /// Runs the steps in order on the version's pairs: all of them, or none where a Check isn't
+    /// met.
     Tx {
         version: Name,
         steps: Steps,
@@ -141,7 +143,8 @@ pub enum Op {
         version: Name,
         child: Name,
     },
-    /// The first `limit` pairs of a frozen version with `low <= key < high`. An absent bound doesn't bound.
+    /// The first `limit` pairs of a frozen version with `low <= key < high`. An absent bound
+    /// doesn't bound.
     Scan {
         version: Name,
         low: Option<Key>,

@@ -24,7 +24,8 @@ impl Model for Value {
 }
 
 impl Value {
-    /// The value of these bytes. TooLong: there are `n`, more than 64. NoMemory: there was no memory for it.
+    /// The value of these bytes. TooLong: there are `n`, more than 64. NoMemory: there was no
+    /// memory for it.
     pub fn new(alloc: Global, bytes: &[u8]) -> Result<Self, BaseError>
         ensures ok { IfOk result (λ value. value ≡ bytes.now) }
         ensures within { OnOk result (length bytes.now ≤ MAX_VALUE) }

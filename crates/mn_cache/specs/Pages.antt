@@ -21,7 +21,8 @@ pages_without addr pages = remove_entry (addr_same addr) pages
 abbrev pub pages_used : Addr → List (Addr × Page) → List (Addr × Page)
 pages_used addr pages = option_map_or (λ page. (addr, page) ∷ pages_without addr pages) (page_at addr pages) pages
 
--- a page goes first, in place of an older one of its address; where there would be too many, the least recently used goes
+-- a page goes first, in place of an older one of its address; where there would be too many, the
+-- least recently used goes
 abbrev pub pages_put : Addr → Page → List (Addr × Page) → List (Addr × Page)
 pages_put addr page pages = take CAPACITY ((addr, page) ∷ pages_without addr pages)
 

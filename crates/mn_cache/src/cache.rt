@@ -31,7 +31,8 @@ impl Place {
     }
 }
 
-/// Pages by address, at most [`CAPACITY`], the most recently used first. Contracts see them as a list.
+/// Pages by address, at most [`CAPACITY`], the most recently used first. Contracts see them as a
+/// list.
 #[derive(Drop)]
 pub struct Cache {
     pages: LruCache<Place, Page>,
@@ -64,7 +65,8 @@ impl Cache {
         })
     }
 
-    /// The page that is kept of this address, which becomes the most recently used. None exactly where none is kept.
+    /// The page that is kept of this address, which becomes the most recently used. None exactly
+    /// where none is kept.
     pub fn get(&mut self, addr: Addr) -> Option<&Page>
         ensures* used { sem 𝓛 (ends_as self.entry (pages_used addr self.old)) }
         ensures found { option_copied result ≡ page_at addr self.old }
@@ -73,9 +75,9 @@ impl Cache {
         self.pages.get(&Place::new(addr))
     }
 
-    /// Keeps the page, which becomes the most recently used, in place of an older one of its address. Where there
-    /// would be more than [`CAPACITY`] the least recently used goes. NoMemory: there was no memory for it, and the
-    /// cache is as before.
+    /// Keeps the page, which becomes the most recently used, in place of an older one of its
+    /// address. Where there would be more than [`CAPACITY`] the least recently used goes. NoMemory:
+    /// there was no memory for it, and the cache is as before.
     pub fn put(&mut self, alloc: Global, addr: Addr, page: Page) -> Result<(), NoMemory>
         ensures pages { OnOk result (self.new ≡ pages_put addr page self.old) }
         ensures found { OnOk result (page_at addr self.new ≡ Some page) }

@@ -4,7 +4,7 @@ use Rattle.mn_base.proofs.Naturals.{below_or}
 use Rattle.mn_page.specs.Grammar.{IsUnused, SpellsEntry, SpellsNoEntry}
 use Rattle.mn_page.specs.declared.entry.CatEntry.{CatEntry}
 use Rattle.mn_catalog.specs.Grammar.{place_bytes, IsAtFault, IsFirstAtFault, SpellsCatalog, SpellsNoCatalog, RefusesCatalog, IsWantOfMemory}
-use Rattle.mn_catalog.specs.Places.{IsRead, AreRead, RefusesPlace}
+use Rattle.mn_catalog.specs.Places.{IsEntryRead, AreRead, RefusesPlace}
 use Rattle.mn_catalog.specs.declared.error.CatError.{CatError}
 use Rattle.mn_catalog.specs.declared.error.CatError.TheVariants.{BadCatalog, NoMemory}
 use Rattle.mn_catalog.proofs.Spread.{told_at, spelled, within, catalog_length}
@@ -28,14 +28,14 @@ pub none_read : (bytes : List ℕ) → AreRead 0 bytes []
 none_read bytes = (omega arith, λ w lt. absurd (omega (arith, lt)))
 
 pub unused_read : (bytes : List ℕ) (m : ℕ) (es : List CatEntry) → AreRead m bytes es
-    → IsRead (place_bytes m bytes) None → AreRead (m + 1) bytes es
+    → IsEntryRead (place_bytes m bytes) None → AreRead (m + 1) bytes es
 unused_read bytes m es a r = (omega (arith, a.0), λ w lt. by w lt (below_or w m))
   where
-    by : (w : ℕ) → w < m + 1 → (w < m) ⊎ (m ≤ w) → IsRead (place_bytes w bytes) (slice_get es w)
+    by : (w : ℕ) → w < m + 1 → (w < m) ⊎ (m ≤ w) → IsEntryRead (place_bytes w bytes) (slice_get es w)
     by w lt (inl low) = a.1 w low
     by w lt (inr high) =
         let here : m ≡ w = omega (arith, lt, high) in
-        subst (λ k. IsRead (place_bytes k bytes) (slice_get es k)) here (subst (IsRead (place_bytes m bytes)) (sym (past es m a.0)) r)
+        subst (λ k. IsEntryRead (place_bytes k bytes) (slice_get es k)) here (subst (IsEntryRead (place_bytes m bytes)) (sym (past es m a.0)) r)
 
 pushed_old : (es : List CatEntry) (e : CatEntry) (w : ℕ) → w < length es
     → slice_get (es ++ e ∷ []) w ≡ slice_get es w
@@ -48,18 +48,18 @@ pushed_new [] e = refl
 pushed_new (x ∷ es) e = pushed_new es e
 
 pub used_read : (bytes : List ℕ) (m : ℕ) (es : List CatEntry) (e : CatEntry) → AreRead m bytes es
-    → m ≤ length es → IsRead (place_bytes m bytes) (Some e) → AreRead (m + 1) bytes (es ++ e ∷ [])
+    → m ≤ length es → IsEntryRead (place_bytes m bytes) (Some e) → AreRead (m + 1) bytes (es ++ e ∷ [])
 used_read bytes m es e a full r =
     let all : length es ≡ m = omega (arith, a.0, full) in
     (omega (arith, all, length-append es (e ∷ [])), λ w lt. by all w lt (below_or w m))
   where
     by : length es ≡ m → (w : ℕ) → w < m + 1 → (w < m) ⊎ (m ≤ w)
-        → IsRead (place_bytes w bytes) (slice_get (es ++ e ∷ []) w)
-    by all w lt (inl low) = subst (IsRead (place_bytes w bytes)) (sym (pushed_old es e w (omega (arith, all, low)))) (a.1 w low)
+        → IsEntryRead (place_bytes w bytes) (slice_get (es ++ e ∷ []) w)
+    by all w lt (inl low) = subst (IsEntryRead (place_bytes w bytes)) (sym (pushed_old es e w (omega (arith, all, low)))) (a.1 w low)
     by all w lt (inr high) =
         let here : m ≡ w = omega (arith, lt, high) in
         let new : slice_get (es ++ e ∷ []) m ≡ Some e = subst (λ k. slice_get (es ++ e ∷ []) k ≡ Some e) all (pushed_new es e) in
-        subst (λ k. IsRead (place_bytes k bytes) (slice_get (es ++ e ∷ []) k)) here (subst (IsRead (place_bytes m bytes)) (sym new) r)
+        subst (λ k. IsEntryRead (place_bytes k bytes) (slice_get (es ++ e ∷ []) k)) here (subst (IsEntryRead (place_bytes m bytes)) (sym new) r)
 
 -- Faults
 
@@ -85,7 +85,7 @@ bad_place bytes m es a lt none = record { place = lt; fault = inl none; first = 
 
 -- the next place is used behind an unused one
 pub used_behind : (bytes : List ℕ) (m : ℕ) (es : List CatEntry) (e : CatEntry) → AreRead m bytes es
-    → m < 64 → length es < m → IsRead (place_bytes m bytes) (Some e) → IsFirstAtFault bytes m
+    → m < 64 → length es < m → IsEntryRead (place_bytes m bytes) (Some e) → IsFirstAtFault bytes m
 used_behind bytes m es e a lt gap r =
     record { place = lt; fault = inr ((λ u. none_some e (sym (r.unused u))), (length es, gap, hole)); first = sound bytes m es a }
   where
@@ -104,7 +104,7 @@ none_with bytes w lt none es s = by (slice_get es w) (told_at bytes es w s lt)
 
 -- nor one that is used behind an unused one
 pub none_behind : (bytes : List ℕ) (m : ℕ) (es : List CatEntry) (e : CatEntry) → AreRead m bytes es
-    → m < 64 → length es < m → IsRead (place_bytes m bytes) (Some e) → SpellsNoCatalog bytes
+    → m < 64 → length es < m → IsEntryRead (place_bytes m bytes) (Some e) → SpellsNoCatalog bytes
 none_behind bytes m es e a lt gap r others s = used (slice_get others m) refl (told_at bytes others m s lt)
   where
     unused : (o : Option CatEntry) → slice_get others (length es) ≡ o

@@ -2,7 +2,7 @@ ghost use Rattle.std.specs.Prelude.{◌≡◌, ◌≢◌, ◌<◌, ℕ, Option, 
 ghost use Rattle.mn_page.specs.Space.{catalog_size};
 ghost use Rattle.mn_page.specs.declared.entry.CatEntry.{CatEntry};
 ghost use Rattle.mn_catalog.specs.Grammar.{IsCatalog, SpellsCatalog, SpellsNoCatalog, RefusesCatalog, IsWantOfMemory, IsFirstNamed, place_bytes, max_entries};
-ghost use Rattle.mn_catalog.specs.Places.{IsRead, AreRead, RefusesPlace};
+ghost use Rattle.mn_catalog.specs.Places.{IsEntryRead, AreRead, RefusesPlace};
 ghost use Rattle.mn_page.specs.Added.{frozen_entry, child_entry};
 ghost use Rattle.mn_catalog.specs.Versions.{branch_entries, snapshot_entries, AreEntries, AdmitsChild, MakesVersion};
 ghost use Rattle.mn_base.specs.Name.{IsName};
@@ -56,7 +56,7 @@ fn place(bytes: &[u8], version: u16) -> &[u8]
 fn entry_at(alloc: Global, bytes: &[u8], version: u16) -> Result<Option<CatEntry>, CatError>
     requires whole { length bytes.now ≡ catalog_size }
     requires there { version < max_entries }
-    ensures read { IfOk result (IsRead (place_bytes version bytes.now)) }
+    ensures read { IfOk result (IsEntryRead (place_bytes version bytes.now)) }
     ensures bad { IfErr result (RefusesPlace version (place_bytes version bytes.now)) }
 {
     match CatEntry::read(alloc, place(bytes, version)) {
@@ -118,8 +118,8 @@ fn child_of(
 }
 
 impl Catalog {
-    /// The catalog that the bytes spell: up to 64 entries of 64 bytes each, then zeros, 4,096 bytes in all. BadCatalog:
-    /// they spell none. NoMemory: there was no memory for it.
+    /// The catalog that the bytes spell: up to 64 entries of 64 bytes each, then zeros, 4,096 bytes
+    /// in all. BadCatalog: they spell none. NoMemory: there was no memory for it.
     pub fn read(alloc: Global, bytes: &[u8]) -> Result<Self, CatError>
         ensures read { IfOk result (SpellsCatalog bytes.now) }
         ensures one { (entries : List CatEntry) → SpellsCatalog bytes.now entries → IfOk result (λ catalog. catalog ≡ entries) }
@@ -228,7 +228,8 @@ impl Catalog {
         None
     }
 
-    /// The refusing reply to an operation on the versions of this catalog, or none. It takes no memory.
+    /// The refusing reply to an operation on the versions of this catalog, or none. It takes no
+    /// memory.
     pub fn admit(&self, op: &Op) -> Option<Reply>
         ensures { result ≡ refusal (heads_in self.now) op.now }
     {
@@ -241,9 +242,9 @@ impl Catalog {
         }
     }
 
-    /// The entries that a snapshot of the version writes, by number: the version's own, frozen, and that of its new child
-    /// `child`, whose root is to stand at `root`. A sequence number that is the last stays. NoMemory: there was no memory
-    /// for them.
+    /// The entries that a snapshot of the version writes, by number: the version's own, frozen, and
+    /// that of its new child `child`, whose root is to stand at `root`. A sequence number that is
+    /// the last stays. NoMemory: there was no memory for them.
     pub fn snapshot(
         &self,
         alloc: Global,
@@ -265,8 +266,8 @@ impl Catalog {
         Ok(Entries::from_vec(entries))
     }
 
-    /// The entry that a branch of the version writes: that of its new child `child`, whose root is to stand at `root`.
-    /// NoMemory: there was no memory for it.
+    /// The entry that a branch of the version writes: that of its new child `child`, whose root is
+    /// to stand at `root`. NoMemory: there was no memory for it.
     pub fn branch(
         &self,
         alloc: Global,

@@ -4,8 +4,8 @@ use thiserror::Error;
 /// Why bytes gave no catalog.
 #[derive(Clone, Copy, Debug, PartialEq, Eq, Error)]
 pub enum CatError {
-    /// They spell none: `entry`, 0 to 63, is the first place that is neither an entry nor unused, or that is used behind an
-    /// unused one; 0 where they are not 4,096 bytes.
+    /// They spell none: `entry`, 0 to 63, is the first place that is neither an entry nor unused,
+    /// or that is used behind an unused one; 0 where they are not 4,096 bytes.
     #[error("catalog entry {entry} is at fault")]
     BadCatalog { entry: u16 },
     #[error("no memory")]

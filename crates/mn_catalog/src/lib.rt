@@ -6,6 +6,3 @@ mod error;
 
 pub use catalog::Catalog;
 pub use error::CatError;
-
-#[cfg(test)]
-mod tests;

@@ -65,7 +65,8 @@ module _ {E : Type 0} (n : NodeNo) (c : ClientNo) (own v j : View E) (owns : Own
     pub client_longer : IsLonger v (Client c) (p, e) rest
     client_longer = (rest_client, (owns_grown p e w app rest (Client c) (held v (Client c)) owns'.0 rest_client, nothing_else), split.known.0 ∙ app.known)
 
--- Two passes are joined, looked at and split again: they are as before, and their lists are of one log
+-- Two passes are joined, looked at and split again: they are as before, and their lists are of one
+-- log
 
 module _ {E : Type 0} (n : NodeNo) (c : ClientNo) (own v j : View E) (owns : OwnsJust own (Node n)) (owns' : OwnsJust v (Client c)) (join : IsJoined v own j) where
   pub joined_one_log : (legal : List (ℕ × E) → List (ℕ × E) → Line E → Type 0) → IsOfLog legal j → AreOfOneLog legal n c (or_empty (held own (Node n))) (or_empty (held v (Client c)))

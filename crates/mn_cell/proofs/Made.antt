@@ -21,7 +21,7 @@ use Rattle.mn_page.specs.Base.{base_of}
 use Rattle.mn_node.specs.Node.{StopsAt, added_to, bodies_of}
 use Rattle.mn_mini.specs.RecordGrammar.{record_bytes}
 use Rattle.mn_redo.specs.Redo.{StandsFor}
-use Rattle.mn_node.specs.State.{Answers, GoesOn, NodeState, StandsForRecords, response_to}
+use Rattle.mn_node.specs.State.{Answers, DiskGoesOn, NodeState, StandsForRecords, response_to}
 use Rattle.mn_node.specs.Restart.{FailsRestart, Restarts}
 use Rattle.mn_node.specs.declared.restart.RestartError.{RestartError}
 use Rattle.mn_node.specs.declared.restart.RestartError.TheVariants.{Fault, Damaged, NoMemory}
@@ -131,7 +131,7 @@ module _ {D : Type 0} (state : D → DiskState) (faults : D → ℕ) (start : St
     left = λ down. tt;
   }
 
-  module _ (es : List Entry) (old new : NodeState D) (made : HasMade state faults start number before honest es old) (goes : GoesOn state faults old new) (base_same : base_at start number ≡ base_of (start_nodes start) number.0) where
+  module _ (es : List Entry) (old new : NodeState D) (made : HasMade state faults start number before honest es old) (goes : DiskGoesOn state faults old new) (base_same : base_at start number ≡ base_of (start_nodes start) number.0) where
     responds : (request : Request) → response_to old request ≡ answer (base_at start number) (node_records (base_at start number) (start_records start number) es) request
     responds request =
         ap (λ (m : ℕ × ℕ). answer (base_of m.0 m.1) (reverse old.records) request) (λ i. (made.nodes i, made.node i))

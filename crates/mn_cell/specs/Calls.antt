@@ -46,8 +46,8 @@ pub record EndsList (known after : ℕ) (e : Entry) (old new : List (ℕ × Entr
   pub next : after ≡ place + 1
   pub ends : new ≡ old ++ (place, e) ∷ []
 
--- an entry ends the node's list and the client's, at one place that is not below this one; both passes
--- know the place after it
+-- an entry ends the node's list and the client's, at one place that is not below this one; both
+-- passes know the place after it
 pub record EndsBoth (known node_knows client_knows : ℕ) (e : Entry)
     (node node' client client' : List (ℕ × Entry)) : Type 0 where
   pub place : ℕ

@@ -22,7 +22,8 @@ module _ {E : Type 0} where
   abbrev pub IsSame : View E → View E → Type 0
   IsSame v w = (w.known ≡ v.known) × IsSameLists v w
 
-  -- the lists of a node and of a client are those of one log, each of whose lines was legal when it was added
+  -- the lists of a node and of a client are those of one log, each of whose lines was legal when it
+  -- was added
   pub record AreOfOneLog (legal : List (ℕ × E) → List (ℕ × E) → Line E → Type 0) (n : NodeNo) (c : ClientNo) (node client : List (ℕ × E)) : Type 0 where
     pub log : List (Line E)
     pub legal_log : IsLegalLog legal log

@@ -57,12 +57,14 @@ is_id tid other = option_map_or (λ t. tid_same t tid) other false
 abbrev pub owed_by : Tid → What → Bool → Bool
 owed_by tid what before = is_id tid (voted_in what) || (before && not (is_id tid (decided_in what)))
 
--- by these entries, newest first, the client has got a vote of the id and hasn't sent its decision yet
+-- by these entries, newest first, the client has got a vote of the id and hasn't sent its decision
+-- yet
 abbrev pub is_owed : Tid → ClientNo → List Entry → Bool
 is_owed tid c [] = false
 is_owed tid c (e ∷ es) = if is_by c e then owed_by tid e.what (is_owed tid c es) else is_owed tid c es
 
--- by these entries of a client, newest first, it has got a vote of the id at the node and hasn't sent its decision there yet
+-- by these entries of a client, newest first, it has got a vote of the id at the node and hasn't
+-- sent its decision there yet
 abbrev pub is_owed_at : Tid → NodeNo → List Entry → Bool
 is_owed_at tid n [] = false
 is_owed_at tid n (e ∷ es) = if is_at n e then owed_by tid e.what (is_owed_at tid n es) else is_owed_at tid n es
@@ -81,7 +83,8 @@ is_owed_to tid c o = tid_same o.tid tid && client_same o.client c
 abbrev pub owes : Tid → ClientNo → List Owed → Bool
 owes tid c os = list_any (is_owed_to tid c) os
 
--- the entries of a node's list, the decisions for which it keeps room, and for how many further entries and decisions it has room
+-- the entries of a node's list, the decisions for which it keeps room, and for how many further
+-- entries and decisions it has room
 pub record NodeListState : Type 0 where
   pub entries : List (ℕ × Entry)
   pub owed : List Owed
@@ -106,7 +109,8 @@ IsOwed None tid es = ⊥
 IsOwed (Some c) None es = ⊥
 IsOwed (Some c) (Some tid) es = is_owed tid c es ≡ true
 
--- there is room for a step: for it and the decision that it may owe, or it is itself a decision that is owed
+-- there is room for a step: for it and the decision that it may owe, or it is itself a decision
+-- that is owed
 abbrev pub HasPlace : NodeListState → Option ClientNo → Option Tid → Type 0
 HasPlace s c decided = ((2 ≤ s.spare) × (0 < s.spare_owed)) ⊎ OwesTo c decided s.owed
 

@@ -83,8 +83,8 @@ abbrev pub last_asked : List Entry → Option StopAt
 last_asked [] = None
 last_asked (e ∷ es) = asked_or e.what (last_asked es)
 
--- a restart kept the stopped request's record as the stop asked: never where that was before the log or at half of the record, and behind it
--- always, unless the count of faults has risen
+-- a restart kept the stopped request's record as the stop asked: never where that was before the
+-- log or at half of the record, and behind it always, unless the count of faults has risen
 abbrev pub IsKeptAs : Type 0 → Option StopAt → Bool → Type 0
 IsKeptAs rose None kept = ⊤
 IsKeptAs rose (Some Before) kept = kept ≡ false
@@ -107,10 +107,11 @@ StandsAs state rose n (Some Before) = StandsForRecords (state n.disk) n.node n.n
 StandsAs state rose n (Some Half) = StandsForRecords (state n.disk) n.node n.nodes n.records
 StandsAs state rose n (Some After) = rose ⊎ ((r : Record) × (n.pending ≡ Some r) × StandsForRecords (state n.disk) n.node n.nodes (n.records ++ r ∷ []))
 
--- The entries, newest first, are those of a node that started so: each is allowed by those before it, and the node has the records that they
--- leave. Each has a caller, and where one stopped it inside a request, that would have added a record.
--- It stopped unasked in requests at most as often as its disk's count of faults has risen. A disk that was honest is, and then each
--- restart kept what the stop before it had asked for; while the node is down, the disk says so of the next one.
+-- The entries, newest first, are those of a node that started so: each is allowed by those before
+-- it, and the node has the records that they leave. Each has a caller, and where one stopped it
+-- inside a request, that would have added a record. It stopped unasked in requests at most as often
+-- as its disk's count of faults has risen. A disk that was honest is, and then each restart kept
+-- what the stop before it had asked for; while the node is down, the disk says so of the next one.
 pub record HasMade {D : Type 0} (state : D → DiskState) (faults : D → ℕ) (start : Start) (number : NodeNo) (before : ℕ) (honest : Type 0) (es : List Entry) (n : NodeState D) : Type 0 where
   pub node : n.node ≡ number.0
   pub nodes : n.nodes ≡ start_nodes start
@@ -145,7 +146,8 @@ abbrev pub IsPassOf : {L E : Type 0} {g : _} → TableId → NodeNo → List (�
 IsPassOf board n list None = ⊥
 IsPassOf board n list (Some p) = (board_of p ≡ board) × OwnsJust (view_of p) (Node n) × (held (view_of p) (Node n) ≡ Some list)
 
--- the node is as its entries leave it, and its number, records, down or up are those from before, as is the place that its pass knows
+-- the node is as its entries leave it, and its number, records, down or up are those from before,
+-- as is the place that its pass knows
 pub record IsAsBefore {D : Type 0} (old new : StationState D) : Type 0 where
   pub list : new.list ≡ old.list
   pub records : new.node.records ≡ old.node.records

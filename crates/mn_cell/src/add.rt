@@ -9,7 +9,8 @@ ghost use Rattle.mn_cell.specs.Passes.{AreOfOneLog, IsLonger, IsSame, OwnsJust};
 use mn_actors::{Actor, Board, Law, Pass};
 use mn_base::{ClientNo, NodeNo};
 
-/// Adds an entry of a node and a client, and answers its place. The node's pass `own` is joined into the client's for it, and split off again.
+/// Adds an entry of a node and a client, and answers its place. The node's pass `own` is joined
+/// into the client's for it, and split off again.
 pub fn add<L: Law>(
     board: &Board<L>,
     own: Pass<L>,

@@ -72,10 +72,12 @@ impl<N: Named, D: Disk, const NODE: u8> Cell<N, D, NODE> {
 
     /// Calls the node for the client, and adds the reply to both lists.
     ///
-    /// NoMemory: there was none for the call; the pass and the client's list are as before. It never comes for the decision of an id whose vote
-    /// the client's list shows here without the decision, where the list has room. Any other reply is the last entry of the client's
-    /// list, at this node and at a place that is not below the one that the client's pass knew, and the pass knows the place after it. Where `stop` is given, a request that adds a
-    /// record isn't done.
+    /// NoMemory: there was none for the call; the pass and the client's list are as before. It
+    /// never comes for the decision of an id whose vote the client's list shows here without the
+    /// decision, where the list has room. Any other reply is the last entry of the client's list,
+    /// at this node and at a place that is not below the one that the client's pass knew, and the
+    /// pass knows the place after it. Where `stop` is given, a request that adds a record isn't
+    /// done.
     pub fn call<T: Wait>(
         &self,
         rt: &T,
@@ -107,8 +109,9 @@ impl<N: Named, D: Disk, const NODE: u8> Cell<N, D, NODE> {
         guard.station.call(alloc, board, pass, list, request, stop)
     }
 
-    /// Stops the node between two calls, and adds that to both lists. The answer is false exactly where it is down already; then no entry is
-    /// made. NoMemory: there was none, and nothing has changed.
+    /// Stops the node between two calls, and adds that to both lists. The answer is false exactly
+    /// where it is down already; then no entry is made. NoMemory: there was none, and nothing has
+    /// changed.
     pub fn halt<T: Wait>(
         &self,
         rt: &T,
@@ -132,9 +135,10 @@ impl<N: Named, D: Disk, const NODE: u8> Cell<N, D, NODE> {
         guard.station.halt(board, pass, list)
     }
 
-    /// Starts the node again, and adds that to both lists, with whether the record of the request inside which it had stopped is there. The
-    /// answer is None exactly where the node is up; then no entry is made. The causes are those of the node's own restart, or want of memory
-    /// for the entry; after an error no entry is made, and the node is still down.
+    /// Starts the node again, and adds that to both lists, with whether the record of the request
+    /// inside which it had stopped is there. The answer is None exactly where the node is up; then
+    /// no entry is made. The causes are those of the node's own restart, or want of memory for the
+    /// entry; after an error no entry is made, and the node is still down.
     pub fn restart<T: Wait>(
         &self,
         rt: &T,

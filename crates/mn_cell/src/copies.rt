@@ -1,4 +1,5 @@
-//! Copies of requests and replies. What a reply that comes with a new record needs is taken before the node is asked.
+//! Copies of requests and replies. What a reply that comes with a new record needs is taken before
+//! the node is asked.
 ghost use Rattle.std.specs.Prelude.{◌≡◌, ℕ, length, IfOk, OnErr};
 ghost use Rattle.mn_cell.specs.Calls.{HasLengths, IsLarge, lengths_by, lengths_of, read_lengths, what_said};
 
@@ -62,8 +63,8 @@ fn fill(alloc: Global, blanks: Vec<Bytes>, reads: &[Bytes]) -> Reads
     Reads::from_vec(blanks)
 }
 
-/// An equal reply, whose reads, if it has some, take the place of byte strings of their lengths. NoMemory comes only for a reply that comes with
-/// no new record.
+/// An equal reply, whose reads, if it has some, take the place of byte strings of their lengths.
+/// NoMemory comes only for a reply that comes with no new record.
 pub fn copy_of(alloc: Global, reply: &NodeReply, blanks: Vec<Bytes>) -> Result<NodeReply, NoMemory>
     requires { HasLengths (lengths_of blanks.items) reply.now }
     ensures same { IfOk result (λ copy. copy ≡ reply.now) }

@@ -1,5 +1,5 @@
-//! A memory node behind a lock, with its list of entries and its pass. Each call of it is one entry, which ends the node's list and the
-//! caller's.
+//! A memory node behind a lock, with its list of entries and its pass. Each call of it is one
+//! entry, which ends the node's list and the caller's.
 #![tactic(auto)]
 
 mod add;

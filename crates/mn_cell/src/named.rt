@@ -1,8 +1,8 @@
 //! The meanings of a run.
 use std::marker::Brand;
 
-/// Names what a run begins with. What lies behind a lock is known by its type alone, so its type names it. Each call of a program that makes
-/// a board picks these.
+/// Names what a run begins with. What lies behind a lock is known by its type alone, so its type
+/// names it. Each call of a program that makes a board picks these.
 pub trait Named {
     ghost use Rattle.std.specs.Prelude.{ℕ, List, ◌≡◌};
     ghost use Rattle.atomic_table.specs.Seated.{TableId};

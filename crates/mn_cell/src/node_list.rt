@@ -22,7 +22,8 @@ pub struct Owed {
     pub client: ClientNo,
 }
 
-/// The entries of one node with their places. With each vote it keeps room for one decision of that id by that caller.
+/// The entries of one node with their places. With each vote it keeps room for one decision of that
+/// id by that caller.
 #[derive(Drop)]
 pub struct NodeList {
     entries: Vec<(u64, Entry)>,
@@ -132,7 +133,8 @@ fn decided_id_in(what: &What) -> Option<Tid>
     }
 }
 
-/// Notes what a step of a client changes in the decisions that are owed: it decides one, or is a vote. There is room for it.
+/// Notes what a step of a client changes in the decisions that are owed: it decides one, or is a
+/// vote. There is room for it.
 fn note(owed: &mut Vec<Owed>, client: Option<ClientNo>, what: &What)
     requires room { (vec_len owed.old < vec_capacity owed.old) ⊎ OwesTo client (decided_in what.now) owed.old.items }
     ensures noted { owed.new.items ≡ owed_after client (decided_in what.now) (voted_in what.now) owed.old.items }
@@ -167,8 +169,9 @@ impl NodeList {
         EntryList::from_vec(self.entries)
     }
 
-    /// Makes room for a step of the client, which may decide an id, and for the decision that the step may owe. NoMemory: there is none, or
-    /// the list would be longer than a log may be. It never comes for a decision that is owed. The entries are as before.
+    /// Makes room for a step of the client, which may decide an id, and for the decision that the
+    /// step may owe. NoMemory: there is none, or the list would be longer than a log may be. It
+    /// never comes for a decision that is owed. The entries are as before.
     pub fn make_place(&mut self, client: ClientNo, decided: Option<Tid>) -> Result<(), NoMemory>
         ensures place { OnOk result (HasPlace self.new (Some client) decided) }
         ensures owed { OnErr result (IsOwed (Some client) decided (entries_of self.old.entries) → ⊥) }

@@ -20,11 +20,11 @@ use std::marker::{Model, PhantomData};
 
 mod calls;
 
-/// A memory node of the run that `N` names, with its list of entries and the pass that owns it. Contracts see its number, the node, the list
-/// and the place that the pass knows.
+/// A memory node of the run that `N` names, with its list of entries and the pass that owns it.
+/// Contracts see its number, the node, the list and the place that the pass knows.
 ///
-/// The list is the pass's, which is of the run's board. Each entry is one that the records allow which the node started with, and the node
-/// has the records that they leave.
+/// The list is the pass's, which is of the run's board. Each entry is one that the records allow
+/// which the node started with, and the node has the records that they leave.
 #[derive(Drop)]
 pub struct Station<N: Named, D: Disk> {
     pub(crate) number: NodeNo,
@@ -54,7 +54,8 @@ pub struct Refused<D: Disk> {
 }
 
 impl<N: Named, D: Disk> Station<N, D> {
-    /// The station of a node with which the run starts, with an empty list. `Refused` comes for want of memory alone.
+    /// The station of a node with which the run starts, with an empty list. `Refused` comes for
+    /// want of memory alone.
     pub fn new(
         alloc: Global,
         node: Node<D>,

@@ -12,7 +12,8 @@ pub struct Trace<D: Disk> {
     pub log: Log,
 }
 
-/// A run that failed while it was opened or closed: its nodes as they are then, its log so far, and why.
+/// A run that failed while it was opened or closed: its nodes as they are then, its log so far, and
+/// why.
 #[derive(Drop)]
 pub struct RunFailed<D: Disk> {
     pub nodes: Vec<Node<D>>,
@@ -27,8 +28,9 @@ pub enum RunCause {
     Disk {
         node: NodeNo,
     },
-    /// At closing the node's disk had other records than the node: record `place`, from 0, is the first that differs, with the node's and the
-    /// disk's, as far as they have one. Or, with both absent, it is no log of records, and `place` is that of the fault on the disk.
+    /// At closing the node's disk had other records than the node: record `place`, from 0, is the
+    /// first that differs, with the node's and the disk's, as far as they have one. Or, with both
+    /// absent, it is no log of records, and `place` is that of the fault on the disk.
     Damaged {
         node: NodeNo,
         place: u64,

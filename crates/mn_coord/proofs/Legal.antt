@@ -1,7 +1,9 @@
 -- A coordinator makes only entries that the commit protocol allows its client.
 use Rattle.std.proofs.Common.{◌≡◌, ℕ, ◌+◌, ◌<◌, ◌≤◌, Bool, true, false, ◌&&◌, ◌||◌, not, List, [], ◌∷◌, ◌++◌, length, Option, Some, None, refl, sym, ap, subst, ◌∙◌, arith, inl, if◌then◌else◌}
-use Rattle.std.specs.Prelude.{nat_lt, nat_eq, MatchOption, ⊤}
+use Rattle.std.specs.Prelude.{nat_lt, nat_eq, Contains, MatchOption, slice_index_or, slice_set, ⊤}
 use Rattle.std.specs.List.{list_any}
+use Rattle.std.proofs.lemmas.List.{get_or-set_other, get_or-set_same, length-set}
+use Rattle.std.proofs.lemmas.List.Elements.{Contains-append_left, Contains-append_right}
 use Rattle.std.proofs.lemmas.Bool.{ltb-true, ltb-false, le-ltb, eq-eqb, eqb-true, eqb-false, ne_eqb}
 use Rattle.mn_base.specs.Ids.{node_same}
 use Rattle.mn_base.specs.declared.ids.NodeNo.{NodeNo}
@@ -25,7 +27,7 @@ use Rattle.mn_coord.specs.declared.stage.Stage.TheVariants as At
 use Rattle.mn_coord.specs.declared.step.CoordStep.{CoordStep}
 use Rattle.mn_coord.specs.declared.step.CoordStep.TheVariants.{Send, Abandon, Committed, Failed, Doubt}
 use Rattle.mn_coord.specs.Coordination.{Coordination, is_stopped_at_last, stage_of, stage_in, participant, try_request, step_at, step_of, after_step, after_reply, fed_at}
-use Rattle.mn_coord.specs.Legal.{has_stopped, is_doubtful, Agrees, MayMake, IsAnswered, StepsAreAllowed, AnswersAgree, NoAnswerAgrees, AbandonedAgrees, names_tid, IssuesAgree}
+use Rattle.mn_coord.specs.Legal.{has_stopped, is_doubtful, Agrees, HasAnswers, answer_of, node_of, MayMake, IsAnswered, StepsAreAllowed, AnswersAgree, NoAnswerAgrees, AbandonedAgrees, names_tid, IssuesAgree}
 use Rattle.mn_coord.proofs.Stages.{asking}
 use Rattle.mn_coord.proofs.Order.{participants_ascend, all_of, order_down, told_apart, element, any_at, last_at, below_next, single}
 
@@ -279,6 +281,73 @@ no_doubt es e n request reply tid is none =
     (ap (λ b. is_stopped reply && (b || (is_prepare tid request && is_last_of n request))) (exec_of_try tid request none)
     ∙ (ap (λ b. is_stopped reply && (b && is_last_of n request)) (prepare_of_try tid request none) ∙ and_false (is_stopped reply)))
 
+-- What was answered
+
+-- one more entry takes nothing away
+still_answered : (es : List Entry) (e : Entry) (tid : Tid) (mini : Mini) (done : ℕ) (reads : List (List (List ℕ)))
+    (refused : Option NodeReply) → HasAnswers es tid mini done reads refused
+    → HasAnswers (e ∷ es) tid mini done reads refused
+still_answered es e tid mini done reads refused h = record {
+  long = h.long;
+  read = λ i low. Contains-append_right (call_in e.node e.what) (calls_of es) (answer_of tid mini i (Say.Done (slice_index_or reads i []))) (h.read i low);
+  failed = by refused h.failed;
+}
+  where
+    by : (o : Option NodeReply) → MatchOption o ⊤ (λ reply. (reply ≡ Say.NoMemory → ⊥) → Contains (calls_of es) (answer_of tid mini done reply))
+        → MatchOption o ⊤ (λ reply. (reply ≡ Say.NoMemory → ⊥) → Contains (calls_of (e ∷ es)) (answer_of tid mini done reply))
+    by None f = tt
+    by (Some reply) f = λ other. Contains-append_right (call_in e.node e.what) (calls_of es) (answer_of tid mini done reply) (f other)
+
+-- nor does one that begins no operation
+later_answers : (es : List Entry) (e : Entry) (tid : Tid) (mini : Mini) (done : ℕ) (reads : List (List (List ℕ)))
+    (refused : Option NodeReply) → since_begin (e ∷ es) ≡ e ∷ since_begin es
+    → HasAnswers (since_begin es) tid mini done reads refused
+    → HasAnswers (since_begin (e ∷ es)) tid mini done reads refused
+later_answers es e tid mini done reads refused since h =
+    subst (λ (l : List Entry). HasAnswers l tid mini done reads refused) (sym since)
+    (still_answered (since_begin es) e tid mini done reads refused h)
+
+-- an answer is in the list
+answer_in : (es : List Entry) (e : Entry) (call : Call) → call_in e.node e.what ≡ call ∷ [] → Contains (calls_of (e ∷ es)) call
+answer_in es e call is =
+    subst (λ (cs : List Call). Contains (cs ++ calls_of es) call) (sym is) (Contains-append_left (call ∷ []) (calls_of es) call (0, omega arith, refl))
+
+-- the next participant was done
+one_more : (es : List Entry) (e : Entry) (tid : Tid) (mini : Mini) (done : ℕ) (all : List (List (List ℕ))) (reads : List (List ℕ))
+    (refused : Option NodeReply) → refused ≡ None → HasAnswers es tid mini done all refused → done < length (participants_of mini)
+    → IsAnswered e (node_of mini done) (try_request tid mini (node_of mini done)) (Say.Done reads)
+    → HasAnswers (e ∷ es) tid mini (done + 1) (slice_set all done reads) refused
+one_more es e tid mini done all reads refused none h low is = record {
+  long = length-set all done reads ∙ h.long;
+  read = λ i below. by i below (nat_eq i done) refl;
+  failed = subst (λ (o : Option NodeReply). MatchOption o ⊤ (λ reply. (reply ≡ Say.NoMemory → ⊥) → Contains (calls_of (e ∷ es)) (answer_of tid mini (done + 1) reply))) (sym none) tt;
+}
+  where
+    Has : ℕ → List (List ℕ) → Type 0
+    Has i rs = Contains (calls_of (e ∷ es)) (answer_of tid mini i (Say.Done rs))
+
+    by : (i : ℕ) → i < done + 1 → (b : Bool) → nat_eq i done ≡ b → Has i (slice_index_or (slice_set all done reads) i [])
+    by i below true same =
+        let at = eqb-true i done same in
+        let long = h.long in
+        subst (λ (n : ℕ). Has n (slice_index_or (slice_set all done reads) n [])) (sym at)
+        (subst (Has done) (sym (get_or-set_same all done reads [] (omega arith))) (answer_in es e (answer_of tid mini done (Say.Done reads)) is))
+    by i below false other =
+        let apart = eqb-false i done other in
+        subst (Has i) (sym (get_or-set_other all done i reads [] apart))
+        (Contains-append_right (call_in e.node e.what) (calls_of es) (answer_of tid mini i (Say.Done (slice_index_or all i []))) (h.read i (omega (arith, apart))))
+
+-- the next participant gave another reply
+one_failed : (es : List Entry) (e : Entry) (tid : Tid) (mini : Mini) (done : ℕ) (all : List (List (List ℕ))) (reply : NodeReply)
+    (refused : Option NodeReply) → HasAnswers es tid mini done all refused
+    → IsAnswered e (node_of mini done) (try_request tid mini (node_of mini done)) reply
+    → HasAnswers (e ∷ es) tid mini done all (Some reply)
+one_failed es e tid mini done all reply refused h is = record {
+  long = h.long;
+  read = (still_answered es e tid mini done all refused h).read;
+  failed = λ other. answer_in es e (answer_of tid mini done reply) is;
+}
+
 decided_agrees : (es : List Entry) (e : Entry) (c : Coordination) (n : NodeNo) (request : Request) (reply : NodeReply) (k : ℕ) (asked : Bool) → Agrees es c → IsAnswered e n request reply → IsDecide request
     → Agrees (e ∷ es) (record c { decided = k; asked = asked })
 decided_agrees es e c n request reply k asked a is d =
@@ -296,6 +365,7 @@ decided_agrees es e c n request reply k asked a is d =
       sent = λ open_still i low. pass_over (is_try c.tid) (λ r. true) es e n (participant c i) request reply is none ∙ a.sent open_still i low;
       stopped = λ i low. pass_over (is_try c.tid) is_stopped es e n (participant c i) request reply is none ∙ a.stopped i low;
       doubt = no_doubt es e n request reply c.tid is none ∙ a.doubt;
+      answers = later_answers es e c.tid c.mini c.done c.reads c.refused call.since a.answers;
     }
 
 -- A try
@@ -329,8 +399,9 @@ noted t say es e c i request reply is own here low =
     (ap (λ b. b && (t request && say reply)) (told_apart (participants_of c.mini) c.done i (participants_ascend c.mini) here low) ∙ ap (λ b. nat_eq c.done i && (b && say reply)) own)
 
 done_agrees : (es : List Entry) (e : Entry) (c : Coordination) (request : Request) (reads : List (List ℕ)) (all : List (List (List ℕ))) → Agrees es c → c.refused ≡ None → c.done < count c → IsTryOf c request
+    → HasAnswers (since_begin (e ∷ es)) c.tid c.mini (c.done + 1) all c.refused
     → IsAnswered e (participant c c.done) request (Say.Done reads) → Agrees (e ∷ es) (record c { done = c.done + 1; reads = all; asked = false })
-done_agrees es e c request reads all a open_still low t is =
+done_agrees es e c request reads all a open_still low t answers is =
     let call = a_call es e (record { node = participant c c.done; request = request; reply = Say.Done reads }) is in
     record {
       now = still_now es e c.tid c.mini call a.now;
@@ -348,6 +419,7 @@ done_agrees es e c request reads all a open_still low t is =
           ∙ (and_false (nat_eq i c.done) ∙ sym (ap (λ (o : Option NodeReply). nat_eq i (c.done + 1) && has_stopped o) open_still ∙ and_false (nat_eq i (c.done + 1)))))));
       doubt = doubt_more es e (participant c c.done) request (Say.Done reads) c.tid is
           ∙ (a.doubt ∙ (ap (is_doubtful (count c) c.done) open_still ∙ sym (ap (is_doubtful (count c) (c.done + 1)) open_still)));
+      answers = answers;
     }
   where
     and_true : (b : Bool) → (b && true) ≡ b
@@ -363,8 +435,10 @@ done_agrees es e c request reads all a open_still low t is =
 
 -- any other reply to it
 refused_agrees : (es : List Entry) (e : Entry) (c : Coordination) (request : Request) (reply : NodeReply) → Agrees es c → c.refused ≡ None → c.done < count c → IsTryOf c request → is_done reply ≡ false
-    → ((is_stopped reply && nat_eq (c.done + 1) (count c)) ≡ is_stopped_at_last (count c) c.done reply) → IsAnswered e (participant c c.done) request reply → Agrees (e ∷ es) (record c { refused = Some reply; asked = false })
-refused_agrees es e c request reply a open_still low t other last is =
+    → ((is_stopped reply && nat_eq (c.done + 1) (count c)) ≡ is_stopped_at_last (count c) c.done reply)
+    → request ≡ try_request c.tid c.mini (participant c c.done)
+    → IsAnswered e (participant c c.done) request reply → Agrees (e ∷ es) (record c { refused = Some reply; asked = false })
+refused_agrees es e c request reply a open_still low t other last own is =
     let call = a_call es e (record { node = participant c c.done; request = request; reply = reply }) is in
     record {
       now = still_now es e c.tid c.mini call a.now;
@@ -383,6 +457,8 @@ refused_agrees es e c request reply a open_still low t other last is =
       doubt = doubt_more es e (participant c c.done) request reply c.tid is
           ∙ (ap (λ b. (is_stopped reply && b) || is_in_doubt c.tid es) t.last
           ∙ (ap (λ b. (is_stopped reply && nat_eq (c.done + 1) (count c)) || b) (a.doubt ∙ ap (is_doubtful (count c) c.done) open_still) ∙ (or_none (is_stopped reply && nat_eq (c.done + 1) (count c)) ∙ last)));
+      answers = subst (λ (l : List Entry). HasAnswers l c.tid c.mini c.done c.reads (Some reply)) (sym call.since)
+          (one_failed (since_begin es) e c.tid c.mini c.done c.reads reply c.refused a.answers (subst (λ (r : Request). IsAnswered e (participant c c.done) r reply) own is));
     }
   where
     or_none : (b : Bool) → (b || false) ≡ b
@@ -390,18 +466,23 @@ refused_agrees es e c request reply a open_still low t other last is =
     or_none false = refl
 
 reply_agrees : (es : List Entry) (e : Entry) (c : Coordination) (request : Request) (reply : NodeReply) → Agrees es c → c.refused ≡ None → c.done < count c → IsTryOf c request
+    → request ≡ try_request c.tid c.mini (participant c c.done)
     → IsAnswered e (participant c c.done) request reply → Agrees (e ∷ es) (after_reply c reply)
-reply_agrees es e c request (Say.Done reads) a o low t is = done_agrees es e c request reads (Rattle.std.specs.Prelude.slice_set c.reads c.done reads) a o low t is
-reply_agrees es e c request (Say.BadLock s k h) a o low t is = refused_agrees es e c request (Say.BadLock s k h) a o low t refl refl is
-reply_agrees es e c request (Say.BadCompare i f) a o low t is = refused_agrees es e c request (Say.BadCompare i f) a o low t refl refl is
-reply_agrees es e c request Say.BadForced a o low t is = refused_agrees es e c request Say.BadForced a o low t refl refl is
-reply_agrees es e c request (Say.Vote v) a o low t is = refused_agrees es e c request (Say.Vote v) a o low t refl refl is
-reply_agrees es e c request Say.Decided a o low t is = refused_agrees es e c request Say.Decided a o low t refl refl is
-reply_agrees es e c request (Say.Listed d) a o low t is = refused_agrees es e c request (Say.Listed d) a o low t refl refl is
-reply_agrees es e c request (Say.Peeked b) a o low t is = refused_agrees es e c request (Say.Peeked b) a o low t refl refl is
-reply_agrees es e c request Say.Down a o low t is = refused_agrees es e c request Say.Down a o low t refl refl is
-reply_agrees es e c request Say.Stopped a o low t is = refused_agrees es e c request Say.Stopped a o low t refl refl is
-reply_agrees es e c request Say.NoMemory a o low t is = refused_agrees es e c request Say.NoMemory a o low t refl refl is
+reply_agrees es e c request (Say.Done reads) a o low t own is =
+    done_agrees es e c request reads (slice_set c.reads c.done reads) a o low t
+    (subst (λ (l : List Entry). HasAnswers l c.tid c.mini (c.done + 1) (slice_set c.reads c.done reads) c.refused)
+    (sym (a_call es e (record { node = participant c c.done; request = request; reply = Say.Done reads }) is).since)
+    (one_more (since_begin es) e c.tid c.mini c.done c.reads reads c.refused o a.answers low (subst (λ (r : Request). IsAnswered e (participant c c.done) r (Say.Done reads)) own is))) is
+reply_agrees es e c request (Say.BadLock s k h) a o low t own is = refused_agrees es e c request (Say.BadLock s k h) a o low t refl refl own is
+reply_agrees es e c request (Say.BadCompare i f) a o low t own is = refused_agrees es e c request (Say.BadCompare i f) a o low t refl refl own is
+reply_agrees es e c request Say.BadForced a o low t own is = refused_agrees es e c request Say.BadForced a o low t refl refl own is
+reply_agrees es e c request (Say.Vote v) a o low t own is = refused_agrees es e c request (Say.Vote v) a o low t refl refl own is
+reply_agrees es e c request Say.Decided a o low t own is = refused_agrees es e c request Say.Decided a o low t refl refl own is
+reply_agrees es e c request (Say.Listed d) a o low t own is = refused_agrees es e c request (Say.Listed d) a o low t refl refl own is
+reply_agrees es e c request (Say.Peeked b) a o low t own is = refused_agrees es e c request (Say.Peeked b) a o low t refl refl own is
+reply_agrees es e c request Say.Down a o low t own is = refused_agrees es e c request Say.Down a o low t refl refl own is
+reply_agrees es e c request Say.Stopped a o low t own is = refused_agrees es e c request Say.Stopped a o low t refl refl own is
+reply_agrees es e c request Say.NoMemory a o low t own is = refused_agrees es e c request Say.NoMemory a o low t refl refl own is
 
 send_is : (n m : NodeNo) (q r : Request) → Send n q ≡ Send m r → (n ≡ m) × (q ≡ r)
 send_is n m q r e = (cc, cc)
@@ -416,7 +497,7 @@ answers_agree es e c node request reply a step is = by (stage_in c) refl step
     by At.Ask s f =
         let facts = asking (count c) c.done c.refused c.told c.decided s in
         let parts = send_is _ _ _ _ f in
-        reply_agrees es e c (try_request c.tid c.mini (participant c c.done)) reply a facts.0 facts.1 (try_is c facts.1)
+        reply_agrees es e c (try_request c.tid c.mini (participant c c.done)) reply a facts.0 facts.1 (try_is c facts.1) refl
         (moved e (participant c c.done) node (try_request c.tid c.mini (participant c c.done)) request reply parts.0 parts.1 is)
     by At.Commit s f = decided_agrees es e c node request reply (c.decided + 1) false a is (subst IsDecide (send_is _ _ _ _ f).1 tt)
     by At.Cancel s f = decided_agrees es e c node request reply (c.decided + 1) false a is (subst IsDecide (send_is _ _ _ _ f).1 tt)
@@ -431,10 +512,10 @@ pub no_answer_agrees : NoAnswerAgrees
 no_answer_agrees es c a = by (stage_in c) refl
   where
     same : (k : ℕ) → Agrees es (record c { decided = k; asked = false })
-    same k = record { now = a.now; ever = a.ever; some = a.some; within = a.within; untold = a.untold; told = a.told; done = a.done; votes = a.votes; sent = a.sent; stopped = a.stopped; doubt = a.doubt }
+    same k = record { now = a.now; ever = a.ever; some = a.some; within = a.within; untold = a.untold; told = a.told; done = a.done; votes = a.votes; sent = a.sent; stopped = a.stopped; doubt = a.doubt; answers = a.answers }
 
     idle : Agrees es (record c { asked = false })
-    idle = record { now = a.now; ever = a.ever; some = a.some; within = a.within; untold = a.untold; told = a.told; done = a.done; votes = a.votes; sent = a.sent; stopped = a.stopped; doubt = a.doubt }
+    idle = record { now = a.now; ever = a.ever; some = a.some; within = a.within; untold = a.untold; told = a.told; done = a.done; votes = a.votes; sent = a.sent; stopped = a.stopped; doubt = a.doubt; answers = a.answers }
 
     refuses : c.refused ≡ None → c.done < count c → Agrees es (record c { refused = Some Say.NoMemory; asked = false })
     refuses o low = record {
@@ -449,6 +530,7 @@ no_answer_agrees es c a = by (stage_in c) refl
       sent = λ none. absurd cc;
       stopped = λ i l. a.stopped i l ∙ (ap (λ (r : Option NodeReply). nat_eq i c.done && has_stopped r) o);
       doubt = a.doubt ∙ ap (is_doubtful (count c) c.done) o;
+      answers = record { long = a.answers.long; read = a.answers.read; failed = λ other. absurd (other refl) };
     }
 
     by : (stage : Stage) → stage_in c ≡ stage → Agrees es (fed_at c stage Say.NoMemory)
@@ -494,6 +576,7 @@ abandoned_agrees es e c a step none what = record {
   sent = λ o i l. ap (list_any (λ (k : Call). node_same k.node (participant c i) && (is_try c.tid k.request && true))) (same_calls es e none) ∙ a.sent o i l;
   stopped = λ i l. ap (list_any (λ (k : Call). node_same k.node (participant c i) && (is_try c.tid k.request && is_stopped k.reply))) (same_calls es e none) ∙ a.stopped i l;
   doubt = ap (list_any (λ (k : Call). is_stopped k.reply && (is_exec c.tid k.request || (is_prepare c.tid k.request && is_last_of k.node k.request)))) (same_calls es e none) ∙ a.doubt;
+  answers = later_answers es e c.tid c.mini c.done c.reads c.refused (ap (λ (w : What). since_begin_after w e (since_begin es)) what) a.answers;
 }
 
 -- The issue
@@ -530,7 +613,7 @@ none_below : (i k : ℕ) → k ≡ 0 → nat_lt i k ≡ false
 none_below i k e = le-ltb i k (omega arith)
 
 pub issues_agree : IssuesAgree
-issues_agree es e c fresh some zero_done open_still quiet none what = record {
+issues_agree es e c fresh some long zero_done open_still quiet none what = record {
   now = ap (λ (l : List Entry). issue_named c.tid (issues_of l)) (ap (λ (w : What). since_begin_after w e (since_begin es)) what)
       ∙ (ap (λ (w : What). issue_named c.tid (issue_in w ++ issues_of (since_begin es))) what ∙ issue_first c.tid c.mini (issues_of (since_begin es)));
   ever = ap (λ (w : What). issue_named c.tid (issue_in w ++ issues_of es)) what ∙ issue_first c.tid c.mini (issues_of es);
@@ -544,6 +627,11 @@ issues_agree es e c fresh some zero_done open_still quiet none what = record {
   stopped = λ i l. tested (is_try c.tid) is_stopped (λ request h. h) i ∙ sym (ap (λ (o : Option NodeReply). nat_eq i c.done && has_stopped o) open_still ∙ and_false (nat_eq i c.done));
   doubt = ap (list_any (λ (k : Call). is_stopped k.reply && (is_exec c.tid k.request || (is_prepare c.tid k.request && is_last_of k.node k.request)))) (same_calls es e none)
       ∙ (not_in_doubt c.tid (calls_of es) fresh.0 ∙ sym (ap (is_doubtful (count c) c.done) open_still));
+  answers = record {
+    long = long;
+    read = λ i low. absurd (omega (arith, zero_done));
+    failed = subst (λ (o : Option NodeReply). MatchOption o ⊤ (λ reply. (reply ≡ Say.NoMemory → ⊥) → Contains (calls_of (since_begin (e ∷ es))) (answer_of c.tid c.mini c.done reply))) (sym open_still) tt;
+  };
 }
   where
     tested : (t : Request → Bool) (say : NodeReply → Bool) → ((request : Request) → is_try c.tid request ≡ false → t request ≡ false) → (i : ℕ) → was_told t say (participant c i) (e ∷ es) ≡ false
@@ -556,7 +644,7 @@ pub handed_out_agrees : (es : List Entry) (c : Coordination) → Agrees es c →
 handed_out_agrees es c a other = by (step_of c) other
   where
     out : Agrees es (record c { asked = true })
-    out = record { now = a.now; ever = a.ever; some = a.some; within = a.within; untold = a.untold; told = a.told; done = a.done; votes = a.votes; sent = a.sent; stopped = a.stopped; doubt = a.doubt }
+    out = record { now = a.now; ever = a.ever; some = a.some; within = a.within; untold = a.untold; told = a.told; done = a.done; votes = a.votes; sent = a.sent; stopped = a.stopped; doubt = a.doubt; answers = a.answers }
 
     by : (step : CoordStep) → (step ≡ Abandon → ⊥) → Agrees es (after_step c step)
     by (Send node request) o = out

@@ -42,7 +42,8 @@ abbrev pub is_stopped_at_last : ℕ → ℕ → NodeReply → Bool
 is_stopped_at_last participants done Say.Stopped = nat_eq (done + 1) participants
 is_stopped_at_last participants done reply = false
 
--- after a refusal: in doubt where the last participant stopped; else given up, which several participants are told, those that voted yes
+-- after a refusal: in doubt where the last participant stopped; else given up, which several
+-- participants are told, those that voted yes
 abbrev pub stage_refused : ℕ → ℕ → NodeReply → Bool → ℕ → Stage
 stage_refused participants done reply told decided =
     if is_stopped_at_last participants done reply then At.Doubt

@@ -15,7 +15,8 @@ abbrev pub sent_of : ℕ → ℕ → Option NodeReply → Bool → ℕ
 sent_of participants done (Some reply) asked = done + 1
 sent_of participants done None asked = if asked && nat_lt done participants then done + 1 else done
 
--- the id and the minitransaction are sound, and the requests that are left are those of the participants that were not asked
+-- the id and the minitransaction are sound, and the requests that are left are those of the
+-- participants that were not asked
 pub record IsSoundInside (c : Inside) : Type 0 where
   pub id : IsTid c.tid
   pub mini : IsSound c.mini

@@ -1,19 +1,19 @@
 -- A coordinator makes only entries that the commit protocol allows its client.
-use Rattle.std.specs.Prelude.{◌≡◌, ℕ, ◌<◌, ◌≤◌, Bool, true, false, ◌&&◌, nat_lt, nat_eq, List, [], ◌∷◌, length, Option, Some, None, MatchOption, ⊤}
+use Rattle.std.specs.Prelude.{◌≡◌, ◌≢◌, ℕ, ◌+◌, ◌<◌, ◌≤◌, Bool, Contains, slice_index_or, true, false, ◌&&◌, nat_lt, nat_eq, List, [], ◌∷◌, length, Option, Some, None, MatchOption, ⊤}
 use Rattle.std.specs.List.{list_any}
 use Rattle.mn_base.specs.declared.ids.NodeNo.{NodeNo}
 use Rattle.mn_base.specs.declared.ids.Tid.{Tid}
 use Rattle.mn_mini.specs.declared.request.Request.{Request}
 use Rattle.mn_mini.specs.declared.reply.NodeReply.{NodeReply}
 use Rattle.mn_mini.specs.declared.reply.NodeReply.TheVariants as Say
-use Rattle.mn_mini.specs.Mini.{participants_of}
+use Rattle.mn_mini.specs.Mini.{Mini, participants_of}
 use Rattle.mn_world.specs.declared.entry.Entry.{Entry}
 use Rattle.mn_world.specs.declared.entry.What.TheVariants.{Issue, Abandoned}
 use Rattle.mn_world.specs.Calls.{Call, call_in, calls_of, is_prepare, is_done, is_stopped, was_told, was_sent, was_done, was_stopped, was_abandoned, is_in_doubt, issues_of, issue_named, since_begin, is_try}
 use Rattle.mn_world.specs.Clients.{Sends, AllowsAbandoned}
 use Rattle.mn_coord.specs.declared.step.CoordStep.{CoordStep}
 use Rattle.mn_coord.specs.declared.step.CoordStep.TheVariants.{Send, Abandon}
-use Rattle.mn_coord.specs.Coordination.{Coordination, is_stopped_at_last, participant, step_of, after_step, fed}
+use Rattle.mn_coord.specs.Coordination.{Coordination, is_stopped_at_last, participant, try_request, step_of, after_step, fed}
 
 abbrev pub has_stopped : Option NodeReply → Bool
 has_stopped None = false
@@ -24,7 +24,30 @@ abbrev pub is_doubtful : ℕ → ℕ → Option NodeReply → Bool
 is_doubtful participants done None = false
 is_doubtful participants done (Some reply) = is_stopped_at_last participants done reply
 
--- the client's list, newest first, holds the issue of the operation under way, and what the coordinator was answered and has told
+-- the participant of this number
+abbrev pub node_of : Mini → ℕ → NodeNo
+node_of mini i = slice_index_or (participants_of mini) i (record { 0 = 0 })
+
+-- its Prepare or Exec with this reply
+abbrev pub answer_of : Tid → Mini → ℕ → NodeReply → Call
+answer_of tid mini i reply = record {
+  node = node_of mini i;
+  request = try_request tid mini (node_of mini i);
+  reply = reply;
+}
+
+-- the entries since Begin hold Done of each of the first participants, with what it read, and the
+-- reply by which the next one failed, if it failed; want of memory may be no entry
+pub record HasAnswers (now : List Entry) (tid : Tid) (mini : Mini) (done : ℕ)
+    (reads : List (List (List ℕ))) (refused : Option NodeReply) : Type 0 where
+  pub long : length reads ≡ length (participants_of mini)
+  pub read : (i : ℕ) → i < done
+      → Contains (calls_of now) (answer_of tid mini i (Say.Done (slice_index_or reads i [])))
+  pub failed : MatchOption refused ⊤
+      (λ reply. reply ≢ Say.NoMemory → Contains (calls_of now) (answer_of tid mini done reply))
+
+-- the client's list, newest first, holds the issue of the operation under way, and what the
+-- coordinator was answered and has told
 pub record Agrees (es : List Entry) (c : Coordination) : Type 0 where
   pub now : issue_named c.tid (issues_of (since_begin es)) ≡ Some c.mini
   pub ever : issue_named c.tid (issues_of es) ≡ Some c.mini
@@ -37,6 +60,7 @@ pub record Agrees (es : List Entry) (c : Coordination) : Type 0 where
   pub sent : c.refused ≡ None → (i : ℕ) → i < length (participants_of c.mini) → was_sent c.tid (participant c i) es ≡ nat_lt i c.done
   pub stopped : (i : ℕ) → i < length (participants_of c.mini) → was_stopped c.tid (participant c i) es ≡ (nat_eq i c.done && has_stopped c.refused)
   pub doubt : is_in_doubt c.tid es ≡ is_doubtful (length (participants_of c.mini)) c.done c.refused
+  pub answers : HasAnswers (since_begin es) c.tid c.mini c.done c.reads c.refused
 
 -- the client may make this step
 abbrev pub MayMake : List Entry → Tid → CoordStep → Type 0
@@ -76,5 +100,6 @@ IsFresh tid es = (list_any (names_tid tid) (calls_of es) ≡ false) × (was_aban
 -- after its issue a new coordinator agrees
 abbrev pub IssuesAgree : Type 0
 IssuesAgree =
-    (es : List Entry) (e : Entry) (c : Coordination) → IsFresh c.tid es → 1 ≤ length (participants_of c.mini) → c.done ≡ 0 → c.refused ≡ None → c.told ≡ false
+    (es : List Entry) (e : Entry) (c : Coordination) → IsFresh c.tid es → 1 ≤ length (participants_of c.mini)
+    → length c.reads ≡ length (participants_of c.mini) → c.done ≡ 0 → c.refused ≡ None → c.told ≡ false
     → e.node ≡ None → e.what ≡ Issue c.tid c.mini → Agrees (e ∷ es) c

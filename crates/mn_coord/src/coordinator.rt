@@ -6,7 +6,7 @@ ghost use Rattle.mn_coord.specs.Coordination.{try_request};
 ghost use Rattle.mn_coord.specs.Tries.{tries_of};
 
 use crate::stage::stage_for;
-use crate::{CoordStep, Stage};
+use crate::{CoordStep, Outcome, Stage};
 use mn_base::{NoMemory, NodeNo, Tid, TryCopy};
 use mn_mini::{Minitransaction, NodeReply, Reads, Request, parts_sound};
 use std::alloc::Global;
@@ -110,8 +110,8 @@ impl Coordinator {
     ghost use Rattle.mn_coord.specs.Coordination.{IsSoundCoordination, IsSoundStep, stage_in, step_of, after_step, fed};
     ghost use Rattle.mn_coord.specs.Legal.{Agrees, IsFresh, IsAnswered, MayMake};
 
-    /// The coordinator of the minitransaction under this id, which has a run and a serial from 1 on and a
-    /// client from 0 to 20. NoMemory: there was no memory for all that it will need.
+    /// The coordinator of the minitransaction under this id, which has a run and a serial from 1 on
+    /// and a client from 0 to 20. NoMemory: there was no memory for all that it will need.
     pub fn new(alloc: Global, tid: Tid, mini: Minitransaction) -> Result<Self, NoMemory>
         requires id { IsTid tid }
         ensures starts { IfOk result (λ c. c ≡ record { tid = tid; mini = mini; done = 0; reads = replicate (length (participants_of mini)) []; refused = None; told = false; decided = 0; asked = false }) }
@@ -151,8 +151,9 @@ impl Coordinator {
         )
     }
 
-    /// What it wants next. A request is handed out once, and Abandon is told once. It takes no memory. The client may make it, by the
-    /// commit protocol, where its list holds the issue and the calls so far.
+    /// What it wants next. A request is handed out once, and Abandon is told once. It takes no
+    /// memory. The client may make it, by the commit protocol, where its list holds the issue and
+    /// the calls so far.
     pub fn next(&mut self) -> CoordStep
         requires idle { self.old.asked ≡ false }
         ensures step { result ≡ step_of self.old }
@@ -257,5 +258,18 @@ impl Coordinator {
         ensures { option_map (λ r. r.now) result ≡ self.now.refused }
     {
         self.refused.as_ref()
+    }
+
+    /// What it ends with. It takes no memory.
+    pub fn into_outcome(self) -> Outcome
+        ensures mini { result.mini ≡ self.mini }
+        ensures reads { result.reads.items ≡ self.reads }
+        ensures reply { result.reply ≡ self.refused }
+    {
+        Outcome {
+            mini: self.mini,
+            reads: self.reads,
+            reply: self.refused,
+        }
     }
 }

@@ -1,5 +1,6 @@
-//! The coordinator of one minitransaction: which requests it sends, one after another, and how the minitransaction ends. It has no
-//! log; it makes only the entries that the commit protocol allows (Sinfonia, SOSP 2007).
+//! The coordinator of one minitransaction: which requests it sends, one after another, and how the
+//! minitransaction ends. It has no log; it makes only the entries that the commit protocol allows
+//! (Sinfonia, SOSP 2007).
 #![tactic(auto)]
 
 mod coordinator;
@@ -8,4 +9,4 @@ mod step;
 
 pub use coordinator::Coordinator;
 pub use stage::Stage;
-pub use step::CoordStep;
+pub use step::{CoordStep, Outcome};

@@ -30,7 +30,8 @@ fn is_stopped_last(participants: usize, done: usize, refused: &NodeReply) -> boo
     }
 }
 
-/// The stage where of so many participants so many have answered Done, one has refused, that was told, and so many were decided.
+/// The stage where of so many participants so many have answered Done, one has refused, that was
+/// told, and so many were decided.
 pub fn stage_for(
     participants: usize,
     done: usize,

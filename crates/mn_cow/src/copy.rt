@@ -35,9 +35,10 @@ fn copied(alloc: Global, page: &Page, version: VersionNo) -> Result<Page, NoMemo
 
 /// The page as it stands once it has been copied for the version, and the copy.
 ///
-/// The old page has the version in its copied set and the next sequence number, where the last one stays, and serves
-/// the version and its descendants no more. The copy was made in the version, was copied for none, has sequence
-/// number 1, and the old page's fences and body. NoMemory: there was no memory for the two.
+/// The old page has the version in its copied set and the next sequence number, where the last one
+/// stays, and serves the version and its descendants no more. The copy was made in the version, was
+/// copied for none, has sequence number 1, and the old page's fences and body. NoMemory: there was
+/// no memory for the two.
 pub fn copy_for(alloc: Global, page: &Page, version: VersionNo) -> Result<(Page, Page), NoMemory>
     requires above { page.now.made.0 < version.0 }
     requires few { version.0 < 64 }

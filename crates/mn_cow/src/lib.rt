@@ -1,4 +1,5 @@
-//! Copies of pages: a page that another version made is copied before a version changes it (Minuet, PVLDB 2012).
+//! Copies of pages: a page that another version made is copied before a version changes it (Minuet,
+//! PVLDB 2012).
 #![tactic(auto)]
 
 mod copy;

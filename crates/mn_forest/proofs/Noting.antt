@@ -21,7 +21,7 @@ use Rattle.mn_page.proofs.Spelled.{page_length, same_addr}
 use Rattle.mn_forest.specs.declared.pages.Names.{Names}
 use Rattle.mn_forest.specs.declared.pages.Versions.{Versions}
 use Rattle.mn_forest.specs.Rules.{space_at, slot_place, StandsAt, IsNamedBy, IsNamedAt, IsRootOf, IsReached}
-use Rattle.mn_forest.specs.Trees.{AreVersions, AreNames, AreNamesTo, Notes, NotesChildren, IsOf, IsBefore, Keeps, name_key, keys_same, is_noted, is_root_at, same_place}
+use Rattle.mn_forest.specs.Trees.{AreVersions, AreNames, AreNamesTo, Notes, NotesChildren, IsOf, IsBefore, KeepsNames, name_key, keys_same, is_noted, is_root_at, same_place}
 use Rattle.mn_forest.proofs.Fronts.{means, one_page}
 use Rattle.mn_forest.proofs.Children.{there_in, place_of}
 use Rattle.mn_forest.proofs.ChildTests.{served_test, version_count}
@@ -41,7 +41,7 @@ same_keys addr a v h w g e =
 own_key : (addr : Addr) (v h : ℕ) → keys_same (name_key addr v h) (name_key addr v h) ≡ true
 own_key addr v h = let a = eq-eqb addr.node.0 addr.node.0 refl in let b = eq-eqb addr.slot addr.slot refl in let c = eq-eqb v v refl in let d = eq-eqb h h refl in cc
 
-adds_keeps : (old new : Names) (addr : Addr) (v h : ℕ) → Adds old new addr v h → Keeps old new
+adds_keeps : (old new : Names) (addr : Addr) (v h : ℕ) → Adds old new addr v h → KeepsNames old new
 adds_keeps old new addr v h adds a w g was = adds a w g ∙ by (keys_same (name_key addr v h) (name_key a w g))
   where
     by : (b : Bool) → cond b true (is_noted old a w g) ≡ true

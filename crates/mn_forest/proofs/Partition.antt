@@ -1,5 +1,5 @@
--- Trees by what is tested of each page: its children fit, and it is a root or named from one height up. At each height, then, just one page
--- covers a key; and the other way round.
+-- Trees by what is tested of each page: its children fit, and it is a root or named from one height
+-- up. At each height, then, just one page covers a key; and the other way round.
 use Rattle.std.proofs.Common.{◌≡◌, ◌<◌, ◌≤◌, ◌+◌, ◌⊎◌, inl, inr, ℕ, zero, suc, true, List, [], ◌∷◌, length, Option, Some, None, refl, ap, sym, subst, ◌∙◌, arith, slice_get, Contains}
 use Rattle.std.specs.Prelude.{IsTrue}
 use Rattle.std.specs.List.{AllByRecursion}

@@ -1,4 +1,5 @@
--- A memory that passes each test is that of a forest: its pages are read one by one, and their places make the spaces.
+-- A memory that passes each test is that of a forest: its pages are read one by one, and their
+-- places make the spaces.
 use Rattle.std.proofs.Common.{◌≡◌, ◌<◌, ◌≤◌, ◌+◌, ◌-◌, ◌*◌, ◌⊎◌, inl, inr, ℕ, zero, suc, Bool, false, List, [], ◌∷◌, ◌++◌, length, drop, replicate, map, Option, Some, None, refl, ap, sym, subst, ◌∙◌, arith, slice_get, slice_index_or, append-nil, if◌then◌else◌}
 use Rattle.std.specs.Prelude.{IsTrue, nat_eq}
 use Rattle.std.specs.List.{flat_map, range_with_len, AllByRecursion}

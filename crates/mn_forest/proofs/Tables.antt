@@ -13,7 +13,7 @@ use Rattle.mn_world.specs.Opened.{voted_participants, has_record}
 use Rattle.mn_world.proofs.Reading.Same.{tid_same-refl, tid_same-true}
 use Rattle.mn_forest.specs.declared.known.Known.{Known}
 use Rattle.mn_forest.specs.declared.known.Table.{Table}
-use Rattle.mn_forest.specs.Known.{IsKnown, Tells, Follows, known_at, id_key, keys_same, unknown, differs_from, votes_differ}
+use Rattle.mn_forest.specs.Known.{IsKnown, TableTells, FollowsRecord, known_at, id_key, keys_same, unknown, differs_from, votes_differ}
 use Rattle.mn_forest.specs.Votes.{has_several}
 
 -- a record tells nothing of other ids
@@ -65,7 +65,7 @@ of_others k tid (Forced t) older other is = record {
 }
 
 -- the record itself makes it so
-pub of_its_own : (before after : Known) (tid : Tid) (r : Record) (older : List Record) → is_of tid r ≡ true → Follows before after r
+pub of_its_own : (before after : Known) (tid : Tid) (r : Record) (older : List Record) → is_of tid r ≡ true → FollowsRecord before after r
     → IsKnown before tid older → IsKnown after tid (r ∷ older)
 of_its_own before after tid (Voted t participants part) older same f is = record {
   seen = f.seen ∙ sym (ap (λ (b : Bool). b || has_record older tid) same);
@@ -122,8 +122,8 @@ is_of-told tid q (Executed t part) of = ap (λ (u : Tid). tid_same u q) (sym of)
 is_of-told tid q (Decided t verdict) of = ap (λ (u : Tid). tid_same u q) (sym of)
 is_of-told tid q (Forced t) of = ap (λ (u : Tid). tid_same u q) (sym of)
 
-pub noted : (old new : Table) (tid : Tid) (r : Record) (older : List Record) (after : Known) → HasTid tid r → Tells old older → Follows (known_at old tid) after r
-    → ((q : Tid) → get keys_same new.known (id_key q) ≡ cond (tid_same tid q) (Some after) (get keys_same old.known (id_key q))) → Tells new (r ∷ older)
+pub noted : (old new : Table) (tid : Tid) (r : Record) (older : List Record) (after : Known) → HasTid tid r → TableTells old older → FollowsRecord (known_at old tid) after r
+    → ((q : Tid) → get keys_same new.known (id_key q) ≡ cond (tid_same tid q) (Some after) (get keys_same old.known (id_key q))) → TableTells new (r ∷ older)
 noted old new tid r older after of tells f updates = λ q. by q (tid_same tid q) refl
   where
     own : (q : Tid) → tid ≡ q → known_at new q ≡ after → IsKnown (known_at new q) q (r ∷ older)
@@ -139,5 +139,5 @@ noted old new tid r older after of tells f updates = λ q. by q (tid_same tid q)
     by q true e = own q (tid_same-true tid q e) (ap (λ (o : Option Known). unwrap_or o unknown) (updates q ∙ ap (λ (b : Bool). cond b (Some after) (get keys_same old.known (id_key q))) e))
     by q false e = other q e (ap (λ (o : Option Known). unwrap_or o unknown) (updates q ∙ ap (λ (b : Bool). cond b (Some after) (get keys_same old.known (id_key q))) e))
 
-pub nothing_noted : (t : Table) → ((q : Tid) → get keys_same t.known (id_key q) ≡ None) → Tells t []
+pub nothing_noted : (t : Table) → ((q : Tid) → get keys_same t.known (id_key q) ≡ None) → TableTells t []
 nothing_noted t none = λ q. let is : known_at t q ≡ unknown = ap (λ (o : Option Known). unwrap_or o unknown) (none q) in subst (λ (k : Known). IsKnown k q []) (sym is) (record { seen = refl; several = refl; participants = refl; differ = refl; executed = refl; agreed = refl; refused = refl })

@@ -54,12 +54,12 @@ pub record IsKnown (k : Known) (tid : Tid) (records : List Record) : Type 0 wher
   pub agreed : k.agreed ≡ has_decided_yes records tid
   pub refused : k.refused ≡ has_decided_no records tid
 
-abbrev pub Tells : Table → List Record → Type 0
-Tells t records = (tid : Tid) → IsKnown (known_at t tid) tid records
+abbrev pub TableTells : Table → List Record → Type 0
+TableTells t records = (tid : Tid) → IsKnown (known_at t tid) tid records
 
 -- the tables tell the records of each node
 pub record AllTell (tables : List Table) (lists : NodeNo → List Record) : Type 0 where
-  pub each : (n : NodeNo) (t : Table) → slice_get tables n.0 ≡ Some t → Tells t (lists n)
+  pub each : (n : NodeNo) (t : Table) → slice_get tables n.0 ≡ Some t → TableTells t (lists n)
   pub beyond : (n : NodeNo) → length tables ≤ n.0 → lists n ≡ []
 
 -- what else is known of the id of a record after it
@@ -76,7 +76,7 @@ Others before after (Forced t) =
     (named_in after ≡ named_in before) × (after.differ ≡ before.differ) × (after.executed ≡ before.executed) × (after.agreed ≡ before.agreed) × (after.refused ≡ before.refused)
 
 -- what is known of the id of a record after it
-pub record Follows (before after : Known) (r : Record) : Type 0 where
+pub record FollowsRecord (before after : Known) (r : Record) : Type 0 where
   pub seen : after.seen ≡ true
   pub several : after.several ≡ (before.seen || before.several)
   pub others : Others before after r

@@ -1,4 +1,5 @@
--- The rules of the forest: what must hold of the bytes of all nodes so that they hold a store, each where it is tested.
+-- The rules of the forest: what must hold of the bytes of all nodes so that they hold a store, each
+-- where it is tested.
 use Rattle.std.specs.Prelude.{◌≡◌, ℕ, zero, suc, ◌+◌, ◌*◌, ◌<◌, ◌≤◌, ◌⊎◌, Bool, true, false, nat_lt, nat_eq, IsTrue, List, [], ◌∷◌, length, map, take, replicate, Option, Some, None, is_some, slice_get, slice_index_or, bytes_eq, Contains}
 use Rattle.std.specs.List.{list_all, list_any, AllByRecursion}
 use Rattle.std.specs.Option.{option_map_or}
@@ -89,8 +90,8 @@ is_named name o = option_map_or (λ e. bytes_eq e.name name) o false
 abbrev pub is_child_of : ℕ → Option CatEntry → Bool
 is_child_of v o = option_map_or (λ e. option_map_or (λ p. nat_eq p.0 v) e.parent false) o false
 
--- An entry: those before it are used, its parent fits, no earlier one has its name, and it is frozen exactly where it has a child. Only
--- the first place must have one.
+-- An entry: those before it are used, its parent fits, no earlier one has its name, and it is
+-- frozen exactly where it has a child. Only the first place must have one.
 abbrev pub EntryFits : List (Option CatEntry) → ℕ → Option CatEntry → Type 0
 EntryFits es w None = 1 ≤ w
 EntryFits es w (Some e) = (list_all (λ o. is_some o) (take w es) ≡ true) × (parent_fits w e.parent ≡ true) × (list_any (is_named e.name) (take w es) ≡ false) × (e.frozen ≡ list_any (is_child_of w) es)
@@ -154,7 +155,8 @@ pub record IsNamedBy (memory : List (List ℕ)) (entries : List CatEntry) (v hei
 abbrev pub IsNamedAt : List (List ℕ) → List CatEntry → ℕ → ℕ → Addr → Type 0
 IsNamedAt memory entries v height addr = (from : Addr) × IsNamedBy memory entries v height addr from
 
--- for each version that it serves, a page is the root, or a page one height up that serves the version names it
+-- for each version that it serves, a page is the root, or a page one height up that serves the
+-- version names it
 abbrev pub IsReached : List (List ℕ) → List CatEntry → Addr → Type 0
 IsReached memory entries addr =
     (p : Page) → StandsAt memory addr p → (v : ℕ) → v < length entries → IsTrue (page_serves entries v p) → IsRootOf entries v addr ⊎ IsNamedAt memory entries v (height_of p.body + 1) addr

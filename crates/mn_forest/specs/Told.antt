@@ -7,18 +7,18 @@ use Rattle.mn_forest.specs.declared.error.VoteError.{VoteError}
 use Rattle.mn_forest.specs.declared.error.VoteError.TheVariants.{Unvoted, Both, NoMemory}
 use Rattle.mn_forest.specs.declared.votes.Told.{Told}
 use Rattle.mn_forest.specs.declared.votes.Past.{Past}
-use Rattle.mn_forest.specs.Known.{Tells, AllTell, parts_seen}
+use Rattle.mn_forest.specs.Known.{TableTells, AllTell, parts_seen}
 use Rattle.mn_forest.specs.Votes.{KeepsVotes, KeepsDecisions, AreRight, lists_of, all_of, list_at, elders}
 
 -- what is told is what the records of all nodes tell
 pub record IsTold (told : Told) (records : List (List Record)) : Type 0 where
-  pub all : Tells told.all (all_of records)
+  pub all : TableTells told.all (all_of records)
   pub nodes : AllTell told.nodes.items (lists_of records)
   pub count : length told.nodes.items ≡ length records
 
 -- what is kept is what the older records of a node tell
 pub record IsPast (past : Past) (older : List Record) : Type 0 where
-  pub known : Tells past.known older
+  pub known : TableTells past.known older
   pub held : parts_seen past.held.items ≡ held_parts older
 
 -- the record with this number, after these older ones, is wrong as the answer says

@@ -41,8 +41,8 @@ abbrev pub is_noted : Names → Addr → ℕ → ℕ → Bool
 is_noted names addr v height = contains keys_same names.named (name_key addr v height)
 
 -- what was noted stays so
-abbrev pub Keeps : Names → Names → Type 0
-Keeps old new = (a : Addr) (v h : ℕ) → is_noted old a v h ≡ true → is_noted new a v h ≡ true
+abbrev pub KeepsNames : Names → Names → Type 0
+KeepsNames old new = (a : Addr) (v h : ℕ) → is_noted old a v h ≡ true → is_noted new a v h ≡ true
 
 -- the page is of this height and serves this version
 abbrev pub IsOf : List CatEntry → Page → ℕ → ℕ → Type 0
@@ -50,13 +50,13 @@ IsOf entries p v h = (h ≡ height_of p.body) × (v < length entries) × IsTrue 
 
 -- a child of the page is noted, besides, for each version below n that the page serves
 pub record Notes (old new : Names) (entries : List CatEntry) (p : Page) (child : Addr) (n : ℕ) : Type 0 where
-  pub keeps : Keeps old new
+  pub keeps : KeepsNames old new
   pub adds : (v : ℕ) → v < n → v < length entries → IsTrue (page_serves entries v p) → is_noted new child v (height_of p.body) ≡ true
   pub only : (a : Addr) (v h : ℕ) → is_noted new a v h ≡ true → (is_noted old a v h ≡ true) ⊎ ((a ≡ child) × IsOf entries p v h)
 
 -- so many children of the page are
 pub record NotesChildren (old new : Names) (entries : List CatEntry) (p : Page) (n : ℕ) : Type 0 where
-  pub keeps : Keeps old new
+  pub keeps : KeepsNames old new
   pub adds : (i : ℕ) (a : Addr) → i < n → slice_get (addrs_in p.body) i ≡ Some a → (v : ℕ) → v < length entries → IsTrue (page_serves entries v p) → is_noted new a v (height_of p.body) ≡ true
   pub only : (a : Addr) (v h : ℕ) → is_noted new a v h ≡ true → (is_noted old a v h ≡ true) ⊎ (Contains (addrs_in p.body) a × IsOf entries p v h)
 
@@ -69,7 +69,8 @@ pub record AreNamesTo (names : Names) (memory : List (List ℕ)) (entries : List
   pub sound : (addr : Addr) (v h : ℕ) → v < length entries → is_noted names addr v h ≡ true → IsNamedAt memory entries v h addr
   pub whole : (addr from : Addr) (v h : ℕ) → v < length entries → IsBefore from n slot → IsNamedBy memory entries v h addr from → is_noted names addr v h ≡ true
 
--- a page is noted for a version and a height where a page of that height that serves the version names it
+-- a page is noted for a version and a height where a page of that height that serves the version
+-- names it
 pub record AreNames (names : Names) (memory : List (List ℕ)) (entries : List CatEntry) : Type 0 where
   pub sound : (addr : Addr) (v height : ℕ) → v < length entries → is_noted names addr v height ≡ true → IsNamedAt memory entries v height addr
   pub whole : (addr : Addr) (v height : ℕ) → v < length entries → IsNamedAt memory entries v height addr → is_noted names addr v height ≡ true

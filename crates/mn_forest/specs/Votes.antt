@@ -1,5 +1,6 @@
--- Which records of all nodes stand where they may, and which one is named where some do not. The records of a node stand oldest first
--- here; what a record may be is said of its elders, which stand newest first.
+-- Which records of all nodes stand where they may, and which one is named where some do not. The
+-- records of a node stand oldest first here; what a record may be is said of its elders, which
+-- stand newest first.
 use Rattle.std.specs.Prelude.{◌≡◌, ℕ, ◌<◌, ◌⊎◌, Bool, true, false, not, ◌&&◌, ◌||◌, List, [], ◌∷◌, length, take, reverse, Some, ⊤, slice_get, slice_index_or}
 use Rattle.std.specs.List.{list_all, flat_map}
 use Rattle.std.specs.Option.{option_map_or}
@@ -44,8 +45,9 @@ has_several (r ∷ older) tid = (is_of tid r && has_record older tid) || has_sev
 abbrev pub has_all_votes : (NodeNo → List Record) → NodeNo → Tid → Bool
 has_all_votes lists n tid = option_map_or (have_voted lists tid) (voted_participants tid (lists n)) false
 
--- A record is in place after its elders. Every vote for the id of a vote names the same participants, an execution is the only record
--- of its id, and a decided yes has the vote of each participant.
+-- A record is in place after its elders. Every vote for the id of a vote names the same
+-- participants, an execution is the only record of its id, and a decided yes has the vote of each
+-- participant.
 abbrev pub KeepsVotes : List (List Record) → NodeNo → List Record → Record → Type 0
 KeepsVotes records n older (Voted tid participants part) = IsInPlace (length records) n older (Voted tid participants part) × (list_all (names_none_but tid participants) (all_of records) ≡ true)
 KeepsVotes records n older (Executed tid part) = IsInPlace (length records) n older (Executed tid part) × (has_several (all_of records) tid ≡ false)

@@ -8,8 +8,8 @@ use mn_mini::Spaces;
 use mn_page::base_space;
 use std::alloc::Global;
 
-/// The memory that so many nodes, 1 to 8, begin with: it holds the store with the empty version `main` alone. NoMemory:
-/// there was no memory for it.
+/// The memory that so many nodes, 1 to 8, begin with: it holds the store with the empty version
+/// `main` alone. NoMemory: there was no memory for it.
 pub fn base_spaces(alloc: Global, nodes: u8) -> Result<Spaces, NoMemory>
     requires some { 0 < nodes }
     requires few { nodes ≤ 8 }

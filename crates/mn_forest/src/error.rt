@@ -5,10 +5,12 @@ use thiserror::Error;
 /// Why the records of all nodes make no memory.
 #[derive(Clone, Copy, Debug, PartialEq, Eq, Error)]
 pub enum VoteError {
-    /// Record `number`, from 0, of this node is out of place, or decides yes where a participant has no vote.
+    /// Record `number`, from 0, of this node is out of place, or decides yes where a participant
+    /// has no vote.
     #[error("record {number} of node {} is out of place", node.0)]
     Unvoted { node: NodeNo, number: u32 },
-    /// Record `number`, from 0, of this node decides an id that is decided no, and that is committed or decided yes too.
+    /// Record `number`, from 0, of this node decides an id that is decided no, and that is
+    /// committed or decided yes too.
     #[error("record {number} of node {} decides an id both ways", node.0)]
     Both { node: NodeNo, number: u32 },
     #[error("no memory")]

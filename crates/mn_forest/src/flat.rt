@@ -7,7 +7,7 @@ ghost use Rattle.mn_mini.specs.Flat.{space_after_part};
 ghost use Rattle.mn_mini.specs.Node.{held_parts, space_of, with_held};
 ghost use Rattle.mn_world.specs.Opened.{AreSound, is_committed, opened_memory};
 ghost use Rattle.mn_page.specs.Base.{base_of};
-ghost use Rattle.mn_forest.specs.Known.{Tells, parts_seen, says_committed};
+ghost use Rattle.mn_forest.specs.Known.{TableTells, parts_seen, says_committed};
 ghost use Rattle.mn_forest.specs.Refusal.{RefusesRecords, IsWantOfMemory};
 ghost use Rattle.mn_forest.specs.Told.{IsTold, IsPast, RefusesIn};
 ghost use Rattle.mn_forest.specs.Votes.{AreRight, lists_of, list_at, numbered};
@@ -25,7 +25,7 @@ use std::alloc::Global;
 
 /// Notes records behind the others.
 fn note_all<'a>(table: &mut Table<'a>, records: &'a [Record]) -> Result<(), NoMemory>
-    ensures { (older : List Record) → Tells table.old older → OnOk result (Tells table.new (reverse records.now ++ older)) }
+    ensures { (older : List Record) → TableTells table.old older → OnOk result (TableTells table.new (reverse records.now ++ older)) }
 {
     for record in records {
         table.note(record)?;
@@ -35,7 +35,7 @@ fn note_all<'a>(table: &mut Table<'a>, records: &'a [Record]) -> Result<(), NoMe
 
 /// What a node's records tell.
 fn table_of<'a>(alloc: Global, records: &'a [Record]) -> Result<Table<'a>, NoMemory>
-    ensures { IfOk result (λ table. Tells table (reverse records.now)) }
+    ensures { IfOk result (λ table. TableTells table (reverse records.now)) }
 {
     let mut table = Table::new(alloc);
     note_all(&mut table, records)?;
@@ -102,8 +102,9 @@ fn write_committed(told: &Told<'_>, held: &[Held<'_>], space: &mut [u8])
     }
 }
 
-/// Makes the space of a node with these records of its base space: every committed part is in place, whether decided or not.
-/// Unvoted, Both: the first record that is wrong. NoMemory: there was no memory for it.
+/// Makes the space of a node with these records of its base space: every committed part is in
+/// place, whether decided or not. Unvoted, Both: the first record that is wrong. NoMemory: there
+/// was no memory for it.
 fn replay(
     alloc: Global,
     told: &Told<'_>,
@@ -146,14 +147,17 @@ fn space_with(
     Ok(Bytes::from_vec(space))
 }
 
-/// The flat memory of 1 to 8 nodes with these records, in which every committed minitransaction is applied whether decided or not.
-/// It comes only of records that fit together: each is in place, a decided yes has all its votes, and no id is decided both ways.
+/// The flat memory of 1 to 8 nodes with these records, in which every committed minitransaction is
+/// applied whether decided or not. It comes only of records that fit together: each is in place, a
+/// decided yes has all its votes, and no id is decided both ways.
 ///
-/// The first record by node and number that is at fault is named. Unvoted: it stands where it may not after the older ones of its node
-/// (a vote, an execution and a forced no are the first record of their id there, a decision has its id held, a vote names its own node,
-/// nodes alone and the same as each other vote for the id, an execution is the only record of its id, and no part conflicts with a held
-/// one), or it decides yes where a participant has no vote. Both: it decides an id that has a decided no, and that is committed or has
-/// a decided yes. NoMemory: there was no memory for it.
+/// The first record by node and number that is at fault is named. Unvoted: it stands where it may
+/// not after the older ones of its node (a vote, an execution and a forced no are the first record
+/// of their id there, a decision has its id held, a vote names its own node, nodes alone and the
+/// same as each other vote for the id, an execution is the only record of its id, and no part
+/// conflicts with a held one), or it decides yes where a participant has no vote. Both: it decides
+/// an id that has a decided no, and that is committed or has a decided yes. NoMemory: there was no
+/// memory for it.
 pub fn flat_of(alloc: Global, records: &[Records]) -> Result<Spaces, VoteError>
     requires some { 1 ≤ length records.now }
     requires few { length records.now ≤ 8 }

@@ -285,16 +285,20 @@ fn test_all(
     Ok(())
 }
 
-/// The store that 1 to 8 spaces of full size hold. Broken: they hold none; it names the first rule that fails by node, by where what it
-/// speaks of begins, and by the order of the rules. NoMemory: there was no memory for it.
+/// The store that 1 to 8 spaces of full size hold. Broken: they hold none; it names the first rule
+/// that fails by node, by where what it speaks of begins, and by the order of the rules. NoMemory:
+/// there was no memory for it.
 ///
-/// The rules are: `Header` (at 0), the header is that of the format, and bytes that are kept are zero. `Count` (at 16), at most 4,096
-/// slots are given out. `Entry` (where it begins), it is an entry or unused, no used one follows an unused one, the first one is used and
-/// has no parent, each other used one has a parent of a lower number, no name comes twice, and a version is frozen exactly where it has a
-/// child; on the nodes behind the first all are unused. `Root` (where the entry begins), its root is a page that was made in its version
-/// and has no fences. `Page` (where a slot begins), below the count it is a page of versions that there are, whose copied set descends
-/// from the version that it was made in, and from the count on it is free. `Child` (where the page begins), each child is a page one height
-/// lower with just the child's range, which serves what its parent serves. `Reach` (where the page begins), for each version that the page
+/// The rules are: `Header` (at 0), the header is that of the format, and bytes that are kept are
+/// zero. `Count` (at 16), at most 4,096 slots are given out. `Entry` (where it begins), it is an
+/// entry or unused, no used one follows an unused one, the first one is used and has no parent,
+/// each other used one has a parent of a lower number, no name comes twice, and a version is frozen
+/// exactly where it has a child; on the nodes behind the first all are unused. `Root` (where the
+/// entry begins), its root is a page that was made in its version and has no fences. `Page` (where
+/// a slot begins), below the count it is a page of versions that there are, whose copied set
+/// descends from the version that it was made in, and from the count on it is free. `Child` (where
+/// the page begins), each child is a page one height lower with just the child's range, which
+/// serves what its parent serves. `Reach` (where the page begins), for each version that the page
 /// serves it is the root, or a page one height up that serves the version names it.
 pub fn check(alloc: Global, spaces: &Spaces) -> Result<Store, ForestError>
     requires some { 1 ≤ length spaces.now }

@@ -1,7 +1,7 @@
 ghost use Rattle.std.specs.Prelude.{◌≡◌, ◌∷◌, [], List, OnOk, option_map};
 ghost use Rattle.mn_mini.specs.declared.record.Record.{Record};
 ghost use Rattle.mn_mini.specs.RecordGrammar.{HasTid};
-ghost use Rattle.mn_forest.specs.Known.{id_key, known_at, unknown, Follows, Tells, differs_from};
+ghost use Rattle.mn_forest.specs.Known.{id_key, known_at, unknown, FollowsRecord, TableTells, differs_from};
 ghost use Rattle.mn_forest.specs.Votes.{same_nodes};
 
 use mn_base::{NoMemory, NodeNo, Nodes, Tid};
@@ -85,7 +85,7 @@ fn differ(before: Option<&Nodes>, participants: &Nodes) -> bool
 
 /// What is known of the id of a record after it.
 fn after<'a>(before: Known<'a>, record: &'a Record) -> Known<'a>
-    ensures { Follows before.entry result record.now }
+    ensures { FollowsRecord before.entry result record.now }
 {
     let mut known = before;
     known.several = before.seen;
@@ -111,7 +111,7 @@ fn after<'a>(before: Known<'a>, record: &'a Record) -> Known<'a>
 impl<'a> Table<'a> {
     /// No record tells anything.
     pub fn new(alloc: Global) -> Self
-        ensures { Tells result [] }
+        ensures { TableTells result [] }
     {
         Table {
             known: HashMap::new(alloc),
@@ -130,7 +130,7 @@ impl<'a> Table<'a> {
 
     /// Notes a record behind the others.
     pub fn note(&mut self, record: &'a Record) -> Result<(), NoMemory>
-        ensures { (older : List Record) → Tells self.old older → OnOk result (Tells self.new (record.now ∷ older)) }
+        ensures { (older : List Record) → TableTells self.old older → OnOk result (TableTells self.new (record.now ∷ older)) }
     {
         match record {
             Record::Voted { tid, .. } => self.note_of(*tid, record),
@@ -143,7 +143,7 @@ impl<'a> Table<'a> {
     /// Notes a record of this id behind the others.
     fn note_of(&mut self, tid: Tid, record: &'a Record) -> Result<(), NoMemory>
         requires { HasTid tid record.now }
-        ensures { (older : List Record) → Tells self.old older → OnOk result (Tells self.new (record.now ∷ older)) }
+        ensures { (older : List Record) → TableTells self.old older → OnOk result (TableTells self.new (record.now ∷ older)) }
     {
         let known = after(self.of(tid), record);
         self.known.insert(id_key(tid), known)?;

@@ -1,4 +1,5 @@
-//! What the disks of all memory nodes say: the memory that their records make, and the store that a memory holds.
+//! What the disks of all memory nodes say: the memory that their records make, and the store that a
+//! memory holds.
 #![tactic(auto)]
 
 mod base;

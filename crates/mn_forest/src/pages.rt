@@ -85,14 +85,16 @@ fn made_fits(versions: &Versions, page: &PageRef<'_>) -> bool
     versions.has(made.0) && copies_fit(versions, made, page.copied())
 }
 
-/// Whether the page's versions are versions, and those that it was copied for descend from the one that it was made in.
+/// Whether the page's versions are versions, and those that it was copied for descend from the one
+/// that it was made in.
 fn versions_fit(versions: &Versions, page: &PageRef<'_>) -> bool
     ensures { (entries : List CatEntry) → AreVersions versions.now entries → MatchBool result (HasVersions entries page.now) (HasVersions entries page.now → ⊥) }
 {
     made_fits(versions, page)
 }
 
-/// Whether a slot below the count has a page of the catalog's versions, or one from there on is free.
+/// Whether a slot below the count has a page of the catalog's versions, or one from there on is
+/// free.
 pub fn has_page(spaces: &[Bytes], versions: &Versions, addr: Addr) -> bool
     requires there { addr.node.0 < length spaces.now }
     requires whole { AllByRecursion (λ space. length space ≡ space_size) spaces.now }
@@ -382,7 +384,8 @@ fn is_reached_for_all(versions: &Versions, names: &Names, page: &PageRef<'_>, ad
     (0u8..64).all(|version| is_reached_for(versions, names, page, addr, version))
 }
 
-/// Whether the page at the address is, for each version that it serves, the root or named by a page one height up.
+/// Whether the page at the address is, for each version that it serves, the root or named by a page
+/// one height up.
 pub fn is_reached(spaces: &[Bytes], versions: &Versions, names: &Names, addr: Addr) -> bool
     requires { AllByRecursion (λ space. length space ≡ space_size) spaces.now }
     ensures { (entries : List CatEntry) → AreVersions versions.now entries → AreNames names.now spaces.now entries → MatchBool result (IsReached spaces.now entries addr) (IsReached spaces.now entries addr → ⊥) }

@@ -101,7 +101,8 @@ fn take_versions(
     Ok(())
 }
 
-/// The store of these entries, up to the first place without one, where the pages that stand in the spaces show one.
+/// The store of these entries, up to the first place without one, where the pages that stand in the
+/// spaces show one.
 pub fn store_in(
     alloc: Global,
     spaces: &[Bytes],

@@ -168,8 +168,9 @@ fn keeps_decisions(told: &Told<'_>, record: &Record) -> bool
     }
 }
 
-/// Tests the record, the one with this number in its node's list. Unvoted: it stands where it may not, after the older ones of its node.
-/// Both: its id is decided both ways. NoMemory: its number is above those that there are names for.
+/// Tests the record, the one with this number in its node's list. Unvoted: it stands where it may
+/// not, after the older ones of its node. Both: its id is decided both ways. NoMemory: its number
+/// is above those that there are names for.
 pub fn test(
     told: &Told<'_>,
     past: &Past<'_>,

@@ -36,7 +36,7 @@ use Rattle.mn_world.proofs.Reading.Same.{client_same-refl, client_same-true}
 use Rattle.mn_world.proofs.Meaning.Effects.{with_named}
 use Rattle.mn_hist.specs.declared.history.OpKey.{OpKey}
 use Rattle.mn_hist.specs.History.{Act, CallerState, Planner, act_at, act_of, acts_from, acts_in, begun_by, done_by, done_from, idle, planner_after, planner_kept, planner_of, placed_last, state_after, state_of}
-use Rattle.mn_hist.specs.History.{AreCallers, Fills, Knows, Named, Puts, Commits, Stands, Takes}
+use Rattle.mn_hist.specs.History.{AreCallers, Fills, Knows, Named, Puts, Commits, StandsInSet, TakesEntry}
 use Rattle.mn_hist.proofs.Loops.{drop_here}
 use Rattle.mn_hist.proofs.Noted.{begun_is}
 
@@ -143,8 +143,8 @@ fills_last n slots placed (Some a) reply fills long =
 -- What an entry puts into the history
 
 -- that answers nothing
-pub takes_none : {S : Type 0} (past : List Entry) (e : Entry) (placed : List Placed) (standing : HashSet OpKey S) (slots : List (Option Act)) → StepPuts past e.client e.what placed placed → Stands standing placed → Fills slots placed
-    → Takes past e None placed standing slots slots None
+pub takes_none : {S : Type 0} (past : List Entry) (e : Entry) (placed : List Placed) (standing : HashSet OpKey S) (slots : List (Option Act)) → StepPuts past e.client e.what placed placed → StandsInSet standing placed → Fills slots placed
+    → TakesEntry past e None placed standing slots slots None
 takes_none past e placed standing slots puts st fills = record { next = placed; puts = puts; stands = st; fills = λ l. acts_last 0 slots ∙ fills; long = refl }
 
 pub quiet_puts : (past : List Entry) (by : Option ClientNo) (what : What) (placed : List Placed) → ((c : ClientNo) (number : ℕ) (answer : Answer) → by ≡ Some c → what ≡ Answered number answer → ⊥) → StepPuts past by what placed placed
@@ -159,7 +159,7 @@ quiet_puts past (Some c) (Abandoned t) placed none = refl
 
 -- that answers
 pub takes_answer : {S : Type 0} (past : List Entry) (e : Entry) (c : ClientNo) (number : ℕ) (answer : Answer) (placed : List Placed) (standing : HashSet OpKey S) (old new : List (Option Act)) → e.client ≡ Some c → e.what ≡ Answered number answer
-    → Puts past c answer placed standing old new → Takes past e None placed standing old new None
+    → Puts past c answer placed standing old new → TakesEntry past e None placed standing old new None
 takes_answer past e c number answer placed standing old new by is p = record {
   next = p.next;
   puts = subst (λ (o : Option ClientNo). StepPuts past o e.what placed p.next) (sym by) (subst (λ (w : What). StepPuts past (Some c) w placed p.next) (sym is) p.puts);
@@ -170,7 +170,7 @@ takes_answer past e c number answer placed standing old new by is p = record {
 
 -- that commits
 pub takes_commit : {S : Type 0} (past : List Entry) (e : Entry) (m : CommittedMini) (placed : List Placed) (standing : HashSet OpKey S) (slots : List (Option Act)) (found : Option Act) → Fills slots placed
-    → Commits past m placed standing found → Takes past e (Some (issued_of m)) placed standing slots slots found
+    → Commits past m placed standing found → TakesEntry past e (Some (issued_of m)) placed standing slots slots found
 takes_commit past e m placed standing slots found fills p = record {
   next = placed_last (length past) found p.reply placed;
   puts = p.puts e;

@@ -1,4 +1,5 @@
--- For the test of two threads: passes that are parted, used and put together again, and the lists that they have.
+-- For the test of two threads: passes that are parted, used and put together again, and the lists
+-- that they have.
 use Rattle.std.proofs.Common.{◌≡◌, ◌≢◌, ℕ, zero, suc, ◌<◌, ◌≤◌, false, Option, Some, None, List, [], ◌∷◌, ◌++◌, length, map, reverse, refl, sym, ap, ◌∙◌, subst, ⊎_elim, arith, ne_eqb}
 use Rattle.std.specs.List.{AllByRecursion}
 use Rattle.std.proofs.lemmas.Bool.{cases_eq, eqb-false}

@@ -19,7 +19,7 @@ use Rattle.mn_world.proofs.Meaning.Tell.{one_read, only}
 use Rattle.mn_world.proofs.Reading.Sees.{seen_in-cons}
 use Rattle.mn_hist.proofs.Places.{catalog_read, no_catalog_read}
 use Rattle.mn_hist.specs.History.{Note, CallerState, with_seen, state_after, state_of, IsLastNote, IsFirstNote, IsNotedPlace}
-use Rattle.mn_hist.specs.Shown.{is_of_catalog, HasCatalog, IsShown, IsUnshown}
+use Rattle.mn_hist.specs.Shown.{is_of_catalog, HasCatalog, IsShownBy, IsUnshown}
 
 -- The operation under way
 
@@ -102,11 +102,11 @@ last_quiet c op reply past e place by none rest (inr (x, is)) l =
     here = record { place = length past; seen = x; catalog = (state_of c past).catalog }
 
     first : (newer older : List Note) (note : Note) → here ∷ (state_of c past).notes ≡ newer ++ note ∷ older → place ≡ note.place
-        → IsShown note.catalog note.seen op reply → AllByRecursion (λ (n : Note). IsUnshown n.seen op reply) newer
+        → IsShownBy note.catalog note.seen op reply → AllByRecursion (λ (n : Note). IsUnshown n.seen op reply) newer
         → LastShown c op reply (e ∷ past) place
     first [] older note split is_place shown unseen =
         let same : note ≡ here = cc in
-        let shows : IsShown (state_of c past).catalog x op reply = subst (λ (n : Note). IsShown n.catalog n.seen op reply) same shown in
+        let shows : IsShownBy (state_of c past).catalog x op reply = subst (λ (n : Note). IsShownBy n.catalog n.seen op reply) same shown in
         inl ((by, (x, subst (λ (y : List Seen). Contains y x) (sym is) (0, omega arith, refl), shows (client_entries c past) (catalog_has c past))), is_place ∙ ap (λ (n : Note). n.place) same)
     first (y ∷ newer) older note split is_place shown unseen =
         let same : y ≡ here = cc in

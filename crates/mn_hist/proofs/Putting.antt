@@ -14,7 +14,7 @@ use Rattle.mn_world.specs.declared.entry.Entry.{Entry}
 use Rattle.mn_world.specs.Calls.{Begun, client_entries, under_way}
 use Rattle.mn_world.specs.History.{Placed, placed_in, has_past, AnswerPuts}
 use Rattle.mn_hist.specs.declared.history.OpKey.{OpKey}
-use Rattle.mn_hist.specs.History.{Act, act_at, acts_from, state_of, IsNotedPlace, IsPutInto, Stands, Fills, Puts, stands}
+use Rattle.mn_hist.specs.History.{Act, act_at, acts_from, state_of, IsNotedPlace, IsPutInto, StandsInSet, Fills, Puts, stands}
 use Rattle.mn_hist.proofs.Noted.{begun_is, noted_place}
 use Rattle.mn_hist.proofs.Planning.{or_swap}
 
@@ -82,7 +82,7 @@ past_more c n p (q ∷ qs) = by (nat_lt p.place q.place) (past_more c n p qs)
 -- An answer
 
 -- that puts nothing there
-pub puts_none : {S : Type 0} (past : List Entry) (c : ClientNo) (answer : Answer) (placed : List Placed) (standing : HashSet OpKey S) (slots : List (Option Act)) → AnswerPuts past c (under_way (client_entries c past)) answer placed placed → Stands standing placed → Fills slots placed → Puts past c answer placed standing slots slots
+pub puts_none : {S : Type 0} (past : List Entry) (c : ClientNo) (answer : Answer) (placed : List Placed) (standing : HashSet OpKey S) (slots : List (Option Act)) → AnswerPuts past c (under_way (client_entries c past)) answer placed placed → StandsInSet standing placed → Fills slots placed → Puts past c answer placed standing slots slots
 puts_none past c answer placed standing slots puts st fills = record { next = placed; puts = puts; stands = st; fills = fills; long = refl }
 
 not_under_way : (past : List Entry) (c : ClientNo) (answer : Answer) (placed : List Placed) (o : Option Begun) → o ≡ None → AnswerPuts past c o answer placed placed
@@ -100,7 +100,7 @@ stands_already past c begun reply placed is has = subst (λ o. AnswerPuts past c
 
 pub puts_read : {S : Type 0} (past : List Entry) (c : ClientNo) (begun : Begun) (reply : Reply) (placed : List Placed) (old standing : HashSet OpKey S) (slots new : List (Option Act)) (place : ℕ)
     → (state_of c past).begun ≡ Some begun → has_past c begun.number placed ≡ false → IsNotedPlace (state_of c past).notes begun.op reply place
-    → Stands old placed → Fills slots placed → IsPutInto slots place (record { client = c; number = begun.number; op = begun.op }) new → length new ≡ length slots
+    → StandsInSet old placed → Fills slots placed → IsPutInto slots place (record { client = c; number = begun.number; op = begun.op }) new → length new ≡ length slots
     → ((d : ClientNo) (n : ℕ) → stands standing d n ≡ ((client_same c d && nat_eq begun.number n) || stands old d n))
     → Puts past c (Replied reply) placed standing slots new
 puts_read past c begun reply placed old standing slots new place is none at st fills put long more =

@@ -4,7 +4,7 @@ use Rattle.mn_world.specs.declared.entry.Entry.{Entry}
 use Rattle.mn_world.specs.Commits.{committed_by}
 use Rattle.mn_world.specs.History.{Placed}
 use Rattle.mn_hist.specs.declared.history.HistoryReader.{HistoryReader}
-use Rattle.mn_hist.specs.History.{Act, AreCallers, Fills, Knows, Stands, Takes}
+use Rattle.mn_hist.specs.History.{Act, AreCallers, Fills, Knows, StandsInSet, TakesEntry}
 use Rattle.mn_hist.specs.Told.{IsReading, HasTold}
 
 length_last : {X : Type 0} (xs : List X) (x : X) → length (xs ++ x ∷ []) ≡ suc (length xs)
@@ -13,7 +13,7 @@ length_last (y ∷ xs) x = ap suc (length_last xs x)
 
 pub told_more : (old new : HistoryReader) (past : List Entry) (placed : List Placed) (e : Entry) (mid : List (Option Act)) (found : Option Act) → HasTold old past placed
     → IsReading new (e ∷ past) → AreCallers new.callers.items (e ∷ past) → Knows new.plans (e ∷ past)
-    → Takes past e (committed_by past e) placed new.standing old.slots.items mid found → new.slots.items ≡ mid ++ found ∷ []
+    → TakesEntry past e (committed_by past e) placed new.standing old.slots.items mid found → new.slots.items ≡ mid ++ found ∷ []
     → (next : List Placed) × HasTold new (e ∷ past) next
 told_more old new past placed e mid found told reading callers plans t push = (
   t.next,

@@ -1,5 +1,5 @@
--- What is kept of the entries so far to tell the history. Lists of entries and of reads stand newest
--- first.
+-- What is kept of the entries so far to tell the history. Lists of entries and of reads stand
+-- newest first.
 use Rattle.std.specs.Prelude.{ℕ, ◌≡◌, ◌+◌, ◌<◌, Bool, true, false, ◌&&◌, nat_lt, nat_eq, ⊤}
 use Rattle.std.specs.Prelude.{List, [], ◌∷◌, ◌++◌, length, map, Option, Some, None}
 use Rattle.std.specs.Prelude.{if◌then◌else◌, slice_get}
@@ -30,7 +30,7 @@ use Rattle.mn_world.specs.Shown.{Seen, seen_at, IsCatalogRead}
 use Rattle.mn_world.specs.Standing.{id_key, keys_same}
 use Rattle.mn_world.specs.declared.flat.IdKey.{IdKey}
 use Rattle.mn_hist.specs.declared.history.OpKey.{OpKey}
-use Rattle.mn_hist.specs.Shown.{is_of_catalog, IsShown, IsUnshown}
+use Rattle.mn_hist.specs.Shown.{is_of_catalog, IsShownBy, IsUnshown}
 
 -- Reads of a client
 
@@ -86,7 +86,7 @@ pub record IsLastNote (notes : List Note) (op : Op) (reply : Reply) (place : ℕ
   pub older : List Note
   pub split : notes ≡ newer ++ note ∷ older
   pub is_place : place ≡ note.place
-  pub shown : IsShown note.catalog note.seen op reply
+  pub shown : IsShownBy note.catalog note.seen op reply
   pub none : AllByRecursion (λ n. IsUnshown n.seen op reply) newer
 
 -- the place is that of the first read of the catalog
@@ -173,8 +173,8 @@ IsPutInto old place act new =
     (slice_get old place ≡ Some None) × (new ≡ slice_set old place (Some act))
 
 -- these operations stand in the history
-abbrev pub Stands : {S : Type 0} → HashSet OpKey S → List Placed → Type 0
-Stands standing placed = (c : ClientNo) (number : ℕ) → stands standing c number ≡ has_past c number placed
+abbrev pub StandsInSet : {S : Type 0} → HashSet OpKey S → List Placed → Type 0
+StandsInSet standing placed = (c : ClientNo) (number : ℕ) → stands standing c number ≡ has_past c number placed
 
 -- the slots hold them
 abbrev pub Fills : List (Option Act) → List Placed → Type 0
@@ -184,7 +184,7 @@ Fills slots placed = acts_from 0 slots ≡ map act_at placed
 pub record Puts {S : Type 0} (past : List Entry) (c : ClientNo) (answer : Answer) (placed : List Placed) (standing : HashSet OpKey S) (old new : List (Option Act)) : Type 0 where
   pub next : List Placed
   pub puts : AnswerPuts past c (under_way (client_entries c past)) answer placed next
-  pub stands : Stands standing next
+  pub stands : StandsInSet standing next
   pub fills : Fills new next
   pub long : length new ≡ length old
 
@@ -207,7 +207,7 @@ pub record Commits {S : Type 0} (past : List Entry) (m : CommittedMini) (placed 
     (standing : HashSet OpKey S) (found : Option Act) : Type 0 where
   pub reply : Reply
   pub puts : (e : Entry) → EntryPuts past e (Some (issued_of m)) placed (placed_last (length past) found reply placed)
-  pub stands : Stands standing (placed_last (length past) found reply placed)
+  pub stands : StandsInSet standing (placed_last (length past) found reply placed)
 
 -- of each client it is told what the entries so far tell of it
 abbrev pub AreCallers : List CallerState → List Entry → Type 0
@@ -216,12 +216,12 @@ AreCallers callers past = (c : ClientNo) → c.0 < 256 → slice_get callers c.0
 -- The history so far
 
 -- what an entry that commits this puts into the history stands there, with its own place last
-pub record Takes {S : Type 0} (past : List Entry) (e : Entry) (committed : Option Issued)
+pub record TakesEntry {S : Type 0} (past : List Entry) (e : Entry) (committed : Option Issued)
     (placed : List Placed) (standing : HashSet OpKey S) (old new : List (Option Act))
     (found : Option Act) : Type 0 where
   pub next : List Placed
   pub puts : EntryPuts past e committed placed next
-  pub stands : Stands standing next
+  pub stands : StandsInSet standing next
   pub fills : length old ≡ length past → Fills (new ++ found ∷ []) next
   pub long : length new ≡ length old
 

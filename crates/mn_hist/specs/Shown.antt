@@ -44,17 +44,17 @@ HasCatalog es (Some bytes) =
     (seen : Seen) × Contains (seen_in es) seen × IsCatalogRead seen × (seen.bytes ≡ bytes)
 
 -- the read shows the reply to the operation, where this catalog was read before it
-abbrev pub IsShown : Option (List ℕ) → Seen → Op → Reply → Type 0
-IsShown catalog seen op reply = (es : List Entry) → HasCatalog es catalog → ReadShows es seen op reply
+abbrev pub IsShownBy : Option (List ℕ) → Seen → Op → Reply → Type 0
+IsShownBy catalog seen op reply = (es : List Entry) → HasCatalog es catalog → ReadShows es seen op reply
 
 -- it doesn't, whatever was read before it
 abbrev pub IsUnshown : Seen → Op → Reply → Type 0
 IsUnshown seen op reply = (es : List Entry) → ReadShows es seen op reply → ⊥
 
 -- whether it does
-abbrev pub Tells : Bool → Option (List ℕ) → Seen → Op → Reply → Type 0
-Tells true catalog seen op reply = IsShown catalog seen op reply
-Tells false catalog seen op reply = IsUnshown seen op reply
+abbrev pub TellsShown : Bool → Option (List ℕ) → Seen → Op → Reply → Type 0
+TellsShown true catalog seen op reply = IsShownBy catalog seen op reply
+TellsShown false catalog seen op reply = IsUnshown seen op reply
 
 -- Catalogs
 

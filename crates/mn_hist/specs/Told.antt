@@ -4,7 +4,7 @@ use Rattle.mn_world.specs.declared.entry.Entry.{Entry}
 use Rattle.mn_world.specs.CommitReader.{HasRead}
 use Rattle.mn_world.specs.History.{Placed, IsHistory}
 use Rattle.mn_hist.specs.declared.history.HistoryReader.{HistoryReader}
-use Rattle.mn_hist.specs.History.{AreCallers, Knows, Stands, Fills}
+use Rattle.mn_hist.specs.History.{AreCallers, Knows, StandsInSet, Fills}
 
 -- these entries are what the reader has read
 pub record IsReading (reader : HistoryReader) (past : List Entry) : Type 0 where
@@ -16,7 +16,7 @@ pub record HasTold (reader : HistoryReader) (past : List Entry) (placed : List P
   pub reading : IsReading reader past
   pub callers : AreCallers reader.callers.items past
   pub plans : Knows reader.plans past
-  pub stands : Stands reader.standing placed
+  pub stands : StandsInSet reader.standing placed
   pub fills : Fills reader.slots.items placed
   pub places : length reader.slots.items ≡ length past
   pub history : IsHistory past placed

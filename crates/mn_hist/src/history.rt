@@ -10,12 +10,12 @@ ghost use Rattle.mn_world.specs.Shown.{seen_at};
 ghost use Rattle.mn_hist.specs.History.{CallerState, idle, with_seen, state_after};
 ghost use Rattle.mn_world.specs.History.{Placed};
 ghost use Rattle.mn_world.specs.declared.entry.Entry.{Entry as Step};
-ghost use Rattle.mn_hist.specs.History.{IsLastNote, IsFirstNote, IsNotedPlace, Stands, Fills, Puts};
+ghost use Rattle.mn_hist.specs.History.{IsLastNote, IsFirstNote, IsNotedPlace, StandsInSet, Fills, Puts};
 ghost use Rattle.mn_hist.specs.History.{Knows, Named, Commits, AreCallers};
 ghost use Rattle.mn_world.specs.Protocol.{Start};
 ghost use Rattle.mn_world.specs.Run.{IsRun};
 ghost use Rattle.mn_hist.specs.History.{planner_kept, planner_for, op_key, stands, IsPutInto};
-ghost use Rattle.mn_hist.specs.History.{Takes, done_by, done_from, acts_in};
+ghost use Rattle.mn_hist.specs.History.{TakesEntry, done_by, done_from, acts_in};
 ghost use Rattle.mn_hist.specs.Told.{IsReading, HasTold};
 ghost use Rattle.mn_base.specs.Store.{applied};
 ghost use Rattle.mn_world.specs.CommitReader.{issued_of};
@@ -333,7 +333,7 @@ fn take_answer<'a>(
     answer: &Answer,
 ) -> Result<(), NoMemory>
     requires { length callers.now ≡ 256 }
-    ensures { OnOk result ((past : List Step) (placed : List Placed) → AreCallers callers.now past → Stands standing.old placed → Fills slots.old.items placed → Puts past client answer.now placed standing.new slots.old.items slots.new.items) }
+    ensures { OnOk result ((past : List Step) (placed : List Placed) → AreCallers callers.now past → StandsInSet standing.old placed → Fills slots.old.items placed → Puts past client answer.now placed standing.new slots.old.items slots.new.items) }
 {
     let Answer::Replied { reply } = answer else {
         return Ok(());
@@ -362,7 +362,7 @@ fn take_commit<'a>(
     standing: &mut HashSet<OpKey>,
     committed: CommittedMini<'a>,
 ) -> Result<Option<Act<'a>>, NoMemory>
-    ensures { IfOk result (λ found. (start : Start) (past : List Step) (placed : List Placed) → IsRun start past → Knows plans.now past → Named past committed.entry → Stands standing.old placed → Commits past committed.entry placed standing.new found) }
+    ensures { IfOk result (λ found. (start : Start) (past : List Step) (placed : List Placed) → IsRun start past → Knows plans.now past → Named past committed.entry → StandsInSet standing.old placed → Commits past committed.entry placed standing.new found) }
 {
     if is_read(committed.mini) {
         return Ok(None);
@@ -445,7 +445,7 @@ fn take_step<'a>(
     entry: &Entry,
 ) -> Result<(), NoMemory>
     requires { length callers.now ≡ 256 }
-    ensures { OnOk result ((past : List Step) (placed : List Placed) → AreCallers callers.now past → Stands standing.old placed → Fills slots.old.items placed → Takes past entry.now None placed standing.new slots.old.items slots.new.items None) }
+    ensures { OnOk result ((past : List Step) (placed : List Placed) → AreCallers callers.now past → StandsInSet standing.old placed → Fills slots.old.items placed → TakesEntry past entry.now None placed standing.new slots.old.items slots.new.items None) }
 {
     let (Some(client), What::Answered { answer, .. }) = (entry.client, &entry.what) else {
         return Ok(());
@@ -466,7 +466,7 @@ fn take_entry<'a>(
     committed: Option<CommittedMini<'a>>,
 ) -> Result<Option<Act<'a>>, NoMemory>
     requires { length callers.now ≡ 256 }
-    ensures { IfOk result (λ found. (start : Start) (past : List Step) (placed : List Placed) → IsRun start past → AreCallers callers.now past → Knows plans.now past → option_map issued_of committed.entry ≡ committed_by past entry.now → Stands standing.old placed → Fills slots.old.items placed → Takes past entry.now (committed_by past entry.now) placed standing.new slots.old.items slots.new.items found) }
+    ensures { IfOk result (λ found. (start : Start) (past : List Step) (placed : List Placed) → IsRun start past → AreCallers callers.now past → Knows plans.now past → option_map issued_of committed.entry ≡ committed_by past entry.now → StandsInSet standing.old placed → Fills slots.old.items placed → TakesEntry past entry.now (committed_by past entry.now) placed standing.new slots.old.items slots.new.items found) }
 {
     match committed {
         Some(committed) => take_commit(plans, standing, committed),

@@ -10,8 +10,3 @@ pub use history::history_of;
 pub use lists::{ClientLists, Lists, NodeLists};
 pub use merging::merge;
 pub use shown::{Read, shows};
-
-#[cfg(test)]
-mod history_tests;
-#[cfg(test)]
-mod tests;

@@ -40,7 +40,8 @@ impl NodeLists {
     }
 }
 
-/// The list of each client and recovery coordinator, from number 0 on. Contracts see them as a list.
+/// The list of each client and recovery coordinator, from number 0 on. Contracts see them as a
+/// list.
 #[derive(Debug, Drop)]
 pub struct ClientLists {
     lists: Vec<ClientList>,

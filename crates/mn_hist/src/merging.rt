@@ -67,7 +67,8 @@ fn filled(alloc: Global, slots: Vec<Option<Entry>>) -> Result<Vec<(u64, Entry)>,
     Ok(log)
 }
 
-/// The whole log of a run, from the lists of all its actors: each place once, in order. It takes time linear in the entries.
+/// The whole log of a run, from the lists of all its actors: each place once, in order. It takes
+/// time linear in the entries.
 pub fn merge(alloc: Global, lists: Lists) -> Result<Log, NoMemory>
     requires { (clock : ℕ) × AreOneLog lists.nodes lists.clients clock }
     ensures { (clock : ℕ) (one : AreOneLog lists.nodes lists.clients clock) → IfOk result (λ log. log ≡ placed_from 0 one.log) }

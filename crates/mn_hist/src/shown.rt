@@ -12,7 +12,7 @@ ghost use Rattle.mn_page.specs.declared.entry.CatEntry.{CatEntry as Head};
 ghost use Rattle.mn_page.specs.declared.page.Page.{Page as Leaf};
 ghost use Rattle.mn_world.specs.Places.{page_place};
 ghost use Rattle.mn_world.specs.Shown.{seen_by, seen_at, CatalogReplies};
-ghost use Rattle.mn_hist.specs.Shown.{seen_of, Decides, is_of_catalog, Tells, CatalogTells};
+ghost use Rattle.mn_hist.specs.Shown.{seen_of, Decides, is_of_catalog, TellsShown, CatalogTells};
 ghost use Rattle.mn_hist.specs.Shown.{LeafTells, lone_key, leaf_value, IsServedBy};
 
 use mn_base::{Key, Name, NoMemory, NodeNo, Op, Reply, Step, Steps, Value, Version};
@@ -334,8 +334,8 @@ fn leaf_shows(
 
 /// Whether the read shows the reply to the operation: a leaf what a lone Get finds, the catalog a
 /// refusal or the list of versions. `catalog` is what its client had read last before it. NoMemory:
-/// there was no memory to tell; or the read shows the reply by its bytes, but not by that catalog, or
-/// a catalog shows another list.
+/// there was no memory to tell; or the read shows the reply by its bytes, but not by that catalog,
+/// or a catalog shows another list.
 pub fn shows(
     alloc: Global,
     read: &Read<'_>,
@@ -343,7 +343,7 @@ pub fn shows(
     op: &Op,
     reply: &Reply,
 ) -> Result<bool, NoMemory>
-    ensures { IfOk result (λ b. Tells b (option_map (λ c. c.now) catalog.entry) (seen_of read.now) op.now reply.now) }
+    ensures { IfOk result (λ b. TellsShown b (option_map (λ c. c.now) catalog.entry) (seen_of read.now) op.now reply.now) }
 {
     if read.is_catalog() {
         return catalog_shows(alloc, read.bytes, op, reply);

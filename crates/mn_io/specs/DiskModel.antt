@@ -1,8 +1,9 @@
 -- What the calls of a disk do to its bytes, and what a crash may do between two syncs.
 use Rattle.std.specs.Prelude.{◌≡◌, ◌⊎◌, ℕ, ◌+◌, ◌≤◌, min, max, List, ◌++◌, length, take, drop}
 
--- What a disk means at a moment. Between two syncs a written range may hold any bytes, the length lies between the least and the greatest,
--- and other bytes stay; after a sync that succeeded a crash leaves what a read gives.
+-- What a disk means at a moment. Between two syncs a written range may hold any bytes, the length
+-- lies between the least and the greatest, and other bytes stay; after a sync that succeeded a
+-- crash leaves what a read gives.
 pub record DiskState : Type 1 where
   -- it is as this model says; of one that isn't, nothing is promised but its faults and its room
   pub honest : Type 0
@@ -16,10 +17,11 @@ pub record DiskState : Type 1 where
   pub since : ℕ → List ℕ → Type 0
 
 -- the bytes with a piece written over them at a place
-abbrev pub overwritten : List ℕ → ℕ → List ℕ → List ℕ
-overwritten old at piece = take at old ++ (piece ++ drop (at + length piece) old)
+abbrev pub written_at : List ℕ → ℕ → List ℕ → List ℕ
+written_at old at piece = take at old ++ (piece ++ drop (at + length piece) old)
 
--- after a write of n bytes that a crash cuts short: any bytes in the range and past the old end, the same elsewhere
+-- after a write of n bytes that a crash cuts short: any bytes in the range and past the old end,
+-- the same elsewhere
 pub record Torn (at n : ℕ) (old new : List ℕ) : Type 0 where
   pub before : take at new ≡ take at old
   pub after : drop (at + n) new ≡ drop (at + n) old
@@ -32,8 +34,8 @@ pub record Cut (n : ℕ) (old new : List ℕ) : Type 0 where
   pub front : take (length new) old ≡ new
 
 -- each image now is an image before, after a step
-abbrev pub Follows : (List ℕ → List ℕ → Type 0) → DiskState → DiskState → Type 0
-Follows step old new = (c : List ℕ) → new.images c → (d : List ℕ) × old.images d × step d c
+abbrev pub ImagesFollow : (List ℕ → List ℕ → Type 0) → DiskState → DiskState → Type 0
+ImagesFollow step old new = (c : List ℕ) → new.images c → (d : List ℕ) × old.images d × step d c
 
 -- no image is new
 abbrev pub NoneNew : DiskState → DiskState → Type 0
@@ -43,7 +45,8 @@ NoneNew old new = (c : List ℕ) → new.images c → old.images c
 abbrev pub IsStable : DiskState → Type 0
 IsStable disk = (c : List ℕ) → disk.images c → c ≡ disk.content
 
--- time goes on, and the disk stays honest: since t, a crash might have left what it might have left before, or what it may leave now
+-- time goes on, and the disk stays honest: since t, a crash might have left what it might have left
+-- before, or what it may leave now
 pub record Elapses (old new : DiskState) : Type 0 where
   pub honest : new.honest
   pub later : old.moment ≤ new.moment
@@ -51,7 +54,7 @@ pub record Elapses (old new : DiskState) : Type 0 where
   pub keeps : (t : ℕ) (c : List ℕ) → t ≤ old.moment → old.since t c → new.since t c
 
 -- a call that changes nothing
-pub record Stays (old new : DiskState) : Type 0 where
+pub record DiskStays (old new : DiskState) : Type 0 where
   pub time : Elapses old new
   pub content : new.content ≡ old.content
   pub images : NoneNew old new

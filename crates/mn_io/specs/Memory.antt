@@ -10,7 +10,8 @@ pub record SourceState : Type 0 where
   pub fails : List ℕ
   pub faults : ℕ
 
--- a sink: the bytes written, how many more it takes, how many calls there were, which calls fail, how many did
+-- a sink: the bytes written, how many more it takes, how many calls there were, which calls fail,
+-- how many did
 pub record SinkState : Type 0 where
   pub bytes : List ℕ
   pub room : ℕ

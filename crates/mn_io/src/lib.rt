@@ -1,5 +1,5 @@
-//! What a store reads from, writes to and keeps its bytes on: sources, sinks and disks, the counts of their faults, and a source and a
-//! sink in memory.
+//! What a store reads from, writes to and keeps its bytes on: sources, sinks and disks, the counts
+//! of their faults, and a source and a sink in memory.
 #![tactic(auto)]
 
 mod bytes;

@@ -4,8 +4,8 @@ use crate::{Calls, Failed, NoMemory, Sink};
 use std::alloc::Global;
 use std::marker::Model;
 
-/// A sink in memory, of a room that is taken when it is made. A call of it fails exactly where its number is in a list, or where its room is
-/// used up and there is something to write.
+/// A sink in memory, of a room that is taken when it is made. A call of it fails exactly where its
+/// number is in a list, or where its room is used up and there is something to write.
 #[derive(Debug, Drop)]
 pub struct MemorySink {
     bytes: Vec<u8>,
@@ -29,7 +29,8 @@ impl Model for MemorySink {
 impl MemorySink {
     ghost use Rattle.mn_io.specs.Memory.{is_due};
 
-    /// An empty sink that takes `room` bytes. The calls in `fails` will fail. `NoMemory` where there is no room.
+    /// An empty sink that takes `room` bytes. The calls in `fails` will fail. `NoMemory` where
+    /// there is no room.
     pub fn new(alloc: Global, room: usize, fails: Calls) -> Result<Self, NoMemory>
         ensures { IfOk result (λ sink. sink ≡ record { bytes = []; room = room; calls = 0; fails = fails; faults = 0 }) }
     {
@@ -74,7 +75,8 @@ impl Sink for MemorySink {
         ensures bytes { WriteAppends (Some self.old.bytes) (Some self.new.bytes) result piece.now }
         ensures cause { HasCause self.old.faults self.new.faults result }
 
-        // It fails, and counts a fault, exactly at the calls of its list and where its room is used up; else it takes as much as fits.
+        // It fails, and counts a fault, exactly at the calls of its list and where its room is used
+        // up; else it takes as much as fits.
         ensures exact { IsErr result ↔ IsTrue (is_due self.old piece.now) }
         ensures full { IfOk result (λ n. n ≡ min (length piece.now) self.old.room) }
         ensures room { IfOk result (λ n. self.new.room + n ≡ self.old.room) }

@@ -55,7 +55,8 @@ impl Source for MemorySource {
         ensures bytes { ReadConsumes (Some self.old.rest) (Some self.new.rest) result into.new }
         ensures cause { HasCause self.old.faults self.new.faults result }
 
-        // It fails, and counts a fault, exactly at the calls of its list; else it gives as much as fits.
+        // It fails, and counts a fault, exactly at the calls of its list; else it gives as much as
+        // fits.
         ensures exact { IsErr result ↔ IsTrue (is_one_of self.old.calls self.old.fails) }
         ensures full { IfOk result (λ n. n ≡ min (length self.old.rest) (length into.old)) }
         ensures faults { self.new.faults ≡ counted (is_one_of self.old.calls self.old.fails) self.old.faults }

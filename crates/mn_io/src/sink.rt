@@ -13,8 +13,8 @@ pub trait Sink {
     /// How often it failed.
     ghost faults: { Self → ℕ };
 
-    /// Takes the first bytes of a piece, and says how many: at least one of a piece that isn't empty. `Failed` comes only where the count of
-    /// faults rose; no byte is taken then.
+    /// Takes the first bytes of a piece, and says how many: at least one of a piece that isn't
+    /// empty. `Failed` comes only where the count of faults rose; no byte is taken then.
     fn write(&mut self, piece: &[u8]) -> Result<usize, Failed>
         ensures bound { WritesAtMost result piece.now }
         ensures some { 0 < length piece.now → IfOk result (λ n. 0 < n) }
@@ -22,7 +22,8 @@ pub trait Sink {
         ensures cause { HasCause (faults self.old) (faults self.new) result };
 }
 
-/// Writes all of the bytes. `Fault` comes only where the sink's count of faults rose; a prefix of the bytes stands then.
+/// Writes all of the bytes. `Fault` comes only where the sink's count of faults rose; a prefix of
+/// the bytes stands then.
 pub fn write_all<W: Sink>(sink: &mut W, bytes: &[u8]) -> Result<(), Fault>
     ensures all { OnOk result (Appends (W.contents sink.old) (W.contents sink.new) bytes.now) }
     ensures prefix { OnErr result ((n : ℕ) × Appends (W.contents sink.old) (W.contents sink.new) (take n bytes.now)) }

@@ -14,18 +14,20 @@ pub trait Source {
     /// How often it failed.
     ghost faults: { Self → ℕ };
 
-    /// Puts the next bytes at the front of `into`, and says how many they are. 0 for a buffer that isn't empty is the end. `Failed` comes
-    /// only where the count of faults rose; no byte is lost by it.
+    /// Puts the next bytes at the front of `into`, and says how many they are. 0 for a buffer that
+    /// isn't empty is the end. `Failed` comes only where the count of faults rose; no byte is lost
+    /// by it.
     fn read(&mut self, into: &mut [u8]) -> Result<usize, Failed>
         ensures bound { ReadsAtMost result into.new }
         ensures bytes { ReadConsumes (remaining self.old) (remaining self.new) result into.new }
         ensures cause { HasCause (faults self.old) (faults self.new) result };
 }
 
-/// All bytes that are left, if they are at most `limit`. The memory that it takes grows with what comes.
+/// All bytes that are left, if they are at most `limit`. The memory that it takes grows with what
+/// comes.
 ///
-/// `Fault` comes only where the source's count of faults rose, `TooLong` where more than `limit` bytes came. After an error some of the
-/// bytes are gone from the front.
+/// `Fault` comes only where the source's count of faults rose, `TooLong` where more than `limit`
+/// bytes came. After an error some of the bytes are gone from the front.
 pub fn read_all<R: Source>(alloc: Global, source: &mut R, limit: usize) -> Result<Bytes, ReadError>
     // Where the source tells what is left, that is the answer, and nothing is left.
     ensures all { IfOk result (λ bytes. IfSome (R.remaining source.old) (λ rest. bytes ≡ rest)) }

@@ -5,7 +5,8 @@ use crate::{
 use std::alloc::Global;
 use std::test::Fail;
 
-/// What `read_all` answers on a source of these bytes with these failing calls: how many bytes came.
+/// What `read_all` answers on a source of these bytes with these failing calls: how many bytes
+/// came.
 fn count_read(
     alloc: Global,
     bytes: &[u8],

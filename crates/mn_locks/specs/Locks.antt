@@ -12,7 +12,8 @@ pub record TableState : Type 0 where
   pub holds : List Hold
   pub spare : ℕ
 
--- a range, asked for alone or shared, meets one that another id holds, and one of the two is to be alone
+-- a range, asked for alone or shared, meets one that another id holds, and one of the two is to be
+-- alone
 abbrev pub conflicts : Tid → Bool → Range → Hold → Bool
 conflicts tid alone range hold = not (tid_same hold.tid tid) && (ranges_meet range hold.range && (alone || hold.alone))
 
@@ -26,7 +27,8 @@ abbrev pub held_or : Range → Option Tid → Option Held → Option Held
 held_or range None rest = rest
 held_or range (Some t) rest = Some (record { range = range; holder = t })
 
--- the first of these ranges that conflicts, with the least id that holds it; else what the rest gives
+-- the first of these ranges that conflicts, with the least id that holds it; else what the rest
+-- gives
 abbrev pub first_held : List Hold → Tid → Bool → List Range → Option Held → Option Held
 first_held holds tid alone [] rest = rest
 first_held holds tid alone (range ∷ ranges) rest = held_or range (least_tid (holders tid alone range holds)) (first_held holds tid alone ranges rest)

@@ -11,8 +11,8 @@ use std::marker::Model;
 /// Room that a new table has at once.
 const FIRST_ROOM: usize = 64;
 
-/// The ranges that are held. Contracts see them as a list, in the order in which they were taken, beside the number of further
-/// ranges for which there is room.
+/// The ranges that are held. Contracts see them as a list, in the order in which they were taken,
+/// beside the number of further ranges for which there is room.
 #[derive(Debug, Drop)]
 pub struct LockTable {
     holds: Vec<Hold>,
@@ -148,9 +148,10 @@ impl LockTable {
         &self.holds
     }
 
-    /// Takes ranges for an id, `reads` to be shared and `writes` alone, besides those that it holds already. Held exactly where one
-    /// of them meets a range that another id holds and one of the two is to be alone; it names the first such range, reads
-    /// before writes, and the least id that holds it, and then nothing has changed. It takes no memory.
+    /// Takes ranges for an id, `reads` to be shared and `writes` alone, besides those that it holds
+    /// already. Held exactly where one of them meets a range that another id holds and one of the
+    /// two is to be alone; it names the first such range, reads before writes, and the least id
+    /// that holds it, and then nothing has changed. It takes no memory.
     pub fn try_lock(&mut self, tid: Tid, reads: &[Range], writes: &[Range]) -> Result<(), Held>
         requires { length reads.now + length writes.now ≤ self.old.spare }
         ensures verdict { MatchResult result (λ _. held_of self.old.holds tid reads.now writes.now ≡ None) (λ held. held_of self.old.holds tid reads.now writes.now ≡ Some held) }

@@ -4,7 +4,7 @@ use Rattle.std.proofs.lemmas.List.{reverse-append, drop_at, take_all}
 use Rattle.mn_io.specs.DiskModel.{Elapses}
 use Rattle.mn_memdisk.specs.Laws.{content_image}
 use Rattle.mn_memdisk.specs.Events.{piece_of, event_of, events_of, HasBytes, HaveBytes, IsWhole}
-use Rattle.mn_memdisk.specs.History.{Event, after, content_of, Shows, IsImage, IsWithin, IsSound, disk_after}
+use Rattle.mn_memdisk.specs.History.{Event, after, content_of, EventShows, IsImage, IsWithin, IsSound, disk_after}
 use Rattle.mn_memdisk.specs.declared.changes.Change.{Change}
 use Rattle.mn_memdisk.specs.declared.changes.Change.TheVariants.{Wrote, LostWrite, Shortened, LostCut, Synced}
 
@@ -92,7 +92,7 @@ module _ (first first2 : List ℕ) (old new : List Event) (x : Event) (first_is 
       let P : List ℕ → List Event → Type 0 = λ f l. (IsSound f l × (content2 ≡ content_of f l)) → Elapses (disk_after first old content) (disk_after f l content2) in
       subst (λ (f : List ℕ). P f new) (sym first_is) (subst (λ (l : List Event). P first l) (sym new_is) (elapses_step first old x content content2)) honest
 
-  pub image_more : (c : List ℕ) → IsImage first2 new c → (d : List ℕ) × IsImage first old d × Shows x (content_of first old) d c
+  pub image_more : (c : List ℕ) → IsImage first2 new c → (d : List ℕ) × IsImage first old d × EventShows x (content_of first old) d c
   image_more c image = subst (λ (l : List Event). IsImage first l c) new_is (subst (λ (l : List ℕ). IsImage l new c) first_is image)
 
 piece_done : (p q : List ℕ) (from count : ℕ) → from ≡ length p → count ≡ length q → piece_of (p ++ q) from count ≡ q
@@ -123,10 +123,10 @@ module _ (b : Bool) (f k k2 p q p2 : List ℕ) (changes changes2 : List Change) 
   pub elapses_push : IsWhole b f k2 p2 changes2 → Elapses (disk_after (if b then f else k) (events_of p changes) k) (disk_after (if b then f else k2) (events_of p2 changes2) k2)
   elapses_push now = elapses_more (if b then f else k) (if b then f else k2) (events_of p changes) (events_of p2 changes2) (event_of p2 x) first_is newest k k2 (now.sound, now.shown)
 
-  pub image_push : (c : List ℕ) → IsImage (if b then f else k2) (events_of p2 changes2) c → (d : List ℕ) × IsImage (if b then f else k) (events_of p changes) d × Shows (event_of p2 x) k d c
+  pub image_push : (c : List ℕ) → IsImage (if b then f else k2) (events_of p2 changes2) c → (d : List ℕ) × IsImage (if b then f else k) (events_of p changes) d × EventShows (event_of p2 x) k d c
   image_push c image =
       let left = image_more (if b then f else k) (if b then f else k2) (events_of p changes) (events_of p2 changes2) (event_of p2 x) first_is newest c image in
-      (left.0, left.1, subst (λ (l : List ℕ). Shows (event_of p2 x) l left.0 c) (sym whole.shown) left.2)
+      (left.0, left.1, subst (λ (l : List ℕ). EventShows (event_of p2 x) l left.0 c) (sym whole.shown) left.2)
 
 -- a sync shows no new image
 pub image_synced : (first : List ℕ) (events : List Event) (content : List ℕ) → IsSound first events → content ≡ content_of first events → (c : List ℕ) → c ≡ content → IsImage first events c

@@ -2,7 +2,7 @@
 use Rattle.std.proofs.Common.{◌≡◌, ◌≤◌, ◌/◌, ℕ, zero, suc, ◌+◌, ◌-◌, take-take, Bool, true, false, nat_le, if◌then◌else◌, List, [], ◌∷◌, ◌++◌, length, take, drop, replicate, refl, sym, ◌∙◌, ap, arith, length-append, length-take, length-drop}
 use Rattle.std.proofs.lemmas.Bool.{leb-true}
 use Rattle.std.proofs.lemmas.List.{drop-drop, drop_all, take-append-le, append-nil, length-replicate}
-use Rattle.mn_io.specs.DiskModel.{Torn, Cut, overwritten}
+use Rattle.mn_io.specs.DiskModel.{Torn, Cut, written_at}
 use Rattle.mn_memdisk.specs.Crash.{filled, part, written, shortened, outcome_of, unsynced, crashed}
 use Rattle.mn_memdisk.specs.History.{Event, write, lost_write, shorten, lost_cut, synced, IsImage, IsSound, content_of}
 use Rattle.mn_memdisk.specs.Laws.{torn_same, torn_done, cut_same, cut_part, content_image}
@@ -62,14 +62,14 @@ part_torn Nothing at piece d within = torn_same at (length piece) d
 part_torn Whole at piece d within = torn_done at d piece within
 part_torn Front at piece d within =
     let half = take (length piece / 2) piece in
-    torn_wider at (length half) (length piece) d (overwritten d at half) (omega (arith, length-take (length piece / 2) piece)) (torn_done at d half within)
+    torn_wider at (length half) (length piece) d (written_at d at half) (omega (arith, length-take (length piece / 2) piece)) (torn_done at d half within)
 part_torn Back at piece d within =
     let half = length piece / 2 in
     let rest = drop half piece in
     let full = filled (at + half) d in
-    torn_trans at (length piece) d full (overwritten full (at + half) rest)
+    torn_trans at (length piece) d full (written_at full (at + half) rest)
     (torn_filled at (length piece) (at + half) d within (omega arith))
-    (torn_inside at (length piece) (at + half) (length rest) full (overwritten full (at + half) rest) (omega arith) (omega (arith, length-drop half piece)) (torn_done (at + half) full rest (omega (arith, length-filled (at + half) d))))
+    (torn_inside at (length piece) (at + half) (length rest) full (written_at full (at + half) rest) (omega arith) (omega (arith, length-drop half piece)) (torn_done (at + half) full rest (omega (arith, length-filled (at + half) d))))
 
 written_by : (reaches : Bool) (outcome : Outcome) (at : ℕ) (piece d : List ℕ) → nat_le at (length d) ≡ reaches → Torn at (length piece) d (if reaches then part outcome at piece d else d)
 written_by true outcome at piece d e = part_torn outcome at piece d (leb-true at (length d) e)

@@ -1,6 +1,6 @@
 -- What a choice leaves of the changes that no sync has made stable.
 use Rattle.std.specs.Prelude.{◌≡◌, ℕ, zero, suc, ◌+◌, ◌-◌, ◌*◌, ◌/◌, ◌%◌, ◌^◌, nat_le, if◌then◌else◌, List, [], ◌∷◌, ◌++◌, length, take, drop, replicate}
-use Rattle.mn_io.specs.DiskModel.{overwritten}
+use Rattle.mn_io.specs.DiskModel.{written_at}
 use Rattle.mn_memdisk.specs.History.{Event, write, lost_write, shorten, lost_cut, synced, content_of}
 use Rattle.mn_memdisk.specs.declared.outcome.Outcome.{Outcome}
 use Rattle.mn_memdisk.specs.declared.outcome.Outcome.TheVariants.{Nothing, Whole, Front, Back}
@@ -11,7 +11,8 @@ outcome_by (suc zero) = Whole
 outcome_by (suc (suc zero)) = Front
 outcome_by (suc (suc (suc n))) = Back
 
--- two bits of the choice for each change, the first change's the lowest, and again from there after 32
+-- two bits of the choice for each change, the first change's the lowest, and again from there after
+-- 32
 abbrev pub outcome_of : ℕ → ℕ → Outcome
 outcome_of choice number = outcome_by (choice / 2 ^ (2 * (number % 32)) % 4)
 
@@ -19,12 +20,13 @@ outcome_of choice number = outcome_by (choice / 2 ^ (2 * (number % 32)) % 4)
 abbrev pub filled : ℕ → List ℕ → List ℕ
 filled n image = image ++ replicate (n - length image) 0
 
--- what stands of a write in an image that reaches to its place: nothing, all of it, the first half, or the second
+-- what stands of a write in an image that reaches to its place: nothing, all of it, the first half,
+-- or the second
 abbrev pub part : Outcome → ℕ → List ℕ → List ℕ → List ℕ
 part Nothing at piece image = image
-part Whole at piece image = overwritten image at piece
-part Front at piece image = overwritten image at (take (length piece / 2) piece)
-part Back at piece image = overwritten (filled (at + length piece / 2) image) (at + length piece / 2) (drop (length piece / 2) piece)
+part Whole at piece image = written_at image at piece
+part Front at piece image = written_at image at (take (length piece / 2) piece)
+part Back at piece image = written_at (filled (at + length piece / 2) image) (at + length piece / 2) (drop (length piece / 2) piece)
 
 abbrev pub written : Outcome → ℕ → List ℕ → List ℕ → List ℕ
 written outcome at piece image = (if nat_le at (length image) then part outcome at piece image else image)
@@ -50,7 +52,8 @@ unsynced [] = 0
 unsynced (synced ∷ older) = 0
 unsynced (event ∷ older) = suc (unsynced older)
 
--- what a crash leaves by a choice: the content at the last sync, with what stands of each event since
+-- what a crash leaves by a choice: the content at the last sync, with what stands of each event
+-- since
 abbrev pub crashed : ℕ → List ℕ → List Event → List ℕ
 crashed choice first [] = first
 crashed choice first (synced ∷ older) = content_of first older

@@ -31,7 +31,8 @@ abbrev pub HaveBytes : ℕ → List Change → Type 0
 HaveBytes n [] = ⊤
 HaveBytes n (x ∷ xs) = HasBytes n x × HaveBytes n xs
 
--- What the fields of a disk have in common. The bytes that it had at first are those that a read gives, as long as it hasn't kept others.
+-- What the fields of a disk have in common. The bytes that it had at first are those that a read
+-- gives, as long as it hasn't kept others.
 pub record IsWhole (kept : Bool) (first content pieces : List ℕ) (changes : List Change) : Type 0 where
   pub have_bytes : HaveBytes (length pieces) changes
   pub none_yet : kept ≡ false → changes ≡ []

@@ -2,8 +2,8 @@
 use Rattle.std.specs.Prelude.{◌≤◌, ◌≡◌, ℕ, zero, suc, ◌+◌, List, [], ◌∷◌, ◌++◌, length, take, drop}
 use Rattle.std.proofs.Common.{refl, sym, ◌∙◌, ap, subst, arith, append_assoc, length-append, length-take, length-drop}
 use Rattle.std.proofs.lemmas.List.{take_at, drop_at, take_all, length-take-le}
-use Rattle.mn_io.specs.DiskModel.{IsDisk, Torn, Cut, overwritten}
-use Rattle.mn_memdisk.specs.History.{Event, write, lost_write, shorten, lost_cut, synced, after, content_of, Shows, IsImage, IsWithin, IsSound, disk_after}
+use Rattle.mn_io.specs.DiskModel.{IsDisk, Torn, Cut, written_at}
+use Rattle.mn_memdisk.specs.History.{Event, write, lost_write, shorten, lost_cut, synced, after, content_of, EventShows, IsImage, IsWithin, IsSound, disk_after}
 
 pub torn_same : (at n : ℕ) (d : List ℕ) → Torn at n d d
 torn_same at n d = record { before = refl; after = refl; no_shorter = omega arith; no_longer = omega arith }
@@ -19,7 +19,7 @@ cut_part n m d h = record { no_shorter = omega (arith, length-take m d); front =
     taken (suc n) [] = refl
     taken (suc n) (x ∷ d) = ap (λ (l : List ℕ). x ∷ l) (taken n d)
 
-pub torn_done : (at : ℕ) (d piece : List ℕ) → at ≤ length d → Torn at (length piece) d (overwritten d at piece)
+pub torn_done : (at : ℕ) (d piece : List ℕ) → at ≤ length d → Torn at (length piece) d (written_at d at piece)
 torn_done at d piece within =
     let front : length (take at d) ≡ at = length-take-le at d within in
     let behind = drop (at + length piece) d in
@@ -36,7 +36,7 @@ torn_done at d piece within =
     }
 
 -- what an event does to the content, a crash may show of it
-shows_after : (event : Event) (content : List ℕ) → IsWithin event content → Shows event content content (after event content)
+shows_after : (event : Event) (content : List ℕ) → IsWithin event content → EventShows event content content (after event content)
 shows_after (write at piece) content within = torn_done at content piece within
 shows_after (lost_write at piece) content within = torn_same at (length piece) content
 shows_after (shorten n) content within = cut_part n n content (omega arith)

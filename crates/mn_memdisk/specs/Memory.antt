@@ -5,8 +5,8 @@ use Rattle.mn_io.specs.Faults.{next_count}
 use Rattle.mn_io.specs.Memory.{is_one_of, counted}
 use Rattle.mn_memdisk.specs.History.{Event, disk_after}
 
--- the bytes at first, each event since with the newest first, what a read gives, how many calls there were, which calls fail, how many did,
--- and the room for more
+-- the bytes at first, each event since with the newest first, what a read gives, how many calls
+-- there were, which calls fail, how many did, and the room for more
 pub record MemoryState : Type 0 where
   pub first : List ℕ
   pub events : List Event

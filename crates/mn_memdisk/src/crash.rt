@@ -1,5 +1,5 @@
 ghost use Rattle.std.specs.Prelude.{◌≡◌, ◌≤◌, ◌<◌, ◌-◌, ℕ, List, get_or, length, take, OnOk, IfOk};
-ghost use Rattle.mn_io.specs.DiskModel.{overwritten};
+ghost use Rattle.mn_io.specs.DiskModel.{written_at};
 ghost use Rattle.mn_memdisk.specs.Crash.{IsLeft, crashed, filled, left, shortened, written};
 ghost use Rattle.mn_memdisk.specs.Events.{HasBytes, HaveBytes, UnsyncedFrom, event_of, events_of};
 ghost use Rattle.mn_memdisk.specs.History.{IsSound, IsWithin, after, content_of};
@@ -43,7 +43,7 @@ fn redo(content: &mut Vec<u8>, change: Change, pieces: &[u8]) -> Result<(), Allo
 /// Writes a piece over an image and past its end.
 fn put(image: &mut Vec<u8>, at: usize, piece: &[u8]) -> Result<(), AllocError>
     requires { at ≤ length image.old.items }
-    ensures { OnOk result (image.new.items ≡ overwritten image.old.items at piece.now) }
+    ensures { OnOk result (image.new.items ≡ written_at image.old.items at piece.now) }
 {
     image.reserve(piece.len())?;
     overwrite(image, at, piece);

@@ -8,8 +8,9 @@ use mn_io::{Bytes, Calls, Disk, Failed, NoMemory};
 use std::alloc::Global;
 use std::marker::Model;
 
-/// A disk in memory. A call of it fails exactly where its number is in a list; `make_room` isn't counted among the calls. It keeps what
-/// happened to it, so that a crash may be tried at any moment.
+/// A disk in memory. A call of it fails exactly where its number is in a list; `make_room` isn't
+/// counted among the calls. It keeps what happened to it, so that a crash may be tried at any
+/// moment.
 #[derive(Drop)]
 pub struct MemoryDisk {
     /// What it had at first, once it is kept; until then that is the content.
@@ -47,7 +48,8 @@ impl MemoryDisk {
     ghost use Rattle.mn_memdisk.specs.Crash.{crashed};
     ghost use Rattle.mn_memdisk.specs.Memory.{state_of};
 
-    /// A disk with these bytes, all of them stable. The calls in `fails` will fail. It takes no memory.
+    /// A disk with these bytes, all of them stable. The calls in `fails` will fail. It takes no
+    /// memory.
     pub fn new(content: Bytes, fails: Calls) -> Self
         ensures new { result ≡ record { first = content; events = []; content = content; calls = 0; fails = fails; faults = 0; spare_changes = 0; spare_bytes = result.spare_bytes } }
         ensures honest { (state_of result).honest }
@@ -75,12 +77,14 @@ impl MemoryDisk {
         &self.content
     }
 
-    /// The disk after a crash at this moment: its content is one of the images, all of it stable. It counts calls and faults on, and the same
-    /// calls fail. `NoMemory` where the image finds no room.
+    /// The disk after a crash at this moment: its content is one of the images, all of it stable.
+    /// It counts calls and faults on, and the same calls fail. `NoMemory` where the image finds no
+    /// room.
     ///
-    /// Of each change that no sync made stable, the first one first, the choice has two bits, the lowest first: 0 leaves nothing of it, 1 all
-    /// of it, 2 the first half of what was written, 3 the second half with zeros for bytes past the old end that aren't there. 2 and 3 leave of
-    /// a cut a length between. A change that failed counts as one that wasn't synced.
+    /// Of each change that no sync made stable, the first one first, the choice has two bits, the
+    /// lowest first: 0 leaves nothing of it, 1 all of it, 2 the first half of what was written, 3
+    /// the second half with zeros for bytes past the old end that aren't there. 2 and 3 leave of a
+    /// cut a length between. A change that failed counts as one that wasn't synced.
     pub fn crash(self, alloc: Global, choice: u64) -> Result<MemoryDisk, NoMemory>
         ensures image { IfOk result (λ disk. (state_of self).images disk.content) }
         ensures chosen { IfOk result (λ disk. disk.content ≡ crashed choice self.first self.events) }
@@ -128,7 +132,7 @@ fn first_of(is_kept: bool, first: Vec<u8>, content: Vec<u8>) -> Vec<u8>
 impl Disk for MemoryDisk {
     ghost use Rattle.std.specs.Prelude.{◌≡◌, ◌≤◌, ◌<◌, ◌+◌, ◌↔◌, length, take, drop, IsTrue, IsErr, IfOk, OnOk};
     ghost use Rattle.std.specs.Io.{ReadsAtMost};
-    ghost use Rattle.mn_io.specs.DiskModel.{Cut, Elapses, Follows, IsStable, NoneNew, Stays, Torn, overwritten};
+    ghost use Rattle.mn_io.specs.DiskModel.{Cut, Elapses, ImagesFollow, IsStable, NoneNew, DiskStays, Torn, written_at};
     ghost use Rattle.mn_io.specs.Faults.{HasCause};
     ghost use Rattle.mn_io.specs.Memory.{is_one_of};
     ghost use Rattle.mn_memdisk.specs.Laws.{is_disk_of};
@@ -146,7 +150,7 @@ impl Disk for MemoryDisk {
 
     fn length(&mut self) -> Result<u64, Failed>
         ensures value { (state_of self.old).honest → IfOk result (λ n. n ≡ length (state_of self.old).content) }
-        ensures same { (state_of self.old).honest → Stays (state_of self.old) (state_of self.new) }
+        ensures same { (state_of self.old).honest → DiskStays (state_of self.old) (state_of self.new) }
         ensures honest { (state_of self.new).honest → (state_of self.old).honest }
         ensures changes { self.old.spare_changes ≤ self.new.spare_changes }
         ensures bytes { self.old.spare_bytes ≤ self.new.spare_bytes }
@@ -165,7 +169,7 @@ impl Disk for MemoryDisk {
     fn read(&mut self, at: u64, into: &mut [u8]) -> Result<usize, Failed>
         ensures bound { ReadsAtMost result into.new }
         ensures value { (state_of self.old).honest → IfOk result (λ n. take n into.new ≡ take (length into.new) (drop at (state_of self.old).content)) }
-        ensures same { (state_of self.old).honest → Stays (state_of self.old) (state_of self.new) }
+        ensures same { (state_of self.old).honest → DiskStays (state_of self.old) (state_of self.new) }
         ensures honest { (state_of self.new).honest → (state_of self.old).honest }
         ensures changes { self.old.spare_changes ≤ self.new.spare_changes }
         ensures bytes { self.old.spare_bytes ≤ self.new.spare_bytes }
@@ -188,8 +192,8 @@ impl Disk for MemoryDisk {
         requires within { (state_of self.old).honest → at ≤ length (state_of self.old).content }
         requires change { 0 < self.old.spare_changes }
         requires room { length piece.now ≤ self.old.spare_bytes }
-        ensures written { (state_of self.old).honest → OnOk result ((state_of self.new).content ≡ overwritten (state_of self.old).content at piece.now) }
-        ensures crash { (state_of self.old).honest → Follows (Torn at (length piece.now)) (state_of self.old) (state_of self.new) }
+        ensures written { (state_of self.old).honest → OnOk result ((state_of self.new).content ≡ written_at (state_of self.old).content at piece.now) }
+        ensures crash { (state_of self.old).honest → ImagesFollow (Torn at (length piece.now)) (state_of self.old) (state_of self.new) }
         ensures time { (state_of self.old).honest → Elapses (state_of self.old) (state_of self.new) }
         ensures honest { (state_of self.new).honest → (state_of self.old).honest }
         ensures changes { self.old.spare_changes ≤ self.new.spare_changes + 1 }
@@ -220,7 +224,7 @@ impl Disk for MemoryDisk {
         requires within { (state_of self.old).honest → length ≤ Rattle.std.specs.Prelude.length (state_of self.old).content }
         requires change { 0 < self.old.spare_changes }
         ensures cut { (state_of self.old).honest → OnOk result ((state_of self.new).content ≡ take length (state_of self.old).content) }
-        ensures crash { (state_of self.old).honest → Follows (Cut length) (state_of self.old) (state_of self.new) }
+        ensures crash { (state_of self.old).honest → ImagesFollow (Cut length) (state_of self.old) (state_of self.new) }
         ensures time { (state_of self.old).honest → Elapses (state_of self.old) (state_of self.new) }
         ensures honest { (state_of self.new).honest → (state_of self.old).honest }
         ensures changes { self.old.spare_changes ≤ self.new.spare_changes + 1 }
@@ -268,7 +272,7 @@ impl Disk for MemoryDisk {
         ensures honest { (state_of self.new).honest → (state_of self.old).honest }
         ensures no_fewer { self.old.spare_changes ≤ self.new.spare_changes }
         ensures no_less { self.old.spare_bytes ≤ self.new.spare_bytes }
-        ensures same { (state_of self.old).honest → Stays (state_of self.old) (state_of self.new) }
+        ensures same { (state_of self.old).honest → DiskStays (state_of self.old) (state_of self.new) }
         ensures faults { self.new.faults ≡ self.old.faults }
 
         // It isn't counted among the calls.

@@ -10,7 +10,8 @@ pub enum Outcome {
     Back,
 }
 
-/// The outcome that a choice gives to the change of this number, counted from 0: two bits for each, again from the lowest after 32.
+/// The outcome that a choice gives to the change of this number, counted from 0: two bits for each,
+/// again from the lowest after 32.
 pub fn pick(choice: u64, number: usize) -> Outcome
     ensures { result ≡ outcome_of choice number }
 {

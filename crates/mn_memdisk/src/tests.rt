@@ -6,7 +6,8 @@ use mn_io::{Bytes, Calls, Disk, Failed, NoMemory};
 use std::alloc::Global;
 use std::test::Fail;
 
-/// A disk of the bytes `abcdef` with room for four changes of eight bytes, whose calls in the list fail.
+/// A disk of the bytes `abcdef` with room for four changes of eight bytes, whose calls in the list
+/// fail.
 fn make_disk(alloc: Global, fails: &[u64]) -> Result<MemoryDisk, NoMemory>
     ensures honest { IfOk result (λ disk. (state_of disk).honest) }
     ensures content { IfOk result (λ disk. length disk.content ≡ 6) }

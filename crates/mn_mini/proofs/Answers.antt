@@ -29,7 +29,8 @@ both = record { 0 = 0 } ∷ (record { 0 = 1 } ∷ [])
 abbrev base : List ℕ
 base = 9 ∷ 9 ∷ 9 ∷ 9 ∷ replicate 28 0
 
--- what is asked, one after another:'s answers, on a space of 32 bytes with the count at 16 and a slot at 28
+-- what is asked, one after another:'s answers, on a space of 32 bytes with the count at 16 and a
+-- slot at 28
 abbrev asked : List Request
 asked =
     Ask.Prepare (id 0 1) both (Compare 16 (replicate 8 0) ∷ (Write 28 (97 ∷ []) ∷ []))

@@ -14,7 +14,7 @@ use Rattle.mn_mini.specs.Flat.{part_mismatch_from}
 use Rattle.mn_base.specs.Ranges.{least_tid}
 use Rattle.mn_base.proofs.Lists.{all_both}
 use Rattle.mn_mini.specs.Node.{HeldPart, Clash, without_tid, held_parts, is_held, holders, clash_of, has_voted, has_forced, after_locks, after_compares, space_of, answer, with_added}
-use Rattle.mn_mini.specs.Laws.{AreApart, records_after, HeldPartsStayApart}
+use Rattle.mn_mini.specs.Laws.{PartsAreApart, records_after, HeldPartsStayApart}
 
 -- on facts of each element
 
@@ -32,10 +32,10 @@ All-without P t (h ∷ hs) a =
       | false ↦ (a.0, All-without P t hs a.1)
     ]
 
-pub AreApart-without : (t : Tid) (hs : List HeldPart) → AreApart hs → AreApart (without_tid t hs)
+pub AreApart-without : (t : Tid) (hs : List HeldPart) → PartsAreApart hs → PartsAreApart (without_tid t hs)
 AreApart-without t [] a = tt
 AreApart-without t (h ∷ hs) a =
-    elim (tid_same h.tid t) as (λ b. AreApart (if b then without_tid t hs else h ∷ without_tid t hs)) [
+    elim (tid_same h.tid t) as (λ b. PartsAreApart (if b then without_tid t hs else h ∷ without_tid t hs)) [
       | true ↦ AreApart-without t hs a.1
       | false ↦ (All-without _ t hs a.0, AreApart-without t hs a.1)
     ]
@@ -71,41 +71,41 @@ no_clash hs tid (item ∷ part) e =
 
 -- an answer adds no part that conflicts
 
-prepared : (base : List ℕ) (records : List Record) (tid : Tid) (participants : List NodeNo) (part : List PartItem) → AreApart (held_parts records)
+prepared : (base : List ℕ) (records : List Record) (tid : Tid) (participants : List NodeNo) (part : List PartItem) → PartsAreApart (held_parts records)
     → (clash : Option Clash) → clash_of (held_parts records) tid part ≡ clash
-    → AreApart (held_parts (with_added (after_locks (space_of base records) part (Some (Voted tid participants part)) clash).added records))
+    → PartsAreApart (held_parts (with_added (after_locks (space_of base records) part (Some (Voted tid participants part)) clash).added records))
 prepared base records tid participants part apart (Some clash) e = apart
 prepared base records tid participants part apart None e =
-    elim (part_mismatch_from (space_of base records) 0 part) as (λ o. AreApart (held_parts (with_added (after_compares (space_of base records) part (Some (Voted tid participants part)) o).added records))) [
+    elim (part_mismatch_from (space_of base records) 0 part) as (λ o. PartsAreApart (held_parts (with_added (after_compares (space_of base records) part (Some (Voted tid participants part)) o).added records))) [
       | Some at ↦ apart
       | None ↦ (no_clash (held_parts records) tid part e, apart)
     ]
 
-executed : (base : List ℕ) (records : List Record) (tid : Tid) (part : List PartItem) → AreApart (held_parts records) → (writes : Bool)
+executed : (base : List ℕ) (records : List Record) (tid : Tid) (part : List PartItem) → PartsAreApart (held_parts records) → (writes : Bool)
     → (clash : Option Clash)
-    → AreApart (held_parts (with_added (after_locks (space_of base records) part (if writes then Some (Executed tid part) else None) clash).added records))
+    → PartsAreApart (held_parts (with_added (after_locks (space_of base records) part (if writes then Some (Executed tid part) else None) clash).added records))
 executed base records tid part apart writes (Some clash) = apart
 executed base records tid part apart writes None =
-    elim (part_mismatch_from (space_of base records) 0 part) as (λ o. AreApart (held_parts (with_added (after_compares (space_of base records) part (if writes then Some (Executed tid part) else None) o).added records))) [
+    elim (part_mismatch_from (space_of base records) 0 part) as (λ o. PartsAreApart (held_parts (with_added (after_compares (space_of base records) part (if writes then Some (Executed tid part) else None) o).added records))) [
       | Some at ↦ apart
-      | None ↦ elim writes as (λ w. AreApart (held_parts (with_added (if w then Some (Executed tid part) else None) records))) [ true ↦ apart | false ↦ apart ]
+      | None ↦ elim writes as (λ w. PartsAreApart (held_parts (with_added (if w then Some (Executed tid part) else None) records))) [ true ↦ apart | false ↦ apart ]
     ]
 
-pub AreApart-answer : (base : List ℕ) (records : List Record) (request : Request) → AreApart (held_parts records) → AreApart (held_parts (with_added (answer base records request).added records))
+pub AreApart-answer : (base : List ℕ) (records : List Record) (request : Request) → PartsAreApart (held_parts records) → PartsAreApart (held_parts (with_added (answer base records request).added records))
 AreApart-answer base records (Ask.Prepare tid participants part) apart =
-    elim (has_forced records tid) as (λ b. AreApart (held_parts (with_added (if b then Rattle.mn_mini.specs.Node.only_reply Rattle.mn_mini.specs.declared.reply.NodeReply.TheVariants.BadForced else Rattle.mn_mini.specs.Node.tested base records tid part (Some (Voted tid participants part))).added records))) [
+    elim (has_forced records tid) as (λ b. PartsAreApart (held_parts (with_added (if b then Rattle.mn_mini.specs.Node.only_reply Rattle.mn_mini.specs.declared.reply.NodeReply.TheVariants.BadForced else Rattle.mn_mini.specs.Node.tested base records tid part (Some (Voted tid participants part))).added records))) [
       | true ↦ apart
       | false ↦ prepared base records tid participants part apart (clash_of (held_parts records) tid part) refl
     ]
 AreApart-answer base records (Ask.Exec tid part) apart = executed base records tid part apart (has_write part) (clash_of (held_parts records) tid part)
 AreApart-answer base records (Ask.Decide tid verdict) apart =
-    elim (is_held records tid) as (λ b. AreApart (held_parts (with_added (if b then Some (Decided tid verdict) else None) records))) [
+    elim (is_held records tid) as (λ b. PartsAreApart (held_parts (with_added (if b then Some (Decided tid verdict) else None) records))) [
       | true ↦ AreApart-without tid (held_parts records) apart
       | false ↦ apart
     ]
 AreApart-answer base records (Ask.Force tid) apart = forced (has_voted records tid) (has_forced records tid)
   where
-    forced : (voted been : Bool) → AreApart (held_parts (with_added (if voted then Rattle.mn_mini.specs.Node.only_reply (Rattle.mn_mini.specs.declared.reply.NodeReply.TheVariants.Vote true) else record { reply = Rattle.mn_mini.specs.declared.reply.NodeReply.TheVariants.Vote false; added = if been then None else Some (Forced tid) }).added records))
+    forced : (voted been : Bool) → PartsAreApart (held_parts (with_added (if voted then Rattle.mn_mini.specs.Node.only_reply (Rattle.mn_mini.specs.declared.reply.NodeReply.TheVariants.Vote true) else record { reply = Rattle.mn_mini.specs.declared.reply.NodeReply.TheVariants.Vote false; added = if been then None else Some (Forced tid) }).added records))
     forced true been = apart
     forced false true = apart
     forced false false = apart

@@ -40,7 +40,8 @@ pub record Left (n kind : ℕ) (rest more : List ℕ) : Type 0 where
   pub items : List PartItem
   pub begins : Begins (AreItems n kind) (flat_map item_bytes) rest items more
 
--- so many of the items are read: whatever may follow them completes them, and whatever the bytes begin with goes on in what is left
+-- so many of the items are read: whatever may follow them completes them, and whatever the bytes
+-- begin with goes on in what is left
 pub record Progress (bytes : List ℕ) (count read kind : ℕ) (items : List PartItem) (rest : List ℕ) : Type 0 where
   pub spelled : bytes ≡ flat_map item_bytes items ++ rest
   pub completes : (n : ℕ) (tail : List PartItem) → n + read ≡ count → AreItems n kind tail → AreItems count 1 (items ++ tail)

@@ -8,7 +8,7 @@ use Rattle.mn_mini.specs.declared.part.PartItem.{PartItem}
 use Rattle.mn_mini.specs.declared.record.Record.{Record}
 use Rattle.mn_mini.specs.declared.record.Record.TheVariants.{Voted, Executed, Decided, Forced}
 use Rattle.mn_mini.specs.Mini.{has_write}
-use Rattle.mn_mini.specs.RecordGrammar.{item_bytes, part_bytes, participants_bytes, numbers_of, verdict_byte, tid_bytes, record_kind, head_bytes, behind_tid, record_bytes, IsPart, AreParticipants, MayBegin, MayFollow, HasTid, IsRecord, Begins, NoneBegins, GoesOn, NoneGoesOn, Spells, SpellsNone, IsTid}
+use Rattle.mn_mini.specs.RecordGrammar.{item_bytes, part_bytes, participants_bytes, numbers_of, verdict_byte, tid_bytes, record_kind, head_bytes, behind_tid, record_bytes, IsPart, AreParticipants, MayBegin, MayFollow, HasTid, IsRecord, Begins, NoneBegins, BodyFollows, NoneGoesOn, Spells, SpellsNone, IsTid}
 use Rattle.mn_mini.proofs.RecordGrammar.{cut, number_once, tid_once}
 use Rattle.mn_mini.proofs.ItemLists.{items_once}
 
@@ -45,7 +45,7 @@ executed_no_part tid bytes none (Decided t verdict) g = absurd (omega (arith, g.
 executed_no_part tid bytes none (Forced t) g = absurd (omega (arith, g.kind_is))
 
 -- the part of an execution that begins with this one is this one, with nothing behind
-pub executed_part : (tid : Tid) (bytes rest : List ℕ) (part : List PartItem) → Begins IsPart part_bytes bytes part rest → (r : Record) → GoesOn 2 tid bytes r → (rest ≡ []) × (has_write part ≡ true)
+pub executed_part : (tid : Tid) (bytes rest : List ℕ) (part : List PartItem) → Begins IsPart part_bytes bytes part rest → (r : Record) → BodyFollows 2 tid bytes r → (rest ≡ []) × (has_write part ≡ true)
 executed_part tid bytes rest part b (Voted t participants p) g = absurd (omega (arith, g.kind_is))
 executed_part tid bytes rest part b (Executed t p) g =
     let once = part_once part p rest [] b.may g.follows.0 (sym b.spelled ∙ g.spelled ∙ sym (append-nil (part_bytes p))) in
@@ -69,7 +69,7 @@ voted_no_part tid bytes behind participants b none (Forced t) g = absurd (omega 
 
 -- nothing stands behind the part of a vote
 pub voted_part : (tid : Tid) (bytes behind rest : List ℕ) (participants : List NodeNo) (part : List PartItem) → Begins AreParticipants participants_bytes bytes participants behind → Begins IsPart part_bytes behind part rest
-    → (r : Record) → GoesOn 1 tid bytes r → rest ≡ []
+    → (r : Record) → BodyFollows 1 tid bytes r → rest ≡ []
 voted_part tid bytes behind rest participants part b c (Voted t ps p) g =
     let once = participants_once participants ps behind (part_bytes p) (sym b.spelled ∙ g.spelled) in
     (part_once part p rest [] c.may g.follows.1 (sym c.spelled ∙ once.1 ∙ sym (append-nil (part_bytes p)))).1
@@ -167,7 +167,7 @@ record_goes_on kind behind rest tid b none = λ r spells.
     let once = tid_once tid parts.tid rest (behind_tid r) b.may parts.begins.may (sym b.spelled ∙ parts.begins.spelled) in
     none r (record { kind_is = parts.kind_is; tid_is = subst (λ (t : Tid). HasTid t r) (sym once.0) parts.of; follows = spells.may.follows; spelled = once.1 })
 
-pub record_spelled : (kind : ℕ) (behind rest : List ℕ) (tid : Tid) (r : Record) → Begins IsTid tid_bytes behind tid rest → GoesOn kind tid rest r → Spells (kind ∷ behind) r
+pub record_spelled : (kind : ℕ) (behind rest : List ℕ) (tid : Tid) (r : Record) → Begins IsTid tid_bytes behind tid rest → BodyFollows kind tid rest r → Spells (kind ∷ behind) r
 record_spelled kind behind rest tid r b g =
     let begun = begins_with tid r g.tid_is b.may in
     record {

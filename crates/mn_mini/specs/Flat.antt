@@ -61,7 +61,8 @@ abbrev pub unless_mismatched : List (List ℕ) → Mini → Option Mismatched �
 unless_mismatched memory mini (Some at) = Mismatch at
 unless_mismatched memory mini None = Committed (reads_in memory mini.items) (memory_after memory mini.items)
 
--- all compare items equal the bytes in place: the reads, and the memory with all writes. Else the first that differs
+-- all compare items equal the bytes in place: the reads, and the memory with all writes. Else the
+-- first that differs
 abbrev pub outcome_on : List (List ℕ) → Mini → Outcome
 outcome_on memory mini = unless_mismatched memory mini (mismatch_from memory 0 mini.items)
 

@@ -15,7 +15,8 @@ pub record TakesPart (mini : Mini) (n : NodeNo) : Type 0 where
   pub node : IsNodeOf mini.nodes n
   pub part : IsPart (part_of mini n)
 
--- each participant of a sound minitransaction is such a node, and where there are several, they are such as may vote together
+-- each participant of a sound minitransaction is such a node, and where there are several, they are
+-- such as may vote together
 abbrev pub PartsAreSound : Type 0
 PartsAreSound =
     (mini : Mini) → IsSound mini
@@ -27,14 +28,14 @@ records_after base start [] = start
 records_after base start (request ∷ requests) = with_added (answer base (records_after base start requests) request).added (records_after base start requests)
 
 -- no part conflicts with one of another id
-abbrev pub AreApart : List HeldPart → Type 0
-AreApart [] = ⊤
-AreApart (h ∷ hs) = AllByRecursion (λ g. tid_same g.tid h.tid ≡ false → parts_conflict h.part g.part ≡ false) hs × AreApart hs
+abbrev pub PartsAreApart : List HeldPart → Type 0
+PartsAreApart [] = ⊤
+PartsAreApart (h ∷ hs) = AllByRecursion (λ g. tid_same g.tid h.tid ≡ false → parts_conflict h.part g.part ≡ false) hs × PartsAreApart hs
 
 -- whatever is asked, the held parts of different ids do not conflict
 abbrev pub HeldPartsStayApart : Type 0
 HeldPartsStayApart =
-    (base : List ℕ) (start : List Record) (requests : List Request) → AreApart (held_parts start) → AreApart (held_parts (records_after base start requests))
+    (base : List ℕ) (start : List Record) (requests : List Request) → PartsAreApart (held_parts start) → PartsAreApart (held_parts (records_after base start requests))
 
 -- what the records answer to a sound request fits it
 abbrev pub AnswersFit : Type 0

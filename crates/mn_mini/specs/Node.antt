@@ -1,5 +1,5 @@
--- A memory node is a list of records, and each answer follows from it. Lists of records stand newest first here:
--- what a record changes is said of the records before it.
+-- A memory node is a list of records, and each answer follows from it. Lists of records stand
+-- newest first here: what a record changes is said of the records before it.
 use Rattle.std.specs.Prelude.{ℕ, max, Bool, true, false, not, ◌&&◌, List, [], ◌∷◌, length, Option, Some, None, is_some, if◌then◌else◌}
 use Rattle.std.specs.List.{list_any}
 use Rattle.mn_base.specs.Ids.{tid_same, tid_lt}

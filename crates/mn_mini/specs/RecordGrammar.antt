@@ -1,4 +1,5 @@
--- The bytes of a record. Each record in the grammar has one spelling: its fields in order, with nothing behind them.
+-- The bytes of a record. Each record in the grammar has one spelling: its fields in order, with
+-- nothing behind them.
 use Rattle.std.specs.Prelude.{◌≡◌, ℕ, ◌^◌, ◌<◌, ◌≤◌, Bool, true, false, ◌&&◌, nat_le, nat_lt, IsTrue, List, [], ◌∷◌, ◌++◌, length, map, ⊤}
 use Rattle.std.specs.List.{flat_map, AllByRecursion}
 use Rattle.byteorder.specs.Endian.{big_bytes}
@@ -167,7 +168,7 @@ HasTid tid (Decided t verdict) = tid ≡ t
 HasTid tid (Forced t) = tid ≡ t
 
 -- the bytes behind the id are those of a record of this kind and id
-pub record GoesOn (kind : ℕ) (tid : Tid) (bytes : List ℕ) (r : Record) : Type 0 where
+pub record BodyFollows (kind : ℕ) (tid : Tid) (bytes : List ℕ) (r : Record) : Type 0 where
   pub kind_is : kind ≡ record_kind r
   pub tid_is : HasTid tid r
   pub follows : MayFollow r
@@ -175,7 +176,7 @@ pub record GoesOn (kind : ℕ) (tid : Tid) (bytes : List ℕ) (r : Record) : Typ
 
 -- they are those of no record of this kind and id
 abbrev pub NoneGoesOn : ℕ → Tid → List ℕ → Type 0
-NoneGoesOn kind tid bytes = (r : Record) → GoesOn kind tid bytes r → ⊥
+NoneGoesOn kind tid bytes = (r : Record) → BodyFollows kind tid bytes r → ⊥
 
 -- the bytes spell this record
 pub record Spells (bytes : List ℕ) (r : Record) : Type 0 where

@@ -5,7 +5,8 @@ use Rattle.mn_mini.specs.declared.error.MiniError.{MiniError}
 use Rattle.mn_mini.specs.declared.error.MiniError.TheVariants.{NoItems, TooMany, OutOfSpace, NoMemory}
 use Rattle.mn_mini.specs.Mini.{IsSoundItem}
 
--- the items before this place may stand in a minitransaction over so many nodes, and the one there may not
+-- the items before this place may stand in a minitransaction over so many nodes, and the one there
+-- may not
 abbrev pub IsFirstOutside : ℕ → List Item → ℕ → Type 0
 IsFirstOutside nodes [] at = ⊥
 IsFirstOutside nodes (item ∷ items) zero = IsSoundItem nodes item → ⊥

@@ -11,7 +11,8 @@ use Rattle.mn_mini.specs.declared.reply.NodeReply.TheVariants as Say
 use Rattle.mn_mini.specs.Mini.{IsInSpace, range_of}
 use Rattle.mn_mini.specs.RecordGrammar.{IsTid, IsPart, AreParticipants}
 
--- its id, its participants, its part and its range are such as there may be, each as far as the request has it
+-- its id, its participants, its part and its range are such as there may be, each as far as the
+-- request has it
 abbrev pub IsSoundRequest : Request → Type 0
 IsSoundRequest (Prepare tid participants part) = IsTid tid × AreParticipants participants × AllByRecursion (λ n. n.0 < 8) participants × IsPart part
 IsSoundRequest (Exec tid part) = IsTid tid × IsPart part
@@ -81,9 +82,10 @@ IsOtherThan n found (Write start bytes ∷ part) = IsOtherThan n found part
 abbrev pub IsDoubt : Doubt → Type 0
 IsDoubt d = IsTid d.tid × AreParticipants d.participants
 
--- The reply may answer the request: that the node is down or has no memory may answer any, and that it stopped any but a Peek. Else it is of
--- a kind that the records may give the request, with as many bytes as that asks for: the range of a lock and the compare item that differs
--- are those of the part, and the ids are such as there may be.
+-- The reply may answer the request: that the node is down or has no memory may answer any, and that
+-- it stopped any but a Peek. Else it is of a kind that the records may give the request, with as
+-- many bytes as that asks for: the range of a lock and the compare item that differs are those of
+-- the part, and the ids are such as there may be.
 abbrev pub Fits : Request → NodeReply → Type 0
 Fits request (Say.Done reads) = OfPart (AreReadsOf reads) request
 Fits request (Say.BadLock start size holder) = OfPart (IsRangeIn start size) request

@@ -13,8 +13,8 @@ pub enum MiniError {
     /// There are `n`, more than 1,024.
     #[error("{n} items are too many")]
     TooMany { n: usize },
-    /// Item `item` (from 0, in the order given) is the first that names no node of the space, or whose range has no byte, more
-    /// than 4,096, or one outside the space.
+    /// Item `item` (from 0, in the order given) is the first that names no node of the space, or
+    /// whose range has no byte, more than 4,096, or one outside the space.
     #[error("item {item} lies outside the space")]
     OutOfSpace { item: usize },
     #[error("no memory")]
@@ -24,7 +24,8 @@ pub enum MiniError {
 impl MiniError {
     ghost use Rattle.mn_mini.specs.Refusal.{code_of};
 
-    /// The number of the refusal: 6 NoItems, 5 TooMany, 4 OutOfSpace; 0 for want of memory, which is none.
+    /// The number of the refusal: 6 NoItems, 5 TooMany, 4 OutOfSpace; 0 for want of memory, which
+    /// is none.
     pub fn code(&self) -> u8
         ensures { result ≡ code_of self.now }
     {

@@ -1,5 +1,5 @@
-//! Minitransactions: their items, the part of each node, what they mean on a memory, and what a memory node
-//! answers (Sinfonia, SOSP 2007).
+//! Minitransactions: their items, the part of each node, what they mean on a memory, and what a
+//! memory node answers (Sinfonia, SOSP 2007).
 #![tactic(auto)]
 
 mod doubt;

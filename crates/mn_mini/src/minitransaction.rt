@@ -15,8 +15,9 @@ pub const MAX_ITEMS: usize = 1_024;
 /// The most memory nodes.
 pub const MAX_NODES: u8 = 8;
 
-/// A minitransaction: 1 to 1,024 items, each at a range inside the space of a node, chosen before it starts, and the number of
-/// nodes that it was made for. Contracts see the items and that number.
+/// A minitransaction: 1 to 1,024 items, each at a range inside the space of a node, chosen before
+/// it starts, and the number of nodes that it was made for. Contracts see the items and that
+/// number.
 #[derive(Debug, Drop)]
 pub struct Minitransaction {
     nodes: u8,
@@ -157,8 +158,9 @@ fn push_writes(
 }
 
 impl Minitransaction {
-    /// The minitransaction of these items over so many nodes. NoItems, then TooMany, then OutOfSpace are answered exactly where
-    /// `MiniError` says, the first that fits. NoMemory: there was no memory for it.
+    /// The minitransaction of these items over so many nodes. NoItems, then TooMany, then
+    /// OutOfSpace are answered exactly where `MiniError` says, the first that fits. NoMemory: there
+    /// was no memory for it.
     pub fn new(alloc: Global, nodes: u8, items: Items) -> Result<Self, MiniError>
         ensures ok { IfOk result (λ mini. mini ≡ record { nodes = nodes; items = items }) }
         ensures sound { OnOk result (IsSound (record { nodes = nodes; items = items })) }
@@ -204,7 +206,8 @@ impl Minitransaction {
         &self.participants
     }
 
-    /// The items at a node, without the node: compares, then reads, then writes. NoMemory: there was no memory for it.
+    /// The items at a node, without the node: compares, then reads, then writes. NoMemory: there
+    /// was no memory for it.
     pub fn part(&self, alloc: Global, node: NodeNo) -> Result<Part, NoMemory>
         ensures { IfOk result (λ part. part ≡ part_of self.now node) }
     {

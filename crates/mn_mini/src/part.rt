@@ -31,7 +31,8 @@ impl TryCopy for PartItem {
     }
 }
 
-/// A node's items: compares, then reads, then writes, each in the order given. Contracts see them as a list.
+/// A node's items: compares, then reads, then writes, each in the order given. Contracts see them
+/// as a list.
 #[derive(Debug, Drop)]
 pub struct Part {
     items: Vec<PartItem>,

@@ -125,9 +125,10 @@ fn push_record(out: &mut Vec<u8>, written: &Record) -> Result<(), AllocError>
 }
 
 impl Record {
-    /// Its spelling. Only a record in the grammar has one: an id with a run and a serial from 1 on and a client from 0 to 20; 2
-    /// to 8 participants in order; 1 to 1,024 items, compares before reads before writes, each of 1 to 4,096 bytes inside the
-    /// space; and a write item in what was executed.
+    /// Its spelling. Only a record in the grammar has one: an id with a run and a serial from 1 on
+    /// and a client from 0 to 20; 2 to 8 participants in order; 1 to 1,024 items, compares before
+    /// reads before writes, each of 1 to 4,096 bytes inside the space; and a write item in what was
+    /// executed.
     pub fn write(&self, alloc: Global) -> Result<Bytes, NoMemory>
         requires { IsRecord self.now }
         ensures { IfOk result (λ bytes. bytes ≡ record_bytes self.now) }

@@ -6,7 +6,7 @@ ghost use Rattle.mn_mini.specs.declared.part.PartItem.{PartItem};
 ghost use Rattle.mn_mini.specs.declared.record.Record.{Record};
 ghost use Rattle.mn_mini.specs.Mini.{has_write};
 ghost use Rattle.mn_mini.specs.declared.record_error.RecordError.{RecordError};
-ghost use Rattle.mn_mini.specs.RecordGrammar.{IsRecord, IsTid, IsRange, IsPart, IsPartItem, IsItemFrom, AreParticipants, AreItems, HasLength, Begins, NoneBegins, GoesOn, NoneGoesOn, Spells, SpellsNone, kind_of, are_ascending, as_they_stand, record_bytes, tid_bytes, item_bytes, part_bytes, participants_bytes, range_bytes, numbers_of};
+ghost use Rattle.mn_mini.specs.RecordGrammar.{IsRecord, IsTid, IsRange, IsPart, IsPartItem, IsItemFrom, AreParticipants, AreItems, HasLength, Begins, NoneBegins, BodyFollows, NoneGoesOn, Spells, SpellsNone, kind_of, are_ascending, as_they_stand, record_bytes, tid_bytes, item_bytes, part_bytes, participants_bytes, range_bytes, numbers_of};
 
 use crate::minitransaction::MAX_ITEMS;
 use crate::spaces::{MAX_ITEM, SPACE};
@@ -26,7 +26,8 @@ fn first_number(bytes: &[u8]) -> Option<(u32, &[u8])>
     Some((BigEndian::read_u32(bytes), &bytes[4..]))
 }
 
-/// The range that the bytes begin with, if it has 1 to 4,096 bytes inside the space, and what follows.
+/// The range that the bytes begin with, if it has 1 to 4,096 bytes inside the space, and what
+/// follows.
 fn first_range(bytes: &[u8]) -> Option<(Range, &[u8])>
     ensures { MatchOption result (NoneBegins IsRange range_bytes bytes.now) (λ x. Begins IsRange range_bytes bytes.now x.0 x.1.now) }
 {
@@ -211,7 +212,7 @@ fn writes(items: &[PartItem]) -> bool
 
 /// The vote that the bytes behind its id spell.
 fn read_voted(alloc: Global, tid: Tid, bytes: &[u8]) -> Result<Option<Record>, NoMemory>
-    ensures { IfOk result (λ found. MatchOption found (NoneGoesOn 1 tid bytes.now) (GoesOn 1 tid bytes.now)) }
+    ensures { IfOk result (λ found. MatchOption found (NoneGoesOn 1 tid bytes.now) (BodyFollows 1 tid bytes.now)) }
 {
     let Some((participants, behind)) = first_participants(alloc, bytes)? else {
         return Ok(None);
@@ -231,7 +232,7 @@ fn read_voted(alloc: Global, tid: Tid, bytes: &[u8]) -> Result<Option<Record>, N
 
 /// The execution that the bytes behind its id spell.
 fn read_executed(alloc: Global, tid: Tid, bytes: &[u8]) -> Result<Option<Record>, NoMemory>
-    ensures { IfOk result (λ found. MatchOption found (NoneGoesOn 2 tid bytes.now) (GoesOn 2 tid bytes.now)) }
+    ensures { IfOk result (λ found. MatchOption found (NoneGoesOn 2 tid bytes.now) (BodyFollows 2 tid bytes.now)) }
 {
     let Some((part, rest)) = first_part(alloc, bytes)? else {
         return Ok(None);
@@ -247,7 +248,7 @@ fn read_executed(alloc: Global, tid: Tid, bytes: &[u8]) -> Result<Option<Record>
 
 /// The decision that the bytes behind its id spell.
 fn read_decided(tid: Tid, bytes: &[u8]) -> Option<Record>
-    ensures { MatchOption result (NoneGoesOn 3 tid bytes.now) (GoesOn 3 tid bytes.now) }
+    ensures { MatchOption result (NoneGoesOn 3 tid bytes.now) (BodyFollows 3 tid bytes.now) }
 {
     match bytes {
         [0] => Some(Record::Decided { tid, yes: false }),
@@ -258,7 +259,7 @@ fn read_decided(tid: Tid, bytes: &[u8]) -> Option<Record>
 
 /// The refusal to vote whose id the bytes are behind.
 fn read_forced(tid: Tid, bytes: &[u8]) -> Option<Record>
-    ensures { MatchOption result (NoneGoesOn 4 tid bytes.now) (GoesOn 4 tid bytes.now) }
+    ensures { MatchOption result (NoneGoesOn 4 tid bytes.now) (BodyFollows 4 tid bytes.now) }
 {
     match bytes {
         [] => Some(Record::Forced { tid }),
@@ -268,7 +269,7 @@ fn read_forced(tid: Tid, bytes: &[u8]) -> Option<Record>
 
 /// The record of this kind and id that the bytes behind its id spell.
 fn read_behind(alloc: Global, kind: u8, tid: Tid, bytes: &[u8]) -> Result<Option<Record>, NoMemory>
-    ensures { IfOk result (λ found. MatchOption found (NoneGoesOn kind tid bytes.now) (GoesOn kind tid bytes.now)) }
+    ensures { IfOk result (λ found. MatchOption found (NoneGoesOn kind tid bytes.now) (BodyFollows kind tid bytes.now)) }
 {
     match kind {
         1 => read_voted(alloc, tid, bytes),
@@ -293,7 +294,8 @@ fn record_of(alloc: Global, body: &[u8]) -> Result<Option<Record>, NoMemory>
 }
 
 impl Record {
-    /// The record that the bytes spell, which is in the grammar. BadRecord: they spell no record in the grammar.
+    /// The record that the bytes spell, which is in the grammar. BadRecord: they spell no record in
+    /// the grammar.
     pub fn read(alloc: Global, body: &[u8]) -> Result<Record, RecordError>
         ensures read { IfOk result (Spells body.now) }
         ensures bad { IfErr result (λ e. e ≡ RecordError.BadRecord → SpellsNone body.now) }

@@ -55,13 +55,15 @@ pub enum NodeReply {
     Done {
         reads: Reads,
     },
-    /// The first range of the part that conflicts with one held for another id, and the least such id.
+    /// The first range of the part that conflicts with one held for another id, and the least such
+    /// id.
     BadLock {
         start: u32,
         length: u32,
         holder: Tid,
     },
-    /// Compare item `item` of the part, from 0, is the first that differs; the bytes that stand there.
+    /// Compare item `item` of the part, from 0, is the first that differs; the bytes that stand
+    /// there.
     BadCompare {
         item: u16,
         found: Bytes,

@@ -5,8 +5,8 @@ use std::alloc::Global;
 /// What a memory node is asked.
 #[derive(Debug, Drop)]
 pub enum Request {
-    /// To vote for its part of a minitransaction with several participants. Done is the yes vote: the part is held until it is
-    /// decided.
+    /// To vote for its part of a minitransaction with several participants. Done is the yes vote:
+    /// the part is held until it is decided.
     Prepare {
         tid: Tid,
         participants: Nodes,

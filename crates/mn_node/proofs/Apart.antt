@@ -8,7 +8,7 @@ use Rattle.mn_mini.specs.declared.record.Record.TheVariants.{Voted, Executed, De
 use Rattle.mn_mini.specs.declared.request.Request.{Request}
 use Rattle.mn_mini.specs.declared.request.Request.TheVariants as Ask
 use Rattle.mn_mini.specs.Flat.{Mismatched, part_mismatch_from}
-use Rattle.mn_mini.specs.Laws.{AreApart, HeldPartsStayApart}
+use Rattle.mn_mini.specs.Laws.{PartsAreApart, HeldPartsStayApart}
 use Rattle.mn_mini.specs.Mini.{has_write}
 use Rattle.mn_mini.specs.Node.{Clash, answer, after_compares, after_locks, clash_of, has_forced, has_voted, held_parts, is_held, space_of, with_added}
 use Rattle.mn_mini.specs.RecordGrammar.{IsRecord}
@@ -20,7 +20,7 @@ use Rattle.mn_mini.specs.declared.reply.NodeReply.{NodeReply}
 use Rattle.mn_mini.specs.declared.reply.NodeReply.TheVariants as Say
 use Rattle.mn_node.specs.declared.memory.Memory.{Memory}
 use Rattle.mn_page.specs.Base.{base_of}
-use Rattle.mn_node.specs.Node.{Continues, HasStopped, IsUnasked, IsUp, Replies, SameNode, added_to, node_answer}
+use Rattle.mn_node.specs.Node.{LogContinues, HasStopped, IsUnasked, IsUp, Replies, SameNode, added_to, node_answer}
 use Rattle.mn_node.specs.State.{IsNode}
 use Rattle.mn_node.proofs.Found.{first_sound}
 use Rattle.mn_node.proofs.Replies.{up_stands}
@@ -31,10 +31,10 @@ pub turned : (records : List Record) (o : Option Record) → reverse (added_to r
 turned records None = refl
 turned records (Some r) = reverse-append records (r ∷ [])
 
-pub apart_after : HeldPartsStayApart → (base : List ℕ) (records : List Record) (request : Request) → AreApart (held_parts (reverse records))
-    → AreApart (held_parts (reverse (added_to records (answer base (reverse records) request).added)))
+pub apart_after : HeldPartsStayApart → (base : List ℕ) (records : List Record) (request : Request) → PartsAreApart (held_parts (reverse records))
+    → PartsAreApart (held_parts (reverse (added_to records (answer base (reverse records) request).added)))
 apart_after law base records request apart =
-    subst (λ (l : List Record). AreApart (held_parts l)) (sym (turned records (answer base (reverse records) request).added)) (law base (reverse records) (request ∷ []) apart)
+    subst (λ (l : List Record). PartsAreApart (held_parts l)) (sym (turned records (answer base (reverse records) request).added)) (law base (reverse records) (request ∷ []) apart)
 
 by_compares : (space : List ℕ) (part : List PartItem) (added : Option Record) (m : Option Mismatched) (r : Record) → (after_compares space part added m).added ≡ Some r → added ≡ Some r
 by_compares space part added (Some at) r e = absurd cc
@@ -81,15 +81,15 @@ left_sound records r p is = all_append IsRecord records (r ∷ []) p (is, tt)
 true_is : true ≡ false → ⊥
 true_is e = cc
 
-is_node : {D : Type 0} (state : D → DiskState) (faults : D → ℕ) (redo new : RedoState D) (m after : Memory) (down : Bool) (pending : Option Record) → IsNode state redo m down pending → down ≡ false → Continues state faults redo new → SameNode m after
-    → IsUp state new after → AreApart (held_parts (reverse after.records.items)) → IsNode state new after down pending
+is_node : {D : Type 0} (state : D → DiskState) (faults : D → ℕ) (redo new : RedoState D) (m after : Memory) (down : Bool) (pending : Option Record) → IsNode state redo m down pending → down ≡ false → LogContinues state faults redo new → SameNode m after
+    → IsUp state new after → PartsAreApart (held_parts (reverse after.records.items)) → IsNode state new after down pending
 is_node state faults redo new m after down pending was up goes same is apart =
     let none = was.settled up in record {
       up = λ _. is;
       settled = was.settled;
       sound = subst (λ (o : Option Record). AllByRecursion IsRecord (added_to after.records.items o)) (sym none) is.memory.sound;
       apart = apart;
-      apart_left = subst (λ (o : Option Record). AreApart (held_parts (reverse (added_to after.records.items o)))) (sym none) apart;
+      apart_left = subst (λ (o : Option Record). PartsAreApart (held_parts (reverse (added_to after.records.items o)))) (sym none) apart;
       stands = λ h c image. inl (up_stands state new after is h c image);
       header = goes.header was.header;
       node = same.0 ∙ was.node ∙ sym goes.node;
@@ -97,14 +97,14 @@ is_node state faults redo new m after down pending was up goes same is apart =
       some = subst (λ (n : ℕ). 0 < n) (sym goes.nodes) was.some;
     }
 
-apart_full : {D : Type 0} (state : D → DiskState) (new : RedoState D) (m after : Memory) (request : Request) (stop : Option StopAt) (reply : NodeReply) → HeldPartsStayApart → AreApart (held_parts (reverse m.records.items))
+apart_full : {D : Type 0} (state : D → DiskState) (new : RedoState D) (m after : Memory) (request : Request) (stop : Option StopAt) (reply : NodeReply) → HeldPartsStayApart → PartsAreApart (held_parts (reverse m.records.items))
     → IsUp state new after × ((node_answer m request).reply ≡ reply) × (after.records.items ≡ added_to m.records.items (node_answer m request).added) × IsUnasked stop (node_answer m request).added
-    → IsUp state new after × AreApart (held_parts (reverse after.records.items))
-apart_full state new m after request stop reply law apart told = (told.0, subst (λ (l : List Record). AreApart (held_parts (reverse l))) (sym told.2) (apart_after law (base_of m.nodes m.node) m.records.items request apart))
+    → IsUp state new after × PartsAreApart (held_parts (reverse after.records.items))
+apart_full state new m after request stop reply law apart told = (told.0, subst (λ (l : List Record). PartsAreApart (held_parts (reverse l))) (sym told.2) (apart_after law (base_of m.nodes m.node) m.records.items request apart))
 
-up_apart : {D : Type 0} (state : D → DiskState) (new : RedoState D) (m after : Memory) (request : Request) (stop : Option StopAt) (reply : NodeReply) → HeldPartsStayApart → AreApart (held_parts (reverse m.records.items))
-    → Replies state m request stop reply new after → IsUp state new after × AreApart (held_parts (reverse after.records.items))
-up_apart state new m after request stop Say.NoMemory law apart told = (told.0, subst (λ (l : List Record). AreApart (held_parts (reverse l))) (sym told.1) apart)
+up_apart : {D : Type 0} (state : D → DiskState) (new : RedoState D) (m after : Memory) (request : Request) (stop : Option StopAt) (reply : NodeReply) → HeldPartsStayApart → PartsAreApart (held_parts (reverse m.records.items))
+    → Replies state m request stop reply new after → IsUp state new after × PartsAreApart (held_parts (reverse after.records.items))
+up_apart state new m after request stop Say.NoMemory law apart told = (told.0, subst (λ (l : List Record). PartsAreApart (held_parts (reverse l))) (sym told.1) apart)
 up_apart state new m after request stop Say.Stopped law apart told = absurd told
 up_apart state new m after request stop Say.Down law apart told = absurd told
 up_apart state new m after request stop (Say.Done reads) law apart told = apart_full state new m after request stop (Say.Done reads) law apart told
@@ -117,23 +117,23 @@ up_apart state new m after request stop (Say.Listed doubts) law apart told = apa
 up_apart state new m after request stop (Say.Peeked bytes) law apart told = apart_full state new m after request stop (Say.Peeked bytes) law apart told
 
 pub node_replied : {D : Type 0} (state : D → DiskState) (faults : D → ℕ) (redo new : RedoState D) (m after : Memory) (down : Bool) (pending : Option Record) (request : Request) (stop : Option StopAt) (reply : NodeReply) → HeldPartsStayApart
-    → IsNode state redo m down pending → down ≡ false → Continues state faults redo new → SameNode m after → Replies state m request stop reply new after → IsNode state new after down pending
+    → IsNode state redo m down pending → down ≡ false → LogContinues state faults redo new → SameNode m after → Replies state m request stop reply new after → IsNode state new after down pending
 node_replied state faults redo new m after down pending request stop reply law was up goes same told =
     let both = up_apart state new m after request stop reply law was.apart told in is_node state faults redo new m after down pending was up goes same both.0 both.1
 
 pub node_stopped : {D : Type 0} (state : D → DiskState) (faults : D → ℕ) (redo new : RedoState D) (m after : Memory) (down : Bool) (pending : Option Record) (request : Request) (stop : Option StopAt) (left : Record) → HeldPartsStayApart → IsSoundRequest request
-    → IsNode state redo m down pending → Continues state faults redo new → SameNode m after
+    → IsNode state redo m down pending → LogContinues state faults redo new → SameNode m after
     → (after.records.items ≡ m.records.items) × ((node_answer m request).added ≡ Some left) × HasStopped state faults redo.disk new.disk redo.node redo.nodes m.records.items left stop → IsNode state new after true (Some left)
 node_stopped state faults redo new m after down pending request stop left law sound was goes same told =
     let base = base_of m.nodes m.node in
     let records = first_sound m.records.items pending was.sound in
     let one = added_sound base (reverse m.records.items) request left sound told.1 in
-    let apart = subst (λ (o : Option Record). AreApart (held_parts (reverse (added_to m.records.items o)))) told.1 (apart_after law base m.records.items request was.apart) in record {
+    let apart = subst (λ (o : Option Record). PartsAreApart (held_parts (reverse (added_to m.records.items o)))) told.1 (apart_after law base m.records.items request was.apart) in record {
       up = λ e. absurd (true_is e);
       settled = λ e. absurd (true_is e);
       sound = subst (λ (l : List Record). AllByRecursion IsRecord (added_to l (Some left))) (sym told.0) (left_sound m.records.items left records one);
-      apart = subst (λ (l : List Record). AreApart (held_parts (reverse l))) (sym told.0) was.apart;
-      apart_left = subst (λ (l : List Record). AreApart (held_parts (reverse (added_to l (Some left))))) (sym told.0) apart;
+      apart = subst (λ (l : List Record). PartsAreApart (held_parts (reverse l))) (sym told.0) was.apart;
+      apart_left = subst (λ (l : List Record). PartsAreApart (held_parts (reverse (added_to l (Some left))))) (sym told.0) apart;
       stands = λ h. same_stands (state new.disk) redo.node new.node redo.nodes new.nodes m.records.items after.records.items (Some left) (sym goes.node) (sym goes.nodes) (sym told.0) (told.2.stands (goes.no_better h));
       header = goes.header was.header;
       node = same.0 ∙ was.node ∙ sym goes.node;

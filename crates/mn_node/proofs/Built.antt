@@ -16,39 +16,18 @@ use Rattle.mn_mini.specs.Node.{HeldPart, held_parts, held_part_of, without_tid, 
 use Rattle.mn_mini.specs.RecordGrammar.{IsRecord}
 use Rattle.mn_locks.specs.declared.hold.Hold.{Hold}
 use Rattle.mn_locks.specs.Locks.{hold_of, holds_of, without}
-use Rattle.mn_node.specs.Held.{IsPartOf}
+use Rattle.mn_node.specs.declared.held.Vote.{Vote}
+use Rattle.mn_node.specs.Held.{others}
 use Rattle.mn_node.specs.Part.{shared_of, alone_of, part_holds, holds_by}
 use Rattle.mn_node.specs.Memory.{IsBuilt, is_among}
 use Rattle.mn_node.proofs.Ties.{holds_by-cons}
+use Rattle.mn_node.proofs.Votes.{held_voted, held_same, held_decided, newest}
 
 -- Lists
 
 pub all-reverse : {X : Type 0} (P : X → Type 0) (xs : List X) → AllByRecursion P xs → AllByRecursion P (reverse xs)
 all-reverse P [] p = tt
 all-reverse {X = X} P (x ∷ xs) p = subst (λ (l : List X). AllByRecursion P l) (sym (reverse-append (x ∷ []) xs)) (all_append P (reverse xs) (x ∷ []) (all-reverse P xs p.1) (p.0, tt))
-
-pub newest : (records : List Record) (r : Record) → reverse (records ++ r ∷ []) ≡ r ∷ reverse records
-newest records r = reverse-append records (r ∷ [])
-
--- Held parts
-
-no_more : (tid : Tid) (hs : List HeldPart) → length (without_tid tid hs) ≤ length hs
-no_more tid [] = omega arith
-no_more tid (h ∷ hs) = of (tid_same h.tid tid) (no_more tid hs)
-  where
-    of : (b : Bool) → length (without_tid tid hs) ≤ length hs → length (if b then without_tid tid hs else h ∷ without_tid tid hs) ≤ suc (length hs)
-    of true ih = omega arith
-    of false ih = omega arith
-
--- a decision of a held part leaves fewer
-pub fewer : (tid : Tid) (hs : List HeldPart) (part : List PartItem) → IsPartOf (held_part_of tid hs) part → length (without_tid tid hs) + 1 ≤ length hs
-fewer tid [] part is = absurd is
-fewer tid (h ∷ hs) part is = of (tid_same h.tid tid) (fewer tid hs part) is
-  where
-    of : (b : Bool) → (IsPartOf (held_part_of tid hs) part → length (without_tid tid hs) + 1 ≤ length hs) → IsPartOf (if b then Some h else held_part_of tid hs) part
-        → length (if b then without_tid tid hs else h ∷ without_tid tid hs) + 1 ≤ suc (length hs)
-    of true ih is = let most = no_more tid hs in omega arith
-    of false ih is = let less = ih is in omega arith
 
 -- Locks that a decision frees
 
@@ -92,9 +71,9 @@ holds_without tid (h ∷ hs) =
 
 -- What each record adds
 
-pub built_voted : (base : List ℕ) (records : List Record) (space : List ℕ) (holds : List Hold) (forced : List Tid) (tid : Tid) (ps : List NodeNo) (part : List PartItem)
-    → IsBuilt base records space holds forced → IsRecord (Voted tid ps part) → IsBuilt base (records ++ Voted tid ps part ∷ []) space (holds ++ holds_of tid (shared_of part) (alone_of part)) forced
-built_voted base records space holds forced tid ps part b is =
+pub built_voted : (base : List ℕ) (records : List Record) (space : List ℕ) (holds : List Hold) (forced : List Tid) (held : List Vote) (tid : Tid) (ps : List NodeNo) (part : List PartItem) (place : ℕ) → place ≡ length records
+    → IsBuilt base records space holds forced held → IsRecord (Voted tid ps part) → IsBuilt base (records ++ Voted tid ps part ∷ []) space (holds ++ holds_of tid (shared_of part) (alone_of part)) forced (held ++ record { tid = tid; place = place } ∷ [])
+built_voted base records space holds forced held tid ps part place at b is =
     let turned = newest records (Voted tid ps part) in
     let h : HeldPart = record { tid = tid; participants = ps; part = part } in
     record {
@@ -102,18 +81,20 @@ built_voted base records space holds forced tid ps part b is =
       size = b.size;
       holds_are = ap (λ (l : List Hold). l ++ part_holds h) b.holds_are ∙ sym (holds_by-cons h (held_parts (reverse records))) ∙ sym (ap (λ (l : List Record). holds_by (held_parts l)) turned);
       forced_are = λ t. b.forced_are t ∙ sym (ap (λ (l : List Record). has_forced l t) turned);
+      held_are = held_voted records held tid ps part place at b.held_are;
       sound = all_append IsRecord records (Voted tid ps part ∷ []) b.sound (is, tt);
     }
 
-pub built_executed : (base : List ℕ) (records : List Record) (space new : List ℕ) (holds : List Hold) (forced : List Tid) (tid : Tid) (part : List PartItem)
-    → IsBuilt base records space holds forced → IsRecord (Executed tid part) → new ≡ space_after_part space part → length new ≡ space_size → IsBuilt base (records ++ Executed tid part ∷ []) new holds forced
-built_executed base records space new holds forced tid part b is e size =
+pub built_executed : (base : List ℕ) (records : List Record) (space new : List ℕ) (holds : List Hold) (forced : List Tid) (held : List Vote) (tid : Tid) (part : List PartItem)
+    → IsBuilt base records space holds forced held → IsRecord (Executed tid part) → new ≡ space_after_part space part → length new ≡ space_size → IsBuilt base (records ++ Executed tid part ∷ []) new holds forced held
+built_executed base records space new holds forced held tid part b is e size =
     let turned = newest records (Executed tid part) in
     record {
       space_is = e ∙ ap (λ (l : List ℕ). space_after_part l part) b.space_is ∙ sym (ap (λ (l : List Record). space_of base l) turned);
       size = size;
       holds_are = b.holds_are ∙ sym (ap (λ (l : List Record). holds_by (held_parts l)) turned);
       forced_are = λ t. b.forced_are t ∙ sym (ap (λ (l : List Record). has_forced l t) turned);
+      held_are = held_same records held (Executed tid part) refl b.held_are;
       sound = all_append IsRecord records (Executed tid part ∷ []) b.sound (is, tt);
     }
 
@@ -132,29 +113,31 @@ among-append (u ∷ tids) t tid = ap (λ (b : Bool). tid_same u tid || b) (among
     past true false c = refl
     past false b c = refl
 
-pub built_forced : (base : List ℕ) (records : List Record) (space : List ℕ) (holds : List Hold) (forced : List Tid) (tid : Tid)
-    → IsBuilt base records space holds forced → IsRecord (Forced tid) → IsBuilt base (records ++ Forced tid ∷ []) space holds (forced ++ tid ∷ [])
-built_forced base records space holds forced tid b is =
+pub built_forced : (base : List ℕ) (records : List Record) (space : List ℕ) (holds : List Hold) (forced : List Tid) (held : List Vote) (tid : Tid)
+    → IsBuilt base records space holds forced held → IsRecord (Forced tid) → IsBuilt base (records ++ Forced tid ∷ []) space holds (forced ++ tid ∷ []) held
+built_forced base records space holds forced held tid b is =
     let turned = newest records (Forced tid) in
     record {
       space_is = b.space_is ∙ sym (ap (λ (l : List Record). space_of base l) turned);
       size = b.size;
       holds_are = b.holds_are ∙ sym (ap (λ (l : List Record). holds_by (held_parts l)) turned);
       forced_are = λ t. among-append forced tid t ∙ ap (λ (x : Bool). tid_same tid t || x) (b.forced_are t) ∙ sym (ap (λ (l : List Record). has_forced l t) turned);
+      held_are = held_same records held (Forced tid) refl b.held_are;
       sound = all_append IsRecord records (Forced tid ∷ []) b.sound (is, tt);
     }
 
-pub built_decided : (base : List ℕ) (records : List Record) (space new : List ℕ) (holds : List Hold) (forced : List Tid) (tid : Tid) (verdict : Bool)
-    → IsBuilt base records space holds forced → IsRecord (Decided tid verdict)
+pub built_decided : (base : List ℕ) (records : List Record) (space new : List ℕ) (holds : List Hold) (forced : List Tid) (held : List Vote) (tid : Tid) (verdict : Bool)
+    → IsBuilt base records space holds forced held → IsRecord (Decided tid verdict)
     → new ≡ (if verdict then with_held (λ t. tid_same t tid) space (held_parts (reverse records)) else space) → length new ≡ space_size
-    → IsBuilt base (records ++ Decided tid verdict ∷ []) new (without tid holds) forced
-built_decided base records space new holds forced tid verdict b is e size =
+    → IsBuilt base (records ++ Decided tid verdict ∷ []) new (without tid holds) forced (others tid held)
+built_decided base records space new holds forced held tid verdict b is e size =
     let turned = newest records (Decided tid verdict) in
     record {
       space_is = e ∙ spaces verdict ∙ sym (ap (λ (l : List Record). space_of base l) turned);
       size = size;
       holds_are = ap (λ (l : List Hold). without tid l) b.holds_are ∙ holds_without tid (held_parts (reverse records)) ∙ sym (ap (λ (l : List Record). holds_by (held_parts l)) turned);
       forced_are = λ t. b.forced_are t ∙ sym (ap (λ (l : List Record). has_forced l t) turned ∙ not_force t verdict);
+      held_are = held_decided records held tid verdict b.held_are;
       sound = all_append IsRecord records (Decided tid verdict ∷ []) b.sound (is, tt);
     }
   where

@@ -78,16 +78,6 @@ left_front bodies records (Some r) e =
 pub other_front : (bodies : List (List ℕ)) (records : List Record) (pending : Option Record) → (IsFront bodies records → ⊥) → IsOther bodies records pending
 other_front bodies records pending never = (λ e. never (listed_front bodies records e), λ e. never (left_front bodies records pending e))
 
--- the bodies are as many as the records
-pub front_all : (bodies : List (List ℕ)) (records : List Record) → IsFront bodies records → length bodies ≡ length records → bodies ≡ bodies_of records
-front_all bodies records front same = sym (take_all (length records) bodies (omega (arith, same))) ∙ front.first
-
--- one more
-pub front_one : (bodies : List (List ℕ)) (records : List Record) (r : Record) → IsFront bodies records → length bodies ≡ length records + 1 → get_or bodies (length records) [] ≡ record_bytes r → bodies ≡ bodies_of (records ++ r ∷ [])
-front_one bodies records r front size same =
-    sym (take_all (length records + 1) bodies (omega (arith, size))) ∙ take_more bodies (length records) [] (omega (arith, size)) ∙ ap (λ (l : List (List ℕ)). l ++ get_or bodies (length records) [] ∷ []) front.first
-    ∙ ap (λ (b : List ℕ). bodies_of records ++ b ∷ []) same ∙ sym (map-append record_bytes records (r ∷ []))
-
 -- with more bodies than records the records alone are not the log's
 pub not_alone : (bodies : List (List ℕ)) (records : List Record) → length records < length bodies → bodies ≢ bodies_of records
 not_alone bodies records more e = let none : ⊥ = omega (arith, more, ap (λ (l : List (List ℕ)). length l) e, size_of records) in none
@@ -230,9 +220,3 @@ differs_past bodies records r (Damaged place named found) front more same told =
         differs = λ e. some_record bodies (length records + 1) found f more (e ∙ record_past (records ++ r ∷ []) (length records + 1) (omega (arith, size)));
       }),
     )
-
--- a body that spells no record differs from any
-pub unread_differs : (bodies : List (List ℕ)) (at : ℕ) (kept : Option Record) (e : RestartError) → IsUnread bodies e → Differs bodies at kept e
-unread_differs bodies at kept Fault told = absurd told
-unread_differs bodies at kept (Damaged place named found) told = inl told
-unread_differs bodies at kept NoMemory told = tt

@@ -1,12 +1,11 @@
 pub mod Space
 pub mod Tids
-pub mod Decided
+pub mod Votes
 pub mod Ties
 pub mod TestedParts
 pub mod Built
 pub mod Steps
-pub mod Listing
-pub mod Lasting
+pub mod Locked
 pub mod Replayed
 pub mod Resting
 pub mod Replies

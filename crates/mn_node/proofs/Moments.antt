@@ -1,6 +1,6 @@
 -- What a crash leaves at the moments of a call.
 use Rattle.std.proofs.Common.{◌≡◌, ◌++◌, ◌∷◌, [], ◌∙◌, inl, inr, ⊎_elim, ℕ, Bool, List, Option, Some, None, true, false, refl, ap, sym, subst, arith}
-use Rattle.mn_io.specs.DiskModel.{DiskState, IsDisk, LeavesOnly, NoneNew, Stays, WritesNothing}
+use Rattle.mn_io.specs.DiskModel.{DiskState, IsDisk, LeavesOnly, NoneNew, DiskStays, WritesNothing}
 use Rattle.mn_io.proofs.Moments.{LeavesOnly-trans, LeavesOnly-weaker}
 use Rattle.mn_redo.specs.Grammar.{IsBeforeOrAfter, Stands}
 use Rattle.mn_redo.specs.Redo.{RedoState, StandsFor}
@@ -9,13 +9,13 @@ use Rattle.mn_mini.specs.RecordGrammar.{record_bytes}
 use Rattle.mn_node.specs.declared.memory.Memory.{Memory}
 use Rattle.mn_mini.specs.declared.request.Request.{Request}
 use Rattle.mn_mini.specs.Node.{Response}
-use Rattle.mn_node.specs.Node.{Continues, IsUp, IsWithOrWithout, LeavesAt, RestsAt, StandsWithOrWithout, bodies_of, node_answer}
+use Rattle.mn_node.specs.Node.{LogContinues, IsUp, IsWithOrWithout, LeavesAt, DiskRestsAt, StandsWithOrWithout, bodies_of, node_answer}
 use Rattle.mn_node.specs.Restart.{IsListed}
 use Rattle.mn_node.specs.State.{response_to}
 use Rattle.mn_node.proofs.Replies.{same_answer, seen, up_stands}
 use Rattle.mn_node.proofs.Steps.{one_body_more}
 
-pub only_rests : (old new : DiskState) (P : List ℕ → Type 0) → IsDisk old → ((c : List ℕ) → old.images c → P c) → Stays old new → LeavesOnly old new P
+pub only_rests : (old new : DiskState) (P : List ℕ → Type 0) → IsDisk old → ((c : List ℕ) → old.images c → P c) → DiskStays old new → LeavesOnly old new P
 only_rests old new P is_disk all stays = record {
   later = stays.time.later;
   each = λ c left. ⊎_elim (λ was. all c (is_disk.only_now c was)) (λ now. all c (stays.images c now)) (stays.time.nothing_else old.moment c (omega arith) left);
@@ -34,7 +34,7 @@ pub at_weaker : {D : Type 0} (state : D → DiskState) (old new : D) (P Q : List
 at_weaker state old new P Q f (inl same) = inl same
 at_weaker state old new P Q f (inr told) = inr (λ h. LeavesOnly-weaker (state old) (state new) P Q f (told h))
 
-pub at_rests : {D : Type 0} (state : D → DiskState) (old new : D) (P : List ℕ → Type 0) → ((state old).honest → IsDisk (state old)) → ((state old).honest → (c : List ℕ) → (state old).images c → P c) → RestsAt state old new → LeavesAt state old new P
+pub at_rests : {D : Type 0} (state : D → DiskState) (old new : D) (P : List ℕ → Type 0) → ((state old).honest → IsDisk (state old)) → ((state old).honest → (c : List ℕ) → (state old).images c → P c) → DiskRestsAt state old new → LeavesAt state old new P
 at_rests state old new P is_disk all (inl same) = inl same
 at_rests state old new P is_disk all (inr stays) = inr (λ h. only_rests (state old) (state new) P (is_disk h) (all h) (stays h))
 
@@ -67,7 +67,7 @@ moved node node2 nodes nodes2 records records2 added e f g c told =
 
 -- a record is put into the log, after room was made
 pub kept_moments : {D : Type 0} (state : D → DiskState) (faults : D → ℕ) (old mid : RedoState D) (new : D) (m middle : Memory) (r : Record) (body : List ℕ) → ((state old.disk).honest → IsDisk (state old.disk)) → IsUp state old m → IsUp state mid middle
-    → Continues state faults old mid → middle.records.items ≡ m.records.items → body ≡ record_bytes r → RestsAt state old.disk mid.disk → LeavesAt state mid.disk new (IsBeforeOrAfter mid.node mid.nodes mid.bodies body)
+    → LogContinues state faults old mid → middle.records.items ≡ m.records.items → body ≡ record_bytes r → DiskRestsAt state old.disk mid.disk → LeavesAt state mid.disk new (IsBeforeOrAfter mid.node mid.nodes mid.bodies body)
     → LeavesAt state old.disk new (IsWithOrWithout old.node old.nodes m.records.items (Some r))
 kept_moments state faults old mid new m middle r body is_disk up still goes same spelled rests put =
     let P = IsWithOrWithout old.node old.nodes m.records.items (Some r) in
@@ -91,18 +91,6 @@ request_moments state redo new m down pending request up e f is_disk told h =
 
 -- Starts and restarts
 
-pub stands_moved : (node node2 nodes nodes2 : ℕ) (bodies bodies2 : List (List ℕ)) → node ≡ node2 → nodes ≡ nodes2 → bodies ≡ bodies2 → (c : List ℕ) → Stands node nodes c bodies → Stands node2 nodes2 c bodies2
-stands_moved node node2 nodes nodes2 bodies bodies2 e f g c told =
-    let with_node = subst (λ (n : ℕ). Stands n nodes c bodies) e told in
-    let with_nodes = subst (λ (n : ℕ). Stands node2 n c bodies) f with_node in
-    subst (λ (l : List (List ℕ)). Stands node2 nodes2 c l) g with_nodes
-
-pub start_moments : {D : Type 0} (state : D → DiskState) (old mid : RedoState D) (new : D) → IsDisk (state old.disk) → mid.node ≡ old.node → mid.nodes ≡ old.nodes → mid.bodies ≡ old.bodies → Stays (state old.disk) (state mid.disk)
-    → StandsFor (state old.disk) old.node old.nodes old.bodies → LeavesOnly (state mid.disk) (state new) (λ c. Stands mid.node mid.nodes c mid.bodies) → LeavesOnly (state old.disk) (state new) (λ c. Stands old.node old.nodes c old.bodies)
-start_moments state old mid new is_disk e f g stays stands told =
-    LeavesOnly-trans (state old.disk) (state mid.disk) (state new) (λ c. Stands old.node old.nodes c old.bodies) (only_rests (state old.disk) (state mid.disk) (λ c. Stands old.node old.nodes c old.bodies) is_disk stands stays)
-    (LeavesOnly-weaker (state mid.disk) (state new) (λ c. Stands mid.node mid.nodes c mid.bodies) (λ c. Stands old.node old.nodes c old.bodies) (stands_moved mid.node old.node mid.nodes old.nodes mid.bodies old.bodies e f g) told)
-
 pub listed_stands : (node nodes : ℕ) (bodies : List (List ℕ)) (records : List Record) (pending : Option Record) (there : Bool) → IsListed bodies records pending there → (c : List ℕ) → Stands node nodes c bodies → IsWithOrWithout node nodes records pending c
 listed_stands node nodes bodies records pending false e c told = inl (subst (λ (l : List (List ℕ)). Stands node nodes c l) e told)
 listed_stands node nodes bodies records None true e c told = absurd e
@@ -122,10 +110,10 @@ woken state old mid new records pending there e f listed stands first second =
     (λ c told. moved mid.node old.node mid.nodes old.nodes records records pending e f refl c (listed_stands mid.node mid.nodes mid.bodies records pending there listed c told)) second)
 
 -- where nothing was written, and then nothing has changed
-pub writes_nothing : (old mid new : DiskState) → IsDisk mid → WritesNothing old mid → NoneNew old mid → Stays mid new
+pub writes_nothing : (old mid new : DiskState) → IsDisk mid → WritesNothing old mid → NoneNew old mid → DiskStays mid new
     → WritesNothing old new
 writes_nothing old mid new is_disk first images stays =
     LeavesOnly-trans old mid new old.images first (only_rests mid new old.images is_disk images stays)
 
-pub none_new : (old mid new : DiskState) → NoneNew old mid → Stays mid new → NoneNew old new
+pub none_new : (old mid new : DiskState) → NoneNew old mid → DiskStays mid new → NoneNew old new
 none_new old mid new images stays = λ c image. images c (stays.images c image)

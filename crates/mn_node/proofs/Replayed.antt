@@ -1,6 +1,7 @@
 -- What records make of the space and of the forced ids, one after the other.
-use Rattle.std.proofs.Common.{◌≡◌, ◌<◌, ℕ, zero, suc, Bool, true, false, List, [], ◌∷◌, length, take, get_or, ap, ◌∙◌, arith, if◌then◌else◌}
+use Rattle.std.proofs.Common.{◌≡◌, ◌<◌, ◌+◌, ◌++◌, ℕ, zero, suc, Bool, true, false, List, [], ◌∷◌, length, reverse, take, get_or, ap, sym, ◌∙◌, arith, if◌then◌else◌}
 use Rattle.std.specs.List.{AllByRecursion}
+use Rattle.std.proofs.lemmas.List.{take_more, reverse-append}
 use Rattle.mn_base.specs.Ids.{tid_same}
 use Rattle.mn_base.specs.declared.ids.Tid.{Tid}
 use Rattle.mn_mini.specs.declared.record.Record.{Record}
@@ -13,12 +14,7 @@ pub space_decided : (base : List ℕ) (rs : List Record) (space new : List ℕ) 
 space_decided base rs space new tid true told e = told ∙ ap (λ (l : List ℕ). with_held (λ t. tid_same t tid) l (held_parts rs)) e
 space_decided base rs space new tid false told e = told ∙ e
 
-pub all_first : (n : ℕ) (rs : List Record) → AllByRecursion IsRecord rs → AllByRecursion IsRecord (take n rs)
-all_first zero rs p = tt
-all_first (suc n) [] p = tt
-all_first (suc n) (r ∷ rs) p = (p.0, all_first n rs p.1)
-
-pub record_at : (rs : List Record) (n : ℕ) (r : Record) → AllByRecursion IsRecord rs → n < length rs → IsRecord (get_or rs n r)
-record_at [] n r p less = absurd (omega arith)
-record_at (x ∷ rs) zero r p less = p.0
-record_at (x ∷ rs) (suc n) r p less = record_at rs n r p.1 (omega arith)
+-- one record more
+pub next_record : (records : List Record) (n : ℕ) (r : Record) → n < length records → r ≡ get_or records n r → reverse (take (n + 1) records) ≡ r ∷ reverse (take n records)
+next_record records n r less is =
+    ap (λ (l : List Record). reverse l) (take_more records n r less) ∙ reverse-append (take n records) (get_or records n r ∷ []) ∙ ap (λ (x : Record). x ∷ reverse (take n records)) (sym is)

@@ -72,9 +72,3 @@ one_read bodies n records r body are less is spells = record {
       ∙ sym (map-append record_bytes records (r ∷ []));
   sound = all_append IsRecord records (r ∷ []) are.sound (spells.may, tt);
 }
-
--- what a disk stands for when it is handed back
-pub either_phase : (phase : Phase) (P : Type 0) → (phase ≡ Closing → P) → ((phase ≡ Closing → ⊥) → P) → P
-either_phase Closing P closing going = closing refl
-either_phase Fresh P closing going = going (λ e. cc)
-either_phase Started P closing going = going (λ e. cc)

@@ -1,19 +1,19 @@
 -- A disk of which nothing has changed but its room.
 use Rattle.std.proofs.Common.{◌≡◌, ◌≢◌, inl, inr, ⊎_elim, refl, ◌∙◌, subst, arith}
-use Rattle.mn_io.specs.DiskModel.{DiskState, IsDisk, Stays}
+use Rattle.mn_io.specs.DiskModel.{DiskState, IsDisk, DiskStays}
 use Rattle.mn_redo.specs.declared.redo.Phase.{Phase}
 use Rattle.mn_redo.specs.declared.redo.Phase.TheVariants.{Fresh, Started, Closing}
-use Rattle.mn_node.specs.Node.{RestsAt}
+use Rattle.mn_node.specs.Node.{DiskRestsAt}
 
 -- a disk that no call touched
-pub stays_same : (disk : DiskState) → disk.honest → Stays disk disk
+pub stays_same : (disk : DiskState) → disk.honest → DiskStays disk disk
 stays_same disk h = record {
   time = record { honest = h; later = omega arith; nothing_else = λ t c le left. inl left; keeps = λ t c le left. left };
   content = refl;
   images = λ c image. image;
 }
 
-pub stays_then : (old mid new : DiskState) → IsDisk old → Stays old mid → Stays mid new → Stays old new
+pub stays_then : (old mid new : DiskState) → IsDisk old → DiskStays old mid → DiskStays mid new → DiskStays old new
 stays_then old mid new is_disk first second = record {
   time = record {
     honest = second.time.honest;
@@ -30,13 +30,7 @@ stays_then old mid new is_disk first second = record {
 
 -- after a disk that rested, one that stays
 pub rests_then : {D : Type 0} (state : D → DiskState) (old mid new : D) → ((state old).honest → IsDisk (state old)) → ((state old).honest → (state mid).honest)
-    → RestsAt state old mid → ((state mid).honest → Stays (state mid) (state new)) → (state old).honest → Stays (state old) (state new)
-rests_then state old mid new is_disk goes (inl same) stays h = subst (λ (d : _). Stays (state d) (state new)) same (stays (goes h))
+    → DiskRestsAt state old mid → ((state mid).honest → DiskStays (state mid) (state new)) → (state old).honest → DiskStays (state old) (state new)
+rests_then state old mid new is_disk goes (inl same) stays h = subst (λ (d : _). DiskStays (state d) (state new)) same (stays (goes h))
 rests_then state old mid new is_disk goes (inr rests) stays h =
     stays_then (state old) (state mid) (state new) (is_disk h) (rests h) (stays (goes h))
-
--- a log that isn't fresh and may go on has its header
-pub is_started : (phase : Phase) → phase ≢ Closing → phase ≢ Fresh → phase ≡ Started
-is_started Fresh going used = absurd (used refl)
-is_started Started going used = refl
-is_started Closing going used = absurd (going refl)

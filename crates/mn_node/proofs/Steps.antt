@@ -1,5 +1,5 @@
 -- A node that is up, after a record was added.
-use Rattle.std.proofs.Common.{◌≡◌, ◌≤◌, ◌+◌, ◌*◌, ℕ, Bool, true, false, List, [], ◌∷◌, ◌++◌, Option, Some, None, Result, Ok, Err, OnOk, OnErr, MatchOption, inl, inr, refl, ap, sym, ◌∙◌, subst, arith}
+use Rattle.std.proofs.Common.{vec_len, ◌≡◌, ◌≤◌, ◌+◌, ◌*◌, ℕ, Bool, true, false, List, [], ◌∷◌, ◌++◌, Option, Some, None, Result, Ok, Err, OnOk, OnErr, MatchOption, inl, inr, refl, ap, sym, ◌∙◌, subst, arith}
 use Rattle.std.specs.Prelude.{is_some, ◌⊎◌}
 use Rattle.std.specs.Result.{is_err}
 use Rattle.std.proofs.lemmas.Bool.{false≢true}
@@ -12,10 +12,9 @@ use Rattle.mn_mini.specs.declared.record.Record.TheVariants.{Forced}
 use Rattle.mn_mini.specs.declared.request.Request.TheVariants as Ask
 use Rattle.mn_mini.specs.declared.reply.NodeReply.TheVariants as Say
 use Rattle.mn_mini.specs.Node.{HeldPart, Response, only_reply, answer, has_voted, has_forced}
-use Rattle.mn_node.specs.Held.{IsPartOf}
 use Rattle.mn_base.specs.declared.gate.StopAt.{StopAt}
 use Rattle.mn_base.specs.declared.gate.StopAt.TheVariants.{Before, Half, After}
-use Rattle.mn_node.specs.Node.{StandsWithOrWithout, StopsAt, HasStopped, Continues, IsUnasked, IsLogged, IsPut, RestsAt, added_to}
+use Rattle.mn_node.specs.Node.{StandsWithOrWithout, StopsAt, HasStopped, LogContinues, IsUnasked, IsLogged, IsPut, DiskRestsAt, added_to}
 use Rattle.mn_node.proofs.Resting.{rests_then}
 use Rattle.std.proofs.lemmas.List.{map-append}
 use Rattle.mn_io.specs.DiskModel.{DiskState, IsDisk}
@@ -25,7 +24,7 @@ use Rattle.mn_redo.specs.declared.redo.Phase.TheVariants.{Started}
 use Rattle.mn_mini.specs.declared.record.Record.{Record}
 use Rattle.mn_mini.specs.RecordGrammar.{record_bytes}
 use Rattle.mn_node.specs.declared.memory.Memory.{Memory}
-use Rattle.mn_node.specs.Memory.{IsMemory, HasRoom}
+use Rattle.mn_node.specs.Memory.{IsMemory, HasDecisionRoom}
 use Rattle.mn_node.specs.Node.{IsUp, bodies_of}
 
 pub one_body_more : (records : List Record) (r : Record) → bodies_of records ++ record_bytes r ∷ [] ≡ bodies_of (records ++ r ∷ [])
@@ -35,8 +34,8 @@ pub up_added : {D : Type 0} (state : D → DiskState) (old new : RedoState D) (b
     → IsUp state old before → new.phase ≡ Started → new.bodies ≡ old.bodies ++ record_bytes r ∷ [] → new.node ≡ old.node → new.nodes ≡ old.nodes
     → ((state old.disk).honest → StandsFor (state new.disk) old.node old.nodes (old.bodies ++ record_bytes r ∷ []))
     → ((state new.disk).honest → (state old.disk).honest)
-    → IsMemory after → HasRoom after → after.records.items ≡ before.records.items ++ r ∷ []
-    → after.held ≤ new.spare_bodies → 11 * after.held ≤ new.spare_bytes → IsUp state new after
+    → IsMemory after → HasDecisionRoom after → after.records.items ≡ before.records.items ++ r ∷ []
+    → vec_len after.held ≤ new.spare_bodies → 11 * vec_len after.held ≤ new.spare_bytes → IsUp state new after
 up_added state old new before after r up started bodies node nodes stands better memory room records spare_bodies spare_bytes = record {
   memory = memory;
   room = room;
@@ -60,20 +59,11 @@ put_stands state old new body put node nodes better h c image =
     let with_nodes = subst (λ (n : ℕ). Stands new.node n c (old.bodies ++ body ∷ [])) (sym nodes) with_node in
     subst (λ (l : List (List ℕ)). Stands new.node new.nodes c l) (sym put.bodies) with_nodes
 
-pub held_told : {X : Type 0} (o : Option X) (items : X → List PartItem) (h : Option HeldPart) → MatchOption o (h ≡ None) (λ x. IsPartOf h (items x)) → is_some o ≡ is_some h
-held_told None items h told = sym (ap (λ (x : Option HeldPart). is_some x) told)
-held_told (Some x) items None told = absurd told
-held_told (Some x) items (Some h) told = refl
-
 -- What a call told, by its result
 
 pub on_ok : {T E : Type 0} (r : Result T E) (P : Type 0) → is_err r ≡ false → OnOk r P → P
 on_ok (Ok x) P e p = p
 on_ok (Err x) P e p = absurd (false≢true (sym e))
-
-pub rose_of : {T E : Type 0} (r : Result T E) (before now : ℕ) → is_err r ≡ true → HasCause before now r → Rose before now
-rose_of (Ok x) before now e h = absurd (false≢true e)
-rose_of (Err x) before now e h = h.failed
 
 -- a node that stopped while its record was written
 pub stopped : {D : Type 0} (state : D → DiskState) (old new : RedoState D) (records : List Record) (r : Record) (added : Option Record) (body : List ℕ)
@@ -96,12 +86,6 @@ same_stands disk n n2 ns ns2 rs rs2 added e f g told =
     let with_node = subst (λ (k : ℕ). StandsWithOrWithout disk k ns rs added) e told in
     let with_nodes = subst (λ (k : ℕ). StandsWithOrWithout disk n2 k rs added) f with_node in
     subst (λ (l : List Record). StandsWithOrWithout disk n2 ns2 l added) g with_nodes
-
-pub stands_moved : (disk : DiskState) (n n2 ns ns2 : ℕ) (bs bs2 : List (List ℕ)) → n ≡ n2 → ns ≡ ns2 → bs ≡ bs2 → StandsFor disk n ns bs → StandsFor disk n2 ns2 bs2
-stands_moved disk n n2 ns ns2 bs bs2 e f g told = λ c image.
-    let with_node = subst (λ (k : ℕ). Stands k ns c bs) e (told c image) in
-    let with_nodes = subst (λ (k : ℕ). Stands n2 k c bs) f with_node in
-    subst (λ (l : List (List ℕ)). Stands n2 ns2 c l) g with_nodes
 
 -- A stop
 
@@ -129,7 +113,7 @@ stops_here state faults old new records r body stop bodies spelled images told =
 
 -- the same, since an earlier time
 stops_since : {D : Type 0} (state : D → DiskState) (faults : D → ℕ) (old mid new : D) (node nodes : ℕ) (bodies : List (List ℕ)) (body : List ℕ) (stop : Option StopAt)
-    → faults old ≤ faults mid → ((state old).honest → (state mid).honest) → ((state old).honest → IsDisk (state old)) → RestsAt state old mid
+    → faults old ≤ faults mid → ((state old).honest → (state mid).honest) → ((state old).honest → IsDisk (state old)) → DiskRestsAt state old mid
     → StopsAt state faults mid new node nodes bodies body stop → StopsAt state faults old new node nodes bodies body stop
 stops_since state faults old mid new node nodes bodies body None later honest is_disk rests told = rose_later (faults old) (faults mid) (faults new) later told
 stops_since state faults old mid new node nodes bodies body (Some Before) later honest is_disk rests told =
@@ -143,7 +127,7 @@ stops_since state faults old mid new node nodes bodies body (Some After) later h
 stops_since state faults old mid new node nodes bodies body (Some After) later honest is_disk rests (inr told) = inr (λ h. told (honest h))
 
 pub stops_earlier : {D : Type 0} (state : D → DiskState) (faults : D → ℕ) (old mid : RedoState D) (new : D) (records before : List Record) (r : Record) (stop : Option StopAt)
-    → Continues state faults old mid → ((state old.disk).honest → IsDisk (state old.disk)) → RestsAt state old.disk mid.disk → records ≡ before
+    → LogContinues state faults old mid → ((state old.disk).honest → IsDisk (state old.disk)) → DiskRestsAt state old.disk mid.disk → records ≡ before
     → HasStopped state faults mid.disk new mid.node mid.nodes records r stop → HasStopped state faults old.disk new old.node old.nodes before r stop
 stops_earlier state faults old mid new records before r stop goes is_disk rests same told = record {
   stands = λ h. same_stands (state new) mid.node old.node mid.nodes old.nodes records before (Some r) goes.node goes.nodes same (told.stands (goes.honest h));
@@ -155,8 +139,8 @@ stops_earlier state faults old mid new records before r stop goes is_disk rests 
 }
 
 -- a logged record that the memory then takes leaves the node up
-pub up_logged : {D : Type 0} (state : D → DiskState) (redo : RedoState D) (m after : Memory) (r : Record) (count : ℕ) → IsLogged state redo m r count → IsMemory after → HasRoom after
-    → after.records.items ≡ m.records.items ++ r ∷ [] → after.held ≤ m.held + 1 → IsUp state redo after
+pub up_logged : {D : Type 0} (state : D → DiskState) (redo : RedoState D) (m after : Memory) (r : Record) (count : ℕ) → IsLogged state redo m r count → IsMemory after → HasDecisionRoom after
+    → after.records.items ≡ m.records.items ++ r ∷ [] → vec_len after.held ≤ vec_len m.held + 1 → IsUp state redo after
 up_logged state redo m after r count logged memory room records held = record {
   memory = memory;
   room = room;

@@ -1,7 +1,6 @@
 -- What the test of a part tells.
 use Rattle.std.proofs.Common.{◌≡◌, ℕ, List, Option, Some, None, Result, Ok, Err, IsOk, IsSome, MatchResult, refl, ap, sym, subst, ◌∙◌}
 use Rattle.std.proofs.lemmas.Bool.{false≢true}
-use Rattle.mn_node.specs.Held.{IsPartOf}
 use Rattle.mn_base.specs.declared.ids.Tid.{Tid}
 use Rattle.mn_base.specs.declared.ids.Range.{Range}
 use Rattle.mn_mini.specs.declared.part.PartItem.{PartItem}
@@ -56,11 +55,6 @@ not_held hs holds tid part reads writes held is e f h free told =
 pub is_ok_of : (r : Result (Unit {0}) Held) (P : Type 0) (Q : Held → Type 0) → MatchResult r (λ _. P) Q → ((held : Held) → Q held → ⊥) → IsOk r
 is_ok_of (Ok x) P Q told never = refl
 is_ok_of (Err held) P Q told never = absurd (never held told)
-
--- a held part has items
-pub some_part : (o : Option HeldPart) → IsSome o → (part : List PartItem) × IsPartOf o part
-some_part None is = absurd (false≢true is)
-some_part (Some h) is = (h.part, refl)
 
 -- a part that was tested with yes conflicts with none that is held
 pub free_of : (space : List ℕ) (holds : List Hold) (tid : Tid) (part : List PartItem) (reads : List (List ℕ)) (hs : List HeldPart) → IsTested space holds tid part (Yes reads) → holds ≡ holds_by hs → clash_of hs tid part ≡ None

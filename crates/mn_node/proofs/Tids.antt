@@ -7,12 +7,6 @@ use Rattle.mn_base.specs.Ids.{tid_same, tid_lt, client_same}
 use Rattle.mn_base.specs.declared.ids.Tid.{Tid}
 use Rattle.mn_mini.proofs.RecordGrammar.{same_tid}
 
-pub tid_same-is : (a b : Tid) → tid_same a b ≡ true → a ≡ b
-tid_same-is a b e =
-    let outer = and_parts (nat_eq a.run b.run) (client_same a.client b.client && nat_eq a.serial b.serial) e in
-    let inner = and_parts (client_same a.client b.client) (nat_eq a.serial b.serial) outer.1 in
-    same_tid a b (eqb-true a.run b.run outer.0) (eqb-true a.client.0 b.client.0 inner.0) (eqb-true a.serial b.serial inner.1)
-
 pub tid_same-refl : (a : Tid) → tid_same a a ≡ true
 tid_same-refl a = grind (arith, nat_tests)
 

@@ -1,35 +1,26 @@
--- Parts that are held.
-use Rattle.std.specs.Prelude.{◌≡◌, Bool, false, List, [], ◌∷◌, ◌++◌, Option, Some, None, if◌then◌else◌}
-use Rattle.std.specs.List.{list_any}
+-- Votes whose parts are held.
+use Rattle.std.specs.Prelude.{◌≡◌, not, List, filter, reverse, slice_get, Some}
+use Rattle.std.specs.List.{AllZip}
 use Rattle.mn_base.specs.Ids.{tid_same}
 use Rattle.mn_base.specs.declared.ids.Tid.{Tid}
-use Rattle.mn_mini.specs.declared.part.PartItem.{PartItem}
 use Rattle.mn_mini.specs.declared.record.Record.{Record}
-use Rattle.mn_mini.specs.declared.record.Record.TheVariants.{Voted, Decided}
-use Rattle.mn_mini.specs.Node.{HeldPart}
-use Rattle.mn_locks.specs.declared.hold.Hold.{Hold}
-use Rattle.mn_locks.specs.Locks.{held_of}
-use Rattle.mn_node.specs.Part.{shared_of, alone_of}
+use Rattle.mn_mini.specs.declared.record.Record.TheVariants.{Voted}
+use Rattle.mn_mini.specs.Node.{HeldPart, held_parts}
+use Rattle.mn_node.specs.declared.held.Vote.{Vote}
 
--- there is a held part, and its items are these
-abbrev pub IsPartOf : Option HeldPart → List PartItem → Type 0
-IsPartOf None items = ⊥
-IsPartOf (Some h) items = h.part ≡ items
+-- the record at the vote's place is the vote for this held part
+pub record IsVoteFor (records : List Record) (vote : Vote) (h : HeldPart) : Type 0 where
+  pub tid : vote.tid ≡ h.tid
+  pub record_is : slice_get records vote.place ≡ Some (Voted h.tid h.participants h.part)
 
-abbrev pub is_decision_of : Tid → Record → Bool
-is_decision_of tid (Decided t verdict) = tid_same tid t
-is_decision_of tid r = false
+-- the record at the vote's place is a vote
+abbrev pub IsVote : List Record → Vote → Type 0
+IsVote records vote = (h : HeldPart) × IsVoteFor records vote h
 
--- the part of a vote that none of the records behind it decides
-abbrev pub lasting_first : Record → List Record → List HeldPart
-lasting_first (Voted tid participants part) behind = if list_any (is_decision_of tid) behind then [] else record { tid = tid; participants = participants; part = part } ∷ []
-lasting_first r behind = []
+-- these are the votes for the parts that the records hold, the oldest first
+abbrev pub AreHeld : List Record → List Vote → Type 0
+AreHeld records votes = AllZip (IsVoteFor records) votes (reverse (held_parts (reverse records)))
 
--- the parts that these records, the oldest first, hold at their end, the oldest first
-abbrev pub lasting : List Record → List HeldPart
-lasting [] = []
-lasting (r ∷ records) = lasting_first r records ++ lasting records
-
--- nothing that is held by another id stands against the part
-abbrev pub IsFree : List Hold → HeldPart → Type 0
-IsFree holds h = held_of holds h.tid (shared_of h.part) (alone_of h.part) ≡ None
+-- the votes of other ids
+abbrev pub others : Tid → List Vote → List Vote
+others tid votes = filter (λ vote. not (tid_same vote.tid tid)) votes

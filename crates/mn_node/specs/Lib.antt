@@ -2,6 +2,5 @@ pub mod Part
 pub mod Held
 pub mod Memory
 pub mod Node
-pub mod Doubts
 pub mod State
 pub mod Restart

@@ -1,6 +1,6 @@
 -- A node: its log, its memory, and what it does with a request.
 use Rattle.std.specs.Prelude.{◌≡◌, ◌≤◌, ◌<◌, ◌⊎◌, ◌+◌, ◌-◌, ◌*◌, ◌^◌, ℕ, List, [], ◌∷◌, ◌++◌, length, map, reverse, Option, Some, None, ⊤, vec_len, vec_capacity}
-use Rattle.mn_io.specs.DiskModel.{DiskState, IsStable, LeavesOnly, Stays}
+use Rattle.mn_io.specs.DiskModel.{DiskState, IsStable, LeavesOnly, DiskStays}
 use Rattle.mn_io.specs.Faults.{Rose}
 use Rattle.mn_redo.specs.Grammar.{header, IsStaged, Stands}
 use Rattle.mn_redo.specs.Redo.{HasHeader, RedoState, StandsFor}
@@ -19,34 +19,36 @@ use Rattle.mn_node.specs.declared.step.Kept.TheVariants.{NoRoom, Stopped, Logged
 use Rattle.mn_node.specs.declared.step.Served.{Served}
 use Rattle.mn_node.specs.declared.step.Served.TheVariants as Serve
 use Rattle.mn_page.specs.Base.{base_of}
-use Rattle.mn_node.specs.Memory.{IsMemory, HasRoom}
+use Rattle.mn_node.specs.Memory.{IsMemory, HasDecisionRoom}
 
 -- the bodies of records
 abbrev pub bodies_of : List Record → List (List ℕ)
 bodies_of records = map record_bytes records
 
--- a node that is up: its log is its records, an honest disk stands for them, and there is room for a decision of each held part
+-- a node that is up: its log is its records, an honest disk stands for them, and there is room for
+-- a decision of each held part
 pub record IsUp {D : Type 0} (state : D → DiskState) (redo : RedoState D) (m : Memory) : Type 0 where
   pub memory : IsMemory m
-  pub room : HasRoom m
+  pub room : HasDecisionRoom m
   pub started : redo.phase ≡ Started
   pub bodies : redo.bodies ≡ bodies_of m.records.items
-  pub spare_bodies : m.held ≤ redo.spare_bodies
-  pub spare_bytes : 11 * m.held ≤ redo.spare_bytes
+  pub spare_bodies : vec_len m.held ≤ redo.spare_bodies
+  pub spare_bytes : 11 * vec_len m.held ≤ redo.spare_bytes
   pub stands : (state redo.disk).honest → StandsFor (state redo.disk) redo.node redo.nodes redo.bodies
 
 -- room for one record more, of so many bytes, and so many ranges
 pub record HasMore {D : Type 0} (redo : RedoState D) (m : Memory) (size count : ℕ) : Type 0 where
-  pub held : m.held < 2 ^ 32 - 2
+  pub held : vec_len m.held < 2 ^ 32 - 2
   pub size_fits : size < 2 ^ 32
-  pub bodies : m.held + 2 ≤ redo.spare_bodies
-  pub bytes : 11 * (m.held + 1) + size ≤ redo.spare_bytes
-  pub records : vec_len m.records + m.held + 2 ≤ vec_capacity m.records
+  pub bodies : vec_len m.held + 2 ≤ redo.spare_bodies
+  pub bytes : 11 * (vec_len m.held + 1) + size ≤ redo.spare_bytes
+  pub records : vec_len m.records + vec_len m.held + 2 ≤ vec_capacity m.records
   pub forced : vec_len m.forced < vec_capacity m.forced
+  pub votes : vec_len m.held < vec_capacity m.held
   pub ranges : count ≤ m.locks.spare
 
 -- the log is on the same disk, and its node is the same
-pub record Continues {D : Type 0} (state : D → DiskState) (faults : D → ℕ) (old new : RedoState D) : Type 0 where
+pub record LogContinues {D : Type 0} (state : D → DiskState) (faults : D → ℕ) (old new : RedoState D) : Type 0 where
   pub node : new.node ≡ old.node
   pub nodes : new.nodes ≡ old.nodes
   pub honest : (state old.disk).honest → (state new.disk).honest
@@ -74,26 +76,28 @@ StandsWithOrWithout disk node nodes records added = (c : List ℕ) → disk.imag
 abbrev pub IsWithOrWithout : ℕ → ℕ → List Record → Option Record → List ℕ → Type 0
 IsWithOrWithout node nodes records added c = Stands node nodes c (bodies_of records) ⊎ Stands node nodes c (bodies_of (added_to records added))
 
--- what a crash at any moment of a call leaves: the disk wasn't touched, or it leaves only bytes that have P, where the disk is honest
+-- what a crash at any moment of a call leaves: the disk wasn't touched, or it leaves only bytes
+-- that have P, where the disk is honest
 abbrev pub LeavesAt : {D : Type 0} → (D → DiskState) → D → D → (List ℕ → Type 0) → Type 0
 LeavesAt state old new P = (new ≡ old) ⊎ ((state old).honest → LeavesOnly (state old) (state new) P)
 
 -- the disk wasn't touched, or nothing of it has changed but its room, where it is honest
-abbrev pub RestsAt : {D : Type 0} → (D → DiskState) → D → D → Type 0
-RestsAt state old new = (new ≡ old) ⊎ ((state old).honest → Stays (state old) (state new))
+abbrev pub DiskRestsAt : {D : Type 0} → (D → DiskState) → D → D → Type 0
+DiskRestsAt state old new = (new ≡ old) ⊎ ((state old).honest → DiskStays (state old) (state new))
 
 -- the body's record stands behind its closed gate, and is stable
 pub record IsHalf (disk : DiskState) (node nodes : ℕ) (bodies : List (List ℕ)) (body : List ℕ) : Type 0 where
   pub staged : IsStaged (header node nodes) bodies body disk.content
   pub stable : IsStable disk
 
--- Where a record was to be put into the log and wasn't, the disk failed, or a stop was asked for. Of an honest disk: a stop before the log
--- leaves it as it was; one at half of the record leaves the list from before, and, unless the disk failed, the record behind its closed gate;
--- one after the record leaves, unless the disk failed, the list with the record.
+-- Where a record was to be put into the log and wasn't, the disk failed, or a stop was asked for.
+-- Of an honest disk: a stop before the log leaves it as it was; one at half of the record leaves
+-- the list from before, and, unless the disk failed, the record behind its closed gate; one after
+-- the record leaves, unless the disk failed, the list with the record.
 abbrev pub StopsAt : {D : Type 0} → (D → DiskState) → (D → ℕ) → D → D → ℕ → ℕ → List (List ℕ) → List ℕ → Option StopAt → Type 0
 StopsAt state faults old new node nodes bodies body None = Rose (faults old) (faults new)
 StopsAt state faults old new node nodes bodies body (Some Before) =
-    (state old).honest → StandsFor (state new) node nodes bodies × Stays (state old) (state new)
+    (state old).honest → StandsFor (state new) node nodes bodies × DiskStays (state old) (state new)
 StopsAt state faults old new node nodes bodies body (Some Half) =
     ((state old).honest → StandsFor (state new) node nodes bodies)
     × (Rose (faults old) (faults new) ⊎ ((state old).honest → IsHalf (state new) node nodes bodies body))
@@ -107,8 +111,8 @@ pub record IsPut {D : Type 0} (state : D → DiskState) (old new : RedoState D) 
   pub spare_bytes : old.spare_bytes ≤ new.spare_bytes + length body
   pub stands : (state old.disk).honest → StandsFor (state new.disk) old.node old.nodes (old.bodies ++ body ∷ [])
 
--- a node that stopped inside a request which adds this record: its disk stands for its records, with the record or without, as far as the
--- stop says
+-- a node that stopped inside a request which adds this record: its disk stands for its records,
+-- with the record or without, as far as the stop says
 pub record HasStopped {D : Type 0} (state : D → DiskState) (faults : D → ℕ) (old new : D) (node nodes : ℕ) (records : List Record) (r : Record) (stop : Option StopAt) : Type 0 where
   pub stands : (state old).honest → StandsWithOrWithout (state new) node nodes records (Some r)
   pub at : StopsAt state faults old new node nodes (bodies_of records) (record_bytes r) stop
@@ -118,7 +122,8 @@ abbrev pub IsUnasked : Option StopAt → Option Record → Type 0
 IsUnasked None added = ⊤
 IsUnasked (Some stop) added = added ≡ None
 
--- what a reply says of a node that is up: nothing has changed for want of memory; else the reply is the answer, and its record is added
+-- what a reply says of a node that is up: nothing has changed for want of memory; else the reply is
+-- the answer, and its record is added
 abbrev pub Replies : {D : Type 0} → (D → DiskState) → Memory → Request → Option StopAt → NodeReply → RedoState D → Memory → Type 0
 Replies state m request stop Say.NoMemory new after = IsUp state new after × (after.records.items ≡ m.records.items)
 Replies state m request stop Say.Stopped new after = ⊥
@@ -126,7 +131,8 @@ Replies state m request stop Say.Down new after = ⊥
 Replies state m request stop reply new after =
     IsUp state new after × ((node_answer m request).reply ≡ reply) × (after.records.items ≡ added_to m.records.items (node_answer m request).added) × IsUnasked stop (node_answer m request).added
 
--- what a request does to a node that is up: it replies, or it stops, and then its record may stand on the disk or not
+-- what a request does to a node that is up: it replies, or it stops, and then its record may stand
+-- on the disk or not
 abbrev pub Handled : {D : Type 0} → (D → DiskState) → (D → ℕ) → RedoState D → Memory → Request → Option StopAt → Served → RedoState D → Memory → Type 0
 Handled state faults redo m request stop (Serve.Replied reply) new after = Replies state m request stop reply new after
 Handled state faults redo m request stop (Serve.Stopped left) new after =
@@ -135,15 +141,16 @@ Handled state faults redo m request stop (Serve.Stopped left) new after =
 -- the log has the record, stable on an honest disk, and the memory has the room for it
 pub record IsLogged {D : Type 0} (state : D → DiskState) (redo : RedoState D) (m : Memory) (r : Record) (count : ℕ) : Type 0 where
   pub memory : IsMemory m
-  pub room : HasRoom m
-  pub held : m.held < 2 ^ 32 - 2
-  pub records : vec_len m.records + m.held + 2 ≤ vec_capacity m.records
+  pub room : HasDecisionRoom m
+  pub held : vec_len m.held < 2 ^ 32 - 2
+  pub records : vec_len m.records + vec_len m.held + 2 ≤ vec_capacity m.records
   pub forced : vec_len m.forced < vec_capacity m.forced
+  pub votes : vec_len m.held < vec_capacity m.held
   pub ranges : count ≤ m.locks.spare
   pub started : redo.phase ≡ Started
   pub bodies : redo.bodies ≡ bodies_of (m.records.items ++ r ∷ [])
-  pub spare_bodies : m.held + 1 ≤ redo.spare_bodies
-  pub spare_bytes : 11 * (m.held + 1) ≤ redo.spare_bytes
+  pub spare_bodies : vec_len m.held + 1 ≤ redo.spare_bodies
+  pub spare_bytes : 11 * (vec_len m.held + 1) ≤ redo.spare_bytes
   pub stands : (state redo.disk).honest → StandsFor (state redo.disk) redo.node redo.nodes redo.bodies
 
 -- what the attempt to log a record leaves
@@ -152,4 +159,4 @@ IsKept state faults redo m r count stop NoRoom new after = IsUp state new after 
 IsKept state faults redo m r count stop Stopped new after =
     (after.records.items ≡ m.records.items) × HasStopped state faults redo.disk new.disk redo.node redo.nodes m.records.items r stop
 IsKept state faults redo m r count stop Logged new after =
-    IsLogged state new after r count × (after.records.items ≡ m.records.items) × (after.held ≡ m.held) × (stop ≡ None)
+    IsLogged state new after r count × (after.records.items ≡ m.records.items) × (vec_len after.held ≡ vec_len m.held) × (stop ≡ None)

@@ -22,7 +22,8 @@ pub record IsFront (bodies : List (List ℕ)) (records : List Record) : Type 0 w
   pub no_fewer : length records ≤ length bodies
   pub first : take (length records) bodies ≡ bodies_of records
 
--- this many bodies are those of the first records, and the one behind them is not that of the next record
+-- this many bodies are those of the first records, and the one behind them is not that of the next
+-- record
 pub record IsOtherAt (bodies : List (List ℕ)) (records : List Record) (at : ℕ) : Type 0 where
   pub within : at ≤ length bodies
   pub first : take at bodies ≡ bodies_of (take at records)
@@ -53,8 +54,8 @@ abbrev pub IsFound : List (List ℕ) → ℕ → Option Record → Type 0
 IsFound bodies at None = length bodies ≤ at
 IsFound bodies at (Some r) = (at < length bodies) × Spells (get_or bodies at []) r
 
--- record `at` of the bodies is the first that is not the one of the records with the pending one behind them: `kept` is the record of that
--- number, and `found` the one that its body spells
+-- record `at` of the bodies is the first that is not the one of the records with the pending one
+-- behind them: `kept` is the record of that number, and `found` the one that its body spells
 pub record IsFirstOther (bodies : List (List ℕ)) (records : List Record) (pending : Option Record) (at : ℕ) (kept found : Option Record) : Type 0 where
   pub kept_is : kept ≡ record_at records at
   pub found_is : IsFound bodies at found
@@ -72,7 +73,8 @@ pub record IsBadBody (bodies : List (List ℕ)) (place : ℕ) : Type 0 where
   pub bad : SpellsNone (get_or bodies number [])
   pub place_is : place ≡ get_or (places 16 bodies) number 0
 
--- what damage names: the first record that differs; or the place of the gate of a body that is no record, and no record
+-- what damage names: the first record that differs; or the place of the gate of a body that is no
+-- record, and no record
 abbrev pub IsDamage : List (List ℕ) → List Record → Option Record → ℕ → Option Record → Option Record → Type 0
 IsDamage bodies records pending at kept found = (AreAbsent kept found × IsBadBody bodies at) ⊎ IsFirstOther bodies records pending at kept found
 
@@ -82,7 +84,8 @@ IsUnread bodies Fault = ⊥
 IsUnread bodies (Damaged place kept found) = AreAbsent kept found × IsBadBody bodies place
 IsUnread bodies NoMemory = ⊤
 
--- what the damage at a number names: it, the node's record and the disk's; or the place of a body, and no record
+-- what the damage at a number names: it, the node's record and the disk's; or the place of a body,
+-- and no record
 abbrev pub Differs : List (List ℕ) → ℕ → Option Record → RestartError → Type 0
 Differs bodies at kept Fault = ⊥
 Differs bodies at kept (Damaged place named found) = (AreAbsent named found × IsBadBody bodies place) ⊎ ((place ≡ at) × (named ≡ kept) × IsFound bodies at found)
@@ -94,7 +97,8 @@ Compares bodies records pending Fault = ⊥
 Compares bodies records pending (Damaged at kept found) = IsOther bodies records pending × IsDamage bodies records pending at kept found
 Compares bodies records pending NoMemory = ⊤
 
--- a place where bytes are no log: 0 for a disk that reads as fresh, or that of the damage of some bytes that the disk gave
+-- a place where bytes are no log: 0 for a disk that reads as fresh, or that of the damage of some
+-- bytes that the disk gave
 abbrev pub IsNoLog : ℕ → Type 0
 IsNoLog at = (at ≡ 0) ⊎ ((node : ℕ) × (nodes : ℕ) × (content : List ℕ) × IsDamaged node nodes content at)
 
@@ -114,8 +118,9 @@ abbrev pub Restarts : List Record → Option Record → List Record → Bool →
 Restarts records pending new false = new ≡ records
 Restarts records pending new true = IsWithLeft records pending new
 
--- why a restart failed: a fault only where the count rose; damage never where the disk is honest, and it names the first record in which the
--- bodies that the disk gave differ from the node's records, or no record and the place of what is no log or no record
+-- why a restart failed: a fault only where the count rose; damage never where the disk is honest,
+-- and it names the first record in which the bodies that the disk gave differ from the node's
+-- records, or no record and the place of what is no log or no record
 abbrev pub FailsRestart : {D : Type 0} → (D → DiskState) → (D → ℕ) → D → D → List Record → Option Record → RestartError → Type 0
 FailsRestart state faults old new records pending Fault = Rose (faults old) (faults new)
 FailsRestart state faults old new records pending (Damaged at kept found) = ((state old).honest → ⊥) × ((AreAbsent kept found × IsNoLog at) ⊎ ((bodies : List (List ℕ)) × IsDamage bodies records pending at kept found))

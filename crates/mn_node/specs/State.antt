@@ -9,15 +9,16 @@ use Rattle.mn_mini.specs.declared.record.Record.{Record}
 use Rattle.mn_mini.specs.declared.request.Request.{Request}
 use Rattle.mn_mini.specs.declared.reply.NodeReply.{NodeReply}
 use Rattle.mn_mini.specs.declared.reply.NodeReply.TheVariants as Say
-use Rattle.mn_mini.specs.Laws.{AreApart}
+use Rattle.mn_mini.specs.Laws.{PartsAreApart}
 use Rattle.mn_mini.specs.Node.{Response, answer, held_parts}
 use Rattle.mn_mini.specs.RecordGrammar.{IsRecord, SpellsNone}
 use Rattle.mn_node.specs.declared.memory.Memory.{Memory}
 use Rattle.mn_page.specs.Base.{base_of}
 use Rattle.mn_node.specs.Node.{IsUp, IsUnasked, HasStopped, StandsWithOrWithout, bodies_of, added_to}
 
--- its disk, its number and that of all nodes, its records, the oldest first, and whether it is down: then beside the record of the request
--- inside which it stopped, which may stand on the disk or not
+-- its disk, its number and that of all nodes, its records, the oldest first, and whether it is
+-- down: then beside the record of the request inside which it stopped, which may stand on the disk
+-- or not
 pub record NodeState (D : Type 0) : Type 0 where
   pub disk : D
   pub node : ℕ
@@ -26,13 +27,14 @@ pub record NodeState (D : Type 0) : Type 0 where
   pub down : Bool
   pub pending : Option Record
 
--- an honest disk stands for the records, and while the node is down, for these or for these and the pending one
+-- an honest disk stands for the records, and while the node is down, for these or for these and the
+-- pending one
 pub record IsNode {D : Type 0} (state : D → DiskState) (redo : RedoState D) (m : Memory) (down : Bool) (pending : Option Record) : Type 0 where
   pub up : down ≡ false → IsUp state redo m
   pub settled : down ≡ false → pending ≡ None
   pub sound : AllByRecursion IsRecord (added_to m.records.items pending)
-  pub apart : AreApart (held_parts (reverse m.records.items))
-  pub apart_left : AreApart (held_parts (reverse (added_to m.records.items pending)))
+  pub apart : PartsAreApart (held_parts (reverse m.records.items))
+  pub apart_left : PartsAreApart (held_parts (reverse (added_to m.records.items pending)))
   pub stands : (state redo.disk).honest → StandsWithOrWithout (state redo.disk) redo.node redo.nodes m.records.items pending
   pub header : (state redo.disk).honest → HasHeader (state redo.disk)
   pub node : m.node ≡ redo.node
@@ -48,16 +50,17 @@ abbrev pub response_to : {D : Type 0} → NodeState D → Request → Response
 response_to n request = answer (base_of n.nodes n.node) (reverse n.records) request
 
 -- what a call leaves of a node's disk and its numbers
-pub record GoesOn {D : Type 0} (state : D → DiskState) (faults : D → ℕ) (old new : NodeState D) : Type 0 where
+pub record DiskGoesOn {D : Type 0} (state : D → DiskState) (faults : D → ℕ) (old new : NodeState D) : Type 0 where
   pub node : new.node ≡ old.node
   pub nodes : new.nodes ≡ old.nodes
   pub honest : (state old.disk).honest → (state new.disk).honest
   pub no_better : (state new.disk).honest → (state old.disk).honest
   pub later : faults old.disk ≤ faults new.disk
 
--- What a request does, by the reply. NoMemory: nothing. Stopped: the node is down, with the records from before, and the record that the
--- answer adds may stand on the disk or not, as far as the stop says. Down: it was down, and nothing has changed. Else the reply is the
--- answer, and its record is added and stable; where a stop was asked for, there was no record to stop at.
+-- What a request does, by the reply. NoMemory: nothing. Stopped: the node is down, with the records
+-- from before, and the record that the answer adds may stand on the disk or not, as far as the stop
+-- says. Down: it was down, and nothing has changed. Else the reply is the answer, and its record is
+-- added and stable; where a stop was asked for, there was no record to stop at.
 abbrev pub Answers : {D : Type 0} → (D → DiskState) → (D → ℕ) → NodeState D → Request → Option StopAt → NodeReply → NodeState D → Type 0
 Answers state faults old request stop Say.NoMemory new =
     (old.down ≡ false) × (new.down ≡ false) × (new.records ≡ old.records) × StandsForRecords (state new.disk) new.node new.nodes new.records
@@ -69,9 +72,10 @@ Answers state faults old request stop reply new =
     (old.down ≡ false) × (new.down ≡ false) × ((response_to old request).reply ≡ reply) × (new.records ≡ added_to old.records (response_to old request).added)
     × IsUnasked stop (response_to old request).added × StandsForRecords (state new.disk) new.node new.nodes new.records
 
--- what is asked of a log before its node is started: if its bodies are records, no two parts of different ids that they hold conflict
+-- what is asked of a log before its node is started: if its bodies are records, no two parts of
+-- different ids that they hold conflict
 abbrev pub MayStart : List (List ℕ) → Type 0
-MayStart bodies = (records : List Record) → AllByRecursion IsRecord records → bodies ≡ bodies_of records → AreApart (held_parts (reverse records))
+MayStart bodies = (records : List Record) → AllByRecursion IsRecord records → bodies ≡ bodies_of records → PartsAreApart (held_parts (reverse records))
 
 -- the bodies are those of records, which are in the grammar
 pub record AreRecords (bodies : List (List ℕ)) (records : List Record) : Type 0 where

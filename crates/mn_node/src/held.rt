@@ -1,45 +1,24 @@
-ghost use Rattle.std.specs.Prelude.{◌≡◌, ◌≤◌, Bool, false, Some, None, length, drop, take, reverse, MatchOption};
+ghost use Rattle.std.specs.Prelude.{◌≡◌, Bool, List, reverse};
 ghost use Rattle.std.specs.List.{list_any};
 ghost use Rattle.mn_base.specs.Ids.{tid_same};
-ghost use Rattle.mn_mini.specs.Node.{held_parts, held_part_of, has_voted, is_held};
-ghost use Rattle.mn_node.specs.Held.{IsPartOf, is_decision_of};
+ghost use Rattle.mn_mini.specs.Node.{HeldPart, has_voted};
+ghost use Rattle.mn_node.specs.Held.{IsVote, IsVoteFor, others};
 
-use mn_base::Tid;
-use mn_mini::{Part, Record};
+use mn_base::{Nodes, Tid};
+use mn_mini::{PartItem, Record};
+
+/// A vote whose part is held: its id, and how many records stand before its record.
+#[derive(Clone, Copy, Debug, PartialEq, Eq)]
+pub struct Vote {
+    pub tid: Tid,
+    pub place: usize,
+}
 
 /// The two ids are one.
 pub fn is_same(a: Tid, b: Tid) -> bool
     ensures { result ≡ tid_same a b }
 {
     a.run == b.run && a.client.0 == b.client.0 && a.serial == b.serial
-}
-
-/// The part that is held for an id by these records.
-pub fn held_part(records: &[Record], tid: Tid) -> Option<&Part>
-    ensures { MatchOption result (held_part_of tid (held_parts (reverse records.now)) ≡ None) (λ part. IsPartOf (held_part_of tid (held_parts (reverse records.now))) part.now) }
-{
-    let mut left = records.len();
-    while left > 0 {
-        left -= 1;
-        match &records[left] {
-            Record::Voted {
-                tid: voter,
-                part,
-                ..
-            } => {
-                if is_same(*voter, tid) {
-                    return Some(part);
-                }
-            }
-            Record::Decided { tid: decided, .. } => {
-                if is_same(*decided, tid) {
-                    return None;
-                }
-            }
-            _ => {}
-        }
-    }
-    None
 }
 
 /// The node has voted for the id.
@@ -58,32 +37,43 @@ pub fn voted(records: &[Record], tid: Tid) -> bool
     false
 }
 
-/// A part is held for the id.
-pub fn holds(records: &[Record], tid: Tid) -> bool
-    ensures { result ≡ is_held (reverse records.now) tid }
+/// One of the votes is for the id.
+pub fn has_vote_for(held: &[Vote], tid: Tid) -> bool
+    ensures { result ≡ list_any (λ vote. tid_same vote.tid tid) held.now }
 {
-    held_part(records, tid).is_some()
+    for vote in held {
+        if is_same(vote.tid, tid) {
+            return true;
+        }
+    }
+    false
 }
 
-/// The record decides the id.
-fn decides(next: &Record, tid: Tid) -> bool
-    ensures { result ≡ is_decision_of tid next.now }
+/// Leaves out the votes for an id. It takes no memory.
+pub fn forget(held: &mut Vec<Vote>, tid: Tid)
+    ensures { held.new.items ≡ others tid held.old.items }
 {
-    match next {
-        Record::Decided { tid: decided, .. } => is_same(tid, *decided),
-        _ => false,
+    held.retain(|vote| !is_same(vote.tid, tid));
+}
+
+/// The part of a vote.
+pub fn part_of(records: &[Record], vote: Vote) -> &[PartItem]
+    requires vote { IsVote records.now vote }
+    ensures { (h : HeldPart) → IsVoteFor records.now vote h → result.now ≡ h.part }
+{
+    match &records[vote.place] {
+        Record::Voted { part, .. } => part.as_slice(),
+        _ => unreachable!(),
     }
 }
 
-/// How many records there are up to the last decision of an id. Its votes behind them are held.
-pub fn undecided_from(records: &[Record], tid: Tid) -> usize
-    ensures within { result ≤ length records.now }
-    ensures before { held_part_of tid (held_parts (reverse (take result records.now))) ≡ None }
-    ensures behind { list_any (is_decision_of tid) (drop result records.now) ≡ false }
+/// The participants of a vote.
+pub fn participants_of(records: &[Record], vote: Vote) -> &Nodes
+    requires vote { IsVote records.now vote }
+    ensures { (h : HeldPart) → IsVoteFor records.now vote h → result.now ≡ h.participants }
 {
-    let mut left = records.len();
-    while left > 0 && !decides(&records[left - 1], tid) {
-        left -= 1;
+    match &records[vote.place] {
+        Record::Voted { participants, .. } => participants,
+        _ => unreachable!(),
     }
-    left
 }

@@ -1,4 +1,5 @@
-//! A memory node: a list of records on a disk, the space and the locks that they make, and its answers (Sinfonia, SOSP 2007).
+//! A memory node: a list of records on a disk, the space and the locks that they make, and its
+//! answers (Sinfonia, SOSP 2007).
 #![tactic(auto)]
 
 mod held;
@@ -15,6 +16,3 @@ pub use node::{Node, StartFailed};
 pub use replay::space_after;
 pub use restart::RestartError;
 pub use start::{StartCause, records_of};
-
-#[cfg(test)]
-mod tests;

@@ -1,24 +1,25 @@
 ghost use Rattle.std.specs.Prelude.{◌≡◌, ◌≢◌, ◌≤◌, ◌<◌, ◌+◌, ◌-◌, ◌++◌, ◌∷◌, [], Bool, length, reverse, IfOk, Some, None, vec_len, vec_capacity, IsSome};
-ghost use Rattle.std.specs.Prelude.{◌^◌, ℕ, false, List, OnOk, if◌then◌else◌};
+ghost use Rattle.std.specs.Prelude.{◌^◌, ℕ, true, List, OnOk, if◌then◌else◌};
 ghost use Rattle.std.specs.List.{AllByRecursion};
 ghost use Rattle.mn_mini.specs.declared.record.Record.{Record};
-ghost use Rattle.mn_node.specs.Held.{is_decision_of};
 ghost use Rattle.mn_base.specs.Ids.{tid_same};
+ghost use Rattle.mn_mini.specs.Flat.{space_after_part};
 ghost use Rattle.mn_mini.specs.Mini.{space_size};
-ghost use Rattle.mn_mini.specs.Node.{held_parts, held_part_of, has_voted, has_forced, clash_of, with_held};
+ghost use Rattle.mn_mini.specs.Node.{HeldPart, held_parts, held_part_of, has_voted, has_forced, clash_of, is_held, with_held};
 ghost use Rattle.mn_mini.specs.RecordGrammar.{IsPart, IsRecord};
 ghost use Rattle.mn_node.specs.Part.{shared_of, alone_of};
-ghost use Rattle.mn_node.specs.Memory.{IsMemory, HasRoom, IsTested, is_among};
+ghost use Rattle.mn_node.specs.Held.{AreHeld, IsVote, IsVoteFor};
+ghost use Rattle.mn_node.specs.Memory.{IsMemory, HasDecisionRoom, IsTested, is_among};
 
-use crate::held::{is_same, undecided_from};
+use crate::held::{Vote, forget, has_vote_for, is_same, part_of};
 use crate::part::{Mismatch, Ranges, first_mismatch, ranges_of, reads_of, write_items};
 use mn_base::{NoMemory, Nodes, Tid};
 use mn_locks::{Held, LockTable};
 use mn_mini::{Part, PartItem, Reads, Record};
 use std::alloc::Global;
 
-/// What a node keeps in memory: its records, and what they make of its space, its locks and the ids that may not vote. It has
-/// room for a decision of each held part.
+/// What a node keeps in memory: its records, and what they make of its space, its locks and the ids
+/// that may not vote. It has room for a decision of each held part.
 #[derive(Drop)]
 pub struct Memory {
     pub node: u8,
@@ -27,8 +28,8 @@ pub struct Memory {
     pub space: Vec<u8>,
     pub locks: LockTable,
     pub forced: Vec<Tid>,
-    /// At least as many as there are held parts.
-    pub held: u32,
+    /// The votes whose parts are held, the oldest first.
+    pub held: Vec<Vote>,
 }
 
 /// What the test of a part told: what its read items read, or why not.
@@ -92,41 +93,45 @@ pub fn test_alone(
     test_part(alloc, space, locks, tid, part, &ranges)
 }
 
-/// Makes the writes of a record's part, if it votes for the id.
-fn write_vote(next: &Record, space: &mut [u8], tid: Tid)
-    requires size { length space.old ≡ space_size }
-    requires sound { IsRecord next.now }
-    requires undecided { is_decision_of tid next.now ≡ false }
-    ensures { (older : List Record) (base : List ℕ) → space.old ≡ with_held (λ t. tid_same t tid) base (held_parts older) → space.new ≡ with_held (λ t. tid_same t tid) base (held_parts (next.now ∷ older)) }
-{
-    if let Record::Voted {
-        tid: voter,
-        part,
-        ..
-    } = next
-    {
-        if is_same(*voter, tid) {
-            write_items(space, part.as_slice());
-        }
-    }
-}
-
-/// Makes the writes of each part that is held for an id, the oldest first, where the decision is yes.
-pub fn write_decided(records: &[Record], space: &mut [u8], tid: Tid, yes: bool)
+/// Makes the writes of a vote's part, if the vote is for the id.
+fn write_vote(records: &[Record], vote: &Vote, space: &mut [u8], tid: Tid)
     requires size { length space.old ≡ space_size }
     requires sound { AllByRecursion IsRecord records.now }
+    requires vote { IsVote records.now vote.now }
+    ensures { (h : HeldPart) → IsVoteFor records.now vote.now h → space.new ≡ (if tid_same h.tid tid then space_after_part space.old h.part else space.old) }
+{
+    if !is_same(vote.tid, tid) {
+        return;
+    }
+    write_items(space, part_of(records, *vote));
+}
+
+/// Makes the writes of each part that is held for an id, the oldest first, where the decision is
+/// yes.
+pub fn write_decided(records: &[Record], held: &[Vote], space: &mut [u8], tid: Tid, yes: bool)
+    requires size { length space.old ≡ space_size }
+    requires sound { AllByRecursion IsRecord records.now }
+    requires held { AreHeld records.now held.now }
     ensures { space.new ≡ (if yes then with_held (λ t. tid_same t tid) space.old (held_parts (reverse records.now)) else space.old) }
 {
     if !yes {
         return;
     }
-    let first = undecided_from(records, tid);
-    for number in first..records.len() {
-        write_vote(&records[number], space, tid);
+    for vote in held {
+        write_vote(records, vote, space, tid);
     }
 }
 
 impl Memory {
+    /// A part is held for the id.
+    pub fn holds(&self, tid: Tid) -> bool
+        requires memory { IsMemory self.now }
+        ensures held { result ≡ is_held (reverse self.now.records.items) tid }
+        ensures some { result ≡ true → 0 < vec_len self.now.held }
+    {
+        has_vote_for(&self.held, tid)
+    }
+
     /// Adds a vote whose part conflicts with none that is held.
     pub fn add_vote(
         &mut self,
@@ -142,22 +147,23 @@ impl Memory {
         requires shared { ranges.now.shared.items ≡ shared_of part.now }
         requires alone { ranges.now.alone.items ≡ alone_of part.now }
         requires free { clash_of (held_parts (reverse self.old.records.items)) tid part.now ≡ None }
-        requires room { HasRoom self.old }
-        requires more { vec_len self.old.records + self.old.held + 2 ≤ vec_capacity self.old.records }
-        requires few { self.old.held < 2 ^ 32 - 1 }
+        requires room { HasDecisionRoom self.old }
+        requires more { vec_len self.old.records + vec_len self.old.held + 2 ≤ vec_capacity self.old.records }
+        requires votes { vec_len self.old.held < vec_capacity self.old.held }
         requires locks { length ranges.now.shared.items + length ranges.now.alone.items ≤ self.old.locks.spare }
         ensures memory { IsMemory self.new }
-        ensures room { HasRoom self.new }
+        ensures room { HasDecisionRoom self.new }
         ensures records { self.new.records.items ≡ self.old.records.items ++ vote ∷ [] }
-        ensures held { self.new.held ≡ self.old.held + 1 }
+        ensures held { vec_len self.new.held ≡ vec_len self.old.held + 1 }
         ensures node { self.new.node ≡ self.old.node }
         ensures nodes { self.new.nodes ≡ self.old.nodes }
     {
         self.locks
             .try_lock(tid, &ranges.shared, &ranges.alone)
             .unwrap();
+        let place = self.records.len();
+        self.held.push(Vote { tid, place }).unwrap();
         self.records.push(vote).unwrap();
-        self.held += 1;
     }
 
     /// Adds an execution, whose writes are made.
@@ -165,12 +171,12 @@ impl Memory {
         requires memory { IsMemory self.old }
         requires execution { IsRecord executed }
         requires same { executed ≡ Record.Executed tid part.now }
-        requires room { HasRoom self.old }
-        requires more { vec_len self.old.records + self.old.held + 1 ≤ vec_capacity self.old.records }
+        requires room { HasDecisionRoom self.old }
+        requires more { vec_len self.old.records + vec_len self.old.held + 1 ≤ vec_capacity self.old.records }
         ensures memory { IsMemory self.new }
-        ensures room { HasRoom self.new }
+        ensures room { HasDecisionRoom self.new }
         ensures records { self.new.records.items ≡ self.old.records.items ++ executed ∷ [] }
-        ensures held { self.new.held ≡ self.old.held }
+        ensures held { vec_len self.new.held ≡ vec_len self.old.held }
         ensures node { self.new.node ≡ self.old.node }
         ensures nodes { self.new.nodes ≡ self.old.nodes }
     {
@@ -182,13 +188,13 @@ impl Memory {
     pub fn add_force(&mut self, tid: Tid)
         requires memory { IsMemory self.old }
         requires force { IsRecord (Record.Forced tid) }
-        requires room { HasRoom self.old }
-        requires more { vec_len self.old.records + self.old.held + 1 ≤ vec_capacity self.old.records }
+        requires room { HasDecisionRoom self.old }
+        requires more { vec_len self.old.records + vec_len self.old.held + 1 ≤ vec_capacity self.old.records }
         requires forced { vec_len self.old.forced < vec_capacity self.old.forced }
         ensures memory { IsMemory self.new }
-        ensures room { HasRoom self.new }
+        ensures room { HasDecisionRoom self.new }
         ensures records { self.new.records.items ≡ self.old.records.items ++ Record.Forced tid ∷ [] }
-        ensures held { self.new.held ≡ self.old.held }
+        ensures held { vec_len self.new.held ≡ vec_len self.old.held }
         ensures node { self.new.node ≡ self.old.node }
         ensures nodes { self.new.nodes ≡ self.old.nodes }
     {
@@ -196,23 +202,24 @@ impl Memory {
         self.records.push(Record::Forced { tid }).unwrap();
     }
 
-    /// Adds the decision of a held part: with yes its writes are made. Its ranges are free then. It takes no memory.
+    /// Adds the decision of a held part: with yes its writes are made. Its ranges are free then. It
+    /// takes no memory.
     pub fn add_decision(&mut self, tid: Tid, yes: bool)
         requires memory { IsMemory self.old }
         requires decision { IsRecord (Record.Decided tid yes) }
         requires held { IsSome (held_part_of tid (held_parts (reverse self.old.records.items))) }
-        requires room { HasRoom self.old }
+        requires room { HasDecisionRoom self.old }
         ensures memory { IsMemory self.new }
-        ensures room { HasRoom self.new }
+        ensures room { HasDecisionRoom self.new }
         ensures records { self.new.records.items ≡ self.old.records.items ++ Record.Decided tid yes ∷ [] }
-        ensures held { self.new.held + 1 ≡ self.old.held }
+        ensures held { vec_len self.new.held + 1 ≤ vec_len self.old.held }
         ensures node { self.new.node ≡ self.old.node }
         ensures nodes { self.new.nodes ≡ self.old.nodes }
     {
-        write_decided(&self.records, &mut self.space, tid, yes);
+        write_decided(&self.records, &self.held, &mut self.space, tid, yes);
+        forget(&mut self.held, tid);
         self.locks.release(tid);
         self.records.push(Record::Decided { tid, yes }).unwrap();
-        self.held -= 1;
     }
 }
 
@@ -220,22 +227,24 @@ impl Memory {
     /// Makes room for one record more and so many ranges, beside what there is room for.
     pub fn reserve(&mut self, ranges: usize) -> Result<(), NoMemory>
         requires memory { IsMemory self.old }
-        requires room { HasRoom self.old }
+        requires room { HasDecisionRoom self.old }
         ensures memory { IsMemory self.new }
-        ensures room { HasRoom self.new }
-        ensures held_few { OnOk result (self.new.held < 2 ^ 32 - 2) }
-        ensures more { OnOk result (vec_len self.new.records + self.new.held + 2 ≤ vec_capacity self.new.records) }
+        ensures room { HasDecisionRoom self.new }
+        ensures held_few { OnOk result (vec_len self.new.held < 2 ^ 32 - 2) }
+        ensures more { OnOk result (vec_len self.new.records + vec_len self.new.held + 2 ≤ vec_capacity self.new.records) }
         ensures forced { OnOk result (vec_len self.new.forced < vec_capacity self.new.forced) }
+        ensures votes { OnOk result (vec_len self.new.held < vec_capacity self.new.held) }
         ensures ranges { OnOk result (ranges ≤ self.new.locks.spare) }
         ensures records { self.new.records.items ≡ self.old.records.items }
-        ensures held { self.new.held ≡ self.old.held }
+        ensures held { vec_len self.new.held ≡ vec_len self.old.held }
         ensures node { self.new.node ≡ self.old.node }
         ensures nodes { self.new.nodes ≡ self.old.nodes }
     {
-        if self.held >= 4_294_967_294 {
+        if self.held.len() >= 4_294_967_294 {
             return Err(NoMemory);
         }
-        self.records.reserve(self.held as usize + 2)?;
+        self.records.reserve(self.held.len() + 2)?;
+        self.held.reserve(1)?;
         self.forced.reserve(1)?;
         self.locks.reserve(ranges)?;
         Ok(())

@@ -8,10 +8,10 @@ ghost use Rattle.mn_redo.specs.Redo.{StandsFor};
 ghost use Rattle.mn_redo.specs.declared.redo.Phase.TheVariants.{Closing, Started};
 ghost use Rattle.mn_mini.specs.RecordGrammar.{IsRecord};
 ghost use Rattle.mn_mini.specs.Sound.{Fits, IsDecide, IsSoundRequest};
-ghost use Rattle.mn_io.specs.DiskModel.{LeavesOnly, NoneNew, Stays, WritesNothing};
+ghost use Rattle.mn_io.specs.DiskModel.{LeavesOnly, NoneNew, DiskStays, WritesNothing};
 ghost use Rattle.mn_node.specs.Node.{IsWithOrWithout, StandsWithOrWithout, bodies_of};
 ghost use Rattle.mn_node.specs.Restart.{FailsRestart, Restarts};
-ghost use Rattle.mn_node.specs.State.{Answers, GoesOn, IsFirstBad, IsStarted, MayStart, StandsForRecords, response_to};
+ghost use Rattle.mn_node.specs.State.{Answers, DiskGoesOn, IsFirstBad, IsStarted, MayStart, StandsForRecords, response_to};
 ghost use Rattle.mn_node.specs.declared.start.StartCause.TheVariants as causes;
 
 use crate::memory::Memory;
@@ -25,10 +25,11 @@ use mn_redo::{Redo, one_list};
 use std::alloc::Global;
 use std::marker::Model;
 
-/// A memory node: its records, on a disk, and what they make of its space, its locks and the ids that may not vote.
+/// A memory node: its records, on a disk, and what they make of its space, its locks and the ids
+/// that may not vote.
 ///
-/// While its disk is honest, each image of it stands for the node's records; while the node is down, for these, or for these and the record
-/// of the request inside which it stopped.
+/// While its disk is honest, each image of it stands for the node's records; while the node is
+/// down, for these, or for these and the record of the request inside which it stopped.
 #[derive(Drop)]
 pub struct Node<D: Disk> {
     redo: Box<Redo<D>>,
@@ -56,11 +57,13 @@ pub struct StartFailed<D: Disk> {
 }
 
 impl<D: Disk> Node<D> {
-    /// Starts the node of a log: its records are those that the log's bodies spell, and it holds what they hold. It makes room for a decision
-    /// of each held part, writes the header of a fresh disk, and nothing else.
+    /// Starts the node of a log: its records are those that the log's bodies spell, and it holds
+    /// what they hold. It makes room for a decision of each held part, writes the header of a fresh
+    /// disk, and nothing else.
     ///
-    /// `Damaged` comes exactly where a body is no record, with the place of the gate of the first, `Fault` only where the disk's count of
-    /// faults rose, and `NoMemory` where there is no room. The disk comes back with the cause, and stands for the same bodies.
+    /// `Damaged` comes exactly where a body is no record, with the place of the gate of the first,
+    /// `Fault` only where the disk's count of faults rose, and `NoMemory` where there is no room.
+    /// The disk comes back with the cause, and stands for the same bodies.
     pub fn start(alloc: Global, redo: Redo<D>) -> Result<Node<D>, StartFailed<D>>
         requires going { redo.phase ≢ Closing }
         requires nodes { 0 < redo.nodes }
@@ -72,15 +75,16 @@ impl<D: Disk> Node<D> {
         ensures damaged { (at : ℕ) → IfErr result (λ failed. failed.cause ≡ causes.Damaged at → IsFirstBad redo.bodies at) }
         ensures stands_err { IfErr result (λ failed. (D.state failed.disk).honest → StandsFor (D.state failed.disk) redo.node redo.nodes redo.bodies) }
 
-        // Where each image stands for the bodies, as `Redo::open` says, a crash at any moment of the call leaves the same bodies.
+        // Where each image stands for the bodies, as `Redo::open` says, a crash at any moment of
+        // the call leaves the same bodies.
         ensures moments_ok { (D.state redo.disk).honest → StandsFor (D.state redo.disk) redo.node redo.nodes redo.bodies → IfOk result (λ node. LeavesOnly (D.state redo.disk) (D.state node.disk) (λ c. Stands redo.node redo.nodes c redo.bodies)) }
         ensures moments_err { (D.state redo.disk).honest → StandsFor (D.state redo.disk) redo.node redo.nodes redo.bodies → IfErr result (λ failed. LeavesOnly (D.state redo.disk) (D.state failed.disk) (λ c. Stands redo.node redo.nodes c redo.bodies)) }
 
         // Of a disk that has its header nothing changes but its room.
         ensures unwritten_ok { redo.phase ≡ Started → (D.state redo.disk).honest
-            → IfOk result (λ node. Stays (D.state redo.disk) (D.state node.disk)) }
+            → IfOk result (λ node. DiskStays (D.state redo.disk) (D.state node.disk)) }
         ensures unwritten_err { redo.phase ≡ Started → (D.state redo.disk).honest
-            → IfErr result (λ failed. Stays (D.state redo.disk) (D.state failed.disk)) }
+            → IfErr result (λ failed. DiskStays (D.state redo.disk) (D.state failed.disk)) }
         ensures later_ok { IfOk result (λ node. D.faults redo.disk ≤ D.faults node.disk) }
         ensures later_err { IfErr result (λ failed. D.faults redo.disk ≤ D.faults failed.disk) }
         ensures honest_ok { (D.state redo.disk).honest → IfOk result (λ node. (D.state node.disk).honest) }
@@ -111,22 +115,25 @@ impl<D: Disk> Node<D> {
         }
     }
 
-    /// What the node replies to a request, by its records alone. A record that the answer adds is stable on the disk before the reply.
+    /// What the node replies to a request, by its records alone. A record that the answer adds is
+    /// stable on the disk before the reply.
     ///
-    /// `Stopped`, where the disk failed or a stop was asked for and there was a record to stop at: the
-    /// node is down, and the record may stand on the disk or not, as far as the stop says. A stop before
-    /// the record leaves the log as it was, and one at half of it leaves it behind its closed gate, synced,
-    /// unless the disk failed. `Down` exactly where the node was down, and `NoMemory` where there was no
-    /// memory: nothing has changed. A Decide takes no memory. What is replied fits the request.
+    /// `Stopped`, where the disk failed or a stop was asked for and there was a record to stop at:
+    /// the node is down, and the record may stand on the disk or not, as far as the stop says. A
+    /// stop before the record leaves the log as it was, and one at half of it leaves it behind its
+    /// closed gate, synced, unless the disk failed. `Down` exactly where the node was down, and
+    /// `NoMemory` where there was no memory: nothing has changed. A Decide takes no memory. What is
+    /// replied fits the request.
     pub fn handle(&mut self, alloc: Global, request: &Request, stop: Option<StopAt>) -> NodeReply
         requires sound { IsSoundRequest request.now }
         ensures answers { Answers D.state D.faults self.old request.now stop result self.new }
         ensures fits { Fits request.now result }
         ensures decides { IsDecide request.now → result ≢ NodeReply.NoMemory }
 
-        // A crash at any moment of the call leaves the records from before it, with the answer's one record or without.
+        // A crash at any moment of the call leaves the records from before it, with the answer's
+        // one record or without.
         ensures moments { self.old.down ≡ false → (D.state self.old.disk).honest → LeavesOnly (D.state self.old.disk) (D.state self.new.disk) (IsWithOrWithout self.old.node self.old.nodes self.old.records (response_to self.old request.now).added) }
-        ensures goes_on { GoesOn D.state D.faults self.old self.new }
+        ensures goes_on { DiskGoesOn D.state D.faults self.old self.new }
     {
         held_parts_apart();
         answers_fit();
@@ -157,13 +164,15 @@ impl<D: Disk> Node<D> {
         self.is_down = true;
     }
 
-    /// Starts the node again that is down, with its records, and with the record of the request inside which it stopped where the disk has it:
-    /// which is told. It holds again what these hold, shared ranges too. It writes nothing.
+    /// Starts the node again that is down, with its records, and with the record of the request
+    /// inside which it stopped where the disk has it: which is told. It holds again what these
+    /// hold, shared ranges too. It writes nothing.
     ///
-    /// After an error it is still down, and may be restarted again. `Fault` comes only where the disk's count of faults rose; `Damaged`, where
-    /// the disk has other records, never comes where the disk is honest. It names the first record that differs, as the node has it and as the
-    /// disk gave it; or no record and a place: 0 where the disk reads as fresh, or that of the damage, or that of the gate of a body that is no
-    /// record.
+    /// After an error it is still down, and may be restarted again. `Fault` comes only where the
+    /// disk's count of faults rose; `Damaged`, where the disk has other records, never comes where
+    /// the disk is honest. It names the first record that differs, as the node has it and as the
+    /// disk gave it; or no record and a place: 0 where the disk reads as fresh, or that of the
+    /// damage, or that of the gate of a body that is no record.
     pub fn restart(&mut self, alloc: Global) -> Result<bool, RestartError>
         requires down { self.old.down ≡ true }
         ensures up { OnOk result (self.new.down ≡ false) }
@@ -173,7 +182,8 @@ impl<D: Disk> Node<D> {
         ensures before { OnErr result (self.new.records ≡ self.old.records) }
         ensures pending { OnErr result (self.new.pending ≡ self.old.pending) }
 
-        // A crash at any moment of the call leaves the records, with the one that may have been there or without.
+        // A crash at any moment of the call leaves the records, with the one that may have been
+        // there or without.
         ensures moments { (D.state self.old.disk).honest → LeavesOnly (D.state self.old.disk) (D.state self.new.disk) (IsWithOrWithout self.old.node self.old.nodes self.old.records self.old.pending) }
 
         // Nothing was written.
@@ -182,11 +192,12 @@ impl<D: Disk> Node<D> {
         ensures images { (D.state self.old.disk).honest
             → NoneNew (D.state self.old.disk) (D.state self.new.disk) }
 
-        // What each image stood for before the call it stands for after it, and the records that come back are those.
+        // What each image stood for before the call it stands for after it, and the records that
+        // come back are those.
         ensures keeps { (records : List Record) → StandsForRecords (D.state self.old.disk) self.old.node self.old.nodes records → StandsForRecords (D.state self.new.disk) self.old.node self.old.nodes records }
         ensures found { (D.state self.old.disk).honest → (records : List Record) → StandsForRecords (D.state self.old.disk) self.old.node self.old.nodes records → OnOk result (bodies_of self.new.records ≡ bodies_of records) }
         ensures cause { IfErr result (FailsRestart D.state D.faults self.old.disk self.new.disk self.old.records self.old.pending) }
-        ensures goes_on { GoesOn D.state D.faults self.old self.new }
+        ensures goes_on { DiskGoesOn D.state D.faults self.old self.new }
     {
         one_list();
         match back(alloc, &mut self.redo, &mut self.memory, &self.pending) {

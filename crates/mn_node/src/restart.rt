@@ -1,15 +1,15 @@
 ghost use Rattle.std.specs.Prelude.{◌≡◌, ◌≢◌, ◌<◌, ◌++◌, ◌∷◌, [], ℕ, List, Option, length, reverse, get_or, Some, None, true, false, IfOk, IfErr, OnOk, OnErr, MatchOption};
 ghost use Rattle.std.specs.List.{AllByRecursion};
-ghost use Rattle.mn_io.specs.DiskModel.{LeavesOnly, NoneNew, Stays, WritesNothing};
+ghost use Rattle.mn_io.specs.DiskModel.{LeavesOnly, NoneNew, DiskStays, WritesNothing};
 ghost use Rattle.mn_redo.specs.Grammar.{Stands};
 ghost use Rattle.mn_redo.specs.Redo.{HasHeader, StandsFor};
 ghost use Rattle.mn_redo.specs.declared.redo.Phase.TheVariants.{Closing, Started};
-ghost use Rattle.mn_mini.specs.Laws.{AreApart};
+ghost use Rattle.mn_mini.specs.Laws.{PartsAreApart};
 ghost use Rattle.mn_mini.specs.Node.{held_parts};
 ghost use Rattle.mn_mini.specs.RecordGrammar.{IsRecord, record_bytes};
 ghost use Rattle.mn_mini.specs.declared.record.Record.{Record};
 ghost use Rattle.mn_node.specs.declared.restart.RestartError.TheVariants as errors;
-ghost use Rattle.mn_node.specs.Node.{Continues, IsUp, IsWithOrWithout, SameNode, StandsWithOrWithout, added_to, bodies_of};
+ghost use Rattle.mn_node.specs.Node.{LogContinues, IsUp, IsWithOrWithout, SameNode, StandsWithOrWithout, added_to, bodies_of};
 ghost use Rattle.mn_node.specs.Restart.{Compares, Differs, FailsRestart, HasLeft, IsCause, IsFound, IsFront, IsListed, IsOtherAt, IsUnread, Restarts};
 
 use crate::memory::Memory;
@@ -25,9 +25,10 @@ use std::alloc::{AllocFailed, Global};
 pub enum RestartError {
     /// The disk failed.
     Fault,
-    /// The disk has other records than the node: record `at`, from 0, is the first that differs, with the node's and the disk's, as far as
-    /// they have one. Or, with both absent, it is no log of records: `at` is the place of the fault, 0 for a disk that reads as fresh. An
-    /// honest disk never shows it.
+    /// The disk has other records than the node: record `at`, from 0, is the first that differs,
+    /// with the node's and the disk's, as far as they have one. Or, with both absent, it is no log
+    /// of records: `at` is the place of the fault, 0 for a disk that reads as fresh. An honest disk
+    /// never shows it.
     Damaged {
         at: u64,
         kept: Option<Record>,
@@ -162,7 +163,8 @@ fn differs<D: Disk>(alloc: Global, redo: &Redo<D>, at: usize, kept: Option<Recor
     }
 }
 
-/// Compares what the log has behind a node's records with the record that may be there. It has something.
+/// Compares what the log has behind a node's records with the record that may be there. It has
+/// something.
 fn compare_rest<D: Disk>(
     alloc: Global,
     redo: &Redo<D>,
@@ -191,7 +193,8 @@ fn compare_rest<D: Disk>(
     Ok(true)
 }
 
-/// Compares the log with a node's records and the record that may be behind them. Whether that is there.
+/// Compares the log with a node's records and the record that may be behind them. Whether that is
+/// there.
 fn compare<D: Disk>(
     alloc: Global,
     redo: &Redo<D>,
@@ -213,26 +216,27 @@ fn compare<D: Disk>(
     compare_rest(alloc, redo, records, pending)
 }
 
-/// Makes a node's memory anew from its records, which the log has, and makes the log ready for more.
+/// Makes a node's memory anew from its records, which the log has, and makes the log ready for
+/// more.
 fn wake<D: Disk>(alloc: Global, redo: &mut Redo<D>, memory: &mut Memory) -> Result<(), RestartError>
     requires going { redo.old.phase ≢ Closing }
     requires nodes { 0 < memory.old.nodes }
     requires bodies { redo.old.bodies ≡ bodies_of memory.old.records.items }
     requires sound { AllByRecursion IsRecord memory.old.records.items }
-    requires apart { AreApart (held_parts (reverse memory.old.records.items)) }
+    requires apart { PartsAreApart (held_parts (reverse memory.old.records.items)) }
     requires stands { (D.state redo.old.disk).honest → StandsFor (D.state redo.old.disk) redo.old.node redo.old.nodes redo.old.bodies }
     ensures up { OnOk result (IsUp D.state redo.new memory.new) }
     ensures records { memory.new.records.items ≡ memory.old.records.items }
     ensures stands { (D.state redo.new.disk).honest → StandsFor (D.state redo.new.disk) redo.old.node redo.old.nodes redo.old.bodies }
     ensures moments { (D.state redo.old.disk).honest → LeavesOnly (D.state redo.old.disk) (D.state redo.new.disk) (λ c. Stands redo.old.node redo.old.nodes c redo.old.bodies) }
     ensures rests { redo.old.phase ≡ Started → (D.state redo.old.disk).honest
-        → Stays (D.state redo.old.disk) (D.state redo.new.disk) }
-    ensures continues { Continues D.state D.faults redo.old redo.new }
+        → DiskStays (D.state redo.old.disk) (D.state redo.new.disk) }
+    ensures continues { LogContinues D.state D.faults redo.old redo.new }
     ensures same { SameNode memory.old memory.new }
     ensures cause { IfErr result (IsCause D.faults redo.old.disk redo.new.disk) }
 {
     memory.rebuild(alloc)?;
-    match start_log(redo, memory.held) {
+    match start_log(redo, memory.held.len()) {
         Ok(()) => Ok(()),
         Err(StartCause::Fault) => Err(RestartError::Fault),
         Err(_) => Err(RestartError::NoMemory),
@@ -250,7 +254,7 @@ fn wake_with<D: Disk>(
     requires nodes { 0 < memory.old.nodes }
     requires bodies { redo.old.bodies ≡ bodies_of (memory.old.records.items ++ left.now ∷ []) }
     requires sound { AllByRecursion IsRecord (memory.old.records.items ++ left.now ∷ []) }
-    requires apart { AreApart (held_parts (reverse (memory.old.records.items ++ left.now ∷ []))) }
+    requires apart { PartsAreApart (held_parts (reverse (memory.old.records.items ++ left.now ∷ []))) }
     requires stands { (D.state redo.old.disk).honest → StandsFor (D.state redo.old.disk) redo.old.node redo.old.nodes redo.old.bodies }
     ensures up { OnOk result (IsUp D.state redo.new memory.new) }
     ensures records { OnOk result (memory.new.records.items ≡ memory.old.records.items ++ left.now ∷ []) }
@@ -258,8 +262,8 @@ fn wake_with<D: Disk>(
     ensures stands { (D.state redo.new.disk).honest → StandsFor (D.state redo.new.disk) redo.old.node redo.old.nodes redo.old.bodies }
     ensures moments { (D.state redo.old.disk).honest → LeavesOnly (D.state redo.old.disk) (D.state redo.new.disk) (λ c. Stands redo.old.node redo.old.nodes c redo.old.bodies) }
     ensures rests { redo.old.phase ≡ Started → (D.state redo.old.disk).honest
-        → Stays (D.state redo.old.disk) (D.state redo.new.disk) }
-    ensures continues { Continues D.state D.faults redo.old redo.new }
+        → DiskStays (D.state redo.old.disk) (D.state redo.new.disk) }
+    ensures continues { LogContinues D.state D.faults redo.old redo.new }
     ensures same { SameNode memory.old memory.new }
     ensures cause { IfErr result (IsCause D.faults redo.old.disk redo.new.disk) }
 {
@@ -274,7 +278,8 @@ fn wake_with<D: Disk>(
     }
 }
 
-/// Makes a node's memory anew from its records and, where the log has it, the record that may be behind them.
+/// Makes a node's memory anew from its records and, where the log has it, the record that may be
+/// behind them.
 fn wake_found<D: Disk>(
     alloc: Global,
     redo: &mut Redo<D>,
@@ -286,8 +291,8 @@ fn wake_found<D: Disk>(
     requires nodes { 0 < memory.old.nodes }
     requires listed { IsListed redo.old.bodies memory.old.records.items pending.now there }
     requires sound { AllByRecursion IsRecord (added_to memory.old.records.items pending.now) }
-    requires apart { AreApart (held_parts (reverse memory.old.records.items)) }
-    requires apart_left { AreApart (held_parts (reverse (added_to memory.old.records.items pending.now))) }
+    requires apart { PartsAreApart (held_parts (reverse memory.old.records.items)) }
+    requires apart_left { PartsAreApart (held_parts (reverse (added_to memory.old.records.items pending.now))) }
     requires stands { (D.state redo.old.disk).honest → StandsFor (D.state redo.old.disk) redo.old.node redo.old.nodes redo.old.bodies }
     ensures up { OnOk result (IsUp D.state redo.new memory.new) }
     ensures records { OnOk result (Restarts memory.old.records.items pending.now memory.new.records.items there) }
@@ -295,8 +300,8 @@ fn wake_found<D: Disk>(
     ensures stands { (D.state redo.new.disk).honest → StandsFor (D.state redo.new.disk) redo.old.node redo.old.nodes redo.old.bodies }
     ensures moments { (D.state redo.old.disk).honest → LeavesOnly (D.state redo.old.disk) (D.state redo.new.disk) (λ c. Stands redo.old.node redo.old.nodes c redo.old.bodies) }
     ensures rests { redo.old.phase ≡ Started → (D.state redo.old.disk).honest
-        → Stays (D.state redo.old.disk) (D.state redo.new.disk) }
-    ensures continues { Continues D.state D.faults redo.old redo.new }
+        → DiskStays (D.state redo.old.disk) (D.state redo.new.disk) }
+    ensures continues { LogContinues D.state D.faults redo.old redo.new }
     ensures same { SameNode memory.old memory.new }
     ensures cause { IfErr result (IsCause D.faults redo.old.disk redo.new.disk) }
 {
@@ -312,7 +317,8 @@ fn wake_found<D: Disk>(
     }
 }
 
-/// Reads the log of a node that is down again, and makes its memory anew. Whether the record that may have been behind the others is there.
+/// Reads the log of a node that is down again, and makes its memory anew. Whether the record that
+/// may have been behind the others is there.
 pub fn back<D: Disk>(
     alloc: Global,
     redo: &mut Redo<D>,
@@ -321,8 +327,8 @@ pub fn back<D: Disk>(
 ) -> Result<bool, RestartError>
     requires nodes { 0 < memory.old.nodes }
     requires sound { AllByRecursion IsRecord (added_to memory.old.records.items pending.now) }
-    requires apart { AreApart (held_parts (reverse memory.old.records.items)) }
-    requires apart_left { AreApart (held_parts (reverse (added_to memory.old.records.items pending.now))) }
+    requires apart { PartsAreApart (held_parts (reverse memory.old.records.items)) }
+    requires apart_left { PartsAreApart (held_parts (reverse (added_to memory.old.records.items pending.now))) }
     requires stands { (D.state redo.old.disk).honest → StandsWithOrWithout (D.state redo.old.disk) redo.old.node redo.old.nodes memory.old.records.items pending.now }
     requires header { (D.state redo.old.disk).honest → HasHeader (D.state redo.old.disk) }
     ensures up { OnOk result (IsUp D.state redo.new memory.new) }
@@ -335,7 +341,7 @@ pub fn back<D: Disk>(
     ensures images { (D.state redo.old.disk).honest
         → NoneNew (D.state redo.old.disk) (D.state redo.new.disk) }
     ensures keeps { (D.state redo.old.disk).honest → (bodies : List (List ℕ)) → StandsFor (D.state redo.old.disk) redo.old.node redo.old.nodes bodies → StandsFor (D.state redo.new.disk) redo.old.node redo.old.nodes bodies }
-    ensures continues { Continues D.state D.faults redo.old redo.new }
+    ensures continues { LogContinues D.state D.faults redo.old redo.new }
     ensures same { SameNode memory.old memory.new }
     ensures cause { IfErr result (FailsRestart D.state D.faults redo.old.disk redo.new.disk memory.old.records.items pending.now) }
 {

@@ -1,11 +1,11 @@
 ghost use Rattle.std.specs.Prelude.{◌≡◌, ◌≢◌, ◌≤◌, ◌<◌, ◌*◌, ℕ, IfOk, OnOk, IsErrOf};
 ghost use Rattle.mn_io.specs.Faults.{Rose};
-ghost use Rattle.mn_io.specs.DiskModel.{LeavesOnly, Stays};
+ghost use Rattle.mn_io.specs.DiskModel.{LeavesOnly, DiskStays};
 ghost use Rattle.mn_redo.specs.Grammar.{Stands};
 ghost use Rattle.mn_redo.specs.Redo.{HasHeader, StandsFor};
 ghost use Rattle.mn_redo.specs.declared.redo.Phase.TheVariants.{Started, Closing};
 ghost use Rattle.mn_node.specs.declared.start.StartCause.TheVariants as causes;
-ghost use Rattle.mn_node.specs.Node.{Continues, IsUp};
+ghost use Rattle.mn_node.specs.Node.{LogContinues, IsUp};
 ghost use Rattle.mn_node.specs.State.{AreRecords, IsFirstBad, MayStart};
 
 use crate::memory::Memory;
@@ -82,7 +82,7 @@ pub fn records_of<D: Disk>(alloc: Global, redo: &Redo<D>) -> Result<Vec<Record>,
 }
 
 /// Makes room for a decision of each held part in the log, and starts it.
-pub fn start_log<D: Disk>(redo: &mut Redo<D>, held: u32) -> Result<(), StartCause>
+pub fn start_log<D: Disk>(redo: &mut Redo<D>, held: usize) -> Result<(), StartCause>
     requires going { redo.old.phase ≢ Closing }
     ensures started { OnOk result (redo.new.phase ≡ Started) }
     ensures bodies { redo.new.bodies ≡ redo.old.bodies }
@@ -94,12 +94,15 @@ pub fn start_log<D: Disk>(redo: &mut Redo<D>, held: u32) -> Result<(), StartCaus
     ensures moments { (D.state redo.old.disk).honest → StandsFor (D.state redo.old.disk) redo.old.node redo.old.nodes redo.old.bodies → LeavesOnly (D.state redo.old.disk) (D.state redo.new.disk) (λ c. Stands redo.old.node redo.old.nodes c redo.old.bodies) }
     ensures stands_closing { redo.new.phase ≡ Closing → (D.state redo.new.disk).honest → StandsFor (D.state redo.new.disk) redo.old.node redo.old.nodes redo.old.bodies }
     ensures rests { redo.old.phase ≡ Started → (D.state redo.old.disk).honest
-        → Stays (D.state redo.old.disk) (D.state redo.new.disk) }
-    ensures continues { Continues D.state D.faults redo.old redo.new }
+        → DiskStays (D.state redo.old.disk) (D.state redo.new.disk) }
+    ensures continues { LogContinues D.state D.faults redo.old redo.new }
     ensures fault { IsErrOf result causes.Fault → Rose (D.faults redo.old.disk) (D.faults redo.new.disk) }
     ensures not_damaged { (at : ℕ) → IsErrOf result (causes.Damaged at) → ⊥ }
 {
-    if redo.reserve(held, 11 * held as usize).is_err() {
+    if held > 4_294_967_295 {
+        return Err(StartCause::NoMemory);
+    }
+    if redo.reserve(held as u32, 11 * held).is_err() {
         return Err(StartCause::NoMemory);
     }
     redo.start()?;
@@ -120,13 +123,13 @@ pub fn ready<D: Disk>(alloc: Global, redo: &mut Redo<D>) -> Result<Memory, Start
     ensures stands { redo.new.phase ≡ Closing → (D.state redo.new.disk).honest → StandsFor (D.state redo.new.disk) redo.old.node redo.old.nodes redo.old.bodies }
     ensures moments { (D.state redo.old.disk).honest → StandsFor (D.state redo.old.disk) redo.old.node redo.old.nodes redo.old.bodies → LeavesOnly (D.state redo.old.disk) (D.state redo.new.disk) (λ c. Stands redo.old.node redo.old.nodes c redo.old.bodies) }
     ensures rests { redo.old.phase ≡ Started → (D.state redo.old.disk).honest
-        → Stays (D.state redo.old.disk) (D.state redo.new.disk) }
-    ensures continues { Continues D.state D.faults redo.old redo.new }
+        → DiskStays (D.state redo.old.disk) (D.state redo.new.disk) }
+    ensures continues { LogContinues D.state D.faults redo.old redo.new }
     ensures fault { IsErrOf result causes.Fault → Rose (D.faults redo.old.disk) (D.faults redo.new.disk) }
     ensures damaged { (at : ℕ) → IsErrOf result (causes.Damaged at) → IsFirstBad redo.old.bodies at }
 {
     let records = records_of(alloc, redo)?;
     let memory = memory_of(alloc, redo.node(), redo.nodes(), records)?;
-    start_log(redo, memory.held)?;
+    start_log(redo, memory.held.len())?;
     Ok(memory)
 }

@@ -1,6 +1,6 @@
 ghost use Rattle.mn_mini.specs.declared.request.Request.{Request};
 ghost use Rattle.mn_mini.specs.declared.reply.NodeReply.{NodeReply};
-ghost use Rattle.std.specs.Prelude.{◌≡◌, ◌≢◌, ◌≤◌, ◌<◌, ◌+◌, ◌*◌, ◌^◌, ◌++◌, ◌∷◌, [], ℕ, List, length, reverse, OnOk, OnErr};
+ghost use Rattle.std.specs.Prelude.{◌≡◌, ◌≢◌, ◌≤◌, ◌<◌, ◌+◌, ◌*◌, ◌^◌, ◌++◌, ◌∷◌, [], ℕ, List, length, reverse, OnOk, OnErr, vec_len};
 ghost use Rattle.std.specs.Prelude.{Some, None, true, false, if◌then◌else◌};
 ghost use Rattle.mn_mini.specs.Mini.{has_write};
 ghost use Rattle.mn_mini.specs.Sound.{IsDecide, IsSoundRequest};
@@ -8,14 +8,14 @@ ghost use Rattle.mn_mini.specs.Node.{clash_of, held_parts};
 ghost use Rattle.mn_io.specs.Faults.{Rose};
 ghost use Rattle.mn_mini.specs.declared.record.Record.{Record};
 ghost use Rattle.mn_mini.specs.RecordGrammar.{record_bytes, IsRecord, IsTid, IsPart, AreParticipants};
-ghost use Rattle.mn_node.specs.Memory.{IsMemory, HasRoom};
+ghost use Rattle.mn_node.specs.Memory.{IsMemory, HasDecisionRoom};
 ghost use Rattle.mn_redo.specs.Grammar.{IsBeforeOrAfter};
 ghost use Rattle.mn_redo.specs.Redo.{StandsFor};
 ghost use Rattle.mn_redo.specs.declared.redo.Phase.TheVariants.{Started};
-ghost use Rattle.mn_node.specs.Node.{IsUp, IsPut, IsWithOrWithout, LeavesAt, RestsAt, StopsAt, HasMore, Continues, SameNode, Handled, IsKept, bodies_of, node_answer};
+ghost use Rattle.mn_node.specs.Node.{IsUp, IsPut, IsWithOrWithout, LeavesAt, DiskRestsAt, StopsAt, HasMore, LogContinues, SameNode, Handled, IsKept, bodies_of, node_answer};
 ghost use Rattle.mn_node.specs.declared.step.Served.TheVariants.{Replied};
 
-use crate::held::{holds, voted};
+use crate::held::voted;
 use crate::list::doubts;
 use crate::memory::{Memory, Tested, is_in, test_alone};
 use crate::part::{copy_of, ranges_of, writes};
@@ -47,7 +47,8 @@ pub fn forced_body(tid: Tid) -> [u8; 10]
     body
 }
 
-/// Makes room for one record more, of so many bytes, and so many ranges, beside a decision of each held part.
+/// Makes room for one record more, of so many bytes, and so many ranges, beside a decision of each
+/// held part.
 pub fn make_room<D: Disk>(
     redo: &mut Redo<D>,
     memory: &mut Memory,
@@ -58,17 +59,17 @@ pub fn make_room<D: Disk>(
     ensures up { IsUp D.state redo.new memory.new }
     ensures more { OnOk result (HasMore redo.new memory.new bytes ranges) }
     ensures records { memory.new.records.items ≡ memory.old.records.items }
-    ensures held { memory.new.held ≡ memory.old.held }
-    ensures continues { Continues D.state D.faults redo.old redo.new }
-    ensures rests { RestsAt D.state redo.old.disk redo.new.disk }
+    ensures held { vec_len memory.new.held ≡ vec_len memory.old.held }
+    ensures continues { LogContinues D.state D.faults redo.old redo.new }
+    ensures rests { DiskRestsAt D.state redo.old.disk redo.new.disk }
     ensures same { SameNode memory.old memory.new }
 {
     memory.reserve(ranges)?;
-    let held = memory.held;
+    let held = memory.held.len();
     if bytes > 4_294_967_295 {
         return Err(NoMemory);
     }
-    match redo.reserve(held + 2, 11 * (held as usize + 1) + bytes) {
+    match redo.reserve(held as u32 + 2, 11 * (held + 1) + bytes) {
         Ok(()) => Ok(()),
         Err(_) => Err(NoMemory),
     }
@@ -83,8 +84,8 @@ pub enum Served {
     Stopped { left: Record },
 }
 
-/// Puts a record of these bytes into the log, for which there is room, or stops where that is asked. Whether it is in the log: if not, the
-/// node stops.
+/// Puts a record of these bytes into the log, for which there is room, or stops where that is
+/// asked. Whether it is in the log: if not, the node stops.
 fn put<D: Disk>(redo: &mut Redo<D>, body: &[u8], stop: Option<StopAt>) -> bool
     requires started { redo.old.phase ≡ Started }
     requires size { length body.now < 2 ^ 32 }
@@ -95,7 +96,7 @@ fn put<D: Disk>(redo: &mut Redo<D>, body: &[u8], stop: Option<StopAt>) -> bool
     ensures unasked { result ≡ true → stop ≡ None }
     ensures stopped { result ≡ false → StopsAt D.state D.faults redo.old.disk redo.new.disk redo.old.node redo.old.nodes redo.old.bodies body.now stop }
     ensures images { (D.state redo.old.disk).honest → (c : List ℕ) → (D.state redo.new.disk).images c → IsBeforeOrAfter redo.old.node redo.old.nodes redo.old.bodies body.now c }
-    ensures continues { Continues D.state D.faults redo.old redo.new }
+    ensures continues { LogContinues D.state D.faults redo.old redo.new }
     ensures moments { LeavesAt D.state redo.old.disk redo.new.disk (IsBeforeOrAfter redo.old.node redo.old.nodes redo.old.bodies body.now) }
 {
     match stop {
@@ -123,7 +124,8 @@ pub enum Kept {
     Logged,
 }
 
-/// Makes room for a record of these bytes and for so many ranges, and puts it into the log, or stops where that is asked.
+/// Makes room for a record of these bytes and for so many ranges, and puts it into the log, or
+/// stops where that is asked.
 pub fn keep<D: Disk>(
     redo: &mut Redo<D>,
     memory: &mut Memory,
@@ -133,7 +135,7 @@ pub fn keep<D: Disk>(
 ) -> Kept
     requires up { IsUp D.state redo.old memory.old }
     ensures kept { (r : Record) → body.now ≡ record_bytes r → IsKept D.state D.faults redo.old memory.old r ranges stop result redo.new memory.new }
-    ensures continues { Continues D.state D.faults redo.old redo.new }
+    ensures continues { LogContinues D.state D.faults redo.old redo.new }
     ensures moments { (r : Record) → body.now ≡ record_bytes r → LeavesAt D.state redo.old.disk redo.new.disk (IsWithOrWithout redo.old.node redo.old.nodes memory.old.records.items (Some r)) }
     ensures same { SameNode memory.old memory.new }
 {
@@ -156,7 +158,7 @@ pub fn force<D: Disk>(
     requires up { IsUp D.state redo.old memory.old }
     requires tid { IsTid tid }
     ensures handled { Handled D.state D.faults redo.old memory.old (Request.Force tid) stop result redo.new memory.new }
-    ensures continues { Continues D.state D.faults redo.old redo.new }
+    ensures continues { LogContinues D.state D.faults redo.old redo.new }
     ensures moments { LeavesAt D.state redo.old.disk redo.new.disk (IsWithOrWithout redo.old.node redo.old.nodes memory.old.records.items (node_answer memory.old (Request.Force tid)).added) }
     ensures same { SameNode memory.old memory.new }
 {
@@ -198,11 +200,11 @@ pub fn decide<D: Disk>(
     requires tid { IsTid tid }
     ensures handled { Handled D.state D.faults redo.old memory.old (Request.Decide tid yes) stop result redo.new memory.new }
     ensures memory { result ≢ Replied NodeReply.NoMemory }
-    ensures continues { Continues D.state D.faults redo.old redo.new }
+    ensures continues { LogContinues D.state D.faults redo.old redo.new }
     ensures moments { LeavesAt D.state redo.old.disk redo.new.disk (IsWithOrWithout redo.old.node redo.old.nodes memory.old.records.items (node_answer memory.old (Request.Decide tid yes)).added) }
     ensures same { SameNode memory.old memory.new }
 {
-    if !holds(&memory.records, tid) {
+    if !memory.holds(tid) {
         return Served::Replied {
             reply: NodeReply::Decided,
         };
@@ -230,7 +232,7 @@ pub fn log<D: Disk>(
     requires up { IsUp D.state redo.old memory.old }
     requires record { IsRecord kept.now }
     ensures kept { IsKept D.state D.faults redo.old memory.old kept.now ranges stop result redo.new memory.new }
-    ensures continues { Continues D.state D.faults redo.old redo.new }
+    ensures continues { LogContinues D.state D.faults redo.old redo.new }
     ensures moments { LeavesAt D.state redo.old.disk redo.new.disk (IsWithOrWithout redo.old.node redo.old.nodes memory.old.records.items (Some kept.now)) }
     ensures same { SameNode memory.old memory.new }
 {
@@ -255,7 +257,7 @@ fn run<D: Disk>(
     requires part { IsPart part.now }
     requires yes { node_answer memory.old (Request.Exec tid part.now) ≡ record { reply = NodeReply.Done reads; added = if has_write part.now then Some (Record.Executed tid part.now) else None } }
     ensures handled { Handled D.state D.faults redo.old memory.old (Request.Exec tid part.now) stop result redo.new memory.new }
-    ensures continues { Continues D.state D.faults redo.old redo.new }
+    ensures continues { LogContinues D.state D.faults redo.old redo.new }
     ensures moments { LeavesAt D.state redo.old.disk redo.new.disk (IsWithOrWithout redo.old.node redo.old.nodes memory.old.records.items (node_answer memory.old (Request.Exec tid part.now)).added) }
     ensures same { SameNode memory.old memory.new }
 {
@@ -297,7 +299,7 @@ pub fn exec<D: Disk>(
     requires tid { IsTid tid }
     requires part { IsPart part.now }
     ensures handled { Handled D.state D.faults redo.old memory.old (Request.Exec tid part.now) stop result redo.new memory.new }
-    ensures continues { Continues D.state D.faults redo.old redo.new }
+    ensures continues { LogContinues D.state D.faults redo.old redo.new }
     ensures moments { LeavesAt D.state redo.old.disk redo.new.disk (IsWithOrWithout redo.old.node redo.old.nodes memory.old.records.items (node_answer memory.old (Request.Exec tid part.now)).added) }
     ensures same { SameNode memory.old memory.new }
 {
@@ -340,7 +342,7 @@ fn vote<D: Disk>(
     requires free { clash_of (held_parts (reverse memory.old.records.items)) tid part.now ≡ None }
     requires yes { node_answer memory.old (Request.Prepare tid participants.now part.now) ≡ record { reply = NodeReply.Done reads; added = Some (Record.Voted tid participants.now part.now) } }
     ensures handled { Handled D.state D.faults redo.old memory.old (Request.Prepare tid participants.now part.now) stop result redo.new memory.new }
-    ensures continues { Continues D.state D.faults redo.old redo.new }
+    ensures continues { LogContinues D.state D.faults redo.old redo.new }
     ensures moments { LeavesAt D.state redo.old.disk redo.new.disk (IsWithOrWithout redo.old.node redo.old.nodes memory.old.records.items (node_answer memory.old (Request.Prepare tid participants.now part.now)).added) }
     ensures same { SameNode memory.old memory.new }
 {
@@ -394,7 +396,7 @@ pub fn prepare<D: Disk>(
     requires participants { AreParticipants participants.now }
     requires part { IsPart part.now }
     ensures handled { Handled D.state D.faults redo.old memory.old (Request.Prepare tid participants.now part.now) stop result redo.new memory.new }
-    ensures continues { Continues D.state D.faults redo.old redo.new }
+    ensures continues { LogContinues D.state D.faults redo.old redo.new }
     ensures moments { LeavesAt D.state redo.old.disk redo.new.disk (IsWithOrWithout redo.old.node redo.old.nodes memory.old.records.items (node_answer memory.old (Request.Prepare tid participants.now part.now)).added) }
     ensures same { SameNode memory.old memory.new }
 {
@@ -438,7 +440,7 @@ pub fn serve<D: Disk>(
     requires sound { IsSoundRequest request.now }
     ensures handled { Handled D.state D.faults redo.old memory.old request.now stop result redo.new memory.new }
     ensures decides { IsDecide request.now → result ≢ Replied NodeReply.NoMemory }
-    ensures continues { Continues D.state D.faults redo.old redo.new }
+    ensures continues { LogContinues D.state D.faults redo.old redo.new }
     ensures moments { LeavesAt D.state redo.old.disk redo.new.disk (IsWithOrWithout redo.old.node redo.old.nodes memory.old.records.items (node_answer memory.old (request.now)).added) }
     ensures same { SameNode memory.old memory.new }
 {
@@ -451,7 +453,7 @@ pub fn serve<D: Disk>(
         Request::Exec { tid, part } => exec(alloc, redo, memory, *tid, part, stop),
         Request::Decide { tid, yes } => decide(redo, memory, *tid, *yes, stop),
         Request::Force { tid } => force(redo, memory, *tid, stop),
-        Request::List => match doubts(alloc, &memory.records) {
+        Request::List => match doubts(alloc, &memory.records, &memory.held) {
             Ok(doubts) => Served::Replied {
                 reply: NodeReply::Listed { doubts },
             },

@@ -1,5 +1,6 @@
--- A version is added: the pages and the entries are a tree. Each page serves the older versions as before, and the new one where it
--- served the parent, but for the parent's root, in whose place its copy does.
+-- A version is added: the pages and the entries are a tree. Each page serves the older versions as
+-- before, and the new one where it served the parent, but for the parent's root, in whose place its
+-- copy does.
 use Rattle.std.proofs.Common.{◌≡◌, ℕ, ◌+◌, ◌^◌, ◌<◌, ◌≤◌, ◌⊎◌, inl, inr, Bool, true, false, ◌||◌, List, [], ◌∷◌, length, Option, Some, None, refl, subst, sym, ap, ◌∙◌, arith, slice_get}
 use Rattle.std.specs.Prelude.{nat_eq, IsTrue}
 use Rattle.std.specs.Int.Bits.{bit_or}
@@ -44,7 +45,8 @@ pub covers_all : (key : List ℕ) → covers_key [] None key ≡ true
 covers_all [] = refl
 covers_all (k ∷ key) = refl
 
--- the entries with a further one: the older ones have their roots, and the further one is the new version's
+-- the entries with a further one: the older ones have their roots, and the further one is the new
+-- version's
 pub record Longer (entries after : List CatEntry) (a : Addition) : Type 0 where
   pub versions : IsVersionTree (heads_in after)
   pub parents : parents_of (heads_in after) ≡ longer (parents_of (heads_in entries)) a.parent.0

@@ -1,4 +1,5 @@
--- A page in place of one with the same made version, copied set, fences, height and children: what the forest is stays.
+-- A page in place of one with the same made version, copied set, fences, height and children: what
+-- the forest is stays.
 use Rattle.std.proofs.Common.{◌≡◌, ℕ, zero, suc, ◌+◌, ◌<◌, ◌≤◌, ◌⊎◌, inl, inr, true, cond, ◌&&◌, List, [], ◌∷◌, length, Option, Some, refl, subst, sym, ap, ◌∙◌, slice_get, slice_set, slice_index_or}
 use Rattle.std.specs.Prelude.{filter, count_by, nat_eq, IsTrue}
 use Rattle.std.specs.List.{AllByRecursion}

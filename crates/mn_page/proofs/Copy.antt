@@ -1,4 +1,5 @@
--- A page is copied for a version, under a parent that was made in it: the forest shows the same store.
+-- A page is copied for a version, under a parent that was made in it: the forest shows the same
+-- store.
 use Rattle.std.proofs.Common.{◌≡◌, ◌^◌, max, ℕ, zero, suc, ◌+◌, ◌<◌, ◌≤◌, ◌⊎◌, inl, inr, Bool, true, false, cond, not, ◌&&◌, ◌||◌, List, [], ◌∷◌, ◌++◌, length, map, Option, Some, refl, subst, sym, ap, ◌∙◌, arith, if◌then◌else◌, slice_get, slice_set, slice_index_or}
 use Rattle.std.specs.Prelude.{filter, nat_eq, IsTrue}
 use Rattle.std.specs.List.{AllByRecursion, list_any, range_with_len}

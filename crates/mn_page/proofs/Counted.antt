@@ -1,5 +1,6 @@
--- A forest by counting: the conditions on its pages as they stand one after another in all slots, which copies and splits count by.
--- Both ways between this form and that of the definitions, which goes by addresses.
+-- A forest by counting: the conditions on its pages as they stand one after another in all slots,
+-- which copies and splits count by. Both ways between this form and that of the definitions, which
+-- goes by addresses.
 use Rattle.std.proofs.Common.{◌≡◌, ℕ, ◌<◌, ◌≤◌, Bool, true, false, ◌&&◌, List, [], length, Option, Some, refl, subst, sym, ap, ◌∙◌, arith, slice_get}
 use Rattle.std.specs.Prelude.{filter, count_by, nat_eq, nat_le, IsTrue}
 use Rattle.std.specs.List.{flat_map, AllByRecursion}

@@ -1,4 +1,5 @@
--- One more version behind the others, the child of one of them: who is above whom then, and which versions a page serves.
+-- One more version behind the others, the child of one of them: who is above whom then, and which
+-- versions a page serves.
 use Rattle.std.proofs.Common.{◌≡◌, ℕ, ◌+◌, ◌^◌, ◌<◌, inl, inr, Bool, true, false, not, ◌&&◌, ◌||◌, List, [], ◌∷◌, length, reverse, Option, Some, refl, subst, sym, ap, ◌∙◌, arith, if◌then◌else◌}
 use Rattle.std.specs.Prelude.{filter, nat_eq}
 use Rattle.std.specs.Int.Bits.{bit_or}

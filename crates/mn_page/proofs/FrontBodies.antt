@@ -12,14 +12,14 @@ use Rattle.mn_page.specs.declared.page.Body.{Body}
 use Rattle.mn_page.specs.declared.page.Body.TheVariants.{Leaf, Inner}
 use Rattle.mn_page.specs.declared.page.Child.{Child}
 use Rattle.mn_page.specs.Grammar.{IsBody, addr_bytes, are_ascending, child_bytes, counted, height_of, pair_bytes}
-use Rattle.mn_page.specs.KeyRoom.{HasRoom}
+use Rattle.mn_page.specs.KeyRoom.{HasRoomForKeys}
 use Rattle.mn_page.specs.Reading.{IsBodyAt, IsChildWithin, IsPairWithin, body_text}
 use Rattle.mn_page.specs.PageFronts.{AreZeros, BehindFences, HasKeys, Items, Over, least_keys}
 use Rattle.mn_page.proofs.KeyOrder.{at_most_all, below_is_at_most, lt_below}
 use Rattle.mn_page.proofs.KeyRoom.{at_most_le, le_at_most, room_lower}
 
 -- keys above a key leave it below the bound
-pub room_below : (n : ℕ) (key : List ℕ) (high : Option (List ℕ)) → HasRoom key n high → below_bound key high ≡ true
+pub room_below : (n : ℕ) (key : List ℕ) (high : Option (List ℕ)) → HasRoomForKeys key n high → below_bound key high ≡ true
 room_below zero key high room = room
 room_below (suc n) key high room = room_lower zero high key room.0 (below_is_at_most key room.0 (lt_below key room.0 room.2)) (room_below n room.0 high room.3)
 
@@ -40,7 +40,7 @@ pairs_with : (p : Pair) (ps : List Pair) → PairsOver false p.key ps → is_asc
 pairs_with p [] over e = refl
 pairs_with p (q ∷ ps) over e = both_true (key_lt p.key q.key) (is_ascending (q ∷ ps)) over e
 
-pairs_room : (low : List ℕ) (high : Option (List ℕ)) (p : Pair) (ps : List Pair) → is_ascending (p ∷ ps) ≡ true → AllByRecursion (IsPairWithin low high) (p ∷ ps) → HasRoom p.key (length ps) high
+pairs_room : (low : List ℕ) (high : Option (List ℕ)) (p : Pair) (ps : List Pair) → is_ascending (p ∷ ps) ≡ true → AllByRecursion (IsPairWithin low high) (p ∷ ps) → HasRoomForKeys p.key (length ps) high
 pairs_room low high p [] e all = right_true (key_le low p.key) (below_bound p.key high) (all.0).2
 pairs_room low high p (q ∷ ps) e all =
     let rest = pairs_rest p (q ∷ ps) e in
@@ -111,7 +111,7 @@ children_with : (c : Child) (cs : List Child) → ChildrenOver c.separator cs �
 children_with c [] over e = refl
 children_with c (d ∷ cs) over e = both_true (key_lt c.separator d.separator) (are_ascending (d ∷ cs)) over e
 
-children_room : (low : List ℕ) (high : Option (List ℕ)) (c : Child) (cs : List Child) → are_ascending (c ∷ cs) ≡ true → AllByRecursion (IsChildWithin low high) (c ∷ cs) → HasRoom c.separator (length cs) high
+children_room : (low : List ℕ) (high : Option (List ℕ)) (c : Child) (cs : List Child) → are_ascending (c ∷ cs) ≡ true → AllByRecursion (IsChildWithin low high) (c ∷ cs) → HasRoomForKeys c.separator (length cs) high
 children_room low high c [] e all = (all.0).3
 children_room low high c (d ∷ cs) e all =
     let rest = children_rest c (d ∷ cs) e in
@@ -171,8 +171,8 @@ children_in low high (suc n) base text within i =
 -- Bodies
 
 pub record BodyOut (leaf : Bool) (low : List ℕ) (high : Option (List ℕ)) (text : List ℕ) : Type 0 where
-  pub room : HasRoom low (least_keys leaf) high
-  pub open_room : HasRoom low (least_keys leaf) None
+  pub room : HasRoomForKeys low (least_keys leaf) high
+  pub open_room : HasRoomForKeys low (least_keys leaf) None
   pub follows : BehindFences leaf low high text
 
 pairs_keys : (low : List ℕ) (high : Option (List ℕ)) (ps : List Pair) → is_ascending ps ≡ true → AllByRecursion (IsPairWithin low high) ps → HasKeys true low (length ps) high × PairsOver true low ps
@@ -183,7 +183,7 @@ children_keys : (low : List ℕ) (high : Option (List ℕ)) (cs : List Child) �
 children_keys low high [] e all = (tt, tt)
 children_keys low high (c ∷ cs) e all = ((c.separator, (all.0).0, (all.0).2, children_room low high c cs e all), (all.0).2)
 
-first_child : (low : List ℕ) (high : Option (List ℕ)) (cs : List Child) → 1 ≤ length cs → AllByRecursion (IsChildWithin low high) cs → HasRoom low 1 high × HasRoom low 1 None
+first_child : (low : List ℕ) (high : Option (List ℕ)) (cs : List Child) → 1 ≤ length cs → AllByRecursion (IsChildWithin low high) cs → HasRoomForKeys low 1 high × HasRoomForKeys low 1 None
 first_child low high [] some all = absurd (omega (arith, some))
 first_child low high (c ∷ cs) some all = ((c.separator, (all.0).0, (all.0).2, (all.0).3), (c.separator, (all.0).0, (all.0).2, refl))
 

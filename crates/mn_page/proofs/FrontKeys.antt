@@ -8,7 +8,7 @@ use Rattle.std.specs.declared.result.Result.TheVariants.{Ok, Err}
 use Rattle.mn_base.specs.Order.{key_le, key_lt}
 use Rattle.mn_base.specs.declared.ids.Addr.{Addr}
 use Rattle.mn_page.specs.Grammar.{IsAddr, IsKey, IsValue, addr_bytes, counted, high_bytes}
-use Rattle.mn_page.specs.KeyRoom.{HasRoom, IsLast, IsNext}
+use Rattle.mn_page.specs.KeyRoom.{HasRoomForKeys, IsLast, IsNext}
 use Rattle.mn_page.specs.Reading.{Begins, as_they_stand}
 use Rattle.mn_page.specs.PageFronts.{HasKeys, IsCount, IsFloor, IsHeld, IsHighAt, IsKeyAt, IsKeyIn, IsLeastHigh, IsLeastOver, Judged, count_text}
 use Rattle.mn_page.proofs.KeyOrder.{AtMost, at_most_itself, below_at_most, below_lt, lt_below}
@@ -73,7 +73,7 @@ pub has_first : (from : Bool) (base : List ℕ) (n : ℕ) (high : Option (List �
 has_first from base n high has = (has.0, has.1, has.2, refl)
 
 -- so many keys have room just where the least of them leaves it
-pub keys_room : (from : Bool) (base least : List ℕ) (n : ℕ) (high : Option (List ℕ)) → IsLeastOver from base least → HasKeys from base (suc n) high ↔ HasRoom least n high
+pub keys_room : (from : Bool) (base least : List ℕ) (n : ℕ) (high : Option (List ℕ)) → IsLeastOver from base least → HasKeys from base (suc n) high ↔ HasRoomForKeys least n high
 keys_room from base least n high is = (
   λ has. room_lower n high least has.0 (le_at_most least has.0 ((is.1 has.0 has.1).0 has.2)) has.3,
   λ room. (least, is.0, (is.1 least is.0).1 (at_most_le least least (at_most_itself least)), room),
@@ -117,7 +117,7 @@ filled_low_of items low top some s (Some a) m = filled_low low (items a) top som
 pub high_above : (low next : List ℕ) → IsNext low next → IsLeastHigh true low next
 high_above low next is = (is.key, next_le low next is)
 
-pub high_last_above : (low above : List ℕ) → IsNext low above → IsLast above → (key : List ℕ) → IsKey key → HasRoom low 1 (Some key) → ⊥
+pub high_last_above : (low above : List ℕ) → IsNext low above → IsLast above → (key : List ℕ) → IsKey key → HasRoomForKeys low 1 (Some key) → ⊥
 high_last_above low above is last key k room = last key k (room_next 0 (Some key) low above is room)
 
 -- of an inner page there is a separator below it
@@ -125,7 +125,7 @@ pub high_two_above : (low above next : List ℕ) → IsNext low above → IsNext
 high_two_above low above next is iq = (iq.key, λ k key. let le = next_le above next iq k key in (λ room. le.0 (room_next 0 (Some k) low above is room), λ h. next_room 0 (Some k) low above is (le.1 h)))
 
 pub high_of : {A : Type 0} (items : A → List ℕ) (low above : List ℕ) (r : Option A) → IsNext low above → MatchOption r (IsLast above) (λ a. IsNext above (items a))
-    → MatchOption r ((key : List ℕ) → IsKey key → HasRoom low 1 (Some key) → ⊥) (λ a. IsLeastHigh false low (items a))
+    → MatchOption r ((key : List ℕ) → IsKey key → HasRoomForKeys low 1 (Some key) → ⊥) (λ a. IsLeastHigh false low (items a))
 high_of items low above None is m = high_last_above low above is m
 high_of items low above (Some a) is m = high_two_above low above (items a) is m
 
@@ -156,9 +156,9 @@ first_key false low high top s some = by_count some.0 some.1
     by_count (suc n) is = has_first false low n high is.2
 
 -- the room of the least key is that of the counted ones
-pub keys_have : (leaf : Bool) (low least : List ℕ) (high : Option (List ℕ)) (keys : ℕ) → IsLeastOver leaf low least → (1 ≤ keys → HasRoom least (keys - 1) high) → HasKeys leaf low keys high
+pub keys_have : (leaf : Bool) (low least : List ℕ) (high : Option (List ℕ)) (keys : ℕ) → IsLeastOver leaf low least → (1 ≤ keys → HasRoomForKeys least (keys - 1) high) → HasKeys leaf low keys high
 keys_have leaf low least high zero is room = tt
-keys_have leaf low least high (suc n) is room = (keys_room leaf low least n high is).1 (subst (λ (k : ℕ). HasRoom least k high) (one_less n) (room (omega arith)))
+keys_have leaf low least high (suc n) is room = (keys_room leaf low least n high is).1 (subst (λ (k : ℕ). HasRoomForKeys least k high) (one_less n) (room (omega arith)))
   where
     one_less : (n : ℕ) → suc n - 1 ≡ n
     one_less n = omega arith
@@ -178,13 +178,13 @@ count_whole true low high count keys rest bytes e of top has = record { may = (o
 count_whole false low high count keys rest bytes e of top has = record { may = (omega (arith, of), omega (arith, of, top), has); spelled = e ∙ ap (λ (n : ℕ). n ∷ rest) (sym of.0) }
 
 -- a count without room is no page's
-pub count_no : (leaf : Bool) (low least : List ℕ) (high : Option (List ℕ)) (count keys : ℕ) (rest bytes : List ℕ) → bytes ≡ count ∷ rest → KeysOf leaf count keys → IsLeastOver leaf low least → 1 ≤ keys → (HasRoom least (keys - 1) high → ⊥)
+pub count_no : (leaf : Bool) (low least : List ℕ) (high : Option (List ℕ)) (count keys : ℕ) (rest bytes : List ℕ) → bytes ≡ count ∷ rest → KeysOf leaf count keys → IsLeastOver leaf low least → 1 ≤ keys → (HasRoomForKeys least (keys - 1) high → ⊥)
     → Judged (IsCount leaf low high) (count_text leaf) bytes false
 count_no leaf low least high count keys rest bytes e of is some lacks = λ x tail more at f. by_leaf leaf x tail more of is at (ap (λ (l : List ℕ). l ++ tail) (sym e) ∙ f)
   where
     by_keys : (l : Bool) (k : ℕ) → k ≡ keys → IsLeastOver l low least → HasKeys l low k high → ⊥
     by_keys l zero same is has = omega (arith, same, some)
-    by_keys l (suc n) same is has = lacks (subst (λ (m : ℕ). HasRoom least m high) (less n keys same) ((keys_room l low least n high is).0 has))
+    by_keys l (suc n) same is has = lacks (subst (λ (m : ℕ). HasRoomForKeys least m high) (less n keys same) ((keys_room l low least n high is).0 has))
       where
         less : (n keys : ℕ) → suc n ≡ keys → n ≡ keys - 1
         less n keys e = omega arith

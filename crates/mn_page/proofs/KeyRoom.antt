@@ -1,11 +1,12 @@
--- The least key above another, the least one of a size that begins so, and the room that they leave.
+-- The least key above another, the least one of a size that begins so, and the room that they
+-- leave.
 use Rattle.std.proofs.Common.{◌≡◌, ℕ, zero, suc, ◌+◌, ◌-◌, ◌<◌, ◌≤◌, Bool, true, false, not, List, [], ◌∷◌, ◌++◌, inl, inr, length, take, replicate, refl, sym, ap, ◌∙◌, subst, arith, add-one, length-append, if◌then◌else◌}
 use Rattle.std.specs.Prelude.{nat_lt, Option, Some, None, MatchOption, option_map}
 use Rattle.std.specs.List.{list_all}
 use Rattle.std.proofs.lemmas.Bool.Decides.{nat_tests}
 use Rattle.mn_base.specs.Order.{key_le, key_lt}
 use Rattle.mn_base.proofs.Booleans.{both_true, left_true, right_true}
-use Rattle.mn_page.specs.KeyRoom.{HasNoneFrom, HasRoom, IsKeyFrom, IsLast, IsLeastFrom, IsNext, LeavesRoom, raised, raised_on}
+use Rattle.mn_page.specs.KeyRoom.{HasNoneFrom, HasRoomForKeys, IsKeyFrom, IsLast, IsLeastFrom, IsNext, LeavesRoom, raised, raised_on}
 use Rattle.mn_page.proofs.KeyOrder.{Below, AtMost, below_lt, lt_below, not_lt_at_most, at_most_not_lt, at_most_below, at_most_all, below_is_at_most, zero_above, zero_least, raised_is, raised_least, filled_least, front_at_most, between}
 use Rattle.mn_page.proofs.Scanned.{all_take}
 use Rattle.std.proofs.lemmas.List.{length-take-le, length-replicate}
@@ -89,16 +90,16 @@ none_above bs h e = λ k key up.
 
 -- Room
 
-pub room_lower : (n : ℕ) (high : Option (List ℕ)) (a b : List ℕ) → AtMost a b → HasRoom b n high → HasRoom a n high
+pub room_lower : (n : ℕ) (high : Option (List ℕ)) (a b : List ℕ) → AtMost a b → HasRoomForKeys b n high → HasRoomForKeys a n high
 room_lower zero None a b h room = refl
 room_lower zero (Some bound) a b h room = below_lt a bound (at_most_below a b bound h (lt_below b bound room))
 room_lower (suc n) high a b h room = (room.0, room.1, below_lt a room.0 (at_most_below a b room.0 h (lt_below b room.0 room.2)), room.3)
 
 -- a key above these bytes leaves room for as many keys as the least one does
-pub room_next : (n : ℕ) (high : Option (List ℕ)) (a next : List ℕ) → IsNext a next → HasRoom a (suc n) high → HasRoom next n high
+pub room_next : (n : ℕ) (high : Option (List ℕ)) (a next : List ℕ) → IsNext a next → HasRoomForKeys a (suc n) high → HasRoomForKeys next n high
 room_next n high a next is room = room_lower n high next room.0 (not_lt_at_most room.0 next (is.least room.0 room.1 room.2)) room.3
 
-pub next_room : (n : ℕ) (high : Option (List ℕ)) (a next : List ℕ) → IsNext a next → HasRoom next n high → HasRoom a (suc n) high
+pub next_room : (n : ℕ) (high : Option (List ℕ)) (a next : List ℕ) → IsNext a next → HasRoomForKeys next n high → HasRoomForKeys a (suc n) high
 next_room n high a next is room = (next, is.key, is.above, room)
 
 -- The least key of a length
@@ -217,7 +218,7 @@ pub none_with_front : (least front : List ℕ) (size : ℕ) → HasNoneFrom leas
 none_with_front least front size none = λ m at. none m (any_front least front size m at)
 
 -- the least one leaves the most room
-pub least_leaves : (least front : List ℕ) (size more : ℕ) (high : Option (List ℕ)) (k : List ℕ) → IsLeastFrom least front size k → LeavesRoom least front size more high → HasRoom k more high
+pub least_leaves : (least front : List ℕ) (size more : ℕ) (high : Option (List ℕ)) (k : List ℕ) → IsLeastFrom least front size k → LeavesRoom least front size more high → HasRoomForKeys k more high
 least_leaves least front size more high k is some = room_lower more high k some.0 (not_lt_at_most some.0 k (is.lowest some.0 some.1)) some.2
 
 -- What the code finds
@@ -226,15 +227,15 @@ pub next_of : {A : Type 0} (items : A → List ℕ) (key : List ℕ) (r : Option
 next_of items key None e h s = none_above key h (sym e)
 next_of items key (Some a) e h s = next_raised key (items a) s h (sym e)
 
-pub no_room : (n : ℕ) (high : Option (List ℕ)) (a : List ℕ) → 1 ≤ n → IsLast a → HasRoom a n high → ⊥
+pub no_room : (n : ℕ) (high : Option (List ℕ)) (a : List ℕ) → 1 ≤ n → IsLast a → HasRoomForKeys a n high → ⊥
 no_room zero high a some last room = omega arith
 no_room (suc n) high a some last room = last room.0 room.1 room.2
 
-pub room_into : (n m : ℕ) (high : Option (List ℕ)) (a next : List ℕ) → n ≡ suc m → IsNext a next → HasRoom a n high → HasRoom next m high
-room_into n m high a next e is room = room_next m high a next is (subst (λ (k : ℕ). HasRoom a k high) e room)
+pub room_into : (n m : ℕ) (high : Option (List ℕ)) (a next : List ℕ) → n ≡ suc m → IsNext a next → HasRoomForKeys a n high → HasRoomForKeys next m high
+room_into n m high a next e is room = room_next m high a next is (subst (λ (k : ℕ). HasRoomForKeys a k high) e room)
 
-pub room_back : (n m : ℕ) (high : Option (List ℕ)) (a next : List ℕ) → n ≡ suc m → IsNext a next → HasRoom next m high → HasRoom a n high
-room_back n m high a next e is room = subst (λ (k : ℕ). HasRoom a k high) (sym e) (next_room m high a next is room)
+pub room_back : (n m : ℕ) (high : Option (List ℕ)) (a next : List ℕ) → n ≡ suc m → IsNext a next → HasRoomForKeys next m high → HasRoomForKeys a n high
+room_back n m high a next e is room = subst (λ (k : ℕ). HasRoomForKeys a k high) (sym e) (next_room m high a next is room)
 
 pub filled_of : {A : Type 0} (items : A → List ℕ) (P R : Type 0) (bytes : List ℕ) (Q : List ℕ → Type 0) (r : Option A) → (P → ⊥) → MatchOption r P (λ a. items a ≡ bytes) → Q bytes → MatchOption r R (λ a. Q (items a))
 filled_of items P R bytes Q None refused h q = absurd (refused h)

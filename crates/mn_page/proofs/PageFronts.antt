@@ -6,7 +6,7 @@ use Rattle.std.specs.declared.result.Result.TheVariants.{Ok, Err}
 use Rattle.byteorder.specs.Endian.{big_bytes}
 use Rattle.mn_base.specs.declared.ids.Addr.{Addr}
 use Rattle.mn_page.specs.Grammar.{IsAddr, addr_bytes, counted, high_bytes}
-use Rattle.mn_page.specs.KeyRoom.{HasRoom}
+use Rattle.mn_page.specs.KeyRoom.{HasRoomForKeys}
 use Rattle.mn_page.specs.Reading.{AreVersions, Begins, IsSeq, are_above, as_they_stand, eight, height_text, versions_text}
 use Rattle.mn_page.specs.PageFronts.{BehindCount, BehindFences, BehindHeight, BehindLow, BehindSeq, BehindVersions, Decides, FromSeq, HasKeys, IsCount, IsHeight, IsHeld, IsLowAt, Items, Judged, Then, count_text, least_keys}
 use Rattle.mn_page.proofs.Spelled.{addr_cut, big_bytes-inj, counted_cut, cut, high_cut}
@@ -94,7 +94,7 @@ held_cuts false x y c d is iq e =
 
 -- Something always follows
 
-pub keys_above : (n : ℕ) (key : List ℕ) (high : Option (List ℕ)) → HasRoom key n high → HasKeys false key n high
+pub keys_above : (n : ℕ) (key : List ℕ) (high : Option (List ℕ)) → HasRoomForKeys key n high → HasKeys false key n high
 keys_above zero key high room = tt
 keys_above (suc n) key high room = (room.0, room.1, room.2, room.3)
 
@@ -130,11 +130,11 @@ some_behind_count false low high n is =
     let told = addr.1 in
     (addr_bytes told.0 ++ rest.0, record { value = told.0; rest = rest.0; may = told.1; spelled = refl; follows = rest.1 })
 
-pub some_count : (leaf : Bool) (low : List ℕ) (high : Option (List ℕ)) → HasRoom low (least_keys leaf) high → (n : ℕ) × IsCount leaf low high n
+pub some_count : (leaf : Bool) (low : List ℕ) (high : Option (List ℕ)) → HasRoomForKeys low (least_keys leaf) high → (n : ℕ) × IsCount leaf low high n
 some_count true low high room = (0, (omega arith, tt))
 some_count false low high room = (1, (omega arith, omega arith, (room.0, room.1, room.2, room.3)))
 
-pub some_body : (leaf : Bool) (low : List ℕ) (high : Option (List ℕ)) → HasRoom low (least_keys leaf) high → (tail : List ℕ) × BehindFences leaf low high tail
+pub some_body : (leaf : Bool) (low : List ℕ) (high : Option (List ℕ)) → HasRoomForKeys low (least_keys leaf) high → (tail : List ℕ) × BehindFences leaf low high tail
 some_body leaf low high room =
     let n = some_count leaf low high room in
     let rest = some_behind_count leaf low high n.0 n.1 in

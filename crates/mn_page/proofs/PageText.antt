@@ -133,7 +133,8 @@ kinds low high (Inner height first rest) is = ap (λ (t : Bool). cond t 1 2) (sy
     not_zero : (n : ℕ) → 1 ≤ n → nat_eq n 0 ≡ false
     not_zero n h = grind (arith, nat_tests)
 
--- the fields as they are listed, with the kind and what stands behind the low fence's length left open
+-- the fields as they are listed, with the kind and what stands behind the low fence's length left
+-- open
 abbrev cells : Page → ℕ → List ℕ → List ℕ
 cells p kind behind = big_bytes 8 p.seq ++ (kind ∷ (big_bytes 2 (height_of p.body) ++ (p.made.0 ∷ (big_bytes 8 p.copied ++ (length p.low ∷ behind)))))
 

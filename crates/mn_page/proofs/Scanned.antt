@@ -18,7 +18,8 @@ are_bytes (b ∷ bs) h = both_true (nat_lt b 256) (list_all (λ c. nat_lt c 256)
 
 -- Lists of values, one behind the other
 
--- so many are read; where the bytes are a list of so many and more, they begin it, and the others and more are left
+-- so many are read; where the bytes are a list of so many and more, they begin it, and the others
+-- and more are left
 pub record Progress {X : Type 0} (Is : X → Type 0) (spelling : X → List ℕ) (count : ℕ) (bytes : List ℕ) (i : ℕ) (read : List X) (rest : List ℕ) : Type 0 where
   pub many : length read ≡ i
   pub may : AllByRecursion Is read

@@ -1,4 +1,5 @@
--- The root of a version, a leaf, splits: it keeps its slot and becomes the parent of two new leaves.
+-- The root of a version, a leaf, splits: it keeps its slot and becomes the parent of two new
+-- leaves.
 use Rattle.std.proofs.Common.{◌≡◌, ℕ, zero, suc, ◌+◌, ◌<◌, ◌≤◌, ◌⊎◌, inl, inr, Bool, true, false, cond, not, ◌&&◌, List, [], ◌∷◌, ◌++◌, length, Option, Some, None, refl, subst, sym, ap, ◌∙◌, arith, slice_get, slice_set, slice_index_or}
 use Rattle.std.specs.Prelude.{filter, count_by, nat_eq, IsTrue}
 use Rattle.std.specs.List.{AllByRecursion}

@@ -4,7 +4,7 @@ use Rattle.std.specs.List.{list_all}
 use Rattle.mn_base.specs.Order.{key_le, key_lt}
 use Rattle.mn_base.specs.declared.ids.Addr.{Addr}
 use Rattle.mn_page.specs.Grammar.{IsAddr, IsBound, IsKey, IsValue, addr_bytes, counted, high_bytes}
-use Rattle.mn_page.specs.KeyRoom.{HasRoom}
+use Rattle.mn_page.specs.KeyRoom.{HasRoomForKeys}
 use Rattle.mn_page.specs.Reading.{AreVersions, HasLength, IsSeq, as_they_stand, eight, height_text, versions_text}
 
 -- the bytes end inside a field: more of them make it one that may stand there, or no more do
@@ -57,7 +57,7 @@ Over false base key = IsTrue (key_lt base key)
 -- so many keys have room there below the bound
 abbrev pub HasKeys : Bool → List ℕ → ℕ → Option (List ℕ) → Type 0
 HasKeys from base zero high = ⊤
-HasKeys from base (suc n) high = (key : List ℕ) × IsKey key × Over from base key × HasRoom key n high
+HasKeys from base (suc n) high = (key : List ℕ) × IsKey key × Over from base key × HasRoomForKeys key n high
 
 -- the least key there
 abbrev pub IsLeastOver : Bool → List ℕ → List ℕ → Type 0
@@ -70,14 +70,14 @@ IsFloor (suc n) from base least = IsLeastOver from base least
 
 -- the keys that may be a page's high fence
 abbrev pub IsLeastHigh : Bool → List ℕ → List ℕ → Type 0
-IsLeastHigh leaf low least = IsKey least × ((key : List ℕ) → IsKey key → HasRoom low (least_keys leaf) (Some key) ↔ IsTrue (key_le least key))
+IsLeastHigh leaf low least = IsKey least × ((key : List ℕ) → IsKey key → HasRoomForKeys low (least_keys leaf) (Some key) ↔ IsTrue (key_le least key))
 
 -- bytes of a length, at or above others, with room for so many keys above them
 abbrev pub IsKeyIn : ℕ → List ℕ → ℕ → Option (List ℕ) → List ℕ → Type 0
-IsKeyIn shortest least more high key = HasLength shortest 32 key × IsTrue (key_le least key) × HasRoom key more high
+IsKeyIn shortest least more high key = HasLength shortest 32 key × IsTrue (key_le least key) × HasRoomForKeys key more high
 
 abbrev pub IsKeyAt : Bool → List ℕ → ℕ → Option (List ℕ) → List ℕ → Type 0
-IsKeyAt from base more high key = IsKey key × Over from base key × HasRoom key more high
+IsKeyAt from base more high key = IsKey key × Over from base key × HasRoomForKeys key more high
 
 -- what stands behind a key: of a leaf a value, of an inner page an address
 abbrev pub IsHeld : Bool → List ℕ → Type 0
@@ -98,7 +98,7 @@ abbrev pub IsLowAt : Bool → List ℕ → Type 0
 IsLowAt leaf low = IsKeyIn 0 [] (least_keys leaf) None low
 
 abbrev pub IsHighAt : Bool → List ℕ → Option (List ℕ) → Type 0
-IsHighAt leaf low high = IsBound high × HasRoom low (least_keys leaf) high
+IsHighAt leaf low high = IsBound high × HasRoomForKeys low (least_keys leaf) high
 
 -- the number of keys
 abbrev pub IsCount : Bool → List ℕ → Option (List ℕ) → ℕ → Type 0

@@ -95,8 +95,9 @@ fn is_unused(bytes: &[u8]) -> bool
 }
 
 impl CatEntry {
-    /// The entry whose bytes these are, or none for an unused place. BadPage: they are neither's; `at` is how many of the
-    /// first bytes still begin some entry. NoMemory: there was no memory for it.
+    /// The entry whose bytes these are, or none for an unused place. BadPage: they are neither's;
+    /// `at` is how many of the first bytes still begin some entry. NoMemory: there was no memory
+    /// for it.
     pub fn read(alloc: Global, bytes: &[u8]) -> Result<Option<CatEntry>, PageError>
         ensures read { IfOk result (λ found. MatchOption found (IsUnused bytes.now) (SpellsEntry bytes.now)) }
         ensures entry { (e : CatEntry) → SpellsEntry bytes.now e → IfOk result (λ found. found ≡ Some e) }

@@ -1,8 +1,9 @@
 use mn_base::NoMemory;
 use thiserror::Error;
 
-/// Bytes are neither those of a page nor of a free slot. `at`, up to 1,024, is how many of the first bytes still begin some page.
-/// A free slot is no page: of bytes that begin with eight zeros, but are not all zero, just seven begin some page.
+/// Bytes are neither those of a page nor of a free slot. `at`, up to 1,024, is how many of the
+/// first bytes still begin some page. A free slot is no page: of bytes that begin with eight zeros,
+/// but are not all zero, just seven begin some page.
 #[derive(Clone, Copy, Debug, PartialEq, Eq, Error)]
 #[error("no page from byte {at} on")]
 pub struct BadPage {
@@ -12,8 +13,8 @@ pub struct BadPage {
 /// Why bytes gave no page and no entry.
 #[derive(Clone, Copy, Debug, PartialEq, Eq, Error)]
 pub enum PageError {
-    /// They spell none, and aren't the zeros of a free slot or an unused place; `at` is how many of the first bytes still begin some
-    /// page or some entry.
+    /// They spell none, and aren't the zeros of a free slot or an unused place; `at` is how many of
+    /// the first bytes still begin some page or some entry.
     #[error("no page from byte {at} on")]
     BadPage { at: u16 },
     #[error("no memory")]

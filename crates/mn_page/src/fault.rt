@@ -9,8 +9,8 @@ pub const SLOT: usize = 1_024;
 /// The bytes of an entry's place.
 pub const ENTRY: usize = 64;
 
-/// How many of the first bytes still begin some page. Bytes that begin none begin none with more behind them, so the place is
-/// found by halving.
+/// How many of the first bytes still begin some page. Bytes that begin none begin none with more
+/// behind them, so the place is found by halving.
 pub fn page_fault(bytes: &[u8]) -> u16
     ensures longest { IsLongest BeginsPage bytes.now result }
     ensures within { result ≤ length bytes.now }
@@ -28,7 +28,8 @@ pub fn page_fault(bytes: &[u8]) -> u16
     here as u16
 }
 
-/// Whether byte `at` of an entry may be this one: `some` says whether a byte before it isn't zero, `count` how long the name is.
+/// Whether byte `at` of an entry may be this one: `some` says whether a byte before it isn't zero,
+/// `count` how long the name is.
 fn entry_goes_on(at: usize, some: bool, count: usize, byte: u8) -> bool
     requires { count < 256 }
     ensures { result ≡ entry_goes_on at some count byte }

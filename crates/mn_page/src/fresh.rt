@@ -100,8 +100,8 @@ fn front_bytes(alloc: Global, node: u8, nodes: u8) -> Result<Vec<u8>, AllocError
     Ok(front)
 }
 
-/// The space that this node, of so many, begins with: the header, the count, and on node 0 the entry of `main` and its
-/// empty leaf. NoMemory: there was no memory for it.
+/// The space that this node, of so many, begins with: the header, the count, and on node 0 the
+/// entry of `main` and its empty leaf. NoMemory: there was no memory for it.
 pub fn base_space(alloc: Global, node: u8, nodes: u8) -> Result<Vec<u8>, NoMemory>
     requires { 0 < nodes }
     ensures space { IfOk result (λ space. space.items ≡ base_of nodes node) }

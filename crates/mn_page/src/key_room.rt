@@ -1,5 +1,5 @@
 ghost use Rattle.std.specs.Prelude.{◌≡◌, ◌≤◌, ◌-◌, ◌++◌, [], ◌↔◌, IsTrue, length, replicate, MatchOption, option_map};
-ghost use Rattle.mn_page.specs.KeyRoom.{HasNoneFrom, HasRoom, IsLast, IsLeastFrom, IsNext, LeavesRoom, raised};
+ghost use Rattle.mn_page.specs.KeyRoom.{HasNoneFrom, HasRoomForKeys, IsLast, IsLeastFrom, IsNext, LeavesRoom, raised};
 
 use crate::scan::is_below;
 use arrayvec::ArrayVec;
@@ -78,7 +78,7 @@ fn least_with(least: &[u8], front: &[u8], size: usize) -> Option<ShortKey>
 
 /// Whether the key and so many more above it lie below the bound.
 pub fn has_room(key: &[u8], more: usize, high: Option<&[u8]>) -> bool
-    ensures { length key.now ≤ 32 → (IsTrue result ↔ HasRoom key.now more (option_map (λ h. h.now) high.entry)) }
+    ensures { length key.now ≤ 32 → (IsTrue result ↔ HasRoomForKeys key.now more (option_map (λ h. h.now) high.entry)) }
 {
     let mut last = ShortKey::new();
     if last.try_extend_from_slice(key).is_err() {
@@ -93,8 +93,8 @@ pub fn has_room(key: &[u8], more: usize, high: Option<&[u8]>) -> bool
     is_below(last.as_slice(), high)
 }
 
-/// What the keys that are still to come must meet: they lie at or above `least` and below `high`, and `more` stand behind the
-/// next one.
+/// What the keys that are still to come must meet: they lie at or above `least` and below `high`,
+/// and `more` stand behind the next one.
 #[derive(Clone, Copy)]
 pub struct Room<'a> {
     pub least: &'a [u8],

@@ -10,8 +10,8 @@ pub fn base_holds_empty_store()
     ensures { Holds (memory_of (base_forest 1)) empty_store }
 {}
 
-/// In a memory that holds a store, for each version and key just one leaf serves the version and covers the key, and it tells
-/// the key's value.
+/// In a memory that holds a store, for each version and key just one leaf serves the version and
+/// covers the key, and it tells the key's value.
 pub fn leaf_tells()
     ensures { LeafTells }
 {}

@@ -1,4 +1,5 @@
-//! Pages of the version trees and entries of the catalog, and when the spaces of the memory nodes hold a store.
+//! Pages of the version trees and entries of the catalog, and when the spaces of the memory nodes
+//! hold a store.
 #![tactic(auto)]
 
 mod body_scan;
@@ -30,6 +31,3 @@ pub use laws::{
 pub use page::{Body, Branches, Child, Page, number_after};
 pub use page_ref::PageRef;
 pub use pages::Pages;
-
-#[cfg(test)]
-mod tests;

@@ -5,8 +5,8 @@ use mn_base::{Addr, Bytes, Key, NoMemory, Pairs, TryCopy, VersionNo, copies_of};
 use std::alloc::Global;
 use std::marker::Model;
 
-/// The sequence number of the next write of a page or an entry. The last number stays, which tells a plan that the
-/// place is worn.
+/// The sequence number of the next write of a page or an entry. The last number stays, which tells
+/// a plan that the place is worn.
 pub fn number_after(seq: u64) -> u64
     ensures { result ≡ next_number seq }
 {

@@ -3,7 +3,7 @@ ghost use Rattle.std.specs.Option.{option_map};
 ghost use Rattle.mn_base.specs.declared.ids.Addr.{Addr};
 ghost use Rattle.mn_page.specs.Fronts.{BeginsPage};
 ghost use Rattle.mn_page.specs.Grammar.{IsAddr, IsKey, IsValue, addr_bytes, counted, high_bytes};
-ghost use Rattle.mn_page.specs.KeyRoom.{HasRoom};
+ghost use Rattle.mn_page.specs.KeyRoom.{HasRoomForKeys};
 ghost use Rattle.mn_page.specs.Reading.{AreVersions, Begins, IsSeq, as_they_stand, eight, height_text, versions_text};
 ghost use Rattle.mn_page.specs.PageFronts.{addr_goes_on, height_goes_on, BehindFences, Decides, FromSeq, HasKeys, IsCount, IsFloor, IsHeight, IsHeld, IsHighAt, IsKeyIn, IsLeastHigh, IsLeastOver, Items, Judged, count_text, least_keys};
 
@@ -12,8 +12,8 @@ use crate::key_room::{Room, ShortKey, filled, has_room, leaves_room, next_key};
 use crate::page_scan::are_zeros;
 use crate::scan::{first_addr, first_byte, first_height, first_seq, first_text, first_versions};
 
-// Each function gives what stands behind a field. Err: the bytes end inside the field, or can't begin it; `true` where more
-// bytes make it a field that some page goes on from.
+// Each function gives what stands behind a field. Err: the bytes end inside the field, or can't
+// begin it; `true` where more bytes make it a field that some page goes on from.
 
 fn front_seq(bytes: &[u8]) -> Result<&[u8], bool>
     ensures { MatchResult result (λ rest. (seq : ℕ) × Begins IsSeq eight bytes.now seq rest.now) (λ goes. Judged IsSeq eight bytes.now goes) }
@@ -148,7 +148,7 @@ fn front_high<'a>(
     low: &[u8],
     is_leaf: bool,
 ) -> Result<(Option<&'a [u8]>, &'a [u8]), bool>
-    ensures { length low.now ≤ 32 → HasRoom low.now (least_keys is_leaf) None → MatchResult result (λ x. Begins (IsHighAt is_leaf low.now) high_bytes bytes.now (option_map (λ h. h.now) x.0) x.1.now) (λ goes. Judged (IsHighAt is_leaf low.now) high_bytes bytes.now goes) }
+    ensures { length low.now ≤ 32 → HasRoomForKeys low.now (least_keys is_leaf) None → MatchResult result (λ x. Begins (IsHighAt is_leaf low.now) high_bytes bytes.now (option_map (λ h. h.now) x.0) x.1.now) (λ goes. Judged (IsHighAt is_leaf low.now) high_bytes bytes.now goes) }
 {
     let Some((some, behind)) = first_byte(bytes) else {
         return Err(true);
@@ -173,7 +173,7 @@ fn front_high<'a>(
 
 /// The least bound above the keys, with a separator below it for an inner page.
 fn least_high(low: &[u8], is_leaf: bool) -> Option<ShortKey>
-    ensures { length low.now ≤ 32 → MatchOption result ((key : List ℕ) → IsKey key → HasRoom low.now (least_keys is_leaf) (Some key) → ⊥) (λ least. IsLeastHigh is_leaf low.now least.items) }
+    ensures { length low.now ≤ 32 → MatchOption result ((key : List ℕ) → IsKey key → HasRoomForKeys low.now (least_keys is_leaf) (Some key) → ⊥) (λ least. IsLeastHigh is_leaf low.now least.items) }
 {
     let above = next_key(low)?;
     if is_leaf {
@@ -267,7 +267,7 @@ fn least_keys(is_leaf: bool) -> usize
 
 /// What stands behind the fences.
 fn front_body(bytes: &[u8], low: &[u8], high: Option<&[u8]>, is_leaf: bool) -> Result<(), bool>
-    ensures { length low.now ≤ 32 → HasRoom low.now (least_keys is_leaf) (option_map (λ h. h.now) high.entry) → MatchResult result (λ _. Decides (BehindFences is_leaf low.now (option_map (λ h. h.now) high.entry)) bytes.now true) (λ goes. Decides (BehindFences is_leaf low.now (option_map (λ h. h.now) high.entry)) bytes.now goes) }
+    ensures { length low.now ≤ 32 → HasRoomForKeys low.now (least_keys is_leaf) (option_map (λ h. h.now) high.entry) → MatchResult result (λ _. Decides (BehindFences is_leaf low.now (option_map (λ h. h.now) high.entry)) bytes.now true) (λ goes. Decides (BehindFences is_leaf low.now (option_map (λ h. h.now) high.entry)) bytes.now goes) }
 {
     let (keys, behind) = front_count(bytes, low, high, is_leaf)?;
     let least = least_key(low, is_leaf);

@@ -85,8 +85,8 @@ fn body_of(alloc: Global, body: &BodyRef<'_>) -> Result<Body, NoMemory>
 }
 
 impl<'a> PageRef<'a> {
-    /// The page whose bytes these are, or none for a free slot. BadPage: they are neither's; `at` is how many of the first
-    /// bytes still begin some page. It takes no memory.
+    /// The page whose bytes these are, or none for a free slot. BadPage: they are neither's; `at`
+    /// is how many of the first bytes still begin some page. It takes no memory.
     pub fn new(bytes: &'a [u8]) -> Result<Option<PageRef<'a>>, BadPage>
         ensures read { IfOk result (λ found. MatchOption found (IsFree bytes.now) (SpellsPage bytes.now)) }
         ensures page { (p : Page) → SpellsPage bytes.now p → IsOkAnd result (λ found. found ≡ Some p) }
@@ -122,8 +122,8 @@ impl<'a> PageRef<'a> {
 }
 
 impl Page {
-    /// The page whose bytes these are, or none for a free slot. BadPage: they are neither's; `at` is how many of the first
-    /// bytes still begin some page. NoMemory: there was no memory for it.
+    /// The page whose bytes these are, or none for a free slot. BadPage: they are neither's; `at`
+    /// is how many of the first bytes still begin some page. NoMemory: there was no memory for it.
     pub fn read(alloc: Global, bytes: &[u8]) -> Result<Option<Page>, PageError>
         ensures read { IfOk result (λ found. MatchOption found (IsFree bytes.now) (SpellsPage bytes.now)) }
         ensures page { (p : Page) → SpellsPage bytes.now p → IfOk result (λ found. found ≡ Some p) }

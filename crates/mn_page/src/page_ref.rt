@@ -29,8 +29,8 @@ pub struct ChildRef<'a> {
     pub addr: Addr,
 }
 
-/// What a page holds, lent from its bytes. At height 0 it is a leaf of the first `count` pairs, else an inner page of the first
-/// child and `count` more.
+/// What a page holds, lent from its bytes. At height 0 it is a leaf of the first `count` pairs,
+/// else an inner page of the first child and `count` more.
 #[derive(Clone, Copy)]
 pub struct BodyRef<'a> {
     pub height: u16,
@@ -40,7 +40,8 @@ pub struct BodyRef<'a> {
     pub rest: [ChildRef<'a>; 7],
 }
 
-/// A page as it stands in its bytes, from which it lends its keys and values. Contracts see it as the page.
+/// A page as it stands in its bytes, from which it lends its keys and values. Contracts see it as
+/// the page.
 #[derive(Drop)]
 pub struct PageRef<'a> {
     pub(crate) head: Head,
@@ -133,7 +134,8 @@ impl<'a> PageRef<'a> {
         }
     }
 
-    /// The key of pair `i` of a leaf, or the separator between the children `i` and `i` + 1 of an inner page.
+    /// The key of pair `i` of a leaf, or the separator between the children `i` and `i` + 1 of an
+    /// inner page.
     pub fn key(&self, i: usize) -> &'a [u8]
         requires { i < length (keys_in self.now.body) }
         ensures { slice_get (keys_in self.now.body) i ≡ Some result.now }

@@ -113,8 +113,8 @@ fn put_fences(into: &mut [u8], at: usize, page: &Page) -> usize
 }
 
 impl Page {
-    /// Writes its spelling over a slot, all of its 1,024 bytes. The page has at most 8 pairs or children, and a low fence of at
-    /// most 32 bytes.
+    /// Writes its spelling over a slot, all of its 1,024 bytes. The page has at most 8 pairs or
+    /// children, and a low fence of at most 32 bytes.
     pub fn write(&self, into: &mut [u8])
         requires slot { length into.old ≡ slot_size }
         requires few { count_in self.now.body ≤ 8 }

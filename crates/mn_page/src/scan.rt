@@ -219,7 +219,8 @@ fn first_pair<'a>(
     Some((PairRef { key, value }, rest))
 }
 
-/// The child after the first that the bytes begin with, where its separator lies between the fences, and what follows.
+/// The child after the first that the bytes begin with, where its separator lies between the
+/// fences, and what follows.
 fn first_child<'a>(
     low: &[u8],
     high: Option<&[u8]>,

@@ -7,7 +7,7 @@ use Rattle.mn_base.specs.Order.{key_lt}
 use Rattle.mn_base.specs.Store.{value_at, pairs_with, pairs_without, pairs_after_step, ran_from, noted_by, step_key}
 use Rattle.mn_base.specs.declared.reply.Reply.TheVariants.{Unmet}
 use Rattle.mn_base.proofs.Keys.{bytes_eq-refl, bytes_eq-true}
-use Rattle.mn_plain.specs.Run.{left_by, left_by_all, pairs_after, Tells}
+use Rattle.mn_plain.specs.Run.{left_by, left_by_all, pairs_after, StepTells}
 
 -- the value of a key, where two keys are compared with a third
 abbrev KeepsOthers : List Pair → List Pair → List ℕ → Option (List ℕ) → List ℕ → Type 0
@@ -70,7 +70,7 @@ pairs_after-more ps (first ∷ steps) step = pairs_after-more (pairs_after_step 
 
 -- a step that is met goes on with the rest
 pub ran_on : (old : List Pair) (steps : List Step) (at : ℕ) (values new : List (Option (List ℕ))) (step : Step)
-    → drop at steps ≡ step ∷ drop (suc at) steps → take (at + 1) steps ≡ take at steps ++ step ∷ [] → Tells (pairs_after old (take at steps)) step values new None
+    → drop at steps ≡ step ∷ drop (suc at) steps → take (at + 1) steps ≡ take at steps ++ step ∷ [] → StepTells (pairs_after old (take at steps)) step values new None
     → ran_from old (at + 1 + 1) (pairs_after old (take (at + 1) steps)) new (drop (at + 1) steps) ≡ ran_from old (at + 1) (pairs_after old (take at steps)) values (drop at steps)
 ran_on old steps at values new step split more tells =
     let before = pairs_after old (take at steps) in

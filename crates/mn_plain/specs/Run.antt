@@ -25,10 +25,11 @@ abbrev pub left_by_all : Option (List ℕ) → List Step → List ℕ → Option
 left_by_all found [] key = found
 left_by_all found (step ∷ steps) key = left_by_all (left_by found step key) steps key
 
--- what a step tells of the pairs: a Get adds what it finds to the values, and a Check that is not met answers what it finds
-abbrev pub Tells : List Pair → Step → List (Option (List ℕ)) → List (Option (List ℕ)) → Option (Option (List ℕ)) → Type 0
-Tells ps step old new None = (is_unmet ps step ≡ false) × (new ≡ old ++ noted_by ps step)
-Tells ps step old new (Some found) = (is_unmet ps step ≡ true) × (value_at ps (step_key step) ≡ found) × (new ≡ old)
+-- what a step tells of the pairs: a Get adds what it finds to the values, and a Check that is not
+-- met answers what it finds
+abbrev pub StepTells : List Pair → Step → List (Option (List ℕ)) → List (Option (List ℕ)) → Option (Option (List ℕ)) → Type 0
+StepTells ps step old new None = (is_unmet ps step ≡ false) × (new ≡ old ++ noted_by ps step)
+StepTells ps step old new (Some found) = (is_unmet ps step ≡ true) × (value_at ps (step_key step) ≡ found) × (new ≡ old)
 
 -- the pairs that steps with this reply leave: after an unmet Check the old ones
 abbrev pub pairs_left : List Pair → List Step → Reply → List Pair

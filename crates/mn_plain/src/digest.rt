@@ -21,8 +21,8 @@ fn bytes_of(alloc: Global, pairs: &[Pair]) -> Result<Vec<u8>, AllocError>
     Ok(bytes)
 }
 
-/// The SHA-256 of the pairs: for each in order the key's length (1 byte), the key, the value's length (1 byte), the value.
-/// NoMemory: there was no memory for these bytes.
+/// The SHA-256 of the pairs: for each in order the key's length (1 byte), the key, the value's
+/// length (1 byte), the value. NoMemory: there was no memory for these bytes.
 pub fn digest_of(alloc: Global, pairs: &[Pair]) -> Result<[u8; 32], NoMemory>
     ensures { IfOk result (λ digest. digest ≡ pairs_digest pairs.now) }
 {

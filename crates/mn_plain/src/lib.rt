@@ -1,4 +1,5 @@
-//! The store of versions as its rules say it, in one list and without nodes: what every other form of it must answer.
+//! The store of versions as its rules say it, in one list and without nodes: what every other form
+//! of it must answer.
 #![tactic(auto)]
 
 mod digest;
@@ -11,6 +12,3 @@ pub use digest::digest_of;
 pub use pairs::value_of;
 pub use store::{MAX_VERSIONS, Store};
 pub use version::Kept;
-
-#[cfg(test)]
-mod tests;

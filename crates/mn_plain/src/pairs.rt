@@ -103,7 +103,8 @@ fn push_within(
     Ok(())
 }
 
-/// Copies of the first `limit` pairs at or above `low` and below `high`. An absent bound doesn't bound.
+/// Copies of the first `limit` pairs at or above `low` and below `high`. An absent bound doesn't
+/// bound.
 pub fn within(
     alloc: Global,
     pairs: &[Pair],

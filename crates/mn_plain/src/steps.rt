@@ -2,7 +2,7 @@ ghost use Rattle.std.specs.Prelude.{◌≡◌, ◌≤◌, ◌<◌, ◌+◌, not,
 ghost use Rattle.std.specs.List.{list_any};
 ghost use Rattle.std.specs.Option.{option_eq};
 ghost use Rattle.mn_base.specs.Store.{ran, is_change, value_at, pairs_after_step};
-ghost use Rattle.mn_plain.specs.Run.{pairs_after, left_by, Tells, pairs_left};
+ghost use Rattle.mn_plain.specs.Run.{pairs_after, left_by, StepTells, pairs_left};
 
 use crate::pairs::{remove_pair, set_pair, value_of};
 use mn_base::{Founds, Key, NoMemory, Pair, Reply, Step, TryCopy, Value};
@@ -61,7 +61,8 @@ fn copy_of(alloc: Global, found: Option<&Value>) -> Result<Option<Value>, NoMemo
     }
 }
 
-/// Notes what a step tells after those before it: a Get what it finds. The answer is what a Check finds that isn't met.
+/// Notes what a step tells after those before it: a Get what it finds. The answer is what a Check
+/// finds that isn't met.
 fn note(
     alloc: Global,
     pairs: &[Pair],
@@ -69,7 +70,7 @@ fn note(
     step: &Step,
     values: &mut Vec<Option<Value>>,
 ) -> Result<Option<Option<Value>>, NoMemory>
-    ensures { IfOk result (Tells (pairs_after pairs.now before.now) step.now values.old.items values.new.items) }
+    ensures { IfOk result (StepTells (pairs_after pairs.now before.now) step.now values.old.items values.new.items) }
 {
     match step {
         Step::Get { key } => {

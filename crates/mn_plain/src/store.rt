@@ -19,8 +19,8 @@ use std::mem;
 /// The most versions of a store.
 pub const MAX_VERSIONS: usize = 64;
 
-/// The versions in order of number, each with its pairs in order of key: a tree of versions with names that differ.
-/// Contracts see the list that the rules of the store speak of.
+/// The versions in order of number, each with its pairs in order of key: a tree of versions with
+/// names that differ. Contracts see the list that the rules of the store speak of.
 #[derive(Debug, Drop)]
 pub struct Store {
     versions: Vec<Kept>,
@@ -170,16 +170,16 @@ fn add_child_of(
 }
 
 impl Store {
-    /// The store as it begins: one writable version, number 0, named `main`, without a parent and without pairs.
-    /// NoMemory: there was no memory for it.
+    /// The store as it begins: one writable version, number 0, named `main`, without a parent and
+    /// without pairs. NoMemory: there was no memory for it.
     pub fn new(alloc: Global) -> Result<Self, NoMemory>
         ensures { IfOk result (λ store. store ≡ empty_store) }
     {
         Store::with_main(alloc, Pairs::from_vec(Vec::new(alloc)))
     }
 
-    /// The store whose one version is the writable `main` with these pairs, which stand in order of key.
-    /// NoMemory: there was no memory for it.
+    /// The store whose one version is the writable `main` with these pairs, which stand in order of
+    /// key. NoMemory: there was no memory for it.
     pub fn with_main(alloc: Global, pairs: Pairs) -> Result<Self, NoMemory>
         requires { IsTrue (is_ascending pairs) }
         ensures { IfOk result (λ store. store ≡ main_store pairs) }
@@ -197,8 +197,8 @@ impl Store {
         Ok(Store { versions })
     }
 
-    /// The store of these versions, in order of number: a tree of at most 64 versions with names that differ, each
-    /// with its pairs in order of key. It takes no memory.
+    /// The store of these versions, in order of number: a tree of at most 64 versions with names
+    /// that differ, each with its pairs in order of key. It takes no memory.
     pub fn of_versions(versions: Vec<Kept>) -> Self
         requires { IsStore (store_of versions.items) }
         ensures { result ≡ store_of versions.items }
@@ -206,8 +206,9 @@ impl Store {
         Store { versions }
     }
 
-    /// Does the operation and replies to it. After a refusing reply or an unmet Check the store is as it was. NoMemory: there
-    /// was no memory for the operation or its reply; the store is as it was.
+    /// Does the operation and replies to it. After a refusing reply or an unmet Check the store is
+    /// as it was. NoMemory: there was no memory for the operation or its reply; the store is as it
+    /// was.
     pub fn apply(&mut self, alloc: Global, op: &Op) -> Result<Reply, NoMemory>
         ensures reply { IfOk result (λ reply. reply ≡ (applied self.old op.now).reply) }
         ensures store { OnOk result (self.new ≡ (applied self.old op.now).store) }
@@ -353,8 +354,9 @@ impl Store {
         self.pairs_at(usize::from(version.0))
     }
 
-    /// The SHA-256 of the pairs of a version that is there: for each pair in order of key the key's length (1 byte), the
-    /// key, the value's length (1 byte), the value. NoMemory: there was no memory for these bytes.
+    /// The SHA-256 of the pairs of a version that is there: for each pair in order of key the key's
+    /// length (1 byte), the key, the value's length (1 byte), the value. NoMemory: there was no
+    /// memory for these bytes.
     pub fn digest(&self, alloc: Global, version: VersionNo) -> Result<[u8; 32], NoMemory>
         requires { version.0 < length self.now }
         ensures { IfOk result (λ digest. IsSomeAnd (slice_get self.now version.0) (λ kept. digest ≡ pairs_digest kept.pairs)) }

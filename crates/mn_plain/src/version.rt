@@ -1,7 +1,8 @@
 use mn_base::{Name, NoMemory, Pairs, TryCopy, VersionNo};
 use std::alloc::Global;
 
-/// A version as it is kept: its name, its parent's number or none, whether it is frozen, and its pairs in order of key.
+/// A version as it is kept: its name, its parent's number or none, whether it is frozen, and its
+/// pairs in order of key.
 #[derive(Debug, Drop)]
 pub struct Kept {
     pub name: Name,

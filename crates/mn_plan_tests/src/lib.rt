@@ -1,5 +1,5 @@
-//! Tests of plans: transactions, snapshots and branches over the memory of two nodes, made, done and
-//! checked against the plain store.
+//! Tests of plans: transactions, snapshots and branches over the memory of two nodes, made, done
+//! and checked against the plain store.
 #![tactic(auto)]
 
 #[cfg(test)]

@@ -12,13 +12,13 @@ use Rattle.mn_page.specs.declared.page.Page.{Page}
 use Rattle.mn_page.specs.declared.page.Body.TheVariants.{Inner}
 use Rattle.mn_page.specs.Forest.{heads_in}
 use Rattle.mn_page.specs.Grammar.{SpellsPage, height_of}
-use Rattle.mn_scan.specs.Front.{child_from, front_of, is_on_path}
+use Rattle.mn_path.specs.Walk.{child_from, front_of, is_on_path}
 use Rattle.mn_world.specs.Shown.{Seen}
 use Rattle.mn_world.specs.Answers.{MeetsFault, ReachesAddr}
-use Rattle.mn_proxy.specs.declared.seen.SeenPage.{SeenPage}
+use Rattle.mn_txn.specs.declared.seen.SeenPage.{SeenPage}
 use Rattle.mn_proxy.specs.Among.{AreBrought, WalksAmong}
 use Rattle.mn_proxy.specs.Bodies.{body_child}
-use Rattle.mn_proxy.specs.Seen.{seen_at}
+use Rattle.mn_txn.specs.Seen.{seen_at}
 use Rattle.mn_proxy.specs.Walks.{IsAbove, height_below}
 use Rattle.mn_world.proofs.Plans.Grown.{addr_is}
 use Rattle.mn_proxy.proofs.Bodies.{is_inner}

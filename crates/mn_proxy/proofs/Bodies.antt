@@ -12,7 +12,7 @@ use Rattle.mn_page.specs.declared.page.Page.{Page}
 use Rattle.mn_page.specs.Grammar.{IsPage, IsBody, count_in, height_of}
 use Rattle.mn_page.specs.Holds.{pairs_in}
 use Rattle.mn_page.specs.Reading.{addrs_in, keys_in, values_in}
-use Rattle.mn_scan.specs.Front.{child_from}
+use Rattle.mn_path.specs.Walk.{child_from}
 use Rattle.mn_proxy.specs.Bodies.{ChildSoFar, NoValueSoFar, body_child}
 
 -- Kinds

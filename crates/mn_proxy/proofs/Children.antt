@@ -18,7 +18,7 @@ use Rattle.mn_page.specs.declared.entry.CatEntry.{CatEntry}
 use Rattle.mn_page.specs.Forest.{entry_head, heads_in}
 use Rattle.mn_page.specs.Grammar.{IsPage}
 use Rattle.mn_page.specs.Space.{max_slots}
-use Rattle.mn_scan.specs.Front.{front_of, is_live, is_on_path}
+use Rattle.mn_path.specs.Walk.{front_of, is_live, is_on_path}
 use Rattle.mn_txn.specs.ChildPlan.{MayHaveChild}
 use Rattle.mn_proxy.specs.declared.child.Child.{Child}
 use Rattle.mn_proxy.specs.declared.known.Known.{Known}

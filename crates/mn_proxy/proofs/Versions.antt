@@ -7,7 +7,7 @@ use Rattle.mn_base.specs.declared.ids.VersionNo.{VersionNo}
 use Rattle.mn_page.specs.declared.entry.CatEntry.{CatEntry}
 use Rattle.mn_page.specs.Forest.{heads_in, parent_number}
 use Rattle.mn_vtree.specs.Parents.{AreLess, IsFirstBad, numbers_of}
-use Rattle.mn_world.specs.Answers.{AreBelow}
+use Rattle.mn_world.specs.Answers.{ParentsAreBelow}
 
 same_number : (parent : Option VersionNo) → option_map (λ v. v.0) parent ≡ parent_number parent
 same_number None = refl
@@ -44,7 +44,7 @@ pushed_at (y ∷ ys) x o (suc i) e = by (pushed_at ys x o i e)
     by (inl at) = inl at
     by (inr (last, same)) = inr (ap suc last, same)
 
-below_by : (qs : List (Option ℕ)) → AreLess (reverse qs) → AreBelow qs
+below_by : (qs : List (Option ℕ)) → AreLess (reverse qs) → ParentsAreBelow qs
 below_by [] less = tt
 below_by (q ∷ older) less = by q (at_end q) (below_by older front)
   where
@@ -54,11 +54,11 @@ below_by (q ∷ older) less = by q (at_end q) (below_by older front)
     at_end : (o : Option ℕ) → slice_get (reverse (o ∷ older)) (length (reverse older)) ≡ Some o
     at_end o = ap (λ (l : List (Option ℕ)). slice_get l (length (reverse older))) (turned o older) ∙ get_last (reverse older) o
 
-    by : (o : Option ℕ) → slice_get (reverse (q ∷ older)) (length (reverse older)) ≡ Some o → AreBelow older → AreBelow (o ∷ older)
+    by : (o : Option ℕ) → slice_get (reverse (q ∷ older)) (length (reverse older)) ≡ Some o → ParentsAreBelow older → ParentsAreBelow (o ∷ older)
     by None at rest = rest
     by (Some p) at rest = (let low = less (length (reverse older)) p at in let long = length-reverse older in omega arith, rest)
 
-less_by : (qs : List (Option ℕ)) → AreBelow qs → AreLess (reverse qs)
+less_by : (qs : List (Option ℕ)) → ParentsAreBelow qs → AreLess (reverse qs)
 less_by [] below v p at = absurd cc
 less_by (None ∷ older) below v p at =
     by (pushed_at (reverse older) None (Some p) v (sym (ap (λ (l : List (Option ℕ)). slice_get l v) (turned None older)) ∙ at)) (less_by older below v p)
@@ -74,14 +74,14 @@ less_by (Some q ∷ older) below v p at =
     by (inr (last, same)) rest =
         let is : q ≡ p = cc in let low = below.0 in let long = length-reverse older in omega arith
 
-pub below : (parents : List (Option ℕ)) → AreLess parents → AreBelow (reverse parents)
+pub below : (parents : List (Option ℕ)) → AreLess parents → ParentsAreBelow (reverse parents)
 below parents less = below_by (reverse parents) (subst AreLess (sym (reverse-reverse parents)) less)
 
-pub less : (parents : List (Option ℕ)) → AreBelow (reverse parents) → AreLess parents
+pub less : (parents : List (Option ℕ)) → ParentsAreBelow (reverse parents) → AreLess parents
 less parents below' = subst AreLess (reverse-reverse parents) (less_by (reverse parents) below')
 
 pub none_below : (parents : List (Option ℕ)) (v : ℕ) → IsFirstBad parents v
-    → AreBelow (reverse parents) → ⊥
+    → ParentsAreBelow (reverse parents) → ⊥
 none_below parents v bad below' =
     let low = less parents below' v bad.bad.0 bad.bad.1 in
     let high = bad.bad.2 in

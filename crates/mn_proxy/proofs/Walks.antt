@@ -1,5 +1,5 @@
--- What a walk's reads show: the address that it has come to, and the page or the address at which it
--- failed.
+-- What a walk's reads show: the address that it has come to, and the page or the address at which
+-- it failed.
 use Rattle.std.proofs.Common.{◌≡◌, ℕ, ◌+◌, ◌-◌, ◌≤◌, ◌⊎◌, inl, inr, Bool, true, false, not, ◌&&◌, ◌||◌, List, [], ◌∷◌, Option, Some, None, refl, subst, sym, ap, ◌∙◌, arith, Contains}
 use Rattle.std.specs.Prelude.{nat_eq, nat_le, nat_lt, if◌then◌else◌}
 use Rattle.std.proofs.lemmas.Bool.Decides.{nat_tests}
@@ -18,7 +18,7 @@ use Rattle.mn_page.specs.declared.entry.CatEntry.{CatEntry}
 use Rattle.mn_page.specs.Grammar.{SpellsPage, height_of}
 use Rattle.mn_page.specs.Forest.{ChildRange, body_children, children_of, heads_in, ranges_from}
 use Rattle.mn_page.specs.Holds.{page_covers, page_serves}
-use Rattle.mn_scan.specs.Front.{child_from, front_of, is_live, is_on_path, may_stand, max_height}
+use Rattle.mn_path.specs.Walk.{child_from, front_of, is_live, is_on_path, may_stand, max_height}
 use Rattle.mn_world.specs.Shown.{Seen, ServesNamed}
 use Rattle.mn_world.specs.Answers.{Reached, ReachesAddr, is_wrong_height, IsPageAtFault, MeetsFault}
 use Rattle.mn_world.specs.Answers.Reached.{by_child}

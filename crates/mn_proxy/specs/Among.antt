@@ -10,7 +10,7 @@ use Rattle.mn_page.specs.declared.entry.CatEntry.{CatEntry}
 use Rattle.mn_page.specs.Forest.{heads_in}
 use Rattle.mn_world.specs.Shown.{Seen}
 use Rattle.mn_world.specs.Answers.{MeetsFault, ReachesAddr}
-use Rattle.mn_proxy.specs.declared.seen.SeenPage.{SeenPage}
+use Rattle.mn_txn.specs.declared.seen.SeenPage.{SeenPage}
 use Rattle.mn_proxy.specs.declared.causes.Met.{Met}
 use Rattle.mn_proxy.specs.declared.causes.Met.TheVariants as met
 use Rattle.mn_proxy.specs.Walks.{height_below, seen_page}

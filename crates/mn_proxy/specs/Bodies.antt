@@ -5,7 +5,7 @@ use Rattle.mn_base.specs.declared.ids.Addr.{Addr}
 use Rattle.mn_page.specs.declared.page.Body.{Body}
 use Rattle.mn_page.specs.declared.page.Body.TheVariants.{Leaf, Inner}
 use Rattle.mn_page.specs.Holds.{pairs_in}
-use Rattle.mn_scan.specs.Front.{child_from}
+use Rattle.mn_path.specs.Walk.{child_from}
 
 -- the child of an inner page that the key goes to
 abbrev pub body_child : Body → List ℕ → Option Addr

@@ -12,11 +12,11 @@ use Rattle.mn_page.specs.Forest.{heads_in}
 use Rattle.mn_catalog.specs.Grammar.{SpellsCatalog}
 use Rattle.mn_vtree.specs.declared.error.TreeError.{TreeError}
 use Rattle.mn_vtree.specs.declared.error.TreeError.TheVariants.{BadParent, NoMemory}
-use Rattle.mn_world.specs.Answers.{AreBelow}
+use Rattle.mn_world.specs.Answers.{ParentsAreBelow}
 
 -- each version's parent, if it has one, has a lower number
 abbrev pub HasParentsBelow : List CatEntry → Type 0
-HasParentsBelow entries = AreBelow (reverse (parents_of (heads_in entries)))
+HasParentsBelow entries = ParentsAreBelow (reverse (parents_of (heads_in entries)))
 
 -- why the versions of a catalog make no tree
 abbrev pub RefusesTree : List CatEntry → TreeError → Type 0

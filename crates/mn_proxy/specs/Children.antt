@@ -19,7 +19,7 @@ use Rattle.mn_page.specs.declared.entry.CatEntry.{CatEntry}
 use Rattle.mn_page.specs.Forest.{heads_in}
 use Rattle.mn_page.specs.Grammar.{IsPage, SpellsPage}
 use Rattle.mn_page.specs.Space.{max_slots}
-use Rattle.mn_scan.specs.Front.{front_of, is_on_path}
+use Rattle.mn_path.specs.Walk.{front_of, is_on_path}
 use Rattle.mn_txn.specs.ChildPlan.{IsBranchPlan, IsSnapshotPlan, MayHaveChild, RefusesBranch}
 use Rattle.mn_txn.specs.ChildPlan.{RefusesSnapshot}
 use Rattle.mn_txn.specs.declared.error.PlanError.{PlanError}

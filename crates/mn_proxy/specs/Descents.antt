@@ -17,7 +17,7 @@ use Rattle.mn_page.specs.declared.entry.CatEntry.{CatEntry}
 use Rattle.mn_page.specs.Forest.{heads_in}
 use Rattle.mn_page.specs.Grammar.{SpellsPage, height_of}
 use Rattle.mn_page.specs.Holds.{pairs_in}
-use Rattle.mn_scan.specs.Front.{FrontState, child_from, front_of, is_on_path}
+use Rattle.mn_path.specs.Walk.{FrontState, child_from, front_of, is_on_path}
 use Rattle.mn_proxy.specs.declared.get.Descent.{Descent}
 use Rattle.mn_proxy.specs.declared.next.Next.{Next}
 use Rattle.mn_proxy.specs.declared.next.Taken.{Taken}
@@ -104,9 +104,9 @@ DescentTakes entries d key bytes after taken =
     ⊎ ((page : Page) × SpellsPage bytes page × TakesPage entries d key page after taken)
 
 -- the same by the kept catalog, where there was memory for it
-abbrev pub Takes : Option (List CatEntry) → Descent → List ℕ → List ℕ → Descent
+abbrev pub DescentGoesOn : Option (List CatEntry) → Descent → List ℕ → List ℕ → Descent
     → Result Taken NoMemory → Type 0
-Takes catalog d key bytes after result =
+DescentGoesOn catalog d key bytes after result =
     (entries : List CatEntry) → catalog ≡ Some entries
     → IfOk result (DescentTakes entries d key bytes after)
 

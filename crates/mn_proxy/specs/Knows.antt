@@ -29,7 +29,7 @@ abbrev pub ArePages : List (Addr × Page) → Type 0
 ArePages pages = AllByRecursion (λ h. IsPage h.1 × (1 ≤ height_of h.1.body)) pages
 
 -- the number of nodes and the catalog stay, and what is cached are inner pages still
-abbrev pub Keeps : Known → Known → Type 0
-Keeps before after =
+abbrev pub KeepsKnown : Known → Known → Type 0
+KeepsKnown before after =
     (after.nodes ≡ before.nodes) × (after.catalog ≡ before.catalog)
     × (ArePages before.cache → ArePages after.cache)

@@ -9,7 +9,7 @@ use Rattle.mn_page.specs.declared.page.Page.{Page}
 use Rattle.mn_page.specs.declared.entry.CatEntry.{CatEntry}
 use Rattle.mn_page.specs.Forest.{heads_in}
 use Rattle.mn_page.specs.Grammar.{SpellsPage, height_of}
-use Rattle.mn_scan.specs.Front.{front_of, is_on_path}
+use Rattle.mn_path.specs.Walk.{front_of, is_on_path}
 use Rattle.mn_scan.specs.Scan.{IsInTurn, IsNeeded, ScanState, fed, fits, key_at, may_be_leaf}
 use Rattle.mn_scan.specs.Scan.{restarted}
 use Rattle.mn_proxy.specs.declared.next.Next.{Next}
@@ -68,8 +68,8 @@ TakesBytes catalog name before addr bytes after taken =
     ⊎ ((page : Page) × SpellsPage bytes page × TakesPage catalog name before addr page after taken)
 
 -- by what is kept
-abbrev pub Takes : Known → List ℕ → ScanState → Addr → List ℕ → ScanState → Taken → Type 0
-Takes known name before addr bytes after taken =
+abbrev pub ScanGoesOn : Known → List ℕ → ScanState → Addr → List ℕ → ScanState → Taken → Type 0
+ScanGoesOn known name before addr bytes after taken =
     TakesBytes known.catalog name before addr bytes after taken
 
 -- where the page isn't kept it stands as it stood

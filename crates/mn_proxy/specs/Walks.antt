@@ -24,8 +24,8 @@ IfLater (suc n) told = told
 abbrev pub seen_page : Addr → List ℕ → Seen
 seen_page addr bytes = record { place = page_place addr; bytes = bytes }
 
-abbrev pub IsRead : ℕ → List Seen → Addr → List ℕ → Type 0
-IsRead failed seens addr bytes = IfLater failed (Contains seens (seen_page addr bytes))
+abbrev pub IsReadBy : ℕ → List Seen → Addr → List ℕ → Type 0
+IsReadBy failed seens addr bytes = IfLater failed (Contains seens (seen_page addr bytes))
 
 -- a catalog admits the operation, and gives the number of its version
 pub record Admits (entries : List CatEntry) (op : Op) (version : VersionNo) (root : Addr)
@@ -45,8 +45,8 @@ abbrev pub IsAbove : Option ℕ → Type 0
 IsAbove above = MatchOption above ⊤ (λ a. 1 ≤ a)
 
 -- a walk for the key has come to this address, named by a page of that height
-abbrev pub ComesTo : ℕ → List Seen → Op → List CatEntry → List ℕ → Addr → Option ℕ → Type 0
-ComesTo failed seens op entries key addr above =
+abbrev pub WalkComesTo : ℕ → List Seen → Op → List CatEntry → List ℕ → Addr → Option ℕ → Type 0
+WalkComesTo failed seens op entries key addr above =
     IsAbove above × IfLater failed (ReachesAddr seens op entries key addr (height_below above))
 
 -- why a try failed: of a later one a cause is shown, if one is told

@@ -8,11 +8,11 @@ ghost use Rattle.mn_proxy.specs.Walks.{IsAbove};
 
 use crate::catalog::Kept;
 use crate::next::path_fault;
-use crate::seen::{SeenPage, page_at};
 use mn_base::{Addr, Busy, Bytes, NoMemory, NodeNo, Tid, TryCopy, VersionNo};
 use mn_mini::{Item, Minitransaction, NodeReply};
 use mn_page::PageRef;
-use mn_scan::Front;
+use mn_path::Front;
+use mn_txn::{SeenPage, page_at};
 use std::alloc::Global;
 
 /// The most pages of a path.

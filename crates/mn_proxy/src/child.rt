@@ -7,7 +7,7 @@ ghost use Rattle.mn_proxy.specs.Children.{CountsOn, DoesChild, HasRead, IsOnItsW
 ghost use Rattle.mn_proxy.specs.Children.{KeepsTry, MayPlan, RefusesChild, SameButCounts};
 ghost use Rattle.mn_proxy.specs.Children.{StaysOnItsWay, TakesRoot, TakesRootBytes, WantsEnd};
 ghost use Rattle.mn_proxy.specs.Children.{WantsNext, WantsRoot, failing, may_copy_by};
-ghost use Rattle.mn_proxy.specs.Knows.{ArePages, Keeps};
+ghost use Rattle.mn_proxy.specs.Knows.{ArePages, KeepsKnown};
 
 use crate::counts::take_count;
 use crate::known::Known;
@@ -18,7 +18,7 @@ use mn_base::{Addr, Answer, Counts, NoMemory, NodeNo, Op, Reply, TryCopy, Versio
 use mn_catalog::Catalog;
 use mn_mini::Minitransaction;
 use mn_page::Page;
-use mn_scan::Front;
+use mn_path::Front;
 use mn_txn::{PlanError, branch_plan, snapshot_plan};
 use std::alloc::Global;
 
@@ -129,7 +129,7 @@ impl Child {
         known: &mut Known,
         bytes: &[u8],
     ) -> Result<Taken, NoMemory>
-        ensures kept { Keeps known.old known.new }
+        ensures kept { KeepsKnown known.old known.new }
         ensures taken { IfOk result (TakesRootBytes known.old.catalog self.old bytes.now self.new) }
         ensures stays { KeepsTry self.old self.new }
     {
@@ -162,7 +162,7 @@ impl Child {
         requires pages { ArePages known.old.cache }
         requires nodes { (1 ≤ known.old.nodes) × (known.old.nodes ≤ 8) }
         requires way { IsOnItsWay known.old op.now self.old }
-        ensures kept { Keeps known.old known.new }
+        ensures kept { KeepsKnown known.old known.new }
         ensures stays { KeepsTry self.old self.new }
         ensures way { IfOk result (StaysOnItsWay known.new op.now self.new) }
         ensures later { later ≡ true → self.new ≡ self.old }
@@ -202,7 +202,7 @@ impl Child {
     ) -> Result<Option<Next>, NoMemory>
         requires pages { ArePages known.old.cache }
         requires none { self.old.page ≡ None }
-        ensures kept { Keeps known.old known.new }
+        ensures kept { KeepsKnown known.old known.new }
         ensures stays { KeepsTry self.old self.new }
         ensures later { later ≡ true → self.new ≡ self.old }
         ensures wants { IfOk result (WantsRoot known.old later self.old self.new) }
@@ -227,7 +227,7 @@ impl Child {
         requires pages { ArePages known.old.cache }
         requires none { self.old.page ≡ None }
         requires node { self.old.root.node.0 < known.old.nodes }
-        ensures kept { Keeps known.old known.new }
+        ensures kept { KeepsKnown known.old known.new }
         ensures stays { KeepsTry self.old self.new }
         ensures wants { IfOk result (WantsRoot known.old false self.old self.new) }
     {

@@ -3,9 +3,9 @@ ghost use Rattle.std.specs.Option.{option_map};
 ghost use Rattle.mn_base.specs.Store.{value_at};
 ghost use Rattle.mn_page.specs.Grammar.{IsPage, height_of};
 ghost use Rattle.mn_page.specs.Holds.{pairs_in};
-ghost use Rattle.mn_proxy.specs.Descents.{FailsOff, Takes, TakesPageBy, WantsPage, goes_by_kept};
+ghost use Rattle.mn_proxy.specs.Descents.{FailsOff, DescentGoesOn, TakesPageBy, WantsPage, goes_by_kept};
 ghost use Rattle.mn_proxy.specs.Descents.{gone_below, may_be_leaf, values_at, wanted};
-ghost use Rattle.mn_proxy.specs.Knows.{ArePages, Keeps};
+ghost use Rattle.mn_proxy.specs.Knows.{ArePages, KeepsKnown};
 ghost use Rattle.mn_proxy.specs.Walks.{IsAbove};
 ghost use Rattle.mn_proxy.specs.declared.get.Passed.TheVariants as passed;
 
@@ -15,7 +15,7 @@ use crate::next::{Next, Taken, fault_at};
 use crate::seen::is_leaf;
 use mn_base::{Addr, Founds, Key, NoMemory, Reply, Value, VersionNo};
 use mn_page::{Body, Page, PageRef};
-use mn_scan::{Front, child_for};
+use mn_path::{Front, child_for};
 use std::alloc::Global;
 
 /// A lone Get on its way down the tree of its version. The read of its leaf is all that has to be
@@ -129,7 +129,7 @@ impl Descent {
     /// Goes on at the page that it needs, if it is kept.
     fn pass_kept(&mut self, known: &mut Known, key: &[u8]) -> Passed
         requires pages { ArePages known.old.cache }
-        ensures kept { Keeps known.old known.new }
+        ensures kept { KeepsKnown known.old known.new }
         ensures above { IsAbove self.old.above → IsAbove self.new.above }
         ensures version { self.new.version ≡ self.old.version }
         ensures stays { (result ≡ passed.On → ⊥) → self.new ≡ self.old }
@@ -153,7 +153,7 @@ impl Descent {
     pub fn advance(&mut self, known: &mut Known, key: &Key, later: bool) -> Next
         requires pages { ArePages known.old.cache }
         requires above { IsAbove self.old.above }
-        ensures kept { Keeps known.old known.new }
+        ensures kept { KeepsKnown known.old known.new }
         ensures above { IsAbove self.new.above }
         ensures version { self.new.version ≡ self.old.version }
         ensures wants { WantsPage known.old.nodes later self.new result }
@@ -169,7 +169,7 @@ impl Descent {
 
     /// What it wants next in a later try, which reads each page anew.
     fn reach_anew(&self, known: &mut Known) -> Next
-        ensures kept { Keeps known.old known.new }
+        ensures kept { KeepsKnown known.old known.new }
         ensures wants { WantsPage known.old.nodes true self.now result }
         ensures fault { FailsOff known.old.nodes self.now.addr result }
     {
@@ -186,7 +186,7 @@ impl Descent {
     fn reach_kept(&mut self, known: &mut Known, key: &[u8]) -> Next
         requires pages { ArePages known.old.cache }
         requires above { IsAbove self.old.above }
-        ensures kept { Keeps known.old known.new }
+        ensures kept { KeepsKnown known.old known.new }
         ensures above { IsAbove self.new.above }
         ensures version { self.new.version ≡ self.old.version }
         ensures wants { WantsPage known.old.nodes false self.new result }
@@ -230,10 +230,10 @@ impl Descent {
     ) -> Result<Taken, NoMemory>
         requires pages { ArePages known.old.cache }
         requires above { IsAbove self.old.above }
-        ensures kept { Keeps known.old known.new }
+        ensures kept { KeepsKnown known.old known.new }
         ensures above { IsAbove self.new.above }
         ensures version { self.new.version ≡ self.old.version }
-        ensures taken { Takes known.old.catalog self.old key.now bytes.now self.new result }
+        ensures taken { DescentGoesOn known.old.catalog self.old key.now bytes.now self.new result }
     {
         let key = key.as_slice();
         let Ok(Some(page)) = PageRef::new(bytes) else {
@@ -277,7 +277,7 @@ impl Descent {
         requires high { 1 ≤ height_of inner.body }
         requires pages { ArePages known.old.cache }
         requires above { IsAbove self.old.above }
-        ensures kept { Keeps known.old known.new }
+        ensures kept { KeepsKnown known.old known.new }
         ensures above { IsAbove self.new.above }
         ensures version { self.new.version ≡ self.old.version }
         ensures taken { TakesPageBy known.old.catalog self.old key.now inner self.new result }

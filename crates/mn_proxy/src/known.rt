@@ -2,7 +2,7 @@ ghost use Rattle.std.specs.Prelude.{◌≡◌, IfOk, nat_lt};
 ghost use Rattle.std.specs.Option.{option_map};
 ghost use Rattle.mn_page.specs.Grammar.{IsPage};
 ghost use Rattle.mn_proxy.specs.Catalogs.{found, refusal_by, root_by};
-ghost use Rattle.mn_proxy.specs.Knows.{Keeps, LearnsFrom, lacks_catalog};
+ghost use Rattle.mn_proxy.specs.Knows.{KeepsKnown, LearnsFrom, lacks_catalog};
 
 use crate::catalog::{Kept, kept_of};
 use crate::seen::is_leaf;
@@ -71,7 +71,7 @@ impl Known {
     /// Puts an inner page that was read into the cache.
     pub fn keep_inner(&mut self, alloc: Global, addr: Addr, page: &Page) -> Result<(), NoMemory>
         requires page { IsPage page.now }
-        ensures kept { Keeps self.old self.new }
+        ensures kept { KeepsKnown self.old self.new }
     {
         if is_leaf(page) {
             return Ok(());

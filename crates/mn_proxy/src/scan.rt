@@ -1,8 +1,8 @@
 ghost use Rattle.std.specs.Prelude.{◌≡◌, false, true, IfOk, OnOk};
 ghost use Rattle.mn_page.specs.Grammar.{IsPage};
 ghost use Rattle.mn_scan.specs.Scan.{IsNeeded};
-ghost use Rattle.mn_proxy.specs.Knows.{ArePages, Keeps};
-ghost use Rattle.mn_proxy.specs.Scans.{FailsOffNodes, IsUnmoved, StaysBefore, Takes, TakesPage};
+ghost use Rattle.mn_proxy.specs.Knows.{ArePages, KeepsKnown};
+ghost use Rattle.mn_proxy.specs.Scans.{FailsOffNodes, IsUnmoved, StaysBefore, ScanGoesOn, TakesPage};
 ghost use Rattle.mn_proxy.specs.Scans.{WalksAlike, WantsNext, goes_by_kept, passage_of};
 ghost use Rattle.mn_proxy.specs.Walks.{IsAbove};
 
@@ -12,7 +12,8 @@ use crate::next::{Next, Taken, fault_at};
 use crate::seen::{is_leaf, page_in};
 use mn_base::{Addr, Busy, Name, NoMemory, TryCopy};
 use mn_page::Page;
-use mn_scan::{Front, ScanError, ScanRun, ScanStep};
+use mn_path::Front;
+use mn_scan::{ScanError, ScanRun, ScanStep};
 use std::alloc::Global;
 
 /// Whether the walk of the scan goes on at the page, by the catalog that was read last.
@@ -87,7 +88,7 @@ fn pass_kept(
     requires pages { ArePages known.old.cache }
     requires needed { IsNeeded scan.old addr }
     requires above { IsAbove scan.old.above }
-    ensures kept { Keeps known.old known.new }
+    ensures kept { KeepsKnown known.old known.new }
     ensures above { IsAbove scan.new.above }
     ensures alike { OnOk result (WalksAlike scan.old scan.new) }
     ensures missing { IfOk result (IsUnmoved scan.old scan.new) }
@@ -103,7 +104,7 @@ fn pass_kept(
 /// The page that a scan needs next in a later try, which reads each page anew. None where the scan
 /// has ended.
 fn reach_anew(scan: &ScanRun, known: &mut Known) -> Option<Next>
-    ensures kept { Keeps known.old known.new }
+    ensures kept { KeepsKnown known.old known.new }
     ensures wants { WantsNext known.old.nodes true scan.now result }
     ensures fault { FailsOffNodes known.old.nodes scan.now.needed result }
 {
@@ -129,7 +130,7 @@ fn reach_kept(
 ) -> Result<Option<Next>, NoMemory>
     requires pages { ArePages known.old.cache }
     requires above { IsAbove scan.old.above }
-    ensures kept { Keeps known.old known.new }
+    ensures kept { KeepsKnown known.old known.new }
     ensures above { IsAbove scan.new.above }
     ensures alike { OnOk result (WalksAlike scan.old scan.new) }
     ensures wants { IfOk result (WantsNext known.old.nodes false scan.new) }
@@ -163,7 +164,7 @@ pub fn advance(
 ) -> Result<Option<Next>, NoMemory>
     requires pages { ArePages known.old.cache }
     requires above { IsAbove scan.old.above }
-    ensures kept { Keeps known.old known.new }
+    ensures kept { KeepsKnown known.old known.new }
     ensures above { IsAbove scan.new.above }
     ensures alike { OnOk result (WalksAlike scan.old scan.new) }
     ensures wants { IfOk result (WantsNext known.old.nodes later scan.new) }
@@ -188,9 +189,9 @@ pub fn take_page(
 ) -> Result<Taken, NoMemory>
     requires needed { IsNeeded scan.old addr }
     requires above { IsAbove scan.old.above }
-    ensures kept { Keeps known.old known.new }
+    ensures kept { KeepsKnown known.old known.new }
     ensures above { IsAbove scan.new.above }
-    ensures taken { IfOk result (Takes known.old name.now scan.old addr bytes.now scan.new) }
+    ensures taken { IfOk result (ScanGoesOn known.old name.now scan.old addr bytes.now scan.new) }
     ensures stays { IfOk result (StaysBefore scan.old scan.new) }
 {
     let Some(page) = page_in(alloc, bytes)? else {

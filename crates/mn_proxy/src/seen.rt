@@ -1,33 +1,11 @@
-ghost use Rattle.std.specs.Prelude.{◌≡◌, nat_eq, IfOk, length};
-ghost use Rattle.std.specs.Option.{option_map};
+ghost use Rattle.std.specs.Prelude.{◌≡◌, nat_eq, IfOk};
 ghost use Rattle.mn_page.specs.Grammar.{IsPage, height_of, page_bytes};
-ghost use Rattle.mn_proxy.specs.Seen.{TellsPage, seen_at};
+ghost use Rattle.mn_proxy.specs.Seen.{TellsPage};
 
 use crate::place::SLOT_SIZE;
-use mn_base::{Addr, Bytes, NoMemory};
+use mn_base::{Bytes, NoMemory};
 use mn_page::{Body, Page, PageError};
 use std::alloc::Global;
-
-/// A page as a try read it, or the proxy kept it: where it stands, its bytes, and whether it is a
-/// leaf.
-#[derive(Debug, Drop)]
-pub struct SeenPage {
-    pub addr: Addr,
-    pub bytes: Bytes,
-    pub leaf: bool,
-}
-
-/// The page that was seen at the address.
-pub fn page_at(pages: &[SeenPage], addr: Addr) -> Option<&SeenPage>
-    ensures { option_map (λ p. p.now) result ≡ seen_at pages.now addr }
-{
-    for page in pages {
-        if page.addr == addr {
-            return Some(page);
-        }
-    }
-    None
-}
 
 /// Whether the page is a leaf. An inner page in the grammar has a height of at least 1.
 pub fn is_leaf(page: &Page) -> bool

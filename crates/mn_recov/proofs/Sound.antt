@@ -13,7 +13,7 @@ use Rattle.mn_world.specs.Calls.{lists_doubt}
 use Rattle.mn_recov.specs.declared.stage.RecovStage.{RecovStage}
 use Rattle.mn_recov.specs.declared.stage.RecovStage.TheVariants.{Looking, Found}
 use Rattle.mn_recov.specs.declared.step.RecovStep.TheVariants.{Send, Ended}
-use Rattle.mn_recov.specs.Recovery.{Recovery, AreBelow, IsSoundRecovery, IsSoundStep, participant, step_at, step_of, found_or, after_list}
+use Rattle.mn_recov.specs.Recovery.{Recovery, NodesAreBelow, IsSoundRecovery, IsSoundStep, participant, step_at, step_of, found_or, after_list}
 
 at_place : (nodes : ℕ) (ns : List NodeNo) (i : ℕ) → AllByRecursion (λ n. n.0 < nodes) ns → i < length ns → (participant ns i).0 < nodes
 at_place nodes [] i all low = absurd (omega arith)
@@ -34,7 +34,7 @@ found : (tid : Tid) (nodes : ℕ) (ns : List NodeNo) (voted decided : ℕ) (verd
 found tid nodes ns voted decided verdict id all true e = (at_place nodes ns voted all (lt_from voted (length ns) e), id)
 found tid nodes ns voted decided verdict id all false e = told tid nodes ns decided verdict id all (nat_lt decided (length ns)) refl
 
-at_stage : (tid : Tid) (nodes : ℕ) (stage : RecovStage) → IsTid tid → AreBelow nodes stage → IsSoundStep nodes (step_at tid nodes stage)
+at_stage : (tid : Tid) (nodes : ℕ) (stage : RecovStage) → IsTid tid → NodesAreBelow nodes stage → IsSoundStep nodes (step_at tid nodes stage)
 at_stage tid nodes (Looking node) id below = looking nodes node (nat_lt node nodes) refl
 at_stage tid nodes (Found ns voted verdict decided) id below = found tid nodes ns voted decided verdict id below (nat_lt voted (length ns)) refl
 
@@ -55,15 +55,15 @@ all_below nodes (n ∷ ns) e = (lt_from n.0 nodes (first (nat_lt n.0 nodes) _ e)
     rest true b f = f
     rest false b f = absurd cc
 
-found_below : (nodes node : ℕ) (o : Option (List NodeNo)) → AreBelow nodes (found_or nodes (Looking node) o)
+found_below : (nodes node : ℕ) (o : Option (List NodeNo)) → NodesAreBelow nodes (found_or nodes (Looking node) o)
 found_below nodes node None = tt
 found_below nodes node (Some ns) = by (list_all (λ n. nat_lt n.0 nodes) ns) refl
   where
-    by : (b : Bool) → list_all (λ n. nat_lt n.0 nodes) ns ≡ b → AreBelow nodes (if b then Found ns 0 true 0 else Looking node)
+    by : (b : Bool) → list_all (λ n. nat_lt n.0 nodes) ns ≡ b → NodesAreBelow nodes (if b then Found ns 0 true 0 else Looking node)
     by true e = all_below nodes ns e
     by false e = tt
 
-pub listed_below : (tid : Tid) (nodes node : ℕ) (reply : NodeReply) → AreBelow nodes (after_list tid nodes node reply)
+pub listed_below : (tid : Tid) (nodes node : ℕ) (reply : NodeReply) → NodesAreBelow nodes (after_list tid nodes node reply)
 listed_below tid nodes node (Say.Done reads) = tt
 listed_below tid nodes node (Say.BadLock start size holder) = tt
 listed_below tid nodes node (Say.BadCompare item bytes) = tt

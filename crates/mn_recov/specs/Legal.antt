@@ -23,7 +23,8 @@ abbrev pub ShowsStage : List Entry → Tid → RecovStage → Type 0
 ShowsStage es tid (Looking node) = ⊤
 ShowsStage es tid (Found participants voted verdict decided) = WasListed tid participants es × ShowsVotes es tid participants voted verdict
 
--- the client's list, newest first, holds what the recovery was answered; the client has no such plan of its own in doubt
+-- the client's list, newest first, holds what the recovery was answered; the client has no such
+-- plan of its own in doubt
 pub record Agrees (es : List Entry) (r : Recovery) : Type 0 where
   pub free : is_in_doubt r.tid es ≡ false
   pub shown : ShowsStage es r.tid r.stage

@@ -21,19 +21,20 @@ pub record Recovery : Type 0 where
   pub stage : RecovStage
 
 -- the participants that were found are among so many nodes
-abbrev pub AreBelow : ℕ → RecovStage → Type 0
-AreBelow nodes (Looking node) = ⊤
-AreBelow nodes (Found participants voted verdict decided) = AllByRecursion (λ n. n.0 < nodes) participants
+abbrev pub NodesAreBelow : ℕ → RecovStage → Type 0
+NodesAreBelow nodes (Looking node) = ⊤
+NodesAreBelow nodes (Found participants voted verdict decided) = AllByRecursion (λ n. n.0 < nodes) participants
 
 -- its id is sound, and so are the participants
 pub record IsSoundRecovery (r : Recovery) : Type 0 where
   pub id : IsTid r.tid
-  pub found : AreBelow r.nodes r.stage
+  pub found : NodesAreBelow r.nodes r.stage
 
 abbrev pub participant : List NodeNo → ℕ → NodeNo
 participant ps i = slice_index_or ps i (record { 0 = 0 })
 
--- each node is asked for its list until one lists the id; then each participant is forced, and then each is sent the decision
+-- each node is asked for its list until one lists the id; then each participant is forced, and then
+-- each is sent the decision
 abbrev pub step_at : Tid → ℕ → RecovStage → RecovStep
 step_at tid nodes (Looking node) = if nat_lt node nodes then Send (record { 0 = node }) Ask.List else Ended None
 step_at tid nodes (Found participants voted verdict decided) =

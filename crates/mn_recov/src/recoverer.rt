@@ -88,8 +88,8 @@ impl Recoverer {
     ghost use Rattle.mn_recov.specs.Recovery.{step_of, fed, IsSend, IsSoundRecovery, IsSoundStep};
     ghost use Rattle.mn_recov.specs.Legal.{Agrees, MayMake, IsAnswered};
 
-    /// The recovery of the id among so many nodes. It has a run and a serial from 1 on and a client from 0
-    /// to 20. NoMemory: there was no memory for it.
+    /// The recovery of the id among so many nodes. It has a run and a serial from 1 on and a client
+    /// from 0 to 20. NoMemory: there was no memory for it.
     pub fn new(_alloc: Global, tid: Tid, nodes: u8) -> Result<Self, NoMemory>
         requires id { IsTid tid }
         ensures { IfOk result (λ r. r ≡ record { tid = tid; nodes = nodes; stage = Looking 0 }) }
@@ -101,8 +101,8 @@ impl Recoverer {
         })
     }
 
-    /// What it wants next: the same until a reply is fed. It takes no memory. The client may make it, by the commit protocol, where its
-    /// list holds the calls so far.
+    /// What it wants next: the same until a reply is fed. It takes no memory. The client may make
+    /// it, by the commit protocol, where its list holds the calls so far.
     pub fn next(&self) -> RecovStep
         ensures step { result ≡ step_of self.now }
 

@@ -7,7 +7,8 @@ pub enum RecovStage {
     Looking {
         node: u8,
     },
-    /// A node listed the id with these participants. So many have voted, with `yes` all of them yes, and so many were sent the decision.
+    /// A node listed the id with these participants. So many have voted, with `yes` all of them
+    /// yes, and so many were sent the decision.
     Found {
         participants: Nodes,
         voted: usize,

@@ -6,6 +6,7 @@ use mn_mini::Request;
 pub enum RecovStep {
     /// To send this request, and to be fed its reply.
     Send { node: NodeNo, request: Request },
-    /// Nothing more: the decision that each participant was sent, or none where no node lists the id.
+    /// Nothing more: the decision that each participant was sent, or none where no node lists the
+    /// id.
     Ended { yes: Option<bool> },
 }

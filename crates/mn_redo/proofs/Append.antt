@@ -2,7 +2,7 @@
 use Rattle.std.proofs.Common.{◌≡◌, ◌<◌, ◌≤◌, ◌^◌, ◌⊎◌, inl, inr, ℕ, ◌+◌, List, [], ◌∷◌, ◌++◌, length, take, drop, set, ◌-◌, sym, ◌∙◌, ap, subst, arith, append_assoc, length-append}
 use Rattle.std.proofs.lemmas.Bool.{cases_eq}
 use Rattle.std.proofs.lemmas.List.{drop_at, take_rest, set_at}
-use Rattle.mn_io.specs.DiskModel.{Torn, overwritten}
+use Rattle.mn_io.specs.DiskModel.{Torn, written_at}
 use Rattle.mn_redo.specs.Grammar.{header, behind_gate, records, HaveSizes, IsBeforeOrAfter, IsLog, IsStaged}
 use Rattle.mn_redo.proofs.Pieces.{torn_behind, written_behind, torn_gate, written_gate}
 use Rattle.mn_redo.proofs.Parse.{records_push, sizes_push, length-behind_gate}
@@ -24,14 +24,14 @@ module _ (before : List ℕ) (bodies : List (List ℕ)) (body : List ℕ) (m : �
       let behind = torn_behind (front before bodies) log.tail c log.gate m n is (subst (λ (l : List ℕ). Torn m n l c) log.bytes torn) in
       record { gate = log.gate; tail = drop m c; closed = log.closed; sizes = log.sizes; bytes = behind }
 
-  pub stage_done : (content new piece : List ℕ) → IsLog before content bodies → m ≡ length (front before bodies) + 1 → piece ≡ behind_gate body ++ 0 ∷ [] → new ≡ overwritten content m piece → IsStaged before bodies body new
+  pub stage_done : (content new piece : List ℕ) → IsLog before content bodies → m ≡ length (front before bodies) + 1 → piece ≡ behind_gate body ++ 0 ∷ [] → new ≡ written_at content m piece → IsStaged before bodies body new
   stage_done content new piece log is piece_is done = record {
     gate = log.gate;
     tail = drop (length piece) log.tail;
     closed = log.closed;
     sizes = log.sizes;
     bytes =
-        done ∙ ap (λ (l : List ℕ). overwritten l m piece) log.bytes ∙ written_behind (front before bodies) log.tail piece log.gate m is
+        done ∙ ap (λ (l : List ℕ). written_at l m piece) log.bytes ∙ written_behind (front before bodies) log.tail piece log.gate m is
         ∙ ap (λ (p : List ℕ). front before bodies ++ log.gate ∷ (p ++ drop (length piece) log.tail)) piece_is
         ∙ ap (λ (l : List ℕ). front before bodies ++ log.gate ∷ l) (append_assoc (behind_gate body) (0 ∷ []) (drop (length piece) log.tail));
   }
@@ -60,9 +60,9 @@ module _ (before : List ℕ) (bodies : List (List ℕ)) (body : List ℕ) (m : �
         | inr other ↦ inl (record { gate = some.0; tail = behind_gate body ++ 0 ∷ staged.tail; closed = other; sizes = staged.sizes; bytes = some.1 })
       ]
 
-  pub gate_done : (content new : List ℕ) → IsStaged before bodies body content → length body < 2 ^ 32 → m ≡ length (front before bodies) → new ≡ overwritten content m (1 ∷ []) → IsLog before new (bodies ++ body ∷ [])
+  pub gate_done : (content new : List ℕ) → IsStaged before bodies body content → length body < 2 ^ 32 → m ≡ length (front before bodies) → new ≡ written_at content m (1 ∷ []) → IsLog before new (bodies ++ body ∷ [])
   gate_done content new staged size is done =
-      opened staged.tail new staged.sizes size (done ∙ ap (λ (l : List ℕ). overwritten l m (1 ∷ [])) staged.bytes ∙ written_gate (front before bodies) (behind_gate body ++ 0 ∷ staged.tail) staged.gate m 1 is)
+      opened staged.tail new staged.sizes size (done ∙ ap (λ (l : List ℕ). written_at l m (1 ∷ [])) staged.bytes ∙ written_gate (front before bodies) (behind_gate body ++ 0 ∷ staged.tail) staged.gate m 1 is)
 
   -- what is staged in memory is the piece to be written
   pub piece_is : (bytes staged : List ℕ) → bytes ≡ front before bodies ++ 0 ∷ [] → m ≡ length (front before bodies) + 1 → staged ≡ bytes ++ (behind_gate body ++ 0 ∷ []) → take (length staged - m) (drop m staged) ≡ behind_gate body ++ 0 ∷ []
@@ -74,5 +74,5 @@ module _ (before : List ℕ) (bodies : List (List ℕ)) (body : List ℕ) (m : �
   piece_length bytes staged is at more = omega (arith, ap length (piece_is bytes staged is at more), length-append (behind_gate body) (0 ∷ []), length-behind_gate body)
 
   pub staged_now : (content new bytes staged : List ℕ) → IsLog before content bodies → bytes ≡ front before bodies ++ 0 ∷ [] → m ≡ length (front before bodies) + 1 → staged ≡ bytes ++ (behind_gate body ++ 0 ∷ [])
-      → new ≡ overwritten content m (take (length staged - m) (drop m staged)) → IsStaged before bodies body new
+      → new ≡ written_at content m (take (length staged - m) (drop m staged)) → IsStaged before bodies body new
   staged_now content new bytes staged log is at more done = stage_done content new (take (length staged - m) (drop m staged)) log at (piece_is bytes staged is at more) done

@@ -1,7 +1,7 @@
 -- What each moment of writing a header leaves.
 use Rattle.std.proofs.Common.{◌≡◌, inl, inr, ℕ, ◌-◌, List, [], ◌∷◌, ◌++◌, length, take, drop, get_or, refl, sym, ◌∙◌, ap, subst, arith, length-take}
 use Rattle.std.proofs.lemmas.Bool.{cases_eq}
-use Rattle.mn_io.specs.DiskModel.{Torn, Cut, overwritten}
+use Rattle.mn_io.specs.DiskModel.{Torn, Cut, written_at}
 use Rattle.mn_redo.specs.Grammar.{header, IsFresh, IsLog, Stands}
 use Rattle.mn_redo.proofs.Pieces.{torn_gate}
 
@@ -32,8 +32,8 @@ behind node nodes = 77 ∷ 78 ∷ 76 ∷ 79 ∷ 71 ∷ 1 ∷ node ∷ nodes ∷ 
 pub behind_is : (node nodes : ℕ) (bytes : List ℕ) → bytes ≡ header node nodes ++ 0 ∷ [] → take (length bytes - 1) (drop 1 bytes) ≡ behind node nodes
 behind_is node nodes bytes is = ap (λ (b : List ℕ). take (length b - 1) (drop 1 b)) is
 
-pub with_behind : (node nodes : ℕ) (content new piece : List ℕ) → content ≡ 0 ∷ [] → piece ≡ behind node nodes → new ≡ overwritten content 1 piece → new ≡ 0 ∷ behind node nodes
-with_behind node nodes content new piece is p done = done ∙ ap (λ (l : List ℕ). overwritten l 1 piece) is ∙ ap (λ (l : List ℕ). overwritten (0 ∷ []) 1 l) p
+pub with_behind : (node nodes : ℕ) (content new piece : List ℕ) → content ≡ 0 ∷ [] → piece ≡ behind node nodes → new ≡ written_at content 1 piece → new ≡ 0 ∷ behind node nodes
+with_behind node nodes content new piece is p done = done ∙ ap (λ (l : List ℕ). written_at l 1 piece) is ∙ ap (λ (l : List ℕ). written_at (0 ∷ []) 1 l) p
 
 empty_log : (node nodes : ℕ) (c : List ℕ) → c ≡ 1 ∷ behind node nodes → IsLog (header node nodes) c []
 empty_log node nodes c is = record { gate = 0; tail = []; closed = omega arith; sizes = tt; bytes = is }
@@ -46,5 +46,5 @@ opened_header node nodes content c is torn =
       | inr other ↦ inl (inr (λ one. other (sym (ap (λ (l : List ℕ). get_or l 0 0) some.1) ∙ one)), refl)
     ]
 
-pub header_done : (node nodes : ℕ) (content new : List ℕ) → content ≡ 0 ∷ behind node nodes → new ≡ overwritten content 0 (1 ∷ []) → IsLog (header node nodes) new []
-header_done node nodes content new is done = empty_log node nodes new (done ∙ ap (λ (l : List ℕ). overwritten l 0 (1 ∷ [])) is)
+pub header_done : (node nodes : ℕ) (content new : List ℕ) → content ≡ 0 ∷ behind node nodes → new ≡ written_at content 0 (1 ∷ []) → IsLog (header node nodes) new []
+header_done node nodes content new is done = empty_log node nodes new (done ∙ ap (λ (l : List ℕ). written_at l 0 (1 ∷ [])) is)

@@ -4,7 +4,7 @@ use Rattle.std.proofs.lemmas.List.{take_at, drop_at, drop_more, append-nil, leng
 use Rattle.std.proofs.lemmas.Nat.{be_bytes_4}
 use Rattle.std.specs.Int.{w32, to_be_bytes, from_be_bytes}
 use Rattle.mn_redo.specs.Grammar.{behind_gate, records, HaveSizes, places, IsFront, IsShort, IsDamagedAt, IsLog}
-use Rattle.mn_redo.specs.Log.{AreKept, listed_in}
+use Rattle.mn_redo.specs.Log.{BytesAreKept, listed_in}
 use Rattle.mn_redo.proofs.Parse.{records_push, sizes_push, places_push, length-behind_gate, listed_is}
 
 pub none_yet : (before bytes gates : List ℕ) (start : ℕ) → gates ≡ [] → start ≡ length before → take start bytes ≡ before → start < length bytes → IsFront before bytes gates start
@@ -100,7 +100,7 @@ module _ (before bytes gates : List ℕ) (at : ℕ) (f : IsFront before bytes ga
     pub list_is : listed_in (length before) kept ≡ f.bodies
     list_is = listed_is before f.bodies kept f.sizes kept_bytes
 
-    pub found_kept : AreKept before kept
+    pub found_kept : BytesAreKept before kept
     found_kept = record { sizes = subst HaveSizes (sym list_is) f.sizes; bytes_are = kept_bytes ∙ ap (λ (l : List (List ℕ)). (before ++ records l) ++ 0 ∷ []) (sym list_is) }
 
     pub found_gates : gates ≡ places (length before) (listed_in (length before) kept)

@@ -2,7 +2,7 @@
 use Rattle.std.proofs.Common.{◌≢◌, inl, inr, ℕ, List, refl, sym, subst}
 use Rattle.mn_io.specs.DiskModel.{DiskState}
 use Rattle.mn_redo.specs.Grammar.{IsFresh, IsLog}
-use Rattle.mn_redo.specs.Log.{IsKept, HasRoom, before_of, listed}
+use Rattle.mn_redo.specs.Log.{IsKept, HasPromisedRoom, before_of, listed}
 use Rattle.mn_redo.specs.Redo.{IsSound, StandsFor}
 use Rattle.mn_redo.specs.declared.log.Log.{Log}
 use Rattle.mn_redo.specs.declared.redo.Phase.{Phase}
@@ -14,7 +14,7 @@ module _ {D : Type 0} (state : D → DiskState) (spare_changes spare_bytes : D �
   going_kept Started going sound = (sound.ready refl).kept
   going_kept Closing going sound = absurd (going refl)
 
-  pub going_room : (phase : Phase) → phase ≢ Closing → IsSound state spare_changes spare_bytes phase log → HasRoom spare_changes spare_bytes log
+  pub going_room : (phase : Phase) → phase ≢ Closing → IsSound state spare_changes spare_bytes phase log → HasPromisedRoom spare_changes spare_bytes log
   going_room Fresh going sound = (sound.blank refl).room
   going_room Started going sound = (sound.ready refl).room
   going_room Closing going sound = absurd (going refl)

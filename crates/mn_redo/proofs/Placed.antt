@@ -3,7 +3,7 @@ use Rattle.std.proofs.Common.{◌≡◌, ◌<◌, ◌≤◌, ℕ, zero, suc, ◌
 use Rattle.std.proofs.lemmas.List.{take_at, drop_at}
 use Rattle.std.specs.Int.{w32, to_be_bytes}
 use Rattle.mn_redo.specs.Grammar.{behind_gate, records, places}
-use Rattle.mn_redo.specs.Log.{AreKept, listed_in}
+use Rattle.mn_redo.specs.Log.{BytesAreKept, listed_in}
 use Rattle.mn_redo.proofs.Parse.{length-behind_gate, length-places}
 
 -- where there is an element, it is the same whatever stands for a missing one
@@ -50,7 +50,7 @@ placed at (b ∷ bodies) (suc k) h =
       last = λ few. p.last (omega arith);
     }
 
-module _ (front_bytes bytes gates : List ℕ) (k : ℕ) (kept : AreKept front_bytes bytes) (gates_are : gates ≡ places (length front_bytes) (listed_in (length front_bytes) bytes)) (within : k < length (listed_in (length front_bytes) bytes)) where
+module _ (front_bytes bytes gates : List ℕ) (k : ℕ) (kept : BytesAreKept front_bytes bytes) (gates_are : gates ≡ places (length front_bytes) (listed_in (length front_bytes) bytes)) (within : k < length (listed_in (length front_bytes) bytes)) where
   abbrev bodies : List (List ℕ)
   bodies = listed_in (length front_bytes) bytes
 

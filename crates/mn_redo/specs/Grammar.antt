@@ -2,7 +2,8 @@
 use Rattle.std.specs.Prelude.{◌<◌, ◌≤◌, ◌≡◌, ◌≢◌, ◌⊎◌, ◌^◌, ℕ, zero, suc, ◌+◌, List, [], ◌∷◌, ◌++◌, length, take, drop, get_or, if◌then◌else◌, ◌==◌}
 use Rattle.std.specs.Int.{w32, to_be_bytes, from_be_bytes}
 
--- the first 16 bytes: an open gate, the letters MNLOG, the format, the number of the node, that of all nodes, and zeros
+-- the first 16 bytes: an open gate, the letters MNLOG, the format, the number of the node, that of
+-- all nodes, and zeros
 abbrev pub header : ℕ → ℕ → List ℕ
 header node nodes = 1 ∷ 77 ∷ 78 ∷ 76 ∷ 79 ∷ 71 ∷ 1 ∷ node ∷ nodes ∷ 0 ∷ 0 ∷ 0 ∷ 0 ∷ 0 ∷ 0 ∷ 0 ∷ []
 
@@ -81,7 +82,8 @@ bodies_in zero bytes = []
 bodies_in (suc fuel) [] = []
 bodies_in (suc fuel) (gate ∷ rest) = let n = from_be_bytes w32 (take 4 rest) in if gate == 1 then take n (drop 4 rest) ∷ bodies_in fuel (drop n (drop 4 rest)) else []
 
--- behind other bytes: open records of these bodies, a closed gate with the record of one more behind it, a closed gate, and anything
+-- behind other bytes: open records of these bodies, a closed gate with the record of one more
+-- behind it, a closed gate, and anything
 pub record IsStaged (before : List ℕ) (bodies : List (List ℕ)) (body content : List ℕ) : Type 0 where
   pub gate : ℕ
   pub tail : List ℕ
@@ -89,7 +91,8 @@ pub record IsStaged (before : List ℕ) (bodies : List (List ℕ)) (body content
   pub sizes : HaveSizes bodies
   pub bytes : content ≡ (before ++ records bodies) ++ gate ∷ (behind_gate body ++ 0 ∷ tail)
 
--- behind other bytes: open records whose gates are at these places, and a gate and more at this place
+-- behind other bytes: open records whose gates are at these places, and a gate and more at this
+-- place
 pub record IsFront (before content gates : List ℕ) (at : ℕ) : Type 0 where
   pub bodies : List (List ℕ)
   pub rest : List ℕ

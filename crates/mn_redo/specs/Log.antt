@@ -9,7 +9,7 @@ abbrev pub listed_in : ℕ → List ℕ → List (List ℕ)
 listed_in start bytes = bodies_in (length bytes) (drop start bytes)
 
 -- bytes up to the closed gate
-pub record AreKept (before bytes : List ℕ) : Type 0 where
+pub record BytesAreKept (before bytes : List ℕ) : Type 0 where
   pub sizes : HaveSizes (listed_in (length before) bytes)
   pub bytes_are : bytes ≡ (before ++ records (listed_in (length before) bytes)) ++ 0 ∷ []
 
@@ -21,11 +21,11 @@ listed log = listed_in 16 log.bytes.items
 
 -- what is in memory is the log up to its closed gate, and where its gates are
 pub record IsKept {D : Type 0} (log : Log D) : Type 0 where
-  pub bytes : AreKept (before_of log) log.bytes.items
+  pub bytes : BytesAreKept (before_of log) log.bytes.items
   pub gates : log.gates.items ≡ places 16 (listed log)
 
 -- the room that its spare numbers promise
-pub record HasRoom {D : Type 0} (spare_changes spare_bytes : D → ℕ) (log : Log D) : Type 0 where
+pub record HasPromisedRoom {D : Type 0} (spare_changes spare_bytes : D → ℕ) (log : Log D) : Type 0 where
   pub gates : vec_len log.gates + log.spare_bodies ≤ vec_capacity log.gates
   pub bytes : vec_len log.bytes + log.spare_bytes + 5 * log.spare_bodies ≤ vec_capacity log.bytes
   pub count : vec_len log.gates + log.spare_bodies < 2 ^ 32
@@ -39,12 +39,12 @@ pub record IsOnDisk {D : Type 0} (state : D → DiskState) (log : Log D) : Type 
 
 -- the front of a log that was read up to its damage, and where its gates are
 pub record IsFrontKept (node nodes : ℕ) (bytes gates : List ℕ) : Type 0 where
-  pub kept : AreKept (header node nodes) bytes
+  pub kept : BytesAreKept (header node nodes) bytes
   pub gates_are : gates ≡ places 16 (listed_in 16 bytes)
   pub count : length gates < 2 ^ 32
 
 -- a log that has a header, to which more can be appended
 pub record IsReady {D : Type 0} (state : D → DiskState) (spare_changes spare_bytes : D → ℕ) (log : Log D) : Type 0 where
   pub kept : IsKept log
-  pub room : HasRoom spare_changes spare_bytes log
+  pub room : HasPromisedRoom spare_changes spare_bytes log
   pub on_disk : IsOnDisk state log

@@ -2,12 +2,13 @@
 use Rattle.std.specs.Prelude.{◌≤◌, ◌≡◌, ◌*◌, ℕ, ◌+◌, List, []}
 use Rattle.mn_io.specs.DiskModel.{DiskState, IsStable}
 use Rattle.mn_redo.specs.Grammar.{IsFresh, Stands}
-use Rattle.mn_redo.specs.Log.{IsKept, HasRoom, IsReady, listed}
+use Rattle.mn_redo.specs.Log.{IsKept, HasPromisedRoom, IsReady, listed}
 use Rattle.mn_redo.specs.declared.log.Log.{Log}
 use Rattle.mn_redo.specs.declared.redo.Phase.{Phase}
 use Rattle.mn_redo.specs.declared.redo.Phase.TheVariants.{Fresh, Started}
 
--- the disk, the number of its node, that of all nodes, the bodies in the log, and for how many more, with how many bytes, there is room
+-- the disk, the number of its node, that of all nodes, the bodies in the log, and for how many
+-- more, with how many bytes, there is room
 pub record RedoState (D : Type 0) : Type 0 where
   pub disk : D
   pub node : ℕ
@@ -29,7 +30,7 @@ HasHeader disk = (c : List ℕ) → disk.images c → IsFresh c → ⊥
 pub record IsBlank {D : Type 0} (state : D → DiskState) (spare_changes spare_bytes : D → ℕ) (log : Log D) : Type 0 where
   pub none : listed log ≡ []
   pub kept : IsKept log
-  pub room : HasRoom spare_changes spare_bytes log
+  pub room : HasPromisedRoom spare_changes spare_bytes log
   pub start_changes : 4 * log.spare_bodies + 8 ≤ spare_changes log.disk
   pub start_bytes : log.spare_bytes + 6 * log.spare_bodies + 18 ≤ spare_bytes log.disk
   pub fresh : (state log.disk).honest → IsFresh (state log.disk).content

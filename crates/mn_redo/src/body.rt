@@ -1,10 +1,10 @@
 ghost use Rattle.std.specs.Prelude.{◌≡◌, ◌≤◌, ◌<◌, ◌+◌, ℕ, [], get_or, length};
 ghost use Rattle.mn_redo.specs.Grammar.{header, places};
-ghost use Rattle.mn_redo.specs.Log.{AreKept, listed_in};
+ghost use Rattle.mn_redo.specs.Log.{BytesAreKept, listed_in};
 
 /// Where a body of a log ends, which begins behind its gate and its length.
 fn end_of(bytes: &[u8], gates: &[u64], node: u8, nodes: u8, number: usize) -> usize
-    requires kept { AreKept (header node nodes) bytes.now }
+    requires kept { BytesAreKept (header node nodes) bytes.now }
     requires gates { gates.now ≡ places 16 (listed_in 16 bytes.now) }
     requires number { number < length (listed_in 16 bytes.now) }
     ensures within { result ≤ length bytes.now }
@@ -18,7 +18,7 @@ fn end_of(bytes: &[u8], gates: &[u64], node: u8, nodes: u8, number: usize) -> us
 
 /// The bytes of a body of a log.
 pub fn body_of<'a>(bytes: &'a [u8], gates: &[u64], node: u8, nodes: u8, number: usize) -> &'a [u8]
-    requires kept { AreKept (header node nodes) bytes.now }
+    requires kept { BytesAreKept (header node nodes) bytes.now }
     requires gates { gates.now ≡ places 16 (listed_in 16 bytes.now) }
     requires number { number < length (listed_in 16 bytes.now) }
     requires index { number < length gates.now }

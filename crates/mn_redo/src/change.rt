@@ -1,7 +1,7 @@
 ghost use Rattle.std.specs.Prelude.{◌≡◌, ◌≤◌, ◌+◌, ◌++◌, ◌∷◌, [], ◌<◌, ◌^◌, length, OnOk, vec_len, vec_capacity};
 ghost use Rattle.std.specs.Int.{w32, to_be_bytes};
 ghost use Rattle.mn_io.specs.Faults.{HasCause};
-ghost use Rattle.mn_io.specs.DiskModel.{IsStable, LeavesOnly, Torn, overwritten};
+ghost use Rattle.mn_io.specs.DiskModel.{IsStable, LeavesOnly, Torn, written_at};
 ghost use Rattle.mn_redo.specs.Grammar.{behind_gate};
 
 use mn_io::{Disk, Failed};
@@ -12,7 +12,7 @@ pub fn change<D: Disk>(disk: &mut D, at: u64, piece: &[u8]) -> Result<(), Failed
     requires stable { (D.state disk.old).honest → IsStable (D.state disk.old) }
     requires changes { 2 ≤ D.spare_changes disk.old }
     requires room { length piece.now ≤ D.spare_bytes disk.old }
-    ensures written { (D.state disk.old).honest → OnOk result ((D.state disk.new).content ≡ overwritten (D.state disk.old).content at piece.now) }
+    ensures written { (D.state disk.old).honest → OnOk result ((D.state disk.new).content ≡ written_at (D.state disk.old).content at piece.now) }
     ensures stable { (D.state disk.old).honest → OnOk result (IsStable (D.state disk.new)) }
     ensures honest { (D.state disk.old).honest → (D.state disk.new).honest }
     ensures no_better { (D.state disk.new).honest → (D.state disk.old).honest }
@@ -26,7 +26,8 @@ pub fn change<D: Disk>(disk: &mut D, at: u64, piece: &[u8]) -> Result<(), Failed
     Ok(())
 }
 
-/// Puts the length of a body, the body and a closed gate behind the bytes, which have room for them.
+/// Puts the length of a body, the body and a closed gate behind the bytes, which have room for
+/// them.
 pub fn stage(bytes: &mut Vec<u8>, body: &[u8])
     requires size { length body.now < 2 ^ 32 }
     requires room { vec_len bytes.old + 5 + length body.now ≤ vec_capacity bytes.old }

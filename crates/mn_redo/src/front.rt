@@ -1,5 +1,5 @@
 ghost use Rattle.std.specs.Prelude.{◌≡◌, ◌≤◌, ◌<◌, ℕ, [], length, get_or, IfOk, IsErrOf};
-ghost use Rattle.mn_io.specs.DiskModel.{Stays};
+ghost use Rattle.mn_io.specs.DiskModel.{DiskStays};
 ghost use Rattle.mn_io.specs.Faults.{Rose};
 ghost use Rattle.mn_redo.specs.Grammar.{AreInFront, IsDamaged, places};
 ghost use Rattle.mn_redo.specs.declared.open.OpenCause.TheVariants as causes;
@@ -32,10 +32,12 @@ impl Model for Front {
 }
 
 impl Front {
-    /// Reads what stands in front of the damage that `Redo::open` told of this disk, at its place. It writes nothing.
+    /// Reads what stands in front of the damage that `Redo::open` told of this disk, at its place.
+    /// It writes nothing.
     ///
-    /// `Fault` comes only where the disk's count of faults rose, `NoMemory` where there is no room for the bytes, and `Damaged` where the
-    /// disk gave other bytes than before: an honest disk never does.
+    /// `Fault` comes only where the disk's count of faults rose, `NoMemory` where there is no room
+    /// for the bytes, and `Damaged` where the disk gave other bytes than before: an honest disk
+    /// never does.
     pub fn read<D: Disk>(
         alloc: Global,
         disk: &mut D,
@@ -49,7 +51,7 @@ impl Front {
         ensures later { D.faults disk.old ≤ D.faults disk.new }
 
         // Nothing was written.
-        ensures same { (D.state disk.old).honest → Stays (D.state disk.old) (D.state disk.new) }
+        ensures same { (D.state disk.old).honest → DiskStays (D.state disk.old) (D.state disk.new) }
         ensures no_better { (D.state disk.new).honest → (D.state disk.old).honest }
     {
         let mut bytes = read_whole(alloc, disk)?;

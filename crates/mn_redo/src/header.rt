@@ -46,8 +46,8 @@ pub fn empty<D: Disk>(disk: &mut D) -> Result<(), Failed>
     Ok(())
 }
 
-/// Gives a fresh disk its header. Its first byte, the gate, is written last, so that a crash at any moment leaves a disk that stands for no
-/// bodies.
+/// Gives a fresh disk its header. Its first byte, the gate, is written last, so that a crash at any
+/// moment leaves a disk that stands for no bodies.
 pub fn write_header<D: Disk>(disk: &mut D, node: u8, nodes: u8, bytes: &[u8]) -> Result<(), Failed>
     requires bytes { bytes.now ≡ header node nodes ++ 0 ∷ [] }
     requires fresh { (D.state disk.old).honest → IsFresh (D.state disk.old).content }

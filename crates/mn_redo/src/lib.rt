@@ -1,5 +1,5 @@
-//! A redo log: a list of bodies on a disk, to which bodies are appended. A crash at any moment of an append leaves the list from before it or
-//! the one after it.
+//! A redo log: a list of bodies on a disk, to which bodies are appended. A crash at any moment of
+//! an append leaves the list from before it or the one after it.
 #![tactic(auto)]
 
 mod body;

@@ -1,8 +1,8 @@
 ghost use Rattle.std.specs.Prelude.{◌≡◌, ◌≤◌, ◌*◌, ◌<◌, ◌^◌, ◌+◌, ◌++◌, ◌∷◌, [], length, OnOk, vec_len, vec_capacity};
 ghost use Rattle.mn_io.specs.Faults.{HasCause};
-ghost use Rattle.mn_io.specs.DiskModel.{LeavesOnly, IsStable, Stays};
+ghost use Rattle.mn_io.specs.DiskModel.{LeavesOnly, IsStable, DiskStays};
 ghost use Rattle.mn_redo.specs.Grammar.{header, behind_gate, IsLog, IsLogBeforeOrAfter, IsStaged};
-ghost use Rattle.mn_redo.specs.Log.{IsReady, HasRoom, AreKept, listed, listed_in};
+ghost use Rattle.mn_redo.specs.Log.{IsReady, HasPromisedRoom, BytesAreKept, listed, listed_in};
 
 use crate::change::{change, stage};
 use mn_io::{Disk, Failed, NoMemory};
@@ -12,7 +12,8 @@ const MOST_BODIES: u32 = 1_000_000_000;
 
 const MOST_BYTES: usize = 1_000_000_000_000;
 
-/// Writes the record of a body behind the closed gate, which stays closed, with a closed gate behind it.
+/// Writes the record of a body behind the closed gate, which stays closed, with a closed gate
+/// behind it.
 pub fn half<D: Disk>(
     disk: &mut D,
     node: u8,
@@ -20,7 +21,7 @@ pub fn half<D: Disk>(
     bytes: &mut Vec<u8>,
     body: &[u8],
 ) -> Result<(), Failed>
-    requires kept { AreKept (header node nodes) bytes.old.items }
+    requires kept { BytesAreKept (header node nodes) bytes.old.items }
     requires log { (D.state disk.old).honest → IsLog (header node nodes) (D.state disk.old).content (listed_in 16 bytes.old.items) }
     requires stable { (D.state disk.old).honest → IsStable (D.state disk.old) }
     requires size { length body.now < 2 ^ 32 }
@@ -43,7 +44,8 @@ pub fn half<D: Disk>(
     change(disk, gate as u64 + 1, &bytes[gate + 1..])
 }
 
-/// A log: its bytes up to the closed gate, the places of its gates, and how much more it has room for.
+/// A log: its bytes up to the closed gate, the places of its gates, and how much more it has room
+/// for.
 #[derive(Drop)]
 pub struct Log<D: Disk> {
     pub disk: D,
@@ -67,7 +69,8 @@ impl<D: Disk> Log<D> {
         ensures bodies { OnOk result (self.old.spare_bodies ≤ self.new.spare_bodies + 1) }
         ensures bytes { OnOk result (self.old.spare_bytes ≤ self.new.spare_bytes + length body.now) }
 
-        // A crash at any moment of the call leaves the list from before it, with the body or without.
+        // A crash at any moment of the call leaves the list from before it, with the body or
+        // without.
         ensures any_moment { (D.state self.old.disk).honest → LeavesOnly (D.state self.old.disk) (D.state self.new.disk)
             (IsLogBeforeOrAfter self.old.node self.old.nodes (listed self.old) body.now) }
         ensures node { self.new.node ≡ self.old.node }
@@ -86,10 +89,11 @@ impl<D: Disk> Log<D> {
         Ok(())
     }
 
-    /// Takes the memory for so many more bodies with so many bytes in them, and for a header, so that neither takes any.
+    /// Takes the memory for so many more bodies with so many bytes in them, and for a header, so
+    /// that neither takes any.
     pub fn reserve(&mut self, bodies: u32, bytes: usize) -> Result<(), NoMemory>
-        requires room { HasRoom D.spare_changes D.spare_bytes self.old }
-        ensures room { HasRoom D.spare_changes D.spare_bytes self.new }
+        requires room { HasPromisedRoom D.spare_changes D.spare_bytes self.old }
+        ensures room { HasPromisedRoom D.spare_changes D.spare_bytes self.new }
         ensures spare_bodies { OnOk result (bodies ≤ self.new.spare_bodies) }
         ensures spare_bytes { OnOk result (bytes ≤ self.new.spare_bytes) }
         ensures no_fewer { self.old.spare_bodies ≤ self.new.spare_bodies }
@@ -100,7 +104,7 @@ impl<D: Disk> Log<D> {
         ensures gates { self.new.gates.items ≡ self.old.gates.items }
         ensures node { self.new.node ≡ self.old.node }
         ensures nodes { self.new.nodes ≡ self.old.nodes }
-        ensures stays { (D.state self.old.disk).honest → Stays (D.state self.old.disk) (D.state self.new.disk) }
+        ensures stays { (D.state self.old.disk).honest → DiskStays (D.state self.old.disk) (D.state self.new.disk) }
         ensures no_better { (D.state self.new.disk).honest → (D.state self.old.disk).honest }
         ensures faults { D.faults self.new.disk ≡ D.faults self.old.disk }
     {
@@ -116,7 +120,8 @@ impl<D: Disk> Log<D> {
             return Err(NoMemory);
         }
 
-        // A body is two writes and two syncs, of its bytes and six more; a header is eight changes of 18 bytes.
+        // A body is two writes and two syncs, of its bytes and six more; a header is eight changes
+        // of 18 bytes.
         self.disk.make_room(4 * bodies + 8, bytes + 6 * count + 18)?;
         self.gates.reserve(count)?;
         self.bytes.reserve(bytes + 5 * count)?;

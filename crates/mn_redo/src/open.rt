@@ -1,9 +1,9 @@
 ghost use Rattle.std.specs.Prelude.{◌≡◌, [], ◌≢◌, ◌≤◌, ◌<◌, ◌^◌, ◌+◌, ℕ, List, length, take, get_or, IfOk, OnOk, IfSome, IsNone, IsErrOf, true, false};
 ghost use Rattle.std.specs.Int.{w32, from_be_bytes};
 ghost use Rattle.mn_io.specs.Faults.{Rose};
-ghost use Rattle.mn_io.specs.DiskModel.{IsStable, NoneNew, Stays, WritesNothing};
+ghost use Rattle.mn_io.specs.DiskModel.{IsStable, NoneNew, DiskStays, WritesNothing};
 ghost use Rattle.mn_redo.specs.Grammar.{header, IsFront, IsFresh, IsLog, IsDamaged, IsDamagedAt, places};
-ghost use Rattle.mn_redo.specs.Log.{AreKept, listed_in};
+ghost use Rattle.mn_redo.specs.Log.{BytesAreKept, listed_in};
 ghost use Rattle.mn_redo.specs.declared.open.OpenCause.TheVariants as causes;
 
 use crate::header::{has_header, header_of, is_fresh};
@@ -75,8 +75,8 @@ fn size_in(rest: &[u8]) -> Option<usize>
     None
 }
 
-/// The places of the gates of the open records, and that of the closed gate behind them. An open gate with no whole record and gate behind it
-/// is damage at that gate.
+/// The places of the gates of the open records, and that of the closed gate behind them. An open
+/// gate with no whole record and gate behind it is damage at that gate.
 pub fn scan(
     alloc: Global,
     bytes: &[u8],
@@ -112,7 +112,8 @@ pub fn scan(
     Ok((gates, at))
 }
 
-/// A log's bytes up to its closed gate, as they are on a disk or as they will be on one that is fresh.
+/// A log's bytes up to its closed gate, as they are on a disk or as they will be on one that is
+/// fresh.
 #[derive(Drop)]
 pub struct Found {
     pub bytes: Vec<u8>,
@@ -120,9 +121,10 @@ pub struct Found {
     pub is_fresh: bool,
 }
 
-/// Reads the log in the bytes of a disk. Of a fresh disk the bytes are those that its header will have.
+/// Reads the log in the bytes of a disk. Of a fresh disk the bytes are those that its header will
+/// have.
 pub fn read_log(alloc: Global, content: Vec<u8>, node: u8, nodes: u8) -> Result<Found, OpenCause>
-    ensures kept { IfOk result (λ found. AreKept (header node nodes) found.bytes.items) }
+    ensures kept { IfOk result (λ found. BytesAreKept (header node nodes) found.bytes.items) }
     ensures gates { IfOk result (λ found. found.gates.items ≡ places 16 (listed_in 16 found.bytes.items)) }
     ensures count { IfOk result (λ found. length found.gates.items < 2 ^ 32) }
     ensures fresh { IfOk result (λ found. found.is_fresh ≡ true → IsFresh content.items) }
@@ -157,7 +159,7 @@ pub fn read_log(alloc: Global, content: Vec<u8>, node: u8, nodes: u8) -> Result<
 /// All bytes of a disk.
 pub fn read_whole<D: Disk>(alloc: Global, disk: &mut D) -> Result<Vec<u8>, OpenCause>
     ensures content { (D.state disk.old).honest → IfOk result (λ bytes. bytes.items ≡ (D.state disk.old).content) }
-    ensures same { (D.state disk.old).honest → Stays (D.state disk.old) (D.state disk.new) }
+    ensures same { (D.state disk.old).honest → DiskStays (D.state disk.old) (D.state disk.new) }
     ensures no_better { (D.state disk.new).honest → (D.state disk.old).honest }
     ensures changes { D.spare_changes disk.old ≤ D.spare_changes disk.new }
     ensures room { D.spare_bytes disk.old ≤ D.spare_bytes disk.new }
@@ -179,7 +181,7 @@ pub fn prepare<D: Disk>(
     node: u8,
     nodes: u8,
 ) -> Result<Found, OpenCause>
-    ensures kept { IfOk result (λ found. AreKept (header node nodes) found.bytes.items) }
+    ensures kept { IfOk result (λ found. BytesAreKept (header node nodes) found.bytes.items) }
     ensures gates { IfOk result (λ found. found.gates.items ≡ places 16 (listed_in 16 found.bytes.items)) }
     ensures count { IfOk result (λ found. length found.gates.items < 2 ^ 32) }
     ensures none { IfOk result (λ found. found.is_fresh ≡ true → listed_in 16 found.bytes.items ≡ []) }
@@ -199,7 +201,8 @@ pub fn prepare<D: Disk>(
     ensures honest { (D.state disk.old).honest → (D.state disk.new).honest }
     ensures no_better { (D.state disk.new).honest → (D.state disk.old).honest }
 {
-    // The sync here, and the eight changes of a header, which has 18 bytes with its gate written twice.
+    // The sync here, and the eight changes of a header, which has 18 bytes with its gate written
+    // twice.
     disk.make_room(9, 18)?;
     disk.sync()?;
     let content = read_whole(alloc, disk)?;

@@ -1,5 +1,5 @@
 ghost use Rattle.std.specs.Prelude.{◌≡◌, ◌≢◌, ◌≤◌, ◌<◌, ◌^◌, ◌+◌, ◌++◌, ◌∷◌, [], ℕ, List, length, get_or, IfOk, IfErr, IsErrOf, OnOk, OnErr, IsOk, IsTrue, ◌↔◌};
-ghost use Rattle.mn_io.specs.DiskModel.{IsStable, LeavesOnly, NoneNew, Stays, WritesNothing};
+ghost use Rattle.mn_io.specs.DiskModel.{IsStable, LeavesOnly, NoneNew, DiskStays, WritesNothing};
 ghost use Rattle.mn_io.specs.Faults.{HasCause, Rose};
 ghost use Rattle.mn_redo.specs.Grammar.{header, IsBeforeOrAfter, IsDamaged, IsFresh, IsLog, IsStaged, Stands, places};
 ghost use Rattle.mn_redo.specs.Redo.{HasHeader, StandsFor};
@@ -51,11 +51,12 @@ pub struct OpenFailed<D: Disk> {
 }
 
 impl<D: Disk> Redo<D> {
-    /// Reads the log of the node of this number, of so many nodes, from its disk. It writes nothing: it makes the room that `start` needs,
-    /// syncs, and reads the disk once.
+    /// Reads the log of the node of this number, of so many nodes, from its disk. It writes
+    /// nothing: it makes the room that `start` needs, syncs, and reads the disk once.
     ///
-    /// `Fault` comes only where the disk's count of faults rose, `Damaged` exactly where the disk's bytes are outside the grammar, with the
-    /// place of the fault, and `NoMemory` where there is no room for the bytes. The disk comes back with the cause.
+    /// `Fault` comes only where the disk's count of faults rose, `Damaged` exactly where the disk's
+    /// bytes are outside the grammar, with the place of the fault, and `NoMemory` where there is no
+    /// room for the bytes. The disk comes back with the cause.
     pub fn open(alloc: Global, disk: D, node: NodeNo, nodes: u8) -> Result<Redo<D>, OpenFailed<D>>
         // The list is that of the bytes that the disk had; a fresh disk has none.
         ensures read { (D.state disk).honest → IfOk result (λ redo. Stands node.0 nodes (D.state disk).content redo.bodies) }
@@ -104,7 +105,8 @@ impl<D: Disk> Redo<D> {
         }
     }
 
-    /// Reads the log again from its disk, as `open` does, whatever the last call left. It writes nothing.
+    /// Reads the log again from its disk, as `open` does, whatever the last call left. It writes
+    /// nothing.
     ///
     /// The causes are those of `open`. After an error only `reopen` and `close` may be called.
     pub fn reopen(&mut self, alloc: Global) -> Result<(), OpenCause>
@@ -145,8 +147,8 @@ impl<D: Disk> Redo<D> {
         Ok(())
     }
 
-    /// Gives a fresh disk its header; of a disk that has one it calls nothing. `Fault` comes only where the disk's count of faults rose; after
-    /// it only `close` may be called.
+    /// Gives a fresh disk its header; of a disk that has one it calls nothing. `Fault` comes only
+    /// where the disk's count of faults rose; after it only `close` may be called.
     pub fn start(&mut self) -> Result<(), Fault>
         requires going { self.old.phase ≢ Phase.Closing }
         ensures started { OnOk result (self.new.phase ≡ Phase.Started) }
@@ -185,8 +187,9 @@ impl<D: Disk> Redo<D> {
         Ok(())
     }
 
-    /// Takes the memory for so many more bodies with so many bytes in them, on the disk too: the spare numbers are both at least so much.
-    /// `NoMemory` where there is none; then nothing but the room has changed.
+    /// Takes the memory for so many more bodies with so many bytes in them, on the disk too: the
+    /// spare numbers are both at least so much. `NoMemory` where there is none; then nothing but
+    /// the room has changed.
     pub fn reserve(&mut self, bodies: u32, bytes: usize) -> Result<(), NoMemory>
         requires going { self.old.phase ≢ Phase.Closing }
         ensures spare_bodies { OnOk result (bodies ≤ self.new.spare_bodies) }
@@ -197,7 +200,7 @@ impl<D: Disk> Redo<D> {
         ensures bodies { self.new.bodies ≡ self.old.bodies }
         ensures node { self.new.node ≡ self.old.node }
         ensures nodes { self.new.nodes ≡ self.old.nodes }
-        ensures stays { (D.state self.old.disk).honest → Stays (D.state self.old.disk) (D.state self.new.disk) }
+        ensures stays { (D.state self.old.disk).honest → DiskStays (D.state self.old.disk) (D.state self.new.disk) }
         ensures header_stays { ((D.state self.old.disk).honest → HasHeader (D.state self.old.disk)) → (D.state self.new.disk).honest → HasHeader (D.state self.new.disk) }
         ensures no_better { (D.state self.new.disk).honest → (D.state self.old.disk).honest }
         ensures faults { D.faults self.new.disk ≡ D.faults self.old.disk }
@@ -205,8 +208,9 @@ impl<D: Disk> Redo<D> {
         self.log.reserve(bodies, bytes)
     }
 
-    /// Adds a body of fewer than 2^32 bytes at the end of the list; at `Ok` it is stable. It uses up one spare body and as many spare bytes as
-    /// the body has. `Fault` comes only where the disk's count of faults rose; after it only `close` may be called.
+    /// Adds a body of fewer than 2^32 bytes at the end of the list; at `Ok` it is stable. It uses
+    /// up one spare body and as many spare bytes as the body has. `Fault` comes only where the
+    /// disk's count of faults rose; after it only `close` may be called.
     pub fn append(&mut self, body: &[u8]) -> Result<(), Fault>
         requires started { self.old.phase ≡ Phase.Started }
         requires size { length body.now < 2 ^ 32 }
@@ -221,7 +225,8 @@ impl<D: Disk> Redo<D> {
         // At Ok each image of the disk stands for the list with the body.
         ensures stable { (D.state self.old.disk).honest → OnOk result (StandsFor (D.state self.new.disk) self.old.node self.old.nodes (self.old.bodies ++ body.now ∷ [])) }
 
-        // A crash at any moment of the call leaves the list from before it, with the body or without.
+        // A crash at any moment of the call leaves the list from before it, with the body or
+        // without.
         ensures any_moment { (D.state self.old.disk).honest → LeavesOnly (D.state self.old.disk) (D.state self.new.disk)
             (IsBeforeOrAfter self.old.node self.old.nodes self.old.bodies body.now) }
         ensures images { (D.state self.old.disk).honest → (c : List ℕ) → (D.state self.new.disk).images c → IsBeforeOrAfter self.old.node self.old.nodes self.old.bodies body.now c }
@@ -238,8 +243,9 @@ impl<D: Disk> Redo<D> {
         Ok(())
     }
 
-    /// Writes all of a body's record but its open gate, so that a crash leaves the list without it. After it only `close` may be called.
-    /// `Fault` comes only where the disk's count of faults rose.
+    /// Writes all of a body's record but its open gate, so that a crash leaves the list without it.
+    /// After it only `close` may be called. `Fault` comes only where the disk's count of faults
+    /// rose.
     pub fn write_half(&mut self, body: &[u8]) -> Result<(), Fault>
         requires started { self.old.phase ≡ Phase.Started }
         requires size { length body.now < 2 ^ 32 }

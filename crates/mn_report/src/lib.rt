@@ -1,4 +1,5 @@
-//! The report on a run: what each operation was answered, the history, and the store that it leaves.
+//! The report on a run: what each operation was answered, the history, and the store that it
+//! leaves.
 #![tactic(auto)]
 
 mod answers;

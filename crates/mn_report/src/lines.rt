@@ -10,7 +10,8 @@ pub enum LineAnswer {
     Never,
 }
 
-/// An operation, by its client and its number among this client's operations (from 1), and what is said of it.
+/// An operation, by its client and its number among this client's operations (from 1), and what is
+/// said of it.
 #[derive(Debug, Drop)]
 pub struct AnswerLine {
     pub client: Name,
@@ -33,7 +34,8 @@ pub struct DoubtLine {
     pub committed: bool,
 }
 
-/// A version: its name, its parent's name or none, whether it is frozen, how many pairs it has, and the SHA-256 of them.
+/// A version: its name, its parent's name or none, whether it is frozen, how many pairs it has, and
+/// the SHA-256 of them.
 #[derive(Debug, Drop)]
 pub struct VersionLine {
     pub name: Name,

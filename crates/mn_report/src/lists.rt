@@ -75,7 +75,8 @@ impl Ranks {
     }
 }
 
-/// What became of the operations whose clients didn't learn it, in order of clients. Contracts see them as a list.
+/// What became of the operations whose clients didn't learn it, in order of clients. Contracts see
+/// them as a list.
 #[derive(Debug, Drop)]
 pub struct Outcomes {
     outcomes: Vec<DoubtLine>,

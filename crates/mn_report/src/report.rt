@@ -6,8 +6,8 @@ use crate::parts::{push_answer_lines, push_doubts, push_history, push_points, pu
 use mn_base::{Bytes, NoMemory};
 use std::alloc::{AllocError, Global};
 
-/// What a run is reported by: what each operation was answered, the history, what became of the operations in doubt, which
-/// crash points were met, and the versions of the store.
+/// What a run is reported by: what each operation was answered, the history, what became of the
+/// operations in doubt, which crash points were met, and the versions of the store.
 #[derive(Debug, Drop)]
 pub struct Report {
     pub answers: AnswerLines,
@@ -29,8 +29,9 @@ fn push_report(alloc: Global, out: &mut Vec<u8>, report: &Report) -> Result<(), 
     out.extend_from_slice(b"end\n")
 }
 
-/// The text of a report. Where an operation was answered that bytes moved, the expected and the found ones differ, have
-/// one length, and lie inside the space of a node from the start on. NoMemory: there was no memory for the text.
+/// The text of a report. Where an operation was answered that bytes moved, the expected and the
+/// found ones differ, have one length, and lie inside the space of a node from the start on.
+/// NoMemory: there was no memory for the text.
 pub fn write_report(alloc: Global, report: &Report) -> Result<Bytes, NoMemory>
     requires { CanReport report.now }
     ensures { IfOk result (λ text. text ≡ report_text report.now) }

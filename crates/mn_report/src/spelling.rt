@@ -34,8 +34,8 @@ fn push_spelled_byte(out: &mut Vec<u8>, byte: u8) -> Result<(), AllocError>
     push_hex(out, byte)
 }
 
-/// Adds the spelling of the bytes: those from 21 to 7e (hexadecimal) other than `%` and `;` as they are, each other one as
-/// `%` and two lower-case hexadecimal digits.
+/// Adds the spelling of the bytes: those from 21 to 7e (hexadecimal) other than `%` and `;` as they
+/// are, each other one as `%` and two lower-case hexadecimal digits.
 pub fn push_spelled(out: &mut Vec<u8>, bytes: &[u8]) -> Result<(), AllocError>
     ensures { OnOk result (out.new.items ≡ out.old.items ++ spelled bytes.now) }
 {

@@ -14,7 +14,7 @@ use Rattle.mn_scan.specs.declared.step.ScanStep.{ScanStep}
 use Rattle.mn_scan.specs.declared.step.ScanStep.TheVariants.{Need, Ended}
 use Rattle.mn_scan.specs.declared.error.ScanError.{ScanError}
 use Rattle.mn_scan.specs.declared.error.ScanError.TheVariants as refusals
-use Rattle.mn_scan.specs.Front.{front_of, is_on_path, child_from}
+use Rattle.mn_path.specs.Walk.{front_of, is_on_path, child_from}
 
 -- a scan of a version with this root, by the parents of the versions: its bounds; the key at which
 -- it stands, none for the least; the page that it needs, and the height of the page that names it;

@@ -3,14 +3,9 @@
 #![tactic(auto)]
 
 mod error;
-mod front;
 mod scan_run;
 mod step;
 
 pub use error::ScanError;
-pub use front::{Front, child_for, height};
 pub use scan_run::ScanRun;
 pub use step::ScanStep;
-
-#[cfg(test)]
-mod tests;

@@ -8,10 +8,11 @@ ghost use Rattle.mn_scan.specs.Scan.{new_scan, step_of, key_at, may_be_leaf, IsN
 ghost use Rattle.mn_scan.specs.Scan.{restarted, is_end, gathered, fed, leaf_taken, with_pairs};
 ghost use Rattle.mn_scan.specs.Scan.{IsInTurn, RefusesPage};
 
-use crate::{Front, ScanError, ScanStep, child_for};
+use crate::{ScanError, ScanStep};
 use mn_base::{Addr, Key, NoMemory, Pair, Pairs, TryCopy, VersionNo};
 use mn_fence::covers;
 use mn_page::{Body, Page};
+use mn_path::{Front, child_for};
 use mn_vtree::VersionTree;
 use std::alloc::Global;
 use std::marker::Model;

@@ -169,7 +169,8 @@ abbrev pub ended : Phase → Draft → ℕ → Result Script ScriptError
 ended Start d lines = Err (Refused (lines + 1) 1)
 ended phase d lines = Ok (script_in d)
 
--- the lines from the one behind so many on, after this draft; a column is at most the line's length plus 1
+-- the lines from the one behind so many on, after this draft; a column is at most the line's length
+-- plus 1
 abbrev pub read_from : Draft → ℕ → List Text → Result Script ScriptError
 read_from d lines [] = ended d.phase d lines
 read_from d lines (line ∷ rest) =
@@ -183,10 +184,10 @@ abbrev pub script_of : Text → Result Script ScriptError
 script_of text = if nat_le (length text) 4194304 then read_from empty_draft 0 (lines_of text) else Err (Refused 0 0)
 
 -- What the reader gave is that, unless there was no memory.
-abbrev pub IsRead : Result Script ScriptError → Result Script ScriptError → Type 0
-IsRead (Ok script) said = said ≡ Ok script
-IsRead (Err (Refused line column)) said = said ≡ Err (Refused line column)
-IsRead (Err NoMemory) said = Unit {0}
+abbrev pub IsScriptRead : Result Script ScriptError → Result Script ScriptError → Type 0
+IsScriptRead (Ok script) said = said ≡ Ok script
+IsScriptRead (Err (Refused line column)) said = said ≡ Err (Refused line column)
+IsScriptRead (Err NoMemory) said = Unit {0}
 
 -- What became of a draft is what the line says, unless there was no memory.
 abbrev pub GivesDraft : {X : Type 0} → Result X LineError → Draft → Result Draft ℕ → Type 0

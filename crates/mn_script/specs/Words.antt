@@ -14,7 +14,8 @@ abbrev pub len_to : ℕ → Text → ℕ
 len_to stop [] = 0
 len_to stop (b ∷ bs) = if b == stop then 0 else len_to stop bs + 1
 
--- the word that begins at a place of a line; past the last word there is none, and what is there is empty
+-- the word that begins at a place of a line; past the last word there is none, and what is there is
+-- empty
 abbrev pub word_at : Text → ℕ → Text
 word_at line at = take (len_to 32 (drop at line)) (drop at line)
 
@@ -26,7 +27,8 @@ next_at line at = min (at + length (word_at line at) + 1) (length line + 1)
 abbrev pub column_at : Text → ℕ → ℕ
 column_at line at = min (at + 1) (length line + 1)
 
--- What a part of a line says is a value and the place behind it, or the column of its first wrong word.
+-- What a part of a line says is a value and the place behind it, or the column of its first wrong
+-- word.
 abbrev pub Part : Type 0 → Type 0
 Part X = Result (X × ℕ) ℕ
 

@@ -54,7 +54,8 @@ fn recoverer_of(
     Ok((recoverer as u8, client))
 }
 
-/// The act of a line, where the nodes go up to the last and there are so many recovery coordinators.
+/// The act of a line, where the nodes go up to the last and there are so many recovery
+/// coordinators.
 #[tactic(auto, unfolding(crate::specs::Lines::act_at))]
 pub fn act_of(last: u8, recoverers: u8, clients: &Roster, line: &[u8]) -> Result<Act, LineError>
     requires { AreFew clients.now }

@@ -2,7 +2,7 @@ ghost use Rattle.std.specs.Prelude.{◌≡◌, ◌≤◌, ◌<◌, ◌+◌, ◌-
 ghost use Rattle.mn_script.specs.Words.{word_at, told_at, Gives, GivesPart};
 ghost use Rattle.mn_script.specs.Lines.{client_named};
 ghost use Rattle.mn_script.specs.Script.{steps_in, limit_in};
-ghost use Rattle.mn_script.specs.Reading.{empty_draft, fits_op, add_op, op_line, add_client, new_name, client_line, add_point, add_act, act_line, kill_line, stop_line, nodes_line, recoverers_line, schedule_line, is_head, is_section, is_points, middle_line, line_in, is_passed, line_at, ended, IsDraft, GivesDraft, IsRead};
+ghost use Rattle.mn_script.specs.Reading.{empty_draft, fits_op, add_op, op_line, add_client, new_name, client_line, add_point, add_act, act_line, kill_line, stop_line, nodes_line, recoverers_line, schedule_line, is_head, is_section, is_points, middle_line, line_in, is_passed, line_at, ended, IsDraft, GivesDraft, IsScriptRead};
 
 use crate::acts::act_of;
 use crate::clients::{count_of, mark};
@@ -18,8 +18,8 @@ use mn_base::{Name, Op};
 use std::alloc::Global;
 use std::marker::Model;
 
-/// Which lines may come next: the nodes; the recovery coordinators or a section; a section; the operations of a client;
-/// crash points; acts. Where sections may come the later parts may too.
+/// Which lines may come next: the nodes; the recovery coordinators or a section; a section; the
+/// operations of a client; crash points; acts. Where sections may come the later parts may too.
 #[derive(Clone, Copy, Debug, PartialEq, Eq)]
 pub enum Phase {
     Start,
@@ -293,7 +293,7 @@ impl Draft {
     pub fn finish(self, lines: u32) -> Result<Script, ScriptError>
         requires few { lines < 2 ^ 32 - 1 }
         requires right { IsDraft self }
-        ensures { IsRead result (ended self.phase self lines) }
+        ensures { IsScriptRead result (ended self.phase self lines) }
     {
         if self.phase == Phase::Start {
             return Err(ScriptError::Refused {

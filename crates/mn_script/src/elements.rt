@@ -26,7 +26,8 @@ pub enum Point {
         number: u32,
         votes: u8,
     },
-    /// The node stops inside the first Prepare or Exec of this operation that reaches it and adds a record.
+    /// The node stops inside the first Prepare or Exec of this operation that reaches it and adds a
+    /// record.
     Stop {
         node: NodeNo,
         client: ClientNo,
@@ -40,7 +41,8 @@ pub enum Point {
 pub enum Act {
     /// One node call of the client.
     Step { client: ClientNo },
-    /// Node calls of the client until the next one would be a Prepare, an Exec that compares or writes, or the answer.
+    /// Node calls of the client until the next one would be a Prepare, an Exec that compares or
+    /// writes, or the answer.
     Plan { client: ClientNo },
     /// Node calls of the client until its operation is answered or it has died.
     Go { client: ClientNo },
@@ -48,7 +50,8 @@ pub enum Act {
     All { client: ClientNo },
     Halt { node: NodeNo },
     Restart { node: NodeNo },
-    /// One node call of a recovery coordinator (from 1), which without work takes the client's last id.
+    /// One node call of a recovery coordinator (from 1), which without work takes the client's last
+    /// id.
     Rstep { recoverer: u8, client: ClientNo },
     /// The same until it ends or has to wait.
     Recover { recoverer: u8, client: ClientNo },

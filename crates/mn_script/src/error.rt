@@ -4,9 +4,9 @@ use std::alloc::{AllocError, AllocFailed};
 /// Why a text is no script.
 #[derive(Clone, Copy, Debug, PartialEq, Eq)]
 pub enum ScriptError {
-    /// The text isn't in the grammar or passes a limit. `line` is the first line at which the text up to it can't be the
-    /// beginning of a script, counted from 1, and `column` the place of its first wrong word, counted from 1; both are 0
-    /// for a text of too many bytes.
+    /// The text isn't in the grammar or passes a limit. `line` is the first line at which the text
+    /// up to it can't be the beginning of a script, counted from 1, and `column` the place of its
+    /// first wrong word, counted from 1; both are 0 for a text of too many bytes.
     Refused { line: u32, column: u32 },
     NoMemory,
 }

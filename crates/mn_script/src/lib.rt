@@ -15,8 +15,6 @@ mod roster;
 mod script;
 mod steps;
 mod strings;
-#[cfg(test)]
-mod tests;
 mod words;
 mod write;
 

@@ -10,7 +10,8 @@ use crate::steps::literal;
 use crate::words::{end, next, number, word, wrong};
 use mn_base::{ClientNo, NodeNo, StopAt};
 
-/// An operation of a client: the client's number and the operation's. There are at most 16 clients, each with at most 2,000.
+/// An operation of a client: the client's number and the operation's. There are at most 16 clients,
+/// each with at most 2,000.
 #[tactic(auto, unfolding(crate::specs::Lines::target_at))]
 fn target(clients: &Roster, line: &[u8], at: &mut usize) -> Result<(usize, u32), LineError>
     requires at { at.old ≤ length line.now + 1 }

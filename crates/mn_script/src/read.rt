@@ -1,5 +1,5 @@
 ghost use Rattle.std.specs.Prelude.{◌≡◌, ◌≤◌, ◌<◌, ◌+◌, ◌∷◌, length};
-ghost use Rattle.mn_script.specs.Reading.{script_of, lines_of, IsRead};
+ghost use Rattle.mn_script.specs.Reading.{script_of, lines_of, IsScriptRead};
 
 use crate::draft::Draft;
 use crate::error::{LineError, ScriptError};
@@ -25,11 +25,12 @@ pub fn split_line(text: &[u8]) -> (&[u8], &[u8])
     }
 }
 
-/// Reads a script. Refused: the text is none; `line` is the first line at which the text up to it can't be the beginning of
-/// one, and `column` the place of the first wrong word there, both from 1; 0 and 0 for a text of more than 4,194,304 bytes.
-/// NoMemory: there was no memory for the script.
+/// Reads a script. Refused: the text is none; `line` is the first line at which the text up to it
+/// can't be the beginning of one, and `column` the place of the first wrong word there, both from
+/// 1; 0 and 0 for a text of more than 4,194,304 bytes. NoMemory: there was no memory for the
+/// script.
 pub fn read_script(alloc: Global, text: &[u8]) -> Result<Script, ScriptError>
-    ensures { IsRead result (script_of text.now) }
+    ensures { IsScriptRead result (script_of text.now) }
 {
     if text.len() > MAX_TEXT {
         return Err(ScriptError::Refused { line: 0, column: 0 });

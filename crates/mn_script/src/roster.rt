@@ -71,7 +71,8 @@ impl Roster {
         self.numbers.get(name).copied()
     }
 
-    /// Adds a client, whose name is new, without operations. After want of memory the clients are as before.
+    /// Adds a client, whose name is new, without operations. After want of memory the clients are
+    /// as before.
     pub fn push(&mut self, alloc: Global, name: Name, mark: Mark) -> Result<(), LineError>
         requires new { client_named self.old name ≡ None }
         ensures added { OnOk result (self.new ≡ self.old ++ record { name = name; mark = mark; ops = [] } ∷ []) }

@@ -5,9 +5,9 @@ use crate::elements::{Act, Point, ScriptClient};
 use crate::lists::{Acts, Clients, Points};
 use std::marker::Model;
 
-/// A script: on how many nodes and with how many recovery coordinators what clients do what, where they and the nodes
-/// crash, and in which order `replay` goes on. It meets the rules and limits of the grammar, but for
-/// the length of its text. Contracts see it as a record of these five things.
+/// A script: on how many nodes and with how many recovery coordinators what clients do what, where
+/// they and the nodes crash, and in which order `replay` goes on. It meets the rules and limits of
+/// the grammar, but for the length of its text. Contracts see it as a record of these five things.
 #[derive(Debug, Drop)]
 pub struct Script {
     nodes: u8,

@@ -371,8 +371,9 @@ fn push_script(alloc: Global, out: &mut Vec<u8>, script: &Script) -> Result<(), 
     push_schedule(alloc, out, clients, script.schedule())
 }
 
-/// Writes one spelling of a script, without the lines `recoverers` and `schedule` where they can be left out, and with each
-/// transaction as `tx`. A text of at most 4,194,304 bytes reads as that script. NoMemory: there was no memory for the text.
+/// Writes one spelling of a script, without the lines `recoverers` and `schedule` where they can be
+/// left out, and with each transaction as `tx`. A text of at most 4,194,304 bytes reads as that
+/// script. NoMemory: there was no memory for the text.
 pub fn write_script(alloc: Global, script: &Script) -> Result<Bytes, NoMemory>
     ensures text { IfOk result (λ text. text ≡ script_text script.now) }
     ensures reads_back { IfOk result (λ text. length text ≤ 4194304 → script_of text ≡ Ok script.now) }

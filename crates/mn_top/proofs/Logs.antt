@@ -4,21 +4,21 @@ use Rattle.std.specs.List.{AllByRecursion, list_all, list_any}
 use Rattle.std.specs.Prelude.{◌⊎◌, false}
 use Rattle.mn_base.specs.declared.op.Op.{Op}
 use Rattle.mn_base.specs.Store.{main_store}
-use Rattle.mn_io.specs.DiskModel.{DiskState, NoneNew, Stays, WritesNothing}
+use Rattle.mn_io.specs.DiskModel.{DiskState, NoneNew, DiskStays, WritesNothing}
 use Rattle.mn_io.specs.Faults.{Rose}
 use Rattle.mn_mini.specs.declared.record.Record.{Record}
 use Rattle.mn_mini.specs.Node.{held_parts}
-use Rattle.mn_mini.specs.Laws.{AreApart}
+use Rattle.mn_mini.specs.Laws.{PartsAreApart}
 use Rattle.mn_mini.specs.RecordGrammar.{IsRecord, record_bytes}
 use Rattle.mn_mini.proofs.RecordBytes.{record_once}
 use Rattle.mn_node.specs.Node.{bodies_of}
-use Rattle.mn_node.specs.State.{AreRecords, GoesOn, IsFirstBad, IsStarted, NodeState, StandsForRecords}
+use Rattle.mn_node.specs.State.{AreRecords, DiskGoesOn, IsFirstBad, IsStarted, NodeState, StandsForRecords}
 use Rattle.mn_redo.specs.Grammar.{AreInFront, IsDamaged, Stands}
 use Rattle.mn_redo.specs.Redo.{RedoState, StandsFor}
 use Rattle.mn_script.specs.declared.elements.ScriptClient.{ScriptClient}
 use Rattle.mn_top.specs.declared.caller.Stop.{Stop}
 use Rattle.mn_top.specs.declared.caller.Stop.TheVariants.{Fault, NoMemory}
-use Rattle.mn_top.specs.Disk.{Grew, IsBetween, IsCutShort, IsDamagedBehind, IsUnwritten, Shows}
+use Rattle.mn_top.specs.Disk.{Grew, IsBetween, IsCutShort, IsDamagedBehind, IsUnwritten, DiskShows}
 use Rattle.mn_top.specs.Leaf.{MakesLeaf, is_executed}
 use Rattle.mn_node.specs.declared.start.StartCause.{StartCause}
 use Rattle.mn_node.specs.declared.start.StartCause.TheVariants as starting
@@ -62,13 +62,13 @@ none_bad bodies records at are bad =
     let there = body_at records bad.number are.sound (subst (λ (l : List (List ℕ)). bad.number < length l) are.bodies_are bad.within) in
     bad.bad there.0 (record { may = there.1; spelled = ap (λ (l : List (List ℕ)). get_or l bad.number []) are.bodies_are ∙ there.2 })
 
-pub start_apart : (bodies : List (List ℕ)) (ops : List Op) (run : ℕ) → IsOpen bodies ops run → (records : List Record) → AllByRecursion IsRecord records → bodies ≡ bodies_of records → AreApart (held_parts (reverse records))
+pub start_apart : (bodies : List (List ℕ)) (ops : List Op) (run : ℕ) → IsOpen bodies ops run → (records : List Record) → AllByRecursion IsRecord records → bodies ≡ bodies_of records → PartsAreApart (held_parts (reverse records))
 start_apart bodies ops run ready records sound e =
     let same = records_once bodies ready.records records ready.are (record { bodies_are = e; sound = sound }) in
     let none = ap (λ (l : List Record). held_parts (reverse l)) (sym same) ∙ none_held_on ready.records ready.served.makes.executed in
-    subst AreApart (sym none) none_apart
+    subst PartsAreApart (sym none) none_apart
   where
-    none_apart : AreApart []
+    none_apart : PartsAreApart []
     none_apart = tt
 
 -- What a log's disk stands for
@@ -88,7 +88,7 @@ keeps_first disk bodies ops run ready stands = record {
   });
 }
 
-shown_by : {D : Type 0} (state : D → DiskState) (faults : D → ℕ) (old : D) (redo : RedoState D) (ops : List Op) (run : ℕ) (ready : IsOpen redo.bodies ops run) → WasOpened state faults old redo → Shows (state old) ready.records
+shown_by : {D : Type 0} (state : D → DiskState) (faults : D → ℕ) (old : D) (redo : RedoState D) (ops : List Op) (run : ℕ) (ready : IsOpen redo.bodies ops run) → WasOpened state faults old redo → DiskShows (state old) ready.records
 shown_by state faults old redo ops run ready opened = record { bodies = redo.bodies; are = ready.are; stands = opened.shown }
 
 pub cut_at_start : {D : Type 0} (state : D → DiskState) (faults : D → ℕ) (old new : D) (redo : RedoState D) (ops : List Op) (run : ℕ) → IsOpen redo.bodies ops run → WasOpened state faults old redo
@@ -128,7 +128,7 @@ started_taken bodies ops run ready plain = taken_from (main_store ready.pairs) o
 -- what a run on a started node comes to
 pub run_comes_to : {D : Type 0} (state : D → DiskState) (faults : D → ℕ) (clients : List ScriptClient) (old : D) (redo : RedoState D) (node new : NodeState D) (run : ℕ) (result : Result (List ℕ) Stop)
     (ready : IsOpen redo.bodies (ops_of clients) run) → WasOpened state faults old redo → IsStarted state redo node → faults redo.disk ≤ faults node.disk → ((state redo.disk).honest → (state node.disk).honest)
-    → GoesOn state faults node new → Reports state faults run (main_store ready.pairs) clients node result new → ComesTo state faults clients old (due_of_running result) new.disk
+    → DiskGoesOn state faults node new → Reports state faults run (main_store ready.pairs) clients node result new → ComesTo state faults clients old (due_of_running result) new.disk
 run_comes_to state faults clients old redo node new run (Ok text) ready opened started later honest goes reports =
     let runs = reports.0 in
     let after = runs.1 in
@@ -187,7 +187,7 @@ start_failed state faults clients old new redo run starting.NoMemory ready opene
 
 -- Logs that weren't opened
 
-still_nothing : (old mid new : DiskState) → WritesNothing old mid → NoneNew old mid → Stays mid new → WritesNothing old new
+still_nothing : (old mid new : DiskState) → WritesNothing old mid → NoneNew old mid → DiskStays mid new → WritesNothing old new
 still_nothing old mid new writes none stays = record {
   later = omega (arith, writes.later, stays.time.later);
   each = λ c since. one_of (old.images c) (stays.time.nothing_else old.moment c writes.later since) (writes.each c) (λ image. none c (stays.images c image));
@@ -202,7 +202,7 @@ still_nothing old mid new writes none stays = record {
     two_of P Q (inl a) f g = f a
     two_of P Q (inr b) f g = inr (g b)
 
-pub still_unwritten : (old mid new : DiskState) → IsUnwritten old mid → (mid.honest → Stays mid new) → IsUnwritten old new
+pub still_unwritten : (old mid new : DiskState) → IsUnwritten old mid → (mid.honest → DiskStays mid new) → IsUnwritten old new
 still_unwritten old mid new was same = record {
   honest = λ h. (same (was.honest h)).time.honest;
   writes_nothing = λ h. still_nothing old mid new (was.writes_nothing h) (was.none_new h) (same (was.honest h));
@@ -214,7 +214,7 @@ pub record WasRead {D : Type 0} (state : D → DiskState) (old : D) (at : ℕ) (
   pub unwritten : IsUnwritten (state old) (state new)
   pub behind : (state old).honest → IsDamagedBehind (state old).content at bodies
 
-pub was_read : {D : Type 0} (state : D → DiskState) (faults : D → ℕ) (old disk new : D) (at : ℕ) (bodies : List (List ℕ)) → WasntOpened state faults old (opening.Damaged at) disk → ((state disk).honest → Stays (state disk) (state new))
+pub was_read : {D : Type 0} (state : D → DiskState) (faults : D → ℕ) (old disk new : D) (at : ℕ) (bodies : List (List ℕ)) → WasntOpened state faults old (opening.Damaged at) disk → ((state disk).honest → DiskStays (state disk) (state new))
     → ((state disk).honest → IsDamaged 0 1 (state disk).content at → AreInFront 0 1 (state disk).content at bodies) → WasRead state old at new bodies
 was_read state faults old disk new at bodies was same front = record {
   unwritten = still_unwritten (state old) (state disk) (state new) was.unwritten same;
@@ -237,7 +237,7 @@ pub bad_first : {D : Type 0} (state : D → DiskState) (faults : D → ℕ) (cli
 bad_first state faults clients old new at place bodies read bad = (refl, record { bad = λ h. inr (bodies, inr (at, read.behind h), bad); unwritten = read.unwritten })
 
 -- the disk gave other bytes than before, which an honest one doesn't
-pub misread : {D : Type 0} (state : D → DiskState) (faults : D → ℕ) (clients : List ScriptClient) (old disk new : D) (at place : ℕ) → WasntOpened state faults old (opening.Damaged at) disk → ((state disk).honest → Stays (state disk) (state new))
+pub misread : {D : Type 0} (state : D → DiskState) (faults : D → ℕ) (clients : List ScriptClient) (old disk new : D) (at place : ℕ) → WasntOpened state faults old (opening.Damaged at) disk → ((state disk).honest → DiskStays (state disk) (state new))
     → ((state disk).honest → IsDamaged 0 1 (state disk).content at → ⊥) → ComesTo state faults clients old (due_of_opening (opening.Damaged place)) new
 misread state faults clients old disk new at place was same never = (
   refl,

@@ -1,4 +1,5 @@
--- What clap makes of words that begin with no hyphen, for each number of words that a command may have.
+-- What clap makes of words that begin with no hyphen, for each number of words that a command may
+-- have.
 use Rattle.std.proofs.Common.{ap, ap₂, sym, refl, codes, false, List, ℕ, Some, None, [], ◌∷◌, ◌≡◌, ◌∙◌, ◌==◌, bytes_eq, ◌++◌, append_assoc, append-nil, fold, is_some}
 use Rattle.clap.specs.Words.{App, Row, Rule, Text, first_of, subcommand_of}
 use Rattle.clap.specs.Walk.{Held, Walk, Names, idle, settled, rows_after, walked, walk, nothing_held, to_positional, arg_by_index, value, finished}

@@ -12,7 +12,7 @@ use Rattle.mn_base.specs.Store.{Store, applied, main_store}
 use Rattle.mn_base.proofs.Lists.{all_append}
 use Rattle.mn_io.specs.DiskModel.{DiskState}
 use Rattle.mn_mini.specs.declared.record.Record.{Record}
-use Rattle.mn_node.specs.State.{NodeState, GoesOn}
+use Rattle.mn_node.specs.State.{NodeState, DiskGoesOn}
 use Rattle.mn_node.proofs.Steps.{rose_later}
 use Rattle.mn_report.specs.declared.lines.AnswerLine.{AnswerLine}
 use Rattle.mn_report.specs.declared.lines.LineAnswer.TheVariants.{Answered}
@@ -21,7 +21,7 @@ use Rattle.mn_script.specs.declared.elements.ScriptClient.{ScriptClient}
 use Rattle.mn_top.specs.declared.caller.Stop.{Stop}
 use Rattle.mn_top.specs.declared.caller.Stop.TheVariants.{Fault, NoMemory}
 use Rattle.mn_mini.specs.Node.{record_run}
-use Rattle.mn_top.specs.Disk.{Grew, IsBetween, Keeps}
+use Rattle.mn_top.specs.Disk.{Grew, IsBetween, KeepsStore}
 use Rattle.mn_report.specs.Answers.{CanTellLine}
 use Rattle.mn_report.specs.Report.{report_text}
 use Rattle.mn_top.specs.Report.{answers_from, answers_of, history_of, ranks_from, report_on, versions_told}
@@ -74,7 +74,7 @@ grew_more run a b c p q = record {
 pub grew_none : (run : ℕ) (a : List Record) → Grew run a a
 grew_none run a = record { added = []; new_is = sym (append-nil a); of_run = tt }
 
-pub goes_more : {D : Type 0} (state : D → DiskState) (faults : D → ℕ) (a b c : NodeState D) → GoesOn state faults a b → GoesOn state faults b c → GoesOn state faults a c
+pub goes_more : {D : Type 0} (state : D → DiskState) (faults : D → ℕ) (a b c : NodeState D) → DiskGoesOn state faults a b → DiskGoesOn state faults b c → DiskGoesOn state faults a c
 goes_more state faults a b c p q = record {
   node = q.node ∙ p.node;
   nodes = q.nodes ∙ p.nodes;
@@ -83,7 +83,7 @@ goes_more state faults a b c p q = record {
   later = (let x = p.later in let y = q.later in omega arith);
 }
 
-pub goes_same : {D : Type 0} (state : D → DiskState) (faults : D → ℕ) (a : NodeState D) → GoesOn state faults a a
+pub goes_same : {D : Type 0} (state : D → DiskState) (faults : D → ℕ) (a : NodeState D) → DiskGoesOn state faults a a
 goes_same state faults a = record { node = refl; nodes = refl; honest = λ h. h; no_better = λ h. h; later = omega arith }
 
 -- What is reported
@@ -172,7 +172,7 @@ does_next state faults run start done op old now new so reply does =
 
 -- the node stands for what the store is
 pub keeps_now : {D : Type 0} (state : D → DiskState) (node : NodeState D) (seq : ℕ) (pairs : List Pair) (store : Store) → Serves state node seq pairs → main_store pairs ≡ store → (state node.disk).honest
-    → (c : List ℕ) → (state node.disk).images c → Keeps c store
+    → (c : List ℕ) → (state node.disk).images c → KeepsStore c store
 keeps_now state node seq pairs store serves e honest c image = record {
   records = node.records;
   seq = seq;
@@ -192,7 +192,7 @@ between_now state node seq pairs start ops done rest serves e split honest = rec
 }
 
 pub fails_next : {D : Type 0} (X : Type 0) (state : D → DiskState) (faults : D → ℕ) (run : ℕ) (start : Store) (ops done : List Op) (op : Op) (rest : List Op) (old now new : NodeState D)
-    (so : SoFar state run start done old now) (e : Stop) → ops ≡ done ++ op ∷ rest → GoesOn state faults old now → GoesOn state faults now new → DoesOn state faults run so.seq so.pairs op now (Err e) new
+    (so : SoFar state run start done old now) (e : Stop) → ops ≡ done ++ op ∷ rest → DiskGoesOn state faults old now → DiskGoesOn state faults now new → DoesOn state faults run so.seq so.pairs op now (Err e) new
     → Runs {X = X} state faults run start ops old (Err e) new
 fails_next X state faults run start ops done op rest old now new so NoMemory split before goes does =
     λ honest. between_now state new so.seq so.pairs start ops done (op ∷ rest) does so.store_is split (goes.honest (before.honest honest))
@@ -201,10 +201,10 @@ fails_next X state faults run start ops done op rest old now new so Fault split 
   λ honest. record { done = done; rest = op ∷ rest; split = split; images = λ c image. by_image c (does.1 (before.honest honest) c image) },
 )
   where
-    by_image : (c : List ℕ) → Keeps c (main_store so.pairs) ⊎ Keeps c (applied (main_store so.pairs) op).store
-        → Keeps c (store_after_ops start done) ⊎ Keeps c (store_after_ops start (done ++ op ∷ []))
-    by_image c (inl keeps) = inl (subst (Keeps c) so.store_is keeps)
-    by_image c (inr keeps) = inr (subst (Keeps c) (ap (λ (s : Store). (applied s op).store) so.store_is ∙ sym (after-append start done (op ∷ []))) keeps)
+    by_image : (c : List ℕ) → KeepsStore c (main_store so.pairs) ⊎ KeepsStore c (applied (main_store so.pairs) op).store
+        → KeepsStore c (store_after_ops start done) ⊎ KeepsStore c (store_after_ops start (done ++ op ∷ []))
+    by_image c (inl keeps) = inl (subst (KeepsStore c) so.store_is keeps)
+    by_image c (inr keeps) = inr (subst (KeepsStore c) (ap (λ (s : Store). (applied s op).store) so.store_is ∙ sym (after-append start done (op ∷ []))) keeps)
 
 -- a run that is part of a longer one
 pub between_more : (disk : DiskState) (start mid : Store) (ops all before behind : List Op) → mid ≡ store_after_ops start before → all ≡ before ++ (ops ++ behind) → IsBetween disk mid ops → IsBetween disk start all
@@ -220,16 +220,16 @@ between_more disk start mid ops all before behind mid_is split b = by_rest b.res
     by_rest : (rest : List Op) → b.rest ≡ rest → IsBetween disk start all
     by_rest [] e = record { done = before ++ b.done; rest = behind; split = whole [] e; images = λ c image. inl (by_image c (b.images c image)) }
       where
-        by_image : (c : List ℕ) → Keeps c (store_after_ops mid b.done) ⊎ Keeps c (store_after_ops mid (b.done ++ take 1 b.rest)) → Keeps c (store_after_ops start (before ++ b.done))
-        by_image c (inl keeps) = subst (Keeps c) (at b.done) keeps
-        by_image c (inr keeps) = subst (Keeps c) (ap (λ (l : List Op). store_after_ops mid (b.done ++ take 1 l)) e ∙ ap (λ (l : List Op). store_after_ops mid l) (append-nil b.done) ∙ at b.done) keeps
+        by_image : (c : List ℕ) → KeepsStore c (store_after_ops mid b.done) ⊎ KeepsStore c (store_after_ops mid (b.done ++ take 1 b.rest)) → KeepsStore c (store_after_ops start (before ++ b.done))
+        by_image c (inl keeps) = subst (KeepsStore c) (at b.done) keeps
+        by_image c (inr keeps) = subst (KeepsStore c) (ap (λ (l : List Op). store_after_ops mid (b.done ++ take 1 l)) e ∙ ap (λ (l : List Op). store_after_ops mid l) (append-nil b.done) ∙ at b.done) keeps
     by_rest (op ∷ rest) e = record { done = before ++ b.done; rest = op ∷ (rest ++ behind); split = whole (op ∷ rest) e; images = λ c image. by_image c (b.images c image) }
       where
-        by_image : (c : List ℕ) → Keeps c (store_after_ops mid b.done) ⊎ Keeps c (store_after_ops mid (b.done ++ take 1 b.rest))
-            → Keeps c (store_after_ops start (before ++ b.done)) ⊎ Keeps c (store_after_ops start ((before ++ b.done) ++ op ∷ []))
-        by_image c (inl keeps) = inl (subst (Keeps c) (at b.done) keeps)
+        by_image : (c : List ℕ) → KeepsStore c (store_after_ops mid b.done) ⊎ KeepsStore c (store_after_ops mid (b.done ++ take 1 b.rest))
+            → KeepsStore c (store_after_ops start (before ++ b.done)) ⊎ KeepsStore c (store_after_ops start ((before ++ b.done) ++ op ∷ []))
+        by_image c (inl keeps) = inl (subst (KeepsStore c) (at b.done) keeps)
         by_image c (inr keeps) =
-            inr (subst (Keeps c) (ap (λ (l : List Op). store_after_ops mid (b.done ++ take 1 l)) e ∙ at (b.done ++ op ∷ []) ∙ ap (λ (l : List Op). store_after_ops start l) (sym (append_assoc before b.done (op ∷ [])))) keeps)
+            inr (subst (KeepsStore c) (ap (λ (l : List Op). store_after_ops mid (b.done ++ take 1 l)) e ∙ at (b.done ++ op ∷ []) ∙ ap (λ (l : List Op). store_after_ops start l) (sym (append_assoc before b.done (op ∷ [])))) keeps)
 
 -- Runs of clients
 
@@ -271,7 +271,7 @@ does_client state faults run start done ops old now new so x runs =
     }
 
 pub client_fails : {D : Type 0} (X Y : Type 0) (state : D → DiskState) (faults : D → ℕ) (run : ℕ) (start : Store) (all done ops behind : List Op) (old now new : NodeState D) (so : SoFar state run start done old now)
-    (e : Stop) → all ≡ done ++ (ops ++ behind) → GoesOn state faults old now → Runs {X = X} state faults run (main_store so.pairs) ops now (Err e) new → Runs {X = Y} state faults run start all old (Err e) new
+    (e : Stop) → all ≡ done ++ (ops ++ behind) → DiskGoesOn state faults old now → Runs {X = X} state faults run (main_store so.pairs) ops now (Err e) new → Runs {X = Y} state faults run start all old (Err e) new
 client_fails X Y state faults run start all done ops behind old now new so NoMemory split before runs =
     λ honest. between_more (state new.disk) start (main_store so.pairs) ops all done behind so.store_is split (runs (before.honest honest))
 client_fails X Y state faults run start all done ops behind old now new so Fault split before runs = (
@@ -298,7 +298,7 @@ all_told store (c ∷ clients) =
 
 -- a read behind a run fails
 pub read_behind : {D : Type 0} (X : Type 0) (state : D → DiskState) (faults : D → ℕ) (run : ℕ) (start : Store) (ops : List Op) (old mid new : NodeState D) (so : SoFar state run start ops old mid) (e : Stop)
-    → GoesOn state faults old mid → GoesOn state faults mid new → Fails state faults mid e new → Runs {X = X} state faults run start ops old (Err e) new
+    → DiskGoesOn state faults old mid → DiskGoesOn state faults mid new → Fails state faults mid e new → Runs {X = X} state faults run start ops old (Err e) new
 read_behind X state faults run start ops old mid new so NoMemory before goes failed =
     λ honest. between_now state new so.seq so.pairs start ops ops [] (serves_still state mid new so.seq so.pairs so.serves failed) so.store_is (sym (append-nil ops)) (goes.honest (before.honest honest))
 read_behind X state faults run start ops old mid new so Fault before goes failed = (
@@ -307,13 +307,13 @@ read_behind X state faults run start ops old mid new so Fault before goes failed
     done = ops;
     rest = [];
     split = sym (append-nil ops);
-    images = λ c image. inl (subst (Keeps c) so.store_is (keeps_old state mid so.seq so.pairs c so.serves (failed.1 (before.honest honest) c image)));
+    images = λ c image. inl (subst (KeepsStore c) so.store_is (keeps_old state mid so.seq so.pairs c so.serves (failed.1 (before.honest honest) c image)));
   },
 )
 
 -- no memory for the report
 pub no_report : {D : Type 0} (X : Type 0) (state : D → DiskState) (faults : D → ℕ) (run : ℕ) (start : Store) (ops : List Op) (old mid new : NodeState D) (so : SoFar state run start ops old mid)
-    → GoesOn state faults old mid → GoesOn state faults mid new → Stays state mid new → Runs {X = X} state faults run start ops old (Err NoMemory) new
+    → DiskGoesOn state faults old mid → DiskGoesOn state faults mid new → Stays state mid new → Runs {X = X} state faults run start ops old (Err NoMemory) new
 no_report X state faults run start ops old mid new so before goes stays = read_behind X state faults run start ops old mid new so NoMemory before goes stays
 
 pub ends_run : {D X : Type 0} (state : D → DiskState) (faults : D → ℕ) (run : ℕ) (start : Store) (ops : List Op) (old mid new : NodeState D) (x : X) (so : SoFar state run start ops old mid)

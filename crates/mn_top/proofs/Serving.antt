@@ -22,13 +22,13 @@ use Rattle.mn_mini.specs.Mini.{has_write}
 use Rattle.mn_mini.specs.Node.{Response, answer}
 use Rattle.mn_page.specs.Base.{base_of}
 use Rattle.mn_node.specs.Node.{added_to, bodies_of}
-use Rattle.mn_node.specs.State.{NodeState, GoesOn, StandsForRecords, response_to}
+use Rattle.mn_node.specs.State.{NodeState, DiskGoesOn, StandsForRecords, response_to}
 use Rattle.mn_node.proofs.Steps.{rose_later}
 use Rattle.mn_redo.specs.Grammar.{Stands}
 use Rattle.mn_redo.specs.Redo.{StandsFor}
 use Rattle.mn_top.specs.declared.caller.Stop.{Stop}
 use Rattle.mn_top.specs.declared.caller.Stop.TheVariants.{Fault, NoMemory}
-use Rattle.mn_top.specs.Disk.{Grew, Keeps}
+use Rattle.mn_top.specs.Disk.{Grew, KeepsStore}
 use Rattle.mn_top.specs.Leaf.{is_executed, MakesLeaf}
 use Rattle.mn_top.specs.Serve.{DoesOn, Executes, Fails, IsAlone, IsAnswered, Makes, Serves, Stays, part_on, space_on}
 use Rattle.mn_top.proofs.Executing.{IsAdded, added, exec_answer, ran_part}
@@ -43,7 +43,7 @@ exec_response : {D : Type 0} (state : D → DiskState) (node : NodeState D) (tid
 exec_response state node tid part alone holds = alone_answer state node (Ask.Exec tid part) alone ∙ exec_answer (base_of 1 0) node.records tid part alone.executed holds
 
 -- a node that goes on with executed records is alone
-still_alone : {D : Type 0} (state : D → DiskState) (faults : D → ℕ) (old new : NodeState D) → IsAlone state old → GoesOn state faults old new → new.down ≡ false → list_all is_executed new.records ≡ true
+still_alone : {D : Type 0} (state : D → DiskState) (faults : D → ℕ) (old new : NodeState D) → IsAlone state old → DiskGoesOn state faults old new → new.down ≡ false → list_all is_executed new.records ≡ true
     → StandsForRecords (state new.disk) new.node new.nodes new.records → IsAlone state new
 still_alone state faults old new alone goes up executed stands = record {
   up = up;
@@ -54,7 +54,7 @@ still_alone state faults old new alone goes up executed stands = record {
       (subst (λ (n : ℕ). StandsForRecords (state new.disk) n new.nodes new.records) (goes.node ∙ alone.node_is) stands);
 }
 
-pub stays_where : {D : Type 0} (state : D → DiskState) (faults : D → ℕ) (old new : NodeState D) → IsAlone state old → GoesOn state faults old new → new.down ≡ false → new.records ≡ old.records
+pub stays_where : {D : Type 0} (state : D → DiskState) (faults : D → ℕ) (old new : NodeState D) → IsAlone state old → DiskGoesOn state faults old new → new.down ≡ false → new.records ≡ old.records
     → StandsForRecords (state new.disk) new.node new.nodes new.records → Stays state old new
 stays_where state faults old new alone goes up same stands = record {
   alone = still_alone state faults old new alone goes up (ap (λ (l : List Record). list_all is_executed l) same ∙ alone.executed) stands;
@@ -64,7 +64,7 @@ stays_where state faults old new alone goes up same stands = record {
 -- An execution whose compares hold
 
 pub exec_done : {D : Type 0} (state : D → DiskState) (faults : D → ℕ) (run : ℕ) (items : List Item) (tid : Tid) (part : List PartItem) (old new : NodeState D) (reply : NodeReply) → IsAlone state old
-    → part ≡ part_on items → tid.run ≡ run → part_mismatch_from (space_on old) 0 (part_on items) ≡ None → IsAnswered state faults old (Ask.Exec tid part) (Ok reply) new → GoesOn state faults old new
+    → part ≡ part_on items → tid.run ≡ run → part_mismatch_from (space_on old) 0 (part_on items) ≡ None → IsAnswered state faults old (Ask.Exec tid part) (Ok reply) new → DiskGoesOn state faults old new
     → (Say.Done (part_reads (space_on old) (part_on items)) ≡ reply) × Executes state faults run items old (Ok (part_reads (space_on old) (part_on items))) new
 exec_done state faults run items tid part old new reply alone part_is of_run holds answered goes =
     let response = exec_response state old tid part alone (subst (λ (p : List PartItem). part_mismatch_from (space_on old) 0 p ≡ None) (sym part_is) holds) in
@@ -76,7 +76,7 @@ exec_done state faults run items tid part old new reply alone part_is of_run hol
     )
 
 pub exec_fails : {D : Type 0} (state : D → DiskState) (faults : D → ℕ) (run : ℕ) (items : List Item) (tid : Tid) (part : List PartItem) (old new : NodeState D) (e : Stop) → IsAlone state old
-    → part ≡ part_on items → tid.run ≡ run → part_mismatch_from (space_on old) 0 (part_on items) ≡ None → IsAnswered state faults old (Ask.Exec tid part) (Err e) new → GoesOn state faults old new
+    → part ≡ part_on items → tid.run ≡ run → part_mismatch_from (space_on old) 0 (part_on items) ≡ None → IsAnswered state faults old (Ask.Exec tid part) (Err e) new → DiskGoesOn state faults old new
     → Executes state faults run items old (Err e) new
 exec_fails state faults run items tid part old new NoMemory alone part_is of_run holds answered goes = stays_where state faults old new alone goes answered.0 answered.1 answered.2
 exec_fails state faults run items tid part old new Fault alone part_is of_run holds answered goes =
@@ -115,7 +115,7 @@ read_fails state faults run items old new Fault none done = (done.0, λ honest c
 pub serves_still : {D : Type 0} (state : D → DiskState) (old new : NodeState D) (seq : ℕ) (pairs : List Pair) → Serves state old seq pairs → Stays state old new → Serves state new seq pairs
 serves_still state old new seq pairs serves stays = record { alone = stays.alone; makes = subst (λ (l : List Record). MakesLeaf l seq pairs) (sym stays.records) serves.makes }
 
-pub keeps_old : {D : Type 0} (state : D → DiskState) (node : NodeState D) (seq : ℕ) (pairs : List Pair) (c : List ℕ) → Serves state node seq pairs → Stands 0 1 c (bodies_of node.records) → Keeps c (main_store pairs)
+pub keeps_old : {D : Type 0} (state : D → DiskState) (node : NodeState D) (seq : ℕ) (pairs : List Pair) (c : List ℕ) → Serves state node seq pairs → Stands 0 1 c (bodies_of node.records) → KeepsStore c (main_store pairs)
 keeps_old state node seq pairs c serves stands = record { records = node.records; seq = seq; pairs = pairs; stands = stands; makes = serves.makes; store_is = refl }
 
 -- an operation whose read failed
@@ -126,14 +126,14 @@ fails_on state faults run seq pairs op old new Fault serves failed = (failed.0, 
 
 -- an operation that goes on behind a read
 pub does_behind : {D : Type 0} (state : D → DiskState) (faults : D → ℕ) (run seq : ℕ) (pairs : List Pair) (op : Op) (old mid new : NodeState D) (result : Result Reply Stop) → Stays state old mid
-    → GoesOn state faults old mid → DoesOn state faults run seq pairs op mid result new → DoesOn state faults run seq pairs op old result new
+    → DiskGoesOn state faults old mid → DoesOn state faults run seq pairs op mid result new → DoesOn state faults run seq pairs op old result new
 does_behind state faults run seq pairs op old mid new (Ok reply) stays goes done = (done.0, subst (λ (l : List Record). Grew run l new.records) stays.records done.1, done.2)
 does_behind state faults run seq pairs op old mid new (Err NoMemory) stays goes done = done
 does_behind state faults run seq pairs op old mid new (Err Fault) stays goes done =
     (rose_later (faults old.disk) (faults mid.disk) (faults new.disk) goes.later done.0, λ honest. done.1 (goes.honest honest))
 
 -- a read behind another
-pub fails_behind : {D : Type 0} (state : D → DiskState) (faults : D → ℕ) (old mid new : NodeState D) (e : Stop) → Stays state old mid → GoesOn state faults old mid → Fails state faults mid e new
+pub fails_behind : {D : Type 0} (state : D → DiskState) (faults : D → ℕ) (old mid new : NodeState D) (e : Stop) → Stays state old mid → DiskGoesOn state faults old mid → Fails state faults mid e new
     → Fails state faults old e new
 fails_behind state faults old mid new NoMemory stays goes failed = record { alone = failed.alone; records = failed.records ∙ stays.records }
 fails_behind state faults old mid new Fault stays goes failed = (

@@ -20,7 +20,7 @@ use Rattle.mn_page.specs.Grammar.{IsPage, page_bytes}
 use Rattle.mn_redo.specs.Grammar.{Stands}
 use Rattle.mn_top.specs.declared.caller.Stop.{Stop}
 use Rattle.mn_top.specs.declared.caller.Stop.TheVariants.{Fault, NoMemory}
-use Rattle.mn_top.specs.Disk.{Keeps}
+use Rattle.mn_top.specs.Disk.{KeepsStore}
 use Rattle.mn_top.specs.Leaf.{ArePairs, HoldsLeaf, leaf_page}
 use Rattle.mn_top.specs.Serve.{DoesOn, Executes, IsTaken, IsWritten, Makes, Serves, Stays, part_on, space_on}
 use Rattle.mn_top.specs.Served.{op_overfills}
@@ -109,7 +109,7 @@ transact_fails state faults run old mid new seq pairs op steps page leaf_seq aft
     (done.0, λ honest c image. by_image c (done.1 honest c image))
   where
     by_image : (c : List ℕ) → Stands 0 1 c (bodies_of mid.records) ⊎ ((has_write (part_on items) ≡ true) × ((records : List Record) × Stands 0 1 c (bodies_of records) × Makes records (space_after_part (space_on mid) (part_on items))))
-        → Keeps c (main_store pairs) ⊎ Keeps c (applied (main_store pairs) op).store
+        → KeepsStore c (main_store pairs) ⊎ KeepsStore c (applied (main_store pairs) op).store
     by_image c (inl stands) = inl (keeps_old state mid seq pairs c (serves_still state old mid seq pairs serves stays) stands)
     by_image c (inr more) =
         let left = plan_makes (space_on old) seq pairs op steps page leaf_seq after change written serves.makes.holds f are is_written in

@@ -1,4 +1,5 @@
--- The program's command line as clap reads it: its subcommands, their positionals, and the words that they take.
+-- The program's command line as clap reads it: its subcommands, their positionals, and the words
+-- that they take.
 use Rattle.std.specs.Prelude.{◌≡◌, ◌<◌, ◌^◌, ◌==◌, ℕ, Bool, codes, decimal, true, false, ⊤, List, [], ◌∷◌, ◌++◌, Option, Some, None}
 use Rattle.std.specs.List.{list_any}
 use Rattle.clap.specs.Words.{App, Rule, new_app, new_rule, with_rule, with_subcommand}

@@ -18,12 +18,13 @@ use Rattle.mn_top.specs.Leaf.{MakesLeaf}
 use Rattle.mn_top.specs.Report.{report_on}
 use Rattle.mn_top.specs.Served.{IsServed, ops_of}
 
--- there is a number for a further run, which is one above the greatest: 4,294,967,294 is the last one that a run may have
+-- there is a number for a further run, which is one above the greatest: 4,294,967,294 is the last
+-- one that a run may have
 abbrev pub HasNext : List Record → Type 0
 HasNext records = greatest_run records < 4294967294
 
 -- an honest disk reads as these records
-pub record Shows (disk : DiskState) (records : List Record) : Type 0 where
+pub record DiskShows (disk : DiskState) (records : List Record) : Type 0 where
   pub bodies : List (List ℕ)
   pub are : AreRecords bodies records
   pub stands : disk.honest → Stands 0 1 disk.content bodies
@@ -40,7 +41,8 @@ Begins content bodies = Stands 0 1 content bodies ⊎ ((at : ℕ) × IsDamagedBe
 abbrev pub IsDamagedFirst : List ℕ → ℕ → Type 0
 IsDamagedFirst content at = (bodies : List (List ℕ)) × IsDamagedBehind content at bodies × ((records : List Record) × AreRecords bodies records)
 
--- where the log of an honest disk is first outside its grammar: at the place of its damage, or at the gate of the first body that is no record
+-- where the log of an honest disk is first outside its grammar: at the place of its damage, or at
+-- the gate of the first body that is no record
 abbrev pub IsBadLog : DiskState → ℕ → Type 0
 IsBadLog disk at = disk.honest → IsDamagedFirst disk.content at ⊎ ((bodies : List (List ℕ)) × Begins disk.content bodies × IsFirstBad bodies at)
 
@@ -57,7 +59,7 @@ pub record Grew (run : ℕ) (old new : List Record) : Type 0 where
   pub of_run : AllByRecursion (λ r. record_run r ≡ run) added
 
 -- the bytes of a disk stand for records that make the leaf of a store of one version
-pub record Keeps (content : List ℕ) (store : Store) : Type 0 where
+pub record KeepsStore (content : List ℕ) (store : Store) : Type 0 where
   pub records : List Record
   pub seq : ℕ
   pub pairs : List Pair
@@ -70,26 +72,28 @@ pub record IsBetween (disk : DiskState) (start : Store) (ops : List Op) : Type 0
   pub done : List Op
   pub rest : List Op
   pub split : ops ≡ done ++ rest
-  pub images : (c : List ℕ) → disk.images c → Keeps c (store_after_ops start done) ⊎ Keeps c (store_after_ops start (done ++ take 1 rest))
+  pub images : (c : List ℕ) → disk.images c → KeepsStore c (store_after_ops start done) ⊎ KeepsStore c (store_after_ops start (done ++ take 1 rest))
 
--- a run that ended before its end, or didn't begin: an honest disk has what it had, or what it is between two of the operations
+-- a run that ended before its end, or didn't begin: an honest disk has what it had, or what it is
+-- between two of the operations
 pub record IsCutShort (old new : DiskState) (ops : List Op) : Type 0 where
   pub before : List Record
   pub seq : ℕ
   pub pairs : List Pair
-  pub shown : Shows old before
+  pub shown : DiskShows old before
   pub numbered : HasNext before
   pub served : IsServed before seq pairs ops
   pub honest : old.honest → new.honest
   pub between : old.honest → IsBetween new (main_store pairs) ops
 
--- A run that is done. It began with what the disk showed; the report is of the store's own replies, and an honest disk stands for the records
--- from before and those of this run, whose number is one above each there was. They make the leaf of what the store is after the operations.
-pub record IsDone (old new : DiskState) (clients : List ScriptClient) (report : List ℕ) : Type 0 where
+-- A run that is done. It began with what the disk showed; the report is of the store's own replies,
+-- and an honest disk stands for the records from before and those of this run, whose number is one
+-- above each there was. They make the leaf of what the store is after the operations.
+pub record IsRunDone (old new : DiskState) (clients : List ScriptClient) (report : List ℕ) : Type 0 where
   pub before : List Record
   pub seq : ℕ
   pub pairs : List Pair
-  pub shown : Shows old before
+  pub shown : DiskShows old before
   pub numbered : HasNext before
   pub served : IsServed before seq pairs (ops_of clients)
   pub report_is : report ≡ report_text (report_on (main_store pairs) clients)

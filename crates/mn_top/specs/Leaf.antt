@@ -1,4 +1,5 @@
--- The one leaf of `main`, the space of the one node that it stands in, and the records that make it.
+-- The one leaf of `main`, the space of the one node that it stands in, and the records that make
+-- it.
 use Rattle.std.specs.Prelude.{◌≡◌, ℕ, Bool, true, false, List, [], ◌∷◌, ◌++◌, None, IsTrue, reverse}
 use Rattle.std.specs.List.{AllByRecursion, list_all}
 use Rattle.mn_base.specs.declared.reply.Pair.{Pair}
@@ -39,7 +40,8 @@ abbrev pub is_executed : Record → Bool
 is_executed (Executed tid part) = true
 is_executed _ = false
 
--- the records, the oldest first, are executions, and the space that they make of the one node's holds these pairs in its leaf and is else as it began
+-- the records, the oldest first, are executions, and the space that they make of the one node's
+-- holds these pairs in its leaf and is else as it began
 pub record MakesLeaf (records : List Record) (seq : ℕ) (pairs : List Pair) : Type 0 where
   pub executed : IsTrue (list_all is_executed records)
   pub holds : HoldsLeaf (space_of (base_of 1 0) (reverse records)) seq pairs

@@ -13,7 +13,7 @@ use Rattle.mn_top.specs.declared.due.DamageRule.{DamageRule}
 use Rattle.mn_top.specs.declared.due.DamageRule.TheVariants.{Log, Runs}
 use Rattle.mn_top.specs.declared.due.Due.{Due}
 use Rattle.mn_top.specs.declared.due.Due.TheVariants.{Report, Usage, Refused, ReadFault, DiskFault, Damaged, NoMemory, Disks, Unbuilt}
-use Rattle.mn_top.specs.Disk.{Shows, IsBadLog, IsUnwritten, IsCutShort, IsDone, HasNext}
+use Rattle.mn_top.specs.Disk.{DiskShows, IsBadLog, IsUnwritten, IsCutShort, IsRunDone, HasNext}
 use Rattle.mn_top.specs.Served.{IsUnservedDisk, is_unserved, ops_of}
 use Rattle.mn_top.specs.Words.{Asked, Asks, AskNothing, AskReplay, is_there}
 
@@ -55,7 +55,8 @@ abbrev pub IsLine : Due → Type 0
 IsLine (Report report) = ⊥
 IsLine _ = Unit {0}
 
--- what is due was written and its status answered; or the sink failed behind a prefix of it, and the status is 4
+-- what is due was written and its status answered; or the sink failed behind a prefix of it, and
+-- the status is 4
 abbrev pub Finishes : Due → ℕ → Option (List ℕ) → Option (List ℕ) → Type 0 → Type 0
 Finishes due status old new rose =
     ((status ≡ status_of due) × Appends old new (text_of due)) ⊎ ((status ≡ 4) × rose × ((n : ℕ) × Appends old new (take n (text_of due))))
@@ -66,8 +67,8 @@ Finishes due status old new rose =
 abbrev pub IsTextOf : Option (List ℕ) → Script → Type 0
 IsTextOf known script = IfSome known (λ text. script_of text ≡ Ok script)
 
--- What may be due before a disk is touched, by the words, the text that the source holds where that is known, whether the source failed, and how
--- many disks were given
+-- What may be due before a disk is touched, by the words, the text that the source holds where that
+-- is known, whether the source failed, and how many disks were given
 abbrev pub IsDueBefore : List (List ℕ) → Option (List ℕ) → Type 0 → ℕ → Due → Type 0
 IsDueBefore words known failed given Usage = AskNothing words
 IsDueBefore words known failed given ReadFault = AskReplay words given × failed
@@ -80,24 +81,26 @@ IsDueBefore words known failed given Unbuilt =
 IsDueBefore words known failed given NoMemory = Unit {0}
 IsDueBefore words known failed given due = ⊥
 
--- the words ask to replay a script of one node, the source holds it and no more, and it is served, as far as that isn't a matter of the disk
+-- the words ask to replay a script of one node, the source holds it and no more, and it is served,
+-- as far as that isn't a matter of the disk
 pub record IsCalled (words : List (List ℕ)) (known : Option (List ℕ)) (ended : Type 0) (script : Script) : Type 0 where
   pub asked : AskReplay words 1
   pub spelled : IsTextOf known script
   pub served : IfSome known (λ text. is_unserved text script ≡ false)
   pub whole : ended
 
--- the log of the disk can't be taken further: its greatest run is the last but one that a number has, or the last
+-- the log of the disk can't be taken further: its greatest run is the last but one that a number
+-- has, or the last
 pub record HasLastRun (old new : DiskState) : Type 0 where
   pub records : List Record
-  pub shown : Shows old records
+  pub shown : DiskShows old records
   pub last : HasNext records → ⊥
   pub unwritten : IsUnwritten old new
 
 -- the operations aren't served on what the disk shows
 pub record IsRefusedBy (old new : DiskState) (clients : List ScriptClient) : Type 0 where
   pub records : List Record
-  pub shown : Shows old records
+  pub shown : DiskShows old records
   pub numbered : HasNext records
   pub unserved : IsUnservedDisk records (ops_of clients)
   pub unwritten : IsUnwritten old new
@@ -113,7 +116,7 @@ LeavesSome old new clients = IsUnwritten old new ⊎ IsCutShort old new (ops_of 
 
 -- what a run of clients on a disk comes to, and what it leaves on it
 abbrev pub ComesTo : {D : Type 0} → (D → DiskState) → (D → ℕ) → List ScriptClient → D → Due → D → Type 0
-ComesTo state faults clients old (Report report) new = IsDone (state old) (state new) clients report
+ComesTo state faults clients old (Report report) new = IsRunDone (state old) (state new) clients report
 ComesTo state faults clients old (DiskFault node) new = (node ≡ 0) × Rose (faults old) (faults new) × LeavesSome (state old) (state new) clients
 ComesTo state faults clients old (Damaged node place Log) new = (node ≡ 0) × IsDamagedBy (state old) (state new) place
 ComesTo state faults clients old (Damaged node place Runs) new = (node ≡ 0) × (place ≡ 0) × HasLastRun (state old) (state new)
@@ -131,6 +134,7 @@ pub record Meets {D : Type 0} (state : D → DiskState) (faults : D → ℕ) (wo
   pub new_is : new ≡ after ∷ []
   pub so : ComesTo state faults script.clients disk due after
 
--- What may be due: without the disks, which are then handed back as they were; or of a run on the one disk
+-- What may be due: without the disks, which are then handed back as they were; or of a run on the
+-- one disk
 abbrev pub IsDue : {D : Type 0} → (D → DiskState) → (D → ℕ) → List (List ℕ) → Option (List ℕ) → Type 0 → Type 0 → List D → List D → Due → Type 0
 IsDue state faults words known failed ended old new due = (IsDueBefore words known failed (length old) due × (new ≡ old)) ⊎ Meets state faults words known ended old new due

@@ -41,7 +41,8 @@ version_told store v =
 abbrev pub versions_told : Store → List VersionLine
 versions_told store = map (version_told store) store
 
--- the report on the clients' operations, which are the whole history, from this store on, and on the store after them
+-- the report on the clients' operations, which are the whole history, from this store on, and on
+-- the store after them
 abbrev pub report_on : Store → List ScriptClient → Report
 report_on start clients =
     record {

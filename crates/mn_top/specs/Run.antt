@@ -25,14 +25,16 @@ AreTaken store (op ∷ ops) = (is_of_versions op ≡ false) × (op_overfills sto
 abbrev pub HasFewOps : ScriptClient → Type 0
 HasFewOps client = length client.ops < 2 ^ 32
 
--- what a run of operations left: the node serves what the store is after them; or where it ended early, an honest disk stands for it between two
+-- what a run of operations left: the node serves what the store is after them; or where it ended
+-- early, an honest disk stands for it between two
 abbrev pub Runs : {D X : Type 0} → (D → DiskState) → (D → ℕ) → ℕ → Store → List Op → NodeState D → Result X Stop → NodeState D → Type 0
 Runs state faults run start ops old (Ok x) new =
     Grew run old.records new.records × ((seq : ℕ) × (pairs : List Pair) × Serves state new seq pairs × (main_store pairs ≡ store_after_ops start ops))
 Runs state faults run start ops old (Err NoMemory) new = (state old.disk).honest → IsBetween (state new.disk) start ops
 Runs state faults run start ops old (Err Fault) new = Rose (faults old.disk) (faults new.disk) × ((state old.disk).honest → IsBetween (state new.disk) start ops)
 
--- what a run of clients left: the report on it, and a node that serves what the store is after it; or what a run that ended early left
+-- what a run of clients left: the report on it, and a node that serves what the store is after it;
+-- or what a run that ended early left
 abbrev pub Reports : {D : Type 0} → (D → DiskState) → (D → ℕ) → ℕ → Store → List ScriptClient → NodeState D → Result (List ℕ) Stop → NodeState D → Type 0
 Reports state faults run start clients old (Ok text) new =
     Runs state faults run start (ops_of clients) old (Ok text) new × (text ≡ report_text (report_on start clients))

@@ -27,7 +27,7 @@ use Rattle.mn_page.specs.Forest.{main_entry}
 use Rattle.mn_page.specs.Grammar.{entry_bytes, page_bytes}
 use Rattle.mn_redo.specs.Grammar.{Stands}
 use Rattle.mn_redo.specs.Redo.{StandsFor}
-use Rattle.mn_top.specs.Disk.{Grew, Keeps}
+use Rattle.mn_top.specs.Disk.{Grew, KeepsStore}
 use Rattle.mn_top.specs.Leaf.{MakesLeaf, is_executed, leaf_page}
 use Rattle.mn_top.specs.Served.{is_of_versions, op_overfills}
 use Rattle.mn_top.specs.declared.caller.Caller.{Caller}
@@ -63,7 +63,8 @@ IsWritten old seq pairs (Some new) = (new ≡ page_bytes (leaf_page (seq + 1) pa
 abbrev pub space_on : {D : Type 0} → NodeState D → List ℕ
 space_on node = space_of (base_of 1 0) (reverse node.records)
 
--- node 0 of one, which is up and has executed alone; where its disk is honest, each image of it stands for its records
+-- node 0 of one, which is up and has executed alone; where its disk is honest, each image of it
+-- stands for its records
 pub record IsAlone {D : Type 0} (state : D → DiskState) (node : NodeState D) : Type 0 where
   pub up : node.down ≡ false
   pub node_is : node.node ≡ 0
@@ -79,7 +80,8 @@ pub record Serves {D : Type 0} (state : D → DiskState) (node : NodeState D) (s
 abbrev pub SameCaller : Caller → Caller → Type 0
 SameCaller old new = (new.run ≡ old.run) × (new.client ≡ old.client)
 
--- what a request is answered by a node that is up: its answer, or the want of memory, or the fault of its disk
+-- what a request is answered by a node that is up: its answer, or the want of memory, or the fault
+-- of its disk
 abbrev pub IsAnswered : {D : Type 0} → (D → DiskState) → (D → ℕ) → NodeState D → Request → Result NodeReply Stop → NodeState D → Type 0
 IsAnswered state faults old request (Ok reply) new =
     (new.down ≡ false) × ((response_to old request).reply ≡ reply) × (new.records ≡ added_to old.records (response_to old request).added) × StandsForRecords (state new.disk) new.node new.nodes new.records
@@ -113,7 +115,8 @@ pub record Makes (records : List Record) (space : List ℕ) : Type 0 where
   pub executed : list_all is_executed records ≡ true
   pub space_is : space_of (base_of 1 0) (reverse records) ≡ space
 
--- what a minitransaction whose compares hold did: it read, and its writes are made by one more record of this run, or by none where there are none
+-- what a minitransaction whose compares hold did: it read, and its writes are made by one more
+-- record of this run, or by none where there are none
 abbrev pub Executes : {D : Type 0} → (D → DiskState) → (D → ℕ) → ℕ → List Item → NodeState D → Result (List (List ℕ)) Stop → NodeState D → Type 0
 Executes state faults run items old (Ok reads) new =
     (reads ≡ part_reads (space_on old) (part_on items)) × IsAlone state new × (space_on new ≡ space_after_part (space_on old) (part_on items)) × Grew run old.records new.records
@@ -150,8 +153,9 @@ pub record IsTaken (pairs : List Pair) (op : Op) : Type 0 where
   pub plain : is_of_versions op ≡ false
   pub room : op_overfills (main_store pairs) op ≡ false
 
--- what an operation does to a node that serves these pairs, by its end: the reply is the store's, and the node serves what the store has then;
--- for want of memory it serves what it served; and where the disk failed, each image of an honest one keeps the store from before or behind it
+-- what an operation does to a node that serves these pairs, by its end: the reply is the store's,
+-- and the node serves what the store has then; for want of memory it serves what it served; and
+-- where the disk failed, each image of an honest one keeps the store from before or behind it
 abbrev pub DoesOn : {D : Type 0} → (D → DiskState) → (D → ℕ) → ℕ → ℕ → List Pair → Op → NodeState D → Result Reply Stop → NodeState D → Type 0
 DoesOn state faults run seq pairs op old (Ok reply) new =
     (reply ≡ (applied (main_store pairs) op).reply) × Grew run old.records new.records
@@ -159,4 +163,4 @@ DoesOn state faults run seq pairs op old (Ok reply) new =
 DoesOn state faults run seq pairs op old (Err NoMemory) new = Serves state new seq pairs
 DoesOn state faults run seq pairs op old (Err Fault) new =
     Rose (faults old.disk) (faults new.disk)
-    × ((state old.disk).honest → (c : List ℕ) → (state new.disk).images c → Keeps c (main_store pairs) ⊎ Keeps c (applied (main_store pairs) op).store)
+    × ((state old.disk).honest → (c : List ℕ) → (state new.disk).images c → KeepsStore c (main_store pairs) ⊎ KeepsStore c (applied (main_store pairs) op).store)

@@ -33,7 +33,8 @@ is_some_list (x ∷ xs) = true
 abbrev pub has_schedule : List ℕ → Bool
 has_schedule text = list_any (λ line. bytes_eq line (codes "schedule")) (lines_of text)
 
--- it has several nodes, a recovery coordinator, a crash point, the line `schedule`, or an operation on versions
+-- it has several nodes, a recovery coordinator, a crash point, the line `schedule`, or an operation
+-- on versions
 abbrev pub is_unserved : List ℕ → Script → Bool
 is_unserved text s = nat_lt 1 s.nodes || nat_lt 0 s.recoverers || is_some_list s.points || has_schedule text || list_any is_of_versions (ops_of s.clients)
 
@@ -46,7 +47,8 @@ overfills pairs (step ∷ steps) =
     if is_unmet pairs step then false
     else nat_lt 8 (length (pairs_after_step pairs step)) || overfills (pairs_after_step pairs step) steps
 
--- what a step made of a store of these pairs: a check isn't met; there are more than eight pairs; or else it was done
+-- what a step made of a store of these pairs: a check isn't met; there are more than eight pairs;
+-- or else it was done
 abbrev pub Took : List Pair → Step → Room → Store → Type 0
 Took pairs step Unmet new = is_unmet pairs step ≡ true
 Took pairs step Full new = (is_unmet pairs step ≡ false) × (nat_lt 8 (length (pairs_after_step pairs step)) ≡ true)
@@ -67,12 +69,14 @@ ops_overfill store (op ∷ ops) = op_overfills store op || ops_overfill (applied
 abbrev pub most_writes : ℕ
 most_writes = 2 ^ 63
 
--- the records of a disk on which these operations are served: they make a leaf with these pairs that has room for what they do
+-- the records of a disk on which these operations are served: they make a leaf with these pairs
+-- that has room for what they do
 pub record IsServed (records : List Record) (seq : ℕ) (pairs : List Pair) (ops : List Op) : Type 0 where
   pub makes : MakesLeaf records seq pairs
   pub fresh : seq < most_writes
   pub room : ops_overfill (main_store pairs) ops ≡ false
 
--- a disk on which they aren't: a record is no execution, or the records make no such leaf, or the operations bring a ninth pair into it
+-- a disk on which they aren't: a record is no execution, or the records make no such leaf, or the
+-- operations bring a ninth pair into it
 abbrev pub IsUnservedDisk : List Record → List Op → Type 0
 IsUnservedDisk records ops = (seq : ℕ) (pairs : List Pair) → IsServed records seq pairs ops → ⊥

@@ -55,7 +55,8 @@ pub struct Caller {
 }
 
 impl Caller {
-    /// The id of its next minitransaction. Serials that have run out are answered like want of memory.
+    /// The id of its next minitransaction. Serials that have run out are answered like want of
+    /// memory.
     pub fn next_tid(&mut self) -> Result<Tid, OutOfMemory>
         requires run { 1 ≤ self.old.run }
         requires client { self.old.client ≤ 20 }

@@ -94,7 +94,8 @@ fn has_option(words: &[String]) -> bool
     false
 }
 
-/// The parts of the words: nothing exactly where they aren't a subcommand's. Options are refused before clap reads them: it would take `--`.
+/// The parts of the words: nothing exactly where they aren't a subcommand's. Options are refused
+/// before clap reads them: it would take `--`.
 fn split<'a>(alloc: Global, words: &'a [String]) -> Result<Option<Parts<'a>>, AllocError>
     ensures { IfOk result (λ r. MatchOption r
         ((command : Command) (nodes : Text) (number folder : Option Text) → AllPlain (map string_bytes words.entry.now) → Split (map string_bytes words.entry.now) command nodes number folder → ⊥)

@@ -38,8 +38,8 @@ fn bad_log(place: u64) -> Due
     }
 }
 
-/// What is due where a log wasn't opened. Of a damaged one it is the lower place: that of the damage, or that of the first body in front of it
-/// that is no record.
+/// What is due where a log wasn't opened. Of a damaged one it is the lower place: that of the
+/// damage, or that of the first body in front of it that is no record.
 pub fn due_of_open<D: Disk>(alloc: Global, disk: &mut D, cause: OpenCause) -> Due
     ensures { (old : D) (clients : List ScriptClient) → WasntOpened D.state D.faults old cause disk.old → ComesTo D.state D.faults clients old result disk.new }
 {

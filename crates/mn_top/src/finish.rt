@@ -111,7 +111,8 @@ fn write<W: Sink>(sink: &mut W, text: &[u8], status: u8) -> u8
     }
 }
 
-/// Writes what is due and answers its status, or 4 after a fault of the sink. Where there is no memory for a line, that is told.
+/// Writes what is due and answers its status, or 4 after a fault of the sink. Where there is no
+/// memory for a line, that is told.
 pub fn finish<W: Sink>(alloc: Global, sink: &mut W, due: &Due) -> u8
     ensures { Finishes due.now result (W.contents sink.old) (W.contents sink.new) (Rose (W.faults sink.old) (W.faults sink.new))
         ⊎ (IsLine due.now × Finishes dues.NoMemory result (W.contents sink.old) (W.contents sink.new) (Rose (W.faults sink.old) (W.faults sink.new))) }

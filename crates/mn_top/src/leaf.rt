@@ -60,7 +60,8 @@ fn is_plain(page: &Page) -> bool
     page.made.0 == 0 && page.copied == 0 && page.low.as_slice().is_empty() && page.high.is_none()
 }
 
-/// The leaf that a page is, if it is one with open fences that was made in version 0 and copied for none.
+/// The leaf that a page is, if it is one with open fences that was made in version 0 and copied for
+/// none.
 fn plain_leaf(page: Page) -> Option<Leaf>
     ensures { MatchOption result ((seq : ℕ) (pairs : List Pair) → page ≡ leaf_page seq pairs → ⊥) (λ leaf. page ≡ leaf_page leaf.seq leaf.pairs.items) }
 {

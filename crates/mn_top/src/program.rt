@@ -4,7 +4,7 @@ ghost use Rattle.std.specs.List.{AllByRecursion, list_any};
 ghost use Rattle.mn_base.specs.declared.reply.Pair.{Pair};
 ghost use Rattle.mn_base.specs.Store.{main_store};
 ghost use Rattle.mn_io.specs.Faults.{Rose};
-ghost use Rattle.mn_node.specs.State.{GoesOn};
+ghost use Rattle.mn_node.specs.State.{DiskGoesOn};
 ghost use Rattle.mn_redo.specs.declared.redo.Phase.TheVariants.{Closing};
 ghost use Rattle.mn_script.specs.declared.elements.ScriptClient.{ScriptClient};
 ghost use Rattle.mn_script.specs.Reading.{script_of as read_as};
@@ -53,7 +53,7 @@ fn report_on<D: Disk>(
     requires few { length clients.now ≤ 16 }
     requires ops { AllByRecursion HasFewOps clients.now }
     ensures reports { (seq : ℕ) (pairs : List Pair) → Serves D.state node.old seq pairs → AreTaken (main_store pairs) (ops_of clients.now) → Reports D.state D.faults run (main_store pairs) clients.now node.old result node.new }
-    ensures goes_on { GoesOn D.state D.faults node.old node.new }
+    ensures goes_on { DiskGoesOn D.state D.faults node.old node.new }
 {
     let mut told = Told::new(alloc);
     run_clients(alloc, node, &mut told, run, clients)?;
@@ -202,7 +202,8 @@ fn script_of(alloc: Global, text: &[u8], given: usize) -> Result<Script, Due>
     Ok(script)
 }
 
-/// Reads the script that the words ask for, for so many disks, or tells what is due before a disk is touched.
+/// Reads the script that the words ask for, for so many disks, or tells what is due before a disk
+/// is touched.
 fn called<R: Source>(
     alloc: Global,
     words: &Words,
@@ -232,8 +233,8 @@ fn called<R: Source>(
     script_of(alloc, text.as_slice(), given)
 }
 
-/// Runs the program: reads the words and the script, opens the disk, does what the clients do, and writes the report, or one line that says why
-/// there is none.
+/// Runs the program: reads the words and the script, opens the disk, does what the clients do, and
+/// writes the report, or one line that says why there is none.
 ///
 /// | Status | Written | Comes only where |
 /// |---|---|---|
@@ -248,8 +249,8 @@ fn called<R: Source>(
 /// | 8 | `disks GIVEN WANTED` | there are more or fewer disks than the words ask for, or than the script has nodes |
 /// | 9 | `unbuilt` | the words, the script or what is on the disk ask for what isn't served yet |
 ///
-/// At 0 to 4, 8 and 9 nothing is written to a disk but by a script that is run; at 5 and 7 an honest disk has what it had, or stands for the store
-/// between two of the operations.
+/// At 0 to 4, 8 and 9 nothing is written to a disk but by a script that is run; at 5 and 7 an
+/// honest disk has what it had, or stands for the store between two of the operations.
 pub fn run_program<T: Threads + Wait + Sync, R: Source, W: Sink, D: Disk + Send, G: Gate + Sync>(
     _rt: &T,
     alloc: Global,
@@ -259,7 +260,8 @@ pub fn run_program<T: Threads + Wait + Sync, R: Source, W: Sink, D: Disk + Send,
     disks: Vec<D>,
     _gate: &G,
 ) -> Outcome<D>
-    // Something was due, by the words, the text, the ends and the disks; it was written and its status answered, or the sink failed behind a prefix.
+    // Something was due, by the words, the text, the ends and the disks; it was written and its
+    // status answered, or the sink failed behind a prefix.
     ensures { (due : Due)
         × IsDue D.state D.faults words.now (R.remaining source.old) (Rose (R.faults source.old) (R.faults source.new)) (IsAtEnd (R.remaining source.new)) disks.items result.disks.items due
         × Finishes due result.status (W.contents sink.old) (W.contents sink.new) (Rose (W.faults sink.old) (W.faults sink.new)) }

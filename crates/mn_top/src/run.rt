@@ -3,7 +3,7 @@ ghost use Rattle.std.specs.List.{AllByRecursion};
 ghost use Rattle.mn_base.specs.declared.reply.Pair.{Pair};
 ghost use Rattle.mn_base.specs.History.{store_after_ops};
 ghost use Rattle.mn_base.specs.Store.{main_store};
-ghost use Rattle.mn_node.specs.State.{GoesOn};
+ghost use Rattle.mn_node.specs.State.{DiskGoesOn};
 ghost use Rattle.mn_top.specs.Report.{answers_from, answers_of, history_of, ranks_from};
 ghost use Rattle.mn_top.specs.Run.{AreTaken, HasFewOps, Runs};
 ghost use Rattle.mn_top.specs.Serve.{Serves};
@@ -33,7 +33,7 @@ fn run_client<D: Disk>(
     ensures answers { IfOk result (λ done. (seq : ℕ) (pairs : List Pair) → Serves D.state node.old seq pairs → AreTaken (main_store pairs) client.now.ops
         → told.new.answers.items ≡ told.old.answers.items ++ answers_from client.now.name 1 (main_store pairs) client.now.ops) }
     ensures ranks { IfOk result (λ done. told.new.ranks.items ≡ told.old.ranks.items ++ ranks_from client.now.name 1 client.now.ops) }
-    ensures goes_on { GoesOn D.state D.faults node.old node.new }
+    ensures goes_on { DiskGoesOn D.state D.faults node.old node.new }
 {
     let mut caller = caller;
     for (at, op) in client.ops.as_slice().iter().enumerate() {
@@ -59,7 +59,7 @@ pub fn run_clients<D: Disk>(
     ensures answers { IfOk result (λ done. (seq : ℕ) (pairs : List Pair) → Serves D.state node.old seq pairs → AreTaken (main_store pairs) (ops_of clients.now)
         → told.new.answers.items ≡ told.old.answers.items ++ answers_of (main_store pairs) clients.now) }
     ensures ranks { IfOk result (λ done. told.new.ranks.items ≡ told.old.ranks.items ++ history_of clients.now) }
-    ensures goes_on { GoesOn D.state D.faults node.old node.new }
+    ensures goes_on { DiskGoesOn D.state D.faults node.old node.new }
 {
     for (at, client) in clients.iter().enumerate() {
         let caller = Caller {

@@ -6,7 +6,7 @@ ghost use Rattle.mn_mini.specs.Flat.{bytes_in, part_mismatch_from};
 ghost use Rattle.mn_mini.specs.Mini.{IsInSpace, IsSound};
 ghost use Rattle.mn_mini.specs.RecordGrammar.{IsPart};
 ghost use Rattle.mn_mini.specs.Sound.{IsSoundRequest};
-ghost use Rattle.mn_node.specs.State.{GoesOn};
+ghost use Rattle.mn_node.specs.State.{DiskGoesOn};
 ghost use Rattle.mn_page.specs.Grammar.{IsPage, page_bytes};
 ghost use Rattle.mn_top.specs.Leaf.{ArePairs, leaf_page};
 ghost use Rattle.mn_top.specs.Serve.{AsksCatalog, DoesOn, Executes, IsAlone, IsAnswered, IsGet, IsOneGet, IsRead, IsTaken, IsWritten, SameCaller, Serves, Tells, compare_items, is_put, leaf_written, on_one_node, part_on, space_on};
@@ -34,7 +34,7 @@ fn ask<D: Disk>(alloc: Global, node: &mut Node<D>, request: &Request) -> Result<
     requires up { node.old.down ≡ false }
     requires sound { IsSoundRequest request.now }
     ensures answered { IsAnswered D.state D.faults node.old request.now result node.new }
-    ensures goes_on { GoesOn D.state D.faults node.old node.new }
+    ensures goes_on { DiskGoesOn D.state D.faults node.old node.new }
 {
     match node.handle(alloc, request, None) {
         NodeReply::NoMemory => Err(Stop::NoMemory),
@@ -71,7 +71,7 @@ fn execute<D: Disk>(
     requires part { IsPart (part_on items.items) }
     requires holds { part_mismatch_from (space_on node.old) 0 (part_on items.items) ≡ None }
     ensures done { Executes D.state D.faults caller.old.run items.items node.old result node.new }
-    ensures goes_on { GoesOn D.state D.faults node.old node.new }
+    ensures goes_on { DiskGoesOn D.state D.faults node.old node.new }
     ensures caller { SameCaller caller.old caller.new }
     ensures catalog { caller.new.knows_catalog ≡ caller.old.knows_catalog }
 {
@@ -99,7 +99,7 @@ fn read<D: Disk>(
     requires client { caller.old.client ≤ 20 }
     requires inside { IsInSpace start length }
     ensures told { Tells D.state D.faults node.old (bytes_in (space_on node.old) start length) result node.new }
-    ensures goes_on { GoesOn D.state D.faults node.old node.new }
+    ensures goes_on { DiskGoesOn D.state D.faults node.old node.new }
     ensures caller { SameCaller caller.old caller.new }
 {
     let items = vec![in alloc;
@@ -120,7 +120,7 @@ fn read<D: Disk>(
 fn peek_leaf<D: Disk>(alloc: Global, node: &mut Node<D>) -> Result<Bytes, Stop>
     requires alone { IsAlone D.state node.old }
     ensures told { Tells D.state D.faults node.old (bytes_in (space_on node.old) 20480 1024) result node.new }
-    ensures goes_on { GoesOn D.state D.faults node.old node.new }
+    ensures goes_on { DiskGoesOn D.state D.faults node.old node.new }
 {
     let request = Request::Peek {
         start: LEAF_START,
@@ -157,7 +157,7 @@ fn know_catalog<D: Disk>(alloc: Global, node: &mut Node<D>, caller: &mut Caller)
     requires run { 1 ≤ caller.old.run }
     requires client { caller.old.client ≤ 20 }
     ensures stays { IsRead D.state D.faults node.old result node.new }
-    ensures goes_on { GoesOn D.state D.faults node.old node.new }
+    ensures goes_on { DiskGoesOn D.state D.faults node.old node.new }
     ensures caller { SameCaller caller.old caller.new }
 {
     if caller.knows_catalog {
@@ -168,7 +168,8 @@ fn know_catalog<D: Disk>(alloc: Global, node: &mut Node<D>, caller: &mut Caller)
     Ok(())
 }
 
-/// Replies to an operation by the catalog alone: a listing, or a transaction on a version that there is not.
+/// Replies to an operation by the catalog alone: a listing, or a transaction on a version that
+/// there is not.
 fn look<D: Disk>(
     alloc: Global,
     node: &mut Node<D>,
@@ -180,7 +181,7 @@ fn look<D: Disk>(
     requires client { caller.old.client ≤ 20 }
     requires catalog { AsksCatalog op.now }
     ensures done { (seq : ℕ) (pairs : List Pair) → Serves D.state node.old seq pairs → DoesOn D.state D.faults caller.old.run seq pairs op.now node.old result node.new }
-    ensures goes_on { GoesOn D.state D.faults node.old node.new }
+    ensures goes_on { DiskGoesOn D.state D.faults node.old node.new }
     ensures caller { SameCaller caller.old caller.new }
 {
     read(alloc, node, caller, CATALOG_START, CATALOG)?;
@@ -201,7 +202,7 @@ fn get<D: Disk>(
     requires client { caller.old.client ≤ 20 }
     requires get { IsGet op.now }
     ensures done { (seq : ℕ) (pairs : List Pair) → Serves D.state node.old seq pairs → DoesOn D.state D.faults caller.old.run seq pairs op.now node.old result node.new }
-    ensures goes_on { GoesOn D.state D.faults node.old node.new }
+    ensures goes_on { DiskGoesOn D.state D.faults node.old node.new }
     ensures caller { SameCaller caller.old caller.new }
 {
     let page = read(alloc, node, caller, LEAF_START, SLOT as u32)?;
@@ -266,7 +267,8 @@ fn written(
     Ok(Some(leaf_bytes(alloc, next, pairs)?))
 }
 
-/// The compares of a transaction: the leaf as it was read, and the entry of `main` where something may change.
+/// The compares of a transaction: the leaf as it was read, and the entry of `main` where something
+/// may change.
 fn compares(alloc: Global, old: Bytes, change: bool) -> Result<Vec<Item>, NoMemory>
     ensures { IfOk result (λ items. items.items ≡ compare_items old change) }
 {
@@ -308,8 +310,8 @@ fn plan(
     Ok(items)
 }
 
-/// Does a transaction on `main`: it runs on the pairs of the leaf as it stands, and one minitransaction compares what was read and writes what is
-/// changed.
+/// Does a transaction on `main`: it runs on the pairs of the leaf as it stands, and one
+/// minitransaction compares what was read and writes what is changed.
 fn transact<D: Disk>(
     alloc: Global,
     node: &mut Node<D>,
@@ -322,7 +324,7 @@ fn transact<D: Disk>(
     requires client { caller.old.client ≤ 20 }
     requires on_main { op.now ≡ Op.Tx main_name steps.now }
     ensures done { (seq : ℕ) (pairs : List Pair) → Serves D.state node.old seq pairs → IsTaken pairs op.now → DoesOn D.state D.faults caller.old.run seq pairs op.now node.old result node.new }
-    ensures goes_on { GoesOn D.state D.faults node.old node.new }
+    ensures goes_on { DiskGoesOn D.state D.faults node.old node.new }
     ensures caller { SameCaller caller.old caller.new }
 {
     let page = peek_leaf(alloc, node)?;
@@ -352,7 +354,8 @@ fn is_get(steps: &[Step]) -> bool
     }
 }
 
-/// Does an operation of a client on the one leaf, in as many minitransactions as it needs, and gives the store's reply to it.
+/// Does an operation of a client on the one leaf, in as many minitransactions as it needs, and
+/// gives the store's reply to it.
 pub fn step<D: Disk>(
     alloc: Global,
     node: &mut Node<D>,
@@ -363,7 +366,7 @@ pub fn step<D: Disk>(
     requires run { 1 ≤ caller.old.run }
     requires client { caller.old.client ≤ 20 }
     ensures done { (seq : ℕ) (pairs : List Pair) → Serves D.state node.old seq pairs → IsTaken pairs op.now → DoesOn D.state D.faults caller.old.run seq pairs op.now node.old result node.new }
-    ensures goes_on { GoesOn D.state D.faults node.old node.new }
+    ensures goes_on { DiskGoesOn D.state D.faults node.old node.new }
     ensures caller { SameCaller caller.old caller.new }
 {
     let Op::Tx { version, steps } = op else {
@@ -385,7 +388,7 @@ pub fn pairs_on<D: Disk>(alloc: Global, node: &mut Node<D>) -> Result<Vec<Pair>,
     requires serves { (seq : ℕ) × (pairs : List Pair) × Serves D.state node.old seq pairs }
     ensures stays { IsRead D.state D.faults node.old result node.new }
     ensures pairs { IfOk result (λ found. (seq : ℕ) (pairs : List Pair) → Serves D.state node.old seq pairs → found.items ≡ pairs) }
-    ensures goes_on { GoesOn D.state D.faults node.old node.new }
+    ensures goes_on { DiskGoesOn D.state D.faults node.old node.new }
 {
     let page = peek_leaf(alloc, node)?;
     Ok(leaf_of(alloc, page.as_slice())?.pairs)

@@ -61,8 +61,8 @@ fn has_schedule_line(text: &[u8]) -> bool
     false
 }
 
-/// Whether the script, which this text spells, asks for what isn't served yet: several nodes, recovery coordinators, crash points, a schedule, or
-/// operations on versions.
+/// Whether the script, which this text spells, asks for what isn't served yet: several nodes,
+/// recovery coordinators, crash points, a schedule, or operations on versions.
 pub fn is_unserved_script(text: &[u8], script: &Script) -> bool
     ensures { result ≡ is_unserved text.now script.now }
 {
@@ -151,7 +151,8 @@ fn op_is_too_much(alloc: Global, store: &Store, op: &Op) -> Result<bool, NoMemor
     tx_overfills(alloc, store.pairs(VersionNo(0)), steps.as_slice())
 }
 
-/// Whether some step of the operations, done one after the other, brings a ninth pair into a copy of `main`. If not, they are done.
+/// Whether some step of the operations, done one after the other, brings a ninth pair into a copy
+/// of `main`. If not, they are done.
 fn ops_are_too_much(alloc: Global, store: &mut Store, ops: &[Op]) -> Result<bool, NoMemory>
     requires main { (pairs : List Pair) × (store.old ≡ main_store pairs) }
     requires plain { list_any is_of_versions ops.now ≡ false }
@@ -167,7 +168,8 @@ fn ops_are_too_much(alloc: Global, store: &mut Store, ops: &[Op]) -> Result<bool
     Ok(false)
 }
 
-/// Whether some step of the clients' operations, done client after client from these pairs of `main` on, brings a ninth pair into a copy of it.
+/// Whether some step of the clients' operations, done client after client from these pairs of
+/// `main` on, brings a ninth pair into a copy of it.
 pub fn clients_overfill(
     alloc: Global,
     pairs: Pairs,

@@ -1,4 +1,5 @@
--- Trees that the steps of a transaction change: single changes of pages first, then changes up a path, then steps, then slots.
+-- Trees that the steps of a transaction change: single changes of pages first, then changes up a
+-- path, then steps, then slots.
 pub mod Puts
 pub mod Twins
 pub mod Ranges

@@ -12,7 +12,7 @@ use Rattle.mn_page.specs.Forest.{ranges_from, children_of, body_children}
 use Rattle.mn_page.specs.Holds.{page_covers}
 use Rattle.mn_page.specs.Overlay.{Held, held_at, child_for}
 use Rattle.mn_tree.specs.Walk.{held, goes_on, Walk, Missing, Wrong, walk_down}
-use Rattle.mn_tree.specs.Found.{child_from}
+use Rattle.mn_path.specs.Walk.{child_from}
 
 pub child_is : (first : Addr) (rest : List Child) (low : List ℕ) (high : Option (List ℕ)) (key : List ℕ) → key_le low key ≡ true → below_bound key high ≡ true → child_for (ranges_from first low rest high) key ≡ Some (child_from first rest key)
 child_is first [] low high key above below = rw (above, below) refl

@@ -12,11 +12,6 @@ use Rattle.mn_tree.specs.declared.walk.Walked.{Walked}
 use Rattle.mn_tree.specs.declared.walk.Walked.TheVariants as end
 use Rattle.mn_tree.specs.Walk.{held_of, goes_on, Walk, Missing, Wrong, Reached, walk_down}
 
--- the child of a key: the last whose separator isn't above it, before the first that is
-abbrev pub child_from : Addr → List Child → List ℕ → Addr
-child_from found [] key = found
-child_from found (c ∷ cs) key = if key_lt key c.separator then found else child_from c.addr cs key
-
 -- how a walk goes on behind a page that is one higher than `left`
 abbrev pub walk_after : List (Option ℕ) → ℕ → List Held → List ℕ → ℕ → Held → List Held → Next
     → Walk

@@ -15,10 +15,11 @@ use Rattle.mn_page.specs.Grammar.{height_of}
 use Rattle.mn_page.specs.Forest.{page_at}
 use Rattle.mn_page.specs.Holds.{PagesAt, Holds, IsTree}
 use Rattle.mn_page.specs.Overlay.{Held, Overlay, overlay_of, held_at, held_with, max_path, path_to, path_pairs, step_on, steps_on, is_new, placed_pages}
+use Rattle.mn_path.specs.Walk.{max_height}
 use Rattle.mn_tree.specs.Walk.{Reached, walk}
-use Rattle.mn_tree.specs.State.{max_height, Drafted, drafted_after, TreeState, stepped}
+use Rattle.mn_tree.specs.State.{Drafted, drafted_after, TreeState, stepped}
 use Rattle.mn_tree.specs.Order.{placed}
-use Rattle.mn_tree.specs.Trees.{laid_over, is_noted, IsShown, IsDraft}
+use Rattle.mn_tree.specs.Trees.{laid_over, is_noted, ShowsTree, IsDraft}
 
 -- where a walk reaches a leaf under a root that isn't too high, its path is the one of the plain
 -- model
@@ -107,7 +108,7 @@ PlacingKeepsTree =
     (entries : List CatEntry) (at : PagesAt) (store : Store) (o : Overlay) (slots : List Addr)
     → IsTree entries at → IsDraft entries at store o → length slots ≡ o.fresh
     → AreFreeSlots slots at
-    → IsShown entries (laid_over (placed_pages slots o) at) store
+    → ShowsTree entries (laid_over (placed_pages slots o) at) store
 
 -- the read set has each changed page
 abbrev pub ReadsChanged : Drafted → Type 0
@@ -126,4 +127,4 @@ PlacedKeepsTree =
     (entries : List CatEntry) (at : PagesAt) (store : Store) (d : Drafted) (slots : List Addr)
     → IsTree entries at → IsDraft entries at store d.overlay → ReadsChanged d
     → length slots ≡ d.overlay.fresh → AreFreeSlots slots at
-    → IsShown entries (laid_over (map held_pair (placed slots d)) at) store
+    → ShowsTree entries (laid_over (map held_pair (placed slots d)) at) store

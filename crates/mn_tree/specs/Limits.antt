@@ -13,8 +13,8 @@ use Rattle.mn_tree.specs.Trees.{is_noted}
 use Rattle.mn_tree.specs.Moves.{Move, LeadsTo, done_in, leaves_at}
 use Rattle.mn_tree.specs.MoveLaws.{IsStep}
 
--- at most 16 steps read and make few pages: one that comes in is at most 14 high, and with 16 further
--- children the root splits three times at most
+-- at most 16 steps read and make few pages: one that comes in is at most 14 high, and with 16
+-- further children the root splits three times at most
 abbrev pub MovesAreFew : Type 0
 MovesAreFew =
     (parents : List (Option ℕ)) (v : VersionNo) (root : Addr) (moves : List Move) (d : Drafted)

@@ -18,13 +18,13 @@ use Rattle.mn_page.specs.SlotOrder.{AreInSlotOrder}
 use Rattle.mn_tree.specs.Walk.{is_live}
 use Rattle.mn_tree.specs.State.{Drafted, no_pages}
 use Rattle.mn_tree.specs.Order.{changed_order, placed}
-use Rattle.mn_tree.specs.Trees.{laid_over, is_noted, IsOrdered, IsShown, IsDraft}
+use Rattle.mn_tree.specs.Trees.{laid_over, is_noted, IsOrdered, ShowsTree, IsDraft}
 use Rattle.mn_tree.specs.Laws.{AreFreeSlots, held_pair}
 use Rattle.mn_tree.specs.Moves.{Move, LeadsTo, comes_in, done_in, AreAnswered, came_at, leaves_at, only_at, pairs_after}
 
 -- by these parents a page serves the version exactly where it does by the entries
-abbrev pub Agrees : List (Option ℕ) → List CatEntry → ℕ → Type 0
-Agrees parents entries v = (p : Page) → is_live parents v p ≡ page_serves entries v p
+abbrev pub AgreesWithEntries : List (Option ℕ) → List CatEntry → ℕ → Type 0
+AgreesWithEntries parents entries v = (p : Page) → is_live parents v p ≡ page_serves entries v p
 
 -- What is left
 
@@ -32,8 +32,8 @@ Agrees parents entries v = (p : Page) → is_live parents v p ≡ page_serves en
 -- the store with the steps done; other pages that came in may be out of date
 abbrev pub MovesKeepTree : Type 0
 MovesKeepTree =
-    (entries : List CatEntry) (at : PagesAt) (store : Store) (parents : List (Option ℕ)) (v : VersionNo) (version : StoreVersion) (entry : CatEntry) (moves : List Move) (d : Drafted) → IsShown entries at store → ((n : ℕ) → at (new_addr n) ≡ None)
-    → Agrees parents entries v.0 → slice_get store v.0 ≡ Some version
+    (entries : List CatEntry) (at : PagesAt) (store : Store) (parents : List (Option ℕ)) (v : VersionNo) (version : StoreVersion) (entry : CatEntry) (moves : List Move) (d : Drafted) → ShowsTree entries at store → ((n : ℕ) → at (new_addr n) ≡ None)
+    → AgreesWithEntries parents entries v.0 → slice_get store v.0 ≡ Some version
     → slice_get entries v.0 ≡ Some entry
     → (entry.frozen && list_any is_change (done_in moves)) ≡ false
     → LeadsTo parents v entry.root no_pages moves d
@@ -59,8 +59,8 @@ pub record AreTold (entries : List CatEntry) (at : PagesAt) (v : VersionNo) (pai
 -- where the leaves of the read set stand in the memory as they came in
 abbrev pub MovesTell : Type 0
 MovesTell =
-    (entries : List CatEntry) (at : PagesAt) (store : Store) (parents : List (Option ℕ)) (v : VersionNo) (version : StoreVersion) (root : Addr) (moves : List Move) (d : Drafted) (steps : List Step) (reply : Reply) → IsShown entries at store
-    → ((n : ℕ) → at (new_addr n) ≡ None) → Agrees parents entries v.0
+    (entries : List CatEntry) (at : PagesAt) (store : Store) (parents : List (Option ℕ)) (v : VersionNo) (version : StoreVersion) (root : Addr) (moves : List Move) (d : Drafted) (steps : List Step) (reply : Reply) → ShowsTree entries at store
+    → ((n : ℕ) → at (new_addr n) ≡ None) → AgreesWithEntries parents entries v.0
     → slice_get store v.0 ≡ Some version → LeadsTo parents v root no_pages moves d
     → AreAnswered parents v root no_pages moves 1 [] steps reply
     → AllByRecursion (λ a. at a ≡ came_at moves a) (leaves_at moves d.read)
@@ -127,13 +127,13 @@ pub record ArePlaced (entries : List CatEntry) (at : PagesAt) (after : Store) (m
   pub next : AllByRecursion (λ h. (was : Page) × (came_at moves h.addr ≡ Some was) × (h.page.seq ≡ next_number was.seq)) changed
   pub first : AllByRecursion (λ h. h.page.seq ≡ 1) new
   pub pages : AllByRecursion (λ h. IsPage h.page) (changed ++ new)
-  pub shown : IsShown entries (laid_over (changed ++ new) at) after
+  pub shown : ShowsTree entries (laid_over (changed ++ new) at) after
 
 -- where the pages of the read set stand in the memory as they came in, and the slots are free there
 abbrev pub MovesArePlaced : Type 0
 MovesArePlaced =
-    (entries : List CatEntry) (at : PagesAt) (store : Store) (parents : List (Option ℕ)) (v : VersionNo) (version : StoreVersion) (entry : CatEntry) (moves : List Move) (d : Drafted) (slots : List Addr) → IsShown entries at store → ((n : ℕ) → at (new_addr n) ≡ None)
-    → Agrees parents entries v.0 → slice_get store v.0 ≡ Some version
+    (entries : List CatEntry) (at : PagesAt) (store : Store) (parents : List (Option ℕ)) (v : VersionNo) (version : StoreVersion) (entry : CatEntry) (moves : List Move) (d : Drafted) (slots : List Addr) → ShowsTree entries at store → ((n : ℕ) → at (new_addr n) ≡ None)
+    → AgreesWithEntries parents entries v.0 → slice_get store v.0 ≡ Some version
     → slice_get entries v.0 ≡ Some entry
     → (entry.frozen && list_any is_change (done_in moves)) ≡ false
     → LeadsTo parents v entry.root no_pages moves d

@@ -12,8 +12,9 @@ use Rattle.mn_base.specs.declared.reply.Reply.TheVariants.{Values, Unmet}
 use Rattle.mn_page.specs.declared.page.Page.{Page}
 use Rattle.mn_page.specs.Grammar.{IsPage, IsAddr, height_of}
 use Rattle.mn_page.specs.Overlay.{Held, Overlay, held_at, is_new, path_pairs}
+use Rattle.mn_path.specs.Walk.{max_height}
 use Rattle.mn_tree.specs.Walk.{Reached, is_live, walk}
-use Rattle.mn_tree.specs.State.{Drafted, drafted_with, drafted_after, max_height}
+use Rattle.mn_tree.specs.State.{Drafted, drafted_with, drafted_after}
 use Rattle.mn_tree.specs.Trees.{is_noted}
 
 -- a page that comes in, or a step that is done

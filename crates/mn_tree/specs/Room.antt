@@ -3,7 +3,7 @@ use Rattle.std.specs.Prelude.{ℕ, ◌+◌, ◌≤◌, vec_len, vec_capacity}
 use Rattle.mn_tree.specs.declared.draft.Draft.{Draft}
 
 -- each list has room for so many more
-pub record HasRoom (d : Draft) (n : ℕ) : Type 0 where
+pub record HasListRoom (d : Draft) (n : ℕ) : Type 0 where
   pub pages : n ≤ d.pages.room
   pub changed : n ≤ d.changed.room
   pub read : n ≤ d.read.room

@@ -12,6 +12,7 @@ use Rattle.mn_page.specs.declared.page.Page.{Page}
 use Rattle.mn_page.specs.Grammar.{height_of}
 use Rattle.mn_page.specs.Holds.{page_covers}
 use Rattle.mn_page.specs.Overlay.{Held, Overlay, overlay_of, held_with, step_on, path_pairs, placed_addr}
+use Rattle.mn_path.specs.Walk.{is_below, max_height}
 use Rattle.mn_tree.specs.declared.error.AddError.{AddError}
 use Rattle.mn_tree.specs.declared.error.AddError.TheVariants as refusals
 use Rattle.mn_tree.specs.declared.draft.Draft.{Draft}
@@ -63,15 +64,6 @@ abbrev pub new_state : List (Option ℕ) → VersionNo → Addr → TreeState
 new_state parents version root = record { parents = parents; version = version; root = root; draft = no_pages; wanted = None }
 
 -- Pages that come in
-
--- the greatest height of a page that comes in
-abbrev pub max_height : ℕ
-max_height = 14
-
--- one below the page that names it; the root has none
-abbrev pub is_below : Option ℕ → ℕ → Bool
-is_below None height = true
-is_below (Some above) height = nat_eq (height + 1) above
 
 -- it serves the version, covers the key, is one height below the page that names it, and isn't too
 -- high

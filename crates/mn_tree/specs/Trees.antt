@@ -36,7 +36,7 @@ pub record IsOrdered (p : Page) : Type 0 where
   pub copied_above : IsTrue (list_all (nat_lt p.made.0) (versions_in p.copied))
 
 -- the pages are a tree, in order, and show the store
-pub record IsShown (entries : List CatEntry) (at : PagesAt) (store : Store) : Type 0 where
+pub record ShowsTree (entries : List CatEntry) (at : PagesAt) (store : Store) : Type 0 where
   pub tree : IsTree entries at
   pub ordered : (addr : Addr) (p : Page) → at addr ≡ Some p → IsOrdered p
   pub shows : ShowsStore entries at store
@@ -61,7 +61,7 @@ pub record IsChanged (at : PagesAt) (o : Overlay) (x : Addr) : Type 0 where
 
 -- the pages of a transaction, with those of the memory under them, show the store
 pub record IsDraft (entries : List CatEntry) (at : PagesAt) (store : Store) (o : Overlay) : Type 0 where
-  pub shown : IsShown entries (laid_over o.pages at) store
+  pub shown : ShowsTree entries (laid_over o.pages at) store
   -- the memory has no page at the address of a new one, and there is none yet at those to come
   pub none_new : (n : ℕ) → at (new_addr n) ≡ None
   pub fresh : (n : ℕ) → o.fresh ≤ n → laid_over o.pages at (new_addr n) ≡ None

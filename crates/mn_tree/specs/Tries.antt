@@ -53,19 +53,19 @@ MovesTakePages =
     → ComeTo parents v root (moves ++ Comes h ∷ []) (drafted_with d h.addr h.page) (came ++ h ∷ []) done found
 
 -- how a try goes on with a step, by the step's answer and the draft that it leaves
-abbrev pub GoesOn : TreeState → Step → List Move → List Held → List Step → List (Option (List ℕ))
+abbrev pub TryGoesOn : TreeState → Step → List Move → List Held → List Step → List (Option (List ℕ))
     → Drafted → Stepped → Type 0
-GoesOn s step moves came done found d (answer.Need addr) = d ≡ s.draft
-GoesOn s step moves came done found d (answer.BadPath addr) = d ≡ s.draft
-GoesOn s step moves came done found d (answer.Found value) = ComeTo s.parents s.version s.root (moves ++ Does step ∷ []) d came (done ++ step ∷ []) (found ++ value ∷ [])
-GoesOn s step moves came done found d answer.Changed = ComeTo s.parents s.version s.root (moves ++ Does step ∷ []) d came (done ++ step ∷ []) found
-GoesOn s step moves came done found d answer.Same = ComeTo s.parents s.version s.root (moves ++ Does step ∷ []) d came (done ++ step ∷ []) found
-GoesOn s step moves came done found d (answer.Unmet x) = EndsUnmet s.parents s.version s.root (moves ++ Does step ∷ []) d came done step x
+TryGoesOn s step moves came done found d (answer.Need addr) = d ≡ s.draft
+TryGoesOn s step moves came done found d (answer.BadPath addr) = d ≡ s.draft
+TryGoesOn s step moves came done found d (answer.Found value) = ComeTo s.parents s.version s.root (moves ++ Does step ∷ []) d came (done ++ step ∷ []) (found ++ value ∷ [])
+TryGoesOn s step moves came done found d answer.Changed = ComeTo s.parents s.version s.root (moves ++ Does step ∷ []) d came (done ++ step ∷ []) found
+TryGoesOn s step moves came done found d answer.Same = ComeTo s.parents s.version s.root (moves ++ Does step ∷ []) d came (done ++ step ∷ []) found
+TryGoesOn s step moves came done found d (answer.Unmet x) = EndsUnmet s.parents s.version s.root (moves ++ Does step ∷ []) d came done step x
 
 abbrev pub MovesTakeSteps : Type 0
 MovesTakeSteps =
     (s : TreeState) (step : Step) (moves : List Move) (came : List Held) (done : List Step) (found : List (Option (List ℕ))) → ComeTo s.parents s.version s.root moves s.draft came done found
-    → GoesOn s step moves came done found (stepped s step).state.draft (stepped s step).answer
+    → TryGoesOn s step moves came done found (stepped s step).state.draft (stepped s step).answer
 
 -- where all steps are done, what they have found is the answer
 abbrev pub MovesAreMet : Type 0

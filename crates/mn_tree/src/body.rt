@@ -17,7 +17,8 @@ const MOST: usize = 8;
 /// How many stay at the left when a page splits.
 const LEFT: usize = 4;
 
-/// A body that one page can hold, or its two halves, with the first key or lower fence of the right one.
+/// A body that one page can hold, or its two halves, with the first key or lower fence of the right
+/// one.
 #[derive(Debug, Drop)]
 pub enum Parts {
     Whole {

@@ -8,8 +8,8 @@ use mn_base::{Addr, NoMemory};
 use mn_page::Page;
 use std::alloc::Global;
 
-/// The pages as the steps left them, the old ones that were changed, the old ones of the read set, and for each new page where the one
-/// was read that it was made of.
+/// The pages as the steps left them, the old ones that were changed, the old ones of the read set,
+/// and for each new page where the one was read that it was made of.
 #[derive(Debug, Drop)]
 pub struct Draft {
     pub pages: HeldPages,
@@ -21,7 +21,7 @@ pub struct Draft {
 impl Draft {
     ghost use Rattle.std.specs.Prelude.{ℕ};
     ghost use Rattle.mn_tree.specs.State.{drafted, no_pages, drafted_with, draft_written, all_drafted, touched};
-    ghost use Rattle.mn_tree.specs.Room.{HasRoom};
+    ghost use Rattle.mn_tree.specs.Room.{HasListRoom};
 
     pub fn new(alloc: Global) -> Self
         ensures { drafted result ≡ no_pages }
@@ -37,7 +37,7 @@ impl Draft {
     /// Makes room for so many writes, and for a leaf that joins the read set.
     fn reserve(&mut self, writes: usize) -> Result<(), NoMemory>
         requires { writes < 2 ^ 63 }
-        ensures room { OnOk result (HasRoom self.new writes) }
+        ensures room { OnOk result (HasListRoom self.new writes) }
         ensures leaf { OnOk result (writes + 1 ≤ self.new.read.room) }
         ensures same { drafted self.new ≡ drafted self.old }
     {
@@ -60,9 +60,9 @@ impl Draft {
 
     /// Makes a write, for which there is room.
     fn write(&mut self, write: Write)
-        requires { HasRoom self.old 1 }
+        requires { HasListRoom self.old 1 }
         ensures written { drafted self.new ≡ draft_written (drafted self.old) write }
-        ensures room { (n : ℕ) → HasRoom self.old (n + 1) → HasRoom self.new n }
+        ensures room { (n : ℕ) → HasListRoom self.old (n + 1) → HasListRoom self.new n }
     {
         let Write { addr, page, origin } = write;
         self.read.join(addr);
@@ -75,7 +75,7 @@ impl Draft {
 
     /// Makes the writes in their turn. There is room for them.
     fn write_all(&mut self, writes: Vec<Write>)
-        requires { HasRoom self.old (length writes.items) }
+        requires { HasListRoom self.old (length writes.items) }
         ensures { drafted self.new ≡ all_drafted (drafted self.old) writes.items }
     {
         for write in writes {
@@ -83,8 +83,8 @@ impl Draft {
         }
     }
 
-    /// Makes the writes in their turn, where the leaf there joins the read set first. NoMemory: there was no memory for all of it, and
-    /// nothing has changed.
+    /// Makes the writes in their turn, where the leaf there joins the read set first. NoMemory:
+    /// there was no memory for all of it, and nothing has changed.
     pub fn commit(&mut self, leaf: Addr, writes: Vec<Write>) -> Result<(), NoMemory>
         ensures written { OnOk result (drafted self.new ≡ all_drafted (touched (drafted self.old) leaf) writes.items) }
         ensures same { OnErr result (drafted self.new ≡ drafted self.old) }

@@ -15,7 +15,8 @@ pub struct HeldPage {
     pub page: Page,
 }
 
-/// The page that a step asked for: where it stands, the step's key, and the height of the page that names it, if one does.
+/// The page that a step asked for: where it stands, the step's key, and the height of the page that
+/// names it, if one does.
 #[derive(Debug, Drop)]
 pub struct Wanted {
     pub addr: Addr,

@@ -4,7 +4,8 @@ ghost use Rattle.mn_tree.specs.Tries.{MovesTakePages, MovesTakeSteps, MovesAreMe
 ghost use Rattle.mn_tree.specs.Plain.{MovesAreSteps, UnmetMovesChangeNothing, TriesShowNeeds, UnmetNeedsNothing};
 ghost use Rattle.mn_tree.specs.Limits.{MovesAreFew, MovesTouchLeaves, PlacedArePut, PlacedFillSlots};
 
-/// Where the root isn't too high, a walk that reaches a leaf goes the way of the plain model of the tree.
+/// Where the root isn't too high, a walk that reaches a leaf goes the way of the plain model of the
+/// tree.
 pub fn walks_are_paths()
     ensures { WalksArePaths }
 {}
@@ -39,7 +40,8 @@ pub fn transaction_tells()
     ensures { TransactionTells }
 {}
 
-/// The pages of a draft are still a tree that shows its store once the new ones have slots that the memory has free.
+/// The pages of a draft are still a tree that shows its store once the new ones have slots that the
+/// memory has free.
 pub fn placing_keeps_tree()
     ensures { PlacingKeepsTree }
 {}
@@ -54,17 +56,20 @@ pub fn placed_keeps_tree()
     ensures { PlacedKeepsTree }
 {}
 
-/// A step of the tree in memory that reaches its leaf leaves a draft of the store with the step done, where the root isn't too high.
+/// A step of the tree in memory that reaches its leaf leaves a draft of the store with the step
+/// done, where the root isn't too high.
 pub fn stepped_keeps_tree()
     ensures { SteppedKeepsTree }
 {}
 
-/// Where the pages of the read set stand as they were read, the steps leave a draft of the store with the steps done, though other pages were out of date.
+/// Where the pages of the read set stand as they were read, the steps leave a draft of the store
+/// with the steps done, though other pages were out of date.
 pub fn moves_keep_tree()
     ensures { MovesKeepTree }
 {}
 
-/// Where the leaves of the read set stand as they were read, what the steps find is what they find on the version's pairs.
+/// Where the leaves of the read set stand as they were read, what the steps find is what they find
+/// on the version's pairs.
 pub fn moves_tell()
     ensures { MovesTell }
 {}
@@ -79,7 +84,8 @@ pub fn placed_are_pages()
     ensures { PlacedArePages }
 {}
 
-/// The pages that a plan writes show the store with the steps done, over those of a memory that has the pages of the read set as they were read.
+/// The pages that a plan writes show the store with the steps done, over those of a memory that has
+/// the pages of the read set as they were read.
 pub fn moves_are_placed()
     ensures { MovesArePlaced }
 {}

@@ -1,4 +1,5 @@
-//! The tree as a transaction changes it: its steps on the pages that were read, with splits and copies, before any node is changed.
+//! The tree as a transaction changes it: its steps on the pages that were read, with splits and
+//! copies, before any node is changed.
 #![tactic(auto)]
 
 mod addrs;

@@ -9,9 +9,9 @@ ghost use Rattle.mn_tree.specs.Order.{precedes, with_number, with_numbers, place
 use crate::addrs::Addrs;
 use crate::held::{UNPLACED, resolved};
 use crate::held_pages::HeldPages;
-use crate::walk::height;
 use mn_base::{Addr, Bytes, NoMemory, NodeNo, TryCopy};
 use mn_page::{Body, Branches, Child, Page, number_after};
+use mn_path::height;
 use std::alloc::Global;
 
 /// The place of the new page of this number.

@@ -1,24 +1,22 @@
-ghost use Rattle.std.specs.Prelude.{◌≡◌, nat_le, ◌<◌, length, IfOk, IfErr, OnOk, OnErr, IsTrue};
+ghost use Rattle.std.specs.Prelude.{◌≡◌, ◌<◌, length, IfOk, IfErr, OnOk, OnErr, IsTrue};
 ghost use Rattle.mn_tree.specs.Order.{placed};
-ghost use Rattle.mn_tree.specs.State.{new_state, fits, IsWanted, with_page, RefusesPage, stepped, AsksFor, is_below, max_height};
+ghost use Rattle.mn_tree.specs.State.{new_state, fits, IsWanted, with_page, RefusesPage, stepped, AsksFor};
 
 use crate::draft::Draft;
 use crate::effect::{Progress, come_down, key_of};
 use crate::held::{Wanted, resolved};
 use crate::order::{by_number, order_of, push_changed, push_new};
-use crate::walk::{height, is_within};
 use crate::{AddError, Stepped};
 use mn_base::{Addr, NoMemory, Step, TryCopy, VersionNo};
 use mn_page::{Page, Pages};
+use mn_path::Front;
 use mn_vtree::VersionTree;
 use std::alloc::Global;
 use std::marker::Model;
 
-/// The greatest height of a page that comes in.
-const MAX_HEIGHT: u16 = 14;
-
-/// The tree of a version as a transaction changes it: the pages that were read, and what its steps made of them. Contracts see it as
-/// the version tree by its parents, the version, its root, the pages, and what the last step asked for.
+/// The tree of a version as a transaction changes it: the pages that were read, and what its steps
+/// made of them. Contracts see it as the version tree by its parents, the version, its root, the
+/// pages, and what the last step asked for.
 #[derive(Debug, Drop)]
 pub struct Overlay {
     tree: VersionTree,
@@ -37,23 +35,6 @@ impl Model for Overlay {
     ghost view = { λ o. record { parents = o.tree; version = o.version; root = o.root; draft = drafted o.draft; wanted = o.wanted } };
 
     ghost invariant = { λ o. (o.version.0 < 64) × (length o.draft.origins.items ≤ 2 ^ 16) };
-}
-
-/// Whether a page of this height may stand below the page that names it.
-fn is_one_below(above: Option<u16>, height: u16) -> bool
-    ensures { result ≡ is_below above height }
-{
-    match above {
-        Some(above) => u32::from(height) + 1 == u32::from(above),
-        None => true,
-    }
-}
-
-/// Whether a page of this height may come in.
-fn is_low(height: u16) -> bool
-    ensures { result ≡ nat_le height max_height }
-{
-    height <= MAX_HEIGHT
 }
 
 impl Overlay {
@@ -81,21 +62,24 @@ impl Overlay {
     fn is_right(&self, page: &Page) -> bool
         ensures { result ≡ fits self.now page.now }
     {
-        let height = height(&page.body);
         match &self.wanted {
             Some(wanted) => {
-                self.tree.serves(page.made, page.copied, self.version)
-                    && is_within(page, &wanted.key)
-                    && is_one_below(wanted.above, height)
-                    && is_low(height)
+                let front = Front::of_page(page);
+                front.is_on_path(
+                    &self.tree,
+                    self.version,
+                    wanted.key.as_slice(),
+                    wanted.above,
+                )
             }
             None => false,
         }
     }
 
-    /// Takes the page that was read at the address that the last step asked for. BadPath: it doesn't serve the version, doesn't cover that
-    /// step's key, isn't one height below the page that names it, or is higher than 14. NoMemory: there was no memory for it. After a
-    /// refusal the tree is as before.
+    /// Takes the page that was read at the address that the last step asked for. BadPath: it
+    /// doesn't serve the version, doesn't cover that step's key, isn't one height below the page
+    /// that names it, or is higher than 14. NoMemory: there was no memory for it. After a refusal
+    /// the tree is as before.
     pub fn add(&mut self, addr: Addr, page: Page) -> Result<(), AddError>
         requires { IsWanted self.old addr }
         ensures fits { OnOk result (IsTrue (fits self.old page)) }
@@ -111,8 +95,8 @@ impl Overlay {
         Ok(())
     }
 
-    /// Makes a step on the pages, with the splits and copies that it takes, or says which page it needs first. NoMemory: there was no
-    /// memory for it, and the tree is as before.
+    /// Makes a step on the pages, with the splits and copies that it takes, or says which page it
+    /// needs first. NoMemory: there was no memory for it, and the tree is as before.
     pub fn step(&mut self, alloc: Global, step: &Step) -> Result<Stepped, NoMemory>
         ensures answer { IfOk result (λ answer. answer ≡ (stepped self.old step.now).answer) }
         ensures state { OnOk result (self.new ≡ (stepped self.old step.now).state) }
@@ -152,18 +136,19 @@ impl Overlay {
         self.draft.origins.len() as u32
     }
 
-    /// Where the old pages of the read set stand, in the order in which they joined: a leaf when a step first reaches it, another page when a
-    /// step first changes it.
+    /// Where the old pages of the read set stand, in the order in which they joined: a leaf when a
+    /// step first reaches it, another page when a step first changes it.
     pub fn read_set(&self) -> &[Addr]
         ensures { result.now ≡ self.now.draft.read }
     {
         self.draft.read.as_slice()
     }
 
-    /// What the steps write, once the new pages have these slots: the changed pages in the order in which they joined the read set, each with
-    /// its next sequence number, then the new ones in the order in which slots are asked for, from the leaves upwards and at one height from
-    /// left to right, which is the order of the slots. A sequence number that is the last stays. The tree stays as it is. NoMemory: there was
-    /// no memory for the list.
+    /// What the steps write, once the new pages have these slots: the changed pages in the order in
+    /// which they joined the read set, each with its next sequence number, then the new ones in the
+    /// order in which slots are asked for, from the leaves upwards and at one height from left to
+    /// right, which is the order of the slots. A sequence number that is the last stays. The tree
+    /// stays as it is. NoMemory: there was no memory for the list.
     pub fn place(&mut self, alloc: Global, slots: &[Addr]) -> Result<Pages, NoMemory>
         requires { length slots.now ≡ self.old.draft.overlay.fresh }
         ensures placed { IfOk result (λ pages. pages ≡ placed slots.now self.old.draft) }

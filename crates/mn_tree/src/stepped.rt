@@ -5,8 +5,9 @@ use mn_base::{Addr, Value};
 pub enum Stepped {
     /// The next page of its path isn't there; it stands at `addr`. Nothing has changed.
     Need { addr: Addr },
-    /// The next page of its path doesn't serve the version, doesn't cover its key or isn't one height below the page that names it. `addr`
-    /// is where that page was read, or the one that it was split off or copied from. Nothing has changed.
+    /// The next page of its path doesn't serve the version, doesn't cover its key or isn't one
+    /// height below the page that names it. `addr` is where that page was read, or the one that it
+    /// was split off or copied from. Nothing has changed.
     BadPath { addr: Addr },
     /// A Get: the value of its key, or none.
     Found { value: Option<Value> },

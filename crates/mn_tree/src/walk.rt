@@ -3,20 +3,22 @@ ghost use Rattle.mn_page.specs.Grammar.{height_of};
 ghost use Rattle.mn_page.specs.Holds.{page_covers};
 ghost use Rattle.mn_page.specs.Overlay.{Held};
 ghost use Rattle.mn_tree.specs.Walk.{held_of, helds, is_met, goes_on, walk, walk_down};
-ghost use Rattle.mn_tree.specs.Found.{child_from, walk_after, IsOnTheWay, seen_walk};
+ghost use Rattle.mn_tree.specs.Found.{walk_after, IsOnTheWay, seen_walk};
 
 use crate::held::HeldPage;
 use crate::held_pages::HeldPages;
 use mn_base::{Addr, Key, NoMemory, VersionNo};
 use mn_fence::covers;
-use mn_page::{Body, Child, Page};
+use mn_page::{Body, Page};
+use mn_path::{child_for, height};
 use mn_vtree::VersionTree;
 use std::alloc::Global;
 
 /// Where a walk ended.
 #[derive(Drop)]
 pub enum Walked<'a> {
-    /// Before a page that isn't there; `above` is the height of the page that names it, if one does.
+    /// Before a page that isn't there; `above` is the height of the page that names it, if one
+    /// does.
     Missing {
         addr: Addr,
         above: Option<u16>,
@@ -40,16 +42,6 @@ pub enum Next<'a> {
     Down { held: &'a HeldPage },
 }
 
-/// The height of a page with this body; that of a leaf is 0.
-pub fn height(body: &Body) -> u16
-    ensures { result ≡ height_of body.now }
-{
-    match body {
-        Body::Leaf { .. } => 0,
-        Body::Inner { height, .. } => *height,
-    }
-}
-
 /// Whether the key lies within the fences of the page.
 pub fn is_within(page: &Page, key: &Key) -> bool
     ensures { result ≡ page_covers key.now page.now }
@@ -59,20 +51,6 @@ pub fn is_within(page: &Page, key: &Key) -> bool
         None => None,
     };
     covers(page.low.as_slice(), high, key.as_slice())
-}
-
-/// Among the children from the first one on, the one that a key goes to.
-fn child_among(first: Addr, rest: &[Child], key: &Key) -> Addr
-    ensures { result ≡ child_from first rest.now key.now }
-{
-    let mut found = first;
-    for child in rest {
-        if key.as_slice().cmp(child.separator.as_slice()).is_lt() {
-            return found;
-        }
-        found = child.addr;
-    }
-    found
 }
 
 /// Whether a walk for the key may meet the page: it serves the version and covers the key.
@@ -107,7 +85,7 @@ fn follow<'a>(
     let Body::Inner { first, rest, .. } = &at.page.body else {
         unreachable!();
     };
-    let addr = child_among(*first, rest.as_slice(), key);
+    let addr = child_for(*first, rest.as_slice(), key.as_slice());
     match pages.get(addr) {
         Some(held) => {
             if may_go_on(tree, version, &held.page, left, key) {

@@ -1,8 +1,8 @@
 use mn_base::Addr;
 use mn_page::Page;
 
-/// A page as a step leaves it: an old one or a new one of before where it stands, or one more new one, which was made of the page that
-/// was read at `origin`.
+/// A page as a step leaves it: an old one or a new one of before where it stands, or one more new
+/// one, which was made of the page that was read at `origin`.
 #[derive(Debug, Drop)]
 pub struct Write {
     pub addr: Addr,

@@ -9,10 +9,10 @@ ghost use Rattle.mn_page.specs.declared.page.Body.TheVariants.{Inner};
 
 use crate::body::{Parts, parts_of, with_children};
 use crate::held::{HeldPage, new_place, resolved};
-use crate::walk::height;
 use crate::write::Write;
 use mn_base::{Addr, Bytes, Key, NoMemory, TryCopy, VersionNo};
 use mn_page::{Body, Branches, Child, Page};
+use mn_path::height;
 use std::alloc::Global;
 
 /// What a page's change asks of its parent.
@@ -293,7 +293,8 @@ fn root_over(alloc: Global, below: u16, first: Addr, second: Child) -> Result<Bo
     })
 }
 
-/// The writes after which the leaf of a path has this body, where the pages above it lead up to the root.
+/// The writes after which the leaf of a path has this body, where the pages above it lead up to the
+/// root.
 pub fn raise(
     alloc: Global,
     version: VersionNo,

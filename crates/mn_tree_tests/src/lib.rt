@@ -1,9 +1,5 @@
-//! Tests of trees and of the check of a memory: steps over pages, and each rule that bytes can break.
+//! Tests of the steps of a transaction on a tree.
 #![tactic(auto)]
 
-#[cfg(test)]
-mod forest_check;
-#[cfg(test)]
-mod forest_flat;
 #[cfg(test)]
 mod tree;

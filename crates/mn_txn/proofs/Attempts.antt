@@ -34,7 +34,7 @@ use Rattle.mn_world.proofs.Plans.PutInPlace.{not_count}
 use Rattle.mn_world.proofs.Plans.SplitRoot.{page_places_apart}
 use Rattle.mn_world.proofs.Plans.Told.{all_there}
 use Rattle.mn_txn.specs.declared.image.Image.{Image}
-use Rattle.mn_txn.specs.State.{is_at, AreApart}
+use Rattle.mn_txn.specs.State.{is_at, ImagesAreApart}
 use Rattle.mn_txn.specs.Plan.{compare_of, write_of}
 use Rattle.mn_txn.specs.Laws.{image_place}
 use Rattle.mn_txn.specs.Attempt.{Attempt, page_image, came_images, entry_images, count_image}
@@ -59,7 +59,7 @@ not_same x y off e =
     clash t on off = absurd cc
 
 -- the places of images that are apart come once
-pub places_once : (xs : List Image) → AreApart xs → ComeOnce (map image_place xs)
+pub places_once : (xs : List Image) → ImagesAreApart xs → ComeOnce (map image_place xs)
 places_once [] apart = tt
 places_once (x ∷ xs) apart = (others xs apart.0, places_once xs apart.1)
   where
@@ -75,7 +75,8 @@ pub compares_pass : (memory : List (List ℕ)) (xs : List Image) (items : List I
 compares_pass memory [] items = refl
 compares_pass memory (x ∷ xs) items = compares_pass memory xs items
 
--- a try over a forest: the read set by addresses, changed pages, new ones, and the nodes that give slots with their counts
+-- a try over a forest: the read set by addresses, changed pages, new ones, and the nodes that give
+-- slots with their counts
 module _ (f : Forest) (store : Store) (nodes : ℕ) (a : Attempt) (version : StoreVersion) (addrs : List Addr) (changed new : List Held) (giving : List ℕ) (was now : ℕ → ℕ) where
   abbrev pub reads : List Image
   reads = came_images a.moves addrs ++ (entry_images a ++ map (λ n. count_image n (was n)) giving)
@@ -304,12 +305,12 @@ module _ (f : Forest) (store : Store) (nodes : ℕ) (a : Attempt) (version : Sto
         of_counts [] = tt
         of_counts (n ∷ ns) = (inr (inr (node_no n, refl)), of_counts ns)
 
-    pub once : AreApart writes → ComeOnce (write_places mini)
+    pub once : ImagesAreApart writes → ComeOnce (write_places mini)
     once apart = subst ComeOnce (sym (written reads writes)) (places_once writes apart)
 
     -- the plan acts
     pub acts : (memory : List (List ℕ)) (holds : Holds memory store) → holds.forest ≡ f → GoOn f memory → number_named (heads_of store) a.name ≡ Some a.version.0 → Holds (memory_after memory mini.items) (applied store (Tx a.name a.steps)).store
-        → a.reply ≡ (applied store (Tx a.name a.steps)).reply → AreApart writes → PlanActs memory store holds (Tx a.name a.steps) mini a.reply
+        → a.reply ≡ (applied store (Tx a.name a.steps)).reply → ImagesAreApart writes → PlanActs memory store holds (Tx a.name a.steps) mini a.reply
     acts memory holds same go number effect replies apart = record {
       effect = effect;
       replies = replies;

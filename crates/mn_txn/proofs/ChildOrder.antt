@@ -19,7 +19,7 @@ use Rattle.mn_page.specs.Copies.{marked_for, copy_for}
 use Rattle.mn_txn.proofs.Turns.{IsUp}
 
 -- a list in order stays
-stays : (xs : List Image) → IsUp xs → in_item_order xs ≡ xs
+pub stays : (xs : List Image) → IsUp xs → in_item_order xs ≡ xs
 stays [] up = refl
 stays (x ∷ xs) up = ap (placed x) (stays xs up.1) ∙ first xs up.0
   where
@@ -27,27 +27,27 @@ stays (x ∷ xs) up = ap (placed x) (stays xs up.1) ∙ first xs up.0
     first [] all = refl
     first (y ∷ ys) all = ap (λ b. if b then y ∷ placed x ys else x ∷ y ∷ ys) all.0
 
-abbrev page_turn : Turn
+abbrev pub page_turn : Turn
 page_turn = record { rank = 0; node = 0; start = 0 }
 
-abbrev entry_turn : ℕ → Turn
+abbrev pub entry_turn : ℕ → Turn
 entry_turn v = record { rank = 1; node = 0; start = 64 + 64 * v }
 
-abbrev count_turn : ℕ → Turn
+abbrev pub count_turn : ℕ → Turn
 count_turn n = record { rank = 2; node = n; start = 16 }
 
-page_is : (addr : Addr) (p : Page) → turn_of (page_image addr p) ≡ page_turn
+pub page_is : (addr : Addr) (p : Page) → turn_of (page_image addr p) ≡ page_turn
 page_is addr p = ap (λ r. if nat_eq r 0 then page_turn else (let t : Turn = record { rank = r; node = addr.node.0; start = 20480 + 1024 * addr.slot } in t)) (page_rank addr.slot)
 
 -- an image at the place of an entry
-entry_is : (v : VersionNo) (i : Image) → i.start ≡ 64 + 64 * v.0 → i.node.0 ≡ 0 → v.0 < 64 → turn_of i ≡ entry_turn v.0
+pub entry_is : (v : VersionNo) (i : Image) → i.start ≡ 64 + 64 * v.0 → i.node.0 ≡ 0 → v.0 < 64 → turn_of i ≡ entry_turn v.0
 entry_is v i at node few =
     ap (λ s. if nat_eq (place_rank s) 0 then page_turn else (let t : Turn = record { rank = place_rank s; node = i.node.0; start = s } in t)) at
     ∙ (ap (λ n. if nat_eq (place_rank (64 + 64 * v.0)) 0 then page_turn else (let t : Turn = record { rank = place_rank (64 + 64 * v.0); node = n; start = 64 + 64 * v.0 } in t)) node
     ∙ ap (λ r. if nat_eq r 0 then page_turn else (let t : Turn = record { rank = r; node = 0; start = 64 + 64 * v.0 } in t)) (entry_rank v.0 few))
 
 -- a later image doesn't stand before an earlier one
-late : (a b : Image) (s t : Turn) → turn_of a ≡ s → turn_of b ≡ t → is_lt (turn_cmp t s) ≡ false → stands_before b a ≡ false
+pub late : (a b : Image) (s t : Turn) → turn_of a ≡ s → turn_of b ≡ t → is_lt (turn_cmp t s) ≡ false → stands_before b a ≡ false
 late a b s t e f off = ap (λ x. is_lt (turn_cmp (turn_of b) x)) e ∙ (ap (λ y. is_lt (turn_cmp y s)) f ∙ off)
 
 entries_late : (v w : ℕ) → v < w → is_lt (turn_cmp (entry_turn w) (entry_turn v)) ≡ false

@@ -38,7 +38,7 @@ use Rattle.mn_world.proofs.Meaning.Faults.{same_number}
 use Rattle.mn_txn.specs.declared.error.PlanError.{PlanError}
 use Rattle.mn_txn.specs.declared.error.PlanError.TheVariants.{Worn, NoMemory}
 use Rattle.mn_txn.specs.declared.image.Image.{Image}
-use Rattle.mn_txn.specs.State.{State, is_at, joined, bytes_at, AreApart}
+use Rattle.mn_txn.specs.State.{State, is_at, joined, bytes_at, ImagesAreApart}
 use Rattle.mn_txn.specs.Order.{in_item_order}
 use Rattle.mn_txn.specs.Plan.{RefusesPlan, can_plan, compare_of, first_worn, is_last, is_worn, plan_of, write_of}
 use Rattle.mn_txn.specs.Attempt.{page_image}
@@ -63,24 +63,24 @@ joined_last (x ∷ xs) i all =
     ap (λ b. if b then (let y : Image = record { node = x.node; start = x.start; bytes = i.bytes } in y) ∷ xs else x ∷ joined xs i) (sym (turned x i) ∙ all.0)
     ∙ ap (λ (l : List Image). x ∷ l) (joined_last xs i all.1)
 
-before_it : (xs : List Image) (i : Image) (is : List Image) → AreApart (xs ++ i ∷ is)
+before_it : (xs : List Image) (i : Image) (is : List Image) → ImagesAreApart (xs ++ i ∷ is)
     → AllByRecursion (λ x. is_at x.node x.start i ≡ false) xs
 before_it [] i is apart = tt
 before_it (x ∷ xs) i is apart = (((all_split (λ y. is_at x.node x.start y ≡ false) xs (i ∷ is) apart.0).1).0, before_it xs i is apart.1)
 
 -- images apart join as they are listed
-joined_all : (xs is : List Image) → AreApart (xs ++ is) → with_images xs is ≡ xs ++ is
+pub joined_all : (xs is : List Image) → ImagesAreApart (xs ++ is) → with_images xs is ≡ xs ++ is
 joined_all xs [] apart = sym (append-nil xs)
 joined_all xs (i ∷ is) apart =
     ap (λ (l : List Image). with_images l is) (joined_last xs i (before_it xs i is apart))
-    ∙ (joined_all (xs ++ i ∷ []) is (subst AreApart (sym (append_assoc xs (i ∷ []) is)) apart) ∙ append_assoc xs (i ∷ []) is)
+    ∙ (joined_all (xs ++ i ∷ []) is (subst ImagesAreApart (sym (append_assoc xs (i ∷ []) is)) apart) ∙ append_assoc xs (i ∷ []) is)
 
 -- Places
 
-starts_differ : (a b : Image) → (a.start ≡ b.start → ⊥) → is_at a.node a.start b ≡ false
+pub starts_differ : (a b : Image) → (a.start ≡ b.start → ⊥) → is_at a.node a.start b ≡ false
 starts_differ a b differ = ap (λ t. nat_eq a.node.0 b.node.0 && t) (ne_eqb a.start b.start differ) ∙ and_false (nat_eq a.node.0 b.node.0)
 
-pages_differ : (a b : Addr) (q : Page) → (b ≡ a → ⊥)
+pub pages_differ : (a b : Addr) (q : Page) → (b ≡ a → ⊥)
     → is_at a.node (20480 + 1024 * a.slot) (page_image b q) ≡ false
 pages_differ a b q differ = by_test (is_at a.node (20480 + 1024 * a.slot) (page_image b q)) refl
   where
@@ -91,7 +91,7 @@ pages_differ a b q differ = by_test (is_at a.node (20480 + 1024 * a.slot) (page_
         absurd (differ (sym (same_addr a b (eqb-true a.node.0 b.node.0 both.0) (omega (arith, starts)))))
     by_test false e = refl
 
-none_at : (xs : List Image) (i : Image) → AllByRecursion (λ x. is_at x.node x.start i ≡ false) xs
+pub none_at : (xs : List Image) (i : Image) → AllByRecursion (λ x. is_at x.node x.start i ≡ false) xs
     → bytes_at i.node i.start xs ≡ None
 none_at [] i all = refl
 none_at (x ∷ xs) i all =
@@ -165,7 +165,7 @@ module _ (used : List CatEntry) (nodes : ℕ) (name child : List ℕ) (version :
   abbrev IsOff : Image → Image → Type 0
   IsOff a b = is_at a.node a.start b ≡ false
 
-  reads_apart : AreApart (child_reads c)
+  reads_apart : ImagesAreApart (child_reads c)
   reads_apart = (
     (
       starts_differ (page_image e.root root) (entry_image version e) (λ s. absurd (omega (arith, s, version_low, many))),
@@ -201,7 +201,7 @@ module _ (used : List CatEntry) (nodes : ℕ) (name child : List ℕ) (version :
   kid_count : IsOff (child_written c) (count_written c)
   kid_count = starts_differ (child_written c) (count_written c) (λ s. absurd (omega (arith, s)))
 
-  pub snapshot_apart : AreApart (snapshot_writes c)
+  pub snapshot_apart : ImagesAreApart (snapshot_writes c)
   snapshot_apart = (
     (root_copy, (starts_differ (root_written c) (entry_image version (frozen_entry e)) (λ s. absurd (omega (arith, s, version_low, many))), (root_kid, (root_count, tt)))),
     (
@@ -216,7 +216,7 @@ module _ (used : List CatEntry) (nodes : ℕ) (name child : List ℕ) (version :
     ),
   )
 
-  pub branch_apart : AreApart (branch_writes c)
+  pub branch_apart : ImagesAreApart (branch_writes c)
   branch_apart = ((root_copy, (root_kid, (root_count, tt))), ((copy_kid, (copy_count, tt)), ((kid_count, tt), (tt, tt))))
 
   -- A try by these entries
@@ -251,7 +251,7 @@ module _ (used : List CatEntry) (nodes : ℕ) (name child : List ℕ) (version :
   abbrev all_read : List Image → State
   all_read ws = record { nodes = nodes; dirty = []; reads = with_images [] (child_reads c); writes = with_images [] ws }
 
-  joined_once : (ws : List Image) → AreApart ws → all_read ws ≡ state_with ws
+  joined_once : (ws : List Image) → ImagesAreApart ws → all_read ws ≡ state_with ws
   joined_once ws off =
       ap (λ (rs : List Image). let t : State = record { nodes = nodes; dirty = []; reads = rs; writes = with_images [] ws } in t) (joined_all [] (child_reads c) reads_apart)
       ∙ ap (λ (xs : List Image). let t : State = record { nodes = nodes; dirty = []; reads = child_reads c; writes = xs } in t) (joined_all [] ws off)

@@ -31,7 +31,7 @@ use Rattle.mn_page.proofs.Spelled.{entry_length}
 use Rattle.mn_tree.proofs.Trees.Puts.{same_itself}
 use Rattle.mn_world.specs.Places.{Place, page_place, entry_place, catalog_node, count_place, IsPagePlace}
 use Rattle.mn_world.specs.declared.entry.Entry.{Entry}
-use Rattle.mn_world.specs.Planned.{IsWholePlace, ComeOnce, compare_places, write_places, IsRootOf, IsWrittenCount, IsCompared, HasNextNumber, IsPickOf, WritesPages, Continues, PlanActs, ComparesHold}
+use Rattle.mn_world.specs.Planned.{IsWholePlace, ComeOnce, compare_places, write_places, IsRootOf, IsWrittenCount, IsCompared, HasNextNumber, IsPickOf, WritesPages, ContinuesCatalog, PlanActs, ComparesHold}
 use Rattle.mn_world.specs.Plans.{write_page, write_count}
 use Rattle.mn_world.specs.Growth.{taken_on, AreNextSlots, node_no, count_in, count_writes, AreCounts, AreDifferent, NextSlotsAreFree, over, write_held, Numbered, write_entry, write_numbered, entries_with, entries_after, AreNextEntries, WritesLeaveVersions, AreMet, ComparesTell, NumbersGoOn}
 use Rattle.mn_world.proofs.Plans.Compares.{still_named}
@@ -40,7 +40,7 @@ use Rattle.mn_world.proofs.Plans.Grown.{addr_differs}
 use Rattle.mn_world.proofs.Plans.PutInPlace.{not_count}
 use Rattle.mn_world.proofs.Meaning.Kept.{number_within}
 use Rattle.mn_txn.specs.declared.image.Image.{Image}
-use Rattle.mn_txn.specs.State.{image, AreApart}
+use Rattle.mn_txn.specs.State.{image, ImagesAreApart}
 use Rattle.mn_txn.specs.Order.{in_item_order}
 use Rattle.mn_txn.specs.Plan.{plan_of, compare_of, write_of}
 use Rattle.mn_txn.specs.Laws.{image_place, PlansAreInOrder}
@@ -97,13 +97,13 @@ head_found (g ∷ hs) name v h e at = by_name (bytes_eq g.name name) e (λ k f t
         let after : suc k.0 ≡ v = omega (arith, k.2) in
         rest k.0 k.1 (ap (slice_get (g ∷ hs)) after ∙ at)
 
-continues_long : (kept heads : List Head) → Continues kept heads → length kept ≤ length heads
+continues_long : (kept heads : List Head) → ContinuesCatalog kept heads → length kept ≤ length heads
 continues_long [] heads on = omega arith
 continues_long (k ∷ kept) [] on = absurd on
 continues_long (k ∷ kept) (h ∷ heads) on = let rest = continues_long kept heads on.3 in omega arith
 
 -- a store with no further version has no further name
-no_more_names : (kept heads : List Head) (name : List ℕ) → Continues kept heads → length heads ≤ length kept → head_named kept name ≡ None → head_named heads name ≡ None
+no_more_names : (kept heads : List Head) (name : List ℕ) → ContinuesCatalog kept heads → length heads ≤ length kept → head_named kept name ≡ None → head_named heads name ≡ None
 no_more_names [] [] name on few none = refl
 no_more_names [] (h ∷ heads) name on few none = absurd (omega arith)
 no_more_names (k ∷ kept) [] name on few none = absurd on
@@ -114,7 +114,7 @@ no_more_names (k ∷ kept) (h ∷ heads) name on few none =
     by_name true f rest = absurd cc
     by_name false f rest = rest f
 
-still_admitted : (kept heads : List Head) (name : List ℕ) → Continues kept heads → length heads ≡ length kept → child_refusal kept name ≡ None → child_refusal heads name ≡ None
+still_admitted : (kept heads : List Head) (name : List ℕ) → ContinuesCatalog kept heads → length heads ≡ length kept → child_refusal kept name ≡ None → child_refusal heads name ≡ None
 still_admitted kept heads name on many free =
     let room = child_admitted kept name free in
     ap (λ (o : Option Head). if is_some o then Some says.NameTaken else (if nat_le 64 (length heads) then Some says.VersionsFull else None)) (no_more_names kept heads name on (omega arith) room.0)
@@ -141,7 +141,7 @@ entries_written (w ∷ ws) = ap (λ (l : List Item). write_numbered w ∷ l) (en
 -- A try over a memory in which its compares hold
 
 module _ (copies_are_pages : CopiesArePages) (next_slots_are_free : NextSlotsAreFree) (writes_leave_versions : WritesLeaveVersions) (compares_tell : ComparesTell) (numbers_go_on : NumbersGoOn) (kept : List Head) (nodes : ℕ) (c : ChildTry) (is : IsChildTry kept nodes c) (admitted : child_refusal kept c.child ≡ None)
-    (memory : List (List ℕ)) (store : Store) (many : length memory ≡ nodes) (holds : Holds memory store) (on : Continues kept (heads_of store)) (more : List Item) (es : List Entry) (hold : ComparesHold es memory (map compare_of (child_reads c) ++ more)) where
+    (memory : List (List ℕ)) (store : Store) (many : length memory ≡ nodes) (holds : Holds memory store) (on : ContinuesCatalog kept (heads_of store)) (more : List Item) (es : List Entry) (hold : ComparesHold es memory (map compare_of (child_reads c) ++ more)) where
   abbrev pub f : Forest
   f = holds.forest
 
@@ -402,12 +402,12 @@ module _ (copies_are_pages : CopiesArePages) (next_slots_are_free : NextSlotsAre
         each [] all = (inr (inr (node_no node, refl)), tt)
         each (x ∷ xs) all = (inr (inl (x.0, (all.0).0, refl)), each xs all.1)
 
-    pub once : AreApart (writes_of c ws) → ComeOnce (write_places mini)
+    pub once : ImagesAreApart (writes_of c ws) → ComeOnce (write_places mini)
     once apart' = subst ComeOnce (sym (written (child_reads c) (writes_of c ws))) (places_once (writes_of c ws) apart')
 
     -- what the operation's plan does
     pub acts : (op : Op) → op_version op ≡ c.name → Holds (memory_after memory mini.items) (applied store op).store → says.Made ≡ (applied store op).reply
-        → ((place : Place) → Contains (compare_places mini) place ↔ IsCompared f store v op mini place) → AllByRecursion (λ (x : Numbered). HasNextNumber memory (write_entry x.0 x.1)) ws → AreApart (writes_of c ws)
+        → ((place : Place) → Contains (compare_places mini) place ↔ IsCompared f store v op mini place) → AllByRecursion (λ (x : Numbered). HasNextNumber memory (write_entry x.0 x.1)) ws → ImagesAreApart (writes_of c ws)
         → PlanActs memory store holds op mini says.Made
     acts op name effect' replies compares of_entries apart' = record {
       effect = effect';
@@ -442,7 +442,7 @@ module _ (copies_are_pages : CopiesArePages) (next_slots_are_free : NextSlotsAre
   abbrev shut : CatEntry
   shut = frozen_entry c.entry
 
-  pub snapshot_acts : SnapshotIsShown → c.entry.frozen ≡ false → c.entry.seq + 1 < 2 ^ 64 → AreApart (snapshot_writes c)
+  pub snapshot_acts : SnapshotIsShown → c.entry.frozen ≡ false → c.entry.seq + 1 < 2 ^ 64 → ImagesAreApart (snapshot_writes c)
       → PlanActs memory store holds (Snapshot c.name c.child) (record { nodes = nodes; items = map compare_of (child_reads c) ++ map write_of (snapshot_writes c) }) says.Made
   snapshot_acts snapshot_is_shown writable low_seq apart' =
       acts ws next places (Snapshot c.name c.child) refl
@@ -482,7 +482,7 @@ module _ (copies_are_pages : CopiesArePages) (next_slots_are_free : NextSlotsAre
 
   -- A Branch
 
-  pub branch_acts : BranchIsShown → c.entry.frozen ≡ true → AreApart (branch_writes c)
+  pub branch_acts : BranchIsShown → c.entry.frozen ≡ true → ImagesAreApart (branch_writes c)
       → PlanActs memory store holds (Branch c.name c.child) (record { nodes = nodes; items = map compare_of (child_reads c) ++ map write_of (branch_writes c) }) says.Made
   branch_acts branch_is_shown frozen apart' =
       acts ws next places (Branch c.name c.child) refl
@@ -519,7 +519,7 @@ snapshot_is_planned snapshot_is_shown copies_are_pages next_slots_are_free write
   acts = λ memory store many sizes holds on hold.
       subst (λ (m : Mini). PlanActs memory store holds (Snapshot c.name c.child) m says.Made) (sym mini_is)
       (snapshot_acts copies_are_pages next_slots_are_free writes_leave_versions compares_tell numbers_go_on kept t.nodes c is admitted.1 memory store many holds on (map write_of (snapshot_writes c)) es
-      (subst (λ (m : Mini). ComparesHold es memory m.items) mini_is hold) snapshot_is_shown admitted.0 low (subst AreApart writes_are (apart_in_order t.writes apart_writes)));
+      (subst (λ (m : Mini). ComparesHold es memory m.items) mini_is hold) snapshot_is_shown admitted.0 low (subst ImagesAreApart writes_are (apart_in_order t.writes apart_writes)));
   order = in_order t apart_reads apart_writes;
   kind = tt;
 }
@@ -537,7 +537,7 @@ branch_is_planned branch_is_shown copies_are_pages next_slots_are_free writes_le
   acts = λ memory store many sizes holds on hold.
       subst (λ (m : Mini). PlanActs memory store holds (Branch c.name c.child) m says.Made) (sym mini_is)
       (branch_acts copies_are_pages next_slots_are_free writes_leave_versions compares_tell numbers_go_on kept t.nodes c is admitted.1 memory store many holds on (map write_of (branch_writes c)) es
-      (subst (λ (m : Mini). ComparesHold es memory m.items) mini_is hold) branch_is_shown admitted.0 (subst AreApart writes_are (apart_in_order t.writes apart_writes)));
+      (subst (λ (m : Mini). ComparesHold es memory m.items) mini_is hold) branch_is_shown admitted.0 (subst ImagesAreApart writes_are (apart_in_order t.writes apart_writes)));
   order = in_order t apart_reads apart_writes;
   kind = tt;
 }

@@ -35,12 +35,12 @@ use Rattle.mn_tree.specs.MoveLaws.{IsStep, AreTold, MovesTell, AreOnce, AreReads
 use Rattle.mn_tree.proofs.Trees.Told.{noted_filter}
 use Rattle.mn_world.specs.Places.{page_place}
 use Rattle.mn_world.specs.declared.entry.Entry.{Entry}
-use Rattle.mn_world.specs.Planned.{Continues, PlanActs, IsPickOf, ComparesHold}
+use Rattle.mn_world.specs.Planned.{ContinuesCatalog, PlanActs, IsPickOf, ComparesHold}
 use Rattle.mn_world.specs.Plans.{write_count}
 use Rattle.mn_world.specs.Growth.{AreNextSlots, taken_on, giving_nodes, node_no, count_writes, addrs_of, AreCounts, AreDifferent, NextSlotsAreFree, write_held, WritesLeaveStore, ComparesTell, NumbersGoOn}
 use Rattle.mn_world.proofs.Plans.Grown.{all_mapped}
 use Rattle.mn_txn.specs.declared.image.Image.{Image}
-use Rattle.mn_txn.specs.State.{AreApart}
+use Rattle.mn_txn.specs.State.{ImagesAreApart}
 use Rattle.mn_txn.specs.Order.{in_item_order}
 use Rattle.mn_txn.specs.Plan.{plan_of, compare_of, write_of}
 use Rattle.mn_txn.specs.Laws.{PlansAreInOrder}
@@ -53,18 +53,18 @@ use Rattle.mn_txn.proofs.Attempts.{Facts, mini, acts, compares_pass, held_image}
 
 -- Lists
 
-none_pass : {X : Type 0} (t : X → Bool) → ((x : X) → t x ≡ false) → (xs : List X) → filter t xs ≡ []
+pub none_pass : {X : Type 0} (t : X → Bool) → ((x : X) → t x ≡ false) → (xs : List X) → filter t xs ≡ []
 none_pass t off [] = refl
 none_pass t off (x ∷ xs) = ap (λ b. if b then x ∷ filter t xs else filter t xs) (off x) ∙ none_pass t off xs
 
 -- different addresses
-once_apart : (addrs : List Addr) (a : Addr) → is_noted addrs a ≡ false → AllByRecursion (λ b. b ≡ a → ⊥) addrs
+pub once_apart : (addrs : List Addr) (a : Addr) → is_noted addrs a ≡ false → AllByRecursion (λ b. b ≡ a → ⊥) addrs
 once_apart addrs a off = all_noted (λ b. b ≡ a → ⊥) addrs (λ b noted same. clash (is_noted addrs a) (ap (is_noted addrs) (sym same) ∙ noted) off)
   where
     clash : (t : Bool) → t ≡ true → t ≡ false → ⊥
     clash t e f = absurd cc
 
-different : (t : Addr → Bool) (addrs : List Addr) → AreOnce addrs → AreDifferent (filter t addrs)
+pub different : (t : Addr → Bool) (addrs : List Addr) → AreOnce addrs → AreDifferent (filter t addrs)
 different t [] once = tt
 different t (a ∷ addrs) once = by_test (t a) (different t addrs once.1)
   where
@@ -134,7 +134,7 @@ writes_counted c [] = refl
 writes_counted c (n ∷ ns) = ap (λ (l : List Item). write_count (node_no n) (c n) ∷ l) (writes_counted c ns)
 
 module _ (moves_tell : MovesTell) (moves_read : MovesRead) (moves_come_once : MovesComeOnce) (moves_are_placed : MovesArePlaced) (quiet_moves : QuietMoves) (reads_are_draft : ReadsAreDraft) (next_slots_are_free : NextSlotsAreFree) (writes_leave_store : WritesLeaveStore) (compares_tell : ComparesTell)
-    (numbers_go_on : NumbersGoOn) (kept : List Head) (nodes : ℕ) (a : Attempt) (is : IsAttempt kept nodes a) (dn : IsDone nodes a) (memory : List (List ℕ)) (store : Store) (many : length memory ≡ nodes) (holds : Holds memory store) (on : Continues kept (heads_of store)) (more : List Item)
+    (numbers_go_on : NumbersGoOn) (kept : List Head) (nodes : ℕ) (a : Attempt) (is : IsAttempt kept nodes a) (dn : IsDone nodes a) (memory : List (List ℕ)) (store : Store) (many : length memory ≡ nodes) (holds : Holds memory store) (on : ContinuesCatalog kept (heads_of store)) (more : List Item)
     (es : List Entry) (hold : ComparesHold es memory (map compare_of (done_reads a) ++ more)) where
   abbrev f : Forest
   f = holds.forest
@@ -321,21 +321,21 @@ module _ (moves_tell : MovesTell) (moves_read : MovesRead) (moves_come_once : Mo
       ∙ (ap (λ (l : List Item). l ++ map write_of (counts_written a)) (writes_held (settled.changed ++ settled.new) ∙ map-append write_held settled.changed settled.new)
       ∙ ap (λ (l : List Item). (map write_held settled.changed ++ map write_held settled.new) ++ l) (writes_counted now giving))
 
-  pub done_acts : AreApart (done_writes a) → PlanActs memory store holds (Tx a.name a.steps) (record { nodes = nodes; items = map compare_of (done_reads a) ++ map write_of (done_writes a) }) a.reply
+  pub done_acts : ImagesAreApart (done_writes a) → PlanActs memory store holds (Tx a.name a.steps) (record { nodes = nodes; items = map compare_of (done_reads a) ++ map write_of (done_writes a) }) a.reply
   done_acts apart =
       subst (λ (l : List Image). let m : Mini = record { nodes = nodes; items = map compare_of (done_reads a) ++ map write_of l } in PlanActs memory store holds (Tx a.name a.steps) m a.reply) (sym writes_are)
       (acts f store nodes a in_f.version a.draft.read settled.changed settled.new giving was now facts memory holds refl (numbers_go_on memory store holds)
       (number kept nodes a is a.draft.read giving was more memory store many holds on moves_tell moves_read moves_come_once reads_are_draft compares_tell)
       (subst (λ (m : List (List ℕ)). Holds m (applied store (Tx a.name a.steps)).store)
       (sym (compares_pass memory (done_reads a) (map write_of (map held_image (settled.changed ++ settled.new) ++ counts_written a)) ∙ ap (memory_after memory) items_are)) settled.effect)
-      (told_all.replies ∙ sym (applied_reply f store a.name a.version.0 a.steps in_f may_run)) (subst AreApart writes_are apart))
+      (told_all.replies ∙ sym (applied_reply f store a.name a.version.0 a.steps in_f may_run)) (subst ImagesAreApart writes_are apart))
 
 pub done_is_planned : MovesTell → MovesRead → MovesComeOnce → MovesArePlaced → QuietMoves → ReadsAreDraft → NextSlotsAreFree → WritesLeaveStore → ComparesTell → NumbersGoOn → PlansAreInOrder → DoneIsPlanned
 done_is_planned moves_tell moves_read moves_come_once moves_are_placed quiet_moves reads_are_draft next_slots_are_free writes_leave_store compares_tell numbers_go_on in_order kept t a is dn apart_reads apart_writes reads_are writes_are es = record {
   acts = λ memory store many sizes holds on hold.
       subst (λ (m : Mini). PlanActs memory store holds (Tx a.name a.steps) m a.reply) (sym mini_is)
       (done_acts moves_tell moves_read moves_come_once moves_are_placed quiet_moves reads_are_draft next_slots_are_free writes_leave_store compares_tell numbers_go_on kept t.nodes a is dn memory store many holds on (map write_of (in_item_order t.writes)) es
-      (subst (λ (rs : List Image). ComparesHold es memory (map compare_of rs ++ map write_of (in_item_order t.writes))) reads_are hold) (subst AreApart writes_are (apart_in_order t.writes apart_writes)));
+      (subst (λ (rs : List Image). ComparesHold es memory (map compare_of rs ++ map write_of (in_item_order t.writes))) reads_are hold) (subst ImagesAreApart writes_are (apart_in_order t.writes apart_writes)));
   order = in_order t apart_reads apart_writes;
   kind = tt;
 }

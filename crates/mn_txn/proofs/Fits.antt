@@ -49,7 +49,7 @@ use Rattle.mn_txn.proofs.Worn.{writes_are}
 
 -- Lists
 
-all_filter : {X : Type 0} (P : X → Type 0) (t : X → Bool) (xs : List X) → AllByRecursion P xs
+pub all_filter : {X : Type 0} (P : X → Type 0) (t : X → Bool) (xs : List X) → AllByRecursion P xs
     → AllByRecursion P (filter t xs)
 all_filter P t [] all = tt
 all_filter {X} P t (x ∷ xs) all = by_test (t x) (all_filter P t xs all.1)
@@ -208,10 +208,10 @@ module _ (moves_read : MovesRead) (moves_are_few : MovesAreFew) (moves_touch_lea
   run_many : length (done_in a.moves) ≤ 16
   run_many = let e = ap (λ (l : List Step). length l) (sym run.1) in let f = length-append (done_in a.moves) run.0 in let many = is.many in omega arith
 
-  run_steps : AllByRecursion IsStep (done_in a.moves)
+  pub run_steps : AllByRecursion IsStep (done_in a.moves)
   run_steps = (all_split IsStep (done_in a.moves) run.0 (subst (AllByRecursion IsStep) (sym run.1) is.steps)).0
 
-  limits : (length a.draft.read ≤ 241) × (a.draft.overlay.fresh ≤ 518)
+  pub limits : (length a.draft.read ≤ 241) × (a.draft.overlay.fresh ≤ 518)
   limits = moves_are_few (parents_of kept) a.version a.entry.root a.moves a.draft is.entry.root is.leads run_many
 
   leaf : (addr : Addr) × (is_noted (leaves_at a.moves a.draft.read) addr ≡ true)

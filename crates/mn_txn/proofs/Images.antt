@@ -7,7 +7,7 @@ use Rattle.indexmap.specs.IndexMap.{insert_entry}
 use Rattle.mn_base.specs.declared.ids.NodeNo.{NodeNo}
 use Rattle.mn_txn.specs.declared.image.Image.{Image}
 use Rattle.mn_txn.specs.declared.place.Place.{Place}
-use Rattle.mn_txn.specs.State.{State, image, is_at, joined, bytes_at, AreApart, place_of, image_at, images_of}
+use Rattle.mn_txn.specs.State.{State, image, is_at, joined, bytes_at, ImagesAreApart, place_of, image_at, images_of}
 use Rattle.mn_txn.specs.Plan.{is_last, is_last_read, is_worn}
 
 abbrev pub same : Place → Place → Bool
@@ -39,11 +39,11 @@ apart_more x i (y ∷ ys) f a = by (is_at i.node i.start y) (apart_more x i ys f
     by true later = a
     by false later = (a.0, later)
 
-pub apart_joined : (xs : List Image) (i : Image) → AreApart xs → AreApart (joined xs i)
+pub apart_joined : (xs : List Image) (i : Image) → ImagesAreApart xs → ImagesAreApart (joined xs i)
 apart_joined [] i a = (tt, tt)
 apart_joined (x ∷ xs) i a = by (is_at i.node i.start x) refl (apart_joined xs i a.1)
   where
-    by : (b : Bool) → is_at i.node i.start x ≡ b → AreApart (joined xs i) → AreApart (cond b (image x.node x.start i.bytes ∷ xs) (x ∷ joined xs i))
+    by : (b : Bool) → is_at i.node i.start x ≡ b → ImagesAreApart (joined xs i) → ImagesAreApart (cond b (image x.node x.start i.bytes ∷ xs) (x ∷ joined xs i))
     by true t later = a
     by false f later = (apart_more x i xs (turned x i ∙ f) a.0, later)
 

@@ -20,14 +20,14 @@ use Rattle.mn_page.specs.Forest.{Forest, node_count, laid_of, space_laid, page_a
 use Rattle.mn_page.specs.Holds.{Holds}
 use Rattle.mn_page.specs.Overlay.{Held, held_at, new_addr}
 use Rattle.mn_tree.specs.Walk.{is_live}
-use Rattle.mn_tree.specs.Trees.{is_noted, IsShown}
+use Rattle.mn_tree.specs.Trees.{is_noted, ShowsTree}
 use Rattle.mn_tree.specs.Laws.{ReadsAreDraft}
 use Rattle.mn_tree.specs.Moves.{Move, comes_in, came_at, is_leaf_at, leaves_at}
-use Rattle.mn_tree.specs.MoveLaws.{Agrees, AreTold, MovesTell, AreReads, MovesRead, MovesComeOnce}
+use Rattle.mn_tree.specs.MoveLaws.{AgreesWithEntries, AreTold, MovesTell, AreReads, MovesRead, MovesComeOnce}
 use Rattle.mn_tree.proofs.Trees.Puts.{addr_is}
 use Rattle.mn_tree.proofs.Trees.Told.{noted_filter}
 use Rattle.mn_world.specs.declared.entry.Entry.{Entry}
-use Rattle.mn_world.specs.Planned.{Continues, ComparesHold}
+use Rattle.mn_world.specs.Planned.{ContinuesCatalog, ComparesHold}
 use Rattle.mn_world.specs.Growth.{AreNextSlots, taken_on, giving_nodes, node_no, count_in, AreMet, ComparesTell}
 use Rattle.mn_world.proofs.Plans.Compares.{still_named}
 use Rattle.mn_world.proofs.Plans.Kept.{serves_kept}
@@ -90,7 +90,7 @@ nodes_are memory store holds =
     ∙ (length-map (range_with_len 0 (node_count holds.forest)) (space_laid (laid_of holds.forest)) ∙ length-range_with_len 0 (node_count holds.forest))
 
 -- a try in a memory in which its compares are met
-module _ (kept : List Head) (nodes : ℕ) (a : Attempt) (is : IsAttempt kept nodes a) (addrs : List Addr) (giving : List ℕ) (was : ℕ → ℕ) (more : List Item) (memory : List (List ℕ)) (store : Store) (many : length memory ≡ nodes) (holds : Holds memory store) (on : Continues kept (heads_of store))
+module _ (kept : List Head) (nodes : ℕ) (a : Attempt) (is : IsAttempt kept nodes a) (addrs : List Addr) (giving : List ℕ) (was : ℕ → ℕ) (more : List Item) (memory : List (List ℕ)) (store : Store) (many : length memory ≡ nodes) (holds : Holds memory store) (on : ContinuesCatalog kept (heads_of store))
     (moves_tell : MovesTell) (moves_read : MovesRead) (moves_come_once : MovesComeOnce) (reads_are_draft : ReadsAreDraft) (compares_tell : ComparesTell) where
   abbrev f : Forest
   f = holds.forest
@@ -104,7 +104,7 @@ module _ (kept : List Head) (nodes : ℕ) (a : Attempt) (is : IsAttempt kept nod
   pub version : InStore f store a.name a.version.0
   version = in_store memory store holds a.name a.version.0 number
 
-  pub shown : IsShown f.entries (page_at f) store
+  pub shown : ShowsTree f.entries (page_at f) store
   shown = (reads_are_draft memory store holds [] tt).shown
 
   pub none_new : (n : ℕ) → page_at f (new_addr n) ≡ None
@@ -114,7 +114,7 @@ module _ (kept : List Head) (nodes : ℕ) (a : Attempt) (is : IsAttempt kept nod
   read = moves_read (parents_of kept) a.version a.entry.root a.moves a.draft is.leads
 
   -- the kept catalog says of each page whether it serves the version as the store does
-  pub agrees : Agrees (parents_of kept) f.entries a.version.0
+  pub agrees : AgreesWithEntries (parents_of kept) f.entries a.version.0
   unfolding is_live
   agrees p =
       sym (serves_kept kept (heads_of store) on p.made.0 p.copied a.version.0 (number_within kept a.name a.version.0 is.named)) ∙ ap (λ (hs : List Head). serves (parents_of hs) p.made.0 p.copied a.version.0) holds.shown.heads

@@ -13,6 +13,9 @@ mod Children
 mod ChildOrder
 mod ChildPlan
 mod ChildTxn
+mod AttemptOrder
+mod AttemptTxn
+mod AttemptPlan
 mod Slots
 mod Worn
 mod Fits

@@ -13,7 +13,7 @@ use Rattle.mn_world.specs.Places.{Place}
 use Rattle.mn_world.specs.Planned.{compare_place, write_place, compare_places, write_places, place_rank, may_precede, are_in_order}
 use Rattle.mn_txn.specs.declared.image.Image.{Image}
 use Rattle.mn_txn.specs.declared.image.Turn.{Turn}
-use Rattle.mn_txn.specs.State.{State, is_at, AreApart}
+use Rattle.mn_txn.specs.State.{State, is_at, ImagesAreApart}
 use Rattle.mn_txn.specs.Order.{turn_cmp, stands_before, placed, in_item_order}
 use Rattle.mn_txn.specs.Plan.{plan_of, compare_of, write_of}
 use Rattle.mn_txn.specs.Laws as laws
@@ -35,15 +35,15 @@ pub same_images : (xs : List Image) → IsPermutation xs (in_item_order xs)
 same_images [] = IsPermutation-refl []
 same_images (x ∷ xs) = IsPermutation-trans (x ∷ xs) (x ∷ in_item_order xs) (in_item_order (x ∷ xs)) (IsPermutation-cons x xs (in_item_order xs) (same_images xs)) (same_placed x (in_item_order xs))
 
-apart_placed : (i : Image) (xs : List Image) → AreApart (i ∷ xs) → AreApart (placed i xs)
+apart_placed : (i : Image) (xs : List Image) → ImagesAreApart (i ∷ xs) → ImagesAreApart (placed i xs)
 apart_placed i [] a = (tt, tt)
 apart_placed i (x ∷ xs) a = by (stands_before x i) (apart_placed i xs (a.0.1, a.1.1))
   where
-    by : (b : Bool) → AreApart (placed i xs) → AreApart (cond b (x ∷ placed i xs) (i ∷ x ∷ xs))
+    by : (b : Bool) → ImagesAreApart (placed i xs) → ImagesAreApart (cond b (x ∷ placed i xs) (i ∷ x ∷ xs))
     by true later = (all_placed (λ y. is_at x.node x.start y ≡ false) i xs (turned x i ∙ a.0.0) a.1.0, later)
     by false later = a
 
-pub apart_in_order : (xs : List Image) → AreApart xs → AreApart (in_item_order xs)
+pub apart_in_order : (xs : List Image) → ImagesAreApart xs → ImagesAreApart (in_item_order xs)
 apart_in_order [] a = tt
 apart_in_order (x ∷ xs) a = apart_placed x (in_item_order xs) (all_in_order (λ y. is_at x.node x.start y ≡ false) xs a.0, apart_in_order xs a.1)
 
@@ -82,16 +82,16 @@ by_turn r q s t n m late apart = grind (arith, nat_tests)
 precedes : (a b : Image) → stands_before b a ≡ false → is_at a.node a.start b ≡ false → may_precede a.node a.start b.node b.start ≡ true
 precedes a b late apart = by_turn (place_rank a.start) (place_rank b.start) a.start b.start a.node.0 b.node.0 late apart
 
-writes_in_order : (xs : List Image) → IsUp xs → AreApart xs → are_in_order (map write_of xs) ≡ true
+writes_in_order : (xs : List Image) → IsUp xs → ImagesAreApart xs → are_in_order (map write_of xs) ≡ true
 writes_in_order [] u a = refl
 writes_in_order (x ∷ []) u a = refl
 writes_in_order (x ∷ (y ∷ ys)) u a = both_true (may_precede x.node x.start y.node y.start) (are_in_order (map write_of (y ∷ ys))) (precedes x y u.0.0 a.0.0) (writes_in_order (y ∷ ys) u.1 a.1)
 
-behind : (x : Image) (ys : List Image) → IsUp ys → AreApart ys → are_in_order (compare_of x ∷ map write_of ys) ≡ true
+behind : (x : Image) (ys : List Image) → IsUp ys → ImagesAreApart ys → are_in_order (compare_of x ∷ map write_of ys) ≡ true
 behind x [] u a = refl
 behind x (y ∷ ys) u a = writes_in_order (y ∷ ys) u a
 
-all_in_turn : (xs ys : List Image) → IsUp xs → AreApart xs → IsUp ys → AreApart ys → are_in_order (map compare_of xs ++ map write_of ys) ≡ true
+all_in_turn : (xs ys : List Image) → IsUp xs → ImagesAreApart xs → IsUp ys → ImagesAreApart ys → are_in_order (map compare_of xs ++ map write_of ys) ≡ true
 all_in_turn [] ys u a v b = writes_in_order ys v b
 all_in_turn (x ∷ []) ys u a v b = behind x ys v b
 all_in_turn (x ∷ (z ∷ zs)) ys u a v b =

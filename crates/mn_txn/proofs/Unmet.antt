@@ -19,10 +19,10 @@ use Rattle.mn_tree.specs.Moves.{came_at, is_leaf_at, leaves_at}
 use Rattle.mn_tree.specs.MoveLaws.{AreTold, MovesTell, AreReads, MovesRead, MovesComeOnce}
 use Rattle.mn_tree.proofs.Trees.Told.{noted_filter}
 use Rattle.mn_world.specs.declared.entry.Entry.{Entry}
-use Rattle.mn_world.specs.Planned.{Continues, PlanActs, ComparesHold}
+use Rattle.mn_world.specs.Planned.{ContinuesCatalog, PlanActs, ComparesHold}
 use Rattle.mn_world.specs.Growth.{ComparesTell, NumbersGoOn}
 use Rattle.mn_txn.specs.declared.image.Image.{Image}
-use Rattle.mn_txn.specs.State.{AreApart}
+use Rattle.mn_txn.specs.State.{ImagesAreApart}
 use Rattle.mn_txn.specs.Order.{in_item_order}
 use Rattle.mn_txn.specs.Plan.{plan_of, compare_of, write_of}
 use Rattle.mn_txn.specs.Laws.{PlansAreInOrder}
@@ -33,7 +33,7 @@ use Rattle.mn_txn.proofs.Known.{number, version, page_of, told, may}
 use Rattle.mn_txn.proofs.Attempts.{Facts, acts, compares_pass}
 
 module _ (moves_tell : MovesTell) (moves_read : MovesRead) (moves_come_once : MovesComeOnce) (reads_are_draft : ReadsAreDraft) (compares_tell : ComparesTell) (numbers_go_on : NumbersGoOn) (kept : List Head) (nodes : ℕ) (a : Attempt) (is : IsAttempt kept nodes a) (un : IsUnmet a) (memory : List (List ℕ)) (store : Store)
-    (many : length memory ≡ nodes) (holds : Holds memory store) (on : Continues kept (heads_of store)) where
+    (many : length memory ≡ nodes) (holds : Holds memory store) (on : ContinuesCatalog kept (heads_of store)) where
   abbrev f : Forest
   f = holds.forest
 
@@ -94,7 +94,7 @@ unmet_is_planned moves_tell moves_read moves_come_once reads_are_draft compares_
       subst (λ (m : Mini). PlanActs memory store holds (Tx a.name a.steps) m a.reply) (sym mini_is)
       (unmet_acts moves_tell moves_read moves_come_once reads_are_draft compares_tell numbers_go_on kept t.nodes a is un memory store many holds on es
       (subst (λ (m : Mini). ComparesHold es memory m.items) mini_is hold));
-  order = in_order t apart_reads (subst AreApart (sym no_writes) tt);
+  order = in_order t apart_reads (subst ImagesAreApart (sym no_writes) tt);
   kind = tt;
 }
   where

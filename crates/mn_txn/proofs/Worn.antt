@@ -29,7 +29,7 @@ use Rattle.mn_tree.proofs.Trees.Told.{noted_filter}
 use Rattle.mn_world.specs.Growth.{AreNextSlots, taken_on, giving_nodes}
 use Rattle.mn_world.proofs.Plans.Told.{all_there}
 use Rattle.mn_txn.specs.declared.image.Image.{Image}
-use Rattle.mn_txn.specs.State.{State, is_at, bytes_at, AreApart}
+use Rattle.mn_txn.specs.State.{State, is_at, bytes_at, ImagesAreApart}
 use Rattle.mn_txn.specs.Order.{in_item_order}
 use Rattle.mn_txn.specs.Plan.{is_last, is_last_read, is_worn, first_worn}
 use Rattle.mn_txn.specs.Attempt.{Attempt, IsAttempt, page_image, came_images, entry_images, count_image}
@@ -81,7 +81,7 @@ worn_some t (x ∷ xs) node start e = by_worn (is_worn t x) refl e (worn_some t 
 -- Bytes that were read
 
 -- an image that stands among others apart from it
-pub at_read : (xs : List Image) (i : Image) → AreApart xs → Contains xs i
+pub at_read : (xs : List Image) (i : Image) → ImagesAreApart xs → Contains xs i
     → bytes_at i.node i.start xs ≡ Some i.bytes
 at_read [] i apart (k, low, is) = absurd (omega arith)
 at_read (x ∷ xs) i apart (zero, low, is) =
@@ -171,7 +171,7 @@ module _ (moves_read : MovesRead) (placed_are_put : PlacedArePut) (kept : List H
         h.2,
       )
 
-  numbers : first_worn t (in_item_order t.writes) ≡ None → (addr : Addr) (page : Page)
+  pub numbers : first_worn t (in_item_order t.writes) ≡ None → (addr : Addr) (page : Page)
       → is_noted a.draft.overlay.changed addr ≡ true → came_at a.moves addr ≡ Some page
       → page.seq + 1 < 2 ^ 64
   numbers none addr page noted came =

@@ -24,7 +24,7 @@ use Rattle.mn_world.specs.declared.entry.Entry.{Entry}
 use Rattle.mn_world.specs.Planned.{IsPlanned}
 use Rattle.mn_world.specs.Growth.{AreNextSlots, taken_on, giving_nodes, node_no}
 use Rattle.mn_txn.specs.declared.image.Image.{Image}
-use Rattle.mn_txn.specs.State.{State, image, AreApart}
+use Rattle.mn_txn.specs.State.{State, image, ImagesAreApart}
 use Rattle.mn_txn.specs.Order.{in_item_order}
 use Rattle.mn_txn.specs.Plan.{plan_of}
 
@@ -110,12 +110,22 @@ unmet_reads a = came_images a.moves (leaves_at a.moves a.draft.read) ++ entry_im
 abbrev pub DoneIsPlanned : Type 0
 DoneIsPlanned =
     (kept : List Head) (t : State) (a : Attempt) → IsAttempt kept t.nodes a → IsDone t.nodes a
-    → AreApart t.reads → AreApart t.writes → in_item_order t.reads ≡ done_reads a
+    → ImagesAreApart t.reads → ImagesAreApart t.writes → in_item_order t.reads ≡ done_reads a
     → in_item_order t.writes ≡ done_writes a
     → (es : List Entry) → IsPlanned es kept (Tx a.name a.steps) (plan_of t) a.reply
 
 abbrev pub UnmetIsPlanned : Type 0
 UnmetIsPlanned =
     (kept : List Head) (t : State) (a : Attempt) → IsAttempt kept t.nodes a → IsUnmet a
-    → AreApart t.reads → in_item_order t.reads ≡ unmet_reads a → t.writes ≡ []
+    → ImagesAreApart t.reads → in_item_order t.reads ≡ unmet_reads a → t.writes ≡ []
     → (es : List Entry) → IsPlanned es kept (Tx a.name a.steps) (plan_of t) a.reply
+
+-- Order
+
+-- what such a try reads and writes stands in the order of items
+abbrev pub AttemptsStandInOrder : Type 0
+AttemptsStandInOrder =
+    (a : Attempt) → a.version.0 < max_versions
+    → (in_item_order (done_reads a) ≡ done_reads a)
+    × (in_item_order (done_writes a) ≡ done_writes a)
+    × (in_item_order (unmet_reads a) ≡ unmet_reads a)

@@ -18,7 +18,7 @@ use Rattle.mn_world.specs.declared.entry.Entry.{Entry}
 use Rattle.mn_world.specs.Planned.{IsPlanned}
 use Rattle.mn_world.specs.Growth.{AreNextSlots, node_no}
 use Rattle.mn_txn.specs.declared.image.Image.{Image}
-use Rattle.mn_txn.specs.State.{State, image, AreApart}
+use Rattle.mn_txn.specs.State.{State, image, ImagesAreApart}
 use Rattle.mn_txn.specs.Order.{in_item_order}
 use Rattle.mn_txn.specs.Plan.{plan_of}
 use Rattle.mn_txn.specs.Attempt.{page_image, count_image}
@@ -101,7 +101,7 @@ abbrev pub SnapshotIsPlanned : Type 0
 SnapshotIsPlanned =
     (kept : List Head) (t : State) (c : ChildTry) → IsChildTry kept t.nodes c
     → refusal kept (Snapshot c.name c.child) ≡ None → c.entry.seq + 1 < 2 ^ 64
-    → AreApart t.reads → AreApart t.writes
+    → ImagesAreApart t.reads → ImagesAreApart t.writes
     → in_item_order t.reads ≡ child_reads c → in_item_order t.writes ≡ snapshot_writes c
     → (es : List Entry) → IsPlanned es kept (Snapshot c.name c.child) (plan_of t) Made
 
@@ -110,7 +110,7 @@ abbrev pub BranchIsPlanned : Type 0
 BranchIsPlanned =
     (kept : List Head) (t : State) (c : ChildTry) → IsChildTry kept t.nodes c
     → refusal kept (Branch c.name c.child) ≡ None
-    → AreApart t.reads → AreApart t.writes
+    → ImagesAreApart t.reads → ImagesAreApart t.writes
     → in_item_order t.reads ≡ child_reads c → in_item_order t.writes ≡ branch_writes c
     → (es : List Entry) → IsPlanned es kept (Branch c.name c.child) (plan_of t) Made
 

@@ -9,7 +9,7 @@ use Rattle.mn_page.specs.Space.{count_start}
 use Rattle.mn_world.specs.Places.{Place}
 use Rattle.mn_world.specs.Planned.{place_rank, compare_places, write_places, are_in_order, IsNextNumber}
 use Rattle.mn_txn.specs.declared.image.Image.{Image}
-use Rattle.mn_txn.specs.State.{State, image, AreApart}
+use Rattle.mn_txn.specs.State.{State, image, ImagesAreApart}
 use Rattle.mn_txn.specs.Order.{in_item_order}
 use Rattle.mn_txn.specs.Plan.{plan_of}
 
@@ -20,7 +20,7 @@ image_place i = record { node = i.node; start = i.start; length = length i.bytes
 -- Order
 
 abbrev pub PlansAreInOrder : Type 0
-PlansAreInOrder = (t : State) → AreApart t.reads → AreApart t.writes → IsTrue (are_in_order (plan_of t).items)
+PlansAreInOrder = (t : State) → ImagesAreApart t.reads → ImagesAreApart t.writes → IsTrue (are_in_order (plan_of t).items)
 
 -- it stands in a slot
 abbrev pub is_page : Image → Bool

@@ -3,7 +3,9 @@ pub mod Order
 pub mod Plan
 pub mod Laws
 pub mod Attempt
+pub mod AttemptPlan
 pub mod Children
 pub mod ChildPlan
+pub mod Seen
 pub mod Slots
 pub mod Tries

@@ -31,9 +31,9 @@ bytes_at node start [] = None
 bytes_at node start (x ∷ xs) = if is_at node start x then Some x.bytes else bytes_at node start xs
 
 -- no two stand at one place
-abbrev pub AreApart : List Image → Type 0
-AreApart [] = ⊤
-AreApart (x ∷ xs) = AllByRecursion (λ y. is_at x.node x.start y ≡ false) xs × AreApart xs
+abbrev pub ImagesAreApart : List Image → Type 0
+ImagesAreApart [] = ⊤
+ImagesAreApart (x ∷ xs) = AllByRecursion (λ y. is_at x.node x.start y ≡ false) xs × ImagesAreApart xs
 
 -- Inside a transaction
 

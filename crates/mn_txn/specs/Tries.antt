@@ -21,7 +21,7 @@ use Rattle.mn_world.specs.Shown.{Seen}
 use Rattle.mn_world.specs.Needs.{ReadsTree, NeedsSlots, WritesOld}
 use Rattle.mn_world.specs.Answers.{ShowsBytes}
 use Rattle.mn_world.specs.Growth.{AreNextSlots}
-use Rattle.mn_txn.specs.State.{State, bytes_at, AreApart}
+use Rattle.mn_txn.specs.State.{State, bytes_at, ImagesAreApart}
 use Rattle.mn_txn.specs.Order.{in_item_order}
 use Rattle.mn_txn.specs.Plan.{can_plan, first_worn}
 use Rattle.mn_txn.specs.Attempt.{Attempt, IsAttempt, IsDone}
@@ -29,14 +29,14 @@ use Rattle.mn_txn.specs.Attempt.{done_reads, done_writes, unmet_reads}
 
 -- the transaction has read and is to write just what the try asks for, where its Checks are met
 pub record IsFor (t : State) (a : Attempt) : Type 0 where
-  pub apart : AreApart t.reads
+  pub apart : ImagesAreApart t.reads
   pub reads : in_item_order t.reads ≡ done_reads a
   pub writes : in_item_order t.writes ≡ done_writes a
 
 -- Done
 
--- with the slots that are planned by the counts, and no page to be written that has the last number,
--- it is done
+-- with the slots that are planned by the counts, and no page to be written that has the last
+-- number, it is done
 abbrev pub PlannedIsDone : Type 0
 PlannedIsDone =
     (kept : List Head) (t : State) (a : Attempt) (found : List (Option (List ℕ)))

@@ -1,79 +1,25 @@
 ghost use Rattle.std.specs.Prelude.{◌≡◌, ◌<◌, None, false, length, IfOk, IfErr, OnOk};
-ghost use Rattle.byteorder.specs.Endian.{big_bytes};
 ghost use Rattle.mn_base.specs.Store.{max_versions, refusal};
 ghost use Rattle.mn_base.specs.Tree.{has_version};
 ghost use Rattle.mn_base.specs.declared.op.Op.TheVariants as Does;
 ghost use Rattle.mn_page.specs.Forest.{heads_in};
-ghost use Rattle.mn_page.specs.Grammar.{IsPage, page_bytes, entry_bytes};
-ghost use Rattle.mn_page.specs.Space.{count_size, entry_start, max_slots, slot_start};
+ghost use Rattle.mn_page.specs.Grammar.{IsPage};
+ghost use Rattle.mn_page.specs.Space.{max_slots};
 ghost use Rattle.mn_txn.specs.ChildPlan.{IsBranchPlan, IsSnapshotPlan, MayHaveChild};
 ghost use Rattle.mn_txn.specs.ChildPlan.{BranchPlanned, SnapshotPlanned};
 ghost use Rattle.mn_txn.specs.ChildPlan.{RefusesBranch, RefusesSnapshot};
 ghost use Rattle.mn_txn.specs.ChildPlan.{IsChildPlan, IsChildState, MayPlanChild, RefusesChild};
 ghost use Rattle.mn_txn.specs.ChildPlan.{read_state, with_count, with_entries, with_pages};
 
-use crate::image::{COUNT_START, SLOTS_START};
+use crate::image::COUNT_START;
+use crate::spelled::{CATALOG_NODE, count_bytes, entry_bytes, entry_start, page_bytes, slot_start};
 use crate::{PlanError, Txn, branch_is_planned, children_stand_in_order, snapshot_is_planned};
-use byteorder::{BigEndian, ByteOrder};
-use mn_base::{Addr, Bytes, Name, NoMemory, NodeNo, VersionNo};
+use mn_base::{Addr, Name, NoMemory, VersionNo};
 use mn_catalog::Catalog;
 use mn_cow::copy_for;
 use mn_mini::Minitransaction;
 use mn_page::{CatEntry, Page, copies_are_pages};
 use std::alloc::Global;
-
-/// The node of the catalog.
-const CATALOG_NODE: NodeNo = NodeNo(0);
-
-/// Where the catalog begins, and how many bytes an entry has.
-const CATALOG_START: u32 = 64;
-
-const ENTRY_SIZE: u32 = 64;
-
-/// How many bytes a slot has.
-const SLOT_SIZE: u32 = 1_024;
-
-/// Where the entry of a version begins.
-fn entry_start(version: VersionNo) -> u32
-    ensures { result ≡ entry_start version.0 }
-{
-    CATALOG_START + ENTRY_SIZE * u32::from(version.0)
-}
-
-/// Where a slot begins.
-fn slot_start(slot: u16) -> u32
-    ensures { result ≡ slot_start slot }
-{
-    SLOTS_START + SLOT_SIZE * u32::from(slot)
-}
-
-/// The bytes of a page.
-fn page_bytes(alloc: Global, page: &Page) -> Result<Bytes, NoMemory>
-    requires { IsPage page.now }
-    ensures { IfOk result (λ bytes. bytes ≡ page_bytes page.now) }
-{
-    let mut bytes = [0u8; 1_024];
-    page.write(&mut bytes);
-    Ok(Bytes::from_vec(bytes.to_vec(alloc)?))
-}
-
-/// The bytes of an entry.
-fn entry_bytes(alloc: Global, entry: &CatEntry) -> Result<Bytes, NoMemory>
-    ensures { IfOk result (λ bytes. bytes ≡ entry_bytes entry.now) }
-{
-    let mut bytes = [0u8; 64];
-    entry.write(&mut bytes);
-    Ok(Bytes::from_vec(bytes.to_vec(alloc)?))
-}
-
-/// The bytes of a count.
-fn count_bytes(alloc: Global, count: u16) -> Result<Bytes, NoMemory>
-    ensures { IfOk result (λ bytes. bytes ≡ big_bytes count_size count) }
-{
-    let mut bytes = [0u8; 8];
-    BigEndian::write_u64(&mut bytes, u64::from(count));
-    Ok(Bytes::from_vec(bytes.to_vec(alloc)?))
-}
 
 /// A transaction that has read what a child of the version needs: the version's root page and its
 /// entry, the first unused entry, and the count of the slot's node.

@@ -7,7 +7,8 @@ use thiserror::Error;
 /// Why there is no plan.
 #[derive(Clone, Copy, Debug, PartialEq, Eq, Error)]
 pub enum PlanError {
-    /// The page or entry at `start` of the node is to be written, and was read with the last sequence number, 2^64 - 1.
+    /// The page or entry at `start` of the node is to be written, and was read with the last
+    /// sequence number, 2^64 - 1.
     #[error("the place at {start} of node {node:?} has the last sequence number")]
     Worn { node: NodeNo, start: u32 },
     #[error("no memory")]

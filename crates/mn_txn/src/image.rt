@@ -2,7 +2,8 @@ ghost use Rattle.std.specs.Prelude.{◌≡◌};
 
 use mn_base::{Bytes, NodeNo};
 
-/// The bytes of a page, an entry or a count, with the place in a node's space at which they stand or are to stand.
+/// The bytes of a page, an entry or a count, with the place in a node's space at which they stand
+/// or are to stand.
 #[derive(Debug, Drop)]
 pub struct Image {
     pub node: NodeNo,

@@ -29,8 +29,8 @@ pub fn tries_show_causes()
     mn_tree::tries_show_needs();
 }
 
-/// A page that such a try changed and that was read with the last sequence number may be answered as
-/// worn.
+/// A page that such a try changed and that was read with the last sequence number may be answered
+/// as worn.
 pub fn worn_pages_show()
     ensures { WornPagesShow }
 {

@@ -2,7 +2,7 @@ ghost use Rattle.std.specs.Prelude.{◌≡◌, ◌++◌, [], map, Some, None, If
 ghost use Rattle.mn_mini.specs.declared.error.MiniError.TheVariants as mini;
 ghost use Rattle.mn_page.specs.Space.{slot_start};
 ghost use Rattle.mn_txn.specs.declared.error.PlanError.TheVariants as plan;
-ghost use Rattle.mn_txn.specs.State.{image, joined, image_at, images_of, AreApart};
+ghost use Rattle.mn_txn.specs.State.{image, joined, image_at, images_of, ImagesAreApart};
 ghost use Rattle.mn_txn.specs.Order.{in_item_order};
 ghost use Rattle.mn_txn.specs.Plan.{plan_of, compare_of, write_of, is_inside, are_inside, can_plan, is_last, is_worn, first_worn, RefusesPlan};
 
@@ -19,14 +19,16 @@ use std::marker::Model;
 /// How many bytes a slot has.
 const SLOT_SIZE: u32 = 1_024;
 
-/// How many bytes of a page or an entry its sequence number has. They stand first, the highest first.
+/// How many bytes of a page or an entry its sequence number has. They stand first, the highest
+/// first.
 const NUMBER_SIZE: usize = 8;
 
 /// For how many places there is room at once.
 const FIRST_ROOM: usize = 8;
 
-/// What a try of an operation has read and is to write, over so many nodes: the pages that it read dirty, the read set, which the plan
-/// compares, and the writes, each in the order in which its places came in. Contracts see these as lists.
+/// What a try of an operation has read and is to write, over so many nodes: the pages that it read
+/// dirty, the read set, which the plan compares, and the writes, each in the order in which its
+/// places came in. Contracts see these as lists.
 #[derive(Drop)]
 pub struct Txn {
     nodes: u8,
@@ -36,13 +38,13 @@ pub struct Txn {
 }
 
 impl Model for Txn {
-    ghost use Rattle.mn_txn.specs.State.{State, images_of, AreApart};
+    ghost use Rattle.mn_txn.specs.State.{State, images_of, ImagesAreApart};
 
     ghost Value = { State };
 
     ghost view = { λ t. record { nodes = t.nodes; dirty = images_of t.dirty.entries; reads = images_of t.reads.entries; writes = images_of t.writes.entries } };
 
-    ghost invariant = { λ t. AreApart (images_of t.dirty.entries) × AreApart (images_of t.reads.entries) × AreApart (images_of t.writes.entries) };
+    ghost invariant = { λ t. ImagesAreApart (images_of t.dirty.entries) × ImagesAreApart (images_of t.reads.entries) × ImagesAreApart (images_of t.writes.entries) };
 }
 
 /// Keeps the bytes of a place, in place of older ones.
@@ -54,7 +56,7 @@ fn keep(
 ) -> Result<(), NoMemory>
     ensures kept { OnOk result (images_of images.new.entries ≡ joined (images_of images.old.entries) (image node start bytes)) }
     ensures unchanged { OnErr result (images_of images.new.entries ≡ images_of images.old.entries) }
-    ensures apart { AreApart (images_of images.old.entries) → AreApart (images_of images.new.entries) }
+    ensures apart { ImagesAreApart (images_of images.old.entries) → ImagesAreApart (images_of images.new.entries) }
 {
     images.insert(Place::new(node, start), bytes)?;
     Ok(())
@@ -153,7 +155,8 @@ fn no_memory(error: MiniError) -> PlanError
 }
 
 impl Txn {
-    /// A transaction over so many nodes that has read nothing and writes nothing. NoMemory: there was no memory for it.
+    /// A transaction over so many nodes that has read nothing and writes nothing. NoMemory: there
+    /// was no memory for it.
     pub fn new(alloc: Global, nodes: u8) -> Result<Self, NoMemory>
         ensures { IfOk result (λ txn. txn ≡ record { nodes = nodes; dirty = []; reads = []; writes = [] }) }
     {
@@ -165,8 +168,8 @@ impl Txn {
         })
     }
 
-    /// Keeps a page that was read and that the plan doesn't compare, in place of older bytes of it. NoMemory: there was no memory
-    /// for it, and the transaction is as before.
+    /// Keeps a page that was read and that the plan doesn't compare, in place of older bytes of it.
+    /// NoMemory: there was no memory for it, and the transaction is as before.
     pub fn dirty_read(&mut self, alloc: Global, addr: Addr, bytes: &[u8]) -> Result<(), NoMemory>
         ensures kept { OnOk result (self.new ≡ record { nodes = self.old.nodes; dirty = joined self.old.dirty (image addr.node (slot_start addr.slot) bytes.now); reads = self.old.reads; writes = self.old.writes }) }
         ensures unchanged { OnErr result (self.new ≡ self.old) }
@@ -176,8 +179,9 @@ impl Txn {
         keep(&mut self.dirty, addr.node, start, bytes)
     }
 
-    /// Bytes that were read join the read set, which the plan compares. A place that is read again keeps its turn, with the later
-    /// bytes. NoMemory: there was no memory for it, and the transaction is as before.
+    /// Bytes that were read join the read set, which the plan compares. A place that is read again
+    /// keeps its turn, with the later bytes. NoMemory: there was no memory for it, and the
+    /// transaction is as before.
     pub fn read(
         &mut self,
         alloc: Global,
@@ -192,8 +196,8 @@ impl Txn {
         keep(&mut self.reads, node, start, bytes)
     }
 
-    /// Bytes that the plan writes. A place that is written again keeps its turn, with the later bytes. NoMemory: there was no memory
-    /// for it, and the transaction is as before.
+    /// Bytes that the plan writes. A place that is written again keeps its turn, with the later
+    /// bytes. NoMemory: there was no memory for it, and the transaction is as before.
     pub fn write(&mut self, node: NodeNo, start: u32, bytes: Bytes) -> Result<(), NoMemory>
         ensures kept { OnOk result (self.new ≡ record { nodes = self.old.nodes; dirty = self.old.dirty; reads = self.old.reads; writes = joined self.old.writes (image node start bytes) }) }
         ensures unchanged { OnErr result (self.new ≡ self.old) }
@@ -201,8 +205,8 @@ impl Txn {
         keep(&mut self.writes, node, start, bytes)
     }
 
-    /// Whether there may be a plan: the read set and the writes give 1 to 1,024 items, each of 1 to 4,096 bytes inside the space of one
-    /// of the nodes.
+    /// Whether there may be a plan: the read set and the writes give 1 to 1,024 items, each of 1 to
+    /// 4,096 bytes inside the space of one of the nodes.
     pub fn can_plan(&self) -> bool
         ensures { result ≡ can_plan self.now }
     {
@@ -213,7 +217,8 @@ impl Txn {
             && are_inside(self.nodes, &self.writes)
     }
 
-    /// Whether a place was read with the last sequence number: by its bytes in the read set, or else by those that were read dirty.
+    /// Whether a place was read with the last sequence number: by its bytes in the read set, or
+    /// else by those that were read dirty.
     fn is_worn(&self, image: &Image) -> bool
         ensures { result ≡ is_worn self.now image.now }
     {
@@ -242,17 +247,19 @@ impl Txn {
         None
     }
 
-    /// The minitransaction that compares the read set and makes the writes, in this order: the compares of pages as they joined the
-    /// read set, of catalog entries by number, of counts by node, and then the writes of pages as they came in, of entries, of counts
-    /// (Sinfonia, SOSP 2007; Minuet, PVLDB 2012). Worn: the place is the first in this order at which a page or an entry is to be
-    /// written and was read with the last sequence number. NoMemory: there was no memory for it.
+    /// The minitransaction that compares the read set and makes the writes, in this order: the
+    /// compares of pages as they joined the read set, of catalog entries by number, of counts by
+    /// node, and then the writes of pages as they came in, of entries, of counts (Sinfonia, SOSP
+    /// 2007; Minuet, PVLDB 2012). Worn: the place is the first in this order at which a page or an
+    /// entry is to be written and was read with the last sequence number. NoMemory: there was no
+    /// memory for it.
     pub fn plan(&self, alloc: Global) -> Result<Minitransaction, PlanError>
         requires { IsTrue (can_plan self.now) }
         ensures planned { IfOk result (λ mini. mini ≡ plan_of self.now) }
         ensures unworn { OnOk result (first_worn self.now (in_item_order self.now.writes) ≡ None) }
         ensures refused { IfErr result (RefusesPlan self.now) }
-        ensures reads_apart { AreApart self.now.reads }
-        ensures writes_apart { AreApart self.now.writes }
+        ensures reads_apart { ImagesAreApart self.now.reads }
+        ensures writes_apart { ImagesAreApart self.now.writes }
     {
         let writes = in_order(alloc, &self.writes)?;
         if let Some((node, start)) = self.first_worn(&writes) {

@@ -1,4 +1,5 @@
-//! A coordinator over two nodes, fed each kind of reply; and the flat memory of two minitransactions.
+//! A coordinator over two nodes, fed each kind of reply; and the flat memory of two
+//! minitransactions.
 ghost use Rattle.std.specs.Prelude.{◌≡◌, ◌≤◌, true, false, MatchOption};
 ghost use Rattle.mn_mini.specs.RecordGrammar.{IsTid};
 

@@ -1,5 +1,5 @@
-//! Tests of the commit protocol: coordinators and recoveries over what nodes answer, also real ones,
-//! and the flat memory of a log.
+//! Tests of the commit protocol: coordinators and recoveries over what nodes answer, also real
+//! ones, and the flat memory of a log.
 #![tactic(auto)]
 
 #[cfg(test)]

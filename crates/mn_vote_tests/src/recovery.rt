@@ -167,7 +167,8 @@ fn fits(node: &OneId, verdict: Option<bool>) -> bool {
     (node.decided.is_none() || node.decided == verdict) && !(node.forced && node.voted)
 }
 
-/// One order of the first eight calls, by the digits of `order` to base 3, and then one after another.
+/// One order of the first eight calls, by the digits of `order` to base 3, and then one after
+/// another.
 fn race(rt: &impl Abort, alloc: Global, order: u32) -> Result<(), Fail> {
     let mut nodes = [NOTHING, NOTHING];
     let mut c = coordinator(alloc)?;

@@ -140,8 +140,9 @@ fn ended(r: &Recoverer) -> Option<Option<bool>> {
     }
 }
 
-/// The first five calls of the recoveries are in the order of the binary digits, and then each has its
-/// turn. One of them ends with the verdict, and the other too, unless no node listed the id any more.
+/// The first five calls of the recoveries are in the order of the binary digits, and then each has
+/// its turn. One of them ends with the verdict, and the other too, unless no node listed the id any
+/// more.
 fn race(
     rt: &impl Abort,
     alloc: Global,

@@ -87,7 +87,8 @@ none_below parents a v less under = below_at parents less a (suc v) v (omega ari
 itself : (parents : List (Option ℕ)) (v : ℕ) → AreLess parents → v < length parents → is_ancestor parents v v ≡ true
 itself parents v less lt = ancestor_step parents v (get_or parents v None) v (less v) (slice_get-get_or parents v None lt) ∙ (rw (eq-eqb v v refl) refl)
 
--- a walk up from v that looks for a: at the top, at a version above a, and where it has come down to a
+-- a walk up from v that looks for a: at the top, at a version above a, and where it has come down
+-- to a
 pub walk_last : (parents : List (Option ℕ)) (a v : ℕ) → IsLess parents v → slice_get parents v ≡ Some None → a < v → is_ancestor parents a v ≡ false
 walk_last parents a v less is lt =
     let apart : nat_eq a v ≡ false = ne_eqb a v (λ e. absurd (omega arith)) in

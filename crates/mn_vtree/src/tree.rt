@@ -8,8 +8,8 @@ use mn_base::VersionNo;
 use std::alloc::Global;
 use std::marker::Model;
 
-/// The parent of each version, by number; a parent is less than its children. Contracts see a tree as the
-/// list of its parents' numbers.
+/// The parent of each version, by number; a parent is less than its children. Contracts see a tree
+/// as the list of its parents' numbers.
 #[derive(Debug, Drop)]
 pub struct VersionTree {
     parents: Vec<Option<VersionNo>>,
@@ -38,7 +38,8 @@ fn first_bad(parents: &[Option<VersionNo>]) -> Option<VersionNo>
     None
 }
 
-// Whether the parent, if there is one, is less than the version. A version above all numbers passes.
+// Whether the parent, if there is one, is less than the version. A version above all numbers
+// passes.
 fn is_less(parent: Option<VersionNo>, version: usize) -> bool
     ensures test { result ≡ option_map_or (λ p. nat_lt p.0 version) parent true }
     ensures numbered { result ≡ false → version < 256 }
@@ -57,8 +58,9 @@ fn is_in(copied: u64, version: u8) -> bool
 }
 
 impl VersionTree {
-    /// The tree in which version `i` has the parent `parents[i]`. BadParent: a parent isn't less than its
-    /// version, and this is the first such version. NoMemory: there was no memory for the list.
+    /// The tree in which version `i` has the parent `parents[i]`. BadParent: a parent isn't less
+    /// than its version, and this is the first such version. NoMemory: there was no memory for the
+    /// list.
     pub fn new(alloc: Global, parents: &[Option<VersionNo>]) -> Result<Self, TreeError>
         ensures ok { IfOk result (λ tree. tree ≡ numbers_of parents.now) }
         ensures less { OnOk result (AreLess (numbers_of parents.now)) }
@@ -107,8 +109,8 @@ impl VersionTree {
         at == a.0
     }
 
-    /// Whether a page that was made in `made` serves `v`: that is `v` or above it, and no version that the
-    /// page was copied for is. Version `i` is in the set `copied` where bit `i` is 1.
+    /// Whether a page that was made in `made` serves `v`: that is `v` or above it, and no version
+    /// that the page was copied for is. Version `i` is in the set `copied` where bit `i` is 1.
     pub fn serves(&self, made: VersionNo, copied: u64, v: VersionNo) -> bool
         ensures { result ≡ serves self.now made.0 copied v.0 }
     {

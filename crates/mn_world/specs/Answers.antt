@@ -164,14 +164,14 @@ abbrev pub MeetsBadAddr : ℕ → List Seen → Op → Addr → ℕ → Type 0
 MeetsBadAddr nodes seens op addr seq = (key : List ℕ) × (height : Option ℕ) × (entries : List CatEntry) × ReachesAddr seens op entries key addr height × (nodes ≤ addr.node.0) × (seq ≡ 0)
 
 -- each parent has a lower number; newest first
-abbrev pub AreBelow : List (Option ℕ) → Type 0
-AreBelow [] = ⊤
-AreBelow (None ∷ older) = AreBelow older
-AreBelow (Some p ∷ older) = (p < length older) × AreBelow older
+abbrev pub ParentsAreBelow : List (Option ℕ) → Type 0
+ParentsAreBelow [] = ⊤
+ParentsAreBelow (None ∷ older) = ParentsAreBelow older
+ParentsAreBelow (Some p ∷ older) = (p < length older) × ParentsAreBelow older
 
 -- a read of the catalog's place that brought no catalog
 abbrev pub IsBadCatalog : Seen → Type 0
-IsBadCatalog seen = (seen.place ≡ catalog_place) × ((entries : List CatEntry) → SeesCatalog seen entries → AreBelow (reverse (parents_of (heads_in entries))) → ⊥)
+IsBadCatalog seen = (seen.place ≡ catalog_place) × ((entries : List CatEntry) → SeesCatalog seen entries → ParentsAreBelow (reverse (parents_of (heads_in entries))) → ⊥)
 
 -- a read of a node's count that brought no count
 abbrev pub IsBadCount : Seen → Type 0
@@ -347,19 +347,19 @@ abbrev pub is_doubt_cause : NodeNo → Tid → Call → Bool
 is_doubt_cause n tid c = node_same c.node n && (is_stopped c.reply && (is_exec tid c.request || (is_prepare tid c.request && is_last_of n c.request)))
 
 -- what shows an answer in the client's own list
-abbrev pub Shows : List Entry → List Entry → Op → Answer → Type 0
-Shows es now op (Replied reply) =
+abbrev pub ShowsAnswer : List Entry → List Entry → Op → Answer → Type 0
+ShowsAnswer es now op (Replied reply) =
     LastPlanReplies es now op reply ⊎ (IsTrue (are_given_up now) × SomeReadShows es now op reply) ⊎ (IsTrue (are_given_up now) × ScanShows (seen_in now) op reply)
-Shows es now op (GaveUp busy) = IsTrue (are_given_up now) × FailedTries (nodes_of (issues_of now)) op now busy
-Shows es now op (Down n) = IsTrue (are_given_up now) × IsTrue (list_any (is_down_cause n) (calls_of now))
-Shows es now op (InDoubt tid n) = (i : Issued) × (before : List Entry) × LastIssue es now i before × (tid ≡ i.tid) × IsTrue (list_any (is_doubt_cause n tid) (calls_of now))
-Shows es now op (Full need free) =
+ShowsAnswer es now op (GaveUp busy) = IsTrue (are_given_up now) × FailedTries (nodes_of (issues_of now)) op now busy
+ShowsAnswer es now op (Down n) = IsTrue (are_given_up now) × IsTrue (list_any (is_down_cause n) (calls_of now))
+ShowsAnswer es now op (InDoubt tid n) = (i : Issued) × (before : List Entry) × LastIssue es now i before × (tid ≡ i.tid) × IsTrue (list_any (is_doubt_cause n tid) (calls_of now))
+ShowsAnswer es now op (Full need free) =
     IsTrue (are_given_up now) × (try : List Entry) × LastTry (nodes_of (issues_of now)) op now try × (free < need) × NeedsSlots (seen_in try) op need
     × FreeSlots (nodes_of (issues_of now)) (seen_in try) free
-Shows es now op (Worn n start) =
+ShowsAnswer es now op (Worn n start) =
     IsTrue (are_given_up now) × (try : List Entry) × (place : Place) × LastTry (nodes_of (issues_of now)) op now try × (place.node ≡ n) × (place.start ≡ start)
     × WritesOld (seen_in try) op place × ShowsBytes (seen_in try) n start (big_bytes 8 (2 ^ 64 - 1))
-Shows es now op NoMemory = IsTrue (are_given_up now)
+ShowsAnswer es now op NoMemory = IsTrue (are_given_up now)
 
 -- each answer but InDoubt waits for the decisions of the operation's plans
 abbrev pub IsSettled : List Entry → Answer → Type 0
@@ -373,7 +373,7 @@ IsPlanOfOp es (Some begun) mini = (reply : Reply) × IsPlanBy es begun.op mini r
 
 abbrev pub IsShownFor : List Entry → Option Begun → Answer → Type 0
 IsShownFor es None answer = ⊥
-IsShownFor es (Some begun) answer = Shows es (since_begin es) begun.op answer
+IsShownFor es (Some begun) answer = ShowsAnswer es (since_begin es) begun.op answer
 
 -- the meaning of a client's step, beyond the protocol: a plan is planned, and an answer is shown
 abbrev pub MeansBy : List Entry → What → Type 0

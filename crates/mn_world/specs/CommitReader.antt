@@ -9,7 +9,7 @@ use Rattle.mn_world.specs.declared.commit_reader.CommittedMini.{CommittedMini}
 use Rattle.mn_world.specs.declared.commit_reader.CommitReader.{CommitReader}
 use Rattle.mn_world.specs.declared.entry.Entry.{Entry}
 use Rattle.mn_world.specs.Calls.{Issued}
-use Rattle.mn_world.specs.Standing.{Tells}
+use Rattle.mn_world.specs.Standing.{StandingTells}
 
 -- a minitransaction that is committed, under its id
 abbrev pub issued_of : CommittedMini → Issued
@@ -30,4 +30,4 @@ under_id effect mini = None
 -- these entries are what it has read
 pub record HasRead (reader : CommitReader) (past : List Entry) : Type 0 where
   pub long : length reader.standing.stopped.items ≡ 256
-  pub tells : Tells reader.standing past
+  pub tells : StandingTells reader.standing past

@@ -11,7 +11,7 @@ use Rattle.mn_mini.specs.declared.reply.NodeReply.TheVariants as Say
 use Rattle.mn_mini.specs.Mini.{Mini, participants_of, range_of, is_write}
 use Rattle.mn_mini.specs.Flat.{Committed, bytes_in, outcome_on, part_reads, space_in}
 use Rattle.mn_mini.specs.Node.{HeldPart, held_parts, has_voted, has_forced, has_decided_yes, has_decided_no, space_of}
-use Rattle.mn_mini.specs.Laws.{AreApart}
+use Rattle.mn_mini.specs.Laws.{PartsAreApart}
 use Rattle.mn_world.specs.declared.entry.Entry.{Entry}
 use Rattle.mn_base.specs.declared.answer.Answer.{Answer}
 use Rattle.mn_world.specs.declared.entry.What.TheVariants.{Called, Restarted, Answered}
@@ -101,7 +101,7 @@ abbrev pub HeldPartsApart : Type 0
 HeldPartsApart =
     (start : Start) (past : List Entry) (n : NodeNo) → StartsSound start
     → FollowsProtocol start past → n.0 < start_nodes start
-    → AreApart (held_parts (records_of start past n))
+    → PartsAreApart (held_parts (records_of start past n))
 
 -- the records at every place fit together
 abbrev pub RecordsStaySound : Type 0
@@ -273,4 +273,4 @@ pub record IsFlatRun (start : Start) (memory after : List (List ℕ)) (past : Li
       → slice_get (space_of (base_at start n) (records_of start past n)) place ≡ slice_get (space_in after n) place
   pub records : memory_in (start_nodes start) (base_at start) (records_of start past) ≡ after
   pub held_apart : (n : NodeNo) → n.0 < start_nodes start
-      → AreApart (held_parts (records_of start past n))
+      → PartsAreApart (held_parts (records_of start past n))

@@ -152,10 +152,10 @@ HasPlans op = ⊤
 
 -- the catalog's versions are the first ones, with their names and parents; what it has frozen stays
 -- frozen
-abbrev pub Continues : List Head → List Head → Type 0
-Continues [] heads = ⊤
-Continues (k ∷ kept) [] = ⊥
-Continues (k ∷ kept) (h ∷ heads) = (h.name ≡ k.name) × (h.parent ≡ k.parent) × (k.frozen ≡ true → h.frozen ≡ true) × Continues kept heads
+abbrev pub ContinuesCatalog : List Head → List Head → Type 0
+ContinuesCatalog [] heads = ⊤
+ContinuesCatalog (k ∷ kept) [] = ⊥
+ContinuesCatalog (k ∷ kept) (h ∷ heads) = (h.name ≡ k.name) × (h.parent ≡ k.parent) × (k.frozen ≡ true → h.frozen ≡ true) × ContinuesCatalog kept heads
 
 -- what a plan does to a memory that holds the store
 pub record PlanActs (memory : List (List ℕ)) (store : Store) (holds : Holds memory store) (op : Op) (mini : Mini) (reply : Reply) : Type 0 where
@@ -181,7 +181,7 @@ pub record ComparesHold (es : List Entry) (memory : List (List ℕ)) (items : Li
 pub record IsPlanned (es : List Entry) (kept : List Head) (op : Op) (mini : Mini) (reply : Reply) : Type 0 where
   pub acts : (memory : List (List ℕ)) (store : Store) → length memory ≡ mini.nodes
       → AllByRecursion (λ space. length space ≡ space_size) memory
-      → (holds : Holds memory store) → Continues kept (heads_of store)
+      → (holds : Holds memory store) → ContinuesCatalog kept (heads_of store)
       → ComparesHold es memory mini.items
       → PlanActs memory store holds op mini reply
   pub order : IsTrue (are_in_order mini.items)

@@ -39,7 +39,7 @@ abbrev pub next_leaf : Page → List Pair → Page
 next_leaf p pairs = record { seq = p.seq + 1; made = p.made; copied = p.copied; low = p.low; high = p.high; body = Leaf pairs }
 
 -- the leaf of the key as it was read, made in the version, with room
-pub record HasRoom (kept : List Head) (nodes : ℕ) (name key value : List ℕ) (v : ℕ) (e : CatEntry) (addr : Addr) (p : Page) (pairs : List Pair) : Type 0 where
+pub record IsLeafWithRoom (kept : List Head) (nodes : ℕ) (name key value : List ℕ) (v : ℕ) (e : CatEntry) (addr : Addr) (p : Page) (pairs : List Pair) : Type 0 where
   pub named : number_named kept name ≡ Some v
   pub few : v < max_versions
   pub entry : IsEntry e
@@ -60,7 +60,7 @@ put_in_place nodes key value v e addr p pairs =
 
 abbrev pub PutIsPlanned : Type 0
 PutIsPlanned =
-    (kept : List Head) (nodes : ℕ) (name key value : List ℕ) (v : ℕ) (e : CatEntry) (addr : Addr) (p : Page) (pairs : List Pair) → HasRoom kept nodes name key value v e addr p pairs
+    (kept : List Head) (nodes : ℕ) (name key value : List ℕ) (v : ℕ) (e : CatEntry) (addr : Addr) (p : Page) (pairs : List Pair) → IsLeafWithRoom kept nodes name key value v e addr p pairs
     → (es : List Entry) → IsPlanned es kept (Tx name (Put key value ∷ [])) (put_in_place nodes key value v e addr p pairs) (Values [])
 
 -- A Put that splits a root leaf, with both new slots on one node

@@ -48,7 +48,7 @@ kept_request s n = option_map (λ r. r.now) (slice_index_or s.stopped.items n.0 
 
 -- it tells the last minitransaction of each id, the votes, and the request inside which each node
 -- last stopped
-pub record Tells (s : Standing) (past : List Entry) : Type 0 where
+pub record StandingTells (s : Standing) (past : List Entry) : Type 0 where
   pub issued : (tid : Tid) → kept_mini s tid ≡ issue_named tid (issues_of past)
   pub voted : (tid : Tid) (n : NodeNo) → keeps_vote s tid n ≡ has_vote tid n past
   pub stopped : (n : NodeNo) → n.0 < 256 → kept_request s n ≡ stopped_request (node_entries n past)

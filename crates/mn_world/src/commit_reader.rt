@@ -17,7 +17,8 @@ pub struct CommittedMini<'a> {
     pub mini: &'a Minitransaction,
 }
 
-/// What the entries so far tell of issues, votes and stops: enough to say what the next one commits.
+/// What the entries so far tell of issues, votes and stops: enough to say what the next one
+/// commits.
 #[derive(Drop)]
 pub struct CommitReader<'a> {
     standing: Standing<'a>,

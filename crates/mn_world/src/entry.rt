@@ -28,12 +28,14 @@ pub enum What {
         request: Request,
         reply: NodeReply,
     },
-    /// The node stopped: inside this request, or where there is none, between two. `asked` is where the call was told to stop.
+    /// The node stopped: inside this request, or where there is none, between two. `asked` is where
+    /// the call was told to stop.
     Stopped {
         request: Option<Request>,
         asked: Option<StopAt>,
     },
-    /// The node was restarted; whether the record of the request inside which it had stopped is there.
+    /// The node was restarted; whether the record of the request inside which it had stopped is
+    /// there.
     Restarted {
         kept: bool,
     },

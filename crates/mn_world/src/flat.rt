@@ -12,7 +12,7 @@ ghost use Rattle.mn_world.specs.Commits.{is_vote_effect, effect_of, committed_wi
 ghost use Rattle.mn_world.specs.Run.{entries_of};
 ghost use Rattle.mn_world.specs.Protocol.{Start};
 ghost use Rattle.mn_world.specs.Laws.{IsRunFrom, IsFlatRun};
-ghost use Rattle.mn_world.specs.Standing.{id_key, vote_key, kept_mini, keeps_vote, kept_request, issue_after, effect_of_entry, Tells, item_holds};
+ghost use Rattle.mn_world.specs.Standing.{id_key, vote_key, kept_mini, keeps_vote, kept_request, issue_after, effect_of_entry, StandingTells, item_holds};
 
 use crate::{Entry, Log, What};
 use mn_base::{Bytes, NoMemory, NodeNo, Tid, TryCopy};
@@ -53,7 +53,7 @@ const NODE_NUMBERS: usize = 256;
 /// No entry tells anything.
 pub fn nothing<'a>(alloc: Global) -> Result<Standing<'a>, NoMemory>
     ensures length { IfOk result (λ s. length s.stopped.items ≡ 256) }
-    ensures tells { IfOk result (λ s. Tells s []) }
+    ensures tells { IfOk result (λ s. StandingTells s []) }
 {
     Ok(Standing {
         issued: HashMap::new(alloc),
@@ -133,7 +133,7 @@ fn note_stop<'a>(standing: &mut Standing<'a>, node: NodeNo, request: Option<&'a 
 /// The request that takes effect at an entry of the node.
 fn effect_at<'a>(standing: &Standing<'a>, node: NodeNo, what: &'a What) -> Option<&'a Request>
     requires { length standing.now.stopped.items ≡ 256 }
-    ensures { (past : List Entry) → Tells standing.now past → option_map (λ r. r.now) result ≡ effect_of (node_entries node past) what.now }
+    ensures { (past : List Entry) → StandingTells standing.now past → option_map (λ r. r.now) result ≡ effect_of (node_entries node past) what.now }
 {
     match what {
         What::Called {
@@ -160,7 +160,7 @@ fn committed_at<'a>(
     node: NodeNo,
     request: &Request,
 ) -> Option<&'a Minitransaction>
-    ensures { (past : List Entry) → Tells standing.now past → option_map (λ m. m.now) result ≡ option_map (λ i. i.mini) (committed_with past node (Some request.now)) }
+    ensures { (past : List Entry) → StandingTells standing.now past → option_map (λ m. m.now) result ≡ option_map (λ i. i.mini) (committed_with past node (Some request.now)) }
 {
     match request {
         Request::Prepare {
@@ -220,7 +220,7 @@ fn note_issued<'a>(standing: &mut Standing<'a>, what: &'a What) -> Result<(), No
 /// The request that takes effect at the entry.
 pub fn effect_in<'a>(standing: &Standing<'a>, entry: &'a Entry) -> Option<&'a Request>
     requires { length standing.now.stopped.items ≡ 256 }
-    ensures { (past : List Entry) → Tells standing.now past → option_map (λ r. r.now) result ≡ effect_of_entry past entry.now }
+    ensures { (past : List Entry) → StandingTells standing.now past → option_map (λ r. r.now) result ≡ effect_of_entry past entry.now }
 {
     match entry.node {
         Some(node) => effect_at(standing, node, &entry.what),
@@ -234,7 +234,7 @@ pub fn committed_in<'a>(
     entry: &Entry,
     effect: Option<&Request>,
 ) -> Option<&'a Minitransaction>
-    ensures { (past : List Entry) → Tells standing.now past → option_map (λ r. r.now) effect.entry ≡ effect_of_entry past entry.now → option_map (λ m. m.now) result ≡ option_map (λ i. i.mini) (committed_by past entry.now) }
+    ensures { (past : List Entry) → StandingTells standing.now past → option_map (λ r. r.now) effect.entry ≡ effect_of_entry past entry.now → option_map (λ m. m.now) result ≡ option_map (λ i. i.mini) (committed_by past entry.now) }
 {
     match (entry.node, effect) {
         (Some(node), Some(request)) => committed_at(standing, node, request),
@@ -250,7 +250,7 @@ pub fn note<'a>(
 ) -> Result<(), NoMemory>
     requires { length standing.old.stopped.items ≡ 256 }
     ensures length { OnOk result (length standing.new.stopped.items ≡ 256) }
-    ensures tells { OnOk result ((past : List Entry) → Tells standing.old past → option_map (λ r. r.now) effect.entry ≡ effect_of_entry past entry.now → Tells standing.new (entry.now ∷ past)) }
+    ensures tells { OnOk result ((past : List Entry) → StandingTells standing.old past → option_map (λ r. r.now) effect.entry ≡ effect_of_entry past entry.now → StandingTells standing.new (entry.now ∷ past)) }
 {
     note_issued(standing, &entry.what)?;
     if let Some(node) = entry.node {
@@ -347,8 +347,8 @@ fn step<'a>(
 ) -> Result<(), NoMemory>
     requires { length standing.old.stopped.items ≡ 256 }
     ensures length { OnOk result (length standing.new.stopped.items ≡ 256) }
-    ensures tells { OnOk result ((past : List Entry) → Tells standing.old past → Tells standing.new (entry.now ∷ past)) }
-    ensures memory { (past : List Entry) → Tells standing.old past → memory.new.items ≡ memory_after_commit memory.old.items (committed_by past entry.now) }
+    ensures tells { OnOk result ((past : List Entry) → StandingTells standing.old past → StandingTells standing.new (entry.now ∷ past)) }
+    ensures memory { (past : List Entry) → StandingTells standing.old past → memory.new.items ≡ memory_after_commit memory.old.items (committed_by past entry.now) }
 {
     let effect = effect_in(standing, entry);
     if let Some(mini) = committed_in(standing, entry, effect) {
@@ -357,12 +357,14 @@ fn step<'a>(
     note(standing, entry, effect)
 }
 
-/// The flat memory after these entries, where it was `start` before them: the committed minitransactions take effect on it all at
-/// once each, in the order of the places where they are committed. NoMemory: there was no memory for it.
+/// The flat memory after these entries, where it was `start` before them: the committed
+/// minitransactions take effect on it all at once each, in the order of the places where they are
+/// committed. NoMemory: there was no memory for it.
 ///
-/// Where the entries keep the commit protocol, from records that fit together and whose memory `start` is, all that the nodes did has
-/// this meaning: each committed minitransaction found its compares in the flat memory at its place and read from it, held parts don't
-/// conflict, and each space is the flat memory's but for writes that are committed and still held.
+/// Where the entries keep the commit protocol, from records that fit together and whose memory
+/// `start` is, all that the nodes did has this meaning: each committed minitransaction found its
+/// compares in the flat memory at its place and read from it, held parts don't conflict, and each
+/// space is the flat memory's but for writes that are committed and still held.
 pub fn flat_after(alloc: Global, start: &Spaces, log: &Log) -> Result<Spaces, NoMemory>
     ensures memory { IfOk result (λ after. after ≡ flat_after start.now (entries_of log.now)) }
     ensures run { (from : Start) → IsRunFrom from start.now (entries_of log.now) → IfOk result (λ after. IsFlatRun from start.now after (entries_of log.now)) }

@@ -1,8 +1,8 @@
 use crate::Entry;
 use mn_actors::Law;
 
-/// The law of the store: which entries its clients and nodes may make. What a node answers, and which run it is, is judged by the
-/// nodes' records; all else by the client's own list.
+/// The law of the store: which entries its clients and nodes may make. What a node answers, and
+/// which run it is, is judged by the nodes' records; all else by the client's own list.
 pub struct CoreLaw;
 
 impl Law for CoreLaw {

@@ -1,5 +1,6 @@
-//! Runs of the store: the entries that clients, recovery coordinators and memory nodes make, which of them are legal, where a
-//! minitransaction is committed, and what memory the committed ones make.
+//! Runs of the store: the entries that clients, recovery coordinators and memory nodes make, which
+//! of them are legal, where a minitransaction is committed, and what memory the committed ones
+//! make.
 #![tactic(auto)]
 
 mod commit_reader;

@@ -80,8 +80,8 @@ impl EntryList {
     }
 }
 
-/// The entries of one client with their places, in order. Contracts see them as a list, beside the client's number and the number of
-/// further entries for which there is room.
+/// The entries of one client with their places, in order. Contracts see them as a list, beside the
+/// client's number and the number of further entries for which there is room.
 #[derive(Debug, Drop)]
 pub struct ClientList {
     client: ClientNo,
@@ -153,8 +153,8 @@ impl ClientList {
         self.room
     }
 
-    /// Makes room for so many further entries. NoMemory: there was less and there is no memory for more, or the list would be longer than a log
-    /// may be; the list is as before.
+    /// Makes room for so many further entries. NoMemory: there was less and there is no memory for
+    /// more, or the list would be longer than a log may be; the list is as before.
     pub fn reserve(&mut self, entries: usize) -> Result<(), NoMemory>
         ensures room { OnOk result (entries ≤ self.new.room) }
         ensures no_less { self.old.room ≤ self.new.room }

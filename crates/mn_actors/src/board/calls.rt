@@ -17,8 +17,8 @@ use std::alloc::Global;
 use std::marker::Brand;
 
 impl<L: Law> Board<L> {
-    /// A board of 1 to 8 nodes and 1 to 21 clients, both numbered from 0, and the pass that owns them all.
-    /// Their lists are empty. The error is that there is no memory for the clock.
+    /// A board of 1 to 8 nodes and 1 to 21 clients, both numbered from 0, and the pass that owns
+    /// them all. Their lists are empty. The error is that there is no memory for the clock.
     pub fn new(alloc: Global, nodes: u8, clients: u8) -> Result<(Board<L>, Pass<L>), NoMemory>
         requires nodes { (1 ≤ nodes) × (nodes ≤ 8) }
         requires clients { (1 ≤ clients) × (clients ≤ 21) }
@@ -68,8 +68,9 @@ impl<L: Law> Board<L> {
         self.append_said::<Brand>(pass, entry, node, client)
     }
 
-    /// Adds an entry of a node, a client or both, and answers its place, which is the number of entries
-    /// before it. The entry ends the lists of its actors. It is one atomic step, under no lock.
+    /// Adds an entry of a node, a client or both, and answers its place, which is the number of
+    /// entries before it. The entry ends the lists of its actors. It is one atomic step, under no
+    /// lock.
     pub fn append(
         &self,
         pass: &mut Pass<L>,
@@ -125,8 +126,8 @@ impl<L: Law> Board<L> {
         self.split_named::<Brand>(from, actor)
     }
 
-    /// The place that the pass knows. The clock has reached it, so that each later entry of the pass stands
-    /// there or above.
+    /// The place that the pass knows. The clock has reached it, so that each later entry of the
+    /// pass stands there or above.
     pub fn note(&self, pass: &Pass<L>) -> u64
         requires { board_of pass.now ≡ id_of self.now }
         ensures { result ≡ (view_of pass.now).known }
@@ -147,8 +148,8 @@ impl<L: Law> Board<L> {
         clock
     }
 
-    /// Looks at the clock, whose value the pass then knows, and says whether it has reached the place. The clock's value is the number
-    /// of lines of the log.
+    /// Looks at the clock, whose value the pass then knows, and says whether it has reached the
+    /// place. The clock's value is the number of lines of the log.
     pub fn hear(&self, pass: &mut Pass<L>, place: u64) -> bool
         requires board { board_of pass.old ≡ id_of self.now }
         ensures board { board_of pass.new ≡ board_of pass.old }
@@ -174,8 +175,8 @@ impl<L: Law> Board<L> {
         pass.known = known;
     }
 
-    /// Looks at the clock, which tells that the pass's lists are those of one log. The place that the pass knows is then `known`, which it
-    /// had reached before.
+    /// Looks at the clock, which tells that the pass's lists are those of one log. The place that
+    /// the pass knows is then `known`, which it had reached before.
     pub fn look(&self, pass: &mut Pass<L>, known: u64)
         requires board { board_of pass.old ≡ id_of self.now }
         requires no_later { known ≤ (view_of pass.old).known }
@@ -187,8 +188,8 @@ impl<L: Law> Board<L> {
         self.look_placed::<Brand>(pass, known);
     }
 
-    /// Ends the log, and answers the clock, which is the number of entries. The pass owns all actors: their
-    /// lists are one log, in which each place below the clock is one entry.
+    /// Ends the log, and answers the clock, which is the number of entries. The pass owns all
+    /// actors: their lists are one log, in which each place below the clock is one entry.
     pub fn close(self, pass: Pass<L>) -> u64
         requires board { board_of pass ≡ id_of self }
         requires all { OwnsAll (nodes_of self) (clients_of self) (view_of pass) }

@@ -30,7 +30,8 @@ use mn_node::RestartError;
 use mn_world::{ClientList, CoreLaw, Entry, What};
 use std::alloc::Global;
 
-/// What a call takes before the node is asked: a second request, and room for two copies of what is read.
+/// What a call takes before the node is asked: a second request, and room for two copies of what is
+/// read.
 #[derive(Drop)]
 struct Spare {
     request: Request,
@@ -38,7 +39,8 @@ struct Spare {
     second: Vec<Bytes>,
 }
 
-/// A second request, and room for two copies of what it may read. NoMemory never comes for a Decide.
+/// A second request, and room for two copies of what it may read. NoMemory never comes for a
+/// Decide.
 fn spare_of(alloc: Global, request: &Request) -> Result<Spare, NoMemory>
     ensures request { IfOk result (λ spare. spare.request ≡ request.now) }
     ensures first { IfOk result (λ spare. lengths_of spare.first.items ≡ lengths_by request.now) }
@@ -62,8 +64,8 @@ fn spare_of(alloc: Global, request: &Request) -> Result<Spare, NoMemory>
     }
 }
 
-/// Makes room in both lists for a step of the client, which may decide an id. NoMemory: there is none. It never comes for a decision that is
-/// owed, where the client's list has room.
+/// Makes room in both lists for a step of the client, which may decide an id. NoMemory: there is
+/// none. It never comes for a decision that is owed, where the client's list has room.
 fn make_room(
     own: &mut NodeList,
     list: &mut ClientList,
@@ -82,8 +84,8 @@ fn make_room(
     own.make_place(list.client(), decided)
 }
 
-/// Takes all that a call needs: room in both lists, a second request, and room for what is read. NoMemory never comes for a decision that is
-/// owed, where the client's list has room.
+/// Takes all that a call needs: room in both lists, a second request, and room for what is read.
+/// NoMemory never comes for a decision that is owed, where the client's list has room.
 fn prepare(
     alloc: Global,
     own: &mut NodeList,
@@ -106,7 +108,8 @@ fn prepare(
     spare_of(alloc, request)
 }
 
-/// The entry of a call, twice. None: the reply is NoMemory, or there is no memory for a copy of a reply that comes with no new record.
+/// The entry of a call, twice. None: the reply is NoMemory, or there is no memory for a copy of a
+/// reply that comes with no new record.
 fn two_entries(
     alloc: Global,
     number: NodeNo,
@@ -169,7 +172,8 @@ fn restart_entry(number: NodeNo, client: ClientNo, kept: bool) -> Entry
     }
 }
 
-/// Adds an entry, which is there twice, and puts it at the end of both lists. `own` is the node's pass, which comes back.
+/// Adds an entry, which is there twice, and puts it at the end of both lists. `own` is the node's
+/// pass, which comes back.
 fn enter(
     board: &Board<CoreLaw>,
     own: Pass<CoreLaw>,
@@ -203,8 +207,8 @@ fn enter(
 }
 
 impl<N: Named, D: Disk> Station<N, D> {
-    /// Tells that the node's list and the client's are of one log: so a decision that the client's list owes has its room in the node's. All is
-    /// as before.
+    /// Tells that the node's list and the client's are of one log: so a decision that the client's
+    /// list owes has its room in the node's. All is as before.
     fn compare(&mut self, board: &Board<CoreLaw>, pass: &mut Pass<CoreLaw>, client: ClientNo)
         requires board { (id_of board.now ≡ N.board) × (board_of pass.old ≡ N.board) }
         requires owns { OwnsJust (view_of pass.old) (Client client) }
@@ -221,10 +225,12 @@ impl<N: Named, D: Disk> Station<N, D> {
 
     /// Calls the node for the client, and adds the reply to both lists.
     ///
-    /// NoMemory: there was none for the call; the node, the pass and both lists are as before. It never comes for the decision of an id whose
-    /// vote the client has got here and hasn't decided, where the client's list has room, whether the node is up or down. Any other reply is
-    /// the last entry of both lists, at a place that is not below the one that the client's pass knew, and both passes know the place after
-    /// it. Where `stop` is given, a request that adds a record isn't done.
+    /// NoMemory: there was none for the call; the node, the pass and both lists are as before. It
+    /// never comes for the decision of an id whose vote the client has got here and hasn't decided,
+    /// where the client's list has room, whether the node is up or down. Any other reply is the
+    /// last entry of both lists, at a place that is not below the one that the client's pass knew,
+    /// and both passes know the place after it. Where `stop` is given, a request that adds a record
+    /// isn't done.
     pub fn call(
         &mut self,
         alloc: Global,
@@ -253,7 +259,8 @@ impl<N: Named, D: Disk> Station<N, D> {
         ensures owed { IsOwedAt self.old.number (decided_by request) (entries_of list.old.entries) → 0 < list.old.room → result ≢ Reply.NoMemory }
         ensures stop { KeepsStop stop request result }
 
-        // A crash at any moment of the call leaves the node's records from before it, with the answer's one record or without.
+        // A crash at any moment of the call leaves the node's records from before it, with the
+        // answer's one record or without.
         ensures moments { self.old.node.down ≡ false → (D.state self.old.node.disk).honest
             → LeavesOnly (D.state self.old.node.disk) (D.state self.new.node.disk)
             (IsWithOrWithout self.old.node.node self.old.node.nodes self.old.node.records (response_to self.old.node request).added) }
@@ -277,8 +284,9 @@ impl<N: Named, D: Disk> Station<N, D> {
         reply
     }
 
-    /// Stops the node between two calls, and adds that to both lists. The answer is false exactly where it is down already; then no entry is
-    /// made. NoMemory: there was none, and nothing has changed.
+    /// Stops the node between two calls, and adds that to both lists. The answer is false exactly
+    /// where it is down already; then no entry is made. NoMemory: there was none, and nothing has
+    /// changed.
     pub fn halt(
         &mut self,
         board: &Board<CoreLaw>,
@@ -317,10 +325,12 @@ impl<N: Named, D: Disk> Station<N, D> {
         Ok(true)
     }
 
-    /// Starts the node again, and adds that to both lists, with whether the record of the request inside which it had stopped is there. The
-    /// answer is None exactly where the node is up; then no entry is made. The causes are those of the node's own restart, or want of memory
-    /// for the entry; after an error no entry is made, and the node is still down. At Fault the disk's count
-    /// has risen by one more since the run began than the node has stopped unasked in requests.
+    /// Starts the node again, and adds that to both lists, with whether the record of the request
+    /// inside which it had stopped is there. The answer is None exactly where the node is up; then
+    /// no entry is made. The causes are those of the node's own restart, or want of memory for the
+    /// entry; after an error no entry is made, and the node is still down. At Fault the disk's
+    /// count has risen by one more since the run began than the node has stopped unasked in
+    /// requests.
     pub fn restart(
         &mut self,
         alloc: Global,
@@ -346,7 +356,8 @@ impl<N: Named, D: Disk> Station<N, D> {
             → RoseBy (unasked (entries_of self.new.list) + 1) (N.faults self.old.number.0) (D.faults self.new.node.disk)) }
         ensures undamaged { N.honest self.old.number.0 → IfErr result IsUndamaged }
 
-        // A crash at any moment of the call leaves the node's records, with the one that may have been there or without.
+        // A crash at any moment of the call leaves the node's records, with the one that may have
+        // been there or without.
         ensures moments { (D.state self.old.node.disk).honest
             → LeavesOnly (D.state self.old.node.disk) (D.state self.new.node.disk)
             (IsWithOrWithout self.old.node.node self.old.node.nodes self.old.node.records self.old.node.pending) }

@@ -50,7 +50,8 @@ copy_example : option_map (λ o. placed_pages (slots_for (3 ∷ 2 ∷ []) o.fres
     )
 copy_example = refl
 
--- a Check that isn't met brings the old pages back, and a path with a page that wasn't read has no answer
+-- a Check that isn't met brings the old pages back, and a path with a page that wasn't read has no
+-- answer
 unmet_example : steps_on main (at 0 0) (overlay_of read) (overlay_of read) (Put (107 ∷ 57 ∷ []) (118 ∷ []) ∷ Check (107 ∷ 49 ∷ []) None ∷ []) ≡ Some (overlay_of read)
 unmet_example = refl
 

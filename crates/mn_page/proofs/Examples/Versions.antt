@@ -1,4 +1,5 @@
--- Worked examples of versions that are added: a Snapshot and then a Branch of `main`, whose root has split.
+-- Worked examples of versions that are added: a Snapshot and then a Branch of `main`, whose root
+-- has split.
 use Rattle.std.proofs.Common.{◌≡◌, ℕ, true, false, Some, [], ◌∷◌, refl}
 use Rattle.mn_base.specs.declared.ids.VersionNo.{VersionNo}
 use Rattle.mn_page.specs.Forest.{main_entry}

@@ -1,4 +1,5 @@
--- A page is copied for a version, below a parent that was made in it: the tree shows the same store.
+-- A page is copied for a version, below a parent that was made in it: the tree shows the same
+-- store.
 use Rattle.std.proofs.Common.{◌≡◌, ℕ, ◌+◌, ◌<◌, ◌≤◌, ◌⊎◌, inl, inr, true, false, List, [], ◌∷◌, length, Option, Some, None, refl, subst, sym, ap, ◌∙◌, arith, slice_get}
 use Rattle.std.specs.Prelude.{filter, IsTrue}
 use Rattle.std.specs.List.{AllByRecursion}
@@ -21,7 +22,7 @@ use Rattle.mn_page.specs.Overlay.{page_with, new_page, copied_for, body_with}
 use Rattle.mn_page.proofs.Grid.{all_at_place}
 use Rattle.mn_page.proofs.Added.{addr_cases}
 use Rattle.mn_page.proofs.Copy.{page_same}
-use Rattle.mn_tree.specs.Trees.{IsOrdered, IsShown, IsWritable}
+use Rattle.mn_tree.specs.Trees.{IsOrdered, ShowsTree, IsWritable}
 use Rattle.mn_tree.proofs.Trees.Puts.{put, put_here, put_else, stood, now, still, nothing}
 use Rattle.mn_tree.proofs.Trees.Twins.{Twin, SameFor, changed_tree, twin_itself, serves_its, serves_one, head_at}
 use Rattle.mn_tree.proofs.Trees.Ranges.{Cuts, body_cut, body_rising, children_within, cut_range}
@@ -30,7 +31,7 @@ use Rattle.mn_tree.proofs.Trees.Joined.{serves_still, serves_no_more, joined_all
 
 -- the page at a was made in another version, and its parent at q in this one
 pub record CanCopy (entries : List CatEntry) (at : PagesAt) (store : Store) (v : VersionNo) (a q new : Addr) (p par : Page) : Type 0 where
-  pub shown : IsShown entries at store
+  pub shown : ShowsTree entries at store
   pub writes : IsWritable entries v.0
   pub there : at a ≡ Some p
   pub other : p.made.0 ≡ v.0 → ⊥
@@ -437,7 +438,7 @@ module _ (entries : List CatEntry) (at : PagesAt) (store : Store) (v : VersionNo
     | kept q_off a_off old ↦ can.shown.shows.leaves w version x y found old flat on
   ]
 
-  pub copies_below : Can → IsShown entries pages_now store
+  pub copies_below : Can → ShowsTree entries pages_now store
   copies_below can =
       let r = root_now can in
       record {

@@ -1,4 +1,5 @@
--- What the grammar asks of a page by itself, also where its neighbours are out of date: how full it is, its keys and its children's addresses.
+-- What the grammar asks of a page by itself, also where its neighbours are out of date: how full it
+-- is, its keys and its children's addresses.
 use Rattle.std.proofs.Common.{◌≡◌, ℕ, suc, ◌+◌, ◌^◌, ◌<◌, ◌≤◌, ◌⊎◌, inl, inr, Bool, true, false, not, cond, List, [], ◌∷◌, ◌++◌, length, Option, Some, None, refl, ap, arith, if◌then◌else◌}
 use Rattle.std.specs.Prelude.{⊤, filter, nat_le, nat_lt, bytes_eq, IsTrue}
 use Rattle.std.specs.List.{AllByRecursion, list_all}

@@ -1,4 +1,5 @@
--- The tree that a path's new body gives once each page of the path that was made in another version is copied.
+-- The tree that a path's new body gives once each page of the path that was made in another version
+-- is copied.
 use Rattle.std.proofs.Common.{◌≡◌, Bool, true, false, List, [], ◌∷◌, None, sym, ap, ◌∙◌, if◌then◌else◌}
 use Rattle.std.specs.Prelude.{nat_eq}
 use Rattle.std.specs.List.{AllByRecursion}

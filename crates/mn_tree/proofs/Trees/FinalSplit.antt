@@ -12,7 +12,7 @@ use Rattle.mn_page.specs.declared.page.Body.{Body}
 use Rattle.mn_page.specs.declared.page.Child.{Child}
 use Rattle.mn_page.specs.Holds.{PagesAt}
 use Rattle.mn_page.specs.Overlay.{Held, Halves, halves_of, copied_for, body_with, child_at}
-use Rattle.mn_tree.specs.Trees.{IsShown, IsWritable}
+use Rattle.mn_tree.specs.Trees.{ShowsTree, IsWritable}
 use Rattle.mn_tree.proofs.Trees.Puts.{put, put_here, put_else, put_swap, put_twice}
 use Rattle.mn_tree.proofs.Trees.SplitBelow.{left_page, right_page, split_below}
 use Rattle.mn_tree.proofs.Trees.Among.{Among, body_addrs, has_child}
@@ -44,9 +44,9 @@ abbrev pub cut_pages : VersionNo → PagesAt → Addr → Addr → Page → Halv
 cut_pages v at n m p hs = put (put at m (right_page v p hs)) n (left_page p hs)
 
 pub own_cut : (entries : List CatEntry) (store : Store) (at : PagesAt) (v : VersionNo) (n m : Addr) (p : Page) (hs : Halves) (h : Held) (body : Body) → CanCut entries at v n m p hs → h.page.made.0 ≡ v.0 → (h.addr ≡ n → ⊥) → (h.addr ≡ m → ⊥)
-    → Among n (body_addrs body) → IsShown entries (put at h.addr (own_page h body)) store → IsShown entries (put (cut_pages v at n m p hs) h.addr (own_page h (body_with body n n (more_of hs m)))) store
+    → Among n (body_addrs body) → ShowsTree entries (put at h.addr (own_page h body)) store → ShowsTree entries (put (cut_pages v at n m p hs) h.addr (own_page h (body_with body n n (more_of hs m)))) store
 own_cut entries store at v n m p hs h body can made n_off m_off among shown =
-    subst (λ (t : PagesAt). IsShown entries t store) same
+    subst (λ (t : PagesAt). ShowsTree entries t store) same
     (split_below entries (put at h.addr (own_page h body)) store v n h.addr m p (own_page h body) hs (record {
       shown = shown;
       writes = can.writes;
@@ -97,10 +97,10 @@ put_late v parent above up ns at a k m n old first next r l ak an am kn km away_
 -- the page's parent is copied
 copied_cut : (entries : List CatEntry) (store : Store) (at : PagesAt) (v : VersionNo) (n m : Addr) (p : Page) (hs : Halves) (h parent : Held) (above : List Held) (body : Body) (k : Addr) (ns : List Addr) → CanCut entries at v n m p hs
     → (h.addr ≡ n → ⊥) → (h.addr ≡ m → ⊥) → (h.addr ≡ k → ⊥) → (k ≡ n → ⊥) → (k ≡ m → ⊥) → IsAway n (parent ∷ above) ns → IsAway m (parent ∷ above) ns → IsAway k (parent ∷ above) ns → Among n (body_addrs body)
-    → IsShown entries (final v parent above (body_with parent.page.body h.addr k None) ns (put (put at k (copy_page v h body)) h.addr (copied_for v h.page))) store
-    → IsShown entries (final v parent above (body_with parent.page.body h.addr k None) ns (put (put (cut_pages v at n m p hs) k (copy_page v h (body_with body n n (more_of hs m)))) h.addr (copied_for v h.page))) store
+    → ShowsTree entries (final v parent above (body_with parent.page.body h.addr k None) ns (put (put at k (copy_page v h body)) h.addr (copied_for v h.page))) store
+    → ShowsTree entries (final v parent above (body_with parent.page.body h.addr k None) ns (put (put (cut_pages v at n m p hs) k (copy_page v h (body_with body n n (more_of hs m)))) h.addr (copied_for v h.page))) store
 copied_cut entries store at v n m p hs h parent above body k ns can hn hm hk kn km away_n away_m away_k among shown =
-    subst (λ (t : PagesAt). IsShown entries t store) (sym whole)
+    subst (λ (t : PagesAt). ShowsTree entries t store) (sym whole)
     (split_below entries done store v n k m p (copy_page v h body) hs (record {
       shown = shown;
       writes = can.writes;
@@ -143,8 +143,8 @@ AreApart [] path = ⊤
 AreApart (k ∷ ns) path = IsAway k path ns × AreApart ns path
 
 pub final_cut : (entries : List CatEntry) (store : Store) (at : PagesAt) (v : VersionNo) (n m : Addr) (p : Page) (hs : Halves) (h : Held) (above : List Held) (body : Body) (ns : List Addr) → CanCut entries at v n m p hs → EndsOwn v h above
-    → length ns ≡ length above → IsAway n (h ∷ above) ns → IsAway m (h ∷ above) ns → AreApart ns (h ∷ above) → Among n (body_addrs body) → IsShown entries (final v h above body ns at) store
-    → IsShown entries (final v h above (body_with body n n (more_of hs m)) ns (cut_pages v at n m p hs)) store
+    → length ns ≡ length above → IsAway n (h ∷ above) ns → IsAway m (h ∷ above) ns → AreApart ns (h ∷ above) → Among n (body_addrs body) → ShowsTree entries (final v h above body ns at) store
+    → ShowsTree entries (final v h above (body_with body n n (more_of hs m)) ns (cut_pages v at n m p hs)) store
 final_cut entries store at v n m p hs h [] body ns can ends many away_n away_m apart among shown = own_cut entries store at v n m p hs h body can ends (away_n.0).0 (away_m.0).0 among shown
 final_cut entries store at v n m p hs h (parent ∷ above) body [] can ends many away_n away_m apart among shown = absurd cc
 final_cut entries store at v n m p hs h (parent ∷ above) body (k ∷ ns) can ends many away_n away_m apart among shown = cases (nat_eq h.page.made.0 v.0) refl shown
@@ -156,8 +156,8 @@ final_cut entries store at v n m p hs h (parent ∷ above) body (k ∷ ns) can e
     up = body_with parent.page.body h.addr k None
 
     cases : (t : Bool) → nat_eq h.page.made.0 v.0 ≡ t
-        → IsShown entries (if t then put at h.addr (own_page h body) else final v parent above up ns (put (put at k (copy_page v h body)) h.addr (copied_for v h.page))) store
-        → IsShown entries (if t then put (cut_pages v at n m p hs) h.addr (own_page h next) else final v parent above up ns (put (put (cut_pages v at n m p hs) k (copy_page v h next)) h.addr (copied_for v h.page))) store
+        → ShowsTree entries (if t then put at h.addr (own_page h body) else final v parent above up ns (put (put at k (copy_page v h body)) h.addr (copied_for v h.page))) store
+        → ShowsTree entries (if t then put (cut_pages v at n m p hs) h.addr (own_page h next) else final v parent above up ns (put (put (cut_pages v at n m p hs) k (copy_page v h next)) h.addr (copied_for v h.page))) store
     cases true e was = own_cut entries store at v n m p hs h body can (eqb-true _ _ e) (away_n.0).0 (away_m.0).0 among was
     cases false e was =
         copied_cut entries store at v n m p hs h parent above body k ns can (away_n.0).0 (away_m.0).0 ((apart.0).0).0 (away_n.1).0 (away_m.1).0 ((away_n.0).1, (away_n.1).1) ((away_m.0).1, (away_m.1).1)

@@ -20,8 +20,8 @@ use Rattle.mn_page.specs.Holds.{PagesAt, page_covers, page_serves, root_page, Is
 use Rattle.mn_page.specs.Overlay.{Held, held_at, child_for, path_to}
 use Rattle.mn_page.proofs.Grid.{all_at_place}
 use Rattle.mn_page.proofs.Copy.{page_same}
-use Rattle.mn_tree.specs.Found.{child_from}
-use Rattle.mn_tree.specs.Trees.{laid_over, IsShown, IsOrdered}
+use Rattle.mn_path.specs.Walk.{child_from}
+use Rattle.mn_tree.specs.Trees.{laid_over, ShowsTree, IsOrdered}
 use Rattle.mn_tree.proofs.Ways.{child_is}
 use Rattle.mn_tree.proofs.Trees.Twins.{serves_its, serves_one}
 use Rattle.mn_tree.proofs.Trees.Grows.{all_covered}
@@ -190,7 +190,7 @@ module _ (entries : List CatEntry) (under : PagesAt) (pages : List Held) (v : Ve
       let w = goes_down addr page above way c.0 c.1 child.page there in
       descends height c.0 child.page (held addr page ∷ above) w lower (record { there = there; level = lower; serves = w.serves; covers = w.covers }, up)
 
-module _ (entries : List CatEntry) (under : PagesAt) (pages : List Held) (store : Store) (v : VersionNo) (entry : CatEntry) (key : List ℕ) (shown : IsShown entries (laid_over pages under) store) (there : slice_get entries v.0 ≡ Some entry) where
+module _ (entries : List CatEntry) (under : PagesAt) (pages : List Held) (store : Store) (v : VersionNo) (entry : CatEntry) (key : List ℕ) (shown : ShowsTree entries (laid_over pages under) store) (there : slice_get entries v.0 ≡ Some entry) where
   low_v : v.0 < length entries
   low_v = slice_get_within entries v.0 entry there
 
@@ -215,7 +215,7 @@ module _ (entries : List CatEntry) (under : PagesAt) (pages : List Held) (store 
       let w = way_from root.page at_root in
       descends entries under pages v entry.root key low_v shown.tree shown.ordered (height_of root.page.body) entry.root root.page [] w refl (record { there = w.there; level = refl; serves = w.serves; covers = w.covers }, refl)
 
-pub path_found : (entries : List CatEntry) (under : PagesAt) (pages : List Held) (store : Store) (v : VersionNo) (entry : CatEntry) (key : List ℕ) (fuel : ℕ) (path : List Held) → IsShown entries (laid_over pages under) store → slice_get entries v.0 ≡ Some entry
+pub path_found : (entries : List CatEntry) (under : PagesAt) (pages : List Held) (store : Store) (v : VersionNo) (entry : CatEntry) (key : List ℕ) (fuel : ℕ) (path : List Held) → ShowsTree entries (laid_over pages under) store → slice_get entries v.0 ≡ Some entry
     → path_to fuel pages entry.root key [] ≡ Some path → FoundPath entries (laid_over pages under) v entry.root key path
 path_found entries under pages store v entry key fuel path shown there e =
     down entries under pages v entry.root key (low_v entries under pages store v entry key shown there) shown.tree shown.ordered fuel entry.root [] path

@@ -1,4 +1,5 @@
--- A root becomes the parent of a new page that has what it had: the tree grows by a level and shows the same store.
+-- A root becomes the parent of a new page that has what it had: the tree grows by a level and shows
+-- the same store.
 use Rattle.std.proofs.Common.{◌≡◌, ℕ, ◌+◌, ◌<◌, ◌≤◌, inl, inr, true, List, [], ◌∷◌, length, Option, Some, None, refl, subst, sym, ap, ◌∙◌, arith, slice_get}
 use Rattle.std.specs.Prelude.{filter}
 use Rattle.std.specs.List.{AllByRecursion}
@@ -19,7 +20,7 @@ use Rattle.mn_page.specs.Holds.{PagesAt, page_covers, page_serves, root_page, ro
 use Rattle.mn_page.specs.Overlay.{page_with, new_page}
 use Rattle.mn_page.proofs.Added.{addr_cases}
 use Rattle.mn_page.proofs.Copy.{page_same}
-use Rattle.mn_tree.specs.Trees.{IsOrdered, IsShown, IsWritable, children_after}
+use Rattle.mn_tree.specs.Trees.{IsOrdered, ShowsTree, IsWritable, children_after}
 use Rattle.mn_tree.proofs.Trees.Puts.{put, put_here, put_else, stood, now, still, nothing}
 use Rattle.mn_tree.proofs.Trees.Twins.{Twin, SameFor, changed_tree, twin_itself, serves_its, serves_one}
 use Rattle.mn_tree.proofs.Trees.Ranges.{rising_below}
@@ -34,7 +35,7 @@ all_covered low high key e f = ap (λ (l : List ℕ). covers_key l high key) e �
 
 -- the root of the version at r, and a free address
 pub record CanGrow (entries : List CatEntry) (at : PagesAt) (store : Store) (v : VersionNo) (r new : Addr) (p : Page) : Type 0 where
-  pub shown : IsShown entries at store
+  pub shown : ShowsTree entries at store
   pub writes : IsWritable entries v.0
   pub root_is : writes.entry.root ≡ r
   pub there : at r ≡ Some p
@@ -271,7 +272,7 @@ module _ (entries : List CatEntry) (at : PagesAt) (store : Store) (v : VersionNo
     | kept off old ↦ can.shown.shows.leaves w version x y found old flat on
   ]
 
-  pub grows : Can → IsShown entries pages_now store
+  pub grows : Can → ShowsTree entries pages_now store
   grows can = record {
     tree = changed_tree entries at pages_now v.0 (low_v can) can.shown.tree can.shown.ordered (record {
       others = others can;

@@ -20,13 +20,13 @@ use Rattle.mn_page.specs.Overlay.{page_with}
 use Rattle.mn_page.proofs.Alike.{re_paired, heads_stay, all-set, get-set_other}
 use Rattle.mn_page.proofs.Added.{addr_cases}
 use Rattle.mn_page.proofs.Copy.{page_same}
-use Rattle.mn_tree.specs.Trees.{children_after, AreRising, IsOrdered, IsShown, IsWritable}
+use Rattle.mn_tree.specs.Trees.{children_after, AreRising, IsOrdered, ShowsTree, IsWritable}
 use Rattle.mn_tree.proofs.Trees.Puts.{put, put_here, put_else, stood, now, still}
 use Rattle.mn_tree.proofs.Trees.Twins.{Twin, SameFor, changed_tree, twin_itself, serves_its, serves_one}
 
 -- the leaf at a covers the key, and only there the version's new pairs differ from the old ones
 pub record CanSet (entries : List CatEntry) (at : PagesAt) (store : Store) (v : VersionNo) (a : Addr) (p : Page) (version : StoreVersion) (ps pairs : List Pair) (key : List ℕ) : Type 0 where
-  pub shown : IsShown entries at store
+  pub shown : ShowsTree entries at store
   pub writes : IsWritable entries v.0
   pub there : at a ≡ Some p
   pub made : p.made.0 ≡ v.0
@@ -224,7 +224,7 @@ module _ (entries : List CatEntry) (at : PagesAt) (store : Store) (v : VersionNo
     | inr differ ↦ other_leaf can w other x y (λ e. differ (sym e)) (sym (get-set_other store v.0 w (re_paired version ps) differ) ∙ at_w) there flat on
   ]
 
-  pub sets_leaf : Can → IsShown entries pages_now store_now
+  pub sets_leaf : Can → ShowsTree entries pages_now store_now
   sets_leaf can =
       let r = root_now can in
       record {

@@ -1,4 +1,5 @@
--- What the writes of a leaf's new body are: the leaf or its halves, or those of its copy, and inner pages above.
+-- What the writes of a leaf's new body are: the leaf or its halves, or those of its copy, and inner
+-- pages above.
 use Rattle.std.proofs.Common.{◌≡◌, ◌⊎◌, inl, inr, ℕ, ◌+◌, Bool, true, false, List, [], ◌∷◌, ◌++◌, length, Option, Some, None, refl, subst, sym, ap, ◌∙◌, arith, if◌then◌else◌}
 use Rattle.std.specs.Prelude.{nat_le, nat_eq}
 use Rattle.std.specs.List.{AllByRecursion}
@@ -187,7 +188,8 @@ IsRight r h hs a p = (a ≡ r) × (p.low ≡ hs.separator) × (p.high ≡ h.high
 abbrev pub IsHalf : Addr → Addr → Page → Halves → Addr → Page → Type 0
 IsHalf l r h hs a p = IsLeft l h hs a p ⊎ IsRight r h hs a p
 
--- the leaves among the writes of a leaf's new pairs, but for those that are out of use, as the old page of a copy
+-- the leaves among the writes of a leaf's new pairs, but for those that are out of use, as the old
+-- page of a copy
 pub data LeafWrites (IsLive : Page → Type 0) (h : Held) (new : List Pair) (ws : List Write) : Type 0 where
   stays : (x : Addr) → (is_new x ≡ false → x ≡ h.addr) → AllByRecursion (λ w. height_of w.page.body ≡ 0 → IsLive w.page → IsWhole x h.page new w.addr w.page) ws → LeafWrites IsLive h new ws
   splits : (hs : Halves) (l r : Addr) → halves_of (Leaf new) ≡ Some hs → (is_new l ≡ false → l ≡ h.addr) → is_new r ≡ true

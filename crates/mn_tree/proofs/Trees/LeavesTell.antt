@@ -1,4 +1,5 @@
--- Leaves that a transaction holds and that serve its version: each has the version's pairs of its range, and no two have a key in common.
+-- Leaves that a transaction holds and that serve its version: each has the version's pairs of its
+-- range, and no two have a key in common.
 use Rattle.std.proofs.Common.{◌≡◌, ◌⊎◌, inl, inr, ℕ, Bool, true, false, not, ◌&&◌, List, Option, Some, None, refl, subst, sym, ap, ◌∙◌}
 use Rattle.std.specs.Prelude.{filter}
 use Rattle.std.specs.List.{AllByRecursion}
@@ -34,7 +35,8 @@ pub record CameFrom (entries : List CatEntry) (at : PagesAt) (v : ℕ) (leaves :
   pub covers : page_covers key page ≡ true
 
 module _ (entries : List CatEntry) (at : PagesAt) (v : ℕ) (leaves : List Addr) (IsLive : Page → Type 0) where
-  -- a leaf has the version's pairs of its range, and its range lies in those of leaves that were read and are held: an old one's in its own
+  -- a leaf has the version's pairs of its range, and its range lies in those of leaves that were
+  -- read and are held: an old one's in its own
   pub record Tells (look : PagesAt) (ps : List Pair) (a : Addr) (p : Page) : Type 0 where
     pub pairs : filter (λ pair. page_covers pair.key p) ps ≡ pairs_in p.body
     pub fences : below_bound p.low p.high ≡ true
@@ -54,12 +56,14 @@ module _ (entries : List CatEntry) (at : PagesAt) (v : ℕ) (leaves : List Addr)
     pub here : filter (λ pair. page_covers pair.key h) now ≡ new
     pub outside : (y : Page) → page_covers key y ≡ false → filter (λ pair. page_covers pair.key y) now ≡ filter (λ pair. page_covers pair.key y) ps
 
-  -- where the leaves of a changed tree come from: from the leaf that was changed, or they were there
+  -- where the leaves of a changed tree come from: from the leaf that was changed, or they were
+  -- there
   data Part (look : PagesAt) (x : Addr) (IsPart : Addr → Page → Type 0) (a : Addr) (p : Page) : Type 0 where
     part : IsPart a p → Part look x IsPart a p
     other : look a ≡ Some p → (a ≡ x → ⊥) → Part look x IsPart a p
 
-  -- parts of a leaf: they cover what it covers, no two a key in common, and have the new pairs of their ranges
+  -- parts of a leaf: they cover what it covers, no two a key in common, and have the new pairs of
+  -- their ranges
   record AreParts (x : Addr) (h : Page) (now : List Pair) (IsPart : Addr → Page → Type 0) : Type 0 where
     within : (a : Addr) (p : Page) (key : List ℕ) → IsPart a p → page_covers key p ≡ true → page_covers key h ≡ true
     old : (a : Addr) (p : Page) → IsPart a p → is_new a ≡ false → a ≡ x

@@ -1,4 +1,5 @@
--- The read set of moves: each of its pages came in, and is a leaf that a step touched or was changed.
+-- The read set of moves: each of its pages came in, and is a leaf that a step touched or was
+-- changed.
 use Rattle.std.proofs.Common.{◌≡◌, ℕ, ◌+◌, ◌<◌, ◌≤◌, ◌⊎◌, inl, inr, Bool, true, false, ◌||◌, List, [], ◌∷◌, ◌++◌, Option, Some, None, is_some, refl, subst, sym, ap, ◌∙◌, arith, append_assoc, ne_eqb, if◌then◌else◌}
 use Rattle.std.specs.List.{AllByRecursion}
 use Rattle.std.specs.Option.{option_or}
@@ -62,7 +63,8 @@ once_joined addrs a once = cases (is_new a) (is_noted addrs a) refl
 
 -- What holds between moves
 
--- an old page that is held came in; it has the number with which it came, and is as it was unless it was changed
+-- an old page that is held came in; it has the number with which it came, and is as it was unless
+-- it was changed
 pub record IsOld (came : List Held) (changed : List Addr) (x : Addr) (page : Page) : Type 0 where
   pub was : Page
   pub there : held_at came x ≡ Some was

@@ -1,4 +1,5 @@
--- The moves of a transaction keep the tree, where the pages that they write or read stand in the memory as they came in.
+-- The moves of a transaction keep the tree, where the pages that they write or read stand in the
+-- memory as they came in.
 use Rattle.std.proofs.Common.{◌≡◌, ℕ, Bool, true, false, ◌&&◌, ◌||◌, List, [], ◌∷◌, Option, Some, None, refl, subst, sym, ap, ◌∙◌, arith, slice_get, slice_set}
 use Rattle.std.specs.List.{AllByRecursion, list_any}
 use Rattle.std.specs.Option.{option_or}
@@ -20,7 +21,7 @@ use Rattle.mn_tree.specs.Writes.{joined, all_joined, step_writes, all_written}
 use Rattle.mn_tree.specs.State.{Drafted, drafted_with, drafted_after, no_pages, leaf_joined}
 use Rattle.mn_tree.specs.Trees.{laid_over, is_noted, IsDraft}
 use Rattle.mn_tree.specs.Moves.{Move, Comes, Does, LeadsTo, comes_in, done_in, only_at, pairs_after}
-use Rattle.mn_tree.specs.MoveLaws.{Agrees, MovesKeepTree}
+use Rattle.mn_tree.specs.MoveLaws.{AgreesWithEntries, MovesKeepTree}
 use Rattle.mn_tree.proofs.Changes.{step_is}
 use Rattle.mn_tree.proofs.Trees.Found.{IsUp, WholePath, whole_path}
 use Rattle.mn_tree.proofs.Trees.Reads.{add_keeps_draft, none_held}
@@ -67,7 +68,7 @@ leads_reads parents v root d after (Does step ∷ moves) leads x noted =
 
 -- The tree that is left
 
-module _ (entries : List CatEntry) (at : PagesAt) (store : Store) (parents : List (Option ℕ)) (v : VersionNo) (version : StoreVersion) (entry : CatEntry) (agrees : Agrees parents entries v.0) (found : slice_get store v.0 ≡ Some version)
+module _ (entries : List CatEntry) (at : PagesAt) (store : Store) (parents : List (Option ℕ)) (v : VersionNo) (version : StoreVersion) (entry : CatEntry) (agrees : AgreesWithEntries parents entries v.0) (found : slice_get store v.0 ≡ Some version)
     (there : slice_get entries v.0 ≡ Some entry) (read : List Addr) where
   abbrev store_with : List Pair → Store
   store_with ps = slice_set store v.0 (re_paired version ps)

@@ -24,7 +24,7 @@ use Rattle.mn_page.proofs.Copy.{page_same}
 use Rattle.mn_tree.specs.declared.write.Write.{Write}
 use Rattle.mn_tree.specs.Walk.{held, is_live, is_met, goes_on, Missing, Wrong, Reached, walk_down, walk}
 use Rattle.mn_tree.specs.Writes.{own_writes, own_asks, other_writes, root_writes, page_writes, page_asks, origins_in, writes_if, writes_up, step_writes}
-use Rattle.mn_tree.specs.MoveLaws.{Agrees}
+use Rattle.mn_tree.specs.MoveLaws.{AgreesWithEntries}
 use Rattle.mn_tree.proofs.Trees.Found.{IsUp}
 
 -- What a walk passes
@@ -125,8 +125,9 @@ up_writes_itself v n origins h [] body P all = root_writes_itself v n (placed_ad
 up_writes_itself v n origins h (parent ∷ above) body P all =
     writes_itself v n (placed_addr origins h.addr) h body (nat_eq h.page.made.0 v.0) (halves_of body) P (all_split P (page_writes v n (placed_addr origins h.addr) h body) _ all).0
 
--- The tree, and the pages that a walk passes: those of them that are to be written, or are read, stand in the tree as they are held
-module _ (entries : List CatEntry) (at : PagesAt) (parents : List (Option ℕ)) (v : VersionNo) (entry : CatEntry) (there : slice_get entries v.0 ≡ Some entry) (tree : IsTree entries at) (agrees : Agrees parents entries v.0)
+-- The tree, and the pages that a walk passes: those of them that are to be written, or are read,
+-- stand in the tree as they are held
+module _ (entries : List CatEntry) (at : PagesAt) (parents : List (Option ℕ)) (v : VersionNo) (entry : CatEntry) (there : slice_get entries v.0 ≡ Some entry) (tree : IsTree entries at) (agrees : AgreesWithEntries parents entries v.0)
     (pages : List Held) (IsKnown : Addr → Type 0) (stands : (a : Addr) (p : Page) → IsKnown a → held_at pages a ≡ Some p → at a ≡ Some p) (key : List ℕ) where
   low_v : v.0 < length entries
   low_v = slice_get_within entries v.0 entry there

@@ -9,7 +9,7 @@ use Rattle.mn_base.specs.Store.{Store}
 use Rattle.mn_base.proofs.Booleans.{or_cases, or_left, or_right}
 use Rattle.mn_page.specs.declared.entry.CatEntry.{CatEntry}
 use Rattle.mn_page.specs.Holds.{PagesAt, IsTree}
-use Rattle.mn_tree.specs.Trees.{laid_over, is_noted, IsShown, IsDraft}
+use Rattle.mn_tree.specs.Trees.{laid_over, is_noted, ShowsTree, IsDraft}
 use Rattle.mn_tree.specs.State.{Drafted, leaf_joined}
 use Rattle.mn_tree.specs.Writes.{step_writes, joined, all_joined, written, all_written}
 use Rattle.mn_tree.specs.Order.{new_order, changed_order, slot_of, slots_by_number, pair_of}
@@ -80,7 +80,7 @@ as_held (x ∷ xs) ys = ap (λ (l : List Held). x ∷ l) (as_held xs ys)
 -- pages under the same notes, at any order of a draft's changed pages and in the slots of its order
 pub placed_over : (entries : List CatEntry) (at : PagesAt) (store : Store) (d : Drafted) (pages : List Held) (slots : List Addr) → IsTree entries at → IsDraft entries at store (record { pages = pages; changed = d.overlay.changed; fresh = d.overlay.fresh }) → ReadsChanged d
     → length slots ≡ d.overlay.fresh → AreFreeSlots slots at
-    → IsShown entries (laid_over (flat_map (placed_old (slots_by_number (new_order d) slots d.overlay.fresh) pages) (changed_order d) ++ flat_map (placed_new (slots_by_number (new_order d) slots d.overlay.fresh) pages) (new_order d)) at) store
+    → ShowsTree entries (laid_over (flat_map (placed_old (slots_by_number (new_order d) slots d.overlay.fresh) pages) (changed_order d) ++ flat_map (placed_new (slots_by_number (new_order d) slots d.overlay.fresh) pages) (new_order d)) at) store
 placed_over entries at store d pages slots first draft reads long free =
     placed_shown entries at store (record { pages = pages; changed = d.overlay.changed; fresh = d.overlay.fresh }) by first draft by_long by_free (changed_order d) (λ x. noted_in_order d.overlay.changed d.read x (reads x)) order lows all_in
   where
@@ -115,6 +115,6 @@ placed_over entries at store d pages slots first draft reads long free =
 
 pub placed_keeps_tree : PlacedKeepsTree
 placed_keeps_tree entries at store d slots first draft reads long free =
-    subst (λ (hs : List Held). IsShown entries (laid_over hs at) store)
+    subst (λ (hs : List Held). ShowsTree entries (laid_over hs at) store)
     (sym (as_held (flat_map (placed_old (slots_by_number (new_order d) slots d.overlay.fresh) d.overlay.pages) (changed_order d)) (flat_map (placed_new (slots_by_number (new_order d) slots d.overlay.fresh) d.overlay.pages) (new_order d))))
     (placed_over entries at store d d.overlay.pages slots first draft reads long free)

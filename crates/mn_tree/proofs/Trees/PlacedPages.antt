@@ -16,7 +16,7 @@ use Rattle.mn_page.proofs.Grid.{all_at_place}
 use Rattle.mn_base.proofs.Keys.{key_lt-trans}
 use Rattle.mn_base.proofs.Lists.{all_append}
 use Rattle.mn_base.proofs.Booleans.{clash, or_right}
-use Rattle.mn_tree.specs.State.{max_height}
+use Rattle.mn_path.specs.Walk.{max_height}
 use Rattle.mn_tree.specs.Trees.{is_noted, AreRising, children_after, IsOrdered}
 use Rattle.mn_tree.specs.Order.{new_order, changed_order, place_in, slot_of, slots_by_number, is_changed, pair_of}
 use Rattle.mn_tree.specs.Moves.{done_in}

@@ -18,7 +18,7 @@ use Rattle.mn_page.specs.declared.page.Child.{Child}
 use Rattle.mn_page.specs.Holds.{PagesAt, IsTree}
 use Rattle.mn_page.specs.Overlay.{Held, Overlay, is_new, new_addr, held_at, child_at, placed_addr, placed_body, placed_page, placed_old, placed_new, next_number}
 use Rattle.mn_page.proofs.Copy.{page_same}
-use Rattle.mn_tree.specs.Trees.{laid_over, is_noted, IsShown, IsDraft}
+use Rattle.mn_tree.specs.Trees.{laid_over, is_noted, ShowsTree, IsDraft}
 use Rattle.mn_tree.specs.Laws.{AreFreeSlots, PlacingKeepsTree}
 use Rattle.mn_tree.proofs.Trees.Puts.{addr_is, same_itself, differs, nothing}
 use Rattle.mn_tree.proofs.Trees.Among.{Among, rest_addrs, body_addrs}
@@ -292,7 +292,7 @@ module _ (entries : List CatEntry) (at : PagesAt) (store : Store) (o : Overlay) 
       by_note false off =
           by_place off (held_at news x) refl (sym (placed_is x ∙ ap (λ y. option_or (option_or y (held_at news x)) (at x)) (olds_none slots o.pages cs x (same_noted x ∙ off))) ∙ there)
 
-  pub placed_shown : IsShown entries placed store
+  pub placed_shown : ShowsTree entries placed store
   placed_shown = renamed_shown entries tree placed store to draft.shown (record {
     forth = forth;
     back = back;

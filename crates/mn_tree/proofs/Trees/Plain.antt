@@ -1,4 +1,5 @@
--- The moves of a try in the plain model: it has the pages that the try holds and, under them, those that are still to come.
+-- The moves of a try in the plain model: it has the pages that the try holds and, under them, those
+-- that are still to come.
 use Rattle.std.proofs.Common.{◌≡◌, inl, inr, ℕ, zero, suc, ◌+◌, ◌<◌, ◌≤◌, Bool, true, false, List, [], ◌⊎◌, ◌∷◌, ◌++◌, length, Option, Some, None, refl, subst, sym, ap, ◌∙◌, arith, nat_eq, if◌then◌else◌}
 use Rattle.std.specs.Prelude.{⊤, is_some}
 use Rattle.std.specs.Option.{option_map, option_map_or, option_and_then, option_or}
@@ -14,10 +15,11 @@ use Rattle.mn_page.specs.Grammar.{height_of}
 use Rattle.mn_page.specs.Forest.{children_of}
 use Rattle.mn_page.specs.Holds.{PagesAt}
 use Rattle.mn_page.specs.Overlay.{Held, Overlay, overlay_of, held_at, held_with, child_for, max_path, path_to, path_pairs, step_on, steps_on}
+use Rattle.mn_path.specs.Walk.{max_height}
 use Rattle.mn_tree.specs.declared.write.Write.{Write}
 use Rattle.mn_tree.specs.Walk.{Reached, walk}
 use Rattle.mn_tree.specs.Writes.{step_writes, written, all_written, joined}
-use Rattle.mn_tree.specs.State.{Drafted, drafted_with, drafted_after, no_pages, max_height}
+use Rattle.mn_tree.specs.State.{Drafted, drafted_with, drafted_after, no_pages}
 use Rattle.mn_tree.specs.Trees.{laid_over}
 use Rattle.mn_tree.specs.Moves.{Move, Comes, Does, LeadsTo, comes_in, AreAnswered}
 use Rattle.mn_tree.specs.Plain.{MovesAreSteps, UnmetMovesChangeNothing, TriesShowNeeds, UnmetNeedsNothing}
@@ -124,7 +126,8 @@ ahead_steps v o all rest origins step path ahead =
 
 -- Steps
 
--- what the plain model leaves, by the reply: what the moves leave, or, where a Check is unmet, the old pages
+-- what the plain model leaves, by the reply: what the moves leave, or, where a Check is unmet, the
+-- old pages
 abbrev LeftBy : Reply → Overlay → Overlay → Overlay → Type 0
 LeftBy (Say.Values found) after old o = IsAhead after [] o
 LeftBy (Say.Unmet n x) after old o = o ≡ old

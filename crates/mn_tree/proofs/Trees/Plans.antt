@@ -16,7 +16,7 @@ use Rattle.mn_page.specs.Grammar.{IsPage}
 use Rattle.mn_page.specs.Overlay.{Held, Overlay, held_at, is_new, new_addr, next_number, placed_addr, placed_page, placed_old, placed_new, step_on}
 use Rattle.mn_page.specs.SlotOrder.{stands_first, AreInSlotOrder}
 use Rattle.mn_tree.specs.State.{Drafted, drafted_with, drafted_after, no_pages}
-use Rattle.mn_tree.specs.Trees.{laid_over, is_noted, IsShown, IsDraft}
+use Rattle.mn_tree.specs.Trees.{laid_over, is_noted, ShowsTree, IsDraft}
 use Rattle.mn_tree.specs.Order.{both_stand, precedes, with_number, with_numbers, new_order, place_in, slot_of, slots_by_number, is_changed, changed_order, placed}
 use Rattle.mn_tree.specs.Laws.{held_pair}
 use Rattle.mn_tree.specs.Moves.{Move, Comes, Does, LeadsTo, done_in, came_at, only_at, pairs_after}
@@ -149,7 +149,7 @@ moves_are_placed moves_read placed_are_pages entries at store parents v version 
   pages = subst (AllByRecursion (λ (h : Held). IsPage h.page)) are
       (all_mapped (placed slots d) (placed_are_pages parents v entry.root moves d slots few steps many leads long addrs
       (λ addr page held new_or. draft.shown.ordered addr page (ap (λ o. option_or o (at addr)) (held_kept d.read d.overlay.pages addr (known addr new_or) ∙ held)))));
-  shown = subst (λ (hs : List Held). IsShown entries (laid_over hs at) after) same_pages (placed_over entries at after d (kept d.read d.overlay.pages) slots shown.tree draft reads.changed long free);
+  shown = subst (λ (hs : List Held). ShowsTree entries (laid_over hs at) after) same_pages (placed_over entries at after d (kept d.read d.overlay.pages) slots shown.tree draft reads.changed long free);
 }
   where
     after : Store

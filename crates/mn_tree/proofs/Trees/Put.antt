@@ -16,7 +16,7 @@ use Rattle.mn_page.specs.Grammar.{child_bytes, body_bytes, page_bytes, count_in}
 use Rattle.mn_page.specs.Overlay.{Held, held_at, new_addr, next_number, child_at, placed_addr, placed_body}
 use Rattle.mn_page.specs.Overlay.{placed_page, placed_old, placed_new}
 use Rattle.mn_page.proofs.Spelled.{length-padded, page_text, high_length, text_parts}
-use Rattle.mn_tree.specs.State.{max_height}
+use Rattle.mn_path.specs.Walk.{max_height}
 use Rattle.mn_tree.specs.Order.{new_order, changed_order, slot_of, slots_by_number, is_changed, pair_of}
 use Rattle.mn_tree.specs.Moves.{done_in}
 use Rattle.mn_tree.specs.MoveLaws.{AreReads, MovesRead}

@@ -14,7 +14,7 @@ use Rattle.mn_page.specs.Grammar.{height_of}
 use Rattle.mn_page.specs.Holds.{PagesAt}
 use Rattle.mn_page.specs.Overlay.{Held, Overlay, Halves, Changed, new_addr, with_changed, with_new, halves_of, page_with, new_page, copied_for, body_with, child_at, root_changed, own_changed, other_changed, when_asked, raised}
 use Rattle.mn_page.proofs.Copy.{page_same}
-use Rattle.mn_tree.specs.Trees.{laid_over, IsShown, IsWritable}
+use Rattle.mn_tree.specs.Trees.{laid_over, ShowsTree, IsWritable}
 use Rattle.mn_tree.proofs.Trees.Puts.{put, put_here, put_else, put_swap, put_twice, put_same, laid_with, same_itself, nothing}
 use Rattle.mn_tree.proofs.Trees.SplitBelow.{same_level}
 use Rattle.mn_tree.proofs.Trees.Grows.{grows, grown_child}
@@ -139,14 +139,14 @@ final_own v h (parent ∷ above) body (n ∷ ns) at made =
 
 -- what a raise leaves
 pub record Raises (entries : List CatEntry) (at : PagesAt) (store : Store) (o : Overlay) : Type 0 where
-  pub shown : IsShown entries (tree_of at o) store
+  pub shown : ShowsTree entries (tree_of at o) store
   pub fresh : IsFresh at o
 
 -- the root splits
 root_splits : (entries : List CatEntry) (at : PagesAt) (store : Store) (v : VersionNo) (o : Overlay) (h : Held) (body : Body) (hs : Halves) → (writes : IsWritable entries v.0) → IsFresh at o → tree_of at o h.addr ≡ Some h.page → h.page.made.0 ≡ v.0
-    → writes.entry.root ≡ h.addr → halves_of body ≡ Some hs → IsShown entries (put (tree_of at o) h.addr (own_page h body)) store → Raises entries at store (root_changed v o h body (Some hs))
+    → writes.entry.root ≡ h.addr → halves_of body ≡ Some hs → ShowsTree entries (put (tree_of at o) h.addr (own_page h body)) store → Raises entries at store (root_changed v o h body (Some hs))
 root_splits entries at store v o h body hs writes fresh there made root is shown = record {
-  shown = subst (λ (t : PagesAt). IsShown entries t store) whole (own_cut entries store (put now new0 x) v new0 new1 x hs h top (record {
+  shown = subst (λ (t : PagesAt). ShowsTree entries t store) whole (own_cut entries store (put now new0 x) v new0 new1 x hs h top (record {
     writes = writes;
     there = put_here now new0 x;
     made = refl;
@@ -202,7 +202,7 @@ root_splits entries at store v o h body hs writes fresh there made root is shown
     last : Page
     last = own_page h (Inner (height_of body + 1) new0 (child_at hs.separator new1 ∷ []))
 
-    grown : IsShown entries (put (put now new0 x) h.addr (own_page h top)) store
+    grown : ShowsTree entries (put (put now new0 x) h.addr (own_page h top)) store
     grown = grows entries now store v h.addr new0 p (record { shown = shown; writes = writes; root_is = root; there = put_here old h.addr p; free = put_else old h.addr p new0 away0 ∙ free0 })
 
     body_is : body_with top new0 new0 (more_of hs new1) ≡ Inner (height_of body + 1) new0 (child_at hs.separator new1 ∷ [])
@@ -220,15 +220,15 @@ root_splits entries at store v o h body hs writes fresh there made root is shown
         ∙ ap (λ (t : PagesAt). put t h.addr last) (laid_with (with_new o l).pages at new1 r ∙ ap (λ (t : PagesAt). put t new1 r) (laid_with o.pages at new0 l)))))))
 
 -- a change that splits nothing
-plainly : (entries : List CatEntry) (at : PagesAt) (store : Store) (o : Overlay) (a : Addr) (was p : Page) → IsFresh at o → tree_of at o a ≡ Some was → IsShown entries (put (tree_of at o) a p) store → Raises entries at store (with_changed o a p)
+plainly : (entries : List CatEntry) (at : PagesAt) (store : Store) (o : Overlay) (a : Addr) (was p : Page) → IsFresh at o → tree_of at o a ≡ Some was → ShowsTree entries (put (tree_of at o) a p) store → Raises entries at store (with_changed o a p)
 plainly entries at store o a was p fresh there shown = record {
-  shown = subst (λ (t : PagesAt). IsShown entries t store) (sym (laid_with o.pages at a p)) shown;
+  shown = subst (λ (t : PagesAt). ShowsTree entries t store) (sym (laid_with o.pages at a p)) shown;
   fresh = fresh_changed at o a was p fresh there;
 }
 
 -- each choice of free addresses for the copies gives a tree
 abbrev pub IsReady : List CatEntry → PagesAt → Store → VersionNo → Held → List Held → Body → Type 0
-IsReady entries at store v h above body = (ns : List Addr) → length ns ≡ length above → AreFree ns at → IsShown entries (final v h above body ns at) store
+IsReady entries at store v h above body = (ns : List Addr) → length ns ≡ length above → AreFree ns at → ShowsTree entries (final v h above body ns at) store
 
 -- a page of the version, below its parent
 abbrev pub own_split : VersionNo → Overlay → Held → Halves → Overlay
@@ -287,10 +287,10 @@ module _ (entries : List CatEntry) (at : PagesAt) (store : Store) (v : VersionNo
 
   -- Own pages
 
-  own_shown : h.page.made.0 ≡ v.0 → IsShown entries (put old h.addr (own_page h body)) store
+  own_shown : h.page.made.0 ≡ v.0 → ShowsTree entries (put old h.addr (own_page h body)) store
   own_shown made =
       let ns = news o.fresh (length (parent ∷ above)) in
-      subst (λ (t : PagesAt). IsShown entries t store) (final_own v h (parent ∷ above) body ns old made) (ready ns (news_long o.fresh (length (parent ∷ above))) (news_free old o.fresh (length (parent ∷ above)) fresh))
+      subst (λ (t : PagesAt). ShowsTree entries t store) (final_own v h (parent ∷ above) body ns old made) (ready ns (news_long o.fresh (length (parent ∷ above))) (news_free old o.fresh (length (parent ∷ above)) fresh))
 
   own_tree : (hs : Halves) → tree_of at (own_split v o h hs) ≡ put (put old new0 (new_page v hs.separator h.page.high hs.right)) h.addr (page_with h.page h.page.low (Some hs.separator) hs.left)
   own_tree hs =
@@ -310,8 +310,8 @@ module _ (entries : List CatEntry) (at : PagesAt) (store : Store) (v : VersionNo
 
   own_ready : (hs : Halves) → halves_of body ≡ Some hs → h.page.made.0 ≡ v.0 → IsReady entries (tree_of at (own_split v o h hs)) store v parent above (body_with parent.page.body h.addr h.addr (more_of hs new0))
   own_ready hs is made ns long free =
-      subst (λ (t : PagesAt). IsShown entries t store) (sym (final_own v parent above next ns (tree_of at (own_split v o h hs)) par_made))
-      (subst (λ (t : PagesAt). IsShown entries (put t parent.addr (own_page parent next)) store) (sym whole)
+      subst (λ (t : PagesAt). ShowsTree entries t store) (sym (final_own v parent above next ns (tree_of at (own_split v o h hs)) par_made))
+      (subst (λ (t : PagesAt). ShowsTree entries (put t parent.addr (own_page parent next)) store) (sym whole)
       (own_cut entries store now v h.addr new0 p hs parent parent.page.body (record {
         writes = writes;
         there = put_here old h.addr p;
@@ -320,7 +320,7 @@ module _ (entries : List CatEntry) (at : PagesAt) (store : Store) (v : VersionNo
         apart = away0;
         halves = is;
       }) par_made par_off par_new (path.1).among
-      (subst (λ (t : PagesAt). IsShown entries t store) (sym (put_same now parent.addr parent.page (put_else old h.addr p parent.addr (λ e. par_off (sym e)) ∙ par_there))) (own_shown made))))
+      (subst (λ (t : PagesAt). ShowsTree entries t store) (sym (put_same now parent.addr parent.page (put_else old h.addr p parent.addr (λ e. par_off (sym e)) ∙ par_there))) (own_shown made))))
     where
       p : Page
       p = own_page h body
@@ -371,15 +371,15 @@ module _ (entries : List CatEntry) (at : PagesAt) (store : Store) (v : VersionNo
 
   -- the choice of the first copy's address, and of the others
   chosen : (n : Addr) (ns : List Addr) → nat_eq h.page.made.0 v.0 ≡ false → length ns ≡ length above → AreFree (n ∷ ns) old
-      → IsShown entries (final v parent above (body_with parent.page.body h.addr n None) ns (put (put old n (copy_page v h body)) h.addr (copied_for v h.page))) store
+      → ShowsTree entries (final v parent above (body_with parent.page.body h.addr n None) ns (put (put old n (copy_page v h body)) h.addr (copied_for v h.page))) store
   chosen n ns other long free =
-      subst (λ (t : PagesAt). IsShown entries t store)
+      subst (λ (t : PagesAt). ShowsTree entries t store)
       (ap (λ t. if t then put old h.addr (own_page h body) else final v parent above (body_with parent.page.body h.addr n None) ns (put (put old n (copy_page v h body)) h.addr (copied_for v h.page))) other)
       (ready (n ∷ ns) (ap suc long) free)
 
   copied_ready : nat_eq h.page.made.0 v.0 ≡ false → IsReady entries (tree_of at (other_copied v o h body)) store v parent above (body_with parent.page.body h.addr new0 None)
   copied_ready other ns long free =
-      subst (λ (t : PagesAt). IsShown entries (final v parent above (body_with parent.page.body h.addr new0 None) ns t) store) (sym copied_tree)
+      subst (λ (t : PagesAt). ShowsTree entries (final v parent above (body_with parent.page.body h.addr new0 None) ns t) store) (sym copied_tree)
       (chosen new0 ns other long (free0, free_apart next ns new0 (copy_page v h body) free_next there, free_under old next ns none free_next))
     where
       next : PagesAt
@@ -422,8 +422,8 @@ module _ (entries : List CatEntry) (at : PagesAt) (store : Store) (v : VersionNo
 
   other_ready : (hs : Halves) → halves_of body ≡ Some hs → nat_eq h.page.made.0 v.0 ≡ false → IsReady entries (tree_of at (other_split v o h hs)) store v parent above (body_with parent.page.body h.addr new0 (more_of hs new1))
   other_ready hs is other ns long free =
-      subst (λ (t : PagesAt). IsShown entries (final v parent above (body_with parent.page.body h.addr new0 (more_of hs new1)) ns t) store) whole
-      (subst (λ b. IsShown entries (final v parent above b ns (cut_pages v base new0 new1 c hs)) store) (body_twice h.addr new0 (child_at hs.separator new1) parent.page.body (λ among. (path.1).settled new0 among free0))
+      subst (λ (t : PagesAt). ShowsTree entries (final v parent above (body_with parent.page.body h.addr new0 (more_of hs new1)) ns t) store) whole
+      (subst (λ b. ShowsTree entries (final v parent above b ns (cut_pages v base new0 new1 c hs)) store) (body_twice h.addr new0 (child_at hs.separator new1) parent.page.body (λ among. (path.1).settled new0 among free0))
       (final_cut entries store base v new0 new1 c hs parent above (body_with parent.page.body h.addr new0 None) ns (record {
         writes = writes;
         there = put_else (put old new0 c) h.addr (copied_for v h.page) new0 away0 ∙ put_here old new0 c;
@@ -501,7 +501,7 @@ pub raises : (entries : List CatEntry) (at : PagesAt) (store : Store) (v : Versi
     → OnPath entries (tree_of at o) v root h above → height_of body ≡ height_of h.page.body → IsReady entries (tree_of at o) store v h above body → Raises entries at store (raised v o h above body)
 raises entries at store v root writes root_is o h [] body fresh path level ready = by_halves (halves_of body) refl
   where
-    shown : IsShown entries (put (tree_of at o) h.addr (own_page h body)) store
+    shown : ShowsTree entries (put (tree_of at o) h.addr (own_page h body)) store
     shown = ready [] refl tt
 
     by_halves : (x : Option Halves) → halves_of body ≡ x → Raises entries at store (root_changed v o h body x)

@@ -1,4 +1,5 @@
--- The ranges of a page's children: their order, and what a child in another one's place makes of them.
+-- The ranges of a page's children: their order, and what a child in another one's place makes of
+-- them.
 use Rattle.std.proofs.Common.{◌≡◌, ℕ, Bool, true, false, not, ◌&&◌, List, [], ◌∷◌, ◌++◌, Option, Some, None, refl, subst, sym, ap, ◌∙◌, if◌then◌else◌}
 use Rattle.std.specs.Prelude.{⊤}
 use Rattle.std.specs.List.{AllByRecursion}

@@ -17,7 +17,7 @@ use Rattle.mn_page.specs.Holds.{PagesAt}
 use Rattle.mn_base.specs.Store.{Store}
 use Rattle.mn_page.specs.declared.entry.CatEntry.{CatEntry}
 use Rattle.mn_page.specs.Overlay.{Held, overlay_of, held_at, held_with, new_addr}
-use Rattle.mn_tree.specs.Trees.{laid_over, AreRising, children_after, IsOrdered, IsShown, IsDraft}
+use Rattle.mn_tree.specs.Trees.{laid_over, AreRising, children_after, IsOrdered, ShowsTree, IsDraft}
 use Rattle.mn_tree.specs.Laws.{ReadsAreDraft, AddKeepsDraft}
 use Rattle.mn_tree.proofs.Trees.Tidy.{held_kept}
 use Rattle.mn_tree.proofs.Trees.Puts.{put_same, laid_with, addr_is}
@@ -58,12 +58,12 @@ ordered p is = record { rising = by_body p.body is.body; copied_above = is.copie
         lowest c cs (d ∷ rest) e all = let same : d ≡ c = cc in ap (λ (x : Child). key_lt p.low x.separator) (sym same) ∙ (all.0).2
 
 -- no pages are a draft
-pub none_held : (entries : List CatEntry) (at : PagesAt) (store : Store) → IsShown entries at store → ((n : ℕ) → at (new_addr n) ≡ None) → IsDraft entries at store (overlay_of [])
+pub none_held : (entries : List CatEntry) (at : PagesAt) (store : Store) → ShowsTree entries at store → ((n : ℕ) → at (new_addr n) ≡ None) → IsDraft entries at store (overlay_of [])
 none_held entries at store shown none_new = record { shown = shown; none_new = none_new; fresh = λ n low. none_new n; same = λ x old off. refl; changed = λ x noted. absurd cc }
 
 pub reads_are_draft : ReadsAreDraft
 reads_are_draft memory store holds pages read = record {
-  shown = subst (λ (t : PagesAt). IsShown holds.forest.entries t store) (sym same) (record {
+  shown = subst (λ (t : PagesAt). ShowsTree holds.forest.entries t store) (sym same) (record {
     tree = holds.sound.tree;
     ordered = λ addr p there. ordered p (holds.sound.laid.pages addr p there);
     shows = holds.shown;
@@ -83,7 +83,7 @@ reads_are_draft memory store holds pages read = record {
 
 pub add_keeps_draft : AddKeepsDraft
 add_keeps_draft entries at store o addr page draft there = record {
-  shown = subst (λ (t : PagesAt). IsShown entries t store) (sym same) draft.shown;
+  shown = subst (λ (t : PagesAt). ShowsTree entries t store) (sym same) draft.shown;
   fresh = λ n low. ap (λ (t : PagesAt). t (new_addr n)) same ∙ draft.fresh n low;
   none_new = draft.none_new;
   same = λ x old off. ap (λ (t : PagesAt). t x) same ∙ draft.same x old off;

@@ -17,7 +17,7 @@ use Rattle.mn_page.specs.Holds.{PagesAt, page_covers}
 use Rattle.mn_page.specs.Overlay.{Held, new_page, copied_for, body_with}
 use Rattle.mn_page.proofs.Alike.{re_paired}
 use Rattle.mn_page.proofs.Copy.{page_same}
-use Rattle.mn_tree.specs.Trees.{IsShown, IsWritable}
+use Rattle.mn_tree.specs.Trees.{ShowsTree, IsWritable}
 use Rattle.mn_tree.proofs.Trees.Puts.{put, put_here, put_else, put_swap, put_twice, put_same, nothing}
 use Rattle.mn_tree.proofs.Trees.CopyBelow.{copies_below}
 use Rattle.mn_tree.proofs.Trees.LeafSet.{sets_leaf}
@@ -42,9 +42,9 @@ abbrev pub copied_pages : VersionNo → PagesAt → Addr → Addr → Page → P
 copied_pages v at a n p = put (put at n (copy_of v p)) a (copied_for v p)
 
 own_copied : (entries : List CatEntry) (store : Store) (at : PagesAt) (v : VersionNo) (a n : Addr) (p : Page) (h : Held) (body : Body) → MayCopy entries at v a n p → h.page.made.0 ≡ v.0 → (h.addr ≡ a → ⊥) → (h.addr ≡ n → ⊥) → Among a (body_addrs body)
-    → IsShown entries (put at h.addr (own_page h body)) store → IsShown entries (put (copied_pages v at a n p) h.addr (own_page h (body_with body a n None))) store
+    → ShowsTree entries (put at h.addr (own_page h body)) store → ShowsTree entries (put (copied_pages v at a n p) h.addr (own_page h (body_with body a n None))) store
 own_copied entries store at v a n p h body may made a_off n_off among shown =
-    subst (λ (t : PagesAt). IsShown entries t store) same
+    subst (λ (t : PagesAt). ShowsTree entries t store) same
     (copies_below entries (put at h.addr (own_page h body)) store v a h.addr n p (own_page h body) (record {
       shown = shown;
       writes = may.writes;
@@ -67,8 +67,8 @@ own_copied entries store at v a n p h body may made a_off n_off among shown =
 
 -- a page is copied below a path whose pages are copied
 final_copied : (entries : List CatEntry) (store : Store) (at : PagesAt) (v : VersionNo) (a n : Addr) (p : Page) (h : Held) (above : List Held) (body : Body) (ns : List Addr) → MayCopy entries at v a n p → EndsOwn v h above → length ns ≡ length above
-    → IsAway a (h ∷ above) ns → IsAway n (h ∷ above) ns → AreApart ns (h ∷ above) → Among a (body_addrs body) → IsShown entries (final v h above body ns at) store
-    → IsShown entries (final v h above (body_with body a n None) ns (copied_pages v at a n p)) store
+    → IsAway a (h ∷ above) ns → IsAway n (h ∷ above) ns → AreApart ns (h ∷ above) → Among a (body_addrs body) → ShowsTree entries (final v h above body ns at) store
+    → ShowsTree entries (final v h above (body_with body a n None) ns (copied_pages v at a n p)) store
 final_copied entries store at v a n p h [] body ns may ends many away_a away_n apart among shown = own_copied entries store at v a n p h body may ends (away_a.0).0 (away_n.0).0 among shown
 final_copied entries store at v a n p h (parent ∷ above) body [] may ends many away_a away_n apart among shown = absurd cc
 final_copied entries store at v a n p h (parent ∷ above) body (k ∷ ns) may ends many away_a away_n apart among shown = cases (nat_eq h.page.made.0 v.0) refl shown
@@ -97,9 +97,9 @@ final_copied entries store at v a n p h (parent ∷ above) body (k ∷ ns) may e
     kn : k ≡ n → ⊥
     kn = (away_n.1).0
 
-    below : IsShown entries (final v parent above up ns base) store → IsShown entries (final v parent above up ns (put (put (copied_pages v at a n p) k (copy_page v h next)) h.addr (copied_for v h.page))) store
+    below : ShowsTree entries (final v parent above up ns base) store → ShowsTree entries (final v parent above up ns (put (put (copied_pages v at a n p) k (copy_page v h next)) h.addr (copied_for v h.page))) store
     below was =
-        subst (λ (t : PagesAt). IsShown entries t store)
+        subst (λ (t : PagesAt). ShowsTree entries t store)
         (sym (put_late v parent above up ns at h.addr k n a (copied_for v h.page) (copy_page v h body) (copy_page v h next) (copy_of v p) (copied_for v p) hk ha hn ka kn ((away_a.0).1, (away_a.1).1) ((away_n.0).1, (away_n.1).1) (((apart.0).0).1, (apart.0).1)))
         (copies_below entries (final v parent above up ns base) store v a k n p (copy_page v h body) (record {
           shown = was;
@@ -112,8 +112,8 @@ final_copied entries store at v a n p h (parent ∷ above) body (k ∷ ns) may e
           child = has_child (copy_page v h body) a among;
         }))
 
-    cases : (t : Bool) → nat_eq h.page.made.0 v.0 ≡ t → IsShown entries (if t then put at h.addr (own_page h body) else final v parent above up ns base) store
-        → IsShown entries (if t then put (copied_pages v at a n p) h.addr (own_page h next) else final v parent above up ns (put (put (copied_pages v at a n p) k (copy_page v h next)) h.addr (copied_for v h.page))) store
+    cases : (t : Bool) → nat_eq h.page.made.0 v.0 ≡ t → ShowsTree entries (if t then put at h.addr (own_page h body) else final v parent above up ns base) store
+        → ShowsTree entries (if t then put (copied_pages v at a n p) h.addr (own_page h next) else final v parent above up ns (put (put (copied_pages v at a n p) k (copy_page v h next)) h.addr (copied_for v h.page))) store
     cases true e was = own_copied entries store at v a n p h body may (eqb-true _ _ e) ha hn among was
     cases false e was = below was
 
@@ -127,16 +127,16 @@ path_off entries at v root a p there g (parent ∷ above) high path = (
 )
 
 -- a path that is copied
-pub copies_ready : (entries : List CatEntry) (at : PagesAt) (store : Store) (v : VersionNo) (root : Addr) (h : Held) (above : List Held) → IsWritable entries v.0 → IsShown entries at store → OnPath entries at v root h above
+pub copies_ready : (entries : List CatEntry) (at : PagesAt) (store : Store) (v : VersionNo) (root : Addr) (h : Held) (above : List Held) → IsWritable entries v.0 → ShowsTree entries at store → OnPath entries at v root h above
     → IsReady entries at store v h above h.page.body
-copies_ready entries at store v root h [] writes shown path ns many free = subst (λ (t : PagesAt). IsShown entries t store) (sym (put_same at h.addr h.page path.0)) shown
+copies_ready entries at store v root h [] writes shown path ns many free = subst (λ (t : PagesAt). ShowsTree entries t store) (sym (put_same at h.addr h.page path.0)) shown
 copies_ready entries at store v root h (parent ∷ above) writes shown path [] many free = absurd cc
 copies_ready entries at store v root h (parent ∷ above) writes shown path (n ∷ ns) many free =
     cases (nat_eq h.page.made.0 v.0) refl (copies_ready entries at store v root parent above writes shown path.2 ns (ap pred many) free.2)
   where
-    cases : (t : Bool) → nat_eq h.page.made.0 v.0 ≡ t → IsShown entries (final v parent above parent.page.body ns at) store
-        → IsShown entries (if t then put at h.addr h.page else final v parent above (body_with parent.page.body h.addr n None) ns (put (put at n (copy_page v h h.page.body)) h.addr (copied_for v h.page))) store
-    cases true e up = subst (λ (t : PagesAt). IsShown entries t store) (sym (put_same at h.addr h.page path.0)) shown
+    cases : (t : Bool) → nat_eq h.page.made.0 v.0 ≡ t → ShowsTree entries (final v parent above parent.page.body ns at) store
+        → ShowsTree entries (if t then put at h.addr h.page else final v parent above (body_with parent.page.body h.addr n None) ns (put (put at n (copy_page v h h.page.body)) h.addr (copied_for v h.page))) store
+    cases true e up = subst (λ (t : PagesAt). ShowsTree entries t store) (sym (put_same at h.addr h.page path.0)) shown
     cases false e up =
         final_copied entries store at v h.addr n h.page parent above parent.page.body ns
         (record { writes = writes; there = path.0; other = λ made. clash (nat_eq h.page.made.0 v.0) (eq-eqb _ _ made) e; free = free.0 })
@@ -160,9 +160,9 @@ leaf_ready entries at store v root h above version ps old pairs key writes chang
     next : Store
     next = slice_set store v.0 (re_paired version ps)
 
-    own : h.page.made.0 ≡ v.0 → IsShown entries (put at h.addr (own_page h (Leaf old))) store → IsShown entries (put at h.addr (own_page h (Leaf pairs))) next
+    own : h.page.made.0 ≡ v.0 → ShowsTree entries (put at h.addr (own_page h (Leaf old))) store → ShowsTree entries (put at h.addr (own_page h (Leaf pairs))) next
     own made shown =
-        subst (λ (t : PagesAt). IsShown entries t next) (put_twice at h.addr (own_page h (Leaf old)) (own_page h (Leaf pairs)))
+        subst (λ (t : PagesAt). ShowsTree entries t next) (put_twice at h.addr (own_page h (Leaf old)) (own_page h (Leaf pairs)))
         (sets_leaf entries (put at h.addr (own_page h (Leaf old))) store v h.addr (own_page h (Leaf old)) version ps pairs key (record {
           shown = shown;
           writes = writes;
@@ -177,13 +177,13 @@ leaf_ready entries at store v root h above version ps old pairs key writes chang
           outside = change.outside;
         }))
 
-    copied : (parent : Held) (gs : List Held) (n : Addr) (ms : List Addr) (up : Body) → (h.addr ≡ n → ⊥) → IsAway n (parent ∷ gs) ms → IsShown entries (final v parent gs up ms (put (put at n (copy_page v h (Leaf old))) h.addr (copied_for v h.page))) store
-        → IsShown entries (final v parent gs up ms (put (put at n (copy_page v h (Leaf pairs))) h.addr (copied_for v h.page))) next
+    copied : (parent : Held) (gs : List Held) (n : Addr) (ms : List Addr) (up : Body) → (h.addr ≡ n → ⊥) → IsAway n (parent ∷ gs) ms → ShowsTree entries (final v parent gs up ms (put (put at n (copy_page v h (Leaf old))) h.addr (copied_for v h.page))) store
+        → ShowsTree entries (final v parent gs up ms (put (put at n (copy_page v h (Leaf pairs))) h.addr (copied_for v h.page))) next
     copied parent gs n ms up off away shown =
         let base : PagesAt = put (put at n (copy_page v h (Leaf old))) h.addr (copied_for v h.page) in
         let again : put base n (copy_page v h (Leaf pairs)) ≡ put (put at n (copy_page v h (Leaf pairs))) h.addr (copied_for v h.page) =
         put_swap (put at n (copy_page v h (Leaf old))) h.addr n (copied_for v h.page) (copy_page v h (Leaf pairs)) off ∙ ap (λ (t : PagesAt). put t h.addr (copied_for v h.page)) (put_twice at n (copy_page v h (Leaf old)) (copy_page v h (Leaf pairs))) in
-        subst (λ (t : PagesAt). IsShown entries t next) (sym (final_put v parent gs up ms base n (copy_page v h (Leaf pairs)) away) ∙ ap (final v parent gs up ms) again)
+        subst (λ (t : PagesAt). ShowsTree entries t next) (sym (final_put v parent gs up ms base n (copy_page v h (Leaf pairs)) away) ∙ ap (final v parent gs up ms) again)
         (sets_leaf entries (final v parent gs up ms base) store v n (copy_page v h (Leaf old)) version ps pairs key (record {
           shown = shown;
           writes = writes;
@@ -198,7 +198,7 @@ leaf_ready entries at store v root h above version ps old pairs key writes chang
           outside = change.outside;
         }))
 
-    at_path : (gs : List Held) (ms : List Addr) → OnPath entries at v root h gs → length ms ≡ length gs → AreFree ms at → IsShown entries (final v h gs (Leaf old) ms at) store → IsShown entries (final v h gs (Leaf pairs) ms at) next
+    at_path : (gs : List Held) (ms : List Addr) → OnPath entries at v root h gs → length ms ≡ length gs → AreFree ms at → ShowsTree entries (final v h gs (Leaf old) ms at) store → ShowsTree entries (final v h gs (Leaf pairs) ms at) next
     at_path [] ms p long fr shown = own p.1 shown
     at_path (parent ∷ gs) [] p long fr shown = absurd cc
     at_path (parent ∷ gs) (n ∷ ms) p long fr shown = cases (nat_eq h.page.made.0 v.0) refl shown
@@ -207,7 +207,7 @@ leaf_ready entries at store v root h above version ps old pairs key writes chang
         up = body_with parent.page.body h.addr n None
 
         cases : (t : Bool) → nat_eq h.page.made.0 v.0 ≡ t
-            → IsShown entries (if t then put at h.addr (own_page h (Leaf old)) else final v parent gs up ms (put (put at n (copy_page v h (Leaf old))) h.addr (copied_for v h.page))) store
-            → IsShown entries (if t then put at h.addr (own_page h (Leaf pairs)) else final v parent gs up ms (put (put at n (copy_page v h (Leaf pairs))) h.addr (copied_for v h.page))) next
+            → ShowsTree entries (if t then put at h.addr (own_page h (Leaf old)) else final v parent gs up ms (put (put at n (copy_page v h (Leaf old))) h.addr (copied_for v h.page))) store
+            → ShowsTree entries (if t then put at h.addr (own_page h (Leaf pairs)) else final v parent gs up ms (put (put at n (copy_page v h (Leaf pairs))) h.addr (copied_for v h.page))) next
         cases true e was = own (eqb-true _ _ e) was
         cases false e was = copied parent gs n ms up (λ f. nothing h.page (at n) fr.0 (ap at (sym f) ∙ p.0)) (path_away entries at v root n parent gs fr.0 p.2, fr.1) was

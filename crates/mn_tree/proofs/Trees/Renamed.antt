@@ -19,7 +19,7 @@ use Rattle.mn_page.specs.Forest.{ChildRange, ranges_from, children_of, body_chil
 use Rattle.mn_page.specs.Holds.{PagesAt, page_covers, page_serves, root_page, root_height, pairs_in, IsRoot, IsChild, HasVersions, IsOnPath, OneOnPath}
 use Rattle.mn_page.specs.Overlay.{child_at}
 use Rattle.mn_page.proofs.Copy.{page_same}
-use Rattle.mn_tree.specs.Trees.{AreRising, children_after, IsOrdered, IsShown}
+use Rattle.mn_tree.specs.Trees.{AreRising, children_after, IsOrdered, ShowsTree}
 
 -- a body whose children stand elsewhere
 abbrev pub renamed_body : (Addr → Addr) → Body → Body
@@ -76,7 +76,7 @@ renamed_ranges to P Q more low high (Inner height first rest) all = along first 
     along x l [] all = (more (record { addr = x; low = l; high = high }) all.0, tt)
     along x l (c ∷ cs) all = (more (record { addr = x; low = l; high = Some c.separator }) all.0, along c.addr c.separator cs all.1)
 
-module _ (entries : List CatEntry) (was now : PagesAt) (store : Store) (to : Addr → Addr) (shown : IsShown entries was store) (by : Renames entries was now to) where
+module _ (entries : List CatEntry) (was now : PagesAt) (store : Store) (to : Addr → Addr) (shown : ShowsTree entries was store) (by : Renames entries was now to) where
   serves_moved : (a : Addr) (p : Page) (m : Moved to now a p) (w : ℕ) → page_serves entries w m.page ≡ page_serves entries w p
   serves_moved a p m w = ap (λ (made : VersionNo). page_serves entries w (record { seq = m.page.seq; made = made; copied = m.page.copied; low = m.page.low; high = m.page.high; body = m.page.body })) m.made
       ∙ ap (λ c. page_serves entries w (record { seq = m.page.seq; made = p.made; copied = c; low = m.page.low; high = m.page.high; body = m.page.body })) m.copied
@@ -186,7 +186,7 @@ module _ (entries : List CatEntry) (was now : PagesAt) (store : Store) (to : Add
       subst (λ (y : Page). filter (λ pair. page_covers pair.key y) version.pairs ≡ pairs_in y.body) same
       (filter_agree (λ pair. page_covers pair.key m.page) (λ pair. page_covers pair.key c.page) (λ pair. covers_moved c.addr c.page m pair.key) version.pairs ∙ (old ∙ sym (ap pairs_in m.body ∙ renamed_pairs to c.page.body)))
 
-  pub renamed_shown : IsShown entries now store
+  pub renamed_shown : ShowsTree entries now store
   renamed_shown = record {
     tree = record {
       versions = shown.tree.versions;

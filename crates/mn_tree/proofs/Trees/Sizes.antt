@@ -1,4 +1,5 @@
--- Pages that a transaction holds are within the grammar's limits, each by itself, whatever moves lead there.
+-- Pages that a transaction holds are within the grammar's limits, each by itself, whatever moves
+-- lead there.
 use Rattle.std.proofs.Common.{◌≡◌, ℕ, suc, ◌+◌, ◌^◌, ◌<◌, ◌≤◌, inl, inr, Bool, true, false, cond, List, [], ◌∷◌, length, Option, Some, None, is_some, refl, subst, sym, arith, nat_eq}
 use Rattle.std.specs.List.{AllByRecursion}
 use Rattle.std.proofs.lemmas.Nat.{or_lt, pow_below}
@@ -14,7 +15,8 @@ use Rattle.mn_page.specs.declared.page.Child.{Child}
 use Rattle.mn_page.specs.Grammar.{IsKey, IsBound, height_of}
 use Rattle.mn_page.specs.Holds.{pairs_in}
 use Rattle.mn_page.specs.Overlay.{Held, Overlay, Halves, Changed, held_at, new_addr, with_changed, with_new, page_with, new_page, copied_for, child_at, body_with, halves_of, root_changed, own_changed, other_changed, when_asked, raised, step_on}
-use Rattle.mn_tree.specs.State.{Drafted, drafted_with, drafted_after, max_height, no_pages}
+use Rattle.mn_path.specs.Walk.{max_height}
+use Rattle.mn_tree.specs.State.{Drafted, drafted_with, drafted_after, no_pages}
 use Rattle.mn_tree.specs.Moves.{Move, Comes, Does, MayCome, LeadsTo, done_in}
 use Rattle.mn_tree.specs.MoveLaws.{IsStep}
 use Rattle.mn_tree.proofs.Trees.Reached.{AreHeld, LeafFirst, reached}

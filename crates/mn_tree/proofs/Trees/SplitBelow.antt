@@ -1,4 +1,5 @@
--- A page below the root splits: its left half keeps its place, its right half is new, and its parent gets a further child.
+-- A page below the root splits: its left half keeps its place, its right half is new, and its
+-- parent gets a further child.
 use Rattle.std.proofs.Common.{◌≡◌, ℕ, ◌+◌, ◌<◌, ◌≤◌, ◌⊎◌, inl, inr, Bool, true, false, not, ◌&&◌, List, [], ◌∷◌, ◌++◌, length, Option, Some, None, refl, subst, sym, ap, ◌∙◌, arith, slice_get, if◌then◌else◌}
 use Rattle.std.specs.Prelude.{filter}
 use Rattle.std.specs.List.{AllByRecursion}
@@ -22,7 +23,7 @@ use Rattle.mn_page.specs.Overlay.{Halves, halves_of, page_with, new_page, rest_w
 use Rattle.mn_page.proofs.Grid.{all_at_place, all_split, filter_both}
 use Rattle.mn_page.proofs.Added.{addr_cases}
 use Rattle.mn_page.proofs.Copy.{page_same}
-use Rattle.mn_tree.specs.Trees.{IsOrdered, IsShown, IsWritable}
+use Rattle.mn_tree.specs.Trees.{IsOrdered, ShowsTree, IsWritable}
 use Rattle.mn_tree.proofs.Trees.Puts.{put, put_here, put_else, stood, now, still, nothing}
 use Rattle.mn_tree.proofs.Trees.Twins.{Twin, SameFor, changed_tree, twin_itself, serves_its, serves_one}
 use Rattle.mn_tree.proofs.Trees.Ranges.{Cuts, body_cut, body_rising, children_within, cut_range, left_covers, right_covers}
@@ -49,7 +50,7 @@ pub record HasChild (p : Page) (addr : Addr) : Type 0 where
 
 -- the page at a, its parent at q and a free address
 pub record CanSplit (entries : List CatEntry) (at : PagesAt) (store : Store) (v : VersionNo) (a q new : Addr) (p par : Page) (h : Halves) : Type 0 where
-  pub shown : IsShown entries at store
+  pub shown : ShowsTree entries at store
   pub writes : IsWritable entries v.0
   pub there : at a ≡ Some p
   pub made : p.made.0 ≡ v.0
@@ -521,7 +522,7 @@ module _ (entries : List CatEntry) (at : PagesAt) (store : Store) (v : VersionNo
       shown_leaf : w ≡ v.0 → height_of p.body ≡ 0 → filter (λ pair. page_covers pair.key p) version.pairs ≡ pairs_in p.body
       shown_leaf e leaf = can.shown.shows.leaves w version a p found can.there leaf (subst (λ k. page_serves entries k p ≡ true) (sym e) (serves_p can))
 
-  pub split_below : Can → IsShown entries pages_now store
+  pub split_below : Can → ShowsTree entries pages_now store
   split_below can =
       let cut = is_halved can in
       let r = root_now can in

@@ -1,4 +1,5 @@
--- What a step writes: pages that are held, each with the number that it had, and pages at the next new addresses.
+-- What a step writes: pages that are held, each with the number that it had, and pages at the next
+-- new addresses.
 use Rattle.std.proofs.Common.{◌≡◌, ℕ, ◌+◌, ◌≤◌, inl, inr, Bool, true, false, cond, List, [], ◌∷◌, ◌++◌, Option, Some, None, is_some, refl, subst, sym, ap, ◌∙◌, arith, nat_eq, if◌then◌else◌}
 use Rattle.std.specs.Prelude.{⊤}
 use Rattle.std.specs.List.{AllByRecursion}

@@ -25,7 +25,7 @@ use Rattle.mn_base.proofs.Named.{named}
 use Rattle.mn_base.proofs.PairsWith.{ascending-put, filter-put_inside, filter-put_outside, ascending-filter}
 use Rattle.mn_base.proofs.AddedVersion.{head_same}
 use Rattle.mn_base.proofs.Lists.{set_at}
-use Rattle.mn_tree.specs.Trees.{laid_over, IsShown, IsWritable, IsDraft}
+use Rattle.mn_tree.specs.Trees.{laid_over, ShowsTree, IsWritable, IsDraft}
 use Rattle.mn_tree.specs.Laws.{PathTells, StepKeepsTree, TransactionKeepsTree, TransactionTells, found_on}
 use Rattle.mn_tree.proofs.Trees.Twins.{head_at}
 use Rattle.mn_tree.proofs.Trees.Raised.{OnPath, raises, IsReady, Raises}
@@ -37,11 +37,11 @@ use Rattle.mn_tree.proofs.Trees.Pairs.{filter-without, without_outside, without_
 -- The leaf of a path
 
 -- its pairs are the version's of its range
-leaf_pairs : (entries : List CatEntry) (at : PagesAt) (store : Store) (v : VersionNo) (version : StoreVersion) (root : Addr) (key : List ℕ) (path : List Held) → IsShown entries at store → slice_get store v.0 ≡ Some version
+leaf_pairs : (entries : List CatEntry) (at : PagesAt) (store : Store) (v : VersionNo) (version : StoreVersion) (root : Addr) (key : List ℕ) (path : List Held) → ShowsTree entries at store → slice_get store v.0 ≡ Some version
     → (f : FoundPath entries at v root key path) → filter (λ pair. page_covers pair.key f.leaf.page) version.pairs ≡ pairs_in f.leaf.page.body
 leaf_pairs entries at store v version root key path shown found f = shown.shows.leaves v.0 version f.leaf.addr f.leaf.page found f.there f.level f.serves
 
-leaf_value : (entries : List CatEntry) (at : PagesAt) (store : Store) (v : VersionNo) (version : StoreVersion) (root : Addr) (key : List ℕ) (path : List Held) → IsShown entries at store → slice_get store v.0 ≡ Some version
+leaf_value : (entries : List CatEntry) (at : PagesAt) (store : Store) (v : VersionNo) (version : StoreVersion) (root : Addr) (key : List ℕ) (path : List Held) → ShowsTree entries at store → slice_get store v.0 ≡ Some version
     → (f : FoundPath entries at v root key path) → value_at (pairs_in f.leaf.page.body) key ≡ value_at version.pairs key
 leaf_value entries at store v version root key path shown found f =
     ap (λ (ps : List Pair). value_at ps key) (sym (leaf_pairs entries at store v version root key path shown found f)) ∙ value_at-filter (λ k. page_covers k f.leaf.page) version.pairs key f.covers
@@ -66,7 +66,7 @@ leaf_raised entries at store o v version writes ps pairs key path draft f change
     (leaf_ready entries (laid_over o.pages at) store v writes.entry.root f.leaf f.above version ps leaf.0 pairs key writes change f.on
     (subst (λ b. IsReady entries (laid_over o.pages at) store v f.leaf f.above b) leaf.1 (copies_ready entries (laid_over o.pages at) store v writes.entry.root f.leaf f.above writes draft.shown f.on)))
 
-put_changes : (entries : List CatEntry) (at : PagesAt) (store : Store) (v : VersionNo) (version : StoreVersion) (root : Addr) (key value : List ℕ) (path : List Held) → IsShown entries at store → slice_get store v.0 ≡ Some version → (f : FoundPath entries at v root key path)
+put_changes : (entries : List CatEntry) (at : PagesAt) (store : Store) (v : VersionNo) (version : StoreVersion) (root : Addr) (key value : List ℕ) (path : List Held) → ShowsTree entries at store → slice_get store v.0 ≡ Some version → (f : FoundPath entries at v root key path)
     → LeafChanges store v f.leaf.page version (pairs_with version.pairs key value) (pairs_with (pairs_in f.leaf.page.body) key value) key
 put_changes entries at store v version root key value path shown found f =
     let order = version_ascends store v.0 version shown.shows.ascending found in
@@ -78,7 +78,7 @@ put_changes entries at store v version root key value path shown found f =
       outside = λ y off. filter-put_outside (λ k. page_covers k y) key value version.pairs off;
     }
 
-del_changes : (entries : List CatEntry) (at : PagesAt) (store : Store) (v : VersionNo) (version : StoreVersion) (root : Addr) (key : List ℕ) (path : List Held) → IsShown entries at store → slice_get store v.0 ≡ Some version → (f : FoundPath entries at v root key path)
+del_changes : (entries : List CatEntry) (at : PagesAt) (store : Store) (v : VersionNo) (version : StoreVersion) (root : Addr) (key : List ℕ) (path : List Held) → ShowsTree entries at store → slice_get store v.0 ≡ Some version → (f : FoundPath entries at v root key path)
     → LeafChanges store v f.leaf.page version (pairs_without version.pairs key) (pairs_without (pairs_in f.leaf.page.body) key) key
 del_changes entries at store v version root key path shown found f =
     let order = version_ascends store v.0 version shown.shows.ascending found in

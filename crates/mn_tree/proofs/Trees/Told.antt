@@ -33,7 +33,7 @@ use Rattle.mn_tree.specs.Writes.{joined, all_joined, writes_up, step_writes, all
 use Rattle.mn_tree.specs.State.{Drafted, drafted_with, drafted_after, no_pages, leaf_joined}
 use Rattle.mn_tree.specs.Trees.{is_noted}
 use Rattle.mn_tree.specs.Moves.{Move, Comes, Does, LeadsTo, comes_in, done_in, AreAnswered, came_at, is_leaf_at, leaves_at}
-use Rattle.mn_tree.specs.MoveLaws.{Agrees, MovesTell, MovesComeOnce}
+use Rattle.mn_tree.specs.MoveLaws.{AgreesWithEntries, MovesTell, MovesComeOnce}
 use Rattle.mn_tree.proofs.Changes.{step_is}
 use Rattle.mn_tree.proofs.Trees.Puts.{held_with_is, addr_is, same_itself, nothing}
 use Rattle.mn_tree.proofs.Trees.Twins.{head_at, some_entry}
@@ -81,7 +81,7 @@ all_none [] o a none = none
 all_none (w ∷ ws) o a none = was_absent o.pages w.addr w.page a (all_none ws _ a none)
 
 -- The tree, its leaves that were read, and which addresses a leaf came in at
-module _ (entries : List CatEntry) (at : PagesAt) (parents : List (Option ℕ)) (v : VersionNo) (low_v : v.0 < length entries) (tree : IsTree entries at) (agrees : Agrees parents entries v.0) (root : Addr) (leaves : List Addr)
+module _ (entries : List CatEntry) (at : PagesAt) (parents : List (Option ℕ)) (v : VersionNo) (low_v : v.0 < length entries) (tree : IsTree entries at) (agrees : AgreesWithEntries parents entries v.0) (root : Addr) (leaves : List Addr)
     (leaf_at : Addr → Bool) where
   abbrev IsLive : Page → Type 0
   IsLive p = is_live parents v.0 p ≡ true
@@ -406,7 +406,8 @@ module _ (entries : List CatEntry) (at : PagesAt) (parents : List (Option ℕ)) 
     ]
   ]
 
-  -- a page that comes in stands at its address, if it is a leaf that is read; and it is noted which are leaves
+  -- a page that comes in stands at its address, if it is a leaf that is read; and it is noted which
+  -- are leaves
   abbrev pub Arrives : Held → Type 0
   Arrives h = (leaf_at h.addr ≡ nat_eq (height_of h.page.body) 0) × (is_noted leaves h.addr ≡ true → at h.addr ≡ Some h.page)
 

@@ -22,12 +22,13 @@ use Rattle.mn_page.specs.Grammar.{IsPage, IsAddr, count_in, height_of}
 use Rattle.mn_page.specs.Forest.{children_of, ranges_from, body_children}
 use Rattle.mn_page.specs.Holds.{page_covers}
 use Rattle.mn_page.specs.Overlay.{Held, held_at, new_addr, path_pairs, child_for, child_at, placed_addr, placed_body, placed_page, placed_old, placed_new, next_number}
+use Rattle.mn_path.specs.Walk.{is_below, max_height}
 use Rattle.mn_tree.specs.declared.stepped.Stepped.TheVariants as Tell
 use Rattle.mn_tree.specs.Walk.{held, is_live, is_met, goes_on, Walk, Missing, Wrong, Reached, walk_down, walk}
-use Rattle.mn_tree.specs.State.{Drafted, TreeState, drafted_with, drafted_after, no_pages, max_height, is_below, fits, with_page, stepping, told}
+use Rattle.mn_tree.specs.State.{Drafted, TreeState, drafted_with, drafted_after, no_pages, fits, with_page, stepping, told}
 use Rattle.mn_tree.specs.Order.{new_order, changed_order, slots_by_number, pair_of}
 use Rattle.mn_tree.specs.Moves.{Move, Comes, Does, MayCome, LeadsTo, comes_in, done_in, AreAnswered}
-use Rattle.mn_tree.specs.Tries.{HaveFound, ComeTo, EndsUnmet, GoesOn, MovesTakePages, MovesTakeSteps, MovesAreMet, NeedsAreAbsent, NeedsAreSlots, NeedsMayCome, PlacedHaveRoom}
+use Rattle.mn_tree.specs.Tries.{HaveFound, ComeTo, EndsUnmet, TryGoesOn, MovesTakePages, MovesTakeSteps, MovesAreMet, NeedsAreAbsent, NeedsAreSlots, NeedsMayCome, PlacedHaveRoom}
 use Rattle.mn_tree.proofs.Trees.Puts.{nothing}
 use Rattle.mn_tree.proofs.Trees.MoveReads.{moves_read}
 use Rattle.mn_tree.proofs.Trees.Filled.{IsPlace, IsBranch, IsFilled, IsSized}
@@ -179,25 +180,25 @@ moves_take_steps s step moves came done found come = by_walk (walk s.parents s.v
 
     by_step : (st : Step) (path : List Held)
         → walk s.parents s.version.0 s.draft.overlay.pages s.root (step_key st) ≡ Reached path
-        → GoesOn s st moves came done found (drafted_after s.version s.draft st path) (told st (path_pairs path))
+        → TryGoesOn s st moves came done found (drafted_after s.version s.draft st path) (told st (path_pairs path))
     by_step (Get key) path way = takes (Get key) path way refl (value_at (path_pairs path) key ∷ []) refl
     by_step (Put key value) path way = plain (Put key value) path way refl refl
     by_step (Del key) path way = by_some (is_some (value_at (path_pairs path) key))
       where
         by_some : (t : Bool)
-            → GoesOn s (Del key) moves came done found (drafted_after s.version s.draft (Del key) path) (if t then Tell.Changed else Tell.Same)
+            → TryGoesOn s (Del key) moves came done found (drafted_after s.version s.draft (Del key) path) (if t then Tell.Changed else Tell.Same)
         by_some true = plain (Del key) path way refl refl
         by_some false = plain (Del key) path way refl refl
     by_step (Check key want) path way = by_unmet (is_unmet (path_pairs path) (Check key want)) refl
       where
         by_unmet : (t : Bool) → is_unmet (path_pairs path) (Check key want) ≡ t
-            → GoesOn s (Check key want) moves came done found (drafted_after s.version s.draft (Check key want) path) (if t then Tell.Unmet (value_at (path_pairs path) key) else Tell.Same)
+            → TryGoesOn s (Check key want) moves came done found (drafted_after s.version s.draft (Check key want) path) (if t then Tell.Unmet (value_at (path_pairs path) key) else Tell.Same)
         by_unmet true e = ends_unmet s.parents s.version s.root moves s.draft came done found come (Check key want) path way e (value_at (path_pairs path) key) refl
         by_unmet false e = plain (Check key want) path way e refl
 
     by_walk : (w : Walk)
         → walk s.parents s.version.0 s.draft.overlay.pages s.root (step_key step) ≡ w
-        → GoesOn s step moves came done found (stepping s step w).state.draft (stepping s step w).answer
+        → TryGoesOn s step moves came done found (stepping s step w).state.draft (stepping s step w).answer
     by_walk (Missing addr above) is = refl
     by_walk (Wrong addr) is = refl
     by_walk (Reached path) is = by_step step path is

@@ -1,4 +1,5 @@
--- A minitransaction that commits finds its compares in the flat memory, and takes effect on it all at once.
+-- A minitransaction that commits finds its compares in the flat memory, and takes effect on it all
+-- at once.
 use Rattle.std.proofs.Common.{◌≡◌, ℕ, Bool, true, false, List, [], ◌∷◌, Some, None, subst, sym, ap, ◌∙◌, if◌then◌else◌}
 use Rattle.std.specs.List.{AllByRecursion, list_any}
 use Rattle.mn_base.specs.Ids.{node_same, tid_same}

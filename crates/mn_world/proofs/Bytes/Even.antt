@@ -10,7 +10,7 @@ use Rattle.mn_mini.specs.declared.record.Record.TheVariants.{Voted, Executed, De
 use Rattle.mn_mini.specs.Mini.{Mini, participants_of}
 use Rattle.mn_mini.specs.Flat.{space_in, part_mismatch_from, space_after_part}
 use Rattle.mn_mini.specs.Node.{HeldPart, held_parts, held_part_of, without_tid, has_voted, space_of, with_held}
-use Rattle.mn_mini.specs.Laws.{AreApart}
+use Rattle.mn_mini.specs.Laws.{PartsAreApart}
 use Rattle.mn_world.specs.declared.entry.Entry.{Entry}
 use Rattle.mn_world.specs.Protocol.{Start, start_nodes, base_at, start_records, records_of, KeepsProtocol}
 use Rattle.mn_world.specs.Commits.{flat_after}
@@ -24,7 +24,8 @@ use Rattle.mn_world.proofs.Bytes.Layers.{AreDistinct, same_layers, drop_layer, r
 
 -- Which ids are committed
 
--- every participant of the id has voted; an id that this run did not issue is committed as at the start
+-- every participant of the id has voted; an id that this run did not issue is committed as at the
+-- start
 abbrev pub comm : Start → List Entry → Tid → Bool
 comm start past tid = option_map_or (λ mini. list_all (λ n. has_voted (records_of start past n) tid) (participants_of mini)) (mini_of past tid) (is_committed (start_nodes start) (start_records start) tid)
 
@@ -117,7 +118,7 @@ same_comm start past e n kept after keeps same =
 -- a decision of an id that is held: yes where all have voted, no where it is lost
 pub decide_node : (start : Start) (past : List Entry) (e : Entry) (n : NodeNo) (t : Tid) (verdict : Bool) (g : HeldPart) → records_of start (e ∷ past) n ≡ Decided t verdict ∷ records_of start past n
     → held_part_of t (held_parts (records_of start past n)) ≡ Some g → comm start past t ≡ verdict
-    → space_in (flat_after (opened_memory start) (e ∷ past)) n ≡ space_in (flat_after (opened_memory start) past) n → SameComm start past e n → AreDistinct (held_parts (records_of start past n)) → AreApart (held_parts (records_of start past n))
+    → space_in (flat_after (opened_memory start) (e ∷ past)) n ≡ space_in (flat_after (opened_memory start) past) n → SameComm start past e n → AreDistinct (held_parts (records_of start past n)) → PartsAreApart (held_parts (records_of start past n))
     → AgreesAt start past n → AgreesAt start (e ∷ past) n
 decide_node start past e n t true g new is on flat commits distinct apart agrees =
     let space = space_of (base_at start n) (records_of start past n) in

@@ -9,7 +9,7 @@ use Rattle.mn_mini.specs.declared.part.PartItem.{PartItem}
 use Rattle.mn_mini.specs.Mini.{parts_conflict}
 use Rattle.mn_mini.specs.Flat.{space_after_part, part_mismatch_from}
 use Rattle.mn_mini.specs.Node.{HeldPart, without_tid, held_part_of, with_held}
-use Rattle.mn_mini.specs.Laws.{AreApart}
+use Rattle.mn_mini.specs.Laws.{PartsAreApart}
 use Rattle.mn_mini.proofs.Bytes.{parts-commute, mismatch-after_part}
 use Rattle.mn_mini.proofs.Layers.{none_so, without_layer}
 use Rattle.mn_world.proofs.Reading.Same.{tid_same-true}
@@ -66,7 +66,7 @@ pub same_part : (h g : HeldPart) → Some h ≡ Some g → h ≡ g
 same_part h g e = cc
 
 -- a part that is committed goes into the space
-pub remove_layer : (f : Tid → Bool) (space : List ℕ) (hs : List HeldPart) (t : Tid) (g : HeldPart) → AreDistinct hs → AreApart hs → held_part_of t hs ≡ Some g → f t ≡ true
+pub remove_layer : (f : Tid → Bool) (space : List ℕ) (hs : List HeldPart) (t : Tid) (g : HeldPart) → AreDistinct hs → PartsAreApart hs → held_part_of t hs ≡ Some g → f t ≡ true
     → with_held f (space_after_part space g.part) (without_tid t hs) ≡ with_held f space hs
 remove_layer f space [] t g d a is on = absurd cc
 remove_layer f space (h ∷ hs) t g d a is on =
@@ -104,7 +104,7 @@ held_fact P t (h ∷ hs) g all is =
     ] refl is
 
 -- a held part becomes committed
-pub flip_layer : (f f' : Tid → Bool) (space : List ℕ) (hs : List HeldPart) (t : Tid) (g : HeldPart) → AreDistinct hs → AreApart hs → held_part_of t hs ≡ Some g → f t ≡ false → f' t ≡ true
+pub flip_layer : (f f' : Tid → Bool) (space : List ℕ) (hs : List HeldPart) (t : Tid) (g : HeldPart) → AreDistinct hs → PartsAreApart hs → held_part_of t hs ≡ Some g → f t ≡ false → f' t ≡ true
     → AllByRecursion (λ h. tid_same h.tid t ≡ false → f' h.tid ≡ f h.tid) hs → with_held f' space hs ≡ space_after_part (with_held f space hs) g.part
 flip_layer f f' space [] t g d a is off on same = absurd cc
 flip_layer f f' space (h ∷ hs) t g d a is off on same =

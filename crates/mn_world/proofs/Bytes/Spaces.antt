@@ -26,7 +26,7 @@ use Rattle.mn_world.proofs.Votes.Backing.{IsOld, IssuedTo, PartAt, ExecAt, Recor
 use Rattle.mn_world.proofs.Votes.Start.{names_old, no_records, vote_names, named_record, voted_old, all_false, is_true_at, in_numbers}
 use Rattle.mn_world.proofs.Votes.Held.{in_place_apart}
 use Rattle.mn_world.specs.Opened.{AreInPlace}
-use Rattle.mn_mini.specs.Laws.{AreApart}
+use Rattle.mn_mini.specs.Laws.{PartsAreApart}
 use Rattle.mn_world.proofs.Bytes.Bases.{no_base}
 use Rattle.mn_world.proofs.Bytes.Layers.{AreDistinct}
 use Rattle.mn_world.proofs.Votes.Preserved.{kept_run, new_not_old}
@@ -83,9 +83,9 @@ even_start start sound = record {
     distinct n (inl low) = distinct_in_place (start_nodes start) n (start_records start n) (sound.in_place n low)
     distinct n (inr high) = subst (λ (r : List Record). AreDistinct (held_parts r)) (sym (no_records start n high)) tt
 
-    apart : (n : NodeNo) → (n.0 < start_nodes start) ⊎ (start_nodes start ≤ n.0) → AreApart (held_parts (start_records start n))
+    apart : (n : NodeNo) → (n.0 < start_nodes start) ⊎ (start_nodes start ≤ n.0) → PartsAreApart (held_parts (start_records start n))
     apart n (inl low) = in_place_apart (start_nodes start) n (start_records start n) (sound.in_place n low)
-    apart n (inr high) = subst (λ (r : List Record). AreApart (held_parts r)) (sym (no_records start n high)) tt
+    apart n (inr high) = subst (λ (r : List Record). PartsAreApart (held_parts r)) (sym (no_records start n high)) tt
 
 pub whole_run : (start : Start) (past : List Entry) → StartsSound start → FollowsProtocol start past → Whole start past
 whole_run start [] sound run = record {

@@ -1,4 +1,5 @@
--- One entry keeps the agreement of the spaces with the flat memory, and commits only what holds there.
+-- One entry keeps the agreement of the spaces with the flat memory, and commits only what holds
+-- there.
 use Rattle.std.proofs.Common.{◌≡◌, ℕ, ◌<◌, ◌⊎◌, inl, inr, Bool, true, false, not, ◌&&◌, ◌||◌, List, [], ◌∷◌, length, Option, Some, None, refl, subst, sym, ap, ◌∙◌, arith, if◌then◌else◌, Contains}
 use Rattle.std.specs.Bool.{⊤}
 use Rattle.std.specs.List.{AllByRecursion, list_any, list_all}
@@ -18,7 +19,7 @@ use Rattle.mn_mini.specs.declared.request.Request.TheVariants as Ask
 use Rattle.mn_mini.specs.Mini.{Mini, item_node, participants_of, part_of, parts_conflict, has_write, IsSoundItem, IsSound}
 use Rattle.mn_mini.specs.Flat.{space_in, mismatch_from, part_mismatch_from, space_after_part}
 use Rattle.mn_mini.specs.Node.{HeldPart, held_parts, held_part_of, without_tid, is_held, space_of, clash_of, has_voted, has_decided_yes, has_decided_no, with_added, with_held}
-use Rattle.mn_mini.specs.Laws.{AreApart}
+use Rattle.mn_mini.specs.Laws.{PartsAreApart}
 use Rattle.mn_mini.proofs.Bytes.{mismatch-after_part, conflict_turned}
 use Rattle.mn_mini.proofs.Parts.{AreIn, space-after_mini, mini_holds, no_part, named_takes_part, same_self, same_true}
 use Rattle.mn_world.specs.declared.entry.Entry.{Entry}
@@ -138,7 +139,7 @@ none_held t (h ∷ hs) e =
     ] refl e
 
 -- the other held parts are apart from the one of the id
-apart_from_held : (t : Tid) (hs : List HeldPart) (g : HeldPart) → AreDistinct hs → AreApart hs → held_part_of t hs ≡ Some g → AllByRecursion (λ h. tid_same h.tid t ≡ false → parts_conflict h.part g.part ≡ false) hs
+apart_from_held : (t : Tid) (hs : List HeldPart) (g : HeldPart) → AreDistinct hs → PartsAreApart hs → held_part_of t hs ≡ Some g → AllByRecursion (λ h. tid_same h.tid t ≡ false → parts_conflict h.part g.part ≡ false) hs
 apart_from_held t [] g d a is = tt
 apart_from_held t (h ∷ hs) g d a is =
     elim (tid_same h.tid t) as (λ b. tid_same h.tid t ≡ b → (if b then Some h else held_part_of t hs) ≡ Some g → (tid_same h.tid t ≡ false → parts_conflict h.part g.part ≡ false) × AllByRecursion (λ h. tid_same h.tid t ≡ false → parts_conflict h.part g.part ≡ false) hs) [
@@ -197,7 +198,7 @@ pub record Even (start : Start) (past : List Entry) : Type 0 where
   pub agrees : (n : NodeNo) → AgreesAt start past n
   pub compares : (n : NodeNo) → ComparesAt start past n
   pub distinct : (n : NodeNo) → AreDistinct (held_parts (records_of start past n))
-  pub apart : (n : NodeNo) → AreApart (held_parts (records_of start past n))
+  pub apart : (n : NodeNo) → PartsAreApart (held_parts (records_of start past n))
   pub spaces : length (flat start past) ≡ start_nodes start
   pub minis : (tid : Tid) (mini : Mini) → mini_of past tid ≡ Some mini → IsMade start mini
 
@@ -494,7 +495,7 @@ held_own start past t mini n hs g new is parts there = let p = held_fact (PartOf
 
 -- at a node that has its part, the last vote makes it committed
 flip_node : (start : Start) (past : List Entry) (e : Entry) (n : NodeNo) (t : Tid) (mini : Mini) (g : HeldPart) → records_of start (e ∷ past) n ≡ records_of start past n → Takes start past e mini → g.part ≡ part_of mini n
-    → held_part_of t (held_parts (records_of start past n)) ≡ Some g → AreDistinct (held_parts (records_of start past n)) → AreApart (held_parts (records_of start past n))
+    → held_part_of t (held_parts (records_of start past n)) ≡ Some g → AreDistinct (held_parts (records_of start past n)) → PartsAreApart (held_parts (records_of start past n))
     → comm start past t ≡ false → comm start (e ∷ past) t ≡ true → AllByRecursion (λ h. tid_same h.tid t ≡ false → comm start (e ∷ past) h.tid ≡ comm start past h.tid) (held_parts (records_of start past n))
     → AgreesAt start past n → ComparesAt start past n → AgreesAt start (e ∷ past) n × ComparesAt start (e ∷ past) n
 flip_node start past e n t mini g same takes own there distinct apart off on others agrees compares =

@@ -13,7 +13,7 @@ use Rattle.mn_world.specs.declared.entry.Entry.{Entry}
 use Rattle.mn_world.specs.declared.flat.Standing.{Standing}
 use Rattle.mn_world.specs.Calls.{Issued, issues_of, issue_named}
 use Rattle.mn_world.specs.Commits.{has_vote, issued_as, committed_with}
-use Rattle.mn_world.specs.Standing.{kept_mini, keeps_vote, Tells}
+use Rattle.mn_world.specs.Standing.{kept_mini, keeps_vote, StandingTells}
 
 mini_in : (tid : Tid) (o : Option Mini) → option_map (λ (i : Issued). i.mini) (option_map (λ mini. record { tid = tid; mini = mini }) o) ≡ o
 mini_in tid None = refl
@@ -24,24 +24,24 @@ all_same t u same [] = refl
 all_same t u same (n ∷ ns) = ap (λ b. b && list_all t ns) (same n) ∙ ap (λ b. u n && b) (all_same t u same ns)
 
 -- the minitransaction that is kept is the one that was issued
-pub kept_issued : (s : Standing) (past : List Entry) (tid : Tid) → Tells s past → kept_mini s tid ≡ option_map (λ (i : Issued). i.mini) (issued_as tid past)
+pub kept_issued : (s : Standing) (past : List Entry) (tid : Tid) → StandingTells s past → kept_mini s tid ≡ option_map (λ (i : Issued). i.mini) (issued_as tid past)
 kept_issued s past tid t = t.issued tid ∙ sym (mini_in tid (issue_named tid (issues_of past)))
 
 -- it commits by the last vote
 abbrev AllVoted : Standing → Tid → NodeNo → List NodeNo → Bool
 AllVoted s tid n participants = list_all (λ m. node_same m n || keeps_vote s tid m) participants
 
-votes_told : (s : Standing) (past : List Entry) (tid : Tid) (n : NodeNo) (participants : List NodeNo) → Tells s past → list_all (λ m. node_same m n || has_vote tid m past) participants ≡ AllVoted s tid n participants
+votes_told : (s : Standing) (past : List Entry) (tid : Tid) (n : NodeNo) (participants : List NodeNo) → StandingTells s past → list_all (λ m. node_same m n || has_vote tid m past) participants ≡ AllVoted s tid n participants
 votes_told s past tid n participants t = all_same (λ m. node_same m n || has_vote tid m past) (λ m. node_same m n || keeps_vote s tid m) (λ m. ap (λ b. node_same m n || b) (sym (t.voted tid m))) participants
 
-pub commits_by_vote : (s : Standing) (past : List Entry) (n : NodeNo) (tid : Tid) (participants : List NodeNo) (part : List PartItem) (request : Request) → Tells s past → request ≡ Ask.Prepare tid participants part
+pub commits_by_vote : (s : Standing) (past : List Entry) (n : NodeNo) (tid : Tid) (participants : List NodeNo) (part : List PartItem) (request : Request) → StandingTells s past → request ≡ Ask.Prepare tid participants part
     → list_all (λ m. node_same m n || keeps_vote s tid m) participants ≡ true → kept_mini s tid ≡ option_map (λ (i : Issued). i.mini) (committed_with past n (Some request))
 commits_by_vote s past n tid participants part request t is all =
     kept_issued s past tid t
     ∙ (sym (ap (λ b. option_map (λ (i : Issued). i.mini) (if b then issued_as tid past else None)) (votes_told s past tid n participants t ∙ all))
     ∙ ap (λ (r : Request). option_map (λ (i : Issued). i.mini) (committed_with past n (Some r))) (sym is))
 
-pub lacks_vote : (s : Standing) (past : List Entry) (n : NodeNo) (tid : Tid) (participants : List NodeNo) (part : List PartItem) (request : Request) → Tells s past → request ≡ Ask.Prepare tid participants part
+pub lacks_vote : (s : Standing) (past : List Entry) (n : NodeNo) (tid : Tid) (participants : List NodeNo) (part : List PartItem) (request : Request) → StandingTells s past → request ≡ Ask.Prepare tid participants part
     → list_all (λ m. node_same m n || keeps_vote s tid m) participants ≡ false → None ≡ option_map (λ (i : Issued). i.mini) (committed_with past n (Some request))
 lacks_vote s past n tid participants part request t is some =
     sym (ap (λ b. option_map (λ (i : Issued). i.mini) (if b then issued_as tid past else None)) (votes_told s past tid n participants t ∙ some))

@@ -7,7 +7,7 @@ use Rattle.mn_mini.specs.declared.reply.NodeReply.TheVariants as Say
 use Rattle.mn_world.specs.declared.entry.Entry.{Entry}
 use Rattle.mn_world.specs.declared.entry.What.TheVariants as Did
 use Rattle.mn_world.specs.Calls.{since_begin}
-use Rattle.mn_world.specs.Answers.{Shows}
+use Rattle.mn_world.specs.Answers.{ShowsAnswer}
 use Rattle.mn_world.specs.Run.{IsLegalBy}
 use Rattle.mn_world.proofs.Examples.TwoNodes.{node, client, id, prepare}
 use Rattle.mn_world.proofs.Examples.Entries.{AreLegal, own, called}
@@ -41,10 +41,10 @@ down_answered : IsLegalBy told (own (Did.Answered 2 (Gives.Down (node 1))))
 down_answered = record { actor = lit≤ tt; node = tt; step = ((put, refl), (refl, (refl, refl))) }
 
 -- not by the other node, and not before the plan is given up
-other_is_not_down : Shows told (since_begin told) put (Gives.Down (node 0)) → ⊥
+other_is_not_down : ShowsAnswer told (since_begin told) put (Gives.Down (node 0)) → ⊥
 other_is_not_down shown = let e = shown.1 in cc
 
-not_given_up : Shows refused (since_begin refused) put (Gives.Down (node 1)) → ⊥
+not_given_up : ShowsAnswer refused (since_begin refused) put (Gives.Down (node 1)) → ⊥
 not_given_up shown = let e = shown.0 in cc
 
 -- Node 0 stops inside its Prepare, which isn't the last
@@ -71,7 +71,7 @@ legal_given_up = (
 stopped_answered : IsLegalBy given_up (own (Did.Answered 2 (Gives.Down (node 0))))
 stopped_answered = record { actor = lit≤ tt; node = tt; step = ((put, refl), (refl, (refl, refl))) }
 
-first_leaves_no_doubt : Shows given_up (since_begin given_up) put (Gives.InDoubt (id 0 2) (node 0))
+first_leaves_no_doubt : ShowsAnswer given_up (since_begin given_up) put (Gives.InDoubt (id 0 2) (node 0))
     → ⊥
 first_leaves_no_doubt shown = let e = shown.4 in cc
 
@@ -117,5 +117,5 @@ doubt_answered = record {
   );
 }
 
-last_is_not_down : Shows stops_last (since_begin stops_last) put (Gives.Down (node 1)) → ⊥
+last_is_not_down : ShowsAnswer stops_last (since_begin stops_last) put (Gives.Down (node 1)) → ⊥
 last_is_not_down shown = let e = shown.0 in cc

@@ -22,7 +22,7 @@ use Rattle.mn_world.specs.declared.entry.Entry.{Entry}
 use Rattle.mn_world.specs.declared.entry.What.TheVariants.{Begin, Issue, Called, Answered}
 use Rattle.mn_world.specs.Calls.{client_entries, since_begin}
 use Rattle.mn_world.specs.Shown.{CatalogShows, seen_in}
-use Rattle.mn_world.specs.Answers.{RefusedAs, Shows}
+use Rattle.mn_world.specs.Answers.{RefusedAs, ShowsAnswer}
 use Rattle.mn_world.specs.History.{LastShown}
 use Rattle.mn_world.specs.Protocol.{Start, FollowsProtocol, base_at, records_of, start_of}
 use Rattle.mn_world.specs.Places.{catalog_place}
@@ -277,7 +277,7 @@ catalog_shows : CatalogShows (record { place = catalog_place; bytes = catalog })
 catalog_shows = (frozen_main ∷ (child ∷ []), (refl, lit≤ tt, (frozen_is_entry, (child_is_entry, tt)), refl), refl)
 
 -- and that is what shows the answer
-answer_example : Shows (client_entries (client 0) read_again) (since_begin (client_entries (client 0) read_again)) a (Replied Frozen)
+answer_example : ShowsAnswer (client_entries (client 0) read_again) (since_begin (client_entries (client 0) read_again)) a (Replied Frozen)
 unfolding base_of
 answer_example = inr (inl (
   refl,

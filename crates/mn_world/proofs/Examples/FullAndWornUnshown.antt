@@ -17,7 +17,7 @@ use Rattle.mn_world.specs.declared.entry.Entry.{Entry}
 use Rattle.mn_world.specs.Places.{page_place, catalog_place}
 use Rattle.mn_world.specs.Shown.{Seen, seen_in}
 use Rattle.mn_world.specs.Calls.{calls_of}
-use Rattle.mn_world.specs.Answers.{FreeSlots, ShowsBytes, LastTry, is_any_decide, none_refused, reads_anew, Shows}
+use Rattle.mn_world.specs.Answers.{FreeSlots, ShowsBytes, LastTry, is_any_decide, none_refused, reads_anew, ShowsAnswer}
 use Rattle.mn_world.proofs.Examples.TwoNodes.{node}
 use Rattle.mn_world.proofs.Examples.Entries.{called, read, seen, version, pair, one_of_three, seen_in_part}
 use Rattle.mn_world.proofs.Examples.Tries.{catalog_bytes, catalog_seen, put, locked, first_try}
@@ -53,7 +53,7 @@ no_free_slots seens free inside ([], many, sum, shown) = absurd (omega arith)
 no_free_slots seens free inside (c ∷ cs, many, sum, shown) = none_shows full_seen catalog_seen catalog_seen seens (node 0) 16 (big_bytes 8 c) inside (no_count (big_bytes 8 c)) (shown (node 0) c refl)
 
 peeked_shows_no_full : (es : List Entry) (need free : ℕ)
-    → Shows es peeked_counts put (Gives.Full need free) → ⊥
+    → ShowsAnswer es peeked_counts put (Gives.Full need free) → ⊥
 peeked_shows_no_full es need free (given_up, try, last, below, needs, slots) =
     no_free_slots (seen_in try) free (λ s has. seen_in_part peeked_counts last.rest try last.earlier s last.split has) slots
 
@@ -91,7 +91,7 @@ no_last_number s (inl is) here low are = numbers_differ (sym lesser_number ∙ s
 no_last_number s (inr (inl is)) here low are = nodes_differ (ap (λ (x : Seen). x.place.node) is ∙ here)
 no_last_number s (inr (inr is)) here low are = nodes_differ (ap (λ (x : Seen). x.place.node) is ∙ here)
 
-lesser_shows_no_worn : (es : List Entry) → Shows es lesser_try put (Gives.Worn (node 1) 21504) → ⊥
+lesser_shows_no_worn : (es : List Entry) → ShowsAnswer es lesser_try put (Gives.Worn (node 1) 21504) → ⊥
 lesser_shows_no_worn es (given_up, try, place, last, on, from, writes, shown) =
     none_shows lesser_seen catalog_seen catalog_seen (seen_in try) (node 1) 21504 (big_bytes 8 (2 ^ 64 - 1)) (λ s has. seen_in_part lesser_try last.rest try last.earlier s last.split has) no_last_number shown
 
@@ -126,5 +126,5 @@ first_is_no_last nodes try last = by last.rest try last.earlier last.split last.
         same = cc
 
 first_shows_no_worn : (es : List Entry) (n : NodeNo) (start : ℕ)
-    → Shows es snapshot_first snapshot (Gives.Worn n start) → ⊥
+    → ShowsAnswer es snapshot_first snapshot (Gives.Worn n start) → ⊥
 first_shows_no_worn es n start (given_up, try, place, last, on, from, writes, shown) = first_is_no_last _ try last

@@ -21,7 +21,7 @@ use Rattle.mn_page.proofs.Spelled.{page_spelled_once}
 use Rattle.mn_world.specs.declared.entry.Entry.{Entry}
 use Rattle.mn_world.specs.Places.{page_place, catalog_place}
 use Rattle.mn_world.specs.Shown.{Seen, ShowsCatalog, LeafShows, ReadShows, SeesPage, seen_in}
-use Rattle.mn_world.specs.Answers.{Shows, SomeReadShows}
+use Rattle.mn_world.specs.Answers.{ShowsAnswer, SomeReadShows}
 use Rattle.mn_world.specs.Calls.{since_begin}
 use Rattle.mn_world.specs.Run.{IsLegalBy}
 use Rattle.mn_world.proofs.Reading.Sees.{brought_since}
@@ -128,7 +128,7 @@ other_value n other differs shown = shows shown.seen (brought_since (reads n) (s
     shows s has es (inr (entries, sees, refused)) = values_refuse_nothing (heads_in entries) main (key n) (other ∷ []) refused
     shows s has es (inl (entries, addr, page, shown, sees, flat, serves, covers, reply)) = by s addr page sees reply (one_of_two leaf_seen (seen catalog_place (catalog_of (main_entry ∷ []))) s has)
 
-other_value_refused : Shows (reads 1) (since_begin (reads 1)) (get 1) (Replied (Values (None ∷ [])))
+other_value_refused : ShowsAnswer (reads 1) (since_begin (reads 1)) (get 1) (Replied (Values (None ∷ [])))
     → ⊥
 other_value_refused (inl (i, before, last, plans, planned, done)) = read_is_no_plan (reads 1) (since_begin (reads 1)) before i _ _ refl refl last plans
 other_value_refused (inr (inl (given_up, shown))) = other_value 1 None (λ e. cc) shown
@@ -139,7 +139,7 @@ abbrev peeked : List Entry
 peeked = called 0 (Ask.Peek 20480 1024) (Say.Peeked (page_bytes leaf)) ∷ read 1 catalog_place (catalog_of (main_entry ∷ [])) ++ begin (get 1) ∷ []
 
 peeked_shows_nothing : (found : List (Option (List ℕ)))
-    → Shows peeked (since_begin peeked) (get 1) (Replied (Values found)) → ⊥
+    → ShowsAnswer peeked (since_begin peeked) (get 1) (Replied (Values found)) → ⊥
 peeked_shows_nothing found (inl (i, before, last, plans, planned, done)) = read_is_no_plan peeked (since_begin peeked) before i _ _ refl refl last plans
 peeked_shows_nothing found (inr (inl (given_up, shown))) = shows shown.seen (brought_since peeked (since_begin peeked) (get 1) _ shown) shown.before shown.shows
   where

@@ -16,7 +16,7 @@ use Rattle.mn_page.proofs.Examples.Spelling.{at}
 use Rattle.mn_page.proofs.Spelled.{big_bytes-inj}
 use Rattle.mn_world.specs.Places.{page_place, count_place, catalog_place}
 use Rattle.mn_world.specs.Shown.{Seen, SeesCatalog}
-use Rattle.mn_world.specs.Answers.{Reached, AreBelow, MeetsFault}
+use Rattle.mn_world.specs.Answers.{Reached, ParentsAreBelow, MeetsFault}
 use Rattle.mn_world.proofs.Examples.TwoNodes.{node}
 use Rattle.mn_world.proofs.Examples.Entries.{seen, catalog_of, version, key}
 use Rattle.mn_world.proofs.Examples.OneCatalog.{one_catalog}
@@ -169,10 +169,10 @@ sees_looped : SeesCatalog looped_seen (frozen_main ∷ looped_m2 ∷ [])
 sees_looped = (refl, lit≤ tt, (entry_rules.0, (record { seq_low = lit≤ tt; seq_high = lit< tt; parent = lit< tt; root = (lit< tt, lit< tt); name = (lit≤ tt, lit≤ tt, refl) }, tt)), refl)
 
 looped_is_bad : (es : List CatEntry) → SeesCatalog looped_seen es
-    → AreBelow (reverse (parents_of (heads_in es))) → ⊥
-looped_is_bad es sees below = by (subst (λ (l : List CatEntry). AreBelow (reverse (parents_of (heads_in l)))) (sym (one_catalog looped_seen (frozen_main ∷ looped_m2 ∷ []) es sees_looped sees)) below)
+    → ParentsAreBelow (reverse (parents_of (heads_in es))) → ⊥
+looped_is_bad es sees below = by (subst (λ (l : List CatEntry). ParentsAreBelow (reverse (parents_of (heads_in l)))) (sym (one_catalog looped_seen (frozen_main ∷ looped_m2 ∷ []) es sees_looped sees)) below)
   where
-    by : AreBelow (reverse (parents_of (heads_in (frozen_main ∷ looped_m2 ∷ [])))) → ⊥
+    by : ParentsAreBelow (reverse (parents_of (heads_in (frozen_main ∷ looped_m2 ∷ [])))) → ⊥
     by b = let low = b.0 in absurd (omega arith)
 
 looped_met : MeetsFault 2 (looped_seen ∷ []) put (Path (at 0 0) 0)

@@ -18,8 +18,8 @@ use Rattle.mn_world.specs.declared.entry.What.TheVariants as Did
 use Rattle.mn_world.specs.Calls.{since_begin, Issued}
 use Rattle.mn_world.specs.Places.{catalog_place}
 use Rattle.mn_world.specs.Planned.{IsPlanned}
-use Rattle.mn_world.specs.Plans.{HasRoom, put_in_place}
-use Rattle.mn_world.specs.Answers.{all_done, IsPlanBy, LastPlanReplies, Shows, MeansBy}
+use Rattle.mn_world.specs.Plans.{IsLeafWithRoom, put_in_place}
+use Rattle.mn_world.specs.Answers.{all_done, IsPlanBy, LastPlanReplies, ShowsAnswer, MeansBy}
 use Rattle.mn_world.specs.Run.{IsLegalBy}
 use Rattle.mn_world.proofs.Plans.PutInPlace.{put_is_planned}
 use Rattle.mn_world.proofs.Examples.TwoNodes.{node, id, prepare}
@@ -36,7 +36,7 @@ heads = heads_in (main_entry ∷ [])
 abbrev pub plan : Mini
 plan = put_in_place 2 (key 2) (119 ∷ []) 0 main_entry (at 1 0) left (pair 3 ∷ pair 4 ∷ [])
 
-has_room : HasRoom heads 2 main (key 2) (119 ∷ []) 0 main_entry (at 1 0) left (pair 3 ∷ pair 4 ∷ [])
+has_room : IsLeafWithRoom heads 2 main (key 2) (119 ∷ []) 0 main_entry (at 1 0) left (pair 3 ∷ pair 4 ∷ [])
 has_room = record {
   named = refl;
   few = lit< tt;
@@ -195,7 +195,7 @@ put_answered = record { actor = lit≤ tt; node = tt; step = ((put, refl), (refl
 -- Lists that don't answer it so
 
 -- one participant was not asked
-one_vote_shows_nothing : Shows voted (since_begin voted) put (Replied (Values [])) → ⊥
+one_vote_shows_nothing : ShowsAnswer voted (since_begin voted) put (Replied (Values [])) → ⊥
 one_vote_shows_nothing (inl (i, before, last, plans, by, done)) = not_done (ap (λ (x : Issued). all_done voted x) same ∙ done)
   where
     same : ◌≡◌ {A = Issued} (record { tid = id 0 2; mini = plan }) i

@@ -21,7 +21,7 @@ use Rattle.mn_page.proofs.Spelled.{page_spelled_once}
 use Rattle.mn_world.specs.declared.entry.Entry.{Entry}
 use Rattle.mn_world.specs.Places.{catalog_place}
 use Rattle.mn_world.specs.Shown.{Seen, SeesCatalog, seen_in, SeesPage, ServesNamed, IsChain, BeginsAt, ReachesEnd, leaf_pairs, IsCatalogRead, ReadShows, ScanShows}
-use Rattle.mn_world.specs.Answers.{Shows}
+use Rattle.mn_world.specs.Answers.{ShowsAnswer}
 use Rattle.mn_world.specs.Calls.{Issued, issues_of, since_begin}
 use Rattle.mn_world.specs.Clients.{is_plan}
 use Rattle.mn_world.proofs.Examples.Entries.{begin, seen, catalog_of, sees_main, read_is_no_plan, page_is_no_catalog, only, one_of_three, main, key}
@@ -44,7 +44,7 @@ pairs_refuse_nothing heads name low high limit pairs e = by (head_named heads na
 leaves_alone : (es : List Entry) (j : Issued) (js : List Issued) (pairs : List Pair)
     → issues_of (since_begin es) ≡ j ∷ js → is_plan j.mini.items ≡ false
     → (ScanShows (seen_in (since_begin es)) scan (Pairs pairs) → ⊥)
-    → Shows es (since_begin es) scan (Replied (Pairs pairs)) → ⊥
+    → ShowsAnswer es (since_begin es) scan (Replied (Pairs pairs)) → ⊥
 leaves_alone es j js pairs issued reads none (inl (i, before, last, plans, planned, done)) = read_is_no_plan es (since_begin es) before i j js issued reads last plans
 leaves_alone es j js pairs issued reads none (inr (inl (given_up, shown))) = no_read shown.before shown.seen shown.shows
   where
@@ -105,7 +105,7 @@ stopped_early_scan pairs (s, later, entries, head, first, sees, named, frozen, s
     left_is_not_enough (subst (λ (l : List Page). (10 ≤ length (pairs_within (leaf_pairs l) (Some (key 4)) (Some (key 7)))) ⊎ ReachesEnd (Some (key 7)) l) (sym one) shown.enough)
 
 stopped_early_shows_nothing : (pairs : List Pair)
-    → Shows stopped_early (since_begin stopped_early) scan (Replied (Pairs pairs)) → ⊥
+    → ShowsAnswer stopped_early (since_begin stopped_early) scan (Replied (Pairs pairs)) → ⊥
 stopped_early_shows_nothing pairs shown = leaves_alone stopped_early _ _ pairs refl refl (stopped_early_scan pairs) shown
 
 -- The first leaf was read before the catalog
@@ -153,7 +153,7 @@ leaf_before_scan pairs (s, later, entries, head, first, sees, named, frozen, sho
     right_begins_above shown.leaves (all_right entries shown.leaves (subst (λ (l : List Seen). AllByRecursion (WasRead entries l) shown.leaves) (sym is) shown.seen)) shown.first
 
 leaf_before_shows_nothing : (pairs : List Pair)
-    → Shows leaf_before (since_begin leaf_before) scan (Replied (Pairs pairs)) → ⊥
+    → ShowsAnswer leaf_before (since_begin leaf_before) scan (Replied (Pairs pairs)) → ⊥
 leaf_before_shows_nothing pairs shown = leaves_alone leaf_before _ _ pairs refl refl (leaf_before_scan pairs) shown
 
 -- The catalog shows main as writable
@@ -187,5 +187,5 @@ of_writable_scan pairs (s, later, entries, head, first, sees, named, frozen, sho
     main_head_writable head (subst (λ (l : List CatEntry). head_named (heads_in l) main ≡ Some head) (sym same) named) frozen
 
 of_writable_shows_nothing : (pairs : List Pair)
-    → Shows of_writable (since_begin of_writable) scan (Replied (Pairs pairs)) → ⊥
+    → ShowsAnswer of_writable (since_begin of_writable) scan (Replied (Pairs pairs)) → ⊥
 of_writable_shows_nothing pairs shown = leaves_alone of_writable _ _ pairs refl refl (of_writable_scan pairs) shown

@@ -13,7 +13,7 @@ use Rattle.mn_mini.specs.declared.reply.NodeReply.TheVariants as Say
 use Rattle.mn_world.specs.declared.entry.Entry.{Entry}
 use Rattle.mn_world.specs.declared.entry.What.TheVariants as Did
 use Rattle.mn_world.specs.Calls.{Call, calls_of}
-use Rattle.mn_world.specs.Answers.{asks_catalog, reads_anew, FailedTries, Shows}
+use Rattle.mn_world.specs.Answers.{asks_catalog, reads_anew, FailedTries, ShowsAnswer}
 use Rattle.mn_world.proofs.Examples.TwoNodes.{id, prepare}
 use Rattle.mn_world.proofs.Examples.Entries.{own, called, calls_append}
 use Rattle.mn_world.proofs.Examples.Tries.{leaf_bytes, put, plan, locked, six_tries}
@@ -76,7 +76,7 @@ kept_try = called 0 (prepare 0 2 plan 0) (Say.BadLock 128 64 (id 1 1)) ∷ own (
 abbrev seven_tries : List Entry
 seven_tries = locked.after 18 ++ flat_map (λ try. try) six_tries ++ kept_try
 
-seven_are_not_enough : (es : List Entry) (busy : Busy) → Shows es seven_tries put (Gives.Busy busy)
+seven_are_not_enough : (es : List Entry) (busy : Busy) → ShowsAnswer es seven_tries put (Gives.Busy busy)
     → ⊥
 seven_are_not_enough es busy shown = six_asked (eight_ask _ put seven_tries busy shown.1)
   where

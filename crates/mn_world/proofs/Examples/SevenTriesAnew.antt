@@ -15,7 +15,7 @@ use Rattle.mn_world.specs.declared.entry.What.TheVariants as Did
 use Rattle.mn_world.specs.Calls.{Call, calls_of}
 use Rattle.mn_world.specs.Places.{catalog_place}
 use Rattle.mn_world.specs.Shown.{seen_in}
-use Rattle.mn_world.specs.Answers.{is_peek, reads_anew, RefusedAs, FailsAs, Shows}
+use Rattle.mn_world.specs.Answers.{is_peek, reads_anew, RefusedAs, FailsAs, ShowsAnswer}
 use Rattle.mn_world.proofs.Examples.TwoNodes.{node, id, prepare}
 use Rattle.mn_world.proofs.Examples.Entries.{read_of, own, called, exec_read, issue_read, calls_append, seen_in_part, only}
 use Rattle.mn_world.proofs.Examples.Tries.{catalog_bytes, catalog_seen, leaf_bytes, put, plan, locked, six_tries, first_try}
@@ -175,7 +175,7 @@ long_fails_not w m first split anew none = by (cut_twice w (looks ∷ reads ∷ 
     by (inl (k, is, tail)) = later k is tail
     by (inr (v, is)) = let asked = ap times_asked is in let sum = asked_append v (looks ∷ reads ∷ issues ∷ []) in absurd (omega arith)
 
-seven_are_not_enough : (es : List Entry) (busy : Busy) → Shows es seven_tries put (Gives.Busy busy)
+seven_are_not_enough : (es : List Entry) (busy : Busy) → ShowsAnswer es seven_tries put (Gives.Busy busy)
     → ⊥
 seven_are_not_enough es busy (given_up, failed) =
     let oldest = oldest_of 2 failed.middle (let six = failed.six in omega arith) (right_true (reads_anew failed.last) _ failed.anew) failed.others_fail in

@@ -16,7 +16,7 @@ use Rattle.mn_world.specs.declared.entry.Entry.{Entry}
 use Rattle.mn_world.specs.declared.entry.What.{What}
 use Rattle.mn_world.specs.declared.entry.What.TheVariants.{Answered}
 use Rattle.mn_world.specs.Calls.{Issued, Begun, issues_of, issue_named, was_done, client_entries, since_begin, under_way}
-use Rattle.mn_world.specs.Answers.{Shows, IsShownFor, IsPlanBy, are_given_up, all_done, MeansBy}
+use Rattle.mn_world.specs.Answers.{ShowsAnswer, IsShownFor, IsPlanBy, are_given_up, all_done, MeansBy}
 use Rattle.mn_world.specs.Protocol.{Start, FollowsProtocol}
 use Rattle.mn_world.specs.Run.{IsRun, Means}
 use Rattle.mn_world.specs.Laws.{StartsSound}
@@ -39,7 +39,7 @@ use Rattle.mn_world.proofs.Votes.Start.{all_true}
 pub record ShownAnswer (past : List Entry) (c : ClientNo) (number : ℕ) (answer : Answer) (e : AnswerAt past c number answer) : Type 0 where
   pub op : Op
   pub now : under_way (client_entries c e.at.before) ≡ Some (record { number = number; op = op })
-  pub shows : Shows (client_entries c e.at.before) (since_begin (client_entries c e.at.before)) op answer
+  pub shows : ShowsAnswer (client_entries c e.at.before) (since_begin (client_entries c e.at.before)) op answer
 
 pub shown_answer : (start : Start) (past : List Entry) (c : ClientNo) (number : ℕ) (answer : Answer) (e : AnswerAt past c number answer) → IsRun start past → ShownAnswer past c number answer e
 shown_answer start past c number answer e run = record { op = op.0; now = op.1; shows = subst (λ (o : Option Begun). IsShownFor (client_entries c e.at.before) o answer) op.1 means.1 }
@@ -56,7 +56,7 @@ shown_answer start past c number answer e run = record { op = op.0; now = op.1; 
 
 -- neither a reply nor a doubt: the plans are given up
 pub gives_up : (es now : List Entry) (op : Op) (answer : Answer) → MeansNoEffect answer
-    → Shows es now op answer → are_given_up now ≡ true
+    → ShowsAnswer es now op answer → are_given_up now ≡ true
 gives_up es now op (Replied reply) means shows = absurd means
 gives_up es now op (InDoubt tid n) means shows = absurd means
 gives_up es now op (GaveUp busy) means shows = shows.0
@@ -135,7 +135,7 @@ plan_replied start past sound run c number reply e a x = by s.shows
         let place : a ≡ length x.before = x.is_place in
         let less = shorter e.at.before co.later (co.entry ∷ co.before) co.split in omega arith
 
-    by : Shows (client_entries c e.at.before) (since_begin (client_entries c e.at.before)) s.op (Replied reply) → PlanReplied past a c number reply e x
+    by : ShowsAnswer (client_entries c e.at.before) (since_begin (client_entries c e.at.before)) s.op (Replied reply) → PlanReplied past a c number reply e x
     by (inr (inl (up, shown))) = absurd (given up)
     by (inr (inr (up, scanned))) = absurd (given up)
     by (inl (i, bef, last, plan, planned, done)) =

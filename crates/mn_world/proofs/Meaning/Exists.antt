@@ -21,7 +21,7 @@ use Rattle.mn_world.specs.declared.entry.What.{What}
 use Rattle.mn_world.specs.declared.entry.What.TheVariants.{Begin, Issue, Called, Stopped, Restarted, Abandoned, Answered}
 use Rattle.mn_world.specs.Calls.{Issued, Begun, begun_in, under_way, since_begin, since_begin_after, is_by, client_entries}
 use Rattle.mn_world.specs.Clients.{is_read}
-use Rattle.mn_world.specs.Answers.{Shows, IsShownFor, SomeReadShows}
+use Rattle.mn_world.specs.Answers.{ShowsAnswer, IsShownFor, SomeReadShows}
 use Rattle.mn_world.specs.Commits.{committed_by}
 use Rattle.mn_world.specs.Opened.{opened_memory}
 use Rattle.mn_world.specs.Protocol.{Start}
@@ -267,7 +267,7 @@ answer_exists start store past old sound opened run history c (Some begun) (Repl
     put (place, at) = (placed_in (record { place = place; past = record { client = c; number = begun.number; op = begun.op; reply = reply } }) old, (place, at, refl))
 
     by : (b : Bool) → has_past c begun.number old ≡ b
-        → Shows (client_entries c past) (since_begin (client_entries c past)) begun.op (Replied reply)
+        → ShowsAnswer (client_entries c past) (since_begin (client_entries c past)) begun.op (Replied reply)
         → (new : List Placed)
         × MatchBool b (new ≡ old) ((place : ℕ) × ReadPlace c past begun.op reply place × (new ≡ placed_in (record { place = place; past = record { client = c; number = begun.number; op = begun.op; reply = reply } }) old))
     by true there shows = (old, refl)

@@ -29,7 +29,7 @@ use Rattle.mn_page.proofs.Split.{lt_nil}
 use Rattle.mn_page.proofs.Copy.{page_same}
 use Rattle.mn_world.specs.Places.{page_place, count_place}
 use Rattle.mn_world.specs.Shown.{Seen, SeesPage}
-use Rattle.mn_world.specs.Answers.{Reached, is_wrong_height, is_copying, is_copied_root, IsPageAtFault, IsAtFault, MeetsBadPage, AreBelow, IsBadCatalog, IsBadCount, MeetsFault}
+use Rattle.mn_world.specs.Answers.{Reached, is_wrong_height, is_copying, is_copied_root, IsPageAtFault, IsAtFault, MeetsBadPage, ParentsAreBelow, IsBadCatalog, IsBadCount, MeetsFault}
 use Rattle.mn_world.specs.Answers.Reached.{by_root, by_child}
 use Rattle.mn_world.proofs.Bytes.Seen.{StandsIn}
 use Rattle.mn_world.proofs.Plans.Told.{all_there}
@@ -207,7 +207,7 @@ bad_page memory store holds seens all op addr seq (seen, key, height, entries, h
 
 -- Catalogs and counts at fault
 
-below : (parents : List (Option ℕ)) → HaveParents parents → AreBelow parents
+below : (parents : List (Option ℕ)) → HaveParents parents → ParentsAreBelow parents
 below [] have = tt
 below (None ∷ []) have = tt
 below (None ∷ (parent ∷ older)) have = absurd have

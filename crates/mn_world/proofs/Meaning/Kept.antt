@@ -15,7 +15,7 @@ use Rattle.mn_page.specs.Holds.{Holds, page_serves}
 use Rattle.mn_world.specs.declared.entry.Entry.{Entry}
 use Rattle.mn_world.specs.Calls.{client_entries}
 use Rattle.mn_world.specs.Places.{Place, page_place, catalog_place}
-use Rattle.mn_world.specs.Planned.{Continues}
+use Rattle.mn_world.specs.Planned.{ContinuesCatalog}
 use Rattle.mn_world.specs.Shown.{Seen, SeesCatalog, SeesPage, ShowsCatalog}
 use Rattle.mn_world.specs.History.{Placed}
 use Rattle.mn_world.specs.Protocol.{Start, FollowsProtocol}
@@ -101,7 +101,7 @@ pub catalog_continued : (start : Start) (store : Store) (past : List Entry) (pla
     → past ≡ later ++ before → past ≡ later' ++ target
     → length before ≤ length target → (c : ClientNo) (entries : List CatEntry)
     → ShowsCatalog (client_entries c before) entries → (t : Store) → Holds (flat start target) t
-    → Continues (heads_in entries) (heads_of t)
+    → ContinuesCatalog (heads_in entries) (heads_of t)
 catalog_continued start store past placed known later before later' target split split' up c entries (seen, has, sees) t holds =
     let read = seen_is_flat start before c seen known.sound (follows_before start past later before split known.follows) has in
     let newer : List Entry = later ++ (read.1 ++ read.0 ∷ []) in
@@ -110,10 +110,10 @@ catalog_continued start store past placed known later before later' target split
     let short : length read.2 ≤ length before = shorter before (read.1 ++ read.0 ∷ []) read.2 (split_deeper before [] before read.1 read.0 read.2 refl read.3) in
     let on = stores_go_on start store past placed known newer read.2 later' target there split' (omega arith) old.0 t old.1 holds in
     let heads = catalog_heads (flat start read.2) old.0 seen entries old.1 read.6 sees in
-    subst (λ (hs : List Head). Continues hs (heads_of t)) (sym heads) (subst (λ (x : Store). Continues (heads_of old.0) (heads_of x)) on.is (continues_after old.0 on.history))
+    subst (λ (hs : List Head). ContinuesCatalog hs (heads_of t)) (sym heads) (subst (λ (x : Store). ContinuesCatalog (heads_of old.0) (heads_of x)) on.is (continues_after old.0 on.history))
 
 -- serving by the kept catalog is serving by the store's own
-pub serves_there : (entries : List CatEntry) (memory : List (List ℕ)) (t : Store) (holds : Holds memory t) (name : List ℕ) (page : Page) (v : ℕ) → Continues (heads_in entries) (heads_of t) → number_named (heads_in entries) name ≡ Some v
+pub serves_there : (entries : List CatEntry) (memory : List (List ℕ)) (t : Store) (holds : Holds memory t) (name : List ℕ) (page : Page) (v : ℕ) → ContinuesCatalog (heads_in entries) (heads_of t) → number_named (heads_in entries) name ≡ Some v
     → IsTrue (page_serves entries v page) → page_serves holds.forest.entries v page ≡ true
 serves_there entries memory t holds name page v on named serves =
     ap (λ (hs : List Head). Rattle.mn_base.specs.Tree.serves (Rattle.mn_base.specs.Tree.parents_of hs) page.made.0 page.copied v) (sym holds.shown.heads)

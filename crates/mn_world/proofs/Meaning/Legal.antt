@@ -20,7 +20,7 @@ use Rattle.mn_world.specs.declared.entry.What.TheVariants.{Begin, Issue, Called,
 use Rattle.mn_world.specs.Calls.{Issued, Begun, client_entries, since_begin, under_way}
 use Rattle.mn_world.specs.Clients.{is_read}
 use Rattle.mn_world.specs.Shown.{Seen, seen_at, ReadShows}
-use Rattle.mn_world.specs.Answers.{Shows, IsShownFor}
+use Rattle.mn_world.specs.Answers.{ShowsAnswer, IsShownFor}
 use Rattle.mn_world.specs.Protocol.{Start, FollowsProtocol}
 use Rattle.mn_world.specs.Commits.{committed_by}
 use Rattle.mn_world.specs.Run.{IsRun, Means}
@@ -81,7 +81,7 @@ pairs_refuse_nothing heads name low high limit pairs e = by (head_named heads na
 by_scan : (start : Start) (store : Store) (past : List Entry) (placed : List Placed)
     → Known start store past placed
     → (c : ClientNo) (name : List ℕ) (low high : Option (List ℕ)) (limit : ℕ) (pairs : List Pair) (place : ℕ)
-    → Shows (client_entries c past) (since_begin (client_entries c past)) (Scan name low high limit) (Replied (Say.Pairs pairs)) → FirstCatalogAt c past place → ReadAt start past (Scan name low high limit) (Say.Pairs pairs) place
+    → ShowsAnswer (client_entries c past) (since_begin (client_entries c past)) (Scan name low high limit) (Replied (Say.Pairs pairs)) → FirstCatalogAt c past place → ReadAt start past (Scan name low high limit) (Say.Pairs pairs) place
 by_scan start store past placed known c name low high limit pairs place (inl (i, before, last, plan, (entries, catalog, planned), done)) first = absurd planned.kind
 by_scan start store past placed known c name low high limit pairs place (inr (inl (given_up, shown))) first = absurd (no_read shown.before shown.seen shown.shows)
   where
@@ -102,7 +102,7 @@ by_scan start store past placed known c name low high limit pairs place (inr (in
 
 pub read_at : (start : Start) (store : Store) (past : List Entry) (placed : List Placed)
     → Known start store past placed → (c : ClientNo) (op : Op) (reply : Reply) (place : ℕ)
-    → Shows (client_entries c past) (since_begin (client_entries c past)) op (Replied reply)
+    → ShowsAnswer (client_entries c past) (since_begin (client_entries c past)) op (Replied reply)
     → ReadPlace c past op reply place → ReadAt start past op reply place
 read_at start store past placed known c (Scan name low high limit) (Say.Pairs pairs) place shown at = by_scan start store past placed known c name low high limit pairs place shown at
 read_at start store past placed known c op reply place shown at = by_last start store past placed known c op reply place (last_shown_at past c op reply place at)

@@ -21,7 +21,7 @@ use Rattle.mn_page.proofs.Grid.{all_at_place}
 use Rattle.mn_base.proofs.Named.{NamedVersion, named}
 use Rattle.mn_world.specs.declared.entry.Entry.{Entry}
 use Rattle.mn_world.specs.declared.entry.What.{What}
-use Rattle.mn_world.specs.Planned.{Continues}
+use Rattle.mn_world.specs.Planned.{ContinuesCatalog}
 use Rattle.mn_world.specs.Calls.{is_by, client_entries, since_begin}
 use Rattle.mn_world.specs.Shown.{Seen, seen_in, seen_at, SeesCatalog, SeesPage, ServesNamed, IsCatalogRead, ShowsPairs, FirstCatalog, ScanShows, IsChain, BeginsAt, ReachesEnd}
 use Rattle.mn_world.specs.History.{Placed, FirstCatalogAt}
@@ -160,7 +160,7 @@ leaf_of start store past placed known c later x before split name entries s hold
     let t = some_store start store past placed known newer (r.older ++ x ∷ before) to_target in
     let on : Later s t.0 = stores_go_on start store past placed known (later ++ x ∷ []) before newer (r.older ++ x ∷ before) to_before to_target (up r.older) s t.0 holds t.1 in
     let kept : slice_get t.0 v ≡ Some version = subst (λ (y : Store). slice_get y v ≡ Some version) on.is (frozen_stays s on.history v version at frozen) in
-    let continued : Continues (heads_in entries) (heads_of t.0) = subst (λ (hs : List Head). Continues hs (heads_of t.0)) (sym heads) (subst (λ (y : Store). Continues (heads_of s) (heads_of y)) on.is (continues_after s on.history)) in
+    let continued : ContinuesCatalog (heads_in entries) (heads_of t.0) = subst (λ (hs : List Head). ContinuesCatalog hs (heads_of t.0)) (sym heads) (subst (λ (y : Store). ContinuesCatalog (heads_of s) (heads_of y)) on.is (continues_after s on.history)) in
     let there = page_seen (flat start (r.older ++ x ∷ before)) t.0 t.1 seen addr p r.stands sees in
     let number_is : w ≡ v = same_number w v (number_named (heads_in entries) name) names number in
     let serves_now = subst (λ k. Rattle.mn_page.specs.Holds.page_serves t.1.forest.entries k p ≡ true) number_is (serves_there entries (flat start (r.older ++ x ∷ before)) t.0 t.1 name p w continued names serves) in

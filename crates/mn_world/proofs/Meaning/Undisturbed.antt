@@ -27,7 +27,7 @@ use Rattle.mn_world.specs.declared.entry.What.{What}
 use Rattle.mn_world.specs.declared.entry.What.TheVariants.{Begin, Issue, Called, Stopped, Restarted, Abandoned, Answered}
 use Rattle.mn_world.specs.Calls.{Call, Begun, call_in, calls_of, is_by, is_exec, is_prepare, is_last_of, is_down_reply, is_stopped, node_entries, client_entries, since_begin, since_begin_after, under_way, under_way_after}
 use Rattle.mn_world.specs.Nodes.{is_down}
-use Rattle.mn_world.specs.Answers.{Shows, is_down_cause, is_doubt_cause, is_any_decide, is_any_prepare}
+use Rattle.mn_world.specs.Answers.{ShowsAnswer, is_down_cause, is_doubt_cause, is_any_decide, is_any_prepare}
 use Rattle.mn_world.specs.Protocol.{Start, base_at, records_of, KeepsProtocol, FollowsProtocol}
 use Rattle.mn_world.specs.Meaning.{BeginsOp}
 use Rattle.mn_world.specs.OneHistory.{AreUp}
@@ -191,7 +191,7 @@ up_is_sure start store past later between before begins answers c number op answ
     none f fails any = none_fails start between (begins ∷ before) c f fails here up (ap (λ (l : List Entry). list_any f (calls_of l)) (sym since) ∙ any)
 
     by : (a : Answer)
-        → Shows (client_entries c (between ++ begins ∷ before)) (since_begin (client_entries c (between ++ begins ∷ before))) s.op a → IsOfUpNodes a
+        → ShowsAnswer (client_entries c (between ++ begins ∷ before)) (since_begin (client_entries c (between ++ begins ∷ before))) s.op a → IsOfUpNodes a
     by (Down n) shows = none (is_down_cause n) (down_fails n) shows.1
     by (InDoubt tid n) shows = none (is_doubt_cause n tid) (doubt_fails n tid) shows.4
     by (Replied reply) shows = tt

@@ -1,4 +1,5 @@
--- What holds where a plan's compares hold, and small facts on places and catalogs that each plan needs.
+-- What holds where a plan's compares hold, and small facts on places and catalogs that each plan
+-- needs.
 use Rattle.std.proofs.Common.{◌≡◌, ℕ, zero, suc, ◌+◌, ◌*◌, ◌<◌, Bool, true, false, List, [], ◌∷◌, length, Option, Some, None, refl, ap, ◌∙◌, arith, if◌then◌else◌, slice_get}
 use Rattle.std.specs.Prelude.{nat_lt, ⊤}
 use Rattle.std.specs.List.{AllByRecursion}
@@ -11,7 +12,7 @@ use Rattle.mn_mini.specs.declared.item.Item.TheVariants.{Compare, Read, Write}
 use Rattle.mn_mini.specs.Flat.{bytes_in, space_in, mismatch_from}
 use Rattle.mn_base.proofs.Keys.{bytes_eq-true}
 use Rattle.mn_world.specs.declared.entry.Entry.{Entry}
-use Rattle.mn_world.specs.Planned.{place_rank, ComparesHold, Continues}
+use Rattle.mn_world.specs.Planned.{place_rank, ComparesHold, ContinuesCatalog}
 
 -- the bytes compared are in place
 abbrev pub IsMet : List (List ℕ) → Item → Type 0
@@ -36,7 +37,7 @@ pub compares_met : (es : List Entry) (memory : List (List ℕ)) (items : List It
 compares_met es memory items hold = all_met memory 0 items hold.met
 
 -- a version of the kept catalog has its number in a store that continues it
-pub still_named : (kept heads : List Head) (name : List ℕ) (v : ℕ) → Continues kept heads → number_named kept name ≡ Some v → number_named heads name ≡ Some v
+pub still_named : (kept heads : List Head) (name : List ℕ) (v : ℕ) → ContinuesCatalog kept heads → number_named kept name ≡ Some v → number_named heads name ≡ Some v
 still_named [] heads name v on e = absurd cc
 still_named (k ∷ kept) [] name v on e = absurd on
 still_named (k ∷ kept) (h ∷ heads) name v on e =

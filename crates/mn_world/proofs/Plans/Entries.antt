@@ -1,4 +1,5 @@
--- Entries in the memory of a forest: unused places, and writes of entries in their places or behind the others.
+-- Entries in the memory of a forest: unused places, and writes of entries in their places or behind
+-- the others.
 use Rattle.std.proofs.Common.{◌≡◌, ℕ, zero, suc, ◌+◌, ◌-◌, ◌*◌, ◌<◌, ◌≤◌, inl, inr, List, [], ◌∷◌, ◌++◌, length, map, take, replicate, Some, refl, subst, sym, ap, ◌∙◌, arith, if◌then◌else◌, slice_get, slice_set, slice_index_or}
 use Rattle.std.specs.Prelude.{nat_eq}
 use Rattle.std.specs.List.{AllByRecursion, flat_map}

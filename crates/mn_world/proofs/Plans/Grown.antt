@@ -1,4 +1,5 @@
--- Grids of pages, some of them written again and some put behind their node's list: what stands where, and how long the lists are.
+-- Grids of pages, some of them written again and some put behind their node's list: what stands
+-- where, and how long the lists are.
 use Rattle.std.proofs.Common.{◌≡◌, ℕ, zero, suc, ◌+◌, ◌<◌, ◌≤◌, inl, inr, Bool, true, false, List, [], ◌∷◌, ◌++◌, length, map, Option, Some, None, refl, subst, sym, ap, ◌∙◌, arith, slice_get, slice_set, slice_index_or, get_or-set_other, get_or-set_same, if◌then◌else◌}
 use Rattle.std.specs.Prelude.{nat_eq, ⊤}
 use Rattle.std.specs.List.{AllByRecursion}

@@ -1,4 +1,5 @@
--- A memory laid out by entries, counts and pages, where the counts need not be the pages' yet: each write of a plan changes one of the three, in any order.
+-- A memory laid out by entries, counts and pages, where the counts need not be the pages' yet: each
+-- write of a plan changes one of the three, in any order.
 use Rattle.std.proofs.Common.{◌≡◌, ℕ, zero, suc, ◌+◌, ◌*◌, ◌<◌, ◌≤◌, Bool, true, false, List, [], ◌∷◌, ◌++◌, length, map, Some, refl, subst, sym, ap, ◌∙◌, arith, slice_set, slice_index_or, get_or-set_other, get_or-set_same, if◌then◌else◌}
 use Rattle.std.specs.Prelude.{nat_eq}
 use Rattle.std.specs.List.{flat_map, range_with_len}

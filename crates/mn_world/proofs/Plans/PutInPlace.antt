@@ -32,8 +32,8 @@ use Rattle.mn_page.proofs.Alike.{Alike, with_page, re_paired, alike_forest, Leaf
 use Rattle.mn_page.proofs.Spelled.{page_length, entry_length, entry_spelled_once}
 use Rattle.mn_world.specs.declared.entry.Entry.{Entry}
 use Rattle.mn_world.specs.Places.{catalog_node, Place, page_place, entry_place, count_place}
-use Rattle.mn_world.specs.Planned.{compare_places, IsCompared, HasNextNumber, may_precede, place_rank, ComparesHold, Continues, PlanActs}
-use Rattle.mn_world.specs.Plans.{HasRoom, next_leaf, put_in_place, compare_page, compare_entry, write_page, PutIsPlanned}
+use Rattle.mn_world.specs.Planned.{compare_places, IsCompared, HasNextNumber, may_precede, place_rank, ComparesHold, ContinuesCatalog, PlanActs}
+use Rattle.mn_world.specs.Plans.{IsLeafWithRoom, next_leaf, put_in_place, compare_page, compare_entry, write_page, PutIsPlanned}
 use Rattle.mn_world.proofs.Plans.Laying.{laid_is}
 use Rattle.mn_world.proofs.Plans.Spaces.{memory_by_pages, page_there, page_written, entry_read, node_0, memory_length}
 use Rattle.mn_world.proofs.Plans.Compares.{compares_met, still_named, page_rank, entry_rank, element_at}
@@ -44,7 +44,7 @@ use Rattle.mn_page.proofs.Counted.{counted, forest, listed, shows, IsCounted, Is
 abbrev new_leaf : Page → List Pair → List ℕ → List ℕ → Page
 new_leaf p pairs key value = next_leaf p (pairs_with pairs key value)
 
-pub next_is_page : (kept : List Head) (nodes : ℕ) (name key value : List ℕ) (v : ℕ) (e : CatEntry) (addr : Addr) (p : Page) (pairs : List Pair) → HasRoom kept nodes name key value v e addr p pairs → IsPage (new_leaf p pairs key value)
+pub next_is_page : (kept : List Head) (nodes : ℕ) (name key value : List ℕ) (v : ℕ) (e : CatEntry) (addr : Addr) (p : Page) (pairs : List Pair) → IsLeafWithRoom kept nodes name key value v e addr p pairs → IsPage (new_leaf p pairs key value)
 next_is_page kept nodes name key value v e addr p pairs r =
     let old : IsBody p.low p.high (Leaf pairs) = subst (IsBody p.low p.high) r.leaf r.page.body in
     record {
@@ -88,8 +88,8 @@ pub record PutFacts (f : Forest) (store : Store) (name key : List ℕ) (v : ℕ)
   pub one : OneLeaf f.entries (page_at f) v named.version key
   pub leaf : IsLeafFor f.entries (page_at f) v key addr p
 
-pub put_facts : (kept : List Head) (nodes : ℕ) (name key value : List ℕ) (v : ℕ) (e : CatEntry) (addr : Addr) (p : Page) (pairs : List Pair) → HasRoom kept nodes name key value v e addr p pairs
-    → (f : Forest) (store : Store) → IsCounted f → ListsStore f store → addr.node.0 < length f.pages → Continues kept (heads_of store)
+pub put_facts : (kept : List Head) (nodes : ℕ) (name key value : List ℕ) (v : ℕ) (e : CatEntry) (addr : Addr) (p : Page) (pairs : List Pair) → IsLeafWithRoom kept nodes name key value v e addr p pairs
+    → (f : Forest) (store : Store) → IsCounted f → ListsStore f store → addr.node.0 < length f.pages → ContinuesCatalog kept (heads_of store)
     → bytes_in (space_in (memory_by_pages f) addr.node) (20480 + 1024 * addr.slot) 1024 ≡ page_bytes p → bytes_in (space_in (memory_by_pages f) node_0) (64 + 64 * v) 64 ≡ entry_bytes e
     → PutFacts f store name key v addr p
 put_facts kept nodes name key value v e addr p pairs r f store sound shown in' on page entry =
@@ -116,7 +116,7 @@ put_facts kept nodes name key value v e addr p pairs r f store sound shown in' o
       leaf = record { there = there; level = ap height_of r.leaf; serves = serves_v; covers = r.covers };
     }
 
-pub put_change : (kept : List Head) (nodes : ℕ) (name key value : List ℕ) (v : ℕ) (e : CatEntry) (addr : Addr) (p : Page) (pairs : List Pair) → HasRoom kept nodes name key value v e addr p pairs
+pub put_change : (kept : List Head) (nodes : ℕ) (name key value : List ℕ) (v : ℕ) (e : CatEntry) (addr : Addr) (p : Page) (pairs : List Pair) → IsLeafWithRoom kept nodes name key value v e addr p pairs
     → (f : Forest) (store : Store) → IsCounted f → ListsStore f store → (facts : PutFacts f store name key v addr p)
     → LeafChange f store addr p (new_leaf p pairs key value) v facts.named.version (pairs_with facts.named.version.pairs key value)
 put_change kept nodes name key value v e addr p pairs r f store sound shown facts =
@@ -207,8 +207,8 @@ put_compares f store name key value v nodes e addr p q lp lq le facts place = (t
 pub named_not : (v : ℕ) → ◌≡◌ {A = Option ℕ} (Some v) None → ⊥
 named_not v e = cc
 
-put_acts : (kept : List Head) (nodes : ℕ) (name key value : List ℕ) (v : ℕ) (e : CatEntry) (addr : Addr) (p : Page) (pairs : List Pair) → HasRoom kept nodes name key value v e addr p pairs
-    → (es : List Entry) (memory : List (List ℕ)) (store : Store) → length memory ≡ nodes → (holds : Holds memory store) → Continues kept (heads_of store)
+put_acts : (kept : List Head) (nodes : ℕ) (name key value : List ℕ) (v : ℕ) (e : CatEntry) (addr : Addr) (p : Page) (pairs : List Pair) → IsLeafWithRoom kept nodes name key value v e addr p pairs
+    → (es : List Entry) (memory : List (List ℕ)) (store : Store) → length memory ≡ nodes → (holds : Holds memory store) → ContinuesCatalog kept (heads_of store)
     → ComparesHold es memory (put_in_place nodes key value v e addr p pairs).items → PlanActs memory store holds (Tx name (Put key value ∷ [])) (put_in_place nodes key value v e addr p pairs) (Values [])
 put_acts kept nodes name key value v e addr p pairs r es memory store many holds on hold =
     let sound = counted holds.forest holds.sound in

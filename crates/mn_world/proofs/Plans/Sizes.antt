@@ -1,4 +1,5 @@
--- The lengths of the nodes' lists of pages, where a page is written over another one or behind them.
+-- The lengths of the nodes' lists of pages, where a page is written over another one or behind
+-- them.
 use Rattle.std.proofs.Common.{◌≡◌, ℕ, zero, suc, ◌+◌, ◌<◌, ◌≤◌, List, [], ◌∷◌, ◌++◌, length, map, refl, ap, ◌∙◌, arith, slice_set, slice_index_or, get_or-set_same}
 use Rattle.std.specs.List.{AllByRecursion}
 use Rattle.std.proofs.lemmas.List.{length-append, length-set}

@@ -1,4 +1,5 @@
--- What the memory of a forest has at the places of pages and entries, and what a written page makes of it.
+-- What the memory of a forest has at the places of pages and entries, and what a written page makes
+-- of it.
 use Rattle.std.proofs.Common.{◌≡◌, ℕ, zero, suc, ◌+◌, ◌*◌, ◌<◌, ◌≤◌, inl, inr, Bool, true, false, List, [], ◌∷◌, ◌++◌, length, map, take, replicate, Some, refl, subst, sym, ap, ◌∙◌, arith, slice_get, slice_set, slice_index_or, get_or-set_other, get_or-set_same, if◌then◌else◌}
 use Rattle.std.specs.Prelude.{nat_eq}
 use Rattle.std.specs.List.{AllByRecursion, flat_map, range_with_len}

@@ -34,7 +34,7 @@ use Rattle.mn_page.proofs.Spelled.{length-padded, page_length, entry_length, ent
 use Rattle.mn_page.proofs.Split.{Split, CanSplit, split_forest, with_root, with_left, new_root, left_page, right_page, split_is_forest, CutPairs, shows_split, old_serves, old_covers, lt_nil}
 use Rattle.mn_world.specs.declared.entry.Entry.{Entry}
 use Rattle.mn_world.specs.Places.{catalog_node, Place, page_place, entry_place, count_place}
-use Rattle.mn_world.specs.Planned.{write_places, IsCompared, HasNextNumber, WritesPages, ComparesHold, Continues, PlanActs, place_rank, IsWholePlace, ComeOnce}
+use Rattle.mn_world.specs.Planned.{write_places, IsCompared, HasNextNumber, WritesPages, ComparesHold, ContinuesCatalog, PlanActs, place_rank, IsWholePlace, ComeOnce}
 use Rattle.mn_world.specs.Plans.{write_page, slot_at, left_half, right_half, parent_of_halves, HasSplit, split_items, SplitIsPlanned}
 use Rattle.mn_world.proofs.Plans.Pieces.{bytes_in-skip, bytes_in-within, bytes_in-padded}
 use Rattle.mn_world.proofs.Plans.Spaces.{memory_by_pages, catalog_bytes, page_there, entry_read, node_0, memory_length, space_in-memory_by_pages, front_length, catalog_length, AreSlots, node_slots, text_length, get_in-index}
@@ -186,7 +186,7 @@ filter_every t [] all = refl
 filter_every {X} t (x ∷ xs) all = ap (λ b. Rattle.std.specs.Prelude.cond b (x ∷ filter t xs) (filter t xs)) (all x) ∙ ap (λ (ys : List X). x ∷ ys) (filter_every t xs all)
 
 split_facts : (kept : List Head) (nodes : ℕ) (name key value : List ℕ) (v : ℕ) (e : CatEntry) (p : Page) (pairs : List Pair) (n : NodeNo) (count : ℕ) (lows : List Pair) (first : Pair) (more : List Pair)
-    → HasSplit kept nodes name key value v e p pairs n count lows first more → (f : Forest) (store : Store) → IsCounted f → ListsStore f store → nodes ≡ length f.pages → Continues kept (heads_of store)
+    → HasSplit kept nodes name key value v e p pairs n count lows first more → (f : Forest) (store : Store) → IsCounted f → ListsStore f store → nodes ≡ length f.pages → ContinuesCatalog kept (heads_of store)
     → bytes_in (space_in (memory_by_pages f) e.root.node) (20480 + 1024 * e.root.slot) 1024 ≡ page_bytes p → bytes_in (space_in (memory_by_pages f) node_0) (64 + 64 * v) 64 ≡ entry_bytes e
     → bytes_in (space_in (memory_by_pages f) n) 16 8 ≡ big_bytes 8 count → SplitFacts f store name v e p pairs n count lows first more
 split_facts kept nodes name key value v e p pairs n count lows first more r f store sound shown many on page entry count_there =
@@ -524,7 +524,7 @@ split_once f v nodes e p n count lows first more can count_is =
     four_same p q r = cc
 
 split_acts : (kept : List Head) (nodes : ℕ) (name key value : List ℕ) (v : ℕ) (e : CatEntry) (p : Page) (pairs : List Pair) (n : NodeNo) (count : ℕ) (lows : List Pair) (first : Pair) (more : List Pair)
-    → HasSplit kept nodes name key value v e p pairs n count lows first more → (es : List Entry) (memory : List (List ℕ)) (store : Store) → length memory ≡ nodes → (holds : Holds memory store) → Continues kept (heads_of store)
+    → HasSplit kept nodes name key value v e p pairs n count lows first more → (es : List Entry) (memory : List (List ℕ)) (store : Store) → length memory ≡ nodes → (holds : Holds memory store) → ContinuesCatalog kept (heads_of store)
     → ComparesHold es memory (split_items v e p n count lows first more)
     → PlanActs memory store holds (Tx name (Put key value ∷ [])) (record { nodes = nodes; items = split_items v e p n count lows first more }) (Values [])
 split_acts kept nodes name key value v e p pairs n count lows first more r es memory store many holds on hold =

@@ -1,4 +1,5 @@
--- Writes of pages that stand, of new ones in next slots, and of the counts leave the memory of the forest with these pages.
+-- Writes of pages that stand, of new ones in next slots, and of the counts leave the memory of the
+-- forest with these pages.
 use Rattle.std.proofs.Common.{◌≡◌, ℕ, zero, suc, ◌+◌, ◌<◌, ◌≤◌, ◌⊎◌, inl, inr, Bool, true, false, not, List, [], ◌∷◌, ◌++◌, length, map, Option, Some, None, refl, subst, sym, ap, ◌∙◌, arith, slice_set, slice_index_or, get_or-set_other, get_or-set_same, if◌then◌else◌}
 use Rattle.std.specs.Prelude.{nat_eq, filter}
 use Rattle.std.specs.List.{AllByRecursion, range_with_len}

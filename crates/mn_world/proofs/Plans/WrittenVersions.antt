@@ -1,4 +1,5 @@
--- Writes of pages, of entries and of counts leave the memory of the forest with these pages and entries.
+-- Writes of pages, of entries and of counts leave the memory of the forest with these pages and
+-- entries.
 use Rattle.std.proofs.Common.{◌≡◌, ℕ, ◌+◌, ◌<◌, ◌≤◌, List, ◌++◌, length, map, refl, Option, Some, None, subst, sym, ap, ◌∙◌, arith, slice_index_or}
 use Rattle.std.specs.Prelude.{nat_eq, not}
 use Rattle.std.specs.List.{AllByRecursion}

@@ -1,4 +1,5 @@
--- What an entry adds to a client's list: at most one call, which the list allowed and the node's records answered.
+-- What an entry adds to a client's list: at most one call, which the list allowed and the node's
+-- records answered.
 use Rattle.std.proofs.Common.{◌≡◌, ◌⊎◌, inl, inr, Bool, true, false, ◌||◌, List, [], ◌∷◌, Option, Some, None, refl, subst, sym, ap, ◌∙◌, if◌then◌else◌, Contains}
 use Rattle.std.specs.List.{AllByRecursion, list_any}
 use Rattle.std.proofs.lemmas.List.Folds.{list_any-append}

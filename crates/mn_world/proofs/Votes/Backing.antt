@@ -61,7 +61,8 @@ WasAsked ask past c k = (was_told ask is_done k (client_entries c past) ≡ true
 abbrev pub WasExecuted : List Entry → Tid → NodeNo → Type 0
 WasExecuted past tid k = WasAsked (is_exec tid) past tid.client k
 
--- the node will never vote for the id: it was forced, or the id was abandoned with nothing sent there that could still count
+-- the node will never vote for the id: it was forced, or the id was abandoned with nothing sent
+-- there that could still count
 abbrev pub IsStuck : Start → List Entry → Tid → NodeNo → Type 0
 IsStuck start past tid k =
     (has_forced (records_of start past k) tid ≡ true)

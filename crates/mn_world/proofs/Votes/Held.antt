@@ -7,7 +7,7 @@ use Rattle.mn_mini.specs.declared.record.Record.TheVariants.{Voted, Executed, De
 use Rattle.mn_mini.specs.declared.part.PartItem.{PartItem}
 use Rattle.mn_mini.specs.Mini.{parts_conflict}
 use Rattle.mn_mini.specs.Node.{HeldPart, held_parts}
-use Rattle.mn_mini.specs.Laws.{AreApart}
+use Rattle.mn_mini.specs.Laws.{PartsAreApart}
 use Rattle.mn_mini.proofs.Apart.{AreApart-answer, AreApart-without}
 use Rattle.mn_world.specs.Protocol.{start_nodes, base_at, start_records, records_of}
 use Rattle.mn_world.specs.Opened.{AreInPlace, is_free}
@@ -25,16 +25,16 @@ free_apart (h ∷ hs) part P f e =
     split true b e = absurd cc
     split false b e = (refl, e)
 
-pub in_place_apart : (nodes : ℕ) (n : NodeNo) (records : List Record) → AreInPlace nodes n records → AreApart (held_parts records)
+pub in_place_apart : (nodes : ℕ) (n : NodeNo) (records : List Record) → AreInPlace nodes n records → PartsAreApart (held_parts records)
 in_place_apart nodes n [] a = tt
 in_place_apart nodes n (Voted tid participants part ∷ records) a = (free_apart (held_parts records) part _ (λ g e other. e) a.0.3, in_place_apart nodes n records a.1)
 in_place_apart nodes n (Executed tid part ∷ records) a = in_place_apart nodes n records a.1
 in_place_apart nodes n (Decided tid verdict ∷ records) a = AreApart-without tid (held_parts records) (in_place_apart nodes n records a.1)
 in_place_apart nodes n (Forced tid ∷ records) a = in_place_apart nodes n records a.1
 
-pub grown : (base : List ℕ) (old new : List Record) → Grows base old new → AreApart (held_parts old) → AreApart (held_parts new)
-grown base old new (inl same) apart = subst (λ (r : List Record). AreApart (held_parts r)) (sym same) apart
-grown base old new (inr (request, is)) apart = subst (λ (r : List Record). AreApart (held_parts r)) (sym is) (AreApart-answer base old request apart)
+pub grown : (base : List ℕ) (old new : List Record) → Grows base old new → PartsAreApart (held_parts old) → PartsAreApart (held_parts new)
+grown base old new (inl same) apart = subst (λ (r : List Record). PartsAreApart (held_parts r)) (sym same) apart
+grown base old new (inr (request, is)) apart = subst (λ (r : List Record). PartsAreApart (held_parts r)) (sym is) (AreApart-answer base old request apart)
 
 pub held_parts_apart : HeldPartsApart
 held_parts_apart start [] n sound run below = in_place_apart (start_nodes start) n (start_records start n) (sound.in_place n below)

@@ -40,7 +40,8 @@ pub record FromCall (start : Start) (past : List Entry) (e : Entry) (k : NodeNo)
 abbrev pub IsPending : List Entry → NodeNo → Request → Type 0
 IsPending past k request = (stopped_request (node_entries k past) ≡ Some request) × (is_down (node_entries k past) ≡ true)
 
--- the node's records stay, or a request adds its record: one that was called, or the one that the node stopped inside
+-- the node's records stay, or a request adds its record: one that was called, or the one that the
+-- node stopped inside
 abbrev pub NodeCase : Start → List Entry → Entry → NodeNo → List Record → Type 0
 NodeCase start past e k new =
     (new ≡ records_of start past k)

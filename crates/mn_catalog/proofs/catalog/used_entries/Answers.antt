@@ -1,6 +1,6 @@
 use Rattle.std.proofs.Common.{rules, ◌≡◌, sym, subst, inl, ◌<◌, ◌≤◌, length, vec_len, arith}
 use Rattle.std.proofs.lemmas.Result.{err_from_is_err_and}
-use Rattle.mn_catalog.specs.Places.{IsRead, AreRead}
+use Rattle.mn_catalog.specs.Places.{IsEntryRead, AreRead}
 use Rattle.mn_catalog.specs.Grammar.{place_bytes, RefusesCatalog, SpellsNoCatalog, IsWantOfMemory}
 use Rattle.mn_catalog.proofs.Faults.{none_read, unused_read, used_read, used_behind, none_behind, refused, outside}
 use Rattle.mn_catalog.proofs.catalog.used_entries.Goals as goal
@@ -23,7 +23,7 @@ returns-in_err-entry-clause-outside c =
 pub loop-version-preserved-in_default : goal.loop-version-preserved-in_default
 loop-version-preserved-in_default c =
     let place = place_bytes c.loop-version.version c.args.bytes.now in
-    unused_read c.args.bytes.now c.loop-version.version c.loop-version.entries.items c.loop-version.invariant (subst (IsRead place) c.in_default.is c.in_ok-entry.ensures.read)
+    unused_read c.args.bytes.now c.loop-version.version c.loop-version.entries.items c.loop-version.invariant (subst (IsEntryRead place) c.in_default.is c.in_ok-entry.ensures.read)
 
 fewer : (c : goal.After-drop-entries-then-len-from) → length c.loop-version.entries.items < c.loop-version.version
 fewer c =
@@ -36,14 +36,14 @@ returns-then-len-from-clause-bad c =
     inl (
       c.requires.whole,
       used_behind c.args.bytes.now c.loop-version.version c.loop-version.entries.items c.in-Some.entry c.loop-version.invariant c.loop-version-test.true (fewer c)
-          (subst (IsRead place) c.in-Some.is c.in_ok-entry.ensures.read),
+          (subst (IsEntryRead place) c.in-Some.is c.in_ok-entry.ensures.read),
     )
 
 pub returns-then-len-from-clause-outside : goal.returns-then-len-from-clause-outside
 returns-then-len-from-clause-outside c = λ other.
     let place = place_bytes c.loop-version.version c.args.bytes.now in
     none_behind c.args.bytes.now c.loop-version.version c.loop-version.entries.items c.in-Some.entry c.loop-version.invariant c.loop-version-test.true (fewer c)
-    (subst (IsRead place) c.in-Some.is c.in_ok-entry.ensures.read)
+    (subst (IsEntryRead place) c.in-Some.is c.in_ok-entry.ensures.read)
 
 pub loop-version-preserved : goal.loop-version-preserved
 loop-version-preserved c =
@@ -52,7 +52,7 @@ loop-version-preserved c =
     let full : c.loop-version.version ≤ length c.loop-version.entries.items = omega (arith, c.if-len-from.false, c.len.ensures, c.from.ensures, items) in
     rw c.in_ok-push.ensures.items (
     used_read c.args.bytes.now c.loop-version.version c.loop-version.entries.items c.in-Some.entry c.loop-version.invariant full
-    (subst (IsRead place) c.in-Some.is c.in_ok-entry.ensures.read)
+    (subst (IsEntryRead place) c.in-Some.is c.in_ok-entry.ensures.read)
     )
 
 pub returns-clause-read : goal.returns-clause-read

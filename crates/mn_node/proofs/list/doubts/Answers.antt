@@ -1,20 +1,17 @@
-use Rattle.std.proofs.Common.{◌≡◌, [], List, length, reverse, ap, sym, ◌∙◌, arith}
-use Rattle.mn_mini.specs.declared.doubt.Doubt.{Doubt}
-use Rattle.mn_mini.specs.Node.{held_parts}
-use Rattle.mn_node.specs.Doubts.{placed}
-use Rattle.mn_node.proofs.Listing.{placed_last, placed_all, nil_of}
+use Rattle.std.proofs.Common.{List, ap, ◌∙◌, arith}
+use Rattle.mn_mini.specs.Node.{HeldPart, doubts_of}
+use Rattle.mn_node.proofs.Votes.{all_held, is_vote, next_held, next_listed}
 use Rattle.mn_node.proofs.list.doubts.Goals as goal
 
-pub loop-doubt-preserved : goal.loop-doubt-preserved
-loop-doubt-preserved c =
-    ap (λ (l : List Doubt). placed c.pop.new.self.items l) c.in_ok-place.ensures
-    ∙ sym (placed_last c.pop.new.self.items c.loop-doubt.doubts.items c.in-Some.doubt)
-    ∙ sym (ap (λ (l : List Doubt). placed l c.loop-doubt.doubts.items) c.in-Some.ensures.items)
-    ∙ c.loop-doubt.invariant
+pub doubt_of-requires : goal.doubt_of-requires
+doubt_of-requires c = record { vote = is_vote c.args.records.now c.args.held.now c.loop-vote.vote-index _ c.requires.held c.loop-vote-test.true }
+
+pub loop-vote-preserved : goal.loop-vote-preserved
+loop-vote-preserved c =
+    let next = next_held c.args.records.now c.args.held.now c.loop-vote.vote-index _ c.requires.held c.loop-vote-test.true in
+    next_listed c.args.records.now c.loop-vote.vote-index _ c.in_ok-doubt.doubt c.loop-vote.doubts.items c.place.new.doubts.items next c.in_ok-doubt.ensures c.in_ok-place.ensures c.loop-vote.invariant
 
 pub returns : goal.returns
 returns c =
-    let none : length c.loop-doubt.kept.items ≡ 0 = grind arith in
-    let empty = nil_of c.loop-doubt.kept.items none in
-    c.from_vec.ensures ∙ sym (ap (λ (l : List Doubt). placed l c.loop-doubt.doubts.items) empty) ∙ c.loop-doubt.invariant
-    ∙ ap (λ (l : List Doubt). placed l []) c.in_ok-kept.ensures ∙ placed_all (held_parts (reverse c.args.records.now))
+    let all = all_held c.args.records.now c.args.held.now c.loop-vote.vote-index c.requires.held (omega (arith, c.loop-vote-test.false)) in
+    c.from_vec.ensures ∙ c.loop-vote.invariant ∙ ap (λ (hs : List HeldPart). doubts_of hs) all

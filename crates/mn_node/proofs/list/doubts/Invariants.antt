@@ -1,9 +1,8 @@
-use Rattle.std.proofs.Common.{◌≡◌, [], vec_len}
-use Rattle.mn_node.specs.Doubts.{placed}
+use Rattle.std.proofs.Common.{◌≡◌}
+use Rattle.mn_mini.specs.Node.{doubts_of}
+use Rattle.mn_node.proofs.Votes.{first_held}
 use Rattle.mn_node.proofs.list.doubts.Given as goal
 
-abbrev pub invariant-loop-doubt : goal.invariant-loop-doubt
-invariant-loop-doubt l = placed l.kept.items l.doubts.items ≡ placed l.initial.kept.items []
-
-abbrev pub decreases-loop-doubt : goal.decreases-loop-doubt
-decreases-loop-doubt l = vec_len l.kept
+-- the ids of the first so many votes
+abbrev pub invariant-loop-vote : goal.invariant-loop-vote
+invariant-loop-vote l = l.doubts.items ≡ doubts_of (first_held l.records l.vote-index)

@@ -1,30 +1,23 @@
-use Rattle.std.proofs.Common.{List, ap, sym, ◌∙◌, reverse, take, arith}
+use Rattle.std.proofs.Common.{◌≡◌, true, Bool, List, ap, sym, ◌∙◌, arith, reverse, rules, if◌then◌else◌}
 use Rattle.mn_base.specs.Ids.{tid_same}
-use Rattle.mn_mini.specs.declared.record.Record.{Record}
-use Rattle.mn_mini.specs.Node.{held_parts, with_held}
-use Rattle.mn_mini.proofs.Layers.{not_held}
-use Rattle.mn_node.proofs.Decided.{more_turned, undecided_at}
+use Rattle.mn_mini.specs.Node.{HeldPart, held_parts, with_held}
+use Rattle.mn_node.proofs.Votes.{all_held, is_vote, next_held, next_written}
 use Rattle.mn_node.proofs.memory.write_decided.Goals as goal
 
-pub loop-number-init : goal.loop-number-init
-loop-number-init c = record {
-  behind = omega arith;
-  size = c.requires.size;
-  written = sym (not_held c.args.space.now (held_parts (reverse (take c.undecided_from-first.result c.args.records.now))) c.args.tid c.undecided_from-first.ensures.before);
-}
+pub write_vote-requires-clause-vote : goal.write_vote-requires-clause-vote
+write_vote-requires-clause-vote c = is_vote c.args.records.now c.args.held.now c.loop-vote.vote-index _ c.requires.held c.loop-vote-test.true
 
-pub write_vote-requires-clause-undecided : goal.write_vote-requires-clause-undecided
-write_vote-requires-clause-undecided c =
-    undecided_at c.args.tid c.args.records.now c.undecided_from-first.result c.loop-number.number c.index-records-number.result c.undecided_from-first.ensures.behind c.loop-number.invariant.behind c.loop-number-test.true c.index-records-number.is
-
-pub loop-number-preserved : goal.loop-number-preserved
-loop-number-preserved c =
-    let records = c.args.records.now in
-    let older = reverse (take c.loop-number.number records) in
+pub loop-vote-preserved : goal.loop-vote-preserved
+loop-vote-preserved c =
+    let next = next_held c.args.records.now c.args.held.now c.loop-vote.vote-index _ c.requires.held c.loop-vote-test.true in
     record {
-      behind = omega (arith, c.loop-number.invariant.behind);
-      size = c.write_vote.auto.space ∙ c.loop-number.invariant.size;
-      written =
-          c.write_vote.ensures older c.args.space.now c.loop-number.invariant.written
-          ∙ sym (ap (λ (l : List Record). with_held (λ t. tid_same t c.args.tid) c.args.space.now (held_parts l)) (more_turned records c.loop-number.number c.index-records-number.result c.loop-number-test.true c.index-records-number.is));
+      size = c.write_vote.auto.space ∙ c.loop-vote.invariant.size;
+      written = next_written c.args.records.now c.loop-vote.vote-index _ c.args.tid c.args.space.now c.loop-vote.space c.write_vote.new.space next c.write_vote.ensures c.loop-vote.invariant.written;
     }
+
+pub returns : goal.returns
+returns c =
+    let yes : c.args.yes ≡ true = search rules in
+    let all = all_held c.args.records.now c.args.held.now c.loop-vote.vote-index c.requires.held (omega (arith, c.loop-vote-test.false)) in
+    c.loop-vote.invariant.written ∙ ap (λ (hs : List HeldPart). with_held (λ t. tid_same t c.args.tid) c.args.space.now hs) all
+    ∙ sym (ap (λ (b : Bool). if b then with_held (λ t. tid_same t c.args.tid) c.args.space.now (held_parts (reverse c.args.records.now)) else c.args.space.now) yes)

@@ -1,7 +1,7 @@
 use Rattle.std.proofs.Common.{List, take, reverse, ap, sym, ◌∙◌}
 use Rattle.mn_mini.specs.declared.record.Record.{Record}
 use Rattle.mn_mini.specs.Node.{has_forced}
-use Rattle.mn_node.proofs.Listing.{next_record}
+use Rattle.mn_node.proofs.Replayed.{next_record}
 use Rattle.mn_node.proofs.replay.forced_of.Goals as goal
 
 pub loop-record-preserved : goal.loop-record-preserved

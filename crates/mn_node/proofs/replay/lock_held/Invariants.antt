@@ -1,5 +1,8 @@
-use Rattle.mn_node.proofs.Lasting.{AreLocked}
+use Rattle.std.proofs.Common.{◌≡◌}
+use Rattle.mn_node.specs.Part.{holds_by}
+use Rattle.mn_node.proofs.Votes.{first_held}
 use Rattle.mn_node.proofs.replay.lock_held.Given as goal
 
-abbrev pub invariant-loop-number : goal.invariant-loop-number
-invariant-loop-number l = AreLocked l.records l.number l.locks.holds l.held
+-- the parts of the first so many votes are locked
+abbrev pub invariant-loop-vote : goal.invariant-loop-vote
+invariant-loop-vote l = l.locks.holds ≡ holds_by (first_held l.records l.vote-index)

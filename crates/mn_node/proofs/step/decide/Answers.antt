@@ -9,6 +9,15 @@ use Rattle.mn_node.proofs.Moments.{at_weaker, with_record}
 use Rattle.mn_node.proofs.Steps.{up_added, stops_here, unasked}
 use Rattle.mn_node.proofs.step.decide.Goals as goal
 
+pub put-requires-clause-spare_body : goal.put-requires-clause-spare_body
+put-requires-clause-spare_body g c = let some = c.holds.ensures.some c.if-not-holds.false in omega (arith, some, c.requires.up.spare_bodies)
+
+pub put-requires-clause-spare_bytes : goal.put-requires-clause-spare_bytes
+put-requires-clause-spare_bytes g c =
+    let some = c.holds.ensures.some c.if-not-holds.false in
+    let size : length c.decided_body.result ≡ 11 = ap (λ (l : List ℕ). length l) c.decided_body.ensures in
+    omega (arith, some, size, c.requires.up.spare_bytes)
+
 pub returns-then-not-put-clause-handled : goal.returns-then-not-put-clause-handled
 returns-then-not-put-clause-handled g c =
     let records = c.args.memory.now.records.items in

@@ -44,6 +44,7 @@ returns-clause-kept g c = λ r spelled.
         held = more.held;
         records = more.records;
         forced = more.forced;
+        votes = more.votes;
         ranges = more.ranges;
         started = put.started;
         bodies = put.bodies ∙ ap (λ (b : List ℕ). mid.bodies ++ b ∷ []) spelled ∙ ap (λ (l : List (List ℕ)). l ++ record_bytes r ∷ []) up.bodies ∙ one_body_more m.records.items r;

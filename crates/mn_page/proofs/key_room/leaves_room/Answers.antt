@@ -1,6 +1,6 @@
 use Rattle.std.proofs.Common.{◌≡◌, ℕ, List, sym, subst}
 use Rattle.std.specs.Prelude.{option_map}
-use Rattle.mn_page.specs.KeyRoom.{HasRoom}
+use Rattle.mn_page.specs.KeyRoom.{HasRoomForKeys}
 use Rattle.mn_page.proofs.KeyRoom.{least_leaves}
 use Rattle.mn_page.proofs.key_room.leaves_room.Goals as goal
 
@@ -11,6 +11,6 @@ returns-in-Some c = λ low size front.
     let least = c.in-Some.ensures low size front in
     let same : c.as_slice.result.now ≡ c.in-Some.key.items = c.as_slice.ensures.value in
     let has = c.has_room.ensures c.as_slice.ensures.fits in (
-      λ yes. (c.in-Some.key.items, least.is, subst (λ (l : List ℕ). HasRoom l room.more high) same (has.0 yes)),
-      λ some. has.1 (subst (λ (l : List ℕ). HasRoom l room.more high) (sym same) (least_leaves room.least.now c.args.front.now c.args.size room.more high c.in-Some.key.items least some)),
+      λ yes. (c.in-Some.key.items, least.is, subst (λ (l : List ℕ). HasRoomForKeys l room.more high) same (has.0 yes)),
+      λ some. has.1 (subst (λ (l : List ℕ). HasRoomForKeys l room.more high) (sym same) (least_leaves room.least.now c.args.front.now c.args.size room.more high c.in-Some.key.items least some)),
     )

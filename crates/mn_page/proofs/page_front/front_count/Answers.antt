@@ -1,7 +1,7 @@
 use Rattle.std.proofs.Common.{◌≡◌, ◌≤◌, ◌-◌, ℕ, List, inl, inr, sym, subst, arith}
 use Rattle.std.specs.Prelude.{option_map}
 use Rattle.mn_base.proofs.Booleans.{clash}
-use Rattle.mn_page.specs.KeyRoom.{HasRoom}
+use Rattle.mn_page.specs.KeyRoom.{HasRoomForKeys}
 use Rattle.mn_page.specs.PageFronts.{IsCount, IsLeastOver, count_text}
 use Rattle.mn_page.proofs.Scanned.{are_bytes}
 use Rattle.mn_page.proofs.FrontFields.{begin_none, none_first}
@@ -27,7 +27,7 @@ returns-then-not-has_room c = λ fits some.
     (λ up. elim c.if-is_leaf.branch [ then-is_leaf w ↦ absurd (clash leaf w.if-is_leaf.true up) | else-is_leaf w ↦ w.keys-is ])
     (λ up. elim c.if-count-lt2.either [ inl two ↦ two.1 | inr flat ↦ absurd (clash leaf flat up) ]) in
     count_no leaf low least high c.in-Some.count c.if-is_leaf.keys c.in-Some.rest.now c.args.bytes.now c.in-Some.ensures.found of is (omega (arith, c.if-keys-gt0.true))
-    (λ yes. clash c.has_room.result (room.1 (subst (λ (l : List ℕ). HasRoom l (c.if-is_leaf.keys - 1) high) (sym same) yes)) c.if-not-has_room.true)
+    (λ yes. clash c.has_room.result (room.1 (subst (λ (l : List ℕ). HasRoomForKeys l (c.if-is_leaf.keys - 1) high) (sym same) yes)) c.if-not-has_room.true)
 
 pub returns : goal.returns
 returns c = λ fits some.
@@ -41,9 +41,9 @@ returns c = λ fits some.
     (λ flat. elim c.if-is_leaf.branch [ then-is_leaf w ↦ w.keys-is | else-is_leaf w ↦ absurd (clash leaf flat w.if-is_leaf.false) ])
     (λ up. elim c.if-is_leaf.branch [ then-is_leaf w ↦ absurd (clash leaf w.if-is_leaf.true up) | else-is_leaf w ↦ w.keys-is ])
     (λ up. elim c.if-count-lt2.either [ inl two ↦ two.1 | inr flat ↦ absurd (clash leaf flat up) ]) in
-    let has : 1 ≤ keys → HasRoom least (keys - 1) high = elim c.else-keys-gt0.branch [
+    let has : 1 ≤ keys → HasRoomForKeys least (keys - 1) high = elim c.else-keys-gt0.branch [
       | else-keys-gt0-via-then-keys-gt0+else-not-has_room w ↦ λ up. let same : w.as_slice.result.now ≡ least = w.as_slice.ensures.value in
-          subst (λ (l : List ℕ). HasRoom l (keys - 1) high) same ((w.has_room.ensures w.as_slice.ensures.fits).0 w.if-not-has_room.false)
+          subst (λ (l : List ℕ). HasRoomForKeys l (keys - 1) high) same ((w.has_room.ensures w.as_slice.ensures.fits).0 w.if-not-has_room.false)
       | else-keys-gt0-via-else-keys-gt0 w ↦ λ up. absurd (omega (arith, up, w.if-keys-gt0.false))
     ] in
     count_whole leaf low high c.in-Some.count keys c.in-Some.rest.now c.args.bytes.now c.in-Some.ensures.found of (omega (arith, c.if-count-gt8.false)) (keys_have leaf low least high keys is has)

@@ -6,7 +6,7 @@ use Rattle.mn_page.specs.Forest.{heads_in}
 use Rattle.mn_vtree.specs.Parents.{RefusesParents, numbers_of}
 use Rattle.mn_vtree.specs.declared.error.TreeError.{TreeError}
 use Rattle.mn_vtree.specs.declared.error.TreeError.TheVariants.{BadParent, NoMemory}
-use Rattle.mn_world.specs.Answers.{AreBelow}
+use Rattle.mn_world.specs.Answers.{ParentsAreBelow}
 use Rattle.mn_proxy.specs.Catalogs.{RefusesTree}
 use Rattle.mn_proxy.proofs.Bodies.{none_left}
 use Rattle.mn_proxy.proofs.Versions.{below, none_below, parents_are}
@@ -29,7 +29,7 @@ refused : (entries : List CatEntry) (parents : List (Option ℕ)) → parents �
     → (e : TreeError) → RefusesParents parents e → RefusesTree entries e
 refused entries parents are (BadParent v) bad =
     λ below'.
-    none_below parents v.0 bad (subst (λ (ps : List (Option ℕ)). AreBelow (reverse ps)) (sym are) below')
+    none_below parents v.0 bad (subst (λ (ps : List (Option ℕ)). ParentsAreBelow (reverse ps)) (sym are) below')
 refused entries parents are NoMemory bad = tt
 
 pub returns-clause-tree : goal.returns-clause-tree
@@ -38,7 +38,7 @@ returns-clause-tree c =
 
 pub returns-clause-below : goal.returns-clause-below
 returns-clause-below c =
-    on_ok_weaker c.new.result (λ less. subst (λ (ps : List (Option ℕ)). AreBelow (reverse ps)) (numbers c) (below (numbers_of c.deref.result.now) less)) c.new.ensures.less
+    on_ok_weaker c.new.result (λ less. subst (λ (ps : List (Option ℕ)). ParentsAreBelow (reverse ps)) (numbers c) (below (numbers_of c.deref.result.now) less)) c.new.ensures.less
 
 pub returns-clause-refused : goal.returns-clause-refused
 returns-clause-refused c =

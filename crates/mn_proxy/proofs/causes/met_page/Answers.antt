@@ -4,7 +4,7 @@ use Rattle.mn_base.specs.declared.answer.Busy.{Busy}
 use Rattle.mn_base.specs.declared.answer.Busy.TheVariants.{Path}
 use Rattle.mn_page.specs.declared.page.Page.{Page}
 use Rattle.mn_page.specs.Grammar.{IsFree, SpellsPage, height_of}
-use Rattle.mn_scan.specs.Front.{FrontState, is_on_path}
+use Rattle.mn_path.specs.Walk.{FrontState, is_on_path}
 use Rattle.mn_world.specs.Answers.{MeetsFault, ReachesAddr}
 use Rattle.mn_proxy.specs.Walks.{height_below}
 use Rattle.mn_proxy.proofs.Among.{page_is_bad, page_leads}

@@ -1,8 +1,8 @@
-use Rattle.mn_proxy.specs.Knows.{Keeps}
+use Rattle.mn_proxy.specs.Knows.{KeepsKnown}
 use Rattle.mn_proxy.specs.Scans.{WalksAlike}
 use Rattle.mn_proxy.specs.Walks.{IsAbove}
 use Rattle.mn_proxy.proofs.scan.reach_kept.Given as goal
 
 abbrev pub invariant-loop-level : goal.invariant-loop-level
 invariant-loop-level l =
-    Keeps l.fn.known l.known × IsAbove l.scan.above × WalksAlike l.fn.scan l.scan
+    KeepsKnown l.fn.known l.known × IsAbove l.scan.above × WalksAlike l.fn.scan l.scan

@@ -4,7 +4,7 @@ use Rattle.mn_world.specs.declared.entry.Entry.{Entry}
 use Rattle.mn_world.specs.Commits.{committed_by, memory_after_commit, flat_after}
 use Rattle.mn_world.specs.Run.{entries_of}
 use Rattle.mn_world.specs.Laws.{IsFlatRun}
-use Rattle.mn_world.specs.Standing.{Tells}
+use Rattle.mn_world.specs.Standing.{StandingTells}
 use Rattle.mn_world.proofs.Bytes.Flat.{flat_run}
 use Rattle.mn_world.proofs.flat.flat_after.Goals as goal
 
@@ -21,7 +21,7 @@ loop-entry-preserved c =
     let told = c.loop-entry.invariant.tells in
     record {
       long = c.in_ok-step.ensures.length;
-      tells = subst (λ (l : List Entry). Tells c.step.new.standing l) (sym more) (c.in_ok-step.ensures.tells past told);
+      tells = subst (λ (l : List Entry). StandingTells c.step.new.standing l) (sym more) (c.in_ok-step.ensures.tells past told);
       memory = c.step.ensures.memory past told
           ∙ (ap (λ (m : List (List ℕ)). memory_after_commit m (committed_by past c.loop-entry-item.result.1)) c.loop-entry.invariant.memory
           ∙ ap (λ (l : List Entry). flat_after c.args.start.now l) (sym more));

@@ -1,5 +1,5 @@
 use Rattle.std.proofs.Common.{◌+◌, ◌≤◌, List, ℕ, length, arith, ap, length-append, ◌∙◌, refl, sym, subst}
-use Rattle.mn_io.specs.DiskModel.{Torn, overwritten}
+use Rattle.mn_io.specs.DiskModel.{Torn, written_at}
 use Rattle.mn_memdisk.proofs.Growth.{whole_push, elapses_push, image_push, written}
 use Rattle.mn_memdisk.specs.declared.changes.Change.TheVariants.{LostWrite, Wrote}
 use Rattle.mn_memdisk.proofs.memory_disk.MemoryDiskDisk.write_at.Goals as goal
@@ -37,7 +37,7 @@ invariant_of-self-2 c =
     let within = rw (← c.self.view_is) at c.requires.within in
     let content = c.self.inside.content.items in
     whole_push _ _ _ _ _ c.args.piece.now _ _ _ (Wrote c.args.at c.len-from.result (length c.args.piece.now)) _ some pieces_are (rw c.unwrap-2.ensures at c.push-2.ensures.items) c.self.invariant has
-    (within (c.self.invariant.sound, c.self.invariant.shown)) (c.overwrite.ensures.bytes ∙ ap (λ (l : List ℕ). overwritten content c.args.at l) (sym own))
+    (within (c.self.invariant.sound, c.self.invariant.shown)) (c.overwrite.ensures.bytes ∙ ap (λ (l : List ℕ). written_at content c.args.at l) (sym own))
 
 pub returns-clause-time : goal.returns-clause-time
 returns-clause-time c _ =

@@ -1,5 +1,5 @@
 use Rattle.std.proofs.Common.{subst, sym}
-use Rattle.mn_recov.specs.Recovery.{AreBelow}
+use Rattle.mn_recov.specs.Recovery.{NodesAreBelow}
 use Rattle.mn_recov.proofs.Sound.{listed_below}
 use Rattle.mn_recov.proofs.recoverer.Recoverer.advance.Goals as goal
 
@@ -8,5 +8,5 @@ invariant_of-self c =
     let old = c.self.inside in
     record {
       id = c.self.invariant.id;
-      found = subst (AreBelow old.nodes) (sym c.listed.ensures) (listed_below old.tid old.nodes c.in-Looking.node c.args.reply);
+      found = subst (NodesAreBelow old.nodes) (sym c.listed.ensures) (listed_below old.tid old.nodes c.in-Looking.node c.args.reply);
     }

@@ -1,0 +1,5 @@
+//! Tests of a node.
+#![tactic(auto)]
+
+#[cfg(test)]
+mod nodes;

@@ -1,0 +1,5 @@
+//! Tests of the whole program.
+#![tactic(auto)]
+
+#[cfg(test)]
+mod programs;

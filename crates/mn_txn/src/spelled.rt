@@ -1,0 +1,64 @@
+ghost use Rattle.std.specs.Prelude.{◌≡◌, ◌≤◌, IfOk, length};
+ghost use Rattle.byteorder.specs.Endian.{big_bytes};
+ghost use Rattle.mn_page.specs.Grammar.{count_in, entry_bytes, page_bytes};
+ghost use Rattle.mn_page.specs.Space.{count_size, entry_start, slot_start};
+
+use crate::image::SLOTS_START;
+use byteorder::{BigEndian, ByteOrder};
+use mn_base::{Bytes, NoMemory, NodeNo, VersionNo};
+use mn_page::{CatEntry, Page};
+use std::alloc::Global;
+
+/// The node of the catalog.
+pub const CATALOG_NODE: NodeNo = NodeNo(0);
+
+/// Where the catalog begins, and how many bytes an entry has.
+const CATALOG_START: u32 = 64;
+
+const ENTRY_SIZE: u32 = 64;
+
+/// How many bytes a slot has.
+const SLOT_SIZE: u32 = 1_024;
+
+/// Where the entry of a version begins.
+pub fn entry_start(version: VersionNo) -> u32
+    ensures { result ≡ entry_start version.0 }
+{
+    CATALOG_START + ENTRY_SIZE * u32::from(version.0)
+}
+
+/// Where a slot begins.
+pub fn slot_start(slot: u16) -> u32
+    ensures { result ≡ slot_start slot }
+{
+    SLOTS_START + SLOT_SIZE * u32::from(slot)
+}
+
+/// The bytes of a page.
+pub fn page_bytes(alloc: Global, page: &Page) -> Result<Bytes, NoMemory>
+    requires few { count_in page.now.body ≤ 8 }
+    requires low { length page.now.low ≤ 32 }
+    ensures { IfOk result (λ bytes. bytes ≡ page_bytes page.now) }
+{
+    let mut bytes = [0u8; 1_024];
+    page.write(&mut bytes);
+    Ok(Bytes::from_vec(bytes.to_vec(alloc)?))
+}
+
+/// The bytes of an entry.
+pub fn entry_bytes(alloc: Global, entry: &CatEntry) -> Result<Bytes, NoMemory>
+    ensures { IfOk result (λ bytes. bytes ≡ entry_bytes entry.now) }
+{
+    let mut bytes = [0u8; 64];
+    entry.write(&mut bytes);
+    Ok(Bytes::from_vec(bytes.to_vec(alloc)?))
+}
+
+/// The bytes of a count.
+pub fn count_bytes(alloc: Global, count: u16) -> Result<Bytes, NoMemory>
+    ensures { IfOk result (λ bytes. bytes ≡ big_bytes count_size count) }
+{
+    let mut bytes = [0u8; 8];
+    BigEndian::write_u64(&mut bytes, u64::from(count));
+    Ok(Bytes::from_vec(bytes.to_vec(alloc)?))
+}
