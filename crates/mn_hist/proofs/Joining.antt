@@ -8,7 +8,7 @@ use Rattle.std.proofs.lemmas.Grind.{common_steps}
 use Rattle.std.proofs.lemmas.List.{append_assoc}
 use Rattle.mn_base.specs.Ids.{client_same, tid_same}
 use Rattle.mn_base.specs.Store.{Store, applied}
-use Rattle.mn_base.specs.History.{IsLegal}
+use Rattle.mn_base.specs.History.{IsLegal, store_after}
 use Rattle.mn_base.specs.declared.error.NoMemory.{NoMemory}
 use Rattle.mn_base.specs.declared.answer.Answer.{Answer}
 use Rattle.mn_base.specs.declared.history.Past.{Past}
@@ -259,3 +259,16 @@ done_more history new store after slots i x a p lt is some past left push =
     ∙ (ap (λ (q : Past). history ++ q ∷ done_from after (acts_in (drop (i + 1) slots))) past
     ∙ (ap (λ (s : Store). history ++ done_by store a ∷ done_from s (acts_in (drop (i + 1) slots))) left
     ∙ sym (ap (λ (l : List (Option Act)). history ++ done_from store (acts_in l)) (drop_at slots i x lt is ∙ ap (λ (y : Option Act). y ∷ drop (i + 1) slots) some)))))
+
+-- the store after what is left
+pub left_none : (store : Store) (slots : List (Option Act)) (i : ℕ) (x : Option Act) → i < length slots → x ≡ slice_index_or slots i x → x ≡ None
+    → store_after store (done_from store (acts_in (drop (i + 1) slots))) ≡ store_after store (done_from store (acts_in (drop i slots)))
+left_none store slots i x lt is none =
+    sym (ap (λ (l : List (Option Act)). store_after store (done_from store (acts_in l))) (drop_at slots i x lt is ∙ ap (λ (y : Option Act). y ∷ drop (i + 1) slots) none))
+
+pub left_more : (store after : Store) (slots : List (Option Act)) (i : ℕ) (x : Option Act) (a : Act) → i < length slots → x ≡ slice_index_or slots i x → x ≡ Some a
+    → after ≡ (applied store a.op).store
+    → store_after after (done_from after (acts_in (drop (i + 1) slots))) ≡ store_after store (done_from store (acts_in (drop i slots)))
+left_more store after slots i x a lt is some left =
+    ap (λ (s : Store). store_after s (done_from s (acts_in (drop (i + 1) slots)))) left
+    ∙ sym (ap (λ (l : List (Option Act)). store_after store (done_from store (acts_in l))) (drop_at slots i x lt is ∙ ap (λ (y : Option Act). y ∷ drop (i + 1) slots) some))

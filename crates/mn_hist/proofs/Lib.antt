@@ -9,3 +9,9 @@ pub mod Putting
 pub mod Planning
 pub mod Joining
 pub mod Telling
+pub mod Flags
+pub mod Watched
+pub mod Said
+pub mod Lines
+pub mod Moved
+pub mod Reported

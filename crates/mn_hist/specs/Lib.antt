@@ -2,3 +2,8 @@ pub mod Shown
 pub mod History
 pub mod Merging
 pub mod Told
+pub mod Points
+pub mod Audit
+pub mod Watching
+pub mod Saying
+pub mod Ending

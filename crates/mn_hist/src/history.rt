@@ -17,6 +17,8 @@ ghost use Rattle.mn_world.specs.Run.{IsRun};
 ghost use Rattle.mn_hist.specs.History.{planner_kept, planner_for, op_key, stands, IsPutInto};
 ghost use Rattle.mn_hist.specs.History.{TakesEntry, done_by, done_from, acts_in};
 ghost use Rattle.mn_hist.specs.Told.{IsReading, HasTold};
+ghost use Rattle.mn_hist.specs.Ending.{EndsIn};
+ghost use Rattle.mn_base.specs.History.{store_after};
 ghost use Rattle.mn_base.specs.Store.{applied};
 ghost use Rattle.mn_world.specs.CommitReader.{issued_of};
 ghost use Rattle.mn_world.specs.Commits.{committed_by};
@@ -218,12 +220,12 @@ impl<'a> Model for Act<'a> {
 
 /// An operation as it is looked up.
 #[derive(Clone, Copy, PartialEq, Eq, Hash)]
-struct OpKey {
+pub struct OpKey {
     client: u8,
     number: u32,
 }
 
-fn op_key(client: ClientNo, number: u32) -> OpKey
+pub fn op_key(client: ClientNo, number: u32) -> OpKey
     ensures { result ≡ op_key client number }
 {
     OpKey {
@@ -302,7 +304,7 @@ fn note_standing(
 }
 
 /// Whether the operation stands in the history.
-fn is_standing(standing: &HashSet<OpKey>, client: ClientNo, number: u32) -> bool
+pub fn is_standing(standing: &HashSet<OpKey>, client: ClientNo, number: u32) -> bool
     ensures { result ≡ stands standing.now client number }
 {
     standing.contains(&op_key(client, number))
@@ -545,15 +547,19 @@ fn done(alloc: Global, store: &mut Store, act: &Act<'_>) -> Result<Past, NoMemor
     })
 }
 
-/// The operations in these slots one after another, each with the store's reply.
-fn all_done(alloc: Global, start: &Store, slots: &[Option<Act<'_>>]) -> Result<History, NoMemory>
-    ensures { IfOk result (λ history. history ≡ done_from start.now (acts_in slots.now)) }
+/// Does the operations in these slots one after another, which tells each with the store's reply.
+fn all_done(
+    alloc: Global,
+    store: &mut Store,
+    slots: &[Option<Act<'_>>],
+) -> Result<History, NoMemory>
+    ensures history { IfOk result (λ history. history ≡ done_from store.old (acts_in slots.now)) }
+    ensures store { OnOk result (store.new ≡ store_after store.old (done_from store.old (acts_in slots.now))) }
 {
-    let mut store = start.try_copy(alloc)?;
     let mut history = Vec::new(alloc);
     for slot in slots {
         if let Some(act) = slot {
-            history.push(done(alloc, &mut store, act)?)?;
+            history.push(done(alloc, store, act)?)?;
         }
     }
     Ok(History::from_vec(history))
@@ -570,6 +576,29 @@ fn read_log<'a>(alloc: Global, log: &'a [(u64, Entry)]) -> Result<HistoryReader<
     Ok(reader)
 }
 
+/// What a log comes to: its history, the operations of that, and the store after them.
+#[derive(Drop)]
+pub struct Ending {
+    pub history: History,
+    pub standing: HashSet<OpKey>,
+    pub store: Store,
+}
+
+/// What the log comes to, from `start` on. NoMemory: as for `history_of`.
+pub fn ending_of(alloc: Global, start: &Store, log: &Log) -> Result<Ending, NoMemory>
+    ensures { (from : Start) → OpenedRun from start.now (entries_of log.now) → IfOk result (λ ending. (placed : List Placed) × EndsIn ending from start.now (entries_of log.now) placed) }
+{
+    runs_are_one_history();
+    let reader = read_log(alloc, log.as_slice())?;
+    let mut store = start.try_copy(alloc)?;
+    let history = all_done(alloc, &mut store, &reader.slots)?;
+    Ok(Ending {
+        history,
+        standing: reader.standing,
+        store,
+    })
+}
+
 /// The history of a log: each operation that was replied to, and each one of whose plans is
 /// committed, once, in order of place. A committed plan has its place at its commit, a scan's pairs
 /// at the operation's first read of the catalog, and each other reply at the last read that shows
@@ -583,7 +612,5 @@ pub fn history_of(alloc: Global, start: &Store, log: &Log) -> Result<History, No
     ensures history { (from : Start) → OpenedRun from start.now (entries_of log.now) → IfOk result (λ history. (placed : List Placed) × IsHistory (entries_of log.now) placed × (history ≡ pasts_of placed)) }
     ensures one { (from : Start) → OpenedRun from start.now (entries_of log.now) → IfOk result (λ history. (placed : List Placed) × IsOneHistory from start.now (entries_of log.now) placed × (history ≡ pasts_of placed)) }
 {
-    runs_are_one_history();
-    let reader = read_log(alloc, log.as_slice())?;
-    all_done(alloc, start, &reader.slots)
+    Ok(ending_of(alloc, start, log)?.history)
 }

@@ -1,11 +1,16 @@
-//! The one log of a run, from the lists of its actors, and what a client's reads show.
+//! The one log of a run, from the lists of its actors, its history, and its audit.
 #![tactic(auto)]
 
+mod answers;
+mod auditing;
 mod history;
 mod lists;
 mod merging;
+mod points;
 mod shown;
+mod versions;
 
+pub use auditing::audit;
 pub use history::history_of;
 pub use lists::{ClientLists, Lists, NodeLists};
 pub use merging::merge;

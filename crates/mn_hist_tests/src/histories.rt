@@ -1,12 +1,15 @@
-//! A small log on two nodes: what is committed, what is left in doubt, and what a read shows.
+//! A small log on two nodes: what is committed, what is left in doubt, what a read shows, and what
+//! is reported of it.
 use mn_base::{
     Addr, Answer, Bytes, ClientNo, Founds, History, Key, Listing, Name, NodeNo, Nodes, Op, Past,
-    Reply, Step, Steps, Tid, Value,
+    Reply, Step, Steps, StopAt, Tid, Value,
 };
-use mn_hist::history_of;
+use mn_hist::{audit, history_of};
 use mn_mini::{Item, Items, Minitransaction, NodeReply, Reads, Request};
 use mn_page::CatEntry;
 use mn_plain::Store;
+use mn_report::{LineAnswer, Report};
+use mn_script::read_script;
 use mn_world::{Entry, Log, What};
 use std::alloc::Global;
 use std::test::Fail;
@@ -147,7 +150,7 @@ fn worked(alloc: Global, kept: bool) -> Result<Log, Fail> {
         client: Some(ClientNo(0)),
         what: What::Stopped {
             request: Some(prepare(alloc, 0, 1)?),
-            asked: None,
+            asked: Some(if kept { StopAt::After } else { StopAt::Half }),
         },
     })?;
     entries.push(Entry {
@@ -230,5 +233,51 @@ fn a_vote_that_was_not_kept_leaves_no_operation(rt: HostRuntime) -> Result<(), F
     let start = Store::new(alloc)?;
     let history = history_of(alloc, &start, &worked(alloc, false)?)?;
     assert_eq!(rt; clients(alloc, &history)?.as_slice(), [2, 1].as_slice());
+    Ok(())
+}
+
+/// What the three clients of the log were to do, and where they and a node were to crash.
+const SCRIPT: &[u8] = b"nodes 2\n\
+    client a\n\
+    tx main get k ; put k a\n\
+    client b\n\
+    tx main get k ; put k b\n\
+    get main k\n\
+    client c\n\
+    versions\n\
+    kill a 1 votes 2\n\
+    stop 1 a 1 after\n\
+    stop 1 a 1 after\n";
+
+fn reported(alloc: Global, kept: bool) -> Result<Report, Fail> {
+    let script = read_script(alloc, SCRIPT)?;
+    let start = Store::new(alloc)?;
+    Ok(audit(alloc, &start, &worked(alloc, kept)?, &script)?)
+}
+
+/// What becomes of the one operation in doubt.
+fn is_committed(report: &Report) -> Option<bool> {
+    match report.doubts.as_slice() {
+        [doubt] => Some(doubt.committed),
+        _ => None,
+    }
+}
+
+#[test]
+fn a_report_tells_what_became_of_a_doubt_and_which_points_were_met(
+    rt: HostRuntime,
+) -> Result<(), Fail> {
+    let alloc = rt.alloc();
+    let report = reported(alloc, true)?;
+    assert_eq!(rt; is_committed(&report), Some(true));
+    // The second stop point fits as well, and the first one works.
+    assert_eq!(rt; report.points.as_slice(), [false, true, false].as_slice());
+    assert_eq!(rt; report.history.as_slice().len(), 3);
+    assert_eq!(rt; report.answers.as_slice().len(), 4);
+    assert!(rt; matches!(report.answers.as_slice()[2].answer, LineAnswer::Never));
+    let report = reported(alloc, false)?;
+    assert_eq!(rt; is_committed(&report), Some(false));
+    // It stopped elsewhere than the points say.
+    assert_eq!(rt; report.points.as_slice(), [false, false, false].as_slice());
     Ok(())
 }

@@ -1,8 +1,10 @@
 pub mod Among
+pub mod Attempts
 pub mod Bodies
 pub mod Cached
 pub mod Children
 pub mod Descents
 pub mod Scans
+pub mod Tries
 pub mod Versions
 pub mod Walks

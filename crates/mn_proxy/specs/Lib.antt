@@ -1,5 +1,6 @@
 pub mod Among
 pub mod Answers
+pub mod Attempts
 pub mod Bodies
 pub mod Catalogs
 pub mod Children
@@ -10,4 +11,5 @@ pub mod Places
 pub mod Refusals
 pub mod Scans
 pub mod Seen
+pub mod Tries
 pub mod Walks

@@ -1,8 +1,8 @@
-ghost use Rattle.std.specs.Prelude.{◌≡◌, IfOk, nat_lt};
+ghost use Rattle.std.specs.Prelude.{◌≡◌, IfOk, IfSome, nat_lt};
 ghost use Rattle.std.specs.Option.{option_map};
 ghost use Rattle.mn_page.specs.Grammar.{IsPage};
 ghost use Rattle.mn_proxy.specs.Catalogs.{found, refusal_by, root_by};
-ghost use Rattle.mn_proxy.specs.Knows.{KeepsKnown, LearnsFrom, lacks_catalog};
+ghost use Rattle.mn_proxy.specs.Knows.{ArePages, KeepsKnown, LearnsFrom, lacks_catalog};
 
 use crate::catalog::{Kept, kept_of};
 use crate::seen::is_leaf;
@@ -78,5 +78,18 @@ impl Known {
         }
         self.cache.put(alloc, addr, page.try_copy(alloc)?)?;
         Ok(())
+    }
+
+    /// The inner page that is kept of this address, once more. NoMemory: there was no memory for
+    /// it.
+    pub fn kept_page(&mut self, alloc: Global, addr: Addr) -> Result<Option<Page>, NoMemory>
+        requires pages { ArePages self.old.cache }
+        ensures kept { KeepsKnown self.old self.new }
+        ensures page { IfOk result (λ page. IfSome page IsPage) }
+    {
+        match self.cache.get(addr) {
+            Some(page) => Ok(Some(page.try_copy(alloc)?)),
+            None => Ok(None),
+        }
     }
 }

@@ -3,6 +3,7 @@
 //! that is out of date again with what it reads anew, up to eight times (Minuet, PVLDB 2012).
 #![tactic(auto)]
 
+mod attempt;
 mod catalog;
 mod causes;
 mod child;

@@ -1,6 +1,6 @@
 ghost use Rattle.std.specs.Prelude.{◌≡◌, Some};
 ghost use Rattle.mn_base.specs.declared.answer.Busy.TheVariants.{Path};
-ghost use Rattle.mn_proxy.specs.Answers.{full_by};
+ghost use Rattle.mn_proxy.specs.Answers.{full_by, worn_by};
 
 use mn_base::{Addr, Answer, Busy, NodeNo, Reply};
 use mn_mini::Minitransaction;
@@ -56,6 +56,19 @@ pub fn full(need: u32, free: u32, later: bool) -> Next
     if later {
         Next::Answers {
             answer: Answer::Full { need, free },
+        }
+    } else {
+        Next::Fails { cause: None }
+    }
+}
+
+/// A place is worn: the answer of a later try. The first fails so.
+pub fn worn(node: NodeNo, start: u32, later: bool) -> Next
+    ensures { result ≡ worn_by later node start }
+{
+    if later {
+        Next::Answers {
+            answer: Answer::Worn { node, start },
         }
     } else {
         Next::Fails { cause: None }

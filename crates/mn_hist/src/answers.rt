@@ -1,0 +1,248 @@
+//! What a log says of the operations of a script.
+ghost use Rattle.std.specs.Prelude.{◌≡◌, ◌++◌, ◌&&◌, ◌∷◌, ℕ, List, IfOk, OnOk, if◌then◌else◌, nat_eq, map, flat_map, length};
+ghost use Rattle.mn_base.specs.Ids.{client_same};
+ghost use Rattle.mn_base.specs.declared.ids.ClientNo.{ClientNo as Who};
+ghost use Rattle.mn_world.specs.declared.entry.Entry.{Entry as Step};
+ghost use Rattle.mn_world.specs.Run.{entries_of};
+ghost use Rattle.mn_hist.specs.Audit.{answer_line, answers_from, numbers_of, is_doubtful, doubt_at, doubt_lines, doubts_from};
+ghost use Rattle.mn_hist.specs.History.{stands};
+ghost use Rattle.mn_hist.specs.Saying.{said_kept, Says};
+
+use crate::history::{OpKey, is_standing, op_key};
+use mn_base::{Answer, ClientNo, Name, NoMemory, TryCopy};
+use mn_report::{AnswerLine, AnswerLines, DoubtLine, LineAnswer, Outcomes};
+use mn_script::ScriptClient;
+use mn_world::{Entry, What};
+use std::alloc::Global;
+use std::collections::{HashMap, HashSet};
+use std::marker::Model;
+
+/// What is said of an operation that was begun: its answer, or that it has none.
+#[derive(Drop)]
+pub struct Said<'a> {
+    answer: Option<&'a Answer>,
+}
+
+impl<'a> Model for Said<'a> {
+    ghost use Rattle.std.specs.Option.{option_map};
+    ghost use Rattle.mn_report.specs.declared.lines.LineAnswer.{LineAnswer};
+    ghost use Rattle.mn_hist.specs.Saying.{said_of};
+
+    ghost Value = { LineAnswer };
+
+    ghost view = { λ s. said_of (option_map (λ a. a.now) s.answer) };
+}
+
+/// Notes what is said of an operation from now on.
+fn note_said<'a>(
+    said: &mut HashMap<OpKey, Said<'a>>,
+    client: ClientNo,
+    number: u32,
+    one: Said<'a>,
+) -> Result<(), NoMemory>
+    ensures { OnOk result ((c : Who) (n : ℕ) → said_kept said.new c n ≡ (if client_same client c && nat_eq number n then one.entry else said_kept said.old c n)) }
+{
+    said.insert(op_key(client, number), one)?;
+    Ok(())
+}
+
+/// Notes what the entry says of an operation of its client.
+fn note_entry<'a>(said: &mut HashMap<OpKey, Said<'a>>, entry: &'a Entry) -> Result<(), NoMemory>
+    ensures { OnOk result ((past : List Step) → Says said.old past → Says said.new (entry.now ∷ past)) }
+{
+    match (entry.client, &entry.what) {
+        (Some(client), What::Begin { number, .. }) => {
+            note_said(said, client, *number, Said { answer: None })
+        }
+        (Some(client), What::Answered { number, answer }) => {
+            let answer = Some(answer);
+            note_said(said, client, *number, Said { answer })
+        }
+        _ => Ok(()),
+    }
+}
+
+/// What the log says of each operation. NoMemory: there was no memory for it.
+pub fn said_in<'a>(
+    alloc: Global,
+    log: &'a [(u64, Entry)],
+) -> Result<HashMap<OpKey, Said<'a>>, NoMemory>
+    ensures { IfOk result (λ said. Says said (entries_of log.now)) }
+{
+    let mut said = HashMap::new(alloc);
+    for (_, entry) in log {
+        note_entry(&mut said, entry)?;
+    }
+    Ok(said)
+}
+
+/// What is said of an operation.
+fn line_answer(
+    alloc: Global,
+    said: &HashMap<OpKey, Said<'_>>,
+    client: ClientNo,
+    number: u32,
+) -> Result<LineAnswer, NoMemory>
+    ensures { IfOk result (λ answer. answer ≡ said_kept said.now client number) }
+{
+    let Some(one) = said.get(&op_key(client, number)) else {
+        return Ok(LineAnswer::Never);
+    };
+    match one.answer {
+        Some(answer) => Ok(LineAnswer::Answered {
+            answer: answer.try_copy(alloc)?,
+        }),
+        None => Ok(LineAnswer::Died),
+    }
+}
+
+/// Whether the client of the operation didn't learn whether it took effect.
+fn is_doubtful(said: &HashMap<OpKey, Said<'_>>, client: ClientNo, number: u32) -> bool
+    ensures { result ≡ is_doubtful (said_kept said.now client number) }
+{
+    let Some(one) = said.get(&op_key(client, number)) else {
+        return false;
+    };
+    match one.answer {
+        Some(answer) => matches!(answer, Answer::InDoubt { .. }),
+        None => true,
+    }
+}
+
+/// The line of an operation.
+fn answer_line(
+    alloc: Global,
+    said: &HashMap<OpKey, Said<'_>>,
+    number_of_client: ClientNo,
+    client: &ScriptClient,
+    number: u32,
+) -> Result<AnswerLine, NoMemory>
+    ensures { IfOk result (λ line. line ≡ answer_line (said_kept said.now) number_of_client client.now number) }
+{
+    Ok(AnswerLine {
+        client: client.name.try_copy(alloc)?,
+        number,
+        answer: line_answer(alloc, said, number_of_client, number)?,
+    })
+}
+
+/// How many operations the client has. NoMemory: more than a number of an operation counts.
+fn op_count(client: &ScriptClient) -> Result<u32, NoMemory>
+    ensures { IfOk result (λ count. count ≡ length client.now.ops) }
+{
+    match u32::try_from(client.ops.as_slice().len()) {
+        Ok(count) => Ok(count),
+        Err(_) => Err(NoMemory),
+    }
+}
+
+/// Adds the lines of a client's operations.
+fn push_answers(
+    alloc: Global,
+    lines: &mut Vec<AnswerLine>,
+    said: &HashMap<OpKey, Said<'_>>,
+    number_of_client: ClientNo,
+    client: &ScriptClient,
+) -> Result<(), NoMemory>
+    ensures { OnOk result (lines.new.items ≡ lines.old.items ++ map (answer_line (said_kept said.now) number_of_client client.now) (numbers_of client.now)) }
+{
+    let count = op_count(client)?;
+    for before in 0..count {
+        let number = before + 1;
+        lines.push(answer_line(alloc, said, number_of_client, client, number)?)?;
+    }
+    Ok(())
+}
+
+/// The number of the client at this place. NoMemory: there is no such number.
+fn client_at(at: usize) -> Result<ClientNo, NoMemory>
+    ensures { IfOk result (λ client. client ≡ record { 0 = at }) }
+{
+    match u8::try_from(at) {
+        Ok(number) => Ok(ClientNo(number)),
+        Err(_) => Err(NoMemory),
+    }
+}
+
+/// The lines of the clients, each with its operations in order. NoMemory: there was no memory for
+/// them.
+pub fn answers_of(
+    alloc: Global,
+    said: &HashMap<OpKey, Said<'_>>,
+    clients: &[ScriptClient],
+) -> Result<AnswerLines, NoMemory>
+    ensures { IfOk result (λ lines. lines ≡ answers_from (said_kept said.now) 0 clients.now) }
+{
+    let mut lines = Vec::new(alloc);
+    for (at, client) in clients.iter().enumerate() {
+        push_answers(alloc, &mut lines, said, client_at(at)?, client)?;
+    }
+    Ok(AnswerLines::from_vec(lines))
+}
+
+/// Adds the line of an operation, if it is in doubt.
+fn push_doubt(
+    alloc: Global,
+    lines: &mut Vec<DoubtLine>,
+    said: &HashMap<OpKey, Said<'_>>,
+    committed: &HashSet<OpKey>,
+    number_of_client: ClientNo,
+    name: &Name,
+    number: u32,
+) -> Result<(), NoMemory>
+    ensures { OnOk result (lines.new.items ≡ lines.old.items ++ doubt_lines (said_kept said.now number_of_client number) name.now number (stands committed.now number_of_client number)) }
+{
+    if !is_doubtful(said, number_of_client, number) {
+        return Ok(());
+    }
+    lines.push(DoubtLine {
+        client: name.try_copy(alloc)?,
+        number,
+        committed: is_standing(committed, number_of_client, number),
+    })?;
+    Ok(())
+}
+
+/// Adds the lines of a client's operations in doubt.
+fn push_doubts(
+    alloc: Global,
+    lines: &mut Vec<DoubtLine>,
+    said: &HashMap<OpKey, Said<'_>>,
+    committed: &HashSet<OpKey>,
+    number_of_client: ClientNo,
+    client: &ScriptClient,
+) -> Result<(), NoMemory>
+    ensures { OnOk result (lines.new.items ≡ lines.old.items ++ flat_map (doubt_at (said_kept said.now) (stands committed.now) number_of_client client.now) (numbers_of client.now)) }
+{
+    let count = op_count(client)?;
+    for before in 0..count {
+        let number = before + 1;
+        push_doubt(
+            alloc,
+            lines,
+            said,
+            committed,
+            number_of_client,
+            &client.name,
+            number,
+        )?;
+    }
+    Ok(())
+}
+
+/// For each operation in doubt, client after client, whether it took effect: whether it is one of
+/// these. NoMemory: there was no memory for the lines.
+pub fn doubts_of(
+    alloc: Global,
+    said: &HashMap<OpKey, Said<'_>>,
+    committed: &HashSet<OpKey>,
+    clients: &[ScriptClient],
+) -> Result<Outcomes, NoMemory>
+    ensures { IfOk result (λ lines. lines ≡ doubts_from (said_kept said.now) (stands committed.now) 0 clients.now) }
+{
+    let mut lines = Vec::new(alloc);
+    for (at, client) in clients.iter().enumerate() {
+        push_doubts(alloc, &mut lines, said, committed, client_at(at)?, client)?;
+    }
+    Ok(Outcomes::from_vec(lines))
+}

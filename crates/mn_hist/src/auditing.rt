@@ -1,0 +1,72 @@
+//! The audit of a log: the report on what a script's operations came to.
+ghost use Rattle.std.specs.Prelude.{◌≡◌, IfOk, map};
+ghost use Rattle.mn_report.specs.Report.{CanReport};
+ghost use Rattle.mn_world.specs.Meaning.{OpenedRun};
+ghost use Rattle.mn_world.specs.Protocol.{Start};
+ghost use Rattle.mn_world.specs.Run.{entries_of};
+ghost use Rattle.mn_hist.specs.Audit.{name_of, ranked_as, IsAudit};
+
+use crate::answers::{answers_of, doubts_of, said_in};
+use crate::history::ending_of;
+use crate::points::points_met;
+use crate::versions::versions_of;
+use mn_base::{ClientNo, Name, NoMemory, Past, TryCopy};
+use mn_plain::Store;
+use mn_report::{Flags, Ranked, Ranks, Report};
+use mn_script::{Script, ScriptClient};
+use mn_world::Log;
+use std::alloc::Global;
+
+/// The name of a client. NoMemory: there was no memory for it, or the script has no such client.
+fn name_of(alloc: Global, clients: &[ScriptClient], client: ClientNo) -> Result<Name, NoMemory>
+    ensures { IfOk result (λ name. name ≡ name_of clients.now client) }
+{
+    match clients.get(usize::from(client.0)) {
+        Some(client) => client.name.try_copy(alloc),
+        None => Err(NoMemory),
+    }
+}
+
+/// The operations of the history, by the names of their clients.
+fn ranks_of(alloc: Global, clients: &[ScriptClient], history: &[Past]) -> Result<Ranks, NoMemory>
+    ensures { IfOk result (λ ranks. ranks ≡ map (ranked_as clients.now) history.now) }
+{
+    let mut ranks = Vec::new(alloc);
+    for past in history {
+        ranks.push(Ranked {
+            client: name_of(alloc, clients, past.client)?,
+            number: past.number,
+        })?;
+    }
+    Ok(Ranks::from_vec(ranks))
+}
+
+/// The report on a log that a script's clients made from a store on: what each operation was
+/// answered, the history with its ranks, whether each operation in doubt took effect, which crash
+/// points were met, and the versions of the store after the history. In doubt is an operation that
+/// was answered so, or that was begun and has no answer. It takes time linear in the entries and
+/// operations, beside what the store takes.
+///
+/// NoMemory: as for `history_of`. Where another than a client of the script has an operation in the
+/// history, always.
+pub fn audit(alloc: Global, start: &Store, log: &Log, script: &Script) -> Result<Report, NoMemory>
+    ensures audit { (from : Start) → OpenedRun from start.now (entries_of log.now) → IfOk result (IsAudit from start.now script.now (entries_of log.now)) }
+    ensures can_report { (from : Start) → OpenedRun from start.now (entries_of log.now) → IfOk result CanReport }
+{
+    let entries = log.as_slice();
+    let clients = script.clients();
+    let ending = ending_of(alloc, start, log)?;
+    let said = said_in(alloc, entries)?;
+    let answers = answers_of(alloc, &said, clients)?;
+    let history = ranks_of(alloc, clients, ending.history.as_slice())?;
+    let doubts = doubts_of(alloc, &said, &ending.standing, clients)?;
+    let points = points_met(alloc, script.points(), entries)?;
+    let versions = versions_of(alloc, &ending.store)?;
+    Ok(Report {
+        answers,
+        history,
+        doubts,
+        points: Flags::from_vec(points),
+        versions,
+    })
+}
