@@ -1,5 +1,0 @@
-//! Tests of the steps of a transaction on a tree.
-#![tactic(auto)]
-
-#[cfg(test)]
-mod tree;
