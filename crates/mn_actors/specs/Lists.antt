@@ -1,5 +1,6 @@
 -- The lists that a pass owns, and what each call does to them.
-use Rattle.std.specs.Prelude.{ℕ, ◌≡◌, ◌+◌, ◌^◌, ◌<◌, max, false, Option, Some, None, List, [], ◌∷◌, ◌++◌, length, slice_index_or}
+use Rattle.std.specs.Prelude.{ℕ, ◌≡◌, ◌+◌, ◌^◌, ◌<◌, max, false, Option, Some, None, List, [], ◌∷◌}
+use Rattle.std.specs.Prelude.{◌++◌, length, slice_index_or}
 use Rattle.mn_base.specs.declared.ids.NodeNo.{NodeNo}
 use Rattle.mn_base.specs.declared.ids.ClientNo.{ClientNo}
 use Rattle.mn_actors.specs.declared.actor.Actor.{Actor}
@@ -57,7 +58,8 @@ module _ {E : Type 0} where
 
   -- the pass may add the line: it owns the actors, of which there is one at least, and the line is
   -- legal by their lists
-  pub record MayAppend (legal : List (ℕ × E) → List (ℕ × E) → Line E → Type 0) (v : View E) (x : Line E) : Type 0 where
+  pub record MayAppend (legal : List (ℕ × E) → List (ℕ × E) → Line E → Type 0) (v : View E)
+      (x : Line E) : Type 0 where
     pub some_actor : SomeActor x.node x.client
     pub node_room : NodeRoom v x.node
     pub client_room : ClientRoom v x.client

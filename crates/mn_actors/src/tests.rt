@@ -55,12 +55,18 @@ fn both<R: Threads + Sync>(rt: &R, alloc: Global) -> Option<(bool, bool, u64)> {
     let (mut one, two) = thread::join(
         rt,
         move || -> Pass<Turns>
-            requires { (board_of pass ≡ id_of shared.now) × (held (view_of pass) (node_at 0) ≡ Some []) × (held (view_of pass) (client_at 0) ≡ Some []) }
-            ensures { (board_of result ≡ board_of pass) × ((a : Who) → Owns (view_of pass) a → Owns (view_of result) a) }
+            requires { (board_of pass ≡ id_of shared.now)
+                × (held (view_of pass) (node_at 0) ≡ Some [])
+                × (held (view_of pass) (client_at 0) ≡ Some []) }
+            ensures { (board_of result ≡ board_of pass)
+                × ((a : Who) → Owns (view_of pass) a → Owns (view_of result) a) }
         { work(shared, pass, NodeNo(0), ClientNo(0)) },
         move || -> Pass<Turns>
-            requires { (board_of other ≡ id_of shared.now) × (held (view_of other) (node_at 1) ≡ Some []) × (held (view_of other) (client_at 1) ≡ Some []) }
-            ensures { (board_of result ≡ board_of other) × ((a : Who) → Owns (view_of other) a → Owns (view_of result) a) }
+            requires { (board_of other ≡ id_of shared.now)
+                × (held (view_of other) (node_at 1) ≡ Some [])
+                × (held (view_of other) (client_at 1) ≡ Some []) }
+            ensures { (board_of result ≡ board_of other)
+                × ((a : Who) → Owns (view_of other) a → Owns (view_of result) a) }
         { work(shared, other, NodeNo(1), ClientNo(1)) },
     );
     board.join(&mut one, two);

@@ -1,5 +1,6 @@
 -- New slots: which nodes they go to.
-use Rattle.std.specs.Prelude.{◌≡◌, ℕ, zero, suc, ◌+◌, ◌-◌, ◌<◌, nat_eq, min, List, [], ◌∷◌, sum_by, slice_index, slice_set}
+use Rattle.std.specs.Prelude.{◌≡◌, ℕ, zero, suc, ◌+◌, ◌-◌, ◌<◌, nat_eq, min, List, [], ◌∷◌, sum_by}
+use Rattle.std.specs.Prelude.{slice_index, slice_set}
 use Rattle.std.specs.List.{position_or_len}
 use Rattle.mn_base.specs.declared.ids.Addr.{Addr}
 use Rattle.mn_alloc.specs.declared.error.AllocError.{AllocError}
@@ -18,7 +19,8 @@ next_node counts = position_or_len (λ count. nat_eq count (fewest counts)) coun
 
 -- its first slot that is not given out
 abbrev pub next_slot : List ℕ → Addr
-next_slot counts = record { node = record { 0 = next_node counts }; slot = slice_index counts (next_node counts) }
+next_slot counts =
+    record { node = record { 0 = next_node counts }; slot = slice_index counts (next_node counts) }
 
 -- the counts when that slot is given out too
 abbrev pub one_given : List ℕ → List ℕ

@@ -1,6 +1,8 @@
-ghost use Rattle.std.specs.Prelude.{◌≡◌, ℕ, ◌+◌, ◌<◌, ◌≤◌, ◌∷◌, ◌++◌, [], length, slice_index, All, EachIndex, IfOk, IfErr, OnOk};
+ghost use Rattle.std.specs.Prelude.{◌≡◌, ℕ, ◌+◌, ◌<◌, ◌≤◌, ◌∷◌, ◌++◌, [], length, slice_index, All};
+ghost use Rattle.std.specs.Prelude.{EachIndex, IfOk, IfErr, OnOk};
 ghost use Rattle.mn_alloc.specs.declared.plan.TheConstants.{SLOTS};
-ghost use Rattle.mn_alloc.specs.Plan.{next_node, next_slot, one_given, new_slots, free_slots, RefusesPlan};
+ghost use Rattle.mn_alloc.specs.Plan.{next_node, next_slot, one_given, new_slots, free_slots};
+ghost use Rattle.mn_alloc.specs.Plan.{RefusesPlan};
 
 use crate::AllocError;
 use mn_base::{Addr, Counts, NodeNo, Slots};
@@ -23,7 +25,8 @@ fn next_of(counts: &[u16]) -> usize
     requires { (1 ≤ length counts.now) × (length counts.now ≤ 8) }
     ensures node { result ≡ next_node counts.now }
     ensures there { result < length counts.now }
-    ensures fewest { EachIndex counts.now (λ k. slice_index counts.now result ≤ slice_index counts.now k) }
+    ensures fewest { EachIndex counts.now
+        (λ k. slice_index counts.now result ≤ slice_index counts.now k) }
 {
     let mut node = 0;
     for (other, count) in counts.iter().enumerate() {
@@ -64,7 +67,8 @@ pub fn plan_slots(alloc: Global, counts: &Counts, need: u32) -> Result<Slots, Al
     requires given { All (λ count. count ≤ SLOTS) counts.now }
     ensures slots { IfOk result (λ slots. slots ≡ new_slots need counts.now) }
     ensures number { IfOk result (λ slots. length slots ≡ need) }
-    ensures range { IfOk result (λ slots. All (λ slot. (slot.node.0 < length counts.now) × (slot.slot < SLOTS)) slots) }
+    ensures range { IfOk result (λ slots.
+        All (λ slot. (slot.node.0 < length counts.now) × (slot.slot < SLOTS)) slots) }
     ensures free { OnOk result (need ≤ free_slots counts.now) }
     ensures refused { IfErr result (RefusesPlan counts.now need) }
 {

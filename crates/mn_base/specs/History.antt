@@ -13,7 +13,8 @@ store_after start (past ∷ history) = store_after (applied start past.op).store
 -- each reply is the store's, in the state that the operations before it leave
 abbrev pub IsLegal : Store → List Past → Type 0
 IsLegal start [] = ⊤
-IsLegal start (past ∷ history) = (past.reply ≡ (applied start past.op).reply) × IsLegal (applied start past.op).store history
+IsLegal start (past ∷ history) =
+    (past.reply ≡ (applied start past.op).reply) × IsLegal (applied start past.op).store history
 
 -- the replies to operations that are done one after another, and the store that they leave
 abbrev pub replies_of : Store → List Op → List Reply
@@ -26,10 +27,14 @@ store_after_ops start (op ∷ ops) = store_after_ops (applied start op).store op
 
 -- a legal history goes on with what the store replies next
 abbrev pub HistoryGoesOn : Type 0
-HistoryGoesOn = (start : Store) (history : List Past) (past : Past) → IsLegal start history → past.reply ≡ (applied (store_after start history) past.op).reply → IsLegal start (history ++ past ∷ [])
+HistoryGoesOn =
+    (start : Store) (history : List Past) (past : Past) → IsLegal start history
+    → past.reply ≡ (applied (store_after start history) past.op).reply
+    → IsLegal start (history ++ past ∷ [])
 
 -- a frozen version stays as it is, whatever is done
 abbrev pub FrozenStays : Type 0
 FrozenStays =
-    (start : Store) (history : List Past) (v : ℕ) (version : StoreVersion) → slice_get start v ≡ Some version → version.head.frozen ≡ true
+    (start : Store) (history : List Past) (v : ℕ) (version : StoreVersion)
+    → slice_get start v ≡ Some version → version.head.frozen ≡ true
     → slice_get (store_after start history) v ≡ Some version

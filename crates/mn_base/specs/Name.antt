@@ -1,5 +1,6 @@
 -- Names of versions and clients.
-use Rattle.std.specs.Prelude.{◌≤◌, ℕ, ◌+◌, Bool, ◌&&◌, ◌||◌, IsTrue, List, [], ◌∷◌, length, nat_le, nat_lt, Option, Some, None, if◌then◌else◌}
+use Rattle.std.specs.Prelude.{◌≤◌, ℕ, ◌+◌, Bool, ◌&&◌, ◌||◌, IsTrue, List, [], ◌∷◌, length, nat_le}
+use Rattle.std.specs.Prelude.{nat_lt, Option, Some, None, if◌then◌else◌}
 use Rattle.std.specs.List.{list_all}
 
 -- a letter from `a` to `z` or a digit

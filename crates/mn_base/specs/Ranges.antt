@@ -1,5 +1,6 @@
 -- Ranges that meet, and the least of the ids that hold them.
-use Rattle.std.specs.Prelude.{◌+◌, Bool, nat_lt, min, max, List, [], ◌∷◌, Option, Some, None, if◌then◌else◌}
+use Rattle.std.specs.Prelude.{◌+◌, Bool, nat_lt, min, max, List, [], ◌∷◌, Option, Some, None}
+use Rattle.std.specs.Prelude.{if◌then◌else◌}
 use Rattle.mn_base.specs.Ids.{tid_lt}
 use Rattle.mn_base.specs.declared.ids.Tid.{Tid}
 use Rattle.mn_base.specs.declared.ids.Range.{Range}

@@ -2,7 +2,8 @@
 use Rattle.std.specs.Prelude.{◌≡◌, ◌<◌, ◌⊎◌, ℕ, List, [], length, Some}
 use Rattle.mn_base.specs.Name.{IsName, name_fault}
 use Rattle.mn_base.specs.declared.error.BaseError.{BaseError}
-use Rattle.mn_base.specs.declared.error.BaseError.TheVariants.{Empty, TooLong, BadName, BadSteps, NoMemory}
+use Rattle.mn_base.specs.declared.error.BaseError.TheVariants.{Empty, TooLong, BadName, BadSteps}
+use Rattle.mn_base.specs.declared.error.BaseError.TheVariants.{NoMemory}
 
 -- a key has at least one byte and at most 32
 abbrev pub RefusesKey : List ℕ → BaseError → Type 0

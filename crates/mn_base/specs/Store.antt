@@ -1,5 +1,7 @@
 -- The store: its versions, and what an operation does to them.
-use Rattle.std.specs.Prelude.{ℕ, ◌+◌, Bool, true, false, not, ◌&&◌, nat_le, List, [], ◌∷◌, ◌++◌, length, map, take, Option, Some, None, is_some, if◌then◌else◌, slice_get, option_map, option_and_then, unwrap_or, filter, bytes_eq}
+use Rattle.std.specs.Prelude.{ℕ, ◌+◌, Bool, true, false, not, ◌&&◌, nat_le, List, [], ◌∷◌, ◌++◌}
+use Rattle.std.specs.Prelude.{length, map, take, Option, Some, None, is_some, if◌then◌else◌}
+use Rattle.std.specs.Prelude.{slice_get, option_map, option_and_then, unwrap_or, filter, bytes_eq}
 use Rattle.std.specs.List.{list_any}
 use Rattle.std.specs.Option.{option_eq}
 use Rattle.mn_base.specs.Order.{key_lt, covers_key}
@@ -8,7 +10,9 @@ use Rattle.mn_base.specs.declared.op.Step.TheVariants.{Get, Put, Del, Check}
 use Rattle.mn_base.specs.declared.op.Op.{Op}
 use Rattle.mn_base.specs.declared.op.Op.TheVariants.{Tx, Snapshot, Branch, Scan, Versions}
 use Rattle.mn_base.specs.declared.reply.Reply.{Reply}
-use Rattle.mn_base.specs.declared.reply.Reply.TheVariants.{Values, Unmet, Made, Pairs, Listing, NoVersion, Frozen, NotFrozen, NameTaken, VersionsFull}
+use Rattle.mn_base.specs.declared.reply.Reply.TheVariants.{Values, Unmet, Made, Pairs, Listing}
+use Rattle.mn_base.specs.declared.reply.Reply.TheVariants.{NoVersion, Frozen, NotFrozen, NameTaken}
+use Rattle.mn_base.specs.declared.reply.Reply.TheVariants.{VersionsFull}
 use Rattle.mn_base.specs.declared.reply.Pair.{Pair}
 use Rattle.mn_base.specs.declared.reply.Version.{Version}
 
@@ -37,7 +41,8 @@ main_name = 109 ∷ 97 ∷ 105 ∷ 110 ∷ []
 
 -- the writable `main` without a parent, with these pairs
 abbrev pub main_version : List Pair → StoreVersion
-main_version pairs = record { head = record { name = main_name; parent = None; frozen = false }; pairs = pairs }
+main_version pairs =
+    record { head = record { name = main_name; parent = None; frozen = false }; pairs = pairs }
 
 -- the store whose one version it is
 abbrev pub main_store : List Pair → Store
@@ -62,7 +67,8 @@ abbrev pub pairs_with : List Pair → List ℕ → List ℕ → List Pair
 pairs_with [] key value = record { key = key; value = value } ∷ []
 pairs_with (p ∷ ps) key value =
     if key_lt key p.key then record { key = key; value = value } ∷ p ∷ ps
-    else (if bytes_eq p.key key then record { key = key; value = value } ∷ ps else p ∷ pairs_with ps key value)
+    else (if bytes_eq p.key key then record { key = key; value = value } ∷ ps
+    else p ∷ pairs_with ps key value)
 
 -- the pairs without the key
 abbrev pub pairs_without : List Pair → List ℕ → List Pair
@@ -129,7 +135,8 @@ ran ps steps = ran_from ps 1 ps [] steps
 -- the steps that ran: up to the first Check that is not met
 abbrev pub steps_run : List Pair → List Step → List Step
 steps_run ps [] = []
-steps_run ps (step ∷ steps) = step ∷ (if is_unmet ps step then [] else steps_run (pairs_after_step ps step) steps)
+steps_run ps (step ∷ steps) =
+    step ∷ (if is_unmet ps step then [] else steps_run (pairs_after_step ps step) steps)
 
 -- Versions by name
 
@@ -141,7 +148,8 @@ head_named (h ∷ hs) name = if bytes_eq h.name name then Some h else head_named
 -- its number
 abbrev pub number_named : List Head → List ℕ → Option ℕ
 number_named [] name = None
-number_named (h ∷ hs) name = if bytes_eq h.name name then Some 0 else option_map (λ n. n + 1) (number_named hs name)
+number_named (h ∷ hs) name =
+    if bytes_eq h.name name then Some 0 else option_map (λ n. n + 1) (number_named hs name)
 
 -- its pairs, or none
 abbrev pub pairs_named : Store → List ℕ → List Pair
@@ -151,7 +159,8 @@ pairs_named (v ∷ vs) name = if bytes_eq v.head.name name then v.pairs else pai
 -- the store with other pairs in the version of this name
 abbrev pub with_pairs : Store → List ℕ → List Pair → Store
 with_pairs [] name ps = []
-with_pairs (v ∷ vs) name ps = if bytes_eq v.head.name name then record v { pairs = ps } ∷ vs else v ∷ with_pairs vs name ps
+with_pairs (v ∷ vs) name ps =
+    if bytes_eq v.head.name name then record v { pairs = ps } ∷ vs else v ∷ with_pairs vs name ps
 
 -- the head, frozen
 abbrev pub frozen_head : Head → Head
@@ -160,15 +169,31 @@ frozen_head h = record { name = h.name; parent = h.parent; frozen = true }
 -- the store with the version of this name frozen
 abbrev pub with_frozen : Store → List ℕ → Store
 with_frozen [] name = []
-with_frozen (v ∷ vs) name = if bytes_eq v.head.name name then record v { head = frozen_head v.head } ∷ vs else v ∷ with_frozen vs name
+with_frozen (v ∷ vs) name =
+    if bytes_eq v.head.name name then record v { head = frozen_head v.head } ∷ vs
+    else v ∷ with_frozen vs name
 
 -- a new writable child of the version, with the same pairs
 abbrev pub child_of : Store → List ℕ → List ℕ → StoreVersion
-child_of store name child = record { head = record { name = child; parent = number_named (heads_of store) name; frozen = false }; pairs = pairs_named store name }
+child_of store name child =
+    record {
+      head = record {
+        name = child;
+        parent = number_named (heads_of store) name;
+        frozen = false;
+      };
+      pairs = pairs_named store name;
+    }
 
 -- what a listing says of a version among these
 abbrev pub listed : List Head → Head → Version
-listed hs h = record { name = h.name; parent = option_and_then (λ n. option_map (λ p. p.name) (slice_get hs n)) h.parent; frozen = h.frozen }
+listed hs h =
+    record {
+      name = h.name;
+      parent = option_and_then
+          (λ n. option_map (λ p. p.name) (slice_get hs n)) h.parent;
+      frozen = h.frozen;
+    }
 
 abbrev pub listing_of : List Head → List Version
 listing_of hs = map (listed hs) hs
@@ -184,11 +209,14 @@ child_refusal hs child =
 -- why the operation is refused at the version that it names
 abbrev pub refusal_at : List Head → Op → Option Head → Option Reply
 refusal_at hs (Tx version steps) None = Some NoVersion
-refusal_at hs (Tx version steps) (Some h) = if h.frozen && list_any is_change steps then Some Frozen else None
+refusal_at hs (Tx version steps) (Some h) =
+    if h.frozen && list_any is_change steps then Some Frozen else None
 refusal_at hs (Snapshot version child) None = Some NoVersion
-refusal_at hs (Snapshot version child) (Some h) = if h.frozen then Some Frozen else child_refusal hs child
+refusal_at hs (Snapshot version child) (Some h) =
+    if h.frozen then Some Frozen else child_refusal hs child
 refusal_at hs (Branch version child) None = Some NoVersion
-refusal_at hs (Branch version child) (Some h) = if h.frozen then child_refusal hs child else Some NotFrozen
+refusal_at hs (Branch version child) (Some h) =
+    if h.frozen then child_refusal hs child else Some NotFrozen
 refusal_at hs (Scan version low high limit) None = Some NoVersion
 refusal_at hs (Scan version low high limit) (Some h) = if h.frozen then None else Some NotFrozen
 refusal_at hs Versions at = None
@@ -217,9 +245,16 @@ abbrev pub admitted : Store → Op → Applied
 admitted store (Tx version steps) =
     let end = ran (pairs_named store version) steps in
     record { store = with_pairs store version end.pairs; reply = end.reply }
-admitted store (Snapshot version child) = record { store = with_frozen store version ++ child_of store version child ∷ []; reply = Made }
-admitted store (Branch version child) = record { store = store ++ child_of store version child ∷ []; reply = Made }
-admitted store (Scan version low high limit) = record { store = store; reply = Pairs (take limit (pairs_within (pairs_named store version) low high)) }
+admitted store (Snapshot version child) =
+    record { store = with_frozen store version ++ child_of store version child ∷ []; reply = Made }
+admitted store (Branch version child) =
+    record { store = store ++ child_of store version child ∷ []; reply = Made }
+admitted store (Scan version low high limit) =
+    record {
+      store = store;
+      reply = Pairs
+          (take limit (pairs_within (pairs_named store version) low high));
+    }
 admitted store Versions = record { store = store; reply = Listing (listing_of (heads_of store)) }
 
 -- a refused operation leaves the store as it was

@@ -1,5 +1,7 @@
 -- The tree of versions, and which versions a page serves.
-use Rattle.std.specs.Prelude.{◌≡◌, ℕ, ◌<◌, ◌≤◌, Bool, false, true, not, ◌&&◌, ◌||◌, nat_eq, IsTrue, List, [], ◌∷◌, length, map, reverse, filter, Option, Some, None, ⊤, if◌then◌else◌, slice_get, bytes_eq}
+use Rattle.std.specs.Prelude.{◌≡◌, ℕ, ◌<◌, ◌≤◌, Bool, false, true, not, ◌&&◌, ◌||◌, nat_eq, IsTrue}
+use Rattle.std.specs.Prelude.{List, [], ◌∷◌, length, map, reverse, filter, Option, Some, None, ⊤}
+use Rattle.std.specs.Prelude.{if◌then◌else◌, slice_get, bytes_eq}
 use Rattle.std.specs.List.{list_any, range_with_len}
 use Rattle.std.specs.Option.{option_map_or}
 use Rattle.std.specs.Int.{bit_at}
@@ -9,7 +11,8 @@ use Rattle.mn_base.specs.Store.{Head, max_versions}
 abbrev pub is_above : List (Option ℕ) → ℕ → ℕ → Bool
 is_above [] a v = false
 is_above (parent ∷ older) a v =
-    if nat_eq v (length older) then nat_eq a v || option_map_or (λ p. is_above older a p) parent false
+    if nat_eq v (length older) then nat_eq a v
+    || option_map_or (λ p. is_above older a p) parent false
     else is_above older a v
 
 -- a is v or an ancestor of v
@@ -30,7 +33,8 @@ versions_in copied = filter (has_version copied) (range_with_len 0 max_versions)
 -- a page made in one version serves v if that is v or an ancestor of v, and nothing it was copied
 -- for is
 abbrev pub serves : List (Option ℕ) → ℕ → ℕ → ℕ → Bool
-serves parents made copied v = is_ancestor parents made v && not (list_any (λ w. is_ancestor parents w v) (versions_in copied))
+serves parents made copied v =
+    is_ancestor parents made v && not (list_any (λ w. is_ancestor parents w v) (versions_in copied))
 
 -- The shape of a tree of versions
 

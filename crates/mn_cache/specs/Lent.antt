@@ -7,4 +7,5 @@ use Rattle.mn_page.specs.declared.page.Page.{Page}
 use Rattle.mn_cache.specs.contracts.cache.Cache.{the_row}
 
 abbrev pub ends_as : MutBor (List (Addr × Page)) → List (Addr × Page) → Fml
-ends_as cache pages = follows_so the_row the_row cache.ghost_name none (λ _ _. ⊤) (λ last. last ≡ pages)
+ends_as cache pages =
+    follows_so the_row the_row cache.ghost_name none (λ _ _. ⊤) (λ last. last ≡ pages)

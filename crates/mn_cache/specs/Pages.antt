@@ -19,7 +19,8 @@ pages_without addr pages = remove_entry (addr_same addr) pages
 
 -- the page of an address goes first, if one is kept
 abbrev pub pages_used : Addr → List (Addr × Page) → List (Addr × Page)
-pages_used addr pages = option_map_or (λ page. (addr, page) ∷ pages_without addr pages) (page_at addr pages) pages
+pages_used addr pages =
+    option_map_or (λ page. (addr, page) ∷ pages_without addr pages) (page_at addr pages) pages
 
 -- a page goes first, in place of an older one of its address; where there would be too many, the
 -- least recently used goes

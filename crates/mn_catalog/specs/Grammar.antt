@@ -1,5 +1,6 @@
 -- The bytes of a catalog: its used entries in order of version, then zeros.
-use Rattle.std.specs.Prelude.{◌≡◌, ◌≢◌, ℕ, ◌*◌, ◌<◌, ◌≤◌, ◌⊎◌, List, length, take, drop, slice_get, Some, All, ⊤}
+use Rattle.std.specs.Prelude.{◌≡◌, ◌≢◌, ℕ, ◌*◌, ◌<◌, ◌≤◌, ◌⊎◌, List, length, take, drop, slice_get}
+use Rattle.std.specs.Prelude.{Some, All, ⊤}
 use Rattle.std.specs.List.{flat_map}
 use Rattle.mn_page.specs.Space.{catalog_size, entry_size}
 use Rattle.mn_page.specs.Grammar.{padded, entry_bytes, IsEntry, IsUnused, SpellsNoEntry}
@@ -35,7 +36,8 @@ place_bytes version bytes = take entry_size (drop (entry_size * version) bytes)
 abbrev pub IsAtFault : List ℕ → ℕ → Type 0
 IsAtFault bytes version =
     SpellsNoEntry (place_bytes version bytes)
-    ⊎ ((IsUnused (place_bytes version bytes) → ⊥) × ((w : ℕ) × (w < version) × IsUnused (place_bytes w bytes)))
+    ⊎ ((IsUnused (place_bytes version bytes) → ⊥)
+    × ((w : ℕ) × (w < version) × IsUnused (place_bytes w bytes)))
 
 -- the first such place
 pub record IsFirstAtFault (bytes : List ℕ) (version : ℕ) : Type 0 where
@@ -46,7 +48,8 @@ pub record IsFirstAtFault (bytes : List ℕ) (version : ℕ) : Type 0 where
 -- why bytes are refused
 abbrev pub RefusesCatalog : List ℕ → CatError → Type 0
 RefusesCatalog bytes (BadCatalog entry) =
-    ((length bytes ≡ catalog_size) × IsFirstAtFault bytes entry) ⊎ ((length bytes ≢ catalog_size) × (entry ≡ 0))
+    ((length bytes ≡ catalog_size) × IsFirstAtFault bytes entry)
+    ⊎ ((length bytes ≢ catalog_size) × (entry ≡ 0))
 RefusesCatalog bytes NoMemory = ⊤
 
 abbrev pub IsWantOfMemory : CatError → Type 0

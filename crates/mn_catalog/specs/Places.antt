@@ -1,5 +1,6 @@
 -- What the reading of a catalog knows of the places that it has read.
-use Rattle.std.specs.Prelude.{◌≡◌, ℕ, ◌<◌, ◌≤◌, List, length, slice_get, Option, Some, None, MatchOption, ⊤}
+use Rattle.std.specs.Prelude.{◌≡◌, ℕ, ◌<◌, ◌≤◌, List, length, slice_get, Option, Some, None}
+use Rattle.std.specs.Prelude.{MatchOption, ⊤}
 use Rattle.mn_page.specs.Grammar.{IsUnused, SpellsEntry, SpellsNoEntry}
 use Rattle.mn_page.specs.declared.entry.CatEntry.{CatEntry}
 use Rattle.mn_catalog.specs.Grammar.{place_bytes}
@@ -14,7 +15,9 @@ pub record IsEntryRead (place : List ℕ) (found : Option CatEntry) : Type 0 whe
 
 -- so many places gave these entries
 abbrev pub AreRead : ℕ → List ℕ → List CatEntry → Type 0
-AreRead places bytes entries = (length entries ≤ places) × ((w : ℕ) → w < places → IsEntryRead (place_bytes w bytes) (slice_get entries w))
+AreRead places bytes entries =
+    (length entries ≤ places) × ((w : ℕ) → w < places
+    → IsEntryRead (place_bytes w bytes) (slice_get entries w))
 
 -- why a place is refused
 abbrev pub RefusesPlace : ℕ → List ℕ → CatError → Type 0

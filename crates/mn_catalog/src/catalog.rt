@@ -1,10 +1,14 @@
-ghost use Rattle.std.specs.Prelude.{◌≡◌, ◌≢◌, ◌<◌, ℕ, Option, length, slice_get, option_map, All, IfOk, IfErr, MatchOption, List};
+ghost use Rattle.std.specs.Prelude.{◌≡◌, ◌≢◌, ◌<◌, ℕ, Option, length, slice_get, option_map, All};
+ghost use Rattle.std.specs.Prelude.{IfOk, IfErr, MatchOption, List};
 ghost use Rattle.mn_page.specs.Space.{catalog_size};
 ghost use Rattle.mn_page.specs.declared.entry.CatEntry.{CatEntry};
-ghost use Rattle.mn_catalog.specs.Grammar.{IsCatalog, SpellsCatalog, SpellsNoCatalog, RefusesCatalog, IsWantOfMemory, IsFirstNamed, place_bytes, max_entries};
+ghost use Rattle.mn_catalog.specs.Grammar.{IsCatalog, SpellsCatalog, SpellsNoCatalog};
+ghost use Rattle.mn_catalog.specs.Grammar.{RefusesCatalog, IsWantOfMemory, IsFirstNamed};
+ghost use Rattle.mn_catalog.specs.Grammar.{place_bytes, max_entries};
 ghost use Rattle.mn_catalog.specs.Places.{IsEntryRead, AreRead, RefusesPlace};
 ghost use Rattle.mn_page.specs.Added.{frozen_entry, child_entry};
-ghost use Rattle.mn_catalog.specs.Versions.{branch_entries, snapshot_entries, AreEntries, AdmitsChild, MakesVersion};
+ghost use Rattle.mn_catalog.specs.Versions.{branch_entries, snapshot_entries, AreEntries};
+ghost use Rattle.mn_catalog.specs.Versions.{AdmitsChild, MakesVersion};
 ghost use Rattle.mn_base.specs.Name.{IsName};
 ghost use Rattle.mn_base.specs.Store.{refusal, child_refusal, number_named, head_named};
 ghost use Rattle.mn_base.specs.declared.op.Op.TheVariants as Does;
@@ -122,7 +126,8 @@ impl Catalog {
     /// in all. BadCatalog: they spell none. NoMemory: there was no memory for it.
     pub fn read(alloc: Global, bytes: &[u8]) -> Result<Self, CatError>
         ensures read { IfOk result (SpellsCatalog bytes.now) }
-        ensures one { (entries : List CatEntry) → SpellsCatalog bytes.now entries → IfOk result (λ catalog. catalog ≡ entries) }
+        ensures one { (entries : List CatEntry) → SpellsCatalog bytes.now entries
+            → IfOk result (λ catalog. catalog ≡ entries) }
         ensures bad { IfErr result (RefusesCatalog bytes.now) }
         ensures outside { IfErr result (λ e. (IsWantOfMemory e → ⊥) → SpellsNoCatalog bytes.now) }
     {
@@ -144,8 +149,10 @@ impl Catalog {
 
     /// The least version of this name. None exactly where no used entry has it.
     pub fn find(&self, name: &Name) -> Option<VersionNo>
-        ensures first { MatchOption result (All (λ e. e.name ≢ name.now) self.now) (λ version. IsFirstNamed self.now name.now version.0) }
-        ensures number { option_map (λ version. version.0) result ≡ number_named (heads_in self.now) name.now }
+        ensures first { MatchOption result (All (λ e. e.name ≢ name.now) self.now)
+            (λ version. IsFirstNamed self.now name.now version.0) }
+        ensures number { option_map (λ version. version.0) result
+            ≡ number_named (heads_in self.now) name.now }
     {
         for (version, entry) in self.entries.iter().enumerate() {
             if entry.name.as_slice() == name.as_slice() {
@@ -217,7 +224,8 @@ impl Catalog {
     }
 
     fn admit_scan(&self, version: &Name) -> Option<Reply>
-        ensures { (low high : Option (List ℕ)) (limit : ℕ) → result ≡ refusal (heads_in self.now) (Does.Scan version.now low high limit) }
+        ensures { (low high : Option (List ℕ)) (limit : ℕ)
+            → result ≡ refusal (heads_in self.now) (Does.Scan version.now low high limit) }
     {
         let Some(frozen) = self.state(version) else {
             return Some(Reply::NoVersion);
@@ -254,9 +262,11 @@ impl Catalog {
     ) -> Result<Entries, NoMemory>
         requires there { version.0 < length self.now }
         requires admitted { AdmitsChild Does.Snapshot self.now version.0 child.now }
-        ensures entries { IfOk result (λ es. es ≡ snapshot_entries self.now version child.now root) }
+        ensures entries { IfOk result
+            (λ es. es ≡ snapshot_entries self.now version child.now root) }
         ensures sound { IfOk result (λ es. IsAddr root → IsName child.now → AreEntries es) }
-        ensures made { IfOk result (λ es. MakesVersion Does.Snapshot self.now version.0 child.now es) }
+        ensures made { IfOk result (λ es.
+            MakesVersion Does.Snapshot self.now version.0 child.now es) }
     {
         let entry = &self.entries[usize::from(version.0)];
         let mut entries = Vec::new(alloc);
@@ -279,7 +289,8 @@ impl Catalog {
         requires admitted { AdmitsChild Does.Branch self.now version.0 child.now }
         ensures entries { IfOk result (λ es. es ≡ branch_entries self.now version child.now root) }
         ensures sound { IfOk result (λ es. IsAddr root → IsName child.now → AreEntries es) }
-        ensures made { IfOk result (λ es. MakesVersion Does.Branch self.now version.0 child.now es) }
+        ensures made { IfOk result (λ es.
+            MakesVersion Does.Branch self.now version.0 child.now es) }
     {
         let mut entries = Vec::new(alloc);
         let number = VersionNo(self.entries.len() as u8);

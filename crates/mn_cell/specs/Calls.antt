@@ -1,5 +1,6 @@
 -- What a call of a node says, and what it takes before the node is asked.
-use Rattle.std.specs.Prelude.{ℕ, ◌+◌, ◌≡◌, ◌≤◌, false, List, [], ◌∷◌, ◌++◌, length, map, Option, Some, ⊤}
+use Rattle.std.specs.Prelude.{ℕ, ◌+◌, ◌≡◌, ◌≤◌, false, List, [], ◌∷◌, ◌++◌, length, map, Option}
+use Rattle.std.specs.Prelude.{Some, ⊤}
 use Rattle.mn_base.specs.declared.ids.NodeNo.{NodeNo}
 use Rattle.mn_base.specs.declared.ids.ClientNo.{ClientNo}
 use Rattle.mn_base.specs.declared.gate.StopAt.{StopAt}
@@ -33,11 +34,14 @@ what_said request stop reply = Called request reply
 
 -- whatever the reply is, the client's list allows the entry
 abbrev pub MaySend : NodeNo → ClientNo → List (ℕ × Entry) → Request → Option StopAt → Type 0
-MaySend n c list request stop = (reply : NodeReply) → IsLegalBy (entries_of list) (entry_at n c (what_said request stop reply))
+MaySend n c list request stop =
+    (reply : NodeReply) → IsLegalBy (entries_of list) (entry_at n c (what_said request stop reply))
 
 -- what the law of the core asks of a line
 abbrev pub IsLegalLine : List (ℕ × Entry) → List (ℕ × Entry) → Line Entry → Type 0
-IsLegalLine node client line = (line.entry.node ≡ line.node) × (line.entry.client ≡ line.client) × IsLegalBy (entries_of client) line.entry
+IsLegalLine node client line =
+    (line.entry.node ≡ line.node) × (line.entry.client ≡ line.client)
+    × IsLegalBy (entries_of client) line.entry
 
 -- an entry ends a list, at a place that is not below this one; the other is the place after it
 pub record EndsList (known after : ℕ) (e : Entry) (old new : List (ℕ × Entry)) : Type 0 where

@@ -24,7 +24,8 @@ module _ {E : Type 0} where
 
   -- the lists of a node and of a client are those of one log, each of whose lines was legal when it
   -- was added
-  pub record AreOfOneLog (legal : List (ℕ × E) → List (ℕ × E) → Line E → Type 0) (n : NodeNo) (c : ClientNo) (node client : List (ℕ × E)) : Type 0 where
+  pub record AreOfOneLog (legal : List (ℕ × E) → List (ℕ × E) → Line E → Type 0) (n : NodeNo)
+      (c : ClientNo) (node client : List (ℕ × E)) : Type 0 where
     pub log : List (Line E)
     pub legal_log : IsLegalLog legal log
     pub at_node : node ≡ list_of (Node n) log

@@ -1,5 +1,6 @@
 -- The room that a node's list keeps: with each vote, for the decision that its caller will send.
-use Rattle.std.specs.Prelude.{ℕ, ◌≡◌, ◌+◌, ◌≤◌, ◌<◌, ◌^◌, ◌⊎◌, Bool, true, false, not, ◌&&◌, ◌||◌, List, [], ◌∷◌, ◌++◌, filter, Option, Some, None, if◌then◌else◌}
+use Rattle.std.specs.Prelude.{ℕ, ◌≡◌, ◌+◌, ◌≤◌, ◌<◌, ◌^◌, ◌⊎◌, Bool, true, false, not, ◌&&◌, ◌||◌}
+use Rattle.std.specs.Prelude.{List, [], ◌∷◌, ◌++◌, filter, Option, Some, None, if◌then◌else◌}
 use Rattle.std.specs.List.{list_any}
 use Rattle.std.specs.Option.{option_map_or}
 use Rattle.mn_base.specs.Ids.{client_same, tid_same}
@@ -61,13 +62,15 @@ owed_by tid what before = is_id tid (voted_in what) || (before && not (is_id tid
 -- yet
 abbrev pub is_owed : Tid → ClientNo → List Entry → Bool
 is_owed tid c [] = false
-is_owed tid c (e ∷ es) = if is_by c e then owed_by tid e.what (is_owed tid c es) else is_owed tid c es
+is_owed tid c (e ∷ es) =
+    if is_by c e then owed_by tid e.what (is_owed tid c es) else is_owed tid c es
 
 -- by these entries of a client, newest first, it has got a vote of the id at the node and hasn't
 -- sent its decision there yet
 abbrev pub is_owed_at : Tid → NodeNo → List Entry → Bool
 is_owed_at tid n [] = false
-is_owed_at tid n (e ∷ es) = if is_at n e then owed_by tid e.what (is_owed_at tid n es) else is_owed_at tid n es
+is_owed_at tid n (e ∷ es) =
+    if is_at n e then owed_by tid e.what (is_owed_at tid n es) else is_owed_at tid n es
 
 -- by these entries of a client it owes the node the decision of this id, if there is one
 abbrev pub IsOwedAt : NodeNo → Option Tid → List Entry → Type 0
@@ -92,8 +95,10 @@ pub record NodeListState : Type 0 where
   pub spare_owed : ℕ
 
 -- each decision that is owed has its room, and within it the list stays as short as a log's may be
-pub record IsNodeList (entries : List (ℕ × Entry)) (owed : List Owed) (size capacity count : ℕ) : Type 0 where
-  pub covered : (tid : Tid) (c : ClientNo) → is_owed tid c (entries_of entries) ≡ true → owes tid c owed ≡ true
+pub record IsNodeList (entries : List (ℕ × Entry)) (owed : List Owed) (size capacity count : ℕ)
+    : Type 0 where
+  pub covered : (tid : Tid) (c : ClientNo) → is_owed tid c (entries_of entries) ≡ true
+      → owes tid c owed ≡ true
   pub there : size + count ≤ capacity
   pub short : size + count ≤ 2 ^ 57
 

@@ -19,10 +19,13 @@ IsIssueOf start e = IsOfRun start e.what
 
 -- the lists are those of a run's nodes and clients: there is one for each node of the start, each
 -- of whose entries its records allow; and each client issued under the run's number, for its nodes
-pub record AreParts (start : Start) (nodes clients : ℕ) (owned : Actor → Option (List (ℕ × Entry))) : Type 0 where
+pub record AreParts (start : Start) (nodes clients : ℕ) (owned : Actor → Option (List (ℕ × Entry)))
+    : Type 0 where
   pub all : nodes ≡ start_nodes start
-  pub allowed : (n : NodeNo) (list : List (ℕ × Entry)) → n.0 < nodes → owned (Node n) ≡ Some list → NodeListAllowed start n (entries_of list)
-  pub of_run : (c : ClientNo) (list : List (ℕ × Entry)) → c.0 < clients → owned (Client c) ≡ Some list → AllByRecursion (IsIssueOf start) (entries_of list)
+  pub allowed : (n : NodeNo) (list : List (ℕ × Entry)) → n.0 < nodes → owned (Node n) ≡ Some list
+      → NodeListAllowed start n (entries_of list)
+  pub of_run : (c : ClientNo) (list : List (ℕ × Entry)) → c.0 < clients
+      → owned (Client c) ≡ Some list → AllByRecursion (IsIssueOf start) (entries_of list)
 
 -- the entries of the lines with their places, from this place on
 abbrev pub placed_from : ℕ → List (Line Entry) → List (ℕ × Entry)

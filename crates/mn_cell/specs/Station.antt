@@ -1,5 +1,7 @@
 -- What is known of a node with its list and its pass, whenever no call of it is under way.
-use Rattle.std.specs.Prelude.{ℕ, ◌+◌, ◌-◌, ◌^◌, ◌≡◌, ◌≤◌, ◌<◌, ◌⊎◌, min, Bool, true, false, List, [], ◌∷◌, ◌++◌, length, reverse, Option, Some, None, IsSome, slice_index_or, ⊤}
+use Rattle.std.specs.Prelude.{ℕ, ◌+◌, ◌-◌, ◌^◌, ◌≡◌, ◌≤◌, ◌<◌, ◌⊎◌, min, Bool, true, false, List}
+use Rattle.std.specs.Prelude.{[], ◌∷◌, ◌++◌, length, reverse, Option, Some, None, IsSome}
+use Rattle.std.specs.Prelude.{slice_index_or, ⊤}
 use Rattle.std.specs.List.{AllByRecursion}
 use Rattle.atomic_table.specs.Seated.{TableId}
 use Rattle.mn_base.specs.declared.gate.StopAt.{StopAt}
@@ -25,12 +27,22 @@ use Rattle.mn_cell.specs.Passes.{OwnsJust}
 
 -- a board that is none
 abbrev pub no_board : TableId
-no_board = record { words = 0; slots = 0; views_name = 0; atom = 0; block = 0; offset = 0; slot_names = [] }
+no_board =
+    record {
+      words = 0;
+      slots = 0;
+      views_name = 0;
+      atom = 0;
+      block = 0;
+      offset = 0;
+      slot_names = [];
+    }
 
 -- What a run starts from
 
 -- a node as it is when a run starts: up, with these records
-pub record IsFirst {D : Type 0} (state : D → DiskState) (faults : D → ℕ) (start : Start) (number : NodeNo) (before : ℕ) (honest : Type 0) (n : NodeState D) : Type 0 where
+pub record IsFirst {D : Type 0} (state : D → DiskState) (faults : D → ℕ) (start : Start)
+    (number : NodeNo) (before : ℕ) (honest : Type 0) (n : NodeState D) : Type 0 where
   pub node : n.node ≡ number.0
   pub nodes : n.nodes ≡ start_nodes start
   pub among : number.0 < start_nodes start
@@ -66,7 +78,8 @@ StopsAsItAdds base records what = ⊤
 -- each stop inside a request is inside one that would have added a record
 abbrev pub AllStopAsTheyAdd : List ℕ → List Record → List Entry → Type 0
 AllStopAsTheyAdd base start [] = ⊤
-AllStopAsTheyAdd base start (e ∷ es) = StopsAsItAdds base (node_records base start es) e.what × AllStopAsTheyAdd base start es
+AllStopAsTheyAdd base start (e ∷ es) =
+    StopsAsItAdds base (node_records base start es) e.what × AllStopAsTheyAdd base start es
 
 -- a count has risen by so much since, or it stands at its last value
 abbrev pub RoseBy : ℕ → ℕ → ℕ → Type 0
@@ -105,23 +118,30 @@ abbrev pub StandsAs : {D : Type 0} → (D → DiskState) → Type 0 → NodeStat
 StandsAs state rose n None = ⊤
 StandsAs state rose n (Some Before) = StandsForRecords (state n.disk) n.node n.nodes n.records
 StandsAs state rose n (Some Half) = StandsForRecords (state n.disk) n.node n.nodes n.records
-StandsAs state rose n (Some After) = rose ⊎ ((r : Record) × (n.pending ≡ Some r) × StandsForRecords (state n.disk) n.node n.nodes (n.records ++ r ∷ []))
+StandsAs state rose n (Some After) =
+    rose ⊎ ((r : Record) × (n.pending ≡ Some r)
+    × StandsForRecords (state n.disk) n.node n.nodes (n.records ++ r ∷ []))
 
 -- The entries, newest first, are those of a node that started so: each is allowed by those before
 -- it, and the node has the records that they leave. Each has a caller, and where one stopped it
 -- inside a request, that would have added a record. It stopped unasked in requests at most as often
 -- as its disk's count of faults has risen. A disk that was honest is, and then each restart kept
 -- what the stop before it had asked for; while the node is down, the disk says so of the next one.
-pub record HasMade {D : Type 0} (state : D → DiskState) (faults : D → ℕ) (start : Start) (number : NodeNo) (before : ℕ) (honest : Type 0) (es : List Entry) (n : NodeState D) : Type 0 where
+pub record HasMade {D : Type 0} (state : D → DiskState) (faults : D → ℕ) (start : Start)
+    (number : NodeNo) (before : ℕ) (honest : Type 0) (es : List Entry) (n : NodeState D)
+    : Type 0 where
   pub node : n.node ≡ number.0
   pub nodes : n.nodes ≡ start_nodes start
   pub among : number.0 < start_nodes start
   pub allowed : NodeListAllowed start number es
   pub called : AllByRecursion HasCaller es
   pub stops : AllStopAsTheyAdd (base_at start number) (start_records start number) es
-  pub records : reverse n.records ≡ node_records (base_at start number) (start_records start number) es
+  pub records : reverse n.records
+      ≡ node_records (base_at start number) (start_records start number) es
   pub down : n.down ≡ is_down es
-  pub pending : n.down ≡ true → n.pending ≡ added_by (base_at start number) (node_records (base_at start number) (start_records start number) es) (stopped_request es)
+  pub pending : n.down ≡ true → n.pending
+      ≡ added_by (base_at start number)
+      (node_records (base_at start number) (start_records start number) es) (stopped_request es)
   pub counted : RoseBy (unasked es) before (faults n.disk)
   pub as_honest : honest → (state n.disk).honest
   pub kept : (state n.disk).honest → KeepsAsAsked (Rose before (faults n.disk)) es
@@ -142,9 +162,11 @@ known_by None = 0
 known_by (Some p) = (view_of p).known
 
 -- the pass is there, of this board, owns just the node, and has this list
-abbrev pub IsPassOf : {L E : Type 0} {g : _} → TableId → NodeNo → List (ℕ × E) → Option (Pass L E g) → Type 0
+abbrev pub IsPassOf : {L E : Type 0} {g : _} → TableId → NodeNo → List (ℕ × E) → Option (Pass L E g)
+    → Type 0
 IsPassOf board n list None = ⊥
-IsPassOf board n list (Some p) = (board_of p ≡ board) × OwnsJust (view_of p) (Node n) × (held (view_of p) (Node n) ≡ Some list)
+IsPassOf board n list (Some p) =
+    (board_of p ≡ board) × OwnsJust (view_of p) (Node n) × (held (view_of p) (Node n) ≡ Some list)
 
 -- the node is as its entries leave it, and its number, records, down or up are those from before,
 -- as is the place that its pass knows

@@ -20,13 +20,17 @@ pub fn add<L: Law>(
     client: ClientNo,
 ) -> (Pass<L>, u64)
     requires board { (board_of own ≡ id_of board.now) × (board_of pass.old ≡ id_of board.now) }
-    requires owns { OwnsJust (view_of own) (Node node) × OwnsJust (view_of pass.old) (Client client) }
+    requires owns { OwnsJust (view_of own) (Node node)
+        × OwnsJust (view_of pass.old) (Client client) }
     requires room { HasRoom (view_of own) (Node node) × HasRoom (view_of pass.old) (Client client) }
-    requires legal { L.legal (or_empty (held (view_of own) (Node node))) (or_empty (held (view_of pass.old) (Client client))) (line (Some node) (Some client) entry.now) }
+    requires legal { L.legal (or_empty (held (view_of own) (Node node)))
+        (or_empty (held (view_of pass.old) (Client client)))
+        (line (Some node) (Some client) entry.now) }
     ensures board { (board_of result.0 ≡ board_of own) × (board_of pass.new ≡ board_of own) }
     ensures place { (view_of pass.old).known ≤ result.1 }
     ensures node { IsLonger (view_of own) (Node node) (result.1, entry.now) (view_of result.0) }
-    ensures client { IsLonger (view_of pass.old) (Client client) (result.1, entry.now) (view_of pass.new) }
+    ensures client { IsLonger (view_of pass.old) (Client client) (result.1, entry.now)
+        (view_of pass.new) }
 {
     board.join(pass, own);
     let place = board.append_ref(pass, entry, Some(node), Some(client));
@@ -43,12 +47,16 @@ pub fn compare<L: Law>(
     client: ClientNo,
 ) -> Pass<L>
     requires board { (board_of own ≡ id_of board.now) × (board_of pass.old ≡ id_of board.now) }
-    requires owns { OwnsJust (view_of own) (Node node) × OwnsJust (view_of pass.old) (Client client) }
+    requires owns { OwnsJust (view_of own) (Node node)
+        × OwnsJust (view_of pass.old) (Client client) }
     ensures board { (board_of result ≡ board_of own) × (board_of pass.new ≡ board_of own) }
-    ensures node { (held (view_of result) (Node node) ≡ held (view_of own) (Node node)) × OwnsJust (view_of result) (Node node) }
+    ensures node { (held (view_of result) (Node node) ≡ held (view_of own) (Node node))
+        × OwnsJust (view_of result) (Node node) }
     ensures node_same { IsSame (view_of own) (view_of result) }
-    ensures client { IsSame (view_of pass.old) (view_of pass.new) × OwnsJust (view_of pass.new) (Client client) }
-    ensures one_log { AreOfOneLog L.legal node client (or_empty (held (view_of own) (Node node))) (or_empty (held (view_of pass.old) (Client client))) }
+    ensures client { IsSame (view_of pass.old) (view_of pass.new)
+        × OwnsJust (view_of pass.new) (Client client) }
+    ensures one_log { AreOfOneLog L.legal node client (or_empty (held (view_of own) (Node node)))
+        (or_empty (held (view_of pass.old) (Client client))) }
 {
     let _ = client;
     let known = board.note(pass);

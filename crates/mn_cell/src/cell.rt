@@ -1,5 +1,6 @@
 //! A station behind a lock.
-ghost use Rattle.std.specs.Prelude.{◌≡◌, ◌≢◌, ◌≤◌, ◌<◌, ◌+◌, [], Some, None, true, false, IfOk, IfErr, IfSome, IfNone, OnErr, OnOk};
+ghost use Rattle.std.specs.Prelude.{◌≡◌, ◌≢◌, ◌≤◌, ◌<◌, ◌+◌, [], Some, None, true, false, IfOk};
+ghost use Rattle.std.specs.Prelude.{IfErr, IfSome, IfNone, OnErr, OnOk};
 ghost use Rattle.mn_mini.specs.Sound.{Fits, IsSoundRequest};
 ghost use Rattle.mn_mini.specs.declared.reply.NodeReply.{NodeReply as Reply};
 ghost use Rattle.mn_actors.specs.declared.actor.Actor.TheVariants.{Client};
@@ -8,7 +9,8 @@ ghost use Rattle.mn_actors.specs.Lists.{held};
 ghost use Rattle.mn_actors.specs.Sight.{board_of, id_of, view_of};
 ghost use Rattle.mn_world.specs.declared.entry.What.TheVariants.{Stopped, Restarted};
 ghost use Rattle.mn_world.specs.Run.{entries_of};
-ghost use Rattle.mn_cell.specs.Calls.{EndsList, IsUndamaged, KeepsStop, MaySend, entry_at, numbered, what_said};
+ghost use Rattle.mn_cell.specs.Calls.{EndsList, IsUndamaged, KeepsStop, MaySend, entry_at};
+ghost use Rattle.mn_cell.specs.Calls.{numbered, what_said};
 ghost use Rattle.mn_cell.specs.Passes.{IsSame, OwnsJust};
 ghost use Rattle.mn_cell.specs.Promises.{IsOwedAt, decided_by};
 ghost use Rattle.mn_cell.specs.Station.{HasMade, IsFirst};
@@ -56,7 +58,8 @@ impl<N: Named, D: Disk, const NODE: u8> Cell<N, D, NODE> {
         node: Node<D>,
         pass: Pass<CoreLaw>,
     ) -> Result<Cell<N, D, NODE>, Refused<D>>
-        requires node { IsFirst D.state D.faults (start_of N.records) (numbered NODE) (N.faults NODE) (N.honest NODE) node }
+        requires node { IsFirst D.state D.faults (start_of N.records) (numbered NODE)
+            (N.faults NODE) (N.honest NODE) node }
         requires board { board_of pass ≡ N.board }
         requires owns { OwnsJust (view_of pass) (node_at NODE) }
         requires list { held (view_of pass) (node_at NODE) ≡ Some [] }
@@ -98,11 +101,16 @@ impl<N: Named, D: Disk, const NODE: u8> Cell<N, D, NODE> {
         ensures board { board_of pass.new ≡ N.board }
         ensures owns { OwnsJust (view_of pass.new) (Client list.old.client) }
         ensures list { held (view_of pass.new) (Client list.old.client) ≡ Some list.new.entries }
-        ensures said { result ≢ Reply.NoMemory → EndsList (view_of pass.old).known (view_of pass.new).known (entry_at (numbered NODE) list.old.client (what_said request stop result)) list.old.entries list.new.entries }
-        ensures pass_before { result ≡ Reply.NoMemory → IsSame (view_of pass.old) (view_of pass.new) }
+        ensures said { result ≢ Reply.NoMemory
+            → EndsList (view_of pass.old).known (view_of pass.new).known
+            (entry_at (numbered NODE) list.old.client (what_said request stop result))
+            list.old.entries list.new.entries }
+        ensures pass_before { result ≡ Reply.NoMemory
+            → IsSame (view_of pass.old) (view_of pass.new) }
         ensures list_before { result ≡ Reply.NoMemory → list.new.entries ≡ list.old.entries }
         ensures room { list.old.room ≤ list.new.room + 1 }
-        ensures owed { IsOwedAt (numbered NODE) (decided_by request) (entries_of list.old.entries) → 0 < list.old.room → result ≢ Reply.NoMemory }
+        ensures owed { IsOwedAt (numbered NODE) (decided_by request) (entries_of list.old.entries)
+            → 0 < list.old.room → result ≢ Reply.NoMemory }
         ensures stop { KeepsStop stop request result }
     {
         let mut guard = self.lock.lock(rt);
@@ -126,9 +134,14 @@ impl<N: Named, D: Disk, const NODE: u8> Cell<N, D, NODE> {
         ensures board { board_of pass.new ≡ N.board }
         ensures owns { OwnsJust (view_of pass.new) (Client list.old.client) }
         ensures list { held (view_of pass.new) (Client list.old.client) ≡ Some list.new.entries }
-        ensures halted { IfOk result (λ halted. halted ≡ true → EndsList (view_of pass.old).known (view_of pass.new).known (entry_at (numbered NODE) list.old.client (Stopped None None)) list.old.entries list.new.entries) }
-        ensures no_entry { IfOk result (λ halted. halted ≡ false → (pass.new ≡ pass.old) × (list.new ≡ list.old)) }
-        ensures failed { OnErr result ((pass.new ≡ pass.old) × (list.new.entries ≡ list.old.entries)) }
+        ensures halted { IfOk result
+            (λ halted. halted ≡ true → EndsList (view_of pass.old).known (view_of pass.new).known
+            (entry_at (numbered NODE) list.old.client (Stopped None None)) list.old.entries
+            list.new.entries) }
+        ensures no_entry { IfOk result
+            (λ halted. halted ≡ false → (pass.new ≡ pass.old) × (list.new ≡ list.old)) }
+        ensures failed { OnErr result
+            ((pass.new ≡ pass.old) × (list.new.entries ≡ list.old.entries)) }
         ensures room { list.old.room ≤ list.new.room + 1 }
     {
         let mut guard = self.lock.lock(rt);
@@ -154,9 +167,15 @@ impl<N: Named, D: Disk, const NODE: u8> Cell<N, D, NODE> {
         ensures board { board_of pass.new ≡ N.board }
         ensures owns { OwnsJust (view_of pass.new) (Client list.old.client) }
         ensures list { held (view_of pass.new) (Client list.old.client) ≡ Some list.new.entries }
-        ensures restarted { IfOk result (λ kept. IfSome kept (λ there. EndsList (view_of pass.old).known (view_of pass.new).known (entry_at (numbered NODE) list.old.client (Restarted there)) list.old.entries list.new.entries)) }
-        ensures no_entry { IfOk result (λ kept. IfNone kept ((pass.new ≡ pass.old) × (list.new ≡ list.old))) }
-        ensures failed { OnErr result ((pass.new ≡ pass.old) × (list.new.entries ≡ list.old.entries)) }
+        ensures restarted { IfOk result
+            (λ kept. IfSome kept (λ there.
+            EndsList (view_of pass.old).known (view_of pass.new).known
+            (entry_at (numbered NODE) list.old.client (Restarted there)) list.old.entries
+            list.new.entries)) }
+        ensures no_entry { IfOk result
+            (λ kept. IfNone kept ((pass.new ≡ pass.old) × (list.new ≡ list.old))) }
+        ensures failed { OnErr result
+            ((pass.new ≡ pass.old) × (list.new.entries ≡ list.old.entries)) }
         ensures undamaged { N.honest NODE → IfErr result IsUndamaged }
         ensures room { list.old.room ≤ list.new.room + 1 }
     {
@@ -166,7 +185,8 @@ impl<N: Named, D: Disk, const NODE: u8> Cell<N, D, NODE> {
 
     /// The node, its list and its pass.
     pub fn into_parts(self) -> (Node<D>, EntryList, Pass<CoreLaw>)
-        ensures made { HasMade D.state D.faults (start_of N.records) (numbered NODE) (N.faults NODE) (N.honest NODE) (entries_of result.1) result.0 }
+        ensures made { HasMade D.state D.faults (start_of N.records) (numbered NODE) (N.faults NODE)
+            (N.honest NODE) (entries_of result.1) result.0 }
         ensures board { board_of result.2 ≡ N.board }
         ensures owns { OwnsJust (view_of result.2) (node_at NODE) }
         ensures pass { held (view_of result.2) (node_at NODE) ≡ Some result.1 }

@@ -1,5 +1,6 @@
 //! The cells of a run's nodes.
-ghost use Rattle.std.specs.Prelude.{◌≡◌, ◌≢◌, ◌≤◌, ◌<◌, ◌+◌, ◌∷◌, [], Some, None, true, false, is_some, IfOk, IfErr, IfSome, IfNone, OnErr, OnOk, slice_get};
+ghost use Rattle.std.specs.Prelude.{◌≡◌, ◌≢◌, ◌≤◌, ◌<◌, ◌+◌, ◌∷◌, [], Some, None, true, false};
+ghost use Rattle.std.specs.Prelude.{is_some, IfOk, IfErr, IfSome, IfNone, OnErr, OnOk, slice_get};
 ghost use Rattle.mn_mini.specs.Sound.{Fits, IsSoundRequest};
 ghost use Rattle.mn_mini.specs.declared.reply.NodeReply.{NodeReply as Reply};
 ghost use Rattle.mn_actors.specs.declared.actor.Actor.TheVariants.{Client};
@@ -7,7 +8,8 @@ ghost use Rattle.mn_actors.specs.Lists.{held};
 ghost use Rattle.mn_actors.specs.Sight.{board_of, id_of, view_of};
 ghost use Rattle.mn_world.specs.declared.entry.What.TheVariants.{Stopped, Restarted};
 ghost use Rattle.mn_world.specs.Run.{entries_of};
-ghost use Rattle.mn_cell.specs.Calls.{EndsList, IsUndamaged, KeepsStop, MaySend, entry_at, what_said};
+ghost use Rattle.mn_cell.specs.Calls.{EndsList, IsUndamaged, KeepsStop, MaySend, entry_at};
+ghost use Rattle.mn_cell.specs.Calls.{what_said};
 ghost use Rattle.mn_cell.specs.Passes.{IsSame, OwnsJust};
 ghost use Rattle.mn_cell.specs.Promises.{IsOwedAt, decided_by};
 
@@ -48,7 +50,9 @@ impl<N: Named, D: Disk> Cells<N, D> {
         request: Request,
         stop: Option<StopAt>,
     ) -> NodeReply
-        requires filled { slice_get (is_some self.now.c0 ∷ is_some self.now.c1 ∷ is_some self.now.c2 ∷ is_some self.now.c3 ∷ is_some self.now.c4 ∷ is_some self.now.c5 ∷ is_some self.now.c6 ∷ is_some self.now.c7 ∷ []) node.0 ≡ Some true }
+        requires filled { slice_get (is_some self.now.c0 ∷ is_some self.now.c1 ∷ is_some self.now.c2
+            ∷ is_some self.now.c3 ∷ is_some self.now.c4 ∷ is_some self.now.c5 ∷ is_some self.now.c6
+            ∷ is_some self.now.c7 ∷ []) node.0 ≡ Some true }
         requires board { (id_of board.now ≡ N.board) × (board_of pass.old ≡ N.board) }
         requires owns { OwnsJust (view_of pass.old) (Client list.old.client) }
         requires list { held (view_of pass.old) (Client list.old.client) ≡ Some list.old.entries }
@@ -59,11 +63,16 @@ impl<N: Named, D: Disk> Cells<N, D> {
         ensures board { board_of pass.new ≡ N.board }
         ensures owns { OwnsJust (view_of pass.new) (Client list.old.client) }
         ensures list { held (view_of pass.new) (Client list.old.client) ≡ Some list.new.entries }
-        ensures said { result ≢ Reply.NoMemory → EndsList (view_of pass.old).known (view_of pass.new).known (entry_at node list.old.client (what_said request stop result)) list.old.entries list.new.entries }
-        ensures pass_before { result ≡ Reply.NoMemory → IsSame (view_of pass.old) (view_of pass.new) }
+        ensures said { result ≢ Reply.NoMemory
+            → EndsList (view_of pass.old).known (view_of pass.new).known
+            (entry_at node list.old.client (what_said request stop result)) list.old.entries
+            list.new.entries }
+        ensures pass_before { result ≡ Reply.NoMemory
+            → IsSame (view_of pass.old) (view_of pass.new) }
         ensures list_before { result ≡ Reply.NoMemory → list.new.entries ≡ list.old.entries }
         ensures room { list.old.room ≤ list.new.room + 1 }
-        ensures owed { IsOwedAt node (decided_by request) (entries_of list.old.entries) → 0 < list.old.room → result ≢ Reply.NoMemory }
+        ensures owed { IsOwedAt node (decided_by request) (entries_of list.old.entries)
+            → 0 < list.old.room → result ≢ Reply.NoMemory }
         ensures stop { KeepsStop stop request result }
     {
         match node.0 {
@@ -112,7 +121,9 @@ impl<N: Named, D: Disk> Cells<N, D> {
         pass: &mut Pass<CoreLaw>,
         list: &mut ClientList,
     ) -> Result<bool, NoMemory>
-        requires filled { slice_get (is_some self.now.c0 ∷ is_some self.now.c1 ∷ is_some self.now.c2 ∷ is_some self.now.c3 ∷ is_some self.now.c4 ∷ is_some self.now.c5 ∷ is_some self.now.c6 ∷ is_some self.now.c7 ∷ []) node.0 ≡ Some true }
+        requires filled { slice_get (is_some self.now.c0 ∷ is_some self.now.c1 ∷ is_some self.now.c2
+            ∷ is_some self.now.c3 ∷ is_some self.now.c4 ∷ is_some self.now.c5 ∷ is_some self.now.c6
+            ∷ is_some self.now.c7 ∷ []) node.0 ≡ Some true }
         requires board { (id_of board.now ≡ N.board) × (board_of pass.old ≡ N.board) }
         requires owns { OwnsJust (view_of pass.old) (Client list.old.client) }
         requires list { held (view_of pass.old) (Client list.old.client) ≡ Some list.old.entries }
@@ -120,9 +131,13 @@ impl<N: Named, D: Disk> Cells<N, D> {
         ensures board { board_of pass.new ≡ N.board }
         ensures owns { OwnsJust (view_of pass.new) (Client list.old.client) }
         ensures list { held (view_of pass.new) (Client list.old.client) ≡ Some list.new.entries }
-        ensures halted { IfOk result (λ halted. halted ≡ true → EndsList (view_of pass.old).known (view_of pass.new).known (entry_at node list.old.client (Stopped None None)) list.old.entries list.new.entries) }
-        ensures no_entry { IfOk result (λ halted. halted ≡ false → (pass.new ≡ pass.old) × (list.new ≡ list.old)) }
-        ensures failed { OnErr result ((pass.new ≡ pass.old) × (list.new.entries ≡ list.old.entries)) }
+        ensures halted { IfOk result
+            (λ halted. halted ≡ true → EndsList (view_of pass.old).known (view_of pass.new).known
+            (entry_at node list.old.client (Stopped None None)) list.old.entries list.new.entries) }
+        ensures no_entry { IfOk result
+            (λ halted. halted ≡ false → (pass.new ≡ pass.old) × (list.new ≡ list.old)) }
+        ensures failed { OnErr result
+            ((pass.new ≡ pass.old) × (list.new.entries ≡ list.old.entries)) }
         ensures room { list.old.room ≤ list.new.room + 1 }
     {
         match node.0 {
@@ -172,7 +187,9 @@ impl<N: Named, D: Disk> Cells<N, D> {
         pass: &mut Pass<CoreLaw>,
         list: &mut ClientList,
     ) -> Result<Option<bool>, RestartError>
-        requires filled { slice_get (is_some self.now.c0 ∷ is_some self.now.c1 ∷ is_some self.now.c2 ∷ is_some self.now.c3 ∷ is_some self.now.c4 ∷ is_some self.now.c5 ∷ is_some self.now.c6 ∷ is_some self.now.c7 ∷ []) node.0 ≡ Some true }
+        requires filled { slice_get (is_some self.now.c0 ∷ is_some self.now.c1 ∷ is_some self.now.c2
+            ∷ is_some self.now.c3 ∷ is_some self.now.c4 ∷ is_some self.now.c5 ∷ is_some self.now.c6
+            ∷ is_some self.now.c7 ∷ []) node.0 ≡ Some true }
         requires board { (id_of board.now ≡ N.board) × (board_of pass.old ≡ N.board) }
         requires owns { OwnsJust (view_of pass.old) (Client list.old.client) }
         requires list { held (view_of pass.old) (Client list.old.client) ≡ Some list.old.entries }
@@ -180,9 +197,14 @@ impl<N: Named, D: Disk> Cells<N, D> {
         ensures board { board_of pass.new ≡ N.board }
         ensures owns { OwnsJust (view_of pass.new) (Client list.old.client) }
         ensures list { held (view_of pass.new) (Client list.old.client) ≡ Some list.new.entries }
-        ensures restarted { IfOk result (λ kept. IfSome kept (λ there. EndsList (view_of pass.old).known (view_of pass.new).known (entry_at node list.old.client (Restarted there)) list.old.entries list.new.entries)) }
-        ensures no_entry { IfOk result (λ kept. IfNone kept ((pass.new ≡ pass.old) × (list.new ≡ list.old))) }
-        ensures failed { OnErr result ((pass.new ≡ pass.old) × (list.new.entries ≡ list.old.entries)) }
+        ensures restarted { IfOk result
+            (λ kept. IfSome kept (λ there.
+            EndsList (view_of pass.old).known (view_of pass.new).known
+            (entry_at node list.old.client (Restarted there)) list.old.entries list.new.entries)) }
+        ensures no_entry { IfOk result
+            (λ kept. IfNone kept ((pass.new ≡ pass.old) × (list.new ≡ list.old))) }
+        ensures failed { OnErr result
+            ((pass.new ≡ pass.old) × (list.new.entries ≡ list.old.entries)) }
         ensures undamaged { N.honest node.0 → IfErr result IsUndamaged }
         ensures room { list.old.room ≤ list.new.room + 1 }
     {

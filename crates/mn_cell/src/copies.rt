@@ -1,7 +1,8 @@
 //! Copies of requests and replies. What a reply that comes with a new record needs is taken before
 //! the node is asked.
 ghost use Rattle.std.specs.Prelude.{◌≡◌, ℕ, length, IfOk, OnErr};
-ghost use Rattle.mn_cell.specs.Calls.{HasLengths, IsLarge, lengths_by, lengths_of, read_lengths, what_said};
+ghost use Rattle.mn_cell.specs.Calls.{HasLengths, IsLarge, lengths_by, lengths_of, read_lengths};
+ghost use Rattle.mn_cell.specs.Calls.{what_said};
 
 use mn_base::{Bytes, NoMemory, StopAt, TryCopy};
 use mn_mini::{NodeReply, PartItem, Reads, Request};

@@ -1,7 +1,9 @@
 //! The list of a node, with room for the decisions that it is owed.
-ghost use Rattle.std.specs.Prelude.{◌≡◌, ◌≤◌, ◌<◌, ◌+◌, ◌^◌, ◌⊎◌, ◌++◌, ◌∷◌, [], length, Some, true, false, IfOk, OnOk, OnErr, vec_len, vec_capacity};
+ghost use Rattle.std.specs.Prelude.{◌≡◌, ◌≤◌, ◌<◌, ◌+◌, ◌^◌, ◌⊎◌, ◌++◌, ◌∷◌, [], length, Some};
+ghost use Rattle.std.specs.Prelude.{true, false, IfOk, OnOk, OnErr, vec_len, vec_capacity};
 ghost use Rattle.mn_world.specs.Run.{entries_of};
-ghost use Rattle.mn_cell.specs.Promises.{HasPlace, IsOwed, OwesTo, decided_by, decided_in, is_owed_to, owed_after, owes, voted_by, voted_in, without};
+ghost use Rattle.mn_cell.specs.Promises.{HasPlace, IsOwed, OwesTo, decided_by, decided_in};
+ghost use Rattle.mn_cell.specs.Promises.{is_owed_to, owed_after, owes, voted_by, voted_in, without};
 
 use mn_base::{ClientNo, NoMemory, Tid};
 use mn_mini::{NodeReply, Request};
@@ -36,9 +38,15 @@ impl Model for NodeList {
 
     ghost Value = { NodeListState };
 
-    ghost view = { λ l. record { entries = l.entries.items; owed = l.owed.items; spare = min (vec_capacity l.entries) (2 ^ 57) - (vec_len l.entries + vec_len l.owed); spare_owed = vec_capacity l.owed - vec_len l.owed } };
+    ghost view = { λ l. record {
+      entries = l.entries.items;
+      owed = l.owed.items;
+      spare = min (vec_capacity l.entries) (2 ^ 57) - (vec_len l.entries + vec_len l.owed);
+      spare_owed = vec_capacity l.owed - vec_len l.owed;
+    } };
 
-    ghost invariant = { λ l. IsNodeList l.entries.items l.owed.items (vec_len l.entries) (vec_capacity l.entries) (vec_len l.owed) };
+    ghost invariant = { λ l. IsNodeList l.entries.items l.owed.items (vec_len l.entries)
+        (vec_capacity l.entries) (vec_len l.owed) };
 }
 
 /// The two are one decision.
@@ -136,8 +144,10 @@ fn decided_id_in(what: &What) -> Option<Tid>
 /// Notes what a step of a client changes in the decisions that are owed: it decides one, or is a
 /// vote. There is room for it.
 fn note(owed: &mut Vec<Owed>, client: Option<ClientNo>, what: &What)
-    requires room { (vec_len owed.old < vec_capacity owed.old) ⊎ OwesTo client (decided_in what.now) owed.old.items }
-    ensures noted { owed.new.items ≡ owed_after client (decided_in what.now) (voted_in what.now) owed.old.items }
+    requires room { (vec_len owed.old < vec_capacity owed.old)
+        ⊎ OwesTo client (decided_in what.now) owed.old.items }
+    ensures noted { owed.new.items
+        ≡ owed_after client (decided_in what.now) (voted_in what.now) owed.old.items }
 {
     let Some(client) = client else {
         return;
@@ -174,7 +184,8 @@ impl NodeList {
     /// never comes for a decision that is owed. The entries are as before.
     pub fn make_place(&mut self, client: ClientNo, decided: Option<Tid>) -> Result<(), NoMemory>
         ensures place { OnOk result (HasPlace self.new (Some client) decided) }
-        ensures owed { OnErr result (IsOwed (Some client) decided (entries_of self.old.entries) → ⊥) }
+        ensures owed { OnErr result (IsOwed (Some client) decided (entries_of self.old.entries)
+            → ⊥) }
         ensures entries { self.new.entries ≡ self.old.entries }
         ensures kept { self.new.owed ≡ self.old.owed }
         ensures short { length self.new.entries ≤ 2 ^ 57 }

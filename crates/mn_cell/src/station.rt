@@ -41,9 +41,16 @@ impl<N: Named, D: Disk> Model for Station<N, D> {
 
     ghost Value = { StationState D };
 
-    ghost view = { λ s. record { number = s.number; node = s.node; list = s.list.entries; known = known_by s.pass } };
+    ghost view = { λ s. record {
+      number = s.number;
+      node = s.node;
+      list = s.list.entries;
+      known = known_by s.pass;
+    } };
 
-    ghost invariant = { λ s. IsPassOf N.board s.number s.list.entries s.pass × HasMade D.state D.faults (start_of N.records) s.number (N.faults s.number.0) (N.honest s.number.0) (entries_of s.list.entries) s.node };
+    ghost invariant = { λ s. IsPassOf N.board s.number s.list.entries s.pass
+        × HasMade D.state D.faults (start_of N.records) s.number (N.faults s.number.0)
+        (N.honest s.number.0) (entries_of s.list.entries) s.node };
 }
 
 /// A node and a pass of which no station was made: there was no memory.
@@ -62,11 +69,13 @@ impl<N: Named, D: Disk> Station<N, D> {
         number: NodeNo,
         pass: Pass<CoreLaw>,
     ) -> Result<Station<N, D>, Refused<D>>
-        requires node { IsFirst D.state D.faults (start_of N.records) number (N.faults number.0) (N.honest number.0) node }
+        requires node { IsFirst D.state D.faults (start_of N.records) number (N.faults number.0)
+            (N.honest number.0) node }
         requires board { board_of pass ≡ N.board }
         requires owns { OwnsJust (view_of pass) (AtNode number) }
         requires list { held (view_of pass) (AtNode number) ≡ Some [] }
-        ensures made { IfOk result (λ station. station ≡ record { number = number; node = node; list = []; known = (view_of pass).known }) }
+        ensures made { IfOk result (λ station. station
+            ≡ record { number = number; node = node; list = []; known = (view_of pass).known }) }
         ensures refused { IfErr result (λ refused. (refused.node ≡ node) × (refused.pass ≡ pass)) }
     {
         match NodeList::new(alloc) {
@@ -85,7 +94,8 @@ impl<N: Named, D: Disk> Station<N, D> {
     pub fn into_parts(self) -> (Node<D>, EntryList, Pass<CoreLaw>)
         ensures node { result.0 ≡ self.node }
         ensures list { result.1 ≡ self.list }
-        ensures made { HasMade D.state D.faults (start_of N.records) self.number (N.faults self.number.0) (N.honest self.number.0) (entries_of self.list) self.node }
+        ensures made { HasMade D.state D.faults (start_of N.records) self.number
+            (N.faults self.number.0) (N.honest self.number.0) (entries_of self.list) self.node }
         ensures board { board_of result.2 ≡ N.board }
         ensures owns { OwnsJust (view_of result.2) (AtNode self.number) }
         ensures pass { held (view_of result.2) (AtNode self.number) ≡ Some self.list }

@@ -1,5 +1,7 @@
 -- How a coordinator goes on, by what it was answered so far.
-use Rattle.std.specs.Prelude.{ℕ, ◌+◌, ◌<◌, ◌≤◌, Bool, true, false, not, ◌&&◌, nat_lt, nat_eq, List, length, Option, Some, None, if◌then◌else◌, slice_index_or, slice_set, ⊤}
+use Rattle.std.specs.Prelude.{ℕ, ◌+◌, ◌<◌, ◌≤◌, Bool, true, false, not, ◌&&◌, nat_lt, nat_eq, List}
+use Rattle.std.specs.Prelude.{length, Option, Some, None, if◌then◌else◌, slice_index_or, slice_set}
+use Rattle.std.specs.Prelude.{⊤}
 use Rattle.mn_base.specs.declared.ids.NodeNo.{NodeNo}
 use Rattle.mn_base.specs.declared.ids.Tid.{Tid}
 use Rattle.mn_mini.specs.declared.request.Request.{Request}
@@ -12,7 +14,8 @@ use Rattle.mn_mini.specs.Sound.{IsSoundRequest}
 use Rattle.mn_coord.specs.declared.stage.Stage.{Stage}
 use Rattle.mn_coord.specs.declared.stage.Stage.TheVariants as At
 use Rattle.mn_coord.specs.declared.step.CoordStep.{CoordStep}
-use Rattle.mn_coord.specs.declared.step.CoordStep.TheVariants.{Send, Abandon, Committed, Failed, Doubt}
+use Rattle.mn_coord.specs.declared.step.CoordStep.TheVariants.{Send, Abandon, Committed, Failed}
+use Rattle.mn_coord.specs.declared.step.CoordStep.TheVariants.{Doubt}
 
 -- a minitransaction on its way
 pub record Coordination : Type 0 where
@@ -47,14 +50,16 @@ is_stopped_at_last participants done reply = false
 abbrev pub stage_refused : ℕ → ℕ → NodeReply → Bool → ℕ → Stage
 stage_refused participants done reply told decided =
     if is_stopped_at_last participants done reply then At.Doubt
-    else (if nat_eq participants 1 then At.Failed else (if not told then At.Abandon else (if nat_lt decided done then At.Cancel else At.Failed)))
+    else (if nat_eq participants 1 then At.Failed
+    else (if not told then At.Abandon else (if nat_lt decided done then At.Cancel else At.Failed)))
 
 -- each participant is asked, in order; where all answer Done it is committed, and several are told
 abbrev pub stage_of : ℕ → ℕ → Option NodeReply → Bool → ℕ → Stage
 stage_of participants done None told decided =
     if nat_lt done participants then At.Ask
     else (if nat_lt 1 participants && nat_lt decided participants then At.Commit else At.Committed)
-stage_of participants done (Some reply) told decided = stage_refused participants done reply told decided
+stage_of participants done (Some reply) told decided =
+    stage_refused participants done reply told decided
 
 abbrev pub stage_in : Coordination → Stage
 stage_in c = stage_of (length (participants_of c.mini)) c.done c.refused c.told c.decided
@@ -65,7 +70,9 @@ participant c i = slice_index_or (participants_of c.mini) i (record { 0 = 0 })
 
 -- a lone participant runs it, several vote
 abbrev pub try_request : Tid → Mini → NodeNo → Request
-try_request tid mini n = if nat_eq (length (participants_of mini)) 1 then Ask.Exec tid (part_of mini n) else Ask.Prepare tid (participants_of mini) (part_of mini n)
+try_request tid mini n =
+    if nat_eq (length (participants_of mini)) 1 then Ask.Exec tid (part_of mini n)
+    else Ask.Prepare tid (participants_of mini) (part_of mini n)
 
 abbrev pub step_at : Coordination → Stage → CoordStep
 step_at c At.Ask = Send (participant c c.done) (try_request c.tid c.mini (participant c c.done))
@@ -93,7 +100,8 @@ after_step c step = c
 
 -- a reply to a Prepare or an Exec
 abbrev pub after_reply : Coordination → NodeReply → Coordination
-after_reply c (Say.Done reads) = record c { done = c.done + 1; reads = slice_set c.reads c.done reads; asked = false }
+after_reply c (Say.Done reads) =
+    record c { done = c.done + 1; reads = slice_set c.reads c.done reads; asked = false }
 after_reply c reply = record c { refused = Some reply; asked = false }
 
 -- a reply; those to Decides are passed over

@@ -1,5 +1,6 @@
 -- What the fields of a coordinator stand for.
-use Rattle.std.specs.Prelude.{◌≡◌, ℕ, ◌+◌, ◌<◌, ◌≤◌, Bool, ◌&&◌, nat_lt, length, drop, Option, Some, None, if◌then◌else◌, MatchOption}
+use Rattle.std.specs.Prelude.{◌≡◌, ℕ, ◌+◌, ◌<◌, ◌≤◌, Bool, ◌&&◌, nat_lt, length, drop, Option, Some}
+use Rattle.std.specs.Prelude.{None, if◌then◌else◌, MatchOption}
 use Rattle.mn_mini.specs.declared.reply.NodeReply.{NodeReply}
 use Rattle.mn_mini.specs.Mini.{IsSound, participants_of}
 use Rattle.mn_mini.specs.RecordGrammar.{IsTid}
@@ -8,7 +9,17 @@ use Rattle.mn_coord.specs.Tries.{tries_of}
 use Rattle.mn_coord.specs.declared.coordinator.Coordinator.TheInside.{Inside}
 
 abbrev pub view_of : Inside → Coordination
-view_of c = record { tid = c.tid; mini = c.mini; done = c.done; reads = c.reads.items; refused = c.refused; told = c.told; decided = c.decided; asked = c.asked }
+view_of c =
+    record {
+      tid = c.tid;
+      mini = c.mini;
+      done = c.done;
+      reads = c.reads.items;
+      refused = c.refused;
+      told = c.told;
+      decided = c.decided;
+      asked = c.asked;
+    }
 
 -- how many participants were asked
 abbrev pub sent_of : ℕ → ℕ → Option NodeReply → Bool → ℕ
@@ -21,6 +32,8 @@ pub record IsSoundInside (c : Inside) : Type 0 where
   pub id : IsTid c.tid
   pub mini : IsSound c.mini
   pub some : 1 ≤ length (participants_of c.mini)
-  pub done : MatchOption c.refused (c.done ≤ length (participants_of c.mini)) (λ reply. c.done < length (participants_of c.mini))
+  pub done : MatchOption c.refused (c.done ≤ length (participants_of c.mini))
+      (λ reply. c.done < length (participants_of c.mini))
   pub reads : length c.reads.items ≡ length (participants_of c.mini)
-  pub left : c.requests.items ≡ drop (sent_of (length (participants_of c.mini)) c.done c.refused c.asked) (tries_of c.tid c.mini)
+  pub left : c.requests.items ≡ drop
+      (sent_of (length (participants_of c.mini)) c.done c.refused c.asked) (tries_of c.tid c.mini)

@@ -1,5 +1,7 @@
 -- A coordinator makes only entries that the commit protocol allows its client.
-use Rattle.std.specs.Prelude.{◌≡◌, ◌≢◌, ℕ, ◌+◌, ◌<◌, ◌≤◌, Bool, Contains, slice_index_or, true, false, ◌&&◌, nat_lt, nat_eq, List, [], ◌∷◌, length, Option, Some, None, MatchOption, ⊤}
+use Rattle.std.specs.Prelude.{◌≡◌, ◌≢◌, ℕ, ◌+◌, ◌<◌, ◌≤◌, Bool, Contains, slice_index_or, true}
+use Rattle.std.specs.Prelude.{false, ◌&&◌, nat_lt, nat_eq, List, [], ◌∷◌, length, Option, Some}
+use Rattle.std.specs.Prelude.{None, MatchOption, ⊤}
 use Rattle.std.specs.List.{list_any}
 use Rattle.mn_base.specs.declared.ids.NodeNo.{NodeNo}
 use Rattle.mn_base.specs.declared.ids.Tid.{Tid}
@@ -9,11 +11,14 @@ use Rattle.mn_mini.specs.declared.reply.NodeReply.TheVariants as Say
 use Rattle.mn_mini.specs.Mini.{Mini, participants_of}
 use Rattle.mn_world.specs.declared.entry.Entry.{Entry}
 use Rattle.mn_world.specs.declared.entry.What.TheVariants.{Issue, Abandoned}
-use Rattle.mn_world.specs.Calls.{Call, call_in, calls_of, is_prepare, is_done, is_stopped, was_told, was_sent, was_done, was_stopped, was_abandoned, is_in_doubt, issues_of, issue_named, since_begin, is_try}
+use Rattle.mn_world.specs.Calls.{Call, call_in, calls_of, is_prepare, is_done, is_stopped, was_told}
+use Rattle.mn_world.specs.Calls.{was_sent, was_done, was_stopped, was_abandoned, is_in_doubt}
+use Rattle.mn_world.specs.Calls.{issues_of, issue_named, since_begin, is_try}
 use Rattle.mn_world.specs.Clients.{Sends, AllowsAbandoned}
 use Rattle.mn_coord.specs.declared.step.CoordStep.{CoordStep}
 use Rattle.mn_coord.specs.declared.step.CoordStep.TheVariants.{Send, Abandon}
-use Rattle.mn_coord.specs.Coordination.{Coordination, is_stopped_at_last, participant, try_request, step_of, after_step, fed}
+use Rattle.mn_coord.specs.Coordination.{Coordination, is_stopped_at_last, participant, try_request}
+use Rattle.mn_coord.specs.Coordination.{step_of, after_step, fed}
 
 abbrev pub has_stopped : Option NodeReply → Bool
 has_stopped None = false
@@ -52,13 +57,18 @@ pub record Agrees (es : List Entry) (c : Coordination) : Type 0 where
   pub now : issue_named c.tid (issues_of (since_begin es)) ≡ Some c.mini
   pub ever : issue_named c.tid (issues_of es) ≡ Some c.mini
   pub some : 1 ≤ length (participants_of c.mini)
-  pub within : MatchOption c.refused (c.done ≤ length (participants_of c.mini)) (λ reply. c.done < length (participants_of c.mini))
+  pub within : MatchOption c.refused (c.done ≤ length (participants_of c.mini))
+      (λ reply. c.done < length (participants_of c.mini))
   pub untold : c.refused ≡ None → c.told ≡ false
   pub told : was_abandoned c.tid es ≡ c.told
-  pub done : (i : ℕ) → i < length (participants_of c.mini) → was_done c.tid (participant c i) es ≡ nat_lt i c.done
-  pub votes : 2 ≤ length (participants_of c.mini) → (i : ℕ) → i < length (participants_of c.mini) → i < c.done → was_told (is_prepare c.tid) is_done (participant c i) es ≡ true
-  pub sent : c.refused ≡ None → (i : ℕ) → i < length (participants_of c.mini) → was_sent c.tid (participant c i) es ≡ nat_lt i c.done
-  pub stopped : (i : ℕ) → i < length (participants_of c.mini) → was_stopped c.tid (participant c i) es ≡ (nat_eq i c.done && has_stopped c.refused)
+  pub done : (i : ℕ) → i < length (participants_of c.mini)
+      → was_done c.tid (participant c i) es ≡ nat_lt i c.done
+  pub votes : 2 ≤ length (participants_of c.mini) → (i : ℕ) → i < length (participants_of c.mini)
+      → i < c.done → was_told (is_prepare c.tid) is_done (participant c i) es ≡ true
+  pub sent : c.refused ≡ None → (i : ℕ) → i < length (participants_of c.mini)
+      → was_sent c.tid (participant c i) es ≡ nat_lt i c.done
+  pub stopped : (i : ℕ) → i < length (participants_of c.mini)
+      → was_stopped c.tid (participant c i) es ≡ (nat_eq i c.done && has_stopped c.refused)
   pub doubt : is_in_doubt c.tid es ≡ is_doubtful (length (participants_of c.mini)) c.done c.refused
   pub answers : HasAnswers (since_begin es) c.tid c.mini c.done c.reads c.refused
 
@@ -70,7 +80,8 @@ MayMake es tid step = ⊤
 
 -- the entry is this request with its reply
 abbrev pub IsAnswered : Entry → NodeNo → Request → NodeReply → Type 0
-IsAnswered e node request reply = call_in e.node e.what ≡ record { node = node; request = request; reply = reply } ∷ []
+IsAnswered e node request reply =
+    call_in e.node e.what ≡ record { node = node; request = request; reply = reply } ∷ []
 
 -- what it wants next is allowed
 abbrev pub StepsAreAllowed : Type 0
@@ -79,7 +90,9 @@ StepsAreAllowed = (es : List Entry) (c : Coordination) → Agrees es c → MayMa
 -- with the answer in the list it still agrees
 abbrev pub AnswersAgree : Type 0
 AnswersAgree =
-    (es : List Entry) (e : Entry) (c : Coordination) (node : NodeNo) (request : Request) (reply : NodeReply) → Agrees es c → step_of c ≡ Send node request → IsAnswered e node request reply
+    (es : List Entry) (e : Entry) (c : Coordination) (node : NodeNo) (request : Request)
+    (reply : NodeReply) → Agrees es c → step_of c ≡ Send node request
+    → IsAnswered e node request reply
     → Agrees (e ∷ es) (fed c reply)
 
 -- a reply that is no entry refuses, and leaves the list as it was
@@ -88,7 +101,9 @@ NoAnswerAgrees = (es : List Entry) (c : Coordination) → Agrees es c → Agrees
 
 -- so does Abandoned, once it is told
 abbrev pub AbandonedAgrees : Type 0
-AbandonedAgrees = (es : List Entry) (e : Entry) (c : Coordination) → Agrees es c → step_of c ≡ Abandon → e.node ≡ None → e.what ≡ Abandoned c.tid → Agrees (e ∷ es) (after_step c Abandon)
+AbandonedAgrees =
+    (es : List Entry) (e : Entry) (c : Coordination) → Agrees es c → step_of c ≡ Abandon
+    → e.node ≡ None → e.what ≡ Abandoned c.tid → Agrees (e ∷ es) (after_step c Abandon)
 
 -- no call and no Abandoned of the list is of this id
 abbrev pub names_tid : Tid → Call → Bool
@@ -100,6 +115,8 @@ IsFresh tid es = (list_any (names_tid tid) (calls_of es) ≡ false) × (was_aban
 -- after its issue a new coordinator agrees
 abbrev pub IssuesAgree : Type 0
 IssuesAgree =
-    (es : List Entry) (e : Entry) (c : Coordination) → IsFresh c.tid es → 1 ≤ length (participants_of c.mini)
-    → length c.reads ≡ length (participants_of c.mini) → c.done ≡ 0 → c.refused ≡ None → c.told ≡ false
+    (es : List Entry) (e : Entry) (c : Coordination) → IsFresh c.tid es
+    → 1 ≤ length (participants_of c.mini)
+    → length c.reads ≡ length (participants_of c.mini) → c.done ≡ 0 → c.refused ≡ None
+    → c.told ≡ false
     → e.node ≡ None → e.what ≡ Issue c.tid c.mini → Agrees (e ∷ es) c

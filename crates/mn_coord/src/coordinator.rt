@@ -1,4 +1,5 @@
-ghost use Rattle.std.specs.Prelude.{◌≡◌, ◌≢◌, ◌<◌, ◌≤◌, ◌-◌, Bool, true, false, None, List, [], ◌∷◌, length, replicate, slice_index_or, IfOk};
+ghost use Rattle.std.specs.Prelude.{◌≡◌, ◌≢◌, ◌<◌, ◌≤◌, ◌-◌, Bool, true, false, None, List, []};
+ghost use Rattle.std.specs.Prelude.{◌∷◌, length, replicate, slice_index_or, IfOk};
 ghost use Rattle.std.specs.Option.{option_map};
 ghost use Rattle.mn_mini.specs.Mini.{IsSound, participants_of};
 ghost use Rattle.mn_mini.specs.RecordGrammar.{IsTid};
@@ -107,15 +108,28 @@ impl Coordinator {
     ghost use Rattle.mn_world.specs.declared.entry.Entry.{Entry};
     ghost use Rattle.mn_world.specs.declared.entry.What.TheVariants as is;
     ghost use Rattle.mn_coord.specs.declared.step.CoordStep.TheVariants.{Send, Abandon};
-    ghost use Rattle.mn_coord.specs.Coordination.{IsSoundCoordination, IsSoundStep, stage_in, step_of, after_step, fed};
+    ghost use Rattle.mn_coord.specs.Coordination.{IsSoundCoordination, IsSoundStep, stage_in};
+    ghost use Rattle.mn_coord.specs.Coordination.{step_of, after_step, fed};
     ghost use Rattle.mn_coord.specs.Legal.{Agrees, IsFresh, IsAnswered, MayMake};
 
     /// The coordinator of the minitransaction under this id, which has a run and a serial from 1 on
     /// and a client from 0 to 20. NoMemory: there was no memory for all that it will need.
     pub fn new(alloc: Global, tid: Tid, mini: Minitransaction) -> Result<Self, NoMemory>
         requires id { IsTid tid }
-        ensures starts { IfOk result (λ c. c ≡ record { tid = tid; mini = mini; done = 0; reads = replicate (length (participants_of mini)) []; refused = None; told = false; decided = 0; asked = false }) }
-        ensures agrees { (es : List Entry) (e : Entry) → IsFresh tid es → e.node ≡ None → e.what ≡ is.Issue tid mini → IfOk result (λ c. Agrees (e ∷ es) c) }
+        ensures starts { IfOk result
+            (λ c. c ≡ record {
+              tid = tid;
+              mini = mini;
+              done = 0;
+              reads = replicate (length (participants_of mini)) [];
+              refused = None;
+              told =
+                  false;
+              decided = 0;
+              asked = false;
+            }) }
+        ensures agrees { (es : List Entry) (e : Entry) → IsFresh tid es → e.node ≡ None
+            → e.what ≡ is.Issue tid mini → IfOk result (λ c. Agrees (e ∷ es) c) }
     {
         let requests = tries_for(alloc, tid, &mini)?;
         let reads = no_reads(alloc, participants_in(&mini))?;
@@ -162,8 +176,11 @@ impl Coordinator {
         // A request is sound, and goes to a node that the minitransaction was made for.
         ensures sound { IsSoundStep self.old.mini.nodes result }
         ensures legal { (es : List Entry) → Agrees es self.old → MayMake es self.old.tid result }
-        ensures agrees { (es : List Entry) → Agrees es self.old → step_of self.old ≢ Abandon → Agrees es self.new }
-        ensures abandoned { (es : List Entry) (e : Entry) → Agrees es self.old → step_of self.old ≡ Abandon → e.node ≡ None → e.what ≡ is.Abandoned self.old.tid → Agrees (e ∷ es) self.new }
+        ensures agrees { (es : List Entry) → Agrees es self.old → step_of self.old ≢ Abandon
+            → Agrees es self.new }
+        ensures abandoned { (es : List Entry) (e : Entry) → Agrees es self.old
+            → step_of self.old ≡ Abandon → e.node ≡ None → e.what ≡ is.Abandoned self.old.tid
+            → Agrees (e ∷ es) self.new }
     {
         parts_sound();
         self.is_sound();
@@ -223,8 +240,11 @@ impl Coordinator {
         requires out { self.old.asked ≡ true }
         ensures fed { self.new ≡ fed self.old reply }
         ensures idle { self.new.asked ≡ false }
-        ensures agrees { (es : List Entry) (e : Entry) (node : NodeNo) (request : Request) → Agrees es self.old → step_of self.old ≡ Send node request → IsAnswered e node request reply → Agrees (e ∷ es) self.new }
-        ensures no_entry { (reply ≡ NodeReply.NoMemory) → ((es : List Entry) → Agrees es self.old → Agrees es self.new) }
+        ensures agrees { (es : List Entry) (e : Entry) (node : NodeNo) (request : Request)
+            → Agrees es self.old → step_of self.old ≡ Send node request
+            → IsAnswered e node request reply → Agrees (e ∷ es) self.new }
+        ensures no_entry { (reply ≡ NodeReply.NoMemory)
+            → ((es : List Entry) → Agrees es self.old → Agrees es self.new) }
     {
         self.take(reply);
     }

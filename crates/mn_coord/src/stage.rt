@@ -40,7 +40,8 @@ pub fn stage_for(
     decided: usize,
 ) -> Stage
     requires { done ≤ participants }
-    ensures { result ≡ stage_of participants done (option_map (λ r. r.now) refused.entry) told decided }
+    ensures { result ≡ stage_of participants done
+        (option_map (λ r. r.now) refused.entry) told decided }
 {
     match refused {
         None if done < participants => Stage::Ask,

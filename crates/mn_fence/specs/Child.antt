@@ -8,10 +8,14 @@ count_not_above separators key = count_by (λ separator. key_le separator key) s
 
 -- each separator is below the later ones
 abbrev pub Ascend : List (List ℕ) → Type 0
-Ascend separators = (i j : ℕ) (a b : List ℕ) → i < j → slice_get separators i ≡ Some a → slice_get separators j ≡ Some b → key_lt a b ≡ true
+Ascend separators =
+    (i j : ℕ) (a b : List ℕ) → i < j → slice_get separators i ≡ Some a
+    → slice_get separators j ≡ Some b → key_lt a b ≡ true
 
 -- the key belongs to this child: the separators before it are not above the key, and the others are
 pub record IsChild (separators : List (List ℕ)) (key : List ℕ) (child : ℕ) : Type 0 where
   pub within : child ≤ length separators
-  pub before : (i : ℕ) (s : List ℕ) → i < child → slice_get separators i ≡ Some s → key_le s key ≡ true
-  pub after : (i : ℕ) (s : List ℕ) → child ≤ i → slice_get separators i ≡ Some s → key_lt key s ≡ true
+  pub before : (i : ℕ) (s : List ℕ) → i < child → slice_get separators i ≡ Some s
+      → key_le s key ≡ true
+  pub after : (i : ℕ) (s : List ℕ) → child ≤ i → slice_get separators i ≡ Some s
+      → key_lt key s ≡ true

@@ -1,5 +1,7 @@
 -- What the program that tests records keeps of them, and what that tells.
-use Rattle.std.specs.Prelude.{◌≡◌, ◌≤◌, Bool, true, false, not, ◌&&◌, ◌||◌, nat_eq, List, [], ◌∷◌, length, map, reverse, Option, Some, None, is_some, slice_get, unwrap_or}
+use Rattle.std.specs.Prelude.{◌≡◌, ◌≤◌, Bool, true, false, not, ◌&&◌, ◌||◌, nat_eq, List, [], ◌∷◌}
+use Rattle.std.specs.Prelude.{length, map, reverse, Option, Some, None, is_some, slice_get}
+use Rattle.std.specs.Prelude.{unwrap_or}
 use Rattle.std.specs.List.{list_all}
 use Rattle.std.specs.Option.{option_map, option_map_or}
 use Rattle.std.specs.HashMap.{get}
@@ -25,7 +27,16 @@ keys_same a b = nat_eq a.run b.run && (nat_eq a.client b.client && nat_eq a.seri
 
 -- what is known of an id without records
 abbrev pub unknown : Known
-unknown = record { seen = false; several = false; participants = None; differ = false; executed = false; agreed = false; refused = false }
+unknown =
+    record {
+      seen = false;
+      several = false;
+      participants = None;
+      differ = false;
+      executed = false;
+      agreed = false;
+      refused = false;
+    }
 
 abbrev pub known_at : Table → Tid → Known
 known_at t tid = unwrap_or (get keys_same t.known (id_key tid)) unknown
@@ -35,11 +46,14 @@ named_in k = option_map (λ ns. ns.now) k.participants
 
 -- two votes for the id name different participants
 abbrev pub differs_from : Option (List NodeNo) → List NodeNo → Bool
-differs_from older participants = option_map_or (λ others. not (same_nodes others participants)) older false
+differs_from older participants =
+    option_map_or (λ others. not (same_nodes others participants)) older false
 
 abbrev pub votes_differ : Tid → List Record → Bool
 votes_differ tid [] = false
-votes_differ tid (Voted t participants part ∷ older) = (tid_same t tid && differs_from (voted_participants tid older) participants) || votes_differ tid older
+votes_differ tid (Voted t participants part ∷ older) =
+    (tid_same t tid && differs_from (voted_participants tid older) participants)
+    || votes_differ tid older
 votes_differ tid (Executed t part ∷ older) = votes_differ tid older
 votes_differ tid (Decided t verdict ∷ older) = votes_differ tid older
 votes_differ tid (Forced t ∷ older) = votes_differ tid older
@@ -65,15 +79,23 @@ pub record AllTell (tables : List Table) (lists : NodeNo → List Record) : Type
 -- what else is known of the id of a record after it
 abbrev pub Others : Known → Known → Record → Type 0
 Others before after (Voted t participants part) =
-    (named_in after ≡ Some participants) × (after.differ ≡ (differs_from (named_in before) participants || before.differ)) × (after.executed ≡ before.executed) × (after.agreed ≡ before.agreed) × (after.refused ≡ before.refused)
+    (named_in after ≡ Some participants)
+    × (after.differ ≡ (differs_from (named_in before) participants || before.differ))
+    × (after.executed ≡ before.executed) × (after.agreed ≡ before.agreed)
+    × (after.refused ≡ before.refused)
 Others before after (Executed t part) =
-    (named_in after ≡ named_in before) × (after.differ ≡ before.differ) × (after.executed ≡ true) × (after.agreed ≡ before.agreed) × (after.refused ≡ before.refused)
+    (named_in after ≡ named_in before) × (after.differ ≡ before.differ) × (after.executed ≡ true)
+    × (after.agreed ≡ before.agreed) × (after.refused ≡ before.refused)
 Others before after (Decided t true) =
-    (named_in after ≡ named_in before) × (after.differ ≡ before.differ) × (after.executed ≡ before.executed) × (after.agreed ≡ true) × (after.refused ≡ before.refused)
+    (named_in after ≡ named_in before) × (after.differ ≡ before.differ)
+    × (after.executed ≡ before.executed) × (after.agreed ≡ true) × (after.refused ≡ before.refused)
 Others before after (Decided t false) =
-    (named_in after ≡ named_in before) × (after.differ ≡ before.differ) × (after.executed ≡ before.executed) × (after.agreed ≡ before.agreed) × (after.refused ≡ true)
+    (named_in after ≡ named_in before) × (after.differ ≡ before.differ)
+    × (after.executed ≡ before.executed) × (after.agreed ≡ before.agreed) × (after.refused ≡ true)
 Others before after (Forced t) =
-    (named_in after ≡ named_in before) × (after.differ ≡ before.differ) × (after.executed ≡ before.executed) × (after.agreed ≡ before.agreed) × (after.refused ≡ before.refused)
+    (named_in after ≡ named_in before) × (after.differ ≡ before.differ)
+    × (after.executed ≡ before.executed) × (after.agreed ≡ before.agreed)
+    × (after.refused ≡ before.refused)
 
 -- what is known of the id of a record after it
 pub record FollowsRecord (before after : Known) (r : Record) : Type 0 where
@@ -83,15 +105,18 @@ pub record FollowsRecord (before after : Known) (r : Record) : Type 0 where
 
 -- by the tables the node has voted for the id
 abbrev pub says_voted : List Table → Tid → NodeNo → Bool
-says_voted tables tid n = option_map_or (λ t. is_some (known_at t tid).participants) (slice_get tables n.0) false
+says_voted tables tid n =
+    option_map_or (λ t. is_some (known_at t tid).participants) (slice_get tables n.0) false
 
 -- each participant that a vote names has
 abbrev pub says_all : List Table → Tid → Option (List NodeNo) → Bool
-says_all tables tid participants = option_map_or (list_all (says_voted tables tid)) participants false
+says_all tables tid participants =
+    option_map_or (list_all (says_voted tables tid)) participants false
 
 -- the node's records show that the id is committed
 abbrev pub says_committed : List Table → Tid → Table → Bool
-says_committed tables tid t = (known_at t tid).executed || says_all tables tid (named_in (known_at t tid))
+says_committed tables tid t =
+    (known_at t tid).executed || says_all tables tid (named_in (known_at t tid))
 
 -- Held parts, which are kept oldest first
 

@@ -4,7 +4,8 @@ use Rattle.mn_page.specs.declared.entry.CatEntry.{CatEntry}
 use Rattle.mn_forest.specs.declared.error.ForestError.{ForestError}
 use Rattle.mn_forest.specs.declared.error.ForestError.TheVariants.{Broken, NoMemory}
 use Rattle.mn_forest.specs.declared.error.Rule.{Rule}
-use Rattle.mn_forest.specs.Rules.{HasHeader, HasCount, HasEntryAt, HasRootAt, Test, IsTest, Passes, Precedes, start_at, rule_of, OfPage, OfChildren, OfReach}
+use Rattle.mn_forest.specs.Rules.{HasHeader, HasCount, HasEntryAt, HasRootAt, Test, IsTest, Passes}
+use Rattle.mn_forest.specs.Rules.{Precedes, start_at, rule_of, OfPage, OfChildren, OfReach}
 
 -- the header and the count pass
 abbrev pub HasFront : List (List ℕ) → ℕ → Type 0
@@ -16,7 +17,9 @@ HasEntriesTo memory es n k = (w : ℕ) → w < k → HasEntryAt memory es n w ×
 
 -- a slot passes, and so many do
 abbrev pub HasSlot : List (List ℕ) → List (Option CatEntry) → ℕ → ℕ → Type 0
-HasSlot memory es n slot = Passes memory es n (OfPage slot) × Passes memory es n (OfChildren slot) × Passes memory es n (OfReach slot)
+HasSlot memory es n slot =
+    Passes memory es n (OfPage slot) × Passes memory es n (OfChildren slot)
+    × Passes memory es n (OfReach slot)
 
 abbrev pub HasSlotsTo : List (List ℕ) → List (Option CatEntry) → ℕ → ℕ → Type 0
 HasSlotsTo memory es n k = (slot : ℕ) → slot < k → HasSlot memory es n slot
@@ -25,7 +28,8 @@ abbrev pub PassesAll : List (List ℕ) → List (Option CatEntry) → ℕ → Ty
 PassesAll memory es n = (t : Test) → IsTest t → Passes memory es n t
 
 -- a test of the node fails where those before it pass
-pub record FailsAt (memory : List (List ℕ)) (es : List (Option CatEntry)) (n start : ℕ) (rule : Rule) : Type 0 where
+pub record FailsAt (memory : List (List ℕ)) (es : List (Option CatEntry)) (n start : ℕ)
+    (rule : Rule) : Type 0 where
   pub t : Test
   pub test : IsTest t
   pub start_is : start ≡ start_at t

@@ -1,6 +1,8 @@
 -- The rules of the forest: what must hold of the bytes of all nodes so that they hold a store, each
 -- where it is tested.
-use Rattle.std.specs.Prelude.{◌≡◌, ℕ, zero, suc, ◌+◌, ◌*◌, ◌<◌, ◌≤◌, ◌⊎◌, Bool, true, false, nat_lt, nat_eq, IsTrue, List, [], ◌∷◌, length, map, take, replicate, Option, Some, None, is_some, slice_get, slice_index_or, bytes_eq, Contains}
+use Rattle.std.specs.Prelude.{◌≡◌, ℕ, zero, suc, ◌+◌, ◌*◌, ◌<◌, ◌≤◌, ◌⊎◌, Bool, true, false, nat_lt}
+use Rattle.std.specs.Prelude.{nat_eq, IsTrue, List, [], ◌∷◌, length, map, take, replicate, Option}
+use Rattle.std.specs.Prelude.{Some, None, is_some, slice_get, slice_index_or, bytes_eq, Contains}
 use Rattle.std.specs.List.{list_all, list_any, AllByRecursion}
 use Rattle.std.specs.Option.{option_map_or}
 use Rattle.byteorder.specs.Endian.{big_number, big_bytes}
@@ -10,7 +12,8 @@ use Rattle.mn_base.specs.declared.ids.VersionNo.{VersionNo}
 use Rattle.mn_mini.specs.Flat.{bytes_in}
 use Rattle.mn_page.specs.declared.entry.CatEntry.{CatEntry}
 use Rattle.mn_page.specs.declared.page.Page.{Page}
-use Rattle.mn_page.specs.Space.{count_start, count_size, catalog_start, catalog_size, entry_size, slots_start, slot_size, max_slots, entry_start, slot_start}
+use Rattle.mn_page.specs.Space.{count_start, count_size, catalog_start, catalog_size, entry_size}
+use Rattle.mn_page.specs.Space.{slots_start, slot_size, max_slots, entry_start, slot_start}
 use Rattle.mn_page.specs.Grammar.{SpellsEntry, IsUnused, SpellsPage, IsFree, height_of}
 use Rattle.mn_page.specs.Forest.{header_bytes, ChildRange, children_of}
 use Rattle.mn_page.specs.Holds.{HasVersions, page_serves}
@@ -35,7 +38,9 @@ slot_place memory n slot = bytes_in (space_at memory n) (slot_start slot) slot_s
 
 -- a page stands at the address: in a slot below its node's count
 abbrev pub StandsAt : List (List ℕ) → Addr → Page → Type 0
-StandsAt memory addr p = (addr.slot < count_at memory addr.node.0) × SpellsPage (slot_place memory addr.node.0 addr.slot) p
+StandsAt memory addr p =
+    (addr.slot < count_at memory addr.node.0)
+    × SpellsPage (slot_place memory addr.node.0 addr.slot) p
 
 unfoldable pub zeros : ℕ → List ℕ
 zeros n = replicate n 0
@@ -48,7 +53,8 @@ ReadsAs place (Some e) = SpellsEntry place e
 
 pub record Says (memory : List (List ℕ)) (es : List (Option CatEntry)) : Type 0 where
   pub places : length es ≡ max_versions
-  pub each : (w : ℕ) (o : Option CatEntry) → slice_get es w ≡ Some o → ReadsAs (entry_place memory 0 w) o
+  pub each : (w : ℕ) (o : Option CatEntry) → slice_get es w ≡ Some o
+      → ReadsAs (entry_place memory 0 w) o
 
 -- the entry of a version
 abbrev pub entry_of : List (Option CatEntry) → ℕ → Option CatEntry
@@ -94,7 +100,9 @@ is_child_of v o = option_map_or (λ e. option_map_or (λ p. nat_eq p.0 v) e.pare
 -- frozen exactly where it has a child. Only the first place must have one.
 abbrev pub EntryFits : List (Option CatEntry) → ℕ → Option CatEntry → Type 0
 EntryFits es w None = 1 ≤ w
-EntryFits es w (Some e) = (list_all (λ o. is_some o) (take w es) ≡ true) × (parent_fits w e.parent ≡ true) × (list_any (is_named e.name) (take w es) ≡ false) × (e.frozen ≡ list_any (is_child_of w) es)
+EntryFits es w (Some e) =
+    (list_all (λ o. is_some o) (take w es) ≡ true) × (parent_fits w e.parent ≡ true)
+    × (list_any (is_named e.name) (take w es) ≡ false) × (e.frozen ≡ list_any (is_child_of w) es)
 
 abbrev pub IsReadable : List ℕ → Type 0
 IsReadable place = IsUnused place ⊎ ((e : CatEntry) × SpellsEntry place e)
@@ -124,27 +132,34 @@ HasRootAt memory es (suc n) w = Unit {0}
 
 -- below the count a slot has a page of the catalog's versions, from there on it is free
 pub record HasPage (memory : List (List ℕ)) (entries : List CatEntry) (addr : Addr) : Type 0 where
-  pub below : addr.slot < count_at memory addr.node.0 → (p : Page) × SpellsPage (slot_place memory addr.node.0 addr.slot) p × HasVersions entries p
-  pub behind : count_at memory addr.node.0 ≤ addr.slot → IsFree (slot_place memory addr.node.0 addr.slot)
+  pub below : addr.slot < count_at memory addr.node.0 → (p : Page)
+      × SpellsPage (slot_place memory addr.node.0 addr.slot) p × HasVersions entries p
+  pub behind : count_at memory addr.node.0 ≤ addr.slot
+      → IsFree (slot_place memory addr.node.0 addr.slot)
 
 -- a child has just its range, is one height lower, and serves what its parent serves
-pub record IsChildAt (memory : List (List ℕ)) (entries : List CatEntry) (p : Page) (c : ChildRange) : Type 0 where
+pub record IsChildAt (memory : List (List ℕ)) (entries : List CatEntry) (p : Page) (c : ChildRange)
+    : Type 0 where
   pub page : Page
   pub there : StandsAt memory c.addr page
   pub low : page.low ≡ c.low
   pub high : page.high ≡ c.high
   pub height : height_of page.body + 1 ≡ height_of p.body
-  pub serves : (v : ℕ) → v < length entries → IsTrue (page_serves entries v p) → IsTrue (page_serves entries v page)
+  pub serves : (v : ℕ) → v < length entries → IsTrue (page_serves entries v p)
+      → IsTrue (page_serves entries v page)
 
 abbrev pub HasChildren : List (List ℕ) → List CatEntry → Addr → Type 0
-HasChildren memory entries addr = (p : Page) → StandsAt memory addr p → AllByRecursion (IsChildAt memory entries p) (children_of p)
+HasChildren memory entries addr =
+    (p : Page) → StandsAt memory addr p
+    → AllByRecursion (IsChildAt memory entries p) (children_of p)
 
 -- the address is that of the version's root
 abbrev pub IsRootOf : List CatEntry → ℕ → Addr → Type 0
 IsRootOf entries v addr = (e : CatEntry) × (slice_get entries v ≡ Some e) × (e.root ≡ addr)
 
 -- the page at `from` has this height, serves the version, and names the address as a child
-pub record IsNamedBy (memory : List (List ℕ)) (entries : List CatEntry) (v height : ℕ) (addr from : Addr) : Type 0 where
+pub record IsNamedBy (memory : List (List ℕ)) (entries : List CatEntry) (v height : ℕ)
+    (addr from : Addr) : Type 0 where
   pub parent : Page
   pub there : StandsAt memory from parent
   pub level : height_of parent.body ≡ height
@@ -159,7 +174,9 @@ IsNamedAt memory entries v height addr = (from : Addr) × IsNamedBy memory entri
 -- version names it
 abbrev pub IsReached : List (List ℕ) → List CatEntry → Addr → Type 0
 IsReached memory entries addr =
-    (p : Page) → StandsAt memory addr p → (v : ℕ) → v < length entries → IsTrue (page_serves entries v p) → IsRootOf entries v addr ⊎ IsNamedAt memory entries v (height_of p.body + 1) addr
+    (p : Page) → StandsAt memory addr p → (v : ℕ) → v < length entries
+    → IsTrue (page_serves entries v p) → IsRootOf entries v addr
+    ⊎ IsNamedAt memory entries v (height_of p.body + 1) addr
 
 -- Tests of a node, each a rule where it is tested
 
@@ -216,9 +233,12 @@ Passes memory es n OfHeader = HasHeader memory n
 Passes memory es n OfCount = HasCount memory n
 Passes memory es n (OfEntry w) = HasEntryAt memory es n w
 Passes memory es n (OfRoot w) = HasRootAt memory es n w
-Passes memory es n (OfPage slot) = HasPage memory (entries_of es) (record { node = record { 0 = n }; slot = slot })
-Passes memory es n (OfChildren slot) = HasChildren memory (entries_of es) (record { node = record { 0 = n }; slot = slot })
-Passes memory es n (OfReach slot) = IsReached memory (entries_of es) (record { node = record { 0 = n }; slot = slot })
+Passes memory es n (OfPage slot) =
+    HasPage memory (entries_of es) (record { node = record { 0 = n }; slot = slot })
+Passes memory es n (OfChildren slot) =
+    HasChildren memory (entries_of es) (record { node = record { 0 = n }; slot = slot })
+Passes memory es n (OfReach slot) =
+    IsReached memory (entries_of es) (record { node = record { 0 = n }; slot = slot })
 
 -- the tests go by start, then by rule
 abbrev pub order_of : Test → ℕ
@@ -232,7 +252,8 @@ abbrev pub AllPass : List (List ℕ) → List (Option CatEntry) → Type 0
 AllPass memory es = (n : ℕ) (t : Test) → n < length memory → IsTest t → Passes memory es n t
 
 -- the test does not pass, and each before it does, by node, then by start, then by rule
-pub record IsFirstFailed (memory : List (List ℕ)) (es : List (Option CatEntry)) (n : ℕ) (t : Test) : Type 0 where
+pub record IsFirstFailed (memory : List (List ℕ)) (es : List (Option CatEntry)) (n : ℕ) (t : Test)
+    : Type 0 where
   pub node : n < length memory
   pub test : IsTest t
   pub failed : Passes memory es n t → ⊥

@@ -21,7 +21,8 @@ pub record ArePages (memory : List (List ℕ)) (at : PagesAt) : Type 0 where
 -- the pairs of the leaves so many heights below the page at an address, in order
 abbrev pub pairs_below : PagesAt → ℕ → Addr → List Pair
 pairs_below at zero addr = option_map_or (λ p. pairs_in p.body) (at addr) []
-pairs_below at (suc height) addr = flat_map (pairs_below at height) (option_map_or (λ p. addrs_in p.body) (at addr) [])
+pairs_below at (suc height) addr =
+    flat_map (pairs_below at height) (option_map_or (λ p. addrs_in p.body) (at addr) [])
 
 -- the height of the page at an address, 0 where there is none
 abbrev pub height_there : PagesAt → Addr → ℕ
@@ -29,7 +30,8 @@ height_there at addr = option_map_or (λ p. height_of p.body) (at addr) 0
 
 -- the version of an entry
 abbrev pub version_shown : PagesAt → CatEntry → StoreVersion
-version_shown at e = record { head = entry_head e; pairs = pairs_below at (height_there at e.root) e.root }
+version_shown at e =
+    record { head = entry_head e; pairs = pairs_below at (height_there at e.root) e.root }
 
 abbrev pub store_shown : PagesAt → List CatEntry → Store
 store_shown at entries = map (version_shown at) entries

@@ -8,7 +8,8 @@ use Rattle.mn_forest.specs.declared.error.VoteError.TheVariants.{Unvoted, Both, 
 use Rattle.mn_forest.specs.declared.votes.Told.{Told}
 use Rattle.mn_forest.specs.declared.votes.Past.{Past}
 use Rattle.mn_forest.specs.Known.{TableTells, AllTell, parts_seen}
-use Rattle.mn_forest.specs.Votes.{KeepsVotes, KeepsDecisions, AreRight, lists_of, all_of, list_at, elders}
+use Rattle.mn_forest.specs.Votes.{KeepsVotes, KeepsDecisions, AreRight, lists_of, all_of, list_at}
+use Rattle.mn_forest.specs.Votes.{elders}
 
 -- what is told is what the records of all nodes tell
 pub record IsTold (told : Told) (records : List (List Record)) : Type 0 where
@@ -23,12 +24,15 @@ pub record IsPast (past : Past) (older : List Record) : Type 0 where
 
 -- the record with this number, after these older ones, is wrong as the answer says
 abbrev pub SaysWrong : List (List Record) → NodeNo → ℕ → List Record → Record → VoteError → Type 0
-SaysWrong records n number older r (Unvoted node k) = (node ≡ n) × (k ≡ number) × (KeepsVotes records n older r → ⊥)
-SaysWrong records n number older r (Both node k) = (node ≡ n) × (k ≡ number) × KeepsVotes records n older r × (KeepsDecisions records r → ⊥)
+SaysWrong records n number older r (Unvoted node k) =
+    (node ≡ n) × (k ≡ number) × (KeepsVotes records n older r → ⊥)
+SaysWrong records n number older r (Both node k) =
+    (node ≡ n) × (k ≡ number) × KeepsVotes records n older r × (KeepsDecisions records r → ⊥)
 SaysWrong records n number older r NoMemory = ⊤
 
 -- the first wrong record of a node's list is wrong as the answer says
-pub record IsWrongAt (records : List (List Record)) (n : NodeNo) (number : ℕ) (e : VoteError) : Type 0 where
+pub record IsWrongAt (records : List (List Record)) (n : NodeNo) (number : ℕ) (e : VoteError)
+    : Type 0 where
   pub r : Record
   pub there : slice_get (list_at records n) number ≡ Some r
   pub before : AreRight records n (elders records n number)

@@ -1,7 +1,8 @@
 -- Which records of all nodes stand where they may, and which one is named where some do not. The
 -- records of a node stand oldest first here; what a record may be is said of its elders, which
 -- stand newest first.
-use Rattle.std.specs.Prelude.{◌≡◌, ℕ, ◌<◌, ◌⊎◌, Bool, true, false, not, ◌&&◌, ◌||◌, List, [], ◌∷◌, length, take, reverse, Some, ⊤, slice_get, slice_index_or}
+use Rattle.std.specs.Prelude.{◌≡◌, ℕ, ◌<◌, ◌⊎◌, Bool, true, false, not, ◌&&◌, ◌||◌, List, [], ◌∷◌}
+use Rattle.std.specs.Prelude.{length, take, reverse, Some, ⊤, slice_get, slice_index_or}
 use Rattle.std.specs.List.{list_all, flat_map}
 use Rattle.std.specs.Option.{option_map_or}
 use Rattle.mn_base.specs.Ids.{node_same, tid_same}
@@ -11,7 +12,8 @@ use Rattle.mn_mini.specs.declared.record.Record.{Record}
 use Rattle.mn_mini.specs.declared.record.Record.TheVariants.{Voted, Executed, Decided, Forced}
 use Rattle.mn_mini.specs.Node.{is_of, has_decided_yes, has_decided_no}
 use Rattle.mn_world.specs.Protocol.{start_of, start_records}
-use Rattle.mn_world.specs.Opened.{voted_participants, have_voted, is_committed, has_record, IsInPlace}
+use Rattle.mn_world.specs.Opened.{voted_participants, have_voted, is_committed, has_record}
+use Rattle.mn_world.specs.Opened.{IsInPlace}
 
 -- the records of each node, and those of all nodes one node after the other, newest first
 abbrev pub lists_of : List (List Record) → NodeNo → List Record
@@ -33,7 +35,8 @@ same_nodes (m ∷ ms) (n ∷ ns) = node_same m n && same_nodes ms ns
 
 -- if it is a vote for the id, it names these participants
 abbrev pub names_none_but : Tid → List NodeNo → Record → Bool
-names_none_but tid participants (Voted t others part) = not (tid_same t tid) || same_nodes others participants
+names_none_but tid participants (Voted t others part) =
+    not (tid_same t tid) || same_nodes others participants
 names_none_but tid participants r = true
 
 -- the id has more than one record
@@ -43,21 +46,32 @@ has_several (r ∷ older) tid = (is_of tid r && has_record older tid) || has_sev
 
 -- the participants that the vote names have voted
 abbrev pub has_all_votes : (NodeNo → List Record) → NodeNo → Tid → Bool
-has_all_votes lists n tid = option_map_or (have_voted lists tid) (voted_participants tid (lists n)) false
+has_all_votes lists n tid =
+    option_map_or (have_voted lists tid) (voted_participants tid (lists n)) false
 
 -- A record is in place after its elders. Every vote for the id of a vote names the same
 -- participants, an execution is the only record of its id, and a decided yes has the vote of each
 -- participant.
 abbrev pub KeepsVotes : List (List Record) → NodeNo → List Record → Record → Type 0
-KeepsVotes records n older (Voted tid participants part) = IsInPlace (length records) n older (Voted tid participants part) × (list_all (names_none_but tid participants) (all_of records) ≡ true)
-KeepsVotes records n older (Executed tid part) = IsInPlace (length records) n older (Executed tid part) × (has_several (all_of records) tid ≡ false)
-KeepsVotes records n older (Decided tid true) = IsInPlace (length records) n older (Decided tid true) × (has_all_votes (lists_of records) n tid ≡ true)
-KeepsVotes records n older (Decided tid false) = IsInPlace (length records) n older (Decided tid false)
+KeepsVotes records n older (Voted tid participants part) =
+    IsInPlace (length records) n older (Voted tid participants part)
+    × (list_all (names_none_but tid participants) (all_of records) ≡ true)
+KeepsVotes records n older (Executed tid part) =
+    IsInPlace (length records) n older (Executed tid part)
+    × (has_several (all_of records) tid ≡ false)
+KeepsVotes records n older (Decided tid true) =
+    IsInPlace (length records) n older (Decided tid true)
+    × (has_all_votes (lists_of records) n tid ≡ true)
+KeepsVotes records n older (Decided tid false) =
+    IsInPlace (length records) n older (Decided tid false)
 KeepsVotes records n older (Forced tid) = IsInPlace (length records) n older (Forced tid)
 
 -- the id has a decided no, and is committed or has a decided yes
 abbrev pub is_both : List (List Record) → Tid → Bool
-is_both records tid = has_decided_no (all_of records) tid && (is_committed (length records) (lists_of records) tid || has_decided_yes (all_of records) tid)
+is_both records tid =
+    has_decided_no (all_of records) tid
+    && (is_committed (length records) (lists_of records) tid
+    || has_decided_yes (all_of records) tid)
 
 -- the id of a decision is not decided both ways
 abbrev pub KeepsDecisions : List (List Record) → Record → Type 0
@@ -85,6 +99,8 @@ abbrev pub ComesBefore : NodeNo → ℕ → NodeNo → ℕ → Type 0
 ComesBefore m i n number = (m.0 < n.0) ⊎ ((m ≡ n) × (i < number))
 
 -- the record at this place, and all before it are right
-pub record IsFirstWrong (records : List (List Record)) (n : NodeNo) (number : ℕ) (r : Record) : Type 0 where
+pub record IsFirstWrong (records : List (List Record)) (n : NodeNo) (number : ℕ) (r : Record)
+    : Type 0 where
   pub there : slice_get (list_at records n) number ≡ Some r
-  pub first : (m : NodeNo) (i : ℕ) (q : Record) → ComesBefore m i n number → slice_get (list_at records m) i ≡ Some q → IsRight records m (elders records m i) q
+  pub first : (m : NodeNo) (i : ℕ) (q : Record) → ComesBefore m i n number
+      → slice_get (list_at records m) i ≡ Some q → IsRight records m (elders records m i) q

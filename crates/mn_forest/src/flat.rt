@@ -1,4 +1,5 @@
-ghost use Rattle.std.specs.Prelude.{◌≡◌, ◌≤◌, ◌<◌, ◌++◌, List, [], ◌∷◌, ℕ, length, reverse, IfOk, OnOk, IfErr, if◌then◌else◌};
+ghost use Rattle.std.specs.Prelude.{◌≡◌, ◌≤◌, ◌<◌, ◌++◌, List, [], ◌∷◌, ℕ, length, reverse, IfOk};
+ghost use Rattle.std.specs.Prelude.{OnOk, IfErr, if◌then◌else◌};
 ghost use Rattle.std.specs.List.{list_any};
 ghost use Rattle.mn_base.specs.Ids.{tid_same};
 ghost use Rattle.mn_base.specs.declared.ids.NodeNo.{NodeNo};
@@ -25,7 +26,8 @@ use std::alloc::Global;
 
 /// Notes records behind the others.
 fn note_all<'a>(table: &mut Table<'a>, records: &'a [Record]) -> Result<(), NoMemory>
-    ensures { (older : List Record) → TableTells table.old older → OnOk result (TableTells table.new (reverse records.now ++ older)) }
+    ensures { (older : List Record) → TableTells table.old older
+        → OnOk result (TableTells table.new (reverse records.now ++ older)) }
 {
     for record in records {
         table.note(record)?;
@@ -57,7 +59,8 @@ fn told_of<'a>(alloc: Global, records: &'a [Records]) -> Result<Told<'a>, NoMemo
 
 /// Puts in place what a held part writes, if it is held for this id.
 fn write_own(h: &Held<'_>, tid: Tid, space: &mut [u8])
-    ensures { space.new ≡ (if tid_same h.now.tid tid then space_after_part space.old h.now.part.now else space.old) }
+    ensures { space.new ≡ (if tid_same h.now.tid tid then space_after_part space.old h.now.part.now
+        else space.old) }
 {
     if h.tid == tid {
         write_items(space, h.part.as_slice());
@@ -75,7 +78,8 @@ fn write_all_of(held: &[Held<'_>], tid: Tid, space: &mut [u8])
 
 /// Puts in place what a record writes, where these parts are held.
 fn apply(held: &[Held<'_>], record: &Record, space: &mut [u8])
-    ensures { (older : List Record) (base : List ℕ) → parts_seen held.now ≡ held_parts older → space.old ≡ space_of base older → space.new ≡ space_of base (record.now ∷ older) }
+    ensures { (older : List Record) (base : List ℕ) → parts_seen held.now ≡ held_parts older
+        → space.old ≡ space_of base older → space.new ≡ space_of base (record.now ∷ older) }
 {
     match record {
         Record::Executed { part, .. } => write_items(space, part.as_slice()),
@@ -86,7 +90,9 @@ fn apply(held: &[Held<'_>], record: &Record, space: &mut [u8])
 
 /// Puts in place what a held part writes, if its id is committed.
 fn write_held(told: &Told<'_>, h: &Held<'_>, space: &mut [u8])
-    ensures { space.new ≡ (if list_any (says_committed told.now.nodes.items h.now.tid) told.now.nodes.items then space_after_part space.old h.now.part.now else space.old) }
+    ensures { space.new ≡ (if list_any
+        (says_committed told.now.nodes.items h.now.tid) told.now.nodes.items
+        then space_after_part space.old h.now.part.now else space.old) }
 {
     if is_committed(&told.nodes, h.tid) {
         write_items(space, h.part.as_slice());
@@ -95,7 +101,9 @@ fn write_held(told: &Told<'_>, h: &Held<'_>, space: &mut [u8])
 
 /// Puts in place what the held parts of committed ids write.
 fn write_committed(told: &Told<'_>, held: &[Held<'_>], space: &mut [u8])
-    ensures { space.new ≡ with_held (λ tid. list_any (says_committed told.now.nodes.items tid) told.now.nodes.items) space.old (parts_seen held.now) }
+    ensures { space.new ≡ with_held
+        (λ tid. list_any (says_committed told.now.nodes.items tid) told.now.nodes.items) space.old
+        (parts_seen held.now) }
 {
     for h in held {
         write_held(told, h, space);
@@ -112,9 +120,13 @@ fn replay(
     list: &[Record],
     space: &mut [u8],
 ) -> Result<(), VoteError>
-    ensures space { (records : List (List Record)) → IsTold told.now records → OnOk result (space.new ≡ with_held (is_committed (length records) (lists_of records)) (space_of space.old (reverse list.now)) (held_parts (reverse list.now))) }
-    ensures right { (records : List (List Record)) → IsTold told.now records → list.now ≡ list_at records node → OnOk result (AreRight records node (reverse list.now)) }
-    ensures wrong { (records : List (List Record)) → IsTold told.now records → list.now ≡ list_at records node → IfErr result (RefusesIn records node) }
+    ensures space { (records : List (List Record)) → IsTold told.now records
+        → OnOk result (space.new ≡ with_held (is_committed (length records) (lists_of records))
+        (space_of space.old (reverse list.now)) (held_parts (reverse list.now))) }
+    ensures right { (records : List (List Record)) → IsTold told.now records
+        → list.now ≡ list_at records node → OnOk result (AreRight records node (reverse list.now)) }
+    ensures wrong { (records : List (List Record)) → IsTold told.now records
+        → list.now ≡ list_at records node → IfErr result (RefusesIn records node) }
 {
     let mut past = Past {
         known: Table::new(alloc),
@@ -138,9 +150,16 @@ fn space_with(
     list: &[Record],
 ) -> Result<Bytes, VoteError>
     requires { 0 < nodes }
-    ensures space { (records : List (List Record)) → IsTold told.now records → IfOk result (λ space. space ≡ with_held (is_committed (length records) (lists_of records)) (space_of (base_of nodes node) (reverse list.now)) (held_parts (reverse list.now))) }
-    ensures right { (records : List (List Record)) → IsTold told.now records → list.now ≡ list_at records (numbered node) → OnOk result (AreRight records (numbered node) (reverse list.now)) }
-    ensures wrong { (records : List (List Record)) → IsTold told.now records → list.now ≡ list_at records (numbered node) → IfErr result (RefusesIn records (numbered node)) }
+    ensures space { (records : List (List Record)) → IsTold told.now records
+        → IfOk result (λ space. space
+        ≡ with_held (is_committed (length records) (lists_of records))
+        (space_of (base_of nodes node) (reverse list.now)) (held_parts (reverse list.now))) }
+    ensures right { (records : List (List Record)) → IsTold told.now records
+        → list.now ≡ list_at records (numbered node)
+        → OnOk result (AreRight records (numbered node) (reverse list.now)) }
+    ensures wrong { (records : List (List Record)) → IsTold told.now records
+        → list.now ≡ list_at records (numbered node)
+        → IfErr result (RefusesIn records (numbered node)) }
 {
     let mut space = base_space(alloc, node, nodes)?;
     replay(alloc, told, NodeNo(node), list, &mut space)?;
@@ -164,7 +183,8 @@ pub fn flat_of(alloc: Global, records: &[Records]) -> Result<Spaces, VoteError>
     ensures memory { IfOk result (λ memory. memory ≡ opened_memory (start_of records.now)) }
     ensures sound { OnOk result (AreSound (length records.now) (lists_of records.now)) }
     ensures named { IfErr result (RefusesRecords records.now) }
-    ensures unsound { IfErr result (λ e. (IsWantOfMemory e → ⊥) → AreSound (length records.now) (lists_of records.now) → ⊥) }
+    ensures unsound { IfErr result
+        (λ e. (IsWantOfMemory e → ⊥) → AreSound (length records.now) (lists_of records.now) → ⊥) }
 {
     let told = told_of(alloc, records)?;
     let nodes = records.len() as u8;

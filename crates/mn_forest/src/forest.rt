@@ -1,4 +1,5 @@
-ghost use Rattle.std.specs.Prelude.{◌≡◌, ◌<◌, ◌≤◌, ◌^◌, [], ◌∷◌, ◌++◌, true, false, List, Option, length, map, IfOk, IfErr, OnOk, MatchBool};
+ghost use Rattle.std.specs.Prelude.{◌≡◌, ◌<◌, ◌≤◌, ◌^◌, [], ◌∷◌, ◌++◌, true, false, List, Option};
+ghost use Rattle.std.specs.Prelude.{length, map, IfOk, IfErr, OnOk, MatchBool};
 ghost use Rattle.std.specs.List.{AllByRecursion};
 ghost use Rattle.mn_mini.specs.Mini.{space_size};
 ghost use Rattle.mn_forest.specs.Refusal.{RefusesMemory, IsLackOfMemory};
@@ -7,7 +8,8 @@ ghost use Rattle.mn_page.specs.Holds.{Holds};
 ghost use Rattle.mn_page.specs.declared.entry.CatEntry.{CatEntry};
 ghost use Rattle.mn_forest.specs.declared.error.ForestError.TheVariants as forest;
 ghost use Rattle.mn_forest.specs.Rules.{Says, AllPass, HasEntryAt, HasRootAt, entries_of};
-ghost use Rattle.mn_forest.specs.Progress.{HasFront, HasEntriesTo, HasSlot, HasSlotsTo, PassesAll, SaysFailed};
+ghost use Rattle.mn_forest.specs.Progress.{HasFront, HasEntriesTo, HasSlot, HasSlotsTo, PassesAll};
+ghost use Rattle.mn_forest.specs.Progress.{SaysFailed};
 ghost use Rattle.mn_forest.specs.Trees.{AreVersions, AreNames};
 ghost use Rattle.mn_forest.specs.Votes.{numbered};
 
@@ -27,7 +29,8 @@ use std::alloc::Global;
 fn pass(passes: bool, node: u8, start: usize, rule: Rule) -> Result<(), ForestError>
     requires { start < 2 ^ 32 }
     ensures passes { OnOk result (passes ≡ true) }
-    ensures fails { IfErr result (λ e. (passes ≡ false) × (e ≡ forest.Broken (numbered node) start rule)) }
+    ensures fails { IfErr result (λ e. (passes ≡ false)
+        × (e ≡ forest.Broken (numbered node) start rule)) }
 {
     if passes {
         return Ok(());
@@ -56,7 +59,8 @@ fn test_front(spaces: &[Bytes], node: u8) -> Result<(), ForestError>
 fn root_fits(spaces: &[Bytes], entries: &[Option<CatEntry>], version: usize) -> bool
     requires whole { AllByRecursion (λ space. length space ≡ space_size) spaces.now }
     requires place { version < length entries.now }
-    ensures { MatchBool result (HasRootAt spaces.now entries.now 0 version) (HasRootAt spaces.now entries.now 0 version → ⊥) }
+    ensures { MatchBool result (HasRootAt spaces.now entries.now 0 version)
+        (HasRootAt spaces.now entries.now 0 version → ⊥) }
 {
     match &entries[version] {
         Some(entry) => has_root(spaces, version, entry),
@@ -74,8 +78,10 @@ fn test_entry(
     requires whole { AllByRecursion (λ space. length space ≡ space_size) spaces.now }
     requires says { Says spaces.now entries.now }
     requires place { version < 64 }
-    ensures passes { OnOk result (HasEntryAt spaces.now entries.now 0 version × HasRootAt spaces.now entries.now 0 version) }
-    ensures fails { HasFront spaces.now 0 → HasEntriesTo spaces.now entries.now 0 version → IfErr result (SaysFailed spaces.now entries.now 0) }
+    ensures passes { OnOk result (HasEntryAt spaces.now entries.now 0 version
+        × HasRootAt spaces.now entries.now 0 version) }
+    ensures fails { HasFront spaces.now 0 → HasEntriesTo spaces.now entries.now 0 version
+        → IfErr result (SaysFailed spaces.now entries.now 0) }
 {
     let start = entry_start(version);
     pass(has_entry(spaces, entries, version), 0, start, Rule::Entry)?;
@@ -103,8 +109,10 @@ fn test_unused(spaces: &[Bytes], node: u8) -> Result<(), ForestError>
     requires behind { 1 ≤ node }
     requires there { node < length spaces.now }
     requires whole { AllByRecursion (λ space. length space ≡ space_size) spaces.now }
-    ensures passes { (es : List (Option CatEntry)) → OnOk result (HasEntriesTo spaces.now es node 64) }
-    ensures fails { (es : List (Option CatEntry)) → HasFront spaces.now node → IfErr result (SaysFailed spaces.now es node) }
+    ensures passes { (es : List (Option CatEntry))
+        → OnOk result (HasEntriesTo spaces.now es node 64) }
+    ensures fails { (es : List (Option CatEntry)) → HasFront spaces.now node
+        → IfErr result (SaysFailed spaces.now es node) }
 {
     for entry in 0..ENTRIES {
         pass(
@@ -128,8 +136,13 @@ fn test_slot(
     requires there { node < length spaces.now }
     requires whole { AllByRecursion (λ space. length space ≡ space_size) spaces.now }
     requires place { slot < 4096 }
-    ensures passes { (es : List (Option CatEntry)) → AreVersions versions.now (entries_of es) → AreNames names.now spaces.now (entries_of es) → OnOk result (HasSlot spaces.now es node slot) }
-    ensures fails { (es : List (Option CatEntry)) → AreVersions versions.now (entries_of es) → AreNames names.now spaces.now (entries_of es) → HasFront spaces.now node → HasEntriesTo spaces.now es node 64 → HasSlotsTo spaces.now es node slot → IfErr result (SaysFailed spaces.now es node) }
+    ensures passes { (es : List (Option CatEntry)) → AreVersions versions.now (entries_of es)
+        → AreNames names.now spaces.now (entries_of es)
+        → OnOk result (HasSlot spaces.now es node slot) }
+    ensures fails { (es : List (Option CatEntry)) → AreVersions versions.now (entries_of es)
+        → AreNames names.now spaces.now (entries_of es) → HasFront spaces.now node
+        → HasEntriesTo spaces.now es node 64 → HasSlotsTo spaces.now es node slot
+        → IfErr result (SaysFailed spaces.now es node) }
 {
     let addr = Addr {
         node: NodeNo(node),
@@ -161,8 +174,12 @@ fn test_slots(
 ) -> Result<(), ForestError>
     requires there { node < length spaces.now }
     requires whole { AllByRecursion (λ space. length space ≡ space_size) spaces.now }
-    ensures passes { (es : List (Option CatEntry)) → AreVersions versions.now (entries_of es) → AreNames names.now spaces.now (entries_of es) → OnOk result (HasSlotsTo spaces.now es node 4096) }
-    ensures fails { (es : List (Option CatEntry)) → AreVersions versions.now (entries_of es) → AreNames names.now spaces.now (entries_of es) → HasFront spaces.now node → HasEntriesTo spaces.now es node 64 → IfErr result (SaysFailed spaces.now es node) }
+    ensures passes { (es : List (Option CatEntry)) → AreVersions versions.now (entries_of es)
+        → AreNames names.now spaces.now (entries_of es)
+        → OnOk result (HasSlotsTo spaces.now es node 4096) }
+    ensures fails { (es : List (Option CatEntry)) → AreVersions versions.now (entries_of es)
+        → AreNames names.now spaces.now (entries_of es) → HasFront spaces.now node
+        → HasEntriesTo spaces.now es node 64 → IfErr result (SaysFailed spaces.now es node) }
 {
     for slot in 0u16..4_096 {
         test_slot(spaces, versions, names, node, slot)?;
@@ -181,8 +198,12 @@ fn test_node(
     requires few { length spaces.now ≤ 8 }
     requires whole { AllByRecursion (λ space. length space ≡ space_size) spaces.now }
     requires behind { 1 ≤ node }
-    ensures passes { (es : List (Option CatEntry)) → AreVersions versions.now (entries_of es) → AreNames names.now spaces.now (entries_of es) → OnOk result (PassesAll spaces.now es node) }
-    ensures fails { (es : List (Option CatEntry)) → AreVersions versions.now (entries_of es) → AreNames names.now spaces.now (entries_of es) → IfErr result (SaysFailed spaces.now es node) }
+    ensures passes { (es : List (Option CatEntry)) → AreVersions versions.now (entries_of es)
+        → AreNames names.now spaces.now (entries_of es)
+        → OnOk result (PassesAll spaces.now es node) }
+    ensures fails { (es : List (Option CatEntry)) → AreVersions versions.now (entries_of es)
+        → AreNames names.now spaces.now (entries_of es)
+        → IfErr result (SaysFailed spaces.now es node) }
 {
     test_front(spaces, node)?;
     test_unused(spaces, node)?;
@@ -210,8 +231,10 @@ fn take_entries(
     parents: &mut Vec<Option<VersionNo>>,
     roots: &mut Vec<Addr>,
 ) -> Result<(), NoMemory>
-    ensures parents { OnOk result (parents.new.items ≡ parents.old.items ++ map (λ e. e.parent) (entries_of entries.now)) }
-    ensures roots { OnOk result (roots.new.items ≡ roots.old.items ++ map (λ e. e.root) (entries_of entries.now)) }
+    ensures parents { OnOk result
+        (parents.new.items ≡ parents.old.items ++ map (λ e. e.parent) (entries_of entries.now)) }
+    ensures roots { OnOk result (roots.new.items
+        ≡ roots.old.items ++ map (λ e. e.root) (entries_of entries.now)) }
 {
     for entry in entries {
         match entry {
@@ -241,7 +264,8 @@ fn versions_of(alloc: Global, entries: &[Option<CatEntry>]) -> Result<Versions, 
 fn names_of(alloc: Global, spaces: &[Bytes], versions: &Versions) -> Result<Names, NoMemory>
     requires few { length spaces.now ≤ 8 }
     requires whole { AllByRecursion (λ space. length space ≡ space_size) spaces.now }
-    ensures { (entries : List CatEntry) → AreVersions versions.now entries → IfOk result (λ names. AreNames names spaces.now entries) }
+    ensures { (entries : List CatEntry) → AreVersions versions.now entries
+        → IfOk result (λ names. AreNames names spaces.now entries) }
 {
     let mut names = Names::new(alloc);
     for node in 0..spaces.len() {
@@ -254,8 +278,12 @@ fn names_of(alloc: Global, spaces: &[Bytes], versions: &Versions) -> Result<Name
 fn test_others(spaces: &[Bytes], versions: &Versions, names: &Names) -> Result<(), ForestError>
     requires few { length spaces.now ≤ 8 }
     requires whole { AllByRecursion (λ space. length space ≡ space_size) spaces.now }
-    ensures passes { (es : List (Option CatEntry)) → AreVersions versions.now (entries_of es) → AreNames names.now spaces.now (entries_of es) → PassesAll spaces.now es 0 → OnOk result (AllPass spaces.now es) }
-    ensures fails { (es : List (Option CatEntry)) → Says spaces.now es → AreVersions versions.now (entries_of es) → AreNames names.now spaces.now (entries_of es) → PassesAll spaces.now es 0 → IfErr result (RefusesMemory spaces.now) }
+    ensures passes { (es : List (Option CatEntry)) → AreVersions versions.now (entries_of es)
+        → AreNames names.now spaces.now (entries_of es) → PassesAll spaces.now es 0
+        → OnOk result (AllPass spaces.now es) }
+    ensures fails { (es : List (Option CatEntry)) → Says spaces.now es
+        → AreVersions versions.now (entries_of es) → AreNames names.now spaces.now (entries_of es)
+        → PassesAll spaces.now es 0 → IfErr result (RefusesMemory spaces.now) }
 {
     for node in 1..spaces.len() {
         test_node(spaces, versions, names, node as u8)?;
@@ -306,7 +334,8 @@ pub fn check(alloc: Global, spaces: &Spaces) -> Result<Store, ForestError>
     requires whole { AllByRecursion (λ space. length space ≡ space_size) spaces.now }
     ensures store { IfOk result (Holds spaces.now) }
     ensures broken { IfErr result (RefusesMemory spaces.now) }
-    ensures holds { (store : List StoreVersion) → Holds spaces.now store → IfErr result IsLackOfMemory }
+    ensures holds { (store : List StoreVersion) → Holds spaces.now store
+        → IfErr result IsLackOfMemory }
 {
     let spaces = spaces.as_slice();
     let entries = catalog_in(alloc, spaces)?;

@@ -1,10 +1,13 @@
-ghost use Rattle.std.specs.Prelude.{◌≡◌, ◌+◌, ◌<◌, ◌≤◌, length, ◌&&◌, not, nat_eq, IfOk, MatchBool, is_some};
+ghost use Rattle.std.specs.Prelude.{◌≡◌, ◌+◌, ◌<◌, ◌≤◌, length, ◌&&◌, not, nat_eq, IfOk, MatchBool};
+ghost use Rattle.std.specs.Prelude.{is_some};
 ghost use Rattle.std.specs.List.{AllByRecursion, list_all, list_any};
 ghost use Rattle.mn_mini.specs.Mini.{space_size};
 ghost use Rattle.mn_mini.specs.Flat.{bytes_in};
 ghost use Rattle.mn_page.specs.Forest.{header_bytes};
 ghost use Rattle.mn_page.specs.Grammar.{IsUnused};
-ghost use Rattle.mn_forest.specs.Rules.{ReadsAs, Says, IsReadable, HasHeader, IsCount, HasCount, HasEntry, IsRootAt, EntryFits, entry_place, entry_of, parent_fits, is_named, is_child_of, zeros};
+ghost use Rattle.mn_forest.specs.Rules.{ReadsAs, Says, IsReadable, HasHeader, IsCount, HasCount};
+ghost use Rattle.mn_forest.specs.Rules.{HasEntry, IsRootAt, EntryFits, entry_place, entry_of};
+ghost use Rattle.mn_forest.specs.Rules.{parent_fits, is_named, is_child_of, zeros};
 
 use crate::place::{ENTRIES, are_zeros, entry_place, page_at, range, space_at};
 use byteorder::{BigEndian, ByteOrder};
@@ -39,7 +42,8 @@ pub fn catalog_in(alloc: Global, spaces: &[Bytes]) -> Result<Vec<Option<CatEntry
 /// Whether the space begins with the header.
 fn is_header(space: &[u8], nodes: u8, node: u8) -> bool
     requires { length space.now ≡ space_size }
-    ensures { MatchBool result (bytes_in space.now 0 16 ≡ header_bytes nodes node) (bytes_in space.now 0 16 ≡ header_bytes nodes node → ⊥) }
+    ensures { MatchBool result (bytes_in space.now 0 16 ≡ header_bytes nodes node)
+        (bytes_in space.now 0 16 ≡ header_bytes nodes node → ⊥) }
 {
     let header = [
         b'M', b'I', b'N', b'U', b'E', b'T', 1, nodes, node, 0, 0, 0, 0, 0, 0, 0,
@@ -50,7 +54,8 @@ fn is_header(space: &[u8], nodes: u8, node: u8) -> bool
 /// Whether the bytes of a range are all zero.
 fn is_kept_zero(space: &[u8], start: usize, size: usize) -> bool
     requires { start + size ≤ length space.now }
-    ensures { MatchBool result (bytes_in space.now start size ≡ zeros size) (bytes_in space.now start size ≡ zeros size → ⊥) }
+    ensures { MatchBool result (bytes_in space.now start size ≡ zeros size)
+        (bytes_in space.now start size ≡ zeros size → ⊥) }
 {
     are_zeros(range(space, start, size))
 }
@@ -98,7 +103,8 @@ pub fn is_unused(spaces: &[Bytes], node: u8, entry: usize) -> bool
     requires there { node < length spaces.now }
     requires whole { AllByRecursion (λ space. length space ≡ space_size) spaces.now }
     requires place { entry < 64 }
-    ensures { MatchBool result (IsUnused (entry_place spaces.now node entry)) (IsUnused (entry_place spaces.now node entry) → ⊥) }
+    ensures { MatchBool result (IsUnused (entry_place spaces.now node entry))
+        (IsUnused (entry_place spaces.now node entry) → ⊥) }
 {
     are_zeros(entry_place(spaces, node, entry))
 }
@@ -155,7 +161,8 @@ fn has_child(entries: &[Option<CatEntry>], version: usize) -> bool
 /// Whether an entry fits the others; an unused place does, but the first.
 fn entry_fits(entries: &[Option<CatEntry>], version: usize) -> bool
     requires { version < length entries.now }
-    ensures { MatchBool result (EntryFits entries.now version (entry_of entries.now version)) (EntryFits entries.now version (entry_of entries.now version) → ⊥) }
+    ensures { MatchBool result (EntryFits entries.now version (entry_of entries.now version))
+        (EntryFits entries.now version (entry_of entries.now version) → ⊥) }
 {
     match &entries[version] {
         Some(entry) => {
@@ -174,7 +181,8 @@ fn is_readable(spaces: &[Bytes], entries: &[Option<CatEntry>], version: usize) -
     requires whole { AllByRecursion (λ space. length space ≡ space_size) spaces.now }
     requires says { Says spaces.now entries.now }
     requires place { version < 64 }
-    ensures { MatchBool result (IsReadable (entry_place spaces.now 0 version)) (IsReadable (entry_place spaces.now 0 version) → ⊥) }
+    ensures { MatchBool result (IsReadable (entry_place spaces.now 0 version))
+        (IsReadable (entry_place spaces.now 0 version) → ⊥) }
 {
     match &entries[version] {
         Some(_) => true,
@@ -188,13 +196,15 @@ pub fn has_entry(spaces: &[Bytes], entries: &[Option<CatEntry>], version: usize)
     requires whole { AllByRecursion (λ space. length space ≡ space_size) spaces.now }
     requires says { Says spaces.now entries.now }
     requires place { version < 64 }
-    ensures { MatchBool result (HasEntry spaces.now entries.now version) (HasEntry spaces.now entries.now version → ⊥) }
+    ensures { MatchBool result (HasEntry spaces.now entries.now version)
+        (HasEntry spaces.now entries.now version → ⊥) }
 {
     is_readable(spaces, entries, version) && entry_fits(entries, version)
 }
 
 fn root_fits(page: &PageRef<'_>, version: usize) -> bool
-    ensures { result ≡ (nat_eq page.now.made.0 version && (nat_eq (length page.now.low) 0 && not (is_some page.now.high))) }
+    ensures { result ≡ (nat_eq page.now.made.0 version
+        && (nat_eq (length page.now.low) 0 && not (is_some page.now.high))) }
 {
     usize::from(page.made().0) == version && page.low().is_empty() && page.high().is_none()
 }
@@ -202,7 +212,8 @@ fn root_fits(page: &PageRef<'_>, version: usize) -> bool
 /// Whether the root of an entry is a page that was made in its version, without fences.
 pub fn has_root(spaces: &[Bytes], version: usize, entry: &CatEntry) -> bool
     requires { AllByRecursion (λ space. length space ≡ space_size) spaces.now }
-    ensures { MatchBool result (IsRootAt spaces.now version entry.now) (IsRootAt spaces.now version entry.now → ⊥) }
+    ensures { MatchBool result (IsRootAt spaces.now version entry.now)
+        (IsRootAt spaces.now version entry.now → ⊥) }
 {
     match page_at(spaces, entry.root) {
         Some(page) => root_fits(&page, version),

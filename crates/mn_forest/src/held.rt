@@ -1,8 +1,10 @@
-ghost use Rattle.std.specs.Prelude.{◌≡◌, ◌+◌, ◌∷◌, [], not, List, map, option_map, IfOk, OnOk, vec_len};
+ghost use Rattle.std.specs.Prelude.{◌≡◌, ◌+◌, ◌∷◌, [], not, List, map, option_map, IfOk, OnOk};
+ghost use Rattle.std.specs.Prelude.{vec_len};
 ghost use Rattle.std.specs.List.{list_any};
 ghost use Rattle.mn_mini.specs.declared.record.Record.{Record};
 ghost use Rattle.mn_base.specs.Ranges.{ranges_meet};
-ghost use Rattle.mn_mini.specs.Mini.{items_conflict, item_conflicts_with, parts_conflict, range_of, is_write};
+ghost use Rattle.mn_mini.specs.Mini.{items_conflict, item_conflicts_with, parts_conflict, range_of};
+ghost use Rattle.mn_mini.specs.Mini.{is_write};
 ghost use Rattle.mn_mini.specs.Node.{held_parts, held_part_of, without_tid};
 ghost use Rattle.mn_world.specs.Opened.{is_free};
 ghost use Rattle.mn_forest.specs.Known.{held_seen, parts_seen};
@@ -103,7 +105,8 @@ fn let_go(held: &mut Vec<Held<'_>>, tid: Tid)
 
 /// What is held after one more record.
 pub fn hold<'a>(held: &mut Vec<Held<'a>>, record: &'a Record) -> Result<(), NoMemory>
-    ensures { (older : List Record) → parts_seen held.old.items ≡ held_parts older → OnOk result (parts_seen held.new.items ≡ held_parts (record.now ∷ older)) }
+    ensures { (older : List Record) → parts_seen held.old.items ≡ held_parts older
+        → OnOk result (parts_seen held.new.items ≡ held_parts (record.now ∷ older)) }
 {
     match record {
         Record::Voted {

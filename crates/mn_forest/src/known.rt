@@ -1,7 +1,8 @@
 ghost use Rattle.std.specs.Prelude.{◌≡◌, ◌∷◌, [], List, OnOk, option_map};
 ghost use Rattle.mn_mini.specs.declared.record.Record.{Record};
 ghost use Rattle.mn_mini.specs.RecordGrammar.{HasTid};
-ghost use Rattle.mn_forest.specs.Known.{id_key, known_at, unknown, FollowsRecord, TableTells, differs_from};
+ghost use Rattle.mn_forest.specs.Known.{id_key, known_at, unknown, FollowsRecord, TableTells};
+ghost use Rattle.mn_forest.specs.Known.{differs_from};
 ghost use Rattle.mn_forest.specs.Votes.{same_nodes};
 
 use mn_base::{NoMemory, NodeNo, Nodes, Tid};
@@ -130,7 +131,8 @@ impl<'a> Table<'a> {
 
     /// Notes a record behind the others.
     pub fn note(&mut self, record: &'a Record) -> Result<(), NoMemory>
-        ensures { (older : List Record) → TableTells self.old older → OnOk result (TableTells self.new (record.now ∷ older)) }
+        ensures { (older : List Record) → TableTells self.old older
+            → OnOk result (TableTells self.new (record.now ∷ older)) }
     {
         match record {
             Record::Voted { tid, .. } => self.note_of(*tid, record),
@@ -143,7 +145,8 @@ impl<'a> Table<'a> {
     /// Notes a record of this id behind the others.
     fn note_of(&mut self, tid: Tid, record: &'a Record) -> Result<(), NoMemory>
         requires { HasTid tid record.now }
-        ensures { (older : List Record) → TableTells self.old older → OnOk result (TableTells self.new (record.now ∷ older)) }
+        ensures { (older : List Record) → TableTells self.old older
+            → OnOk result (TableTells self.new (record.now ∷ older)) }
     {
         let known = after(self.of(tid), record);
         self.known.insert(id_key(tid), known)?;

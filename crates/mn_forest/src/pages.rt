@@ -1,4 +1,6 @@
-ghost use Rattle.std.specs.Prelude.{◌≡◌, ℕ, ◌+◌, ◌<◌, ◌&&◌, ◌||◌, not, true, nat_lt, nat_eq, List, Option, Some, length, slice_get, MatchBool, OnOk, if◌then◌else◌, option_map};
+ghost use Rattle.std.specs.Prelude.{◌≡◌, ℕ, ◌+◌, ◌<◌, ◌&&◌, ◌||◌, not, true, nat_lt, nat_eq, List};
+ghost use Rattle.std.specs.Prelude.{Option, Some, length, slice_get, MatchBool, OnOk};
+ghost use Rattle.std.specs.Prelude.{if◌then◌else◌, option_map};
 ghost use Rattle.std.specs.List.{AllByRecursion, list_all, range_with_len};
 ghost use Rattle.mn_base.specs.Tree.{has_version, is_ancestor, serves};
 ghost use Rattle.mn_mini.specs.Mini.{space_size};
@@ -9,7 +11,8 @@ ghost use Rattle.mn_page.specs.Forest.{ChildRange, children_of};
 ghost use Rattle.mn_page.specs.Grammar.{IsPage, height_of};
 ghost use Rattle.mn_page.specs.Reading.{addrs_in};
 ghost use Rattle.mn_forest.specs.Rules.{StandsAt, HasPage, HasChildren, IsChildAt, IsReached};
-ghost use Rattle.mn_forest.specs.Trees.{AreVersions, AreNames, AreNamesTo, Notes, NotesChildren, name_key, keys_same, is_noted, is_root_at};
+ghost use Rattle.mn_forest.specs.Trees.{AreVersions, AreNames, AreNamesTo, Notes, NotesChildren};
+ghost use Rattle.mn_forest.specs.Trees.{name_key, keys_same, is_noted, is_root_at};
 
 use crate::front::are_all;
 use crate::place::{are_zeros, count_at, page_at, slot_place};
@@ -65,7 +68,9 @@ fn is_in(copied: u64, version: u8) -> bool
 
 /// Whether a version that a page was copied for descends from the one that it was made in.
 fn copy_fits(versions: &Versions, made: VersionNo, copied: u64, version: u8) -> bool
-    ensures { result ≡ (not (has_version copied version) || (nat_lt version (length versions.now.roots.items) && is_ancestor versions.now.tree made.0 version)) }
+    ensures { result ≡ (not (has_version copied version)
+        || (nat_lt version (length versions.now.roots.items)
+        && is_ancestor versions.now.tree made.0 version)) }
 {
     !is_in(copied, version)
         || (versions.has(version) && versions.tree.ancestor(made, VersionNo(version)))
@@ -73,13 +78,18 @@ fn copy_fits(versions: &Versions, made: VersionNo, copied: u64, version: u8) -> 
 
 /// Whether each of them does.
 fn copies_fit(versions: &Versions, made: VersionNo, copied: u64) -> bool
-    ensures { result ≡ list_all (λ w. not (has_version copied w) || (nat_lt w (length versions.now.roots.items) && is_ancestor versions.now.tree made.0 w)) (range_with_len 0 64) }
+    ensures { result ≡ list_all (λ w. not (has_version copied w)
+        || (nat_lt w (length versions.now.roots.items) && is_ancestor versions.now.tree made.0 w))
+        (range_with_len 0 64) }
 {
     (0u8..64).all(|version| copy_fits(versions, made, copied, version))
 }
 
 fn made_fits(versions: &Versions, page: &PageRef<'_>) -> bool
-    ensures { result ≡ (nat_lt page.now.made.0 (length versions.now.roots.items) && list_all (λ w. not (has_version page.now.copied w) || (nat_lt w (length versions.now.roots.items) && is_ancestor versions.now.tree page.now.made.0 w)) (range_with_len 0 64)) }
+    ensures { result ≡ (nat_lt page.now.made.0 (length versions.now.roots.items)
+        && list_all (λ w. not (has_version page.now.copied w)
+        || (nat_lt w (length versions.now.roots.items)
+        && is_ancestor versions.now.tree page.now.made.0 w)) (range_with_len 0 64)) }
 {
     let made = page.made();
     versions.has(made.0) && copies_fit(versions, made, page.copied())
@@ -88,7 +98,8 @@ fn made_fits(versions: &Versions, page: &PageRef<'_>) -> bool
 /// Whether the page's versions are versions, and those that it was copied for descend from the one
 /// that it was made in.
 fn versions_fit(versions: &Versions, page: &PageRef<'_>) -> bool
-    ensures { (entries : List CatEntry) → AreVersions versions.now entries → MatchBool result (HasVersions entries page.now) (HasVersions entries page.now → ⊥) }
+    ensures { (entries : List CatEntry) → AreVersions versions.now entries
+        → MatchBool result (HasVersions entries page.now) (HasVersions entries page.now → ⊥) }
 {
     made_fits(versions, page)
 }
@@ -99,7 +110,8 @@ pub fn has_page(spaces: &[Bytes], versions: &Versions, addr: Addr) -> bool
     requires there { addr.node.0 < length spaces.now }
     requires whole { AllByRecursion (λ space. length space ≡ space_size) spaces.now }
     requires slot { addr.slot < 4096 }
-    ensures { (entries : List CatEntry) → AreVersions versions.now entries → MatchBool result (HasPage spaces.now entries addr) (HasPage spaces.now entries addr → ⊥) }
+    ensures { (entries : List CatEntry) → AreVersions versions.now entries
+        → MatchBool result (HasPage spaces.now entries addr) (HasPage spaces.now entries addr → ⊥) }
 {
     let NodeNo(node) = addr.node;
     if u64::from(addr.slot) >= count_at(spaces, node) {
@@ -122,7 +134,8 @@ fn child_low<'a>(page: &PageRef<'a>, i: usize) -> &'a [u8]
 /// Where it ends.
 fn child_high<'a>(page: &PageRef<'a>, i: usize) -> Option<&'a [u8]>
     requires { i < length (addrs_in page.now.body) }
-    ensures { (c : ChildRange) → slice_get (children_of page.now) i ≡ Some c → option_map (λ h. h.now) result ≡ c.high }
+    ensures { (c : ChildRange) → slice_get (children_of page.now) i ≡ Some c
+        → option_map (λ h. h.now) result ≡ c.high }
 {
     if i < page.count() - 1 {
         Some(page.key(i))
@@ -132,7 +145,9 @@ fn child_high<'a>(page: &PageRef<'a>, i: usize) -> Option<&'a [u8]>
 }
 
 fn same_bound(one: Option<&[u8]>, other: Option<&[u8]>) -> bool
-    ensures { MatchBool result (option_map (λ h. h.now) one.entry ≡ option_map (λ h. h.now) other.entry) (option_map (λ h. h.now) one.entry ≡ option_map (λ h. h.now) other.entry → ⊥) }
+    ensures { MatchBool result (option_map (λ h. h.now) one.entry
+        ≡ option_map (λ h. h.now) other.entry)
+        (option_map (λ h. h.now) one.entry ≡ option_map (λ h. h.now) other.entry → ⊥) }
 {
     match (one, other) {
         (Some(one), Some(other)) => one == other,
@@ -143,20 +158,26 @@ fn same_bound(one: Option<&[u8]>, other: Option<&[u8]>) -> bool
 
 /// Whether a page serves a version, if the other page does.
 fn serves_too(versions: &Versions, page: &PageRef<'_>, other: &PageRef<'_>, version: u8) -> bool
-    ensures { result ≡ (not (nat_lt version (length versions.now.roots.items)) || (not (serves versions.now.tree other.now.made.0 other.now.copied version) || serves versions.now.tree page.now.made.0 page.now.copied version)) }
+    ensures { result ≡ (not (nat_lt version (length versions.now.roots.items))
+        || (not (serves versions.now.tree other.now.made.0 other.now.copied version)
+        || serves versions.now.tree page.now.made.0 page.now.copied version)) }
 {
     !versions.has(version) || !versions.serves(other, version) || versions.serves(page, version)
 }
 
 /// Whether a page serves each version that the other serves.
 fn serves_as(versions: &Versions, page: &PageRef<'_>, other: &PageRef<'_>) -> bool
-    ensures { result ≡ list_all (λ v. not (nat_lt v (length versions.now.roots.items)) || (not (serves versions.now.tree other.now.made.0 other.now.copied v) || serves versions.now.tree page.now.made.0 page.now.copied v)) (range_with_len 0 64) }
+    ensures { result ≡ list_all (λ v. not (nat_lt v (length versions.now.roots.items))
+        || (not (serves versions.now.tree other.now.made.0 other.now.copied v)
+        || serves versions.now.tree page.now.made.0 page.now.copied v)) (range_with_len 0 64) }
 {
     (0u8..64).all(|version| serves_too(versions, page, other, version))
 }
 
 fn same_range(page: &PageRef<'_>, low: &[u8], high: Option<&[u8]>) -> bool
-    ensures { MatchBool result ((page.now.low ≡ low.now) × (page.now.high ≡ option_map (λ h. h.now) high.entry)) ((page.now.low ≡ low.now) × (page.now.high ≡ option_map (λ h. h.now) high.entry) → ⊥) }
+    ensures { MatchBool result ((page.now.low ≡ low.now)
+        × (page.now.high ≡ option_map (λ h. h.now) high.entry))
+        ((page.now.low ≡ low.now) × (page.now.high ≡ option_map (λ h. h.now) high.entry) → ⊥) }
 {
     page.low() == low && same_bound(page.high(), high)
 }
@@ -170,7 +191,11 @@ fn is_below(page: &PageRef<'_>, other: &PageRef<'_>) -> bool
 /// Whether a page is child `i` of an inner page as that says.
 fn is_child(versions: &Versions, page: &PageRef<'_>, i: usize, child: &PageRef<'_>) -> bool
     requires { i < length (addrs_in page.now.body) }
-    ensures { (memory : List (List ℕ)) (entries : List CatEntry) (c : ChildRange) → AreVersions versions.now entries → slice_get (children_of page.now) i ≡ Some c → StandsAt memory c.addr child.now → MatchBool result (IsChildAt memory entries page.now c) (IsChildAt memory entries page.now c → ⊥) }
+    ensures { (memory : List (List ℕ)) (entries : List CatEntry) (c : ChildRange)
+        → AreVersions versions.now entries → slice_get (children_of page.now) i ≡ Some c
+        → StandsAt memory c.addr child.now
+        → MatchBool result (IsChildAt memory entries page.now c)
+        (IsChildAt memory entries page.now c → ⊥) }
 {
     let range = same_range(child, child_low(page, i), child_high(page, i));
     let below = is_below(child, page);
@@ -182,7 +207,10 @@ fn is_child(versions: &Versions, page: &PageRef<'_>, i: usize, child: &PageRef<'
 fn has_child(spaces: &[Bytes], versions: &Versions, page: &PageRef<'_>, i: usize) -> bool
     requires whole { AllByRecursion (λ space. length space ≡ space_size) spaces.now }
     requires there { i < length (addrs_in page.now.body) }
-    ensures { (entries : List CatEntry) (c : ChildRange) → AreVersions versions.now entries → slice_get (children_of page.now) i ≡ Some c → MatchBool result (IsChildAt spaces.now entries page.now c) (IsChildAt spaces.now entries page.now c → ⊥) }
+    ensures { (entries : List CatEntry) (c : ChildRange) → AreVersions versions.now entries
+        → slice_get (children_of page.now) i ≡ Some c
+        → MatchBool result (IsChildAt spaces.now entries page.now c)
+        (IsChildAt spaces.now entries page.now c → ⊥) }
 {
     match page_at(spaces, page.child(i)) {
         Some(child) => is_child(versions, page, i, &child),
@@ -203,7 +231,10 @@ pub fn child_count(page: &PageRef<'_>) -> usize
 fn are_children(spaces: &[Bytes], versions: &Versions, page: &PageRef<'_>) -> bool
     requires whole { AllByRecursion (λ space. length space ≡ space_size) spaces.now }
     requires page { IsPage page.now }
-    ensures { (entries : List CatEntry) → AreVersions versions.now entries → MatchBool result (AllByRecursion (IsChildAt spaces.now entries page.now) (children_of page.now)) (AllByRecursion (IsChildAt spaces.now entries page.now) (children_of page.now) → ⊥) }
+    ensures { (entries : List CatEntry) → AreVersions versions.now entries
+        → MatchBool result (AllByRecursion (IsChildAt spaces.now entries page.now)
+        (children_of page.now)) (AllByRecursion (IsChildAt spaces.now entries page.now)
+        (children_of page.now) → ⊥) }
 {
     for i in 0..child_count(page) {
         if !has_child(spaces, versions, page, i) {
@@ -216,7 +247,9 @@ fn are_children(spaces: &[Bytes], versions: &Versions, page: &PageRef<'_>) -> bo
 /// Whether each child of the page at the address is.
 pub fn has_children(spaces: &[Bytes], versions: &Versions, addr: Addr) -> bool
     requires { AllByRecursion (λ space. length space ≡ space_size) spaces.now }
-    ensures { (entries : List CatEntry) → AreVersions versions.now entries → MatchBool result (HasChildren spaces.now entries addr) (HasChildren spaces.now entries addr → ⊥) }
+    ensures { (entries : List CatEntry) → AreVersions versions.now entries
+        → MatchBool result (HasChildren spaces.now entries addr)
+        (HasChildren spaces.now entries addr → ⊥) }
 {
     match page_at(spaces, addr) {
         Some(page) => are_children(spaces, versions, &page),
@@ -228,7 +261,8 @@ impl Names {
     ghost use Rattle.mn_forest.specs.declared.pages.Names.{Names};
 
     pub fn new(alloc: Global) -> Self
-        ensures { (memory : List (List ℕ)) (entries : List CatEntry) → AreNamesTo result memory entries 0 0 }
+        ensures { (memory : List (List ℕ)) (entries : List CatEntry)
+            → AreNamesTo result memory entries 0 0 }
     {
         Names {
             named: HashSet::new(alloc),
@@ -237,7 +271,9 @@ impl Names {
 
     /// Notes that a page of this height which serves the version names the page at the address.
     fn note(&mut self, addr: Addr, version: u8, height: u16) -> Result<(), NoMemory>
-        ensures { OnOk result ((a : Addr) (v h : ℕ) → is_noted self.new a v h ≡ (if keys_same (name_key addr version height) (name_key a v h) then true else is_noted self.old a v h)) }
+        ensures { OnOk result ((a : Addr) (v h : ℕ)
+            → is_noted self.new a v h ≡ (if keys_same (name_key addr version height)
+            (name_key a v h) then true else is_noted self.old a v h)) }
     {
         self.named.insert(NameKey {
             node: addr.node.0,
@@ -256,7 +292,9 @@ impl Names {
         child: Addr,
         version: u8,
     ) -> Result<(), NoMemory>
-        ensures { (entries : List CatEntry) (first : Names) → AreVersions versions.now entries → Notes first self.old entries page.now child version → OnOk result (Notes first self.new entries page.now child (version + 1)) }
+        ensures { (entries : List CatEntry) (first : Names) → AreVersions versions.now entries
+            → Notes first self.old entries page.now child version
+            → OnOk result (Notes first self.new entries page.now child (version + 1)) }
     {
         if !versions.has(version) {
             return Ok(());
@@ -275,7 +313,8 @@ impl Names {
         page: &PageRef<'_>,
         child: Addr,
     ) -> Result<(), NoMemory>
-        ensures { (entries : List CatEntry) → AreVersions versions.now entries → OnOk result (Notes self.old self.new entries page.now child 64) }
+        ensures { (entries : List CatEntry) → AreVersions versions.now entries
+            → OnOk result (Notes self.old self.new entries page.now child 64) }
     {
         for version in 0u8..64 {
             self.note_version(versions, page, child, version)?;
@@ -286,7 +325,9 @@ impl Names {
     /// Notes the children of a page.
     fn note_children(&mut self, versions: &Versions, page: &PageRef<'_>) -> Result<(), NoMemory>
         requires { IsPage page.now }
-        ensures { (entries : List CatEntry) → AreVersions versions.now entries → OnOk result (NotesChildren self.old self.new entries page.now (length (addrs_in page.now.body))) }
+        ensures { (entries : List CatEntry) → AreVersions versions.now entries
+            → OnOk result (NotesChildren self.old self.new entries page.now
+            (length (addrs_in page.now.body))) }
     {
         for i in 0..child_count(page) {
             self.note_child(versions, page, page.child(i))?;
@@ -302,7 +343,9 @@ impl Names {
         addr: Addr,
     ) -> Result<(), NoMemory>
         requires { AllByRecursion (λ space. length space ≡ space_size) spaces.now }
-        ensures { (entries : List CatEntry) → AreVersions versions.now entries → AreNamesTo self.old spaces.now entries addr.node.0 addr.slot → OnOk result (AreNamesTo self.new spaces.now entries addr.node.0 (addr.slot + 1)) }
+        ensures { (entries : List CatEntry) → AreVersions versions.now entries
+            → AreNamesTo self.old spaces.now entries addr.node.0 addr.slot
+            → OnOk result (AreNamesTo self.new spaces.now entries addr.node.0 (addr.slot + 1)) }
     {
         match page_at(spaces, addr) {
             Some(page) => {
@@ -321,7 +364,9 @@ impl Names {
         node: u8,
     ) -> Result<(), NoMemory>
         requires { AllByRecursion (λ space. length space ≡ space_size) spaces.now }
-        ensures { (entries : List CatEntry) → AreVersions versions.now entries → AreNamesTo self.old spaces.now entries node 0 → OnOk result (AreNamesTo self.new spaces.now entries (node + 1) 0) }
+        ensures { (entries : List CatEntry) → AreVersions versions.now entries
+            → AreNamesTo self.old spaces.now entries node 0
+            → OnOk result (AreNamesTo self.new spaces.now entries (node + 1) 0) }
     {
         for slot in 0u16..4_096 {
             let addr = Addr {
@@ -354,7 +399,8 @@ fn is_root(versions: &Versions, version: u8, addr: Addr) -> bool
 
 /// Whether a page one height up names the page.
 fn is_named(names: &Names, page: &PageRef<'_>, addr: Addr, version: u8) -> bool
-    ensures { result ≡ (nat_lt (height_of page.now.body) 65535 && is_noted names.now addr version (height_of page.now.body + 1)) }
+    ensures { result ≡ (nat_lt (height_of page.now.body) 65535
+        && is_noted names.now addr version (height_of page.now.body + 1)) }
 {
     page.height() < u16::MAX && names.has(addr, version, page.height() + 1)
 }
@@ -367,8 +413,11 @@ fn is_reached_for(
     addr: Addr,
     version: u8,
 ) -> bool
-    ensures { result ≡ (not (nat_lt version (length versions.now.roots.items)) || (not (serves versions.now.tree page.now.made.0 page.now.copied version)
-        || (is_root_at versions.now.roots.items version addr || (nat_lt (height_of page.now.body) 65535 && is_noted names.now addr version (height_of page.now.body + 1))))) }
+    ensures { result ≡ (not (nat_lt version (length versions.now.roots.items))
+        || (not (serves versions.now.tree page.now.made.0 page.now.copied version)
+        || (is_root_at versions.now.roots.items version addr
+        || (nat_lt (height_of page.now.body) 65535
+        && is_noted names.now addr version (height_of page.now.body + 1))))) }
 {
     !versions.has(version)
         || !versions.serves(page, version)
@@ -378,8 +427,11 @@ fn is_reached_for(
 
 /// Whether it is for each version.
 fn is_reached_for_all(versions: &Versions, names: &Names, page: &PageRef<'_>, addr: Addr) -> bool
-    ensures { result ≡ list_all (λ v. not (nat_lt v (length versions.now.roots.items)) || (not (serves versions.now.tree page.now.made.0 page.now.copied v)
-        || (is_root_at versions.now.roots.items v addr || (nat_lt (height_of page.now.body) 65535 && is_noted names.now addr v (height_of page.now.body + 1))))) (range_with_len 0 64) }
+    ensures { result ≡ list_all (λ v. not (nat_lt v (length versions.now.roots.items))
+        || (not (serves versions.now.tree page.now.made.0 page.now.copied v)
+        || (is_root_at versions.now.roots.items v addr
+        || (nat_lt (height_of page.now.body) 65535
+        && is_noted names.now addr v (height_of page.now.body + 1))))) (range_with_len 0 64) }
 {
     (0u8..64).all(|version| is_reached_for(versions, names, page, addr, version))
 }
@@ -388,7 +440,10 @@ fn is_reached_for_all(versions: &Versions, names: &Names, page: &PageRef<'_>, ad
 /// one height up.
 pub fn is_reached(spaces: &[Bytes], versions: &Versions, names: &Names, addr: Addr) -> bool
     requires { AllByRecursion (λ space. length space ≡ space_size) spaces.now }
-    ensures { (entries : List CatEntry) → AreVersions versions.now entries → AreNames names.now spaces.now entries → MatchBool result (IsReached spaces.now entries addr) (IsReached spaces.now entries addr → ⊥) }
+    ensures { (entries : List CatEntry) → AreVersions versions.now entries
+        → AreNames names.now spaces.now entries
+        → MatchBool result (IsReached spaces.now entries addr)
+        (IsReached spaces.now entries addr → ⊥) }
 {
     match page_at(spaces, addr) {
         Some(page) => is_reached_for_all(versions, names, &page, addr),

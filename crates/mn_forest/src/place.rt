@@ -1,4 +1,5 @@
-ghost use Rattle.std.specs.Prelude.{◌≡◌, ◌+◌, ◌<◌, ◌≤◌, length, nat_eq, replicate, MatchBool, MatchOption};
+ghost use Rattle.std.specs.Prelude.{◌≡◌, ◌+◌, ◌<◌, ◌≤◌, length, nat_eq, replicate, MatchBool};
+ghost use Rattle.std.specs.Prelude.{MatchOption};
 ghost use Rattle.std.specs.List.{AllByRecursion, list_all};
 ghost use Rattle.mn_mini.specs.Mini.{space_size};
 ghost use Rattle.mn_mini.specs.Flat.{bytes_in};
@@ -58,7 +59,8 @@ fn all_zero(bytes: &[u8]) -> bool
 
 /// Whether the bytes are all zero.
 pub fn are_zeros(bytes: &[u8]) -> bool
-    ensures { MatchBool result (bytes.now ≡ replicate (length bytes.now) 0) (bytes.now ≡ replicate (length bytes.now) 0 → ⊥) }
+    ensures { MatchBool result (bytes.now ≡ replicate (length bytes.now) 0)
+        (bytes.now ≡ replicate (length bytes.now) 0 → ⊥) }
 {
     all_zero(bytes)
 }
@@ -97,7 +99,8 @@ pub fn slot_place(spaces: &[Bytes], node: u8, slot: u16) -> &[u8]
 /// The page that stands at the address.
 pub fn page_at<'a>(spaces: &'a [Bytes], addr: Addr) -> Option<PageRef<'a>>
     requires whole { AllByRecursion (λ space. length space ≡ space_size) spaces.now }
-    ensures { MatchOption result ((p : Page) → StandsAt spaces.now addr p → ⊥) (λ p. StandsAt spaces.now addr p) }
+    ensures { MatchOption result ((p : Page) → StandsAt spaces.now addr p → ⊥)
+        (λ p. StandsAt spaces.now addr p) }
 {
     let NodeNo(node) = addr.node;
     if usize::from(node) >= spaces.len() || addr.slot >= SLOTS {

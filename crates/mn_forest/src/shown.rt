@@ -5,7 +5,8 @@ ghost use Rattle.mn_mini.specs.Mini.{space_size};
 ghost use Rattle.mn_page.specs.Holds.{PagesAt, pairs_in};
 ghost use Rattle.mn_plain.specs.Kept.{version_of, store_of};
 ghost use Rattle.mn_forest.specs.Rules.{entries_of};
-ghost use Rattle.mn_forest.specs.Shown.{ArePages, pairs_below, height_there, version_shown, store_shown};
+ghost use Rattle.mn_forest.specs.Shown.{ArePages, pairs_below, height_there, version_shown};
+ghost use Rattle.mn_forest.specs.Shown.{store_shown};
 
 use crate::pages::child_count;
 use crate::place::page_at;
@@ -38,7 +39,8 @@ fn take_pairs(
     pairs: &mut Vec<Pair>,
 ) -> Result<(), NoMemory>
     requires { AllByRecursion (λ space. length space ≡ space_size) spaces.now }
-    ensures { (at : PagesAt) → ArePages spaces.now at → OnOk result (pairs.new.items ≡ pairs.old.items ++ pairs_below at height addr) }
+    ensures { (at : PagesAt) → ArePages spaces.now at
+        → OnOk result (pairs.new.items ≡ pairs.old.items ++ pairs_below at height addr) }
 {
     let page = match page_at(spaces, addr) {
         Some(page) => page,
@@ -68,7 +70,8 @@ fn height_at(spaces: &[Bytes], addr: Addr) -> u16
 /// A version with its pairs, from its entry.
 fn version_of(alloc: Global, spaces: &[Bytes], entry: &CatEntry) -> Result<Kept, NoMemory>
     requires { AllByRecursion (λ space. length space ≡ space_size) spaces.now }
-    ensures { (at : PagesAt) → ArePages spaces.now at → IfOk result (λ kept. version_of kept ≡ version_shown at entry.now) }
+    ensures { (at : PagesAt) → ArePages spaces.now at
+        → IfOk result (λ kept. version_of kept ≡ version_shown at entry.now) }
 {
     let mut pairs = Vec::new(alloc);
     let height = height_at(spaces, entry.root);
@@ -90,7 +93,9 @@ fn take_versions(
     versions: &mut Vec<Kept>,
 ) -> Result<(), NoMemory>
     requires { AllByRecursion (λ space. length space ≡ space_size) spaces.now }
-    ensures { (at : PagesAt) → ArePages spaces.now at → OnOk result (store_of versions.new.items ≡ store_of versions.old.items ++ store_shown at (entries_of entries.now)) }
+    ensures { (at : PagesAt) → ArePages spaces.now at
+        → OnOk result (store_of versions.new.items
+        ≡ store_of versions.old.items ++ store_shown at (entries_of entries.now)) }
 {
     for entry in entries {
         match entry {
@@ -109,8 +114,10 @@ pub fn store_in(
     entries: &[Option<CatEntry>],
 ) -> Result<Store, NoMemory>
     requires whole { AllByRecursion (λ space. length space ≡ space_size) spaces.now }
-    requires shows { (at : PagesAt) × ArePages spaces.now at × IsStore (store_shown at (entries_of entries.now)) }
-    ensures { (at : PagesAt) → ArePages spaces.now at → IfOk result (λ store. store ≡ store_shown at (entries_of entries.now)) }
+    requires shows { (at : PagesAt) × ArePages spaces.now at
+        × IsStore (store_shown at (entries_of entries.now)) }
+    ensures { (at : PagesAt) → ArePages spaces.now at
+        → IfOk result (λ store. store ≡ store_shown at (entries_of entries.now)) }
 {
     let mut versions = Vec::new(alloc);
     take_versions(alloc, spaces, entries, &mut versions)?;

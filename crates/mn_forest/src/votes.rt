@@ -1,4 +1,6 @@
-ghost use Rattle.std.specs.Prelude.{◌≡◌, ◌≤◌, ◌<◌, ◌&&◌, ◌||◌, ◌∷◌, not, false, nat_lt, is_some, List, length, Option, option_map, MatchBool, OnOk, IfErr, Contains, slice_get};
+ghost use Rattle.std.specs.Prelude.{◌≡◌, ◌≤◌, ◌<◌, ◌&&◌, ◌||◌, ◌∷◌, not, false, nat_lt, is_some};
+ghost use Rattle.std.specs.Prelude.{List, length, Option, option_map, MatchBool, OnOk, IfErr};
+ghost use Rattle.std.specs.Prelude.{Contains, slice_get};
 ghost use Rattle.std.specs.List.{list_all, list_any};
 ghost use Rattle.std.specs.Option.{option_map_or};
 ghost use Rattle.mn_base.specs.Ids.{node_same};
@@ -6,7 +8,8 @@ ghost use Rattle.mn_base.specs.declared.ids.NodeNo.{NodeNo};
 ghost use Rattle.mn_mini.specs.declared.record.Record.{Record};
 ghost use Rattle.mn_mini.specs.Node.{held_part_of};
 ghost use Rattle.mn_world.specs.Opened.{is_free};
-ghost use Rattle.mn_forest.specs.Known.{parts_seen, known_at, named_in, says_voted, says_all, says_committed};
+ghost use Rattle.mn_forest.specs.Known.{parts_seen, known_at, named_in, says_voted, says_all};
+ghost use Rattle.mn_forest.specs.Known.{says_committed};
 ghost use Rattle.mn_forest.specs.Told.{IsTold, IsPast, SaysWrong};
 ghost use Rattle.mn_forest.specs.Votes.{KeepsVotes, KeepsDecisions, IsRight, all_of};
 
@@ -96,7 +99,11 @@ fn vote_fits(
     participants: &Nodes,
     part: &Part,
 ) -> bool
-    ensures { result ≡ (not (known_at past.now.known tid).seen && (list_all (λ m. nat_lt m.0 (length told.now.nodes.items)) participants.now && (list_any (λ m. node_same m node) participants.now && (is_free (parts_seen past.now.held.items) part.now && not (known_at told.now.all tid).differ)))) }
+    ensures { result ≡ (not (known_at past.now.known tid).seen
+        && (list_all (λ m. nat_lt m.0 (length told.now.nodes.items)) participants.now
+        && (list_any (λ m. node_same m node) participants.now
+        && (is_free (parts_seen past.now.held.items) part.now
+        && not (known_at told.now.all tid).differ)))) }
 {
     !past.known.of(tid).seen
         && are_nodes(participants.as_slice(), told.nodes.len())
@@ -107,7 +114,9 @@ fn vote_fits(
 
 /// Whether an execution may stand there.
 fn execution_fits(told: &Told<'_>, past: &Past<'_>, tid: Tid, part: &Part) -> bool
-    ensures { result ≡ (not (known_at past.now.known tid).seen && (is_free (parts_seen past.now.held.items) part.now && not (known_at told.now.all tid).several)) }
+    ensures { result ≡ (not (known_at past.now.known tid).seen
+        && (is_free (parts_seen past.now.held.items) part.now
+        && not (known_at told.now.all tid).several)) }
 {
     !past.known.of(tid).seen && is_free(&past.held, part.as_slice()) && !told.all.of(tid).several
 }
@@ -121,7 +130,9 @@ fn is_held(past: &Past<'_>, tid: Tid) -> bool
 
 /// Whether each participant that the node's vote names has voted.
 fn is_voted(told: &Told<'_>, node: NodeNo, tid: Tid) -> bool
-    ensures { result ≡ option_map_or (λ t. says_all told.now.nodes.items tid (named_in (known_at t tid))) (slice_get told.now.nodes.items node.0) false }
+    ensures { result ≡ option_map_or
+        (λ t. says_all told.now.nodes.items tid (named_in (known_at t tid)))
+        (slice_get told.now.nodes.items node.0) false }
 {
     let at = usize::from(node.0);
     at < told.nodes.len() && all_voted(&told.nodes, told.nodes[at].of(tid).participants, tid)
@@ -129,14 +140,20 @@ fn is_voted(told: &Told<'_>, node: NodeNo, tid: Tid) -> bool
 
 /// Whether a decision may stand there: a yes only where each participant has voted.
 fn decision_fits(told: &Told<'_>, past: &Past<'_>, node: NodeNo, tid: Tid, verdict: bool) -> bool
-    ensures { result ≡ (is_some (held_part_of tid (parts_seen past.now.held.items)) && (not verdict || option_map_or (λ t. says_all told.now.nodes.items tid (named_in (known_at t tid))) (slice_get told.now.nodes.items node.0) false)) }
+    ensures { result ≡ (is_some (held_part_of tid (parts_seen past.now.held.items))
+        && (not verdict || option_map_or
+        (λ t. says_all told.now.nodes.items tid (named_in (known_at t tid)))
+        (slice_get told.now.nodes.items node.0) false)) }
 {
     is_held(past, tid) && (!verdict || is_voted(told, node, tid))
 }
 
 /// Whether the record stands where it may, after the older ones of its node.
 fn keeps_votes(told: &Told<'_>, past: &Past<'_>, node: NodeNo, record: &Record) -> bool
-    ensures { (records : List (List Record)) (older : List Record) → IsTold told.now records → IsPast past.now older → Contains (all_of records) record.now → MatchBool result (KeepsVotes records node older record.now) (KeepsVotes records node older record.now → ⊥) }
+    ensures { (records : List (List Record)) (older : List Record) → IsTold told.now records
+        → IsPast past.now older → Contains (all_of records) record.now
+        → MatchBool result (KeepsVotes records node older record.now)
+        (KeepsVotes records node older record.now → ⊥) }
 {
     match record {
         Record::Voted {
@@ -152,7 +169,9 @@ fn keeps_votes(told: &Told<'_>, past: &Past<'_>, node: NodeNo, record: &Record) 
 
 /// Whether the id has a decided no, and is committed or has a decided yes.
 fn is_both(told: &Told<'_>, tid: Tid) -> bool
-    ensures { result ≡ ((known_at told.now.all tid).refused && (list_any (says_committed told.now.nodes.items tid) told.now.nodes.items || (known_at told.now.all tid).agreed)) }
+    ensures { result ≡ ((known_at told.now.all tid).refused
+        && (list_any (says_committed told.now.nodes.items tid) told.now.nodes.items
+        || (known_at told.now.all tid).agreed)) }
 {
     let known = told.all.of(tid);
     known.refused && (is_committed(&told.nodes, tid) || known.agreed)
@@ -160,7 +179,9 @@ fn is_both(told: &Told<'_>, tid: Tid) -> bool
 
 /// Whether the record's id, if it decides one, is not decided both ways.
 fn keeps_decisions(told: &Told<'_>, record: &Record) -> bool
-    ensures { (records : List (List Record)) → IsTold told.now records → MatchBool result (KeepsDecisions records record.now) (KeepsDecisions records record.now → ⊥) }
+    ensures { (records : List (List Record)) → IsTold told.now records
+        → MatchBool result (KeepsDecisions records record.now)
+        (KeepsDecisions records record.now → ⊥) }
 {
     match record {
         Record::Decided { tid, .. } => !is_both(told, *tid),
@@ -178,8 +199,12 @@ pub fn test(
     number: usize,
     record: &Record,
 ) -> Result<(), VoteError>
-    ensures right { (records : List (List Record)) (older : List Record) → IsTold told.now records → IsPast past.now older → Contains (all_of records) record.now → OnOk result (IsRight records node older record.now) }
-    ensures wrong { (records : List (List Record)) (older : List Record) → IsTold told.now records → IsPast past.now older → Contains (all_of records) record.now → IfErr result (SaysWrong records node number older record.now) }
+    ensures right { (records : List (List Record)) (older : List Record) → IsTold told.now records
+        → IsPast past.now older → Contains (all_of records) record.now
+        → OnOk result (IsRight records node older record.now) }
+    ensures wrong { (records : List (List Record)) (older : List Record) → IsTold told.now records
+        → IsPast past.now older → Contains (all_of records) record.now
+        → IfErr result (SaysWrong records node number older record.now) }
 {
     let Ok(number) = u32::try_from(number) else {
         return Err(VoteError::NoMemory);
@@ -195,7 +220,8 @@ pub fn test(
 
 /// Notes a record behind the others of its node.
 pub fn note<'a>(past: &mut Past<'a>, record: &'a Record) -> Result<(), NoMemory>
-    ensures { (older : List Record) → IsPast past.old older → OnOk result (IsPast past.new (record.now ∷ older)) }
+    ensures { (older : List Record) → IsPast past.old older
+        → OnOk result (IsPast past.new (record.now ∷ older)) }
 {
     past.known.note(record)?;
     hold(&mut past.held, record)?;

@@ -22,7 +22,8 @@ use Rattle.mn_mini.specs.Mini.{Mini}
 use Rattle.mn_world.specs.declared.entry.Entry.{Entry}
 use Rattle.mn_world.specs.declared.entry.What.{What}
 use Rattle.mn_world.specs.declared.entry.What.TheVariants.{Begin, Issue, Answered}
-use Rattle.mn_world.specs.Calls.{is_by, client_entries, Issued, issues_of, issue_named, Begun, under_way}
+use Rattle.mn_world.specs.Calls.{is_by, client_entries, Issued, issues_of, issue_named, Begun}
+use Rattle.mn_world.specs.Calls.{under_way}
 use Rattle.mn_world.specs.declared.commit_reader.CommittedMini.{CommittedMini}
 use Rattle.mn_world.specs.CommitReader.{HasRead, issued_of}
 use Rattle.mn_world.specs.History.{Placed, has_past, AnswerPuts, EntryPuts, IsHistory}
@@ -174,14 +175,16 @@ IsPutInto old place act new =
 
 -- these operations stand in the history
 abbrev pub StandsInSet : {S : Type 0} → HashSet OpKey S → List Placed → Type 0
-StandsInSet standing placed = (c : ClientNo) (number : ℕ) → stands standing c number ≡ has_past c number placed
+StandsInSet standing placed =
+    (c : ClientNo) (number : ℕ) → stands standing c number ≡ has_past c number placed
 
 -- the slots hold them
 abbrev pub Fills : List (Option Act) → List Placed → Type 0
 Fills slots placed = acts_from 0 slots ≡ map act_at placed
 
 -- what the answer to a client's operation puts into the history stands there
-pub record Puts {S : Type 0} (past : List Entry) (c : ClientNo) (answer : Answer) (placed : List Placed) (standing : HashSet OpKey S) (old new : List (Option Act)) : Type 0 where
+pub record Puts {S : Type 0} (past : List Entry) (c : ClientNo) (answer : Answer)
+    (placed : List Placed) (standing : HashSet OpKey S) (old new : List (Option Act)) : Type 0 where
   pub next : List Placed
   pub puts : AnswerPuts past c (under_way (client_entries c past)) answer placed next
   pub stands : StandsInSet standing next
@@ -200,18 +203,23 @@ Named past m = issue_named m.tid (issues_of past) ≡ Some m.mini.now
 abbrev pub placed_last : ℕ → Option Act → Reply → List Placed → List Placed
 placed_last place None reply placed = placed
 placed_last place (Some a) reply placed =
-    placed ++ record { place = place; past = record { client = a.client; number = a.number; op = a.op; reply = reply } } ∷ []
+    placed ++ record {
+      place = place;
+      past = record { client = a.client; number = a.number; op = a.op; reply = reply };
+    } ∷ []
 
 -- what a committed minitransaction puts into the history stands there
 pub record Commits {S : Type 0} (past : List Entry) (m : CommittedMini) (placed : List Placed)
     (standing : HashSet OpKey S) (found : Option Act) : Type 0 where
   pub reply : Reply
-  pub puts : (e : Entry) → EntryPuts past e (Some (issued_of m)) placed (placed_last (length past) found reply placed)
+  pub puts : (e : Entry) → EntryPuts past e (Some (issued_of m)) placed
+      (placed_last (length past) found reply placed)
   pub stands : StandsInSet standing (placed_last (length past) found reply placed)
 
 -- of each client it is told what the entries so far tell of it
 abbrev pub AreCallers : List CallerState → List Entry → Type 0
-AreCallers callers past = (c : ClientNo) → c.0 < 256 → slice_get callers c.0 ≡ Some (state_of c past)
+AreCallers callers past =
+    (c : ClientNo) → c.0 < 256 → slice_get callers c.0 ≡ Some (state_of c past)
 
 -- The history so far
 
@@ -229,7 +237,8 @@ pub record TakesEntry {S : Type 0} (past : List Entry) (e : Entry) (committed : 
 
 -- the operation as the store does it
 abbrev pub done_by : Store → Act → Past
-done_by store a = record { client = a.client; number = a.number; op = a.op; reply = (applied store a.op).reply }
+done_by store a =
+    record { client = a.client; number = a.number; op = a.op; reply = (applied store a.op).reply }
 
 -- one after another
 abbrev pub done_from : Store → List Act → List Past

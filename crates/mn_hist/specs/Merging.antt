@@ -1,5 +1,6 @@
 -- The lists of a run's actors, and the log that they are.
-use Rattle.std.specs.Prelude.{ℕ, zero, suc, ◌+◌, List, [], ◌∷◌, length, map, Option, Some, None, slice_get}
+use Rattle.std.specs.Prelude.{ℕ, zero, suc, ◌+◌, List, [], ◌∷◌, length, map, Option, Some, None}
+use Rattle.std.specs.Prelude.{slice_get}
 use Rattle.mn_actors.specs.declared.actor.Actor.{Actor}
 use Rattle.mn_actors.specs.declared.actor.Actor.TheVariants.{Node, Client}
 use Rattle.mn_actors.specs.Log.{IsOneLog}
@@ -14,7 +15,8 @@ list_of nodes clients (Client c) = slice_get (map (λ l. l.entries) clients) c.0
 
 -- the lists are one log of so many lines, each legal when it was added
 abbrev pub AreOneLog : List (List (ℕ × Entry)) → List ClientState → ℕ → Type 0
-AreOneLog nodes clients clock = IsOneLog IsLegalLine (length nodes) (length clients) (list_of nodes clients) clock
+AreOneLog nodes clients clock =
+    IsOneLog IsLegalLine (length nodes) (length clients) (list_of nodes clients) clock
 
 -- How it is put together: each entry into the slot of its place
 

@@ -1,5 +1,6 @@
 -- Which reply one read of a client shows, told by the catalog that the client had read last before.
-use Rattle.std.specs.Prelude.{ℕ, ◌≡◌, Bool, true, false, ◌&&◌, nat_eq, List, [], ◌∷◌, Option, Some, None}
+use Rattle.std.specs.Prelude.{ℕ, ◌≡◌, Bool, true, false, ◌&&◌, nat_eq, List, [], ◌∷◌, Option, Some}
+use Rattle.std.specs.Prelude.{None}
 use Rattle.std.specs.Prelude.{⊤, Contains}
 use Rattle.std.specs.Option.{option_map, option_map_or}
 use Rattle.mn_base.specs.Ids.{node_same}
@@ -25,7 +26,11 @@ use Rattle.mn_hist.specs.declared.shown.Read.{Read}
 
 -- the read as a client's list shows it
 abbrev pub seen_of : Read → Seen
-seen_of r = record { place = record { node = r.node; start = r.start; length = r.length }; bytes = r.bytes.now }
+seen_of r =
+    record {
+      place = record { node = r.node; start = r.start; length = r.length };
+      bytes = r.bytes.now;
+    }
 
 -- a test decides a statement
 abbrev pub Decides : Bool → Type 0 → Type 0
@@ -45,7 +50,8 @@ HasCatalog es (Some bytes) =
 
 -- the read shows the reply to the operation, where this catalog was read before it
 abbrev pub IsShownBy : Option (List ℕ) → Seen → Op → Reply → Type 0
-IsShownBy catalog seen op reply = (es : List Entry) → HasCatalog es catalog → ReadShows es seen op reply
+IsShownBy catalog seen op reply =
+    (es : List Entry) → HasCatalog es catalog → ReadShows es seen op reply
 
 -- it doesn't, whatever was read before it
 abbrev pub IsUnshown : Seen → Op → Reply → Type 0

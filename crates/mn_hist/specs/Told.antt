@@ -12,7 +12,8 @@ pub record IsReading (reader : HistoryReader) (past : List Entry) : Type 0 where
   pub long : length reader.callers.items ≡ 256
 
 -- and this is their history
-pub record HasTold (reader : HistoryReader) (past : List Entry) (placed : List Placed) : Type 0 where
+pub record HasTold (reader : HistoryReader) (past : List Entry) (placed : List Placed)
+    : Type 0 where
   pub reading : IsReading reader past
   pub callers : AreCallers reader.callers.items past
   pub plans : Knows reader.plans past

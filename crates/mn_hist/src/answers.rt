@@ -1,10 +1,12 @@
 //! What a log says of the operations of a script.
-ghost use Rattle.std.specs.Prelude.{◌≡◌, ◌++◌, ◌&&◌, ◌∷◌, ℕ, List, IfOk, OnOk, if◌then◌else◌, nat_eq, map, flat_map, length};
+ghost use Rattle.std.specs.Prelude.{◌≡◌, ◌++◌, ◌&&◌, ◌∷◌, ℕ, List, IfOk, OnOk, if◌then◌else◌};
+ghost use Rattle.std.specs.Prelude.{nat_eq, map, flat_map, length};
 ghost use Rattle.mn_base.specs.Ids.{client_same};
 ghost use Rattle.mn_base.specs.declared.ids.ClientNo.{ClientNo as Who};
 ghost use Rattle.mn_world.specs.declared.entry.Entry.{Entry as Step};
 ghost use Rattle.mn_world.specs.Run.{entries_of};
-ghost use Rattle.mn_hist.specs.Audit.{answer_line, answers_from, numbers_of, is_doubtful, doubt_at, doubt_lines, doubts_from};
+ghost use Rattle.mn_hist.specs.Audit.{answer_line, answers_from, numbers_of, is_doubtful, doubt_at};
+ghost use Rattle.mn_hist.specs.Audit.{doubt_lines, doubts_from};
 ghost use Rattle.mn_hist.specs.History.{stands};
 ghost use Rattle.mn_hist.specs.Saying.{said_kept, Says};
 
@@ -40,7 +42,9 @@ fn note_said<'a>(
     number: u32,
     one: Said<'a>,
 ) -> Result<(), NoMemory>
-    ensures { OnOk result ((c : Who) (n : ℕ) → said_kept said.new c n ≡ (if client_same client c && nat_eq number n then one.entry else said_kept said.old c n)) }
+    ensures { OnOk result ((c : Who) (n : ℕ)
+        → said_kept said.new c n ≡ (if client_same client c && nat_eq number n then one.entry
+        else said_kept said.old c n)) }
 {
     said.insert(op_key(client, number), one)?;
     Ok(())
@@ -48,7 +52,8 @@ fn note_said<'a>(
 
 /// Notes what the entry says of an operation of its client.
 fn note_entry<'a>(said: &mut HashMap<OpKey, Said<'a>>, entry: &'a Entry) -> Result<(), NoMemory>
-    ensures { OnOk result ((past : List Step) → Says said.old past → Says said.new (entry.now ∷ past)) }
+    ensures { OnOk result ((past : List Step) → Says said.old past
+        → Says said.new (entry.now ∷ past)) }
 {
     match (entry.client, &entry.what) {
         (Some(client), What::Begin { number, .. }) => {
@@ -117,7 +122,8 @@ fn answer_line(
     client: &ScriptClient,
     number: u32,
 ) -> Result<AnswerLine, NoMemory>
-    ensures { IfOk result (λ line. line ≡ answer_line (said_kept said.now) number_of_client client.now number) }
+    ensures { IfOk result (λ line. line
+        ≡ answer_line (said_kept said.now) number_of_client client.now number) }
 {
     Ok(AnswerLine {
         client: client.name.try_copy(alloc)?,
@@ -144,7 +150,9 @@ fn push_answers(
     number_of_client: ClientNo,
     client: &ScriptClient,
 ) -> Result<(), NoMemory>
-    ensures { OnOk result (lines.new.items ≡ lines.old.items ++ map (answer_line (said_kept said.now) number_of_client client.now) (numbers_of client.now)) }
+    ensures { OnOk result (lines.new.items
+        ≡ lines.old.items ++ map (answer_line (said_kept said.now) number_of_client client.now)
+        (numbers_of client.now)) }
 {
     let count = op_count(client)?;
     for before in 0..count {
@@ -190,7 +198,10 @@ fn push_doubt(
     name: &Name,
     number: u32,
 ) -> Result<(), NoMemory>
-    ensures { OnOk result (lines.new.items ≡ lines.old.items ++ doubt_lines (said_kept said.now number_of_client number) name.now number (stands committed.now number_of_client number)) }
+    ensures { OnOk result (lines.new.items
+        ≡ lines.old.items ++ doubt_lines
+        (said_kept said.now number_of_client number) name.now number
+        (stands committed.now number_of_client number)) }
 {
     if !is_doubtful(said, number_of_client, number) {
         return Ok(());
@@ -212,7 +223,10 @@ fn push_doubts(
     number_of_client: ClientNo,
     client: &ScriptClient,
 ) -> Result<(), NoMemory>
-    ensures { OnOk result (lines.new.items ≡ lines.old.items ++ flat_map (doubt_at (said_kept said.now) (stands committed.now) number_of_client client.now) (numbers_of client.now)) }
+    ensures { OnOk result (lines.new.items
+        ≡ lines.old.items ++ flat_map
+        (doubt_at (said_kept said.now) (stands committed.now) number_of_client client.now)
+        (numbers_of client.now)) }
 {
     let count = op_count(client)?;
     for before in 0..count {
@@ -238,7 +252,8 @@ pub fn doubts_of(
     committed: &HashSet<OpKey>,
     clients: &[ScriptClient],
 ) -> Result<Outcomes, NoMemory>
-    ensures { IfOk result (λ lines. lines ≡ doubts_from (said_kept said.now) (stands committed.now) 0 clients.now) }
+    ensures { IfOk result (λ lines. lines
+        ≡ doubts_from (said_kept said.now) (stands committed.now) 0 clients.now) }
 {
     let mut lines = Vec::new(alloc);
     for (at, client) in clients.iter().enumerate() {

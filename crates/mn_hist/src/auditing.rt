@@ -50,8 +50,10 @@ fn ranks_of(alloc: Global, clients: &[ScriptClient], history: &[Past]) -> Result
 /// NoMemory: as for `history_of`. Where another than a client of the script has an operation in the
 /// history, always.
 pub fn audit(alloc: Global, start: &Store, log: &Log, script: &Script) -> Result<Report, NoMemory>
-    ensures audit { (from : Start) → OpenedRun from start.now (entries_of log.now) → IfOk result (IsAudit from start.now script.now (entries_of log.now)) }
-    ensures can_report { (from : Start) → OpenedRun from start.now (entries_of log.now) → IfOk result CanReport }
+    ensures audit { (from : Start) → OpenedRun from start.now (entries_of log.now)
+        → IfOk result (IsAudit from start.now script.now (entries_of log.now)) }
+    ensures can_report { (from : Start) → OpenedRun from start.now (entries_of log.now)
+        → IfOk result CanReport }
 {
     let entries = log.as_slice();
     let clients = script.clients();

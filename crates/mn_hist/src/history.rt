@@ -1,7 +1,9 @@
 //! The operations of a log in order of place.
 ghost use Rattle.std.specs.Option.{option_map};
-ghost use Rattle.std.specs.Prelude.{◌≡◌, ◌<◌, ◌∷◌, [], ℕ, List, Some, None, length, replicate, slice_get};
-ghost use Rattle.std.specs.Prelude.{IfOk, OnOk, if◌then◌else◌, ◌||◌, ◌&&◌, nat_eq, MatchOption, ⊤, reverse};
+ghost use Rattle.std.specs.Prelude.{◌≡◌, ◌<◌, ◌∷◌, [], ℕ, List, Some, None, length, replicate};
+ghost use Rattle.std.specs.Prelude.{slice_get};
+ghost use Rattle.std.specs.Prelude.{IfOk, OnOk, if◌then◌else◌, ◌||◌, ◌&&◌, nat_eq, MatchOption, ⊤};
+ghost use Rattle.std.specs.Prelude.{reverse};
 ghost use Rattle.mn_base.specs.Ids.{client_same, tid_same};
 ghost use Rattle.mn_base.specs.declared.ids.ClientNo.{ClientNo as Who};
 ghost use Rattle.mn_base.specs.declared.ids.Tid.{Tid as Id};
@@ -10,7 +12,8 @@ ghost use Rattle.mn_world.specs.Shown.{seen_at};
 ghost use Rattle.mn_hist.specs.History.{CallerState, idle, with_seen, state_after};
 ghost use Rattle.mn_world.specs.History.{Placed};
 ghost use Rattle.mn_world.specs.declared.entry.Entry.{Entry as Step};
-ghost use Rattle.mn_hist.specs.History.{IsLastNote, IsFirstNote, IsNotedPlace, StandsInSet, Fills, Puts};
+ghost use Rattle.mn_hist.specs.History.{IsLastNote, IsFirstNote, IsNotedPlace, StandsInSet, Fills};
+ghost use Rattle.mn_hist.specs.History.{Puts};
 ghost use Rattle.mn_hist.specs.History.{Knows, Named, Commits, AreCallers};
 ghost use Rattle.mn_world.specs.Protocol.{Start};
 ghost use Rattle.mn_world.specs.Run.{IsRun};
@@ -54,7 +57,11 @@ impl<'a> Model for Noted<'a> {
 
     ghost Value = { Note };
 
-    ghost view = { λ n. record { place = n.place; seen = seen_of n.read; catalog = option_map (λ c. c.now) n.catalog } };
+    ghost view = { λ n. record {
+      place = n.place;
+      seen = seen_of n.read;
+      catalog = option_map (λ c. c.now) n.catalog;
+    } };
 }
 
 /// An operation that was begun.
@@ -88,7 +95,11 @@ impl<'a> Model for Caller<'a> {
 
     ghost Value = { CallerState };
 
-    ghost view = { λ c. record { begun = c.begun; notes = reverse c.notes.items; catalog = option_map (λ b. b.now) c.catalog } };
+    ghost view = { λ c. record {
+      begun = c.begun;
+      notes = reverse c.notes.items;
+      catalog = option_map (λ b. b.now) c.catalog;
+    } };
 }
 
 /// The place of the first read of the catalog. `notes` stand oldest first.
@@ -110,7 +121,8 @@ fn last_shown(
     op: &Op,
     reply: &Reply,
 ) -> Result<Option<usize>, NoMemory>
-    ensures { IfOk result (λ found. MatchOption found ⊤ (IsLastNote (reverse notes.now) op.now reply.now)) }
+    ensures { IfOk result (λ found.
+        MatchOption found ⊤ (IsLastNote (reverse notes.now) op.now reply.now)) }
 {
     let mut left = notes.len();
     while left > 0 {
@@ -166,7 +178,8 @@ impl<'a> Caller<'a> {
 
     /// Takes an entry of its own at this place.
     fn take(&mut self, place: usize, entry: &'a Entry) -> Result<(), NoMemory>
-        ensures { OnOk result (self.new ≡ state_after place entry.now.what (seen_at entry.now) self.old) }
+        ensures { OnOk result (self.new
+            ≡ state_after place entry.now.what (seen_at entry.now) self.old) }
     {
         match &entry.what {
             What::Begin { number, op } => {
@@ -268,7 +281,9 @@ fn note_planner<'a>(
     tid: Tid,
     planner: Planner<'a>,
 ) -> Result<(), NoMemory>
-    ensures { OnOk result ((q : Id) → planner_kept plans.new q ≡ (if tid_same tid q then Some planner.entry else planner_kept plans.old q)) }
+    ensures { OnOk result ((q : Id)
+        → planner_kept plans.new q ≡ (if tid_same tid q then Some planner.entry
+        else planner_kept plans.old q)) }
 {
     plans.insert(id_key(tid), planner)?;
     Ok(())
@@ -297,7 +312,9 @@ fn note_standing(
     client: ClientNo,
     number: u32,
 ) -> Result<(), NoMemory>
-    ensures { OnOk result ((c : Who) (n : ℕ) → stands standing.new c n ≡ ((client_same client c && nat_eq number n) || stands standing.old c n)) }
+    ensures { OnOk result ((c : Who) (n : ℕ)
+        → stands standing.new c n ≡ ((client_same client c && nat_eq number n)
+        || stands standing.old c n)) }
 {
     standing.insert(op_key(client, number))?;
     Ok(())
@@ -335,7 +352,9 @@ fn take_answer<'a>(
     answer: &Answer,
 ) -> Result<(), NoMemory>
     requires { length callers.now ≡ 256 }
-    ensures { OnOk result ((past : List Step) (placed : List Placed) → AreCallers callers.now past → StandsInSet standing.old placed → Fills slots.old.items placed → Puts past client answer.now placed standing.new slots.old.items slots.new.items) }
+    ensures { OnOk result ((past : List Step) (placed : List Placed) → AreCallers callers.now past
+        → StandsInSet standing.old placed → Fills slots.old.items placed
+        → Puts past client answer.now placed standing.new slots.old.items slots.new.items) }
 {
     let Answer::Replied { reply } = answer else {
         return Ok(());
@@ -364,7 +383,10 @@ fn take_commit<'a>(
     standing: &mut HashSet<OpKey>,
     committed: CommittedMini<'a>,
 ) -> Result<Option<Act<'a>>, NoMemory>
-    ensures { IfOk result (λ found. (start : Start) (past : List Step) (placed : List Placed) → IsRun start past → Knows plans.now past → Named past committed.entry → StandsInSet standing.old placed → Commits past committed.entry placed standing.new found) }
+    ensures { IfOk result (λ found. (start : Start) (past : List Step) (placed : List Placed)
+        → IsRun start past → Knows plans.now past → Named past committed.entry
+        → StandsInSet standing.old placed
+        → Commits past committed.entry placed standing.new found) }
 {
     if is_read(committed.mini) {
         return Ok(None);
@@ -381,7 +403,8 @@ fn note_issue<'a>(
     entry: &Entry,
 ) -> Result<(), NoMemory>
     requires { length callers.now ≡ 256 }
-    ensures { OnOk result ((past : List Step) → AreCallers callers.now past → Knows plans.old past → Knows plans.new (entry.now ∷ past)) }
+    ensures { OnOk result ((past : List Step) → AreCallers callers.now past → Knows plans.old past
+        → Knows plans.new (entry.now ∷ past)) }
 {
     let What::Issue { tid, .. } = &entry.what else {
         return Ok(());
@@ -406,7 +429,9 @@ fn note_own<'a>(
 ) -> Result<(), NoMemory>
     requires { length callers.old ≡ 256 }
     ensures long { length callers.new ≡ 256 }
-    ensures tells { OnOk result ((past : List Step) → place ≡ length past → entry.now.client ≡ Some client → AreCallers callers.old past → AreCallers callers.new (entry.now ∷ past)) }
+    ensures tells { OnOk result ((past : List Step) → place ≡ length past
+        → entry.now.client ≡ Some client → AreCallers callers.old past
+        → AreCallers callers.new (entry.now ∷ past)) }
 {
     callers[usize::from(client.0)].take(place, entry)
 }
@@ -415,7 +440,8 @@ fn note_own<'a>(
 fn note_step<'a>(callers: &mut [Caller<'a>], place: usize, entry: &'a Entry) -> Result<(), NoMemory>
     requires { length callers.old ≡ 256 }
     ensures long { length callers.new ≡ 256 }
-    ensures tells { OnOk result ((past : List Step) → place ≡ length past → AreCallers callers.old past → AreCallers callers.new (entry.now ∷ past)) }
+    ensures tells { OnOk result ((past : List Step) → place ≡ length past
+        → AreCallers callers.old past → AreCallers callers.new (entry.now ∷ past)) }
 {
     match entry.client {
         Some(client) => note_own(callers, client, place, entry),
@@ -447,7 +473,9 @@ fn take_step<'a>(
     entry: &Entry,
 ) -> Result<(), NoMemory>
     requires { length callers.now ≡ 256 }
-    ensures { OnOk result ((past : List Step) (placed : List Placed) → AreCallers callers.now past → StandsInSet standing.old placed → Fills slots.old.items placed → TakesEntry past entry.now None placed standing.new slots.old.items slots.new.items None) }
+    ensures { OnOk result ((past : List Step) (placed : List Placed) → AreCallers callers.now past
+        → StandsInSet standing.old placed → Fills slots.old.items placed
+        → TakesEntry past entry.now None placed standing.new slots.old.items slots.new.items None) }
 {
     let (Some(client), What::Answered { answer, .. }) = (entry.client, &entry.what) else {
         return Ok(());
@@ -468,7 +496,12 @@ fn take_entry<'a>(
     committed: Option<CommittedMini<'a>>,
 ) -> Result<Option<Act<'a>>, NoMemory>
     requires { length callers.now ≡ 256 }
-    ensures { IfOk result (λ found. (start : Start) (past : List Step) (placed : List Placed) → IsRun start past → AreCallers callers.now past → Knows plans.now past → option_map issued_of committed.entry ≡ committed_by past entry.now → StandsInSet standing.old placed → Fills slots.old.items placed → TakesEntry past entry.now (committed_by past entry.now) placed standing.new slots.old.items slots.new.items found) }
+    ensures { IfOk result (λ found. (start : Start) (past : List Step) (placed : List Placed)
+        → IsRun start past → AreCallers callers.now past → Knows plans.now past
+        → option_map issued_of committed.entry ≡ committed_by past entry.now
+        → StandsInSet standing.old placed → Fills slots.old.items placed
+        → TakesEntry past entry.now (committed_by past entry.now) placed standing.new
+        slots.old.items slots.new.items found) }
 {
     match committed {
         Some(committed) => take_commit(plans, standing, committed),
@@ -511,8 +544,11 @@ impl<'a> HistoryReader<'a> {
     /// what was answered.
     fn follow(&mut self, alloc: Global, entry: &'a Entry) -> Result<(), NoMemory>
         requires { (past : List Step) × IsReading self.old past }
-        ensures reads { (past : List Step) → IsReading self.old past → OnOk result (IsReading self.new (entry.now ∷ past)) }
-        ensures tells { OnOk result ((start : Start) (past : List Step) (placed : List Placed) → IsRun start past → HasTold self.old past placed → (next : List Placed) × HasTold self.new (entry.now ∷ past) next) }
+        ensures reads { (past : List Step) → IsReading self.old past
+            → OnOk result (IsReading self.new (entry.now ∷ past)) }
+        ensures tells { OnOk result ((start : Start) (past : List Step) (placed : List Placed)
+            → IsRun start past → HasTold self.old past placed → (next : List Placed)
+            × HasTold self.new (entry.now ∷ past) next) }
     {
         let committed = self.commits.follow(entry)?;
         let act = take_entry(
@@ -554,7 +590,8 @@ fn all_done(
     slots: &[Option<Act<'_>>],
 ) -> Result<History, NoMemory>
     ensures history { IfOk result (λ history. history ≡ done_from store.old (acts_in slots.now)) }
-    ensures store { OnOk result (store.new ≡ store_after store.old (done_from store.old (acts_in slots.now))) }
+    ensures store { OnOk result (store.new
+        ≡ store_after store.old (done_from store.old (acts_in slots.now))) }
 {
     let mut history = Vec::new(alloc);
     for slot in slots {
@@ -567,7 +604,8 @@ fn all_done(
 
 /// What the entries of a log tell of the history.
 fn read_log<'a>(alloc: Global, log: &'a [(u64, Entry)]) -> Result<HistoryReader<'a>, NoMemory>
-    ensures { IfOk result (λ reader. (start : Start) → IsRun start (entries_of log.now) → (placed : List Placed) × HasTold reader (entries_of log.now) placed) }
+    ensures { IfOk result (λ reader. (start : Start) → IsRun start (entries_of log.now)
+        → (placed : List Placed) × HasTold reader (entries_of log.now) placed) }
 {
     let mut reader = HistoryReader::new(alloc)?;
     for (_, entry) in log {
@@ -586,7 +624,9 @@ pub struct Ending {
 
 /// What the log comes to, from `start` on. NoMemory: as for `history_of`.
 pub fn ending_of(alloc: Global, start: &Store, log: &Log) -> Result<Ending, NoMemory>
-    ensures { (from : Start) → OpenedRun from start.now (entries_of log.now) → IfOk result (λ ending. (placed : List Placed) × EndsIn ending from start.now (entries_of log.now) placed) }
+    ensures { (from : Start) → OpenedRun from start.now (entries_of log.now)
+        → IfOk result (λ ending. (placed : List Placed)
+        × EndsIn ending from start.now (entries_of log.now) placed) }
 {
     runs_are_one_history();
     let reader = read_log(alloc, log.as_slice())?;
@@ -609,8 +649,12 @@ pub fn ending_of(alloc: Global, start: &Store, log: &Log) -> Result<Ending, NoMe
 /// NoMemory: there was no memory for it. Where the log is no run from records whose memory holds
 /// `start`, also where no read tells the place of a reply, or a plan's operation is not known.
 pub fn history_of(alloc: Global, start: &Store, log: &Log) -> Result<History, NoMemory>
-    ensures history { (from : Start) → OpenedRun from start.now (entries_of log.now) → IfOk result (λ history. (placed : List Placed) × IsHistory (entries_of log.now) placed × (history ≡ pasts_of placed)) }
-    ensures one { (from : Start) → OpenedRun from start.now (entries_of log.now) → IfOk result (λ history. (placed : List Placed) × IsOneHistory from start.now (entries_of log.now) placed × (history ≡ pasts_of placed)) }
+    ensures history { (from : Start) → OpenedRun from start.now (entries_of log.now)
+        → IfOk result (λ history. (placed : List Placed) × IsHistory (entries_of log.now) placed
+        × (history ≡ pasts_of placed)) }
+    ensures one { (from : Start) → OpenedRun from start.now (entries_of log.now)
+        → IfOk result (λ history. (placed : List Placed)
+        × IsOneHistory from start.now (entries_of log.now) placed × (history ≡ pasts_of placed)) }
 {
     Ok(ending_of(alloc, start, log)?.history)
 }

@@ -44,7 +44,8 @@ fn put_nodes(slots: &mut Vec<Option<Entry>>, lists: Vec<EntryList>) -> Result<()
 
 /// The same for each list of a client.
 fn put_clients(slots: &mut Vec<Option<Entry>>, lists: Vec<ClientList>) -> Result<(), NoMemory>
-    ensures { OnOk result (slots.new.items ≡ put_lists (map (λ l. l.entries) lists.items) slots.old.items) }
+    ensures { OnOk result (slots.new.items
+        ≡ put_lists (map (λ l. l.entries) lists.items) slots.old.items) }
 {
     let mut left = lists;
     while let Some(list) = left.pop() {
@@ -71,7 +72,8 @@ fn filled(alloc: Global, slots: Vec<Option<Entry>>) -> Result<Vec<(u64, Entry)>,
 /// time linear in the entries.
 pub fn merge(alloc: Global, lists: Lists) -> Result<Log, NoMemory>
     requires { (clock : ℕ) × AreOneLog lists.nodes lists.clients clock }
-    ensures { (clock : ℕ) (one : AreOneLog lists.nodes lists.clients clock) → IfOk result (λ log. log ≡ placed_from 0 one.log) }
+    ensures { (clock : ℕ) (one : AreOneLog lists.nodes lists.clients clock)
+        → IfOk result (λ log. log ≡ placed_from 0 one.log) }
 {
     let mut slots = Vec::new(alloc);
     put_nodes(&mut slots, lists.nodes.into_vec())?;

@@ -1,5 +1,6 @@
 //! The crash points of a script that a log met.
-ghost use Rattle.std.specs.Prelude.{◌≡◌, ◌+◌, ◌&&◌, ◌∷◌, [], List, IfOk, OnOk, length, replicate, false, if◌then◌else◌};
+ghost use Rattle.std.specs.Prelude.{◌≡◌, ◌+◌, ◌&&◌, ◌∷◌, [], List, IfOk, OnOk, length, replicate};
+ghost use Rattle.std.specs.Prelude.{false, if◌then◌else◌};
 ghost use Rattle.std.specs.Option.{option_map, option_map_or};
 ghost use Rattle.mn_base.specs.Ids.{client_same, tid_same};
 ghost use Rattle.mn_base.specs.declared.ids.ClientNo.{ClientNo as Who};
@@ -163,7 +164,9 @@ fn add_vote(
     tid: Tid,
 ) -> Result<usize, NoMemory>
     ensures count { IfOk result (λ count. count ≡ votes_kept votes.old client tid + 1) }
-    ensures kept { OnOk result ((c : Who) (t : Id) → votes_kept votes.new c t ≡ (if client_same client c && tid_same tid t then votes_kept votes.old client tid + 1 else votes_kept votes.old c t)) }
+    ensures kept { OnOk result ((c : Who) (t : Id)
+        → votes_kept votes.new c t ≡ (if client_same client c && tid_same tid t
+        then votes_kept votes.old client tid + 1 else votes_kept votes.old c t)) }
 {
     let before = votes_of(votes, client, tid);
     let count = before.checked_add(1).ok_or(NoMemory)?;
@@ -177,8 +180,12 @@ fn count_vote(
     client: ClientNo,
     voted: Option<Tid>,
 ) -> Result<Option<usize>, NoMemory>
-    ensures count { IfOk result (λ count. count ≡ option_map (λ tid. votes_kept votes.old client tid + 1) voted) }
-    ensures kept { OnOk result ((c : Who) (t : Id) → votes_kept votes.new c t ≡ (if client_same client c && option_map_or (λ tid. tid_same tid t) voted false then votes_kept votes.old c t + 1 else votes_kept votes.old c t)) }
+    ensures count { IfOk result (λ count. count
+        ≡ option_map (λ tid. votes_kept votes.old client tid + 1) voted) }
+    ensures kept { OnOk result ((c : Who) (t : Id)
+        → votes_kept votes.new c t ≡ (if client_same client c
+        && option_map_or (λ tid. tid_same tid t) voted false then votes_kept votes.old c t + 1
+        else votes_kept votes.old c t)) }
 {
     let Some(tid) = voted else {
         return Ok(None);
@@ -244,7 +251,9 @@ impl Watch {
     ) -> Result<(), NoMemory>
         requires { IsWatch self.old points.now }
         ensures is { OnOk result (IsWatch self.new points.now) }
-        ensures watches { OnOk result ((past : List Past) → entry.now.client ≡ Some client → Watches self.old points.now past → Watches self.new points.now (entry.now ∷ past)) }
+        ensures watches { OnOk result
+            ((past : List Past) → entry.now.client ≡ Some client → Watches self.old points.now past
+            → Watches self.new points.now (entry.now ∷ past)) }
     {
         let number = self.numbers[usize::from(client.0)];
         let votes = count_vote(&mut self.votes, client, voted_id(&entry.what))?;
@@ -264,7 +273,9 @@ impl Watch {
     fn note(&mut self, points: &[Point], entry: &Entry) -> Result<(), NoMemory>
         requires { IsWatch self.old points.now }
         ensures is { OnOk result (IsWatch self.new points.now) }
-        ensures watches { OnOk result ((past : List Past) → Watches self.old points.now past → Watches self.new points.now (entry.now ∷ past)) }
+        ensures watches { OnOk result
+            ((past : List Past) → Watches self.old points.now past
+            → Watches self.new points.now (entry.now ∷ past)) }
     {
         match entry.client {
             Some(client) => self.note_own(points, client, entry),

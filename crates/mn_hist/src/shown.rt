@@ -1,5 +1,6 @@
 //! What a read of a client shows: the catalog, or a leaf.
-ghost use Rattle.std.specs.Prelude.{◌≡◌, ◌+◌, ◌*◌, ◌∷◌, [], ℕ, true, ⊤, IfOk, OnOk, List, MatchOption};
+ghost use Rattle.std.specs.Prelude.{◌≡◌, ◌+◌, ◌*◌, ◌∷◌, [], ℕ, true, ⊤, IfOk, OnOk, List};
+ghost use Rattle.std.specs.Prelude.{MatchOption};
 ghost use Rattle.std.specs.Option.{option_map, option_to_list};
 ghost use Rattle.mn_base.specs.Store.{listed, listing_of};
 ghost use Rattle.mn_base.specs.Tree.{parents_of};
@@ -103,7 +104,10 @@ impl<'a> Read<'a> {
 
 /// The catalog that the bytes spell.
 fn catalog_in(alloc: Global, bytes: &[u8]) -> Result<Option<Catalog>, NoMemory>
-    ensures { IfOk result (λ found. MatchOption found ((entries : List Head) → SpellsCatalog bytes.now entries → ⊥) (λ catalog. SpellsCatalog bytes.now catalog × ((entries : List Head) → SpellsCatalog bytes.now entries → catalog ≡ entries))) }
+    ensures { IfOk result (λ found.
+        MatchOption found ((entries : List Head) → SpellsCatalog bytes.now entries → ⊥)
+        (λ catalog. SpellsCatalog bytes.now catalog
+        × ((entries : List Head) → SpellsCatalog bytes.now entries → catalog ≡ entries))) }
 {
     match Catalog::read(alloc, bytes) {
         Ok(catalog) => Ok(Some(catalog)),
@@ -133,7 +137,8 @@ fn is_refusal(refusal: &Reply, reply: &Reply) -> Option<bool>
 
 /// The name of the parent of an entry among these.
 fn parent_name<'a>(entries: &'a [CatEntry], entry: &CatEntry) -> Option<&'a Name>
-    ensures { option_map (λ n. n.now) result ≡ (listed (heads_in entries.now) (entry_head entry.now)).parent }
+    ensures { option_map (λ n. n.now) result
+        ≡ (listed (heads_in entries.now) (entry_head entry.now)).parent }
 {
     let parent = entry.parent?;
     match entries.get(usize::from(parent.0)) {
@@ -143,7 +148,8 @@ fn parent_name<'a>(entries: &'a [CatEntry], entry: &CatEntry) -> Option<&'a Name
 }
 
 fn same_names(one: Option<&Name>, other: Option<&Name>) -> bool
-    ensures { result ≡ true → option_map (λ n. n.now) one.entry ≡ option_map (λ n. n.now) other.entry }
+    ensures { result ≡ true → option_map (λ n. n.now) one.entry
+        ≡ option_map (λ n. n.now) other.entry }
 {
     match (one, other) {
         (Some(one), Some(other)) => one.as_slice() == other.as_slice(),
@@ -178,7 +184,8 @@ fn are_listed(entries: &[CatEntry], versions: &[Version]) -> bool
 
 /// Whether these entries show the reply.
 fn entries_show(catalog: &Catalog, op: &Op, reply: &Reply) -> Result<bool, NoMemory>
-    ensures { IfOk result (λ b. Decides b (CatalogReplies (heads_in catalog.now) op.now reply.now)) }
+    ensures { IfOk result (λ b. Decides b
+        (CatalogReplies (heads_in catalog.now) op.now reply.now)) }
 {
     if let Op::Versions = op {
         let Reply::Listing { versions } = reply else {
@@ -258,7 +265,8 @@ fn lone_get(steps: &Steps) -> Option<&Key>
 
 /// What a leaf that covers the key has there.
 fn value_in<'a>(page: &'a Page, key: &Key) -> Option<Option<&'a Value>>
-    ensures { option_map (λ found. option_map (λ v. v.now) found) result ≡ leaf_value page.now key.now }
+    ensures { option_map (λ found. option_map (λ v. v.now) found) result
+        ≡ leaf_value page.now key.now }
 {
     let high = match &page.high {
         Some(high) => Some(high.as_slice()),
@@ -299,7 +307,10 @@ fn is_found(reply: &Reply, value: Option<&Value>) -> bool
 
 /// The page that the bytes spell.
 fn page_in(alloc: Global, bytes: &[u8]) -> Result<Option<Page>, NoMemory>
-    ensures { IfOk result (λ found. MatchOption found ((page : Leaf) → SpellsPage bytes.now page → ⊥) (λ page. SpellsPage bytes.now page × ((other : Leaf) → SpellsPage bytes.now other → page ≡ other))) }
+    ensures { IfOk result (λ found.
+        MatchOption found ((page : Leaf) → SpellsPage bytes.now page → ⊥)
+        (λ page. SpellsPage bytes.now page
+        × ((other : Leaf) → SpellsPage bytes.now other → page ≡ other))) }
 {
     match Page::read(alloc, bytes) {
         Ok(found) => Ok(found),
@@ -317,7 +328,8 @@ fn leaf_shows(
     key: &Key,
     reply: &Reply,
 ) -> Result<bool, NoMemory>
-    ensures { IfOk result (λ b. LeafTells b (option_map (λ c. c.now) catalog.entry) bytes.now version.now key.now reply.now) }
+    ensures { IfOk result (λ b. LeafTells b
+        (option_map (λ c. c.now) catalog.entry) bytes.now version.now key.now reply.now) }
 {
     let Some(page) = page_in(alloc, bytes)? else {
         return Ok(false);
@@ -343,7 +355,8 @@ pub fn shows(
     op: &Op,
     reply: &Reply,
 ) -> Result<bool, NoMemory>
-    ensures { IfOk result (λ b. TellsShown b (option_map (λ c. c.now) catalog.entry) (seen_of read.now) op.now reply.now) }
+    ensures { IfOk result (λ b. TellsShown b (option_map (λ c. c.now) catalog.entry)
+        (seen_of read.now) op.now reply.now) }
 {
     if read.is_catalog() {
         return catalog_shows(alloc, read.bytes, op, reply);

@@ -20,7 +20,8 @@ fn version_at(at: usize) -> Result<VersionNo, NoMemory>
 /// How many pairs a version has. NoMemory: more than are counted.
 fn pair_count(store: &Store, number: VersionNo) -> Result<u32, NoMemory>
     requires { number.0 < length store.now }
-    ensures { IfOk result (λ count. IsSomeAnd (slice_get store.now number.0) (λ v. count ≡ length v.pairs)) }
+    ensures { IfOk result (λ count.
+        IsSomeAnd (slice_get store.now number.0) (λ v. count ≡ length v.pairs)) }
 {
     match u32::try_from(store.pairs(number).as_slice().len()) {
         Ok(count) => Ok(count),
@@ -36,7 +37,8 @@ fn version_line(
     version: &Version,
 ) -> Result<VersionLine, NoMemory>
     requires { number.0 < length store.now }
-    ensures { IfOk result (λ line. IsSomeAnd (slice_get store.now number.0) (λ v. line ≡ told_with version.now v)) }
+    ensures { IfOk result (λ line.
+        IsSomeAnd (slice_get store.now number.0) (λ v. line ≡ told_with version.now v)) }
 {
     Ok(VersionLine {
         name: version.name.try_copy(alloc)?,

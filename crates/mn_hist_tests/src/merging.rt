@@ -49,7 +49,8 @@ fn peek_often<N: Named, D: Disk, T: Wait, const NODE: u8>(
     ensures board { board_of result.0 ≡ N.board }
     ensures owns { OwnsJust (view_of result.0) (Client list.client) }
     ensures list { held (view_of result.0) (Client list.client) ≡ Some result.1.entries }
-    ensures issued { (start : Start) → AllByRecursion (IsIssueOf start) (entries_of result.1.entries) }
+    ensures issued { (start : Start)
+        → AllByRecursion (IsIssueOf start) (entries_of result.1.entries) }
 {
     let mut pass = pass;
     let mut list = list;
@@ -72,14 +73,21 @@ fn peek_both<N: Named + Send + Sync, D: Disk + Send, T: Threads + Wait + Sync>(
     cells: (&Cell<N, D, 0>, &Cell<N, D, 1>),
     passes: (Pass<CoreLaw>, Pass<CoreLaw>),
 ) -> ((Pass<CoreLaw>, ClientList), (Pass<CoreLaw>, ClientList))
-    requires board { (id_of board.now ≡ N.board) × (board_of passes.0 ≡ N.board) × (board_of passes.1 ≡ N.board) }
-    requires first { OwnsJust (view_of passes.0) (client_at 0) × (held (view_of passes.0) (client_at 0) ≡ Some []) }
-    requires second { OwnsJust (view_of passes.1) (client_at 1) × (held (view_of passes.1) (client_at 1) ≡ Some []) }
+    requires board { (id_of board.now ≡ N.board) × (board_of passes.0 ≡ N.board)
+        × (board_of passes.1 ≡ N.board) }
+    requires first { OwnsJust (view_of passes.0) (client_at 0)
+        × (held (view_of passes.0) (client_at 0) ≡ Some []) }
+    requires second { OwnsJust (view_of passes.1) (client_at 1)
+        × (held (view_of passes.1) (client_at 1) ≡ Some []) }
     ensures board { (board_of result.0.0 ≡ N.board) × (board_of result.1.0 ≡ N.board) }
-    ensures first { OwnsJust (view_of result.0.0) (client_at 0) × (held (view_of result.0.0) (client_at 0) ≡ Some result.0.1.entries) }
-    ensures second { OwnsJust (view_of result.1.0) (client_at 1) × (held (view_of result.1.0) (client_at 1) ≡ Some result.1.1.entries) }
-    ensures issued { (start : Start) → AllByRecursion (IsIssueOf start) (entries_of result.0.1.entries) }
-    ensures other_issued { (start : Start) → AllByRecursion (IsIssueOf start) (entries_of result.1.1.entries) }
+    ensures first { OwnsJust (view_of result.0.0) (client_at 0)
+        × (held (view_of result.0.0) (client_at 0) ≡ Some result.0.1.entries) }
+    ensures second { OwnsJust (view_of result.1.0) (client_at 1)
+        × (held (view_of result.1.0) (client_at 1) ≡ Some result.1.1.entries) }
+    ensures issued { (start : Start)
+        → AllByRecursion (IsIssueOf start) (entries_of result.0.1.entries) }
+    ensures other_issued { (start : Start)
+        → AllByRecursion (IsIssueOf start) (entries_of result.1.1.entries) }
 {
     let (cell, other_cell) = cells;
     let (pass, other) = passes;
@@ -88,12 +96,24 @@ fn peek_both<N: Named + Send + Sync, D: Disk + Send, T: Threads + Wait + Sync>(
     thread::join(
         rt,
         move || -> (Pass<CoreLaw>, ClientList)
-            requires { (id_of board.now ≡ N.board) × (board_of pass ≡ N.board) × OwnsJust (view_of pass) (client_at 0) × (held (view_of pass) (client_at 0) ≡ Some list.entries) × (list.client ≡ record { 0 = 0 }) × (list.entries ≡ []) }
-            ensures { (board_of result.0 ≡ N.board) × OwnsJust (view_of result.0) (client_at 0) × (held (view_of result.0) (client_at 0) ≡ Some result.1.entries) × ((start : Start) → AllByRecursion (IsIssueOf start) (entries_of result.1.entries)) }
+            requires { (id_of board.now ≡ N.board) × (board_of pass ≡ N.board)
+                × OwnsJust (view_of pass) (client_at 0)
+                × (held (view_of pass) (client_at 0) ≡ Some list.entries)
+                × (list.client ≡ record { 0 = 0 }) × (list.entries ≡ []) }
+            ensures { (board_of result.0 ≡ N.board) × OwnsJust (view_of result.0) (client_at 0)
+                × (held (view_of result.0) (client_at 0) ≡ Some result.1.entries)
+                × ((start : Start) → AllByRecursion (IsIssueOf start)
+                (entries_of result.1.entries)) }
         { peek_often::<N, D, T, 0>(rt, alloc, cell, board, pass, list) },
         move || -> (Pass<CoreLaw>, ClientList)
-            requires { (id_of board.now ≡ N.board) × (board_of other ≡ N.board) × OwnsJust (view_of other) (client_at 1) × (held (view_of other) (client_at 1) ≡ Some other_list.entries) × (other_list.client ≡ record { 0 = 1 }) × (other_list.entries ≡ []) }
-            ensures { (board_of result.0 ≡ N.board) × OwnsJust (view_of result.0) (client_at 1) × (held (view_of result.0) (client_at 1) ≡ Some result.1.entries) × ((start : Start) → AllByRecursion (IsIssueOf start) (entries_of result.1.entries)) }
+            requires { (id_of board.now ≡ N.board) × (board_of other ≡ N.board)
+                × OwnsJust (view_of other) (client_at 1)
+                × (held (view_of other) (client_at 1) ≡ Some other_list.entries)
+                × (other_list.client ≡ record { 0 = 1 }) × (other_list.entries ≡ []) }
+            ensures { (board_of result.0 ≡ N.board) × OwnsJust (view_of result.0) (client_at 1)
+                × (held (view_of result.0) (client_at 1) ≡ Some result.1.entries)
+                × ((start : Start) → AllByRecursion (IsIssueOf start)
+                (entries_of result.1.entries)) }
         { peek_often::<N, D, T, 1>(rt, alloc, other_cell, board, other, other_list) },
     )
 }
@@ -111,11 +131,18 @@ fn deal(board: &Board<CoreLaw>, pass: Pass<CoreLaw>) -> Dealt
     requires board { board_of pass ≡ id_of board.now }
     requires owns { (a : Who) → IsActor 2 2 a → held (view_of pass) a ≡ Some [] }
     requires others { (a : Who) → ¬ IsActor 2 2 a → held (view_of pass) a ≡ None }
-    ensures boards { (board_of result.node ≡ id_of board.now) × (board_of result.other_node ≡ id_of board.now) × (board_of result.client ≡ id_of board.now) × (board_of result.other_client ≡ id_of board.now) }
-    ensures node { OwnsJust (view_of result.node) (node_at 0) × (held (view_of result.node) (node_at 0) ≡ Some []) }
-    ensures other_node { OwnsJust (view_of result.other_node) (node_at 1) × (held (view_of result.other_node) (node_at 1) ≡ Some []) }
-    ensures client { OwnsJust (view_of result.client) (client_at 0) × (held (view_of result.client) (client_at 0) ≡ Some []) }
-    ensures other_client { OwnsJust (view_of result.other_client) (client_at 1) × (held (view_of result.other_client) (client_at 1) ≡ Some []) }
+    ensures boards { (board_of result.node ≡ id_of board.now)
+        × (board_of result.other_node ≡ id_of board.now)
+        × (board_of result.client ≡ id_of board.now)
+        × (board_of result.other_client ≡ id_of board.now) }
+    ensures node { OwnsJust (view_of result.node) (node_at 0)
+        × (held (view_of result.node) (node_at 0) ≡ Some []) }
+    ensures other_node { OwnsJust (view_of result.other_node) (node_at 1)
+        × (held (view_of result.other_node) (node_at 1) ≡ Some []) }
+    ensures client { OwnsJust (view_of result.client) (client_at 0)
+        × (held (view_of result.client) (client_at 0) ≡ Some []) }
+    ensures other_client { OwnsJust (view_of result.other_client) (client_at 1)
+        × (held (view_of result.other_client) (client_at 1) ≡ Some []) }
 {
     let mut client = pass;
     let node = board.split(&mut client, Actor::Node { node: NodeNo(0) });
@@ -134,13 +161,20 @@ fn deal(board: &Board<CoreLaw>, pass: Pass<CoreLaw>) -> Dealt
 
 // One pass of all four, which owns the lists that they own.
 fn gather(board: &Board<CoreLaw>, dealt: Dealt) -> Pass<CoreLaw>
-    requires boards { (board_of dealt.node ≡ id_of board.now) × (board_of dealt.other_node ≡ id_of board.now) × (board_of dealt.client ≡ id_of board.now) × (board_of dealt.other_client ≡ id_of board.now) }
-    requires nodes { OwnsJust (view_of dealt.node) (node_at 0) × OwnsJust (view_of dealt.other_node) (node_at 1) }
-    requires clients { OwnsJust (view_of dealt.client) (client_at 0) × OwnsJust (view_of dealt.other_client) (client_at 1) }
+    requires boards { (board_of dealt.node ≡ id_of board.now)
+        × (board_of dealt.other_node ≡ id_of board.now) × (board_of dealt.client ≡ id_of board.now)
+        × (board_of dealt.other_client ≡ id_of board.now) }
+    requires nodes { OwnsJust (view_of dealt.node) (node_at 0)
+        × OwnsJust (view_of dealt.other_node) (node_at 1) }
+    requires clients { OwnsJust (view_of dealt.client) (client_at 0)
+        × OwnsJust (view_of dealt.other_client) (client_at 1) }
     ensures board { board_of result ≡ id_of board.now }
     ensures all { OwnsAll 2 2 (view_of result) }
-    ensures nodes { (held (view_of result) (node_at 0) ≡ held (view_of dealt.node) (node_at 0)) × (held (view_of result) (node_at 1) ≡ held (view_of dealt.other_node) (node_at 1)) }
-    ensures clients { (held (view_of result) (client_at 0) ≡ held (view_of dealt.client) (client_at 0)) × (held (view_of result) (client_at 1) ≡ held (view_of dealt.other_client) (client_at 1)) }
+    ensures nodes { (held (view_of result) (node_at 0) ≡ held (view_of dealt.node) (node_at 0))
+        × (held (view_of result) (node_at 1) ≡ held (view_of dealt.other_node) (node_at 1)) }
+    ensures clients { (held (view_of result) (client_at 0)
+        ≡ held (view_of dealt.client) (client_at 0))
+        × (held (view_of result) (client_at 1) ≡ held (view_of dealt.other_client) (client_at 1)) }
 {
     let Dealt {
         node,
@@ -175,9 +209,12 @@ fn finish(
     requires board { board_of all ≡ id_of board }
     requires size { (nodes_of board ≡ 2) × (clients_of board ≡ 2) }
     requires all { OwnsAll 2 2 (view_of all) }
-    requires nodes { (held (view_of all) (node_at 0) ≡ Some nodes.0) × (held (view_of all) (node_at 1) ≡ Some nodes.1) }
-    requires clients { (held (view_of all) (client_at 0) ≡ Some clients.0.entries) × (held (view_of all) (client_at 1) ≡ Some clients.1.entries) }
-    ensures run { (start : Start) → AreParts start 2 2 (held (view_of all)) → IfSome result (λ ended. IsLogOfRun start ended.1) }
+    requires nodes { (held (view_of all) (node_at 0) ≡ Some nodes.0)
+        × (held (view_of all) (node_at 1) ≡ Some nodes.1) }
+    requires clients { (held (view_of all) (client_at 0) ≡ Some clients.0.entries)
+        × (held (view_of all) (client_at 1) ≡ Some clients.1.entries) }
+    ensures run { (start : Start) → AreParts start 2 2 (held (view_of all))
+        → IfSome result (λ ended. IsLogOfRun start ended.1) }
 {
     parts_make_run();
     let mut all = all;
@@ -223,8 +260,10 @@ fn meet<N: Named + Send + Sync, D: Disk + Send, T: Threads + Wait + Sync>(
     requires size { (nodes_of board ≡ 2) × (clients_of board ≡ 2) }
     requires owns { (a : Who) → IsActor 2 2 a → held (view_of pass) a ≡ Some [] }
     requires others { (a : Who) → ¬ IsActor 2 2 a → held (view_of pass) a ≡ None }
-    requires first { IsFirst D.state D.faults (start_of N.records) (numbered 0) (N.faults 0) (N.honest 0) first }
-    requires second { IsFirst D.state D.faults (start_of N.records) (numbered 1) (N.faults 1) (N.honest 1) second }
+    requires first { IsFirst D.state D.faults (start_of N.records) (numbered 0) (N.faults 0)
+        (N.honest 0) first }
+    requires second { IsFirst D.state D.faults (start_of N.records) (numbered 1) (N.faults 1)
+        (N.honest 1) second }
     ensures run { IfSome result.0 (λ ended. IsLogOfRun (start_of N.records) ended.1) }
 {
     let Dealt {
@@ -275,7 +314,8 @@ fn run<D: Disk + Send, T: Threads + Wait + Sync>(
 ) -> (Option<(Told, Log)>, (Node<D>, Node<D>))
     requires first { (first.node ≡ 0) × (first.nodes ≡ 2) × (first.down ≡ false) }
     requires second { (second.node ≡ 1) × (second.nodes ≡ 2) × (second.down ≡ false) }
-    ensures run { IfSome result.0 (λ ended. IsLogOfRun (start_of (first.records ∷ second.records ∷ [])) ended.1) }
+    ensures run { IfSome result.0
+        (λ ended. IsLogOfRun (start_of (first.records ∷ second.records ∷ [])) ended.1) }
 {
     let Ok((board, pass)) = Board::<CoreLaw>::new(alloc, 2, 2) else {
         return (None, (first, second));

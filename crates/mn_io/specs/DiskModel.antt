@@ -50,7 +50,8 @@ IsStable disk = (c : List ℕ) → disk.images c → c ≡ disk.content
 pub record Elapses (old new : DiskState) : Type 0 where
   pub honest : new.honest
   pub later : old.moment ≤ new.moment
-  pub nothing_else : (t : ℕ) (c : List ℕ) → t ≤ old.moment → new.since t c → old.since t c ⊎ new.images c
+  pub nothing_else : (t : ℕ) (c : List ℕ) → t ≤ old.moment → new.since t c → old.since t c
+      ⊎ new.images c
   pub keeps : (t : ℕ) (c : List ℕ) → t ≤ old.moment → old.since t c → new.since t c
 
 -- a call that changes nothing

@@ -1,7 +1,8 @@
 ghost use Rattle.std.specs.Prelude.{◌≡◌, ◌≤◌, ◌<◌, ◌+◌, ℕ, List, length, take, drop, IfOk, OnOk};
 ghost use Rattle.std.specs.Io.{ReadsAtMost};
 ghost use Rattle.mn_io.specs.Faults.{HasCause};
-ghost use Rattle.mn_io.specs.DiskModel.{DiskState, IsDisk, Elapses, DiskStays, ImagesFollow, NoneNew, IsStable, Torn, Cut, written_at};
+ghost use Rattle.mn_io.specs.DiskModel.{DiskState, IsDisk, Elapses, DiskStays, ImagesFollow};
+ghost use Rattle.mn_io.specs.DiskModel.{NoneNew, IsStable, Torn, Cut, written_at};
 
 use crate::{Failed, NoMemory};
 
@@ -27,7 +28,8 @@ pub trait Disk {
 
     /// How many bytes it has.
     fn length(&mut self) -> Result<u64, Failed>
-        ensures value { (state self.old).honest → IfOk result (λ n. n ≡ length (state self.old).content) }
+        ensures value { (state self.old).honest
+            → IfOk result (λ n. n ≡ length (state self.old).content) }
         ensures same { (state self.old).honest → DiskStays (state self.old) (state self.new) }
         ensures honest { (state self.new).honest → (state self.old).honest }
         ensures changes { spare_changes self.old ≤ spare_changes self.new }
@@ -38,7 +40,9 @@ pub trait Disk {
     /// many.
     fn read(&mut self, at: u64, into: &mut [u8]) -> Result<usize, Failed>
         ensures bound { ReadsAtMost result into.new }
-        ensures value { (state self.old).honest → IfOk result (λ n. take n into.new ≡ take (length into.new) (drop at (state self.old).content)) }
+        ensures value { (state self.old).honest
+            → IfOk result (λ n. take n into.new
+            ≡ take (length into.new) (drop at (state self.old).content)) }
         ensures same { (state self.old).honest → DiskStays (state self.old) (state self.new) }
         ensures honest { (state self.new).honest → (state self.old).honest }
         ensures changes { spare_changes self.old ≤ spare_changes self.new }
@@ -51,8 +55,11 @@ pub trait Disk {
         requires within { (state self.old).honest → at ≤ length (state self.old).content }
         requires change { 0 < spare_changes self.old }
         requires room { length piece.now ≤ spare_bytes self.old }
-        ensures written { (state self.old).honest → OnOk result ((state self.new).content ≡ written_at (state self.old).content at piece.now) }
-        ensures crash { (state self.old).honest → ImagesFollow (Torn at (length piece.now)) (state self.old) (state self.new) }
+        ensures written { (state self.old).honest
+            → OnOk result ((state self.new).content
+            ≡ written_at (state self.old).content at piece.now) }
+        ensures crash { (state self.old).honest
+            → ImagesFollow (Torn at (length piece.now)) (state self.old) (state self.new) }
         ensures time { (state self.old).honest → Elapses (state self.old) (state self.new) }
         ensures honest { (state self.new).honest → (state self.old).honest }
         ensures changes { spare_changes self.old ≤ spare_changes self.new + 1 }
@@ -62,10 +69,13 @@ pub trait Disk {
     /// Cuts it to a length, which isn't above the one that it has. Until a sync, a crash may leave
     /// any length between.
     fn cut(&mut self, length: u64) -> Result<(), Failed>
-        requires within { (state self.old).honest → length ≤ Rattle.std.specs.Prelude.length (state self.old).content }
+        requires within { (state self.old).honest
+            → length ≤ Rattle.std.specs.Prelude.length (state self.old).content }
         requires change { 0 < spare_changes self.old }
-        ensures cut { (state self.old).honest → OnOk result ((state self.new).content ≡ take length (state self.old).content) }
-        ensures crash { (state self.old).honest → ImagesFollow (Cut length) (state self.old) (state self.new) }
+        ensures cut { (state self.old).honest
+            → OnOk result ((state self.new).content ≡ take length (state self.old).content) }
+        ensures crash { (state self.old).honest
+            → ImagesFollow (Cut length) (state self.old) (state self.new) }
         ensures time { (state self.old).honest → Elapses (state self.old) (state self.new) }
         ensures honest { (state self.new).honest → (state self.old).honest }
         ensures changes { spare_changes self.old ≤ spare_changes self.new + 1 }
@@ -76,7 +86,8 @@ pub trait Disk {
     fn sync(&mut self) -> Result<(), Failed>
         requires { 0 < spare_changes self.old }
         ensures stable { (state self.old).honest → OnOk result (IsStable (state self.new)) }
-        ensures same { (state self.old).honest → OnOk result ((state self.new).content ≡ (state self.old).content) }
+        ensures same { (state self.old).honest
+            → OnOk result ((state self.new).content ≡ (state self.old).content) }
         ensures crash { (state self.old).honest → NoneNew (state self.old) (state self.new) }
         ensures time { (state self.old).honest → Elapses (state self.old) (state self.new) }
         ensures honest { (state self.new).honest → (state self.old).honest }

@@ -21,7 +21,13 @@ impl Model for MemorySink {
 
     ghost Value = { SinkState };
 
-    ghost view = { λ s. record { bytes = s.bytes.items; room = s.room; calls = s.calls; fails = s.fails; faults = s.faults } };
+    ghost view = { λ s. record {
+      bytes = s.bytes.items;
+      room = s.room;
+      calls = s.calls;
+      fails = s.fails;
+      faults = s.faults;
+    } };
 
     ghost invariant = { λ s. vec_len s.bytes + s.room ≤ vec_capacity s.bytes };
 }
@@ -32,7 +38,8 @@ impl MemorySink {
     /// An empty sink that takes `room` bytes. The calls in `fails` will fail. `NoMemory` where
     /// there is no room.
     pub fn new(alloc: Global, room: usize, fails: Calls) -> Result<Self, NoMemory>
-        ensures { IfOk result (λ sink. sink ≡ record { bytes = []; room = room; calls = 0; fails = fails; faults = 0 }) }
+        ensures { IfOk result (λ sink. sink
+            ≡ record { bytes = []; room = room; calls = 0; fails = fails; faults = 0 }) }
     {
         Ok(MemorySink {
             bytes: Vec::with_capacity(alloc, room)?,
@@ -59,7 +66,8 @@ impl MemorySink {
 }
 
 impl Sink for MemorySink {
-    ghost use Rattle.std.specs.Prelude.{◌≡◌, Some, IsErr, IfOk, OnOk, IsTrue, ◌↔◌, ◌<◌, ◌+◌, ◌⊎◌, length, min};
+    ghost use Rattle.std.specs.Prelude.{◌≡◌, Some, IsErr, IfOk, OnOk, IsTrue, ◌↔◌, ◌<◌, ◌+◌, ◌⊎◌};
+    ghost use Rattle.std.specs.Prelude.{length, min};
     ghost use Rattle.std.specs.Io.{WritesAtMost};
     ghost use Rattle.std.specs.Io.KnownBytes.{WriteAppends};
     ghost use Rattle.mn_io.specs.Faults.{HasCause, next_count};

@@ -19,7 +19,12 @@ impl Model for MemorySource {
 
     ghost Value = { SourceState };
 
-    ghost view = { λ s. record { rest = drop s.at s.bytes; calls = s.calls; fails = s.fails; faults = s.faults } };
+    ghost view = { λ s. record {
+      rest = drop s.at s.bytes;
+      calls = s.calls;
+      fails = s.fails;
+      faults = s.faults;
+    } };
 
     ghost invariant = { λ s. s.at ≤ length s.bytes };
 }
@@ -59,7 +64,8 @@ impl Source for MemorySource {
         // fits.
         ensures exact { IsErr result ↔ IsTrue (is_one_of self.old.calls self.old.fails) }
         ensures full { IfOk result (λ n. n ≡ min (length self.old.rest) (length into.old)) }
-        ensures faults { self.new.faults ≡ counted (is_one_of self.old.calls self.old.fails) self.old.faults }
+        ensures faults { self.new.faults
+            ≡ counted (is_one_of self.old.calls self.old.fails) self.old.faults }
         ensures calls { self.new.calls ≡ next_count self.old.calls }
         ensures fails { self.new.fails ≡ self.old.fails }
     {

@@ -1,4 +1,5 @@
-ghost use Rattle.std.specs.Prelude.{◌≡◌, ◌<◌, ◌≤◌, ℕ, List, Option, length, IfOk, IfSome, OnOk, OnErr, IsErrOf};
+ghost use Rattle.std.specs.Prelude.{◌≡◌, ◌<◌, ◌≤◌, ℕ, List, Option, length, IfOk, IfSome, OnOk};
+ghost use Rattle.std.specs.Prelude.{OnErr, IsErrOf};
 ghost use Rattle.std.specs.Io.{ReadsAtMost};
 ghost use Rattle.std.specs.Io.KnownBytes.{Consumes, ReadConsumes, IsAtEnd};
 ghost use Rattle.mn_io.specs.Faults.{Rose, HasCause};
@@ -33,10 +34,13 @@ pub fn read_all<R: Source>(alloc: Global, source: &mut R, limit: usize) -> Resul
     ensures all { IfOk result (λ bytes. IfSome (R.remaining source.old) (λ rest. bytes ≡ rest)) }
     ensures end { OnOk result (IsAtEnd (R.remaining source.new)) }
     ensures within { IfOk result (λ bytes. length bytes ≤ limit) }
-    ensures too_long { IsErrOf result ReadError.TooLong → IfSome (R.remaining source.old) (λ rest. limit < length rest) }
-    ensures fault { IsErrOf result ReadError.Fault → Rose (R.faults source.old) (R.faults source.new) }
+    ensures too_long { IsErrOf result ReadError.TooLong
+        → IfSome (R.remaining source.old) (λ rest. limit < length rest) }
+    ensures fault { IsErrOf result ReadError.Fault
+        → Rose (R.faults source.old) (R.faults source.new) }
     ensures later { R.faults source.old ≤ R.faults source.new }
-    ensures err { OnErr result ((taken : List ℕ) × Consumes (R.remaining source.old) (R.remaining source.new) taken) }
+    ensures err { OnErr result ((taken : List ℕ)
+        × Consumes (R.remaining source.old) (R.remaining source.new) taken) }
 {
     let mut bytes = Vec::new(alloc);
     let mut piece = [0u8; 4096];

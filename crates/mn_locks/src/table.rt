@@ -1,7 +1,9 @@
-ghost use Rattle.std.specs.Prelude.{◌≡◌, ◌≤◌, ◌<◌, ◌+◌, ◌++◌, [], length, map, IfOk, OnOk, OnErr, MatchResult, Some, None, vec_len, vec_capacity};
+ghost use Rattle.std.specs.Prelude.{◌≡◌, ◌≤◌, ◌<◌, ◌+◌, ◌++◌, [], length, map, IfOk, OnOk, OnErr};
+ghost use Rattle.std.specs.Prelude.{MatchResult, Some, None, vec_len, vec_capacity};
 ghost use Rattle.mn_base.specs.Ids.{tid_same, tid_lt};
 ghost use Rattle.mn_base.specs.Ranges.{ranges_meet, least_tid, lesser_tid};
-ghost use Rattle.mn_locks.specs.Locks.{conflicts, holders, first_held, held_of, hold_of, holds_of, without};
+ghost use Rattle.mn_locks.specs.Locks.{conflicts, holders, first_held, held_of, hold_of, holds_of};
+ghost use Rattle.mn_locks.specs.Locks.{without};
 
 use crate::{Held, Hold};
 use mn_base::{NoMemory, Range, Tid};
@@ -24,7 +26,10 @@ impl Model for LockTable {
 
     ghost Value = { TableState };
 
-    ghost view = { λ t. record { holds = t.holds.items; spare = vec_capacity t.holds - vec_len t.holds } };
+    ghost view = { λ t. record {
+      holds = t.holds.items;
+      spare = vec_capacity t.holds - vec_len t.holds;
+    } };
 }
 
 /// The two ids are one.
@@ -154,9 +159,13 @@ impl LockTable {
     /// that holds it, and then nothing has changed. It takes no memory.
     pub fn try_lock(&mut self, tid: Tid, reads: &[Range], writes: &[Range]) -> Result<(), Held>
         requires { length reads.now + length writes.now ≤ self.old.spare }
-        ensures verdict { MatchResult result (λ _. held_of self.old.holds tid reads.now writes.now ≡ None) (λ held. held_of self.old.holds tid reads.now writes.now ≡ Some held) }
-        ensures taken { OnOk result (self.new.holds ≡ self.old.holds ++ holds_of tid reads.now writes.now) }
-        ensures spare { OnOk result (self.old.spare ≤ self.new.spare + (length reads.now + length writes.now)) }
+        ensures verdict { MatchResult result
+            (λ _. held_of self.old.holds tid reads.now writes.now ≡ None)
+            (λ held. held_of self.old.holds tid reads.now writes.now ≡ Some held) }
+        ensures taken { OnOk result (self.new.holds
+            ≡ self.old.holds ++ holds_of tid reads.now writes.now) }
+        ensures spare { OnOk result (self.old.spare
+            ≤ self.new.spare + (length reads.now + length writes.now)) }
         ensures refused { OnErr result (self.new ≡ self.old) }
     {
         self.test(tid, reads, writes)?;
@@ -167,7 +176,8 @@ impl LockTable {
 
     /// Whether the ranges could be taken for an id: the answer of `try_lock`, with nothing taken.
     pub fn test(&self, tid: Tid, reads: &[Range], writes: &[Range]) -> Result<(), Held>
-        ensures { MatchResult result (λ _. held_of self.now.holds tid reads.now writes.now ≡ None) (λ held. held_of self.now.holds tid reads.now writes.now ≡ Some held) }
+        ensures { MatchResult result (λ _. held_of self.now.holds tid reads.now writes.now ≡ None)
+            (λ held. held_of self.now.holds tid reads.now writes.now ≡ Some held) }
     {
         if let Some(held) = first_conflict(&self.holds, tid, reads, false) {
             return Err(held);

@@ -1,7 +1,9 @@
 -- What a choice leaves of the changes that no sync has made stable.
-use Rattle.std.specs.Prelude.{◌≡◌, ℕ, zero, suc, ◌+◌, ◌-◌, ◌*◌, ◌/◌, ◌%◌, ◌^◌, nat_le, if◌then◌else◌, List, [], ◌∷◌, ◌++◌, length, take, drop, replicate}
+use Rattle.std.specs.Prelude.{◌≡◌, ℕ, zero, suc, ◌+◌, ◌-◌, ◌*◌, ◌/◌, ◌%◌, ◌^◌, nat_le}
+use Rattle.std.specs.Prelude.{if◌then◌else◌, List, [], ◌∷◌, ◌++◌, length, take, drop, replicate}
 use Rattle.mn_io.specs.DiskModel.{written_at}
-use Rattle.mn_memdisk.specs.History.{Event, write, lost_write, shorten, lost_cut, synced, content_of}
+use Rattle.mn_memdisk.specs.History.{Event, write, lost_write, shorten, lost_cut, synced}
+use Rattle.mn_memdisk.specs.History.{content_of}
 use Rattle.mn_memdisk.specs.declared.outcome.Outcome.{Outcome}
 use Rattle.mn_memdisk.specs.declared.outcome.Outcome.TheVariants.{Nothing, Whole, Front, Back}
 
@@ -26,10 +28,13 @@ abbrev pub part : Outcome → ℕ → List ℕ → List ℕ → List ℕ
 part Nothing at piece image = image
 part Whole at piece image = written_at image at piece
 part Front at piece image = written_at image at (take (length piece / 2) piece)
-part Back at piece image = written_at (filled (at + length piece / 2) image) (at + length piece / 2) (drop (length piece / 2) piece)
+part Back at piece image =
+    written_at (filled (at + length piece / 2) image) (at + length piece / 2)
+    (drop (length piece / 2) piece)
 
 abbrev pub written : Outcome → ℕ → List ℕ → List ℕ → List ℕ
-written outcome at piece image = (if nat_le at (length image) then part outcome at piece image else image)
+written outcome at piece image =
+    (if nat_le at (length image) then part outcome at piece image else image)
 
 -- what stands of a cut: nothing, all of it, or half of it
 abbrev pub shortened : Outcome → ℕ → List ℕ → List ℕ
@@ -57,9 +62,11 @@ unsynced (event ∷ older) = suc (unsynced older)
 abbrev pub crashed : ℕ → List ℕ → List Event → List ℕ
 crashed choice first [] = first
 crashed choice first (synced ∷ older) = content_of first older
-crashed choice first (event ∷ older) = left (outcome_of choice (unsynced older)) event (crashed choice first older)
+crashed choice first (event ∷ older) =
+    left (outcome_of choice (unsynced older)) event (crashed choice first older)
 
 -- bytes that a choice leaves of these events, of which so many came since the last sync
-pub record IsLeft (choice : ℕ) (first : List ℕ) (count : ℕ) (events : List Event) (image : List ℕ) : Type 0 where
+pub record IsLeft (choice : ℕ) (first : List ℕ) (count : ℕ) (events : List Event) (image : List ℕ)
+    : Type 0 where
   pub bytes : image ≡ crashed choice first events
   pub since : unsynced events ≡ count

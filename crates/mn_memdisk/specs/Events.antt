@@ -1,8 +1,11 @@
 -- The events that the changes of a disk in memory stand for.
-use Rattle.std.specs.Prelude.{◌≡◌, ◌≢◌, ◌≤◌, ◌<◌, ℕ, get_or, ◌+◌, Bool, false, if◌then◌else◌, List, [], ◌∷◌, length, take, drop, map, reverse, ⊤}
-use Rattle.mn_memdisk.specs.History.{Event, write, lost_write, shorten, lost_cut, synced, content_of, IsSound}
+use Rattle.std.specs.Prelude.{◌≡◌, ◌≢◌, ◌≤◌, ◌<◌, ℕ, get_or, ◌+◌, Bool, false, if◌then◌else◌, List}
+use Rattle.std.specs.Prelude.{[], ◌∷◌, length, take, drop, map, reverse, ⊤}
+use Rattle.mn_memdisk.specs.History.{Event, write, lost_write, shorten, lost_cut, synced}
+use Rattle.mn_memdisk.specs.History.{content_of, IsSound}
 use Rattle.mn_memdisk.specs.declared.changes.Change.{Change}
-use Rattle.mn_memdisk.specs.declared.changes.Change.TheVariants.{Wrote, LostWrite, Shortened, LostCut, Synced}
+use Rattle.mn_memdisk.specs.declared.changes.Change.TheVariants.{Wrote, LostWrite, Shortened}
+use Rattle.mn_memdisk.specs.declared.changes.Change.TheVariants.{LostCut, Synced}
 
 -- the bytes of a write, among those of all writes
 abbrev pub piece_of : List ℕ → ℕ → ℕ → List ℕ
@@ -33,7 +36,8 @@ HaveBytes n (x ∷ xs) = HasBytes n x × HaveBytes n xs
 
 -- What the fields of a disk have in common. The bytes that it had at first are those that a read
 -- gives, as long as it hasn't kept others.
-pub record IsWhole (kept : Bool) (first content pieces : List ℕ) (changes : List Change) : Type 0 where
+pub record IsWhole (kept : Bool) (first content pieces : List ℕ) (changes : List Change)
+    : Type 0 where
   pub have_bytes : HaveBytes (length pieces) changes
   pub none_yet : kept ≡ false → changes ≡ []
   pub sound : IsSound (if kept then first else content) (events_of pieces changes)
@@ -41,4 +45,5 @@ pub record IsWhole (kept : Bool) (first content pieces : List ℕ) (changes : Li
 
 -- none of the changes from this number on is a sync
 abbrev pub UnsyncedFrom : ℕ → List Change → Type 0
-UnsyncedFrom number changes = (k : ℕ) (d : Change) → number ≤ k → k < length changes → get_or changes k d ≢ Synced
+UnsyncedFrom number changes =
+    (k : ℕ) (d : Change) → number ≤ k → k < length changes → get_or changes k d ≢ Synced

@@ -35,7 +35,8 @@ EventShows synced content old new = new ≡ content
 -- what a crash now may leave: after a sync, the content alone
 abbrev pub IsImage : List ℕ → List Event → List ℕ → Type 0
 IsImage first [] c = c ≡ first
-IsImage first (event ∷ older) c = (d : List ℕ) × IsImage first older d × EventShows event (content_of first older) d c
+IsImage first (event ∷ older) c =
+    (d : List ℕ) × IsImage first older d × EventShows event (content_of first older) d c
 
 -- a write is within the content
 abbrev pub IsWithin : Event → List ℕ → Type 0

@@ -17,7 +17,8 @@ impl CallCount {
     pub fn is_due(&mut self) -> bool
         ensures due { result ≡ is_one_of self.old.calls self.old.fails }
         ensures calls { self.new.calls ≡ next_count self.old.calls }
-        ensures faults { self.new.faults ≡ counted (is_one_of self.old.calls self.old.fails) self.old.faults }
+        ensures faults { self.new.faults
+            ≡ counted (is_one_of self.old.calls self.old.fails) self.old.faults }
         ensures later { self.old.faults ≤ self.new.faults }
         ensures rose { IsTrue result → Rose self.old.faults self.new.faults }
         ensures fails { self.new.fails ≡ self.old.fails }

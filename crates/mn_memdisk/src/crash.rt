@@ -27,7 +27,8 @@ fn stable_count(changes: &[Change]) -> usize
 fn redo(content: &mut Vec<u8>, change: Change, pieces: &[u8]) -> Result<(), AllocError>
     requires has_bytes { HasBytes (length pieces.now) change }
     requires within { IsWithin (event_of pieces.now change) content.old.items }
-    ensures { OnOk result (content.new.items ≡ after (event_of pieces.now change) content.old.items) }
+    ensures { OnOk result (content.new.items
+        ≡ after (event_of pieces.now change) content.old.items) }
 {
     match change {
         Change::Wrote { at, from, count } => {
@@ -111,7 +112,8 @@ fn show(
     outcome: Outcome,
 ) -> Result<(), AllocError>
     requires { HasBytes (length pieces.now) change }
-    ensures { OnOk result (image.new.items ≡ left outcome (event_of pieces.now change) image.old.items) }
+    ensures { OnOk result (image.new.items
+        ≡ left outcome (event_of pieces.now change) image.old.items) }
 {
     match change {
         Change::Wrote { at, from, count } | Change::LostWrite { at, from, count } => {
@@ -135,7 +137,8 @@ fn content_after(
     requires stable { stable ≤ length changes.now }
     requires have_bytes { HaveBytes (length pieces.now) changes.now }
     requires sound { IsSound first.items (events_of pieces.now changes.now) }
-    ensures { IfOk result (λ content. content.items ≡ content_of first.items (events_of pieces.now (take stable changes.now))) }
+    ensures { IfOk result (λ content. content.items
+        ≡ content_of first.items (events_of pieces.now (take stable changes.now))) }
 {
     let mut content = first;
     for number in 0..stable {
@@ -156,7 +159,9 @@ fn show_rest(
     requires stable { stable ≤ length changes.now }
     requires have_bytes { HaveBytes (length pieces.now) changes.now }
     requires unsynced { UnsyncedFrom stable changes.now }
-    ensures { OnOk result ((first : List ℕ) → IsLeft choice first 0 (events_of pieces.now (take stable changes.now)) image.old.items → image.new.items ≡ crashed choice first (events_of pieces.now changes.now)) }
+    ensures { OnOk result ((first : List ℕ)
+        → IsLeft choice first 0 (events_of pieces.now (take stable changes.now)) image.old.items
+        → image.new.items ≡ crashed choice first (events_of pieces.now changes.now)) }
 {
     for number in stable..changes.len() {
         let outcome = pick(choice, number - stable);
@@ -175,7 +180,8 @@ pub fn image_after(
 ) -> Result<Vec<u8>, AllocError>
     requires have_bytes { HaveBytes (length pieces.now) changes.now }
     requires sound { IsSound first.items (events_of pieces.now changes.now) }
-    ensures { IfOk result (λ image. image.items ≡ crashed choice first.items (events_of pieces.now changes.now)) }
+    ensures { IfOk result (λ image. image.items
+        ≡ crashed choice first.items (events_of pieces.now changes.now)) }
 {
     let stable = stable_count(changes);
     let mut image = content_after(first, changes, pieces, stable)?;

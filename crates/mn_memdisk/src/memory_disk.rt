@@ -37,10 +37,12 @@ impl Model for MemoryDisk {
       fails = m.count.fails;
       faults = m.count.faults;
       spare_changes = (if m.is_kept then vec_capacity m.changes - vec_len m.changes else 0);
-      spare_bytes = min (vec_capacity m.pieces - vec_len m.pieces) (vec_capacity m.content - vec_len m.content);
+      spare_bytes = min (vec_capacity m.pieces - vec_len m.pieces)
+          (vec_capacity m.content - vec_len m.content);
     } };
 
-    ghost invariant = { λ m. IsWhole m.is_kept m.first.items m.content.items m.pieces.items m.changes.items };
+    ghost invariant = { λ m. IsWhole m.is_kept m.first.items m.content.items m.pieces.items
+        m.changes.items };
 }
 
 impl MemoryDisk {
@@ -51,7 +53,16 @@ impl MemoryDisk {
     /// A disk with these bytes, all of them stable. The calls in `fails` will fail. It takes no
     /// memory.
     pub fn new(content: Bytes, fails: Calls) -> Self
-        ensures new { result ≡ record { first = content; events = []; content = content; calls = 0; fails = fails; faults = 0; spare_changes = 0; spare_bytes = result.spare_bytes } }
+        ensures new { result ≡ record {
+          first = content;
+          events = [];
+          content = content;
+          calls = 0;
+          fails = fails;
+          faults = 0;
+          spare_changes = 0;
+          spare_bytes = result.spare_bytes;
+        } }
         ensures honest { (state_of result).honest }
     {
         let content = content.into_vec();
@@ -87,7 +98,8 @@ impl MemoryDisk {
     /// cut a length between. A change that failed counts as one that wasn't synced.
     pub fn crash(self, alloc: Global, choice: u64) -> Result<MemoryDisk, NoMemory>
         ensures image { IfOk result (λ disk. (state_of self).images disk.content) }
-        ensures chosen { IfOk result (λ disk. disk.content ≡ crashed choice self.first self.events) }
+        ensures chosen { IfOk result
+            (λ disk. disk.content ≡ crashed choice self.first self.events) }
         ensures stable { IfOk result (λ disk. (disk.first ≡ disk.content) × (disk.events ≡ [])) }
         ensures honest { IfOk result (λ disk. (state_of disk).honest) }
         ensures calls { IfOk result (λ disk. disk.calls ≡ self.calls) }
@@ -130,9 +142,11 @@ fn first_of(is_kept: bool, first: Vec<u8>, content: Vec<u8>) -> Vec<u8>
 }
 
 impl Disk for MemoryDisk {
-    ghost use Rattle.std.specs.Prelude.{◌≡◌, ◌≤◌, ◌<◌, ◌+◌, ◌↔◌, length, take, drop, IsTrue, IsErr, IfOk, OnOk};
+    ghost use Rattle.std.specs.Prelude.{◌≡◌, ◌≤◌, ◌<◌, ◌+◌, ◌↔◌, length, take, drop, IsTrue, IsErr};
+    ghost use Rattle.std.specs.Prelude.{IfOk, OnOk};
     ghost use Rattle.std.specs.Io.{ReadsAtMost};
-    ghost use Rattle.mn_io.specs.DiskModel.{Cut, Elapses, ImagesFollow, IsStable, NoneNew, DiskStays, Torn, written_at};
+    ghost use Rattle.mn_io.specs.DiskModel.{Cut, Elapses, ImagesFollow, IsStable, NoneNew};
+    ghost use Rattle.mn_io.specs.DiskModel.{DiskStays, Torn, written_at};
     ghost use Rattle.mn_io.specs.Faults.{HasCause};
     ghost use Rattle.mn_io.specs.Memory.{is_one_of};
     ghost use Rattle.mn_memdisk.specs.Laws.{is_disk_of};
@@ -149,8 +163,10 @@ impl Disk for MemoryDisk {
     ghost is_disk = { λ m honest. is_disk_of m.first m.events m.content honest };
 
     fn length(&mut self) -> Result<u64, Failed>
-        ensures value { (state_of self.old).honest → IfOk result (λ n. n ≡ length (state_of self.old).content) }
-        ensures same { (state_of self.old).honest → DiskStays (state_of self.old) (state_of self.new) }
+        ensures value { (state_of self.old).honest
+            → IfOk result (λ n. n ≡ length (state_of self.old).content) }
+        ensures same { (state_of self.old).honest
+            → DiskStays (state_of self.old) (state_of self.new) }
         ensures honest { (state_of self.new).honest → (state_of self.old).honest }
         ensures changes { self.old.spare_changes ≤ self.new.spare_changes }
         ensures bytes { self.old.spare_bytes ≤ self.new.spare_bytes }
@@ -168,8 +184,11 @@ impl Disk for MemoryDisk {
 
     fn read(&mut self, at: u64, into: &mut [u8]) -> Result<usize, Failed>
         ensures bound { ReadsAtMost result into.new }
-        ensures value { (state_of self.old).honest → IfOk result (λ n. take n into.new ≡ take (length into.new) (drop at (state_of self.old).content)) }
-        ensures same { (state_of self.old).honest → DiskStays (state_of self.old) (state_of self.new) }
+        ensures value { (state_of self.old).honest
+            → IfOk result (λ n. take n into.new
+            ≡ take (length into.new) (drop at (state_of self.old).content)) }
+        ensures same { (state_of self.old).honest
+            → DiskStays (state_of self.old) (state_of self.new) }
         ensures honest { (state_of self.new).honest → (state_of self.old).honest }
         ensures changes { self.old.spare_changes ≤ self.new.spare_changes }
         ensures bytes { self.old.spare_bytes ≤ self.new.spare_bytes }
@@ -192,9 +211,13 @@ impl Disk for MemoryDisk {
         requires within { (state_of self.old).honest → at ≤ length (state_of self.old).content }
         requires change { 0 < self.old.spare_changes }
         requires room { length piece.now ≤ self.old.spare_bytes }
-        ensures written { (state_of self.old).honest → OnOk result ((state_of self.new).content ≡ written_at (state_of self.old).content at piece.now) }
-        ensures crash { (state_of self.old).honest → ImagesFollow (Torn at (length piece.now)) (state_of self.old) (state_of self.new) }
-        ensures time { (state_of self.old).honest → Elapses (state_of self.old) (state_of self.new) }
+        ensures written { (state_of self.old).honest
+            → OnOk result ((state_of self.new).content
+            ≡ written_at (state_of self.old).content at piece.now) }
+        ensures crash { (state_of self.old).honest
+            → ImagesFollow (Torn at (length piece.now)) (state_of self.old) (state_of self.new) }
+        ensures time { (state_of self.old).honest
+            → Elapses (state_of self.old) (state_of self.new) }
         ensures honest { (state_of self.new).honest → (state_of self.old).honest }
         ensures changes { self.old.spare_changes ≤ self.new.spare_changes + 1 }
         ensures bytes { self.old.spare_bytes ≤ self.new.spare_bytes + length piece.now }
@@ -221,11 +244,15 @@ impl Disk for MemoryDisk {
     }
 
     fn cut(&mut self, length: u64) -> Result<(), Failed>
-        requires within { (state_of self.old).honest → length ≤ Rattle.std.specs.Prelude.length (state_of self.old).content }
+        requires within { (state_of self.old).honest
+            → length ≤ Rattle.std.specs.Prelude.length (state_of self.old).content }
         requires change { 0 < self.old.spare_changes }
-        ensures cut { (state_of self.old).honest → OnOk result ((state_of self.new).content ≡ take length (state_of self.old).content) }
-        ensures crash { (state_of self.old).honest → ImagesFollow (Cut length) (state_of self.old) (state_of self.new) }
-        ensures time { (state_of self.old).honest → Elapses (state_of self.old) (state_of self.new) }
+        ensures cut { (state_of self.old).honest
+            → OnOk result ((state_of self.new).content ≡ take length (state_of self.old).content) }
+        ensures crash { (state_of self.old).honest
+            → ImagesFollow (Cut length) (state_of self.old) (state_of self.new) }
+        ensures time { (state_of self.old).honest
+            → Elapses (state_of self.old) (state_of self.new) }
         ensures honest { (state_of self.new).honest → (state_of self.old).honest }
         ensures changes { self.old.spare_changes ≤ self.new.spare_changes + 1 }
         ensures bytes { self.old.spare_bytes ≤ self.new.spare_bytes }
@@ -247,9 +274,12 @@ impl Disk for MemoryDisk {
     fn sync(&mut self) -> Result<(), Failed>
         requires { 0 < self.old.spare_changes }
         ensures stable { (state_of self.old).honest → OnOk result (IsStable (state_of self.new)) }
-        ensures same { (state_of self.old).honest → OnOk result ((state_of self.new).content ≡ (state_of self.old).content) }
-        ensures crash { (state_of self.old).honest → NoneNew (state_of self.old) (state_of self.new) }
-        ensures time { (state_of self.old).honest → Elapses (state_of self.old) (state_of self.new) }
+        ensures same { (state_of self.old).honest
+            → OnOk result ((state_of self.new).content ≡ (state_of self.old).content) }
+        ensures crash { (state_of self.old).honest
+            → NoneNew (state_of self.old) (state_of self.new) }
+        ensures time { (state_of self.old).honest
+            → Elapses (state_of self.old) (state_of self.new) }
         ensures honest { (state_of self.new).honest → (state_of self.old).honest }
         ensures changes { self.old.spare_changes ≤ self.new.spare_changes + 1 }
         ensures bytes { self.old.spare_bytes ≤ self.new.spare_bytes }
@@ -272,7 +302,8 @@ impl Disk for MemoryDisk {
         ensures honest { (state_of self.new).honest → (state_of self.old).honest }
         ensures no_fewer { self.old.spare_changes ≤ self.new.spare_changes }
         ensures no_less { self.old.spare_bytes ≤ self.new.spare_bytes }
-        ensures same { (state_of self.old).honest → DiskStays (state_of self.old) (state_of self.new) }
+        ensures same { (state_of self.old).honest
+            → DiskStays (state_of self.old) (state_of self.new) }
         ensures faults { self.new.faults ≡ self.old.faults }
 
         // It isn't counted among the calls.

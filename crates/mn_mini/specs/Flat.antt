@@ -1,5 +1,6 @@
 -- What a minitransaction means: on a memory of one list of bytes for each node, all at once.
-use Rattle.std.specs.Prelude.{ℕ, zero, suc, ◌+◌, List, [], ◌∷◌, length, take, drop, Option, Some, None, if◌then◌else◌, slice_index_or, slice_set, bytes_eq}
+use Rattle.std.specs.Prelude.{ℕ, zero, suc, ◌+◌, List, [], ◌∷◌, length, take, drop, Option, Some}
+use Rattle.std.specs.Prelude.{None, if◌then◌else◌, slice_index_or, slice_set, bytes_eq}
 use Rattle.mn_base.specs.declared.ids.NodeNo.{NodeNo}
 use Rattle.mn_mini.specs.declared.item.Item.{Item}
 use Rattle.mn_mini.specs.declared.item.Item.TheVariants.{Compare, Read, Write}
@@ -33,7 +34,8 @@ space_in memory n = slice_index_or memory n.0 []
 abbrev pub mismatch_from : List (List ℕ) → ℕ → List Item → Option Mismatched
 mismatch_from memory i [] = None
 mismatch_from memory i (Compare node start bytes ∷ items) =
-    if bytes_eq (bytes_in (space_in memory node) start (length bytes)) bytes then mismatch_from memory (i + 1) items
+    if bytes_eq (bytes_in (space_in memory node) start (length bytes)) bytes
+    then mismatch_from memory (i + 1) items
     else Some (record { item = i; found = bytes_in (space_in memory node) start (length bytes) })
 mismatch_from memory i (Read node start length ∷ items) = mismatch_from memory i items
 mismatch_from memory i (Write node start bytes ∷ items) = mismatch_from memory i items
@@ -42,7 +44,8 @@ mismatch_from memory i (Write node start bytes ∷ items) = mismatch_from memory
 abbrev pub reads_in : List (List ℕ) → List Item → List (List ℕ)
 reads_in memory [] = []
 reads_in memory (Compare node start bytes ∷ items) = reads_in memory items
-reads_in memory (Read node start length ∷ items) = bytes_in (space_in memory node) start length ∷ reads_in memory items
+reads_in memory (Read node start length ∷ items) =
+    bytes_in (space_in memory node) start length ∷ reads_in memory items
 reads_in memory (Write node start bytes ∷ items) = reads_in memory items
 
 -- the memory with the write items in place
@@ -50,7 +53,8 @@ abbrev pub memory_after : List (List ℕ) → List Item → List (List ℕ)
 memory_after memory [] = memory
 memory_after memory (Compare node start bytes ∷ items) = memory_after memory items
 memory_after memory (Read node start length ∷ items) = memory_after memory items
-memory_after memory (Write node start bytes ∷ items) = memory_after (slice_set memory node.0 (overwritten (space_in memory node) start bytes)) items
+memory_after memory (Write node start bytes ∷ items) =
+    memory_after (slice_set memory node.0 (overwritten (space_in memory node) start bytes)) items
 
 -- what a minitransaction does to a memory
 pub data Outcome : Type 0 where
@@ -59,7 +63,8 @@ pub data Outcome : Type 0 where
 
 abbrev pub unless_mismatched : List (List ℕ) → Mini → Option Mismatched → Outcome
 unless_mismatched memory mini (Some at) = Mismatch at
-unless_mismatched memory mini None = Committed (reads_in memory mini.items) (memory_after memory mini.items)
+unless_mismatched memory mini None =
+    Committed (reads_in memory mini.items) (memory_after memory mini.items)
 
 -- all compare items equal the bytes in place: the reads, and the memory with all writes. Else the
 -- first that differs
@@ -71,7 +76,8 @@ outcome_on memory mini = unless_mismatched memory mini (mismatch_from memory 0 m
 abbrev pub part_mismatch_from : List ℕ → ℕ → List PartItem → Option Mismatched
 part_mismatch_from space i [] = None
 part_mismatch_from space i (Bare.Compare start bytes ∷ items) =
-    if bytes_eq (bytes_in space start (length bytes)) bytes then part_mismatch_from space (i + 1) items
+    if bytes_eq (bytes_in space start (length bytes)) bytes
+    then part_mismatch_from space (i + 1) items
     else Some (record { item = i; found = bytes_in space start (length bytes) })
 part_mismatch_from space i (Bare.Read start length ∷ items) = part_mismatch_from space i items
 part_mismatch_from space i (Bare.Write start bytes ∷ items) = part_mismatch_from space i items
@@ -79,11 +85,13 @@ part_mismatch_from space i (Bare.Write start bytes ∷ items) = part_mismatch_fr
 abbrev pub part_reads : List ℕ → List PartItem → List (List ℕ)
 part_reads space [] = []
 part_reads space (Bare.Compare start bytes ∷ items) = part_reads space items
-part_reads space (Bare.Read start length ∷ items) = bytes_in space start length ∷ part_reads space items
+part_reads space (Bare.Read start length ∷ items) =
+    bytes_in space start length ∷ part_reads space items
 part_reads space (Bare.Write start bytes ∷ items) = part_reads space items
 
 abbrev pub space_after_part : List ℕ → List PartItem → List ℕ
 space_after_part space [] = space
 space_after_part space (Bare.Compare start bytes ∷ items) = space_after_part space items
 space_after_part space (Bare.Read start length ∷ items) = space_after_part space items
-space_after_part space (Bare.Write start bytes ∷ items) = space_after_part (overwritten space start bytes) items
+space_after_part space (Bare.Write start bytes ∷ items) =
+    space_after_part (overwritten space start bytes) items

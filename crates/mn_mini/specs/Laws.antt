@@ -5,7 +5,8 @@ use Rattle.mn_base.specs.Ids.{tid_same}
 use Rattle.mn_mini.specs.declared.record.Record.{Record}
 use Rattle.mn_mini.specs.declared.request.Request.{Request}
 use Rattle.mn_base.specs.declared.ids.NodeNo.{NodeNo}
-use Rattle.mn_mini.specs.Mini.{Mini, IsNodeOf, IsSound, parts_conflict, part_of, participants_of, space_size}
+use Rattle.mn_mini.specs.Mini.{Mini, IsNodeOf, IsSound, parts_conflict, part_of, participants_of}
+use Rattle.mn_mini.specs.Mini.{space_size}
 use Rattle.mn_mini.specs.Node.{HeldPart, held_parts, answer, with_added}
 use Rattle.mn_mini.specs.RecordGrammar.{AreParticipants, IsPart, IsRecord}
 use Rattle.mn_mini.specs.Sound.{Fits, IsSoundRequest}
@@ -20,24 +21,33 @@ pub record TakesPart (mini : Mini) (n : NodeNo) : Type 0 where
 abbrev pub PartsAreSound : Type 0
 PartsAreSound =
     (mini : Mini) → IsSound mini
-    → AllByRecursion (TakesPart mini) (participants_of mini) × (2 ≤ length (participants_of mini) → AreParticipants (participants_of mini))
+    → AllByRecursion (TakesPart mini) (participants_of mini)
+    × (2 ≤ length (participants_of mini) → AreParticipants (participants_of mini))
 
 -- the records after these requests, the newest first, in a node that began with these records
 abbrev pub records_after : List ℕ → List Record → List Request → List Record
 records_after base start [] = start
-records_after base start (request ∷ requests) = with_added (answer base (records_after base start requests) request).added (records_after base start requests)
+records_after base start (request ∷ requests) =
+    with_added (answer base (records_after base start requests) request).added
+    (records_after base start requests)
 
 -- no part conflicts with one of another id
 abbrev pub PartsAreApart : List HeldPart → Type 0
 PartsAreApart [] = ⊤
-PartsAreApart (h ∷ hs) = AllByRecursion (λ g. tid_same g.tid h.tid ≡ false → parts_conflict h.part g.part ≡ false) hs × PartsAreApart hs
+PartsAreApart (h ∷ hs) =
+    AllByRecursion (λ g. tid_same g.tid h.tid ≡ false → parts_conflict h.part g.part ≡ false) hs
+    × PartsAreApart hs
 
 -- whatever is asked, the held parts of different ids do not conflict
 abbrev pub HeldPartsStayApart : Type 0
 HeldPartsStayApart =
-    (base : List ℕ) (start : List Record) (requests : List Request) → PartsAreApart (held_parts start) → PartsAreApart (held_parts (records_after base start requests))
+    (base : List ℕ) (start : List Record) (requests : List Request)
+    → PartsAreApart (held_parts start)
+    → PartsAreApart (held_parts (records_after base start requests))
 
 -- what the records answer to a sound request fits it
 abbrev pub AnswersFit : Type 0
 AnswersFit =
-    (base : List ℕ) (records : List Record) (request : Request) → length base ≡ space_size → AllByRecursion IsRecord records → IsSoundRequest request → Fits request (answer base records request).reply
+    (base : List ℕ) (records : List Record) (request : Request) → length base ≡ space_size
+    → AllByRecursion IsRecord records → IsSoundRequest request
+    → Fits request (answer base records request).reply

@@ -1,5 +1,6 @@
 -- Minitransactions: their items, and the part of each node.
-use Rattle.std.specs.Prelude.{ℕ, ◌+◌, ◌<◌, ◌≤◌, Bool, true, false, ◌&&◌, ◌||◌, List, [], ◌∷◌, ◌++◌, length, filter, if◌then◌else◌}
+use Rattle.std.specs.Prelude.{ℕ, ◌+◌, ◌<◌, ◌≤◌, Bool, true, false, ◌&&◌, ◌||◌, List, [], ◌∷◌, ◌++◌}
+use Rattle.std.specs.Prelude.{length, filter, if◌then◌else◌}
 use Rattle.std.specs.List.{list_any, flat_map, AllByRecursion}
 use Rattle.mn_base.specs.Ids.{node_same, node_numbers}
 use Rattle.mn_base.specs.Ranges.{ranges_meet}
@@ -31,7 +32,8 @@ participants_of mini = filter (is_named mini.items) (node_numbers mini.nodes)
 -- The part of a node: its compares, then its reads, then its writes, each in the order given
 
 abbrev pub compare_at : NodeNo → Item → List PartItem
-compare_at n (Compare node start bytes) = if node_same node n then Bare.Compare start bytes ∷ [] else []
+compare_at n (Compare node start bytes) =
+    if node_same node n then Bare.Compare start bytes ∷ [] else []
 compare_at n item = []
 
 abbrev pub read_at : NodeNo → Item → List PartItem
@@ -43,7 +45,9 @@ write_at n (Write node start bytes) = if node_same node n then Bare.Write start 
 write_at n item = []
 
 abbrev pub part_of : Mini → NodeNo → List PartItem
-part_of mini n = flat_map (compare_at n) mini.items ++ flat_map (read_at n) mini.items ++ flat_map (write_at n) mini.items
+part_of mini n =
+    flat_map (compare_at n) mini.items ++ flat_map (read_at n) mini.items
+    ++ flat_map (write_at n) mini.items
 
 -- Ranges and conflicts
 

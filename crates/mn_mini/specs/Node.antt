@@ -1,6 +1,7 @@
 -- A memory node is a list of records, and each answer follows from it. Lists of records stand
 -- newest first here: what a record changes is said of the records before it.
-use Rattle.std.specs.Prelude.{ℕ, max, Bool, true, false, not, ◌&&◌, List, [], ◌∷◌, length, Option, Some, None, is_some, if◌then◌else◌}
+use Rattle.std.specs.Prelude.{ℕ, max, Bool, true, false, not, ◌&&◌, List, [], ◌∷◌, length, Option}
+use Rattle.std.specs.Prelude.{Some, None, is_some, if◌then◌else◌}
 use Rattle.std.specs.List.{list_any}
 use Rattle.mn_base.specs.Ids.{tid_same, tid_lt}
 use Rattle.mn_base.specs.Ranges.{least_tid}
@@ -16,7 +17,8 @@ use Rattle.mn_mini.specs.declared.reply.NodeReply.{NodeReply}
 use Rattle.mn_mini.specs.declared.reply.NodeReply.TheVariants as Say
 use Rattle.mn_mini.specs.declared.doubt.Doubt.{Doubt}
 use Rattle.mn_mini.specs.Mini.{range_of, item_conflicts_with, has_write}
-use Rattle.mn_mini.specs.Flat.{Mismatched, bytes_in, part_mismatch_from, part_reads, space_after_part}
+use Rattle.mn_mini.specs.Flat.{Mismatched, bytes_in, part_mismatch_from, part_reads}
+use Rattle.mn_mini.specs.Flat.{space_after_part}
 
 -- Which records there are
 
@@ -89,7 +91,8 @@ without_tid tid (h ∷ hs) = if tid_same h.tid tid then without_tid tid hs else 
 -- from its vote to its decision a part is held
 abbrev pub held_parts : List Record → List HeldPart
 held_parts [] = []
-held_parts (Voted tid participants part ∷ records) = record { tid = tid; participants = participants; part = part } ∷ held_parts records
+held_parts (Voted tid participants part ∷ records) =
+    record { tid = tid; participants = participants; part = part } ∷ held_parts records
 held_parts (Executed tid part ∷ records) = held_parts records
 held_parts (Decided tid verdict ∷ records) = without_tid tid (held_parts records)
 held_parts (Forced tid ∷ records) = held_parts records
@@ -107,7 +110,9 @@ is_held records tid = is_some (held_part_of tid (held_parts records))
 -- the space with the writes of those held parts whose ids are so, the oldest first
 abbrev pub with_held : (Tid → Bool) → List ℕ → List HeldPart → List ℕ
 with_held is_so space [] = space
-with_held is_so space (h ∷ hs) = if is_so h.tid then space_after_part (with_held is_so space hs) h.part else with_held is_so space hs
+with_held is_so space (h ∷ hs) =
+    if is_so h.tid then space_after_part (with_held is_so space hs) h.part
+    else with_held is_so space hs
 
 -- the base space, changed by each executed part, and by each voted part of an id where the id is
 -- decided with yes
@@ -115,7 +120,8 @@ abbrev pub space_of : List ℕ → List Record → List ℕ
 space_of base [] = base
 space_of base (Voted tid participants part ∷ records) = space_of base records
 space_of base (Executed tid part ∷ records) = space_after_part (space_of base records) part
-space_of base (Decided tid true ∷ records) = with_held (λ t. tid_same t tid) (space_of base records) (held_parts records)
+space_of base (Decided tid true ∷ records) =
+    with_held (λ t. tid_same t tid) (space_of base records) (held_parts records)
 space_of base (Decided tid false ∷ records) = space_of base records
 space_of base (Forced tid ∷ records) = space_of base records
 
@@ -125,7 +131,8 @@ space_of base (Forced tid ∷ records) = space_of base records
 abbrev pub holders : List HeldPart → Tid → PartItem → List Tid
 holders [] tid item = []
 holders (h ∷ hs) tid item =
-    if not (tid_same h.tid tid) && item_conflicts_with item h.part then h.tid ∷ holders hs tid item else holders hs tid item
+    if not (tid_same h.tid tid) && item_conflicts_with item h.part then h.tid ∷ holders hs tid item
+    else holders hs tid item
 
 -- a range that is held, and by whom
 pub record Clash : Type 0 where
@@ -139,7 +146,8 @@ clash_or item (Some t) rest = Some (record { range = range_of item; holder = t }
 -- the part's first range that conflicts with a held part of another id, with the least such id
 abbrev pub clash_of : List HeldPart → Tid → List PartItem → Option Clash
 clash_of hs tid [] = None
-clash_of hs tid (item ∷ part) = clash_or item (least_tid (holders hs tid item)) (clash_of hs tid part)
+clash_of hs tid (item ∷ part) =
+    clash_or item (least_tid (holders hs tid item)) (clash_of hs tid part)
 
 -- Answers
 
@@ -153,15 +161,19 @@ only_reply reply = record { reply = reply; added = None }
 
 abbrev pub after_compares : List ℕ → List PartItem → Option Record → Option Mismatched → Response
 after_compares space part added (Some at) = only_reply (Say.BadCompare at.item at.found)
-after_compares space part added None = record { reply = Say.Done (part_reads space part); added = added }
+after_compares space part added None =
+    record { reply = Say.Done (part_reads space part); added = added }
 
 abbrev pub after_locks : List ℕ → List PartItem → Option Record → Option Clash → Response
-after_locks space part added (Some clash) = only_reply (Say.BadLock clash.range.start clash.range.length clash.holder)
-after_locks space part added None = after_compares space part added (part_mismatch_from space 0 part)
+after_locks space part added (Some clash) =
+    only_reply (Say.BadLock clash.range.start clash.range.length clash.holder)
+after_locks space part added None =
+    after_compares space part added (part_mismatch_from space 0 part)
 
 -- first the locks are tested, then the compares; then the part is read, and the record is added
 abbrev pub tested : List ℕ → List Record → Tid → List PartItem → Option Record → Response
-tested base records tid part added = after_locks (space_of base records) part added (clash_of (held_parts records) tid part)
+tested base records tid part added =
+    after_locks (space_of base records) part added (clash_of (held_parts records) tid part)
 
 -- the held ids with their participants, in order of id
 abbrev pub with_doubt : Doubt → List Doubt → List Doubt
@@ -170,7 +182,8 @@ with_doubt d (e ∷ ds) = if tid_lt d.tid e.tid then d ∷ e ∷ ds else e ∷ w
 
 abbrev pub doubts_of : List HeldPart → List Doubt
 doubts_of [] = []
-doubts_of (h ∷ hs) = with_doubt (record { tid = h.tid; participants = h.participants }) (doubts_of hs)
+doubts_of (h ∷ hs) =
+    with_doubt (record { tid = h.tid; participants = h.participants }) (doubts_of hs)
 
 abbrev pub answer : List ℕ → List Record → Request → Response
 answer base records (Ask.Prepare tid participants part) =
@@ -179,12 +192,19 @@ answer base records (Ask.Prepare tid participants part) =
 answer base records (Ask.Exec tid part) =
     tested base records tid part (if has_write part then Some (Executed tid part) else None)
 answer base records (Ask.Decide tid verdict) =
-    record { reply = Say.Decided; added = if is_held records tid then Some (Decided tid verdict) else None }
+    record {
+      reply = Say.Decided;
+      added = if is_held records tid then Some (Decided tid verdict) else None;
+    }
 answer base records (Ask.Force tid) =
     if has_voted records tid then only_reply (Say.Vote true)
-    else record { reply = Say.Vote false; added = if has_forced records tid then None else Some (Forced tid) }
+    else record {
+      reply = Say.Vote false;
+      added = if has_forced records tid then None else Some (Forced tid);
+    }
 answer base records Ask.List = only_reply (Say.Listed (doubts_of (held_parts records)))
-answer base records (Ask.Peek start length) = only_reply (Say.Peeked (bytes_in (space_of base records) start length))
+answer base records (Ask.Peek start length) =
+    only_reply (Say.Peeked (bytes_in (space_of base records) start length))
 
 -- the records with what was added
 abbrev pub with_added : Option Record → List Record → List Record

@@ -1,6 +1,7 @@
 -- The bytes of a record. Each record in the grammar has one spelling: its fields in order, with
 -- nothing behind them.
-use Rattle.std.specs.Prelude.{◌≡◌, ℕ, ◌^◌, ◌<◌, ◌≤◌, Bool, true, false, ◌&&◌, nat_le, nat_lt, IsTrue, List, [], ◌∷◌, ◌++◌, length, map, ⊤}
+use Rattle.std.specs.Prelude.{◌≡◌, ℕ, ◌^◌, ◌<◌, ◌≤◌, Bool, true, false, ◌&&◌, nat_le, nat_lt}
+use Rattle.std.specs.Prelude.{IsTrue, List, [], ◌∷◌, ◌++◌, length, map, ⊤}
 use Rattle.std.specs.List.{flat_map, AllByRecursion}
 use Rattle.byteorder.specs.Endian.{big_bytes}
 use Rattle.mn_base.specs.declared.ids.NodeNo.{NodeNo}
@@ -83,7 +84,9 @@ record_bytes r = record_kind r ∷ (head_bytes r ++ behind_tid r)
 
 -- the run and the serial count from 1, and there are actors 0 to 20
 abbrev pub IsTid : Tid → Type 0
-IsTid tid = (1 ≤ tid.run) × (tid.run < 2 ^ 32) × (tid.client.0 ≤ 20) × (1 ≤ tid.serial) × (tid.serial < 2 ^ 32)
+IsTid tid =
+    (1 ≤ tid.run) × (tid.run < 2 ^ 32) × (tid.client.0 ≤ 20) × (1 ≤ tid.serial)
+    × (tid.serial < 2 ^ 32)
 
 abbrev pub IsRange : Range → Type 0
 IsRange range = IsInSpace range.start range.length
@@ -111,7 +114,9 @@ are_ascending (a ∷ (b ∷ cs)) = nat_lt a b && are_ascending (b ∷ cs)
 
 -- 2 to 8 nodes in order
 abbrev pub AreParticipants : List NodeNo → Type 0
-AreParticipants participants = (2 ≤ length participants) × (length participants ≤ 8) × IsTrue (are_ascending (numbers_of participants))
+AreParticipants participants =
+    (2 ≤ length participants) × (length participants ≤ 8)
+    × IsTrue (are_ascending (numbers_of participants))
 
 -- the id is one that there may be
 abbrev pub MayBegin : Record → Type 0
@@ -135,13 +140,15 @@ pub record IsRecord (r : Record) : Type 0 where
 -- Reading
 
 -- the bytes begin with the spelling of a value that may stand there
-pub record Begins {X : Type 0} (Is : X → Type 0) (spelling : X → List ℕ) (bytes : List ℕ) (value : X) (rest : List ℕ) : Type 0 where
+pub record Begins {X : Type 0} (Is : X → Type 0) (spelling : X → List ℕ) (bytes : List ℕ)
+    (value : X) (rest : List ℕ) : Type 0 where
   pub may : Is value
   pub spelled : bytes ≡ spelling value ++ rest
 
 -- they begin with no such spelling
 abbrev pub NoneBegins : {X : Type 0} → (X → Type 0) → (X → List ℕ) → List ℕ → Type 0
-NoneBegins {X = X} Is spelling bytes = (value : X) (rest : List ℕ) → Begins Is spelling bytes value rest → ⊥
+NoneBegins {X = X} Is spelling bytes =
+    (value : X) (rest : List ℕ) → Begins Is spelling bytes value rest → ⊥
 
 -- bytes, so many, as they stand
 abbrev pub as_they_stand : List ℕ → List ℕ

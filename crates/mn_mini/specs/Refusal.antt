@@ -2,7 +2,8 @@
 use Rattle.std.specs.Prelude.{◌≡◌, ◌<◌, ◌≤◌, ℕ, zero, suc, List, [], ◌∷◌, length}
 use Rattle.mn_mini.specs.declared.item.Item.{Item}
 use Rattle.mn_mini.specs.declared.error.MiniError.{MiniError}
-use Rattle.mn_mini.specs.declared.error.MiniError.TheVariants.{NoItems, TooMany, OutOfSpace, NoMemory}
+use Rattle.mn_mini.specs.declared.error.MiniError.TheVariants.{NoItems, TooMany, OutOfSpace}
+use Rattle.mn_mini.specs.declared.error.MiniError.TheVariants.{NoMemory}
 use Rattle.mn_mini.specs.Mini.{IsSoundItem}
 
 -- the items before this place may stand in a minitransaction over so many nodes, and the one there
@@ -10,7 +11,8 @@ use Rattle.mn_mini.specs.Mini.{IsSoundItem}
 abbrev pub IsFirstOutside : ℕ → List Item → ℕ → Type 0
 IsFirstOutside nodes [] at = ⊥
 IsFirstOutside nodes (item ∷ items) zero = IsSoundItem nodes item → ⊥
-IsFirstOutside nodes (item ∷ items) (suc at) = IsSoundItem nodes item × IsFirstOutside nodes items at
+IsFirstOutside nodes (item ∷ items) (suc at) =
+    IsSoundItem nodes item × IsFirstOutside nodes items at
 
 -- there are none, or else too many, or else one lies outside
 abbrev pub RefusesItems : ℕ → List Item → MiniError → Type 0

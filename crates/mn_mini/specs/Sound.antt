@@ -5,7 +5,8 @@ use Rattle.mn_mini.specs.declared.part.PartItem.{PartItem}
 use Rattle.mn_mini.specs.declared.part.PartItem.TheVariants.{Compare, Read, Write}
 use Rattle.mn_mini.specs.declared.doubt.Doubt.{Doubt}
 use Rattle.mn_mini.specs.declared.request.Request.{Request}
-use Rattle.mn_mini.specs.declared.request.Request.TheVariants.{Prepare, Exec, Decide, Force, List as ListHeld, Peek}
+use Rattle.mn_mini.specs.declared.request.Request.TheVariants.{Prepare, Exec, Decide, Force}
+use Rattle.mn_mini.specs.declared.request.Request.TheVariants.{List as ListHeld, Peek}
 use Rattle.mn_mini.specs.declared.reply.NodeReply.{NodeReply}
 use Rattle.mn_mini.specs.declared.reply.NodeReply.TheVariants as Say
 use Rattle.mn_mini.specs.Mini.{IsInSpace, range_of}
@@ -14,7 +15,9 @@ use Rattle.mn_mini.specs.RecordGrammar.{IsTid, IsPart, AreParticipants}
 -- its id, its participants, its part and its range are such as there may be, each as far as the
 -- request has it
 abbrev pub IsSoundRequest : Request → Type 0
-IsSoundRequest (Prepare tid participants part) = IsTid tid × AreParticipants participants × AllByRecursion (λ n. n.0 < 8) participants × IsPart part
+IsSoundRequest (Prepare tid participants part) =
+    IsTid tid × AreParticipants participants × AllByRecursion (λ n. n.0 < 8) participants
+    × IsPart part
 IsSoundRequest (Exec tid part) = IsTid tid × IsPart part
 IsSoundRequest (Decide tid verdict) = IsTid tid
 IsSoundRequest (Force tid) = IsTid tid
@@ -68,12 +71,14 @@ AreReadsOf reads (Write start bytes ∷ part) = AreReadsOf reads part
 -- the range of one of the items
 abbrev pub IsRangeIn : ℕ → ℕ → List PartItem → Type 0
 IsRangeIn start size [] = ⊥
-IsRangeIn start size (item ∷ part) = ((start ≡ (range_of item).start) × (size ≡ (range_of item).length)) ⊎ IsRangeIn start size part
+IsRangeIn start size (item ∷ part) =
+    ((start ≡ (range_of item).start) × (size ≡ (range_of item).length)) ⊎ IsRangeIn start size part
 
 -- the compare item of this number, from 0, has other bytes than these, and as many
 abbrev pub IsOtherThan : ℕ → List ℕ → List PartItem → Type 0
 IsOtherThan n found [] = ⊥
-IsOtherThan zero found (Compare start bytes ∷ part) = (length found ≡ length bytes) × (found ≢ bytes)
+IsOtherThan zero found (Compare start bytes ∷ part) =
+    (length found ≡ length bytes) × (found ≢ bytes)
 IsOtherThan (suc n) found (Compare start bytes ∷ part) = IsOtherThan n found part
 IsOtherThan n found (Read start size ∷ part) = IsOtherThan n found part
 IsOtherThan n found (Write start bytes ∷ part) = IsOtherThan n found part

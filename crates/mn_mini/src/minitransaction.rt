@@ -1,6 +1,8 @@
-ghost use Rattle.std.specs.Prelude.{◌≡◌, ◌++◌, ◌↔◌, IfOk, IfErr, OnOk, IsTrue, IfSome, IfNone, filter};
+ghost use Rattle.std.specs.Prelude.{◌≡◌, ◌++◌, ◌↔◌, IfOk, IfErr, OnOk, IsTrue, IfSome, IfNone};
+ghost use Rattle.std.specs.Prelude.{filter};
 ghost use Rattle.std.specs.List.{AllByRecursion, flat_map};
-ghost use Rattle.mn_mini.specs.Mini.{IsSound, IsSoundItem, IsInSpace, is_named, part_of, participants_of, compare_at, read_at, write_at};
+ghost use Rattle.mn_mini.specs.Mini.{IsSound, IsSoundItem, IsInSpace, is_named, part_of};
+ghost use Rattle.mn_mini.specs.Mini.{participants_of, compare_at, read_at, write_at};
 ghost use Rattle.mn_base.specs.Ids.{node_numbers};
 ghost use Rattle.mn_mini.specs.Refusal.{RefusesItems, IsFirstOutside};
 
@@ -33,7 +35,8 @@ impl Model for Minitransaction {
 
     ghost view = { λ m. record { nodes = m.nodes; items = m.items } };
 
-    ghost invariant = { λ m. IsSound (record { nodes = m.nodes; items = m.items }) × (m.participants ≡ participants_of (record { nodes = m.nodes; items = m.items })) };
+    ghost invariant = { λ m. IsSound (record { nodes = m.nodes; items = m.items })
+        × (m.participants ≡ participants_of (record { nodes = m.nodes; items = m.items })) };
 }
 
 /// Whether a range of bytes may be an item's.
@@ -81,7 +84,8 @@ fn is_named_by(items: &[Item], node: NodeNo) -> bool
 /// The nodes, out of so many, that some item is at, in order.
 #[tactic(auto, using(std::proofs::lemmas::List::FromFn::filter_of_map_range_with_len_more))]
 fn participants_among(alloc: Global, nodes: u8, items: &[Item]) -> Result<Nodes, NoMemory>
-    ensures { IfOk result (λ participants. participants ≡ filter (is_named items.now) (node_numbers nodes)) }
+    ensures { IfOk result (λ participants. participants
+        ≡ filter (is_named items.now) (node_numbers nodes)) }
 {
     let mut participants = Vec::new(alloc);
     for number in 0..nodes {

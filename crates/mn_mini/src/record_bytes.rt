@@ -1,8 +1,11 @@
-ghost use Rattle.std.specs.Prelude.{◌≡◌, ◌≤◌, ◌<◌, ◌++◌, ◌∷◌, [], ℕ, List, length, IfOk, IfErr, OnOk, MatchOption, IsTrue};
+ghost use Rattle.std.specs.Prelude.{◌≡◌, ◌≤◌, ◌<◌, ◌++◌, ◌∷◌, [], ℕ, List, length, IfOk, IfErr};
+ghost use Rattle.std.specs.Prelude.{OnOk, MatchOption, IsTrue};
 ghost use Rattle.std.specs.List.{flat_map, AllByRecursion};
 ghost use Rattle.byteorder.specs.Endian.{big_bytes};
 ghost use Rattle.mn_mini.specs.declared.record.Record.{Record};
-ghost use Rattle.mn_mini.specs.RecordGrammar.{IsRecord, IsTid, IsPart, IsPartItem, AreParticipants, AreItems, record_bytes, tid_bytes, item_bytes, part_bytes, participants_bytes, range_bytes};
+ghost use Rattle.mn_mini.specs.RecordGrammar.{IsRecord, IsTid, IsPart, IsPartItem, AreParticipants};
+ghost use Rattle.mn_mini.specs.RecordGrammar.{AreItems, record_bytes, tid_bytes, item_bytes};
+ghost use Rattle.mn_mini.specs.RecordGrammar.{part_bytes, participants_bytes, range_bytes};
 
 use crate::{Part, PartItem, Record};
 use byteorder::{BigEndian, ByteOrder};
@@ -29,7 +32,8 @@ fn push_tid(out: &mut Vec<u8>, tid: Tid) -> Result<(), AllocError>
 
 /// Adds an item's kind and its range.
 fn push_head(out: &mut Vec<u8>, kind: u8, start: u32, length: u32) -> Result<(), AllocError>
-    ensures { OnOk result (out.new.items ≡ out.old.items ++ (kind ∷ range_bytes (record { start = start; length = length }))) }
+    ensures { OnOk result (out.new.items
+        ≡ out.old.items ++ (kind ∷ range_bytes (record { start = start; length = length }))) }
 {
     out.push(kind)?;
     push_number(out, start)?;

@@ -1,4 +1,5 @@
-ghost use Rattle.std.specs.Prelude.{◌≡◌, ◌≤◌, ◌<◌, ◌++◌, ◌∷◌, [], ℕ, List, length, IfOk, IfErr, IfSome, IfNone, MatchOption, IsTrue, map};
+ghost use Rattle.std.specs.Prelude.{◌≡◌, ◌≤◌, ◌<◌, ◌++◌, ◌∷◌, [], ℕ, List, length, IfOk, IfErr};
+ghost use Rattle.std.specs.Prelude.{IfSome, IfNone, MatchOption, IsTrue, map};
 ghost use Rattle.std.specs.List.{flat_map};
 ghost use Rattle.byteorder.specs.Endian.{big_bytes};
 ghost use Rattle.mn_base.specs.declared.ids.NodeNo.{NodeNo};
@@ -6,7 +7,12 @@ ghost use Rattle.mn_mini.specs.declared.part.PartItem.{PartItem};
 ghost use Rattle.mn_mini.specs.declared.record.Record.{Record};
 ghost use Rattle.mn_mini.specs.Mini.{has_write};
 ghost use Rattle.mn_mini.specs.declared.record_error.RecordError.{RecordError};
-ghost use Rattle.mn_mini.specs.RecordGrammar.{IsRecord, IsTid, IsRange, IsPart, IsPartItem, IsItemFrom, AreParticipants, AreItems, HasLength, Begins, NoneBegins, BodyFollows, NoneGoesOn, Spells, SpellsNone, kind_of, are_ascending, as_they_stand, record_bytes, tid_bytes, item_bytes, part_bytes, participants_bytes, range_bytes, numbers_of};
+ghost use Rattle.mn_mini.specs.RecordGrammar.{IsRecord, IsTid, IsRange, IsPart, IsPartItem};
+ghost use Rattle.mn_mini.specs.RecordGrammar.{IsItemFrom, AreParticipants, AreItems, HasLength};
+ghost use Rattle.mn_mini.specs.RecordGrammar.{Begins, NoneBegins, BodyFollows, NoneGoesOn, Spells};
+ghost use Rattle.mn_mini.specs.RecordGrammar.{SpellsNone, kind_of, are_ascending, as_they_stand};
+ghost use Rattle.mn_mini.specs.RecordGrammar.{record_bytes, tid_bytes, item_bytes, part_bytes};
+ghost use Rattle.mn_mini.specs.RecordGrammar.{participants_bytes, range_bytes, numbers_of};
 
 use crate::minitransaction::MAX_ITEMS;
 use crate::spaces::{MAX_ITEM, SPACE};
@@ -29,7 +35,8 @@ fn first_number(bytes: &[u8]) -> Option<(u32, &[u8])>
 /// The range that the bytes begin with, if it has 1 to 4,096 bytes inside the space, and what
 /// follows.
 fn first_range(bytes: &[u8]) -> Option<(Range, &[u8])>
-    ensures { MatchOption result (NoneBegins IsRange range_bytes bytes.now) (λ x. Begins IsRange range_bytes bytes.now x.0 x.1.now) }
+    ensures { MatchOption result (NoneBegins IsRange range_bytes bytes.now)
+        (λ x. Begins IsRange range_bytes bytes.now x.0 x.1.now) }
 {
     let (start, behind) = first_number(bytes)?;
     let (length, rest) = first_number(behind)?;
@@ -41,7 +48,8 @@ fn first_range(bytes: &[u8]) -> Option<(Range, &[u8])>
 
 /// The id that the bytes begin with, and what follows.
 fn first_tid(bytes: &[u8]) -> Option<(Tid, &[u8])>
-    ensures { MatchOption result (NoneBegins IsTid tid_bytes bytes.now) (λ x. Begins IsTid tid_bytes bytes.now x.0 x.1.now) }
+    ensures { MatchOption result (NoneBegins IsTid tid_bytes bytes.now)
+        (λ x. Begins IsTid tid_bytes bytes.now x.0 x.1.now) }
 {
     let (run, behind) = first_number(bytes)?;
     let [client, behind @ ..] = behind else {
@@ -64,7 +72,9 @@ fn first_tid(bytes: &[u8]) -> Option<(Tid, &[u8])>
 
 /// So many bytes, and what follows.
 fn first_data(alloc: Global, bytes: &[u8], length: u32) -> Result<Option<(Bytes, &[u8])>, NoMemory>
-    ensures { IfOk result (λ found. MatchOption found (NoneBegins (HasLength length) as_they_stand bytes.now) (λ x. Begins (HasLength length) as_they_stand bytes.now x.0 x.1.now)) }
+    ensures { IfOk result (λ found.
+        MatchOption found (NoneBegins (HasLength length) as_they_stand bytes.now)
+        (λ x. Begins (HasLength length) as_they_stand bytes.now x.0 x.1.now)) }
 {
     let length = length as usize;
     if length > bytes.len() {
@@ -76,7 +86,9 @@ fn first_data(alloc: Global, bytes: &[u8], length: u32) -> Result<Option<(Bytes,
 
 /// The item that the bytes begin with, if it is of this kind or a later one, and what follows.
 fn first_item(alloc: Global, bytes: &[u8], least: u8) -> Result<Option<(PartItem, &[u8])>, NoMemory>
-    ensures { IfOk result (λ found. MatchOption found (NoneBegins (IsItemFrom least) item_bytes bytes.now) (λ x. Begins (IsItemFrom least) item_bytes bytes.now x.0 x.1.now)) }
+    ensures { IfOk result (λ found.
+        MatchOption found (NoneBegins (IsItemFrom least) item_bytes bytes.now)
+        (λ x. Begins (IsItemFrom least) item_bytes bytes.now x.0 x.1.now)) }
 {
     let [kind, behind @ ..] = bytes else {
         return Ok(None);
@@ -120,7 +132,9 @@ fn first_items(
     bytes: &[u8],
     count: usize,
 ) -> Result<Option<(Vec<PartItem>, &[u8])>, NoMemory>
-    ensures { IfOk result (λ found. MatchOption found (NoneBegins (AreItems count 1) (flat_map item_bytes) bytes.now) (λ x. Begins (AreItems count 1) (flat_map item_bytes) bytes.now x.0.items x.1.now)) }
+    ensures { IfOk result (λ found.
+        MatchOption found (NoneBegins (AreItems count 1) (flat_map item_bytes) bytes.now)
+        (λ x. Begins (AreItems count 1) (flat_map item_bytes) bytes.now x.0.items x.1.now)) }
 {
     let mut items = Vec::new(alloc);
     let mut rest = bytes;
@@ -138,7 +152,9 @@ fn first_items(
 
 /// The part that the bytes begin with, and what follows.
 fn first_part(alloc: Global, bytes: &[u8]) -> Result<Option<(Part, &[u8])>, NoMemory>
-    ensures { IfOk result (λ found. MatchOption found (NoneBegins IsPart part_bytes bytes.now) (λ x. Begins IsPart part_bytes bytes.now x.0 x.1.now)) }
+    ensures { IfOk result (λ found.
+        MatchOption found (NoneBegins IsPart part_bytes bytes.now)
+        (λ x. Begins IsPart part_bytes bytes.now x.0 x.1.now)) }
 {
     if bytes.len() < 2 {
         return Ok(None);
@@ -182,7 +198,9 @@ fn nodes_of(alloc: Global, numbers: &[u8]) -> Result<Nodes, NoMemory>
 
 /// The participants that the bytes begin with, and what follows.
 fn first_participants(alloc: Global, bytes: &[u8]) -> Result<Option<(Nodes, &[u8])>, NoMemory>
-    ensures { IfOk result (λ found. MatchOption found (NoneBegins AreParticipants participants_bytes bytes.now) (λ x. Begins AreParticipants participants_bytes bytes.now x.0 x.1.now)) }
+    ensures { IfOk result (λ found.
+        MatchOption found (NoneBegins AreParticipants participants_bytes bytes.now)
+        (λ x. Begins AreParticipants participants_bytes bytes.now x.0 x.1.now)) }
 {
     let [count, behind @ ..] = bytes else {
         return Ok(None);
@@ -212,7 +230,8 @@ fn writes(items: &[PartItem]) -> bool
 
 /// The vote that the bytes behind its id spell.
 fn read_voted(alloc: Global, tid: Tid, bytes: &[u8]) -> Result<Option<Record>, NoMemory>
-    ensures { IfOk result (λ found. MatchOption found (NoneGoesOn 1 tid bytes.now) (BodyFollows 1 tid bytes.now)) }
+    ensures { IfOk result (λ found.
+        MatchOption found (NoneGoesOn 1 tid bytes.now) (BodyFollows 1 tid bytes.now)) }
 {
     let Some((participants, behind)) = first_participants(alloc, bytes)? else {
         return Ok(None);
@@ -232,7 +251,8 @@ fn read_voted(alloc: Global, tid: Tid, bytes: &[u8]) -> Result<Option<Record>, N
 
 /// The execution that the bytes behind its id spell.
 fn read_executed(alloc: Global, tid: Tid, bytes: &[u8]) -> Result<Option<Record>, NoMemory>
-    ensures { IfOk result (λ found. MatchOption found (NoneGoesOn 2 tid bytes.now) (BodyFollows 2 tid bytes.now)) }
+    ensures { IfOk result (λ found.
+        MatchOption found (NoneGoesOn 2 tid bytes.now) (BodyFollows 2 tid bytes.now)) }
 {
     let Some((part, rest)) = first_part(alloc, bytes)? else {
         return Ok(None);
@@ -269,7 +289,8 @@ fn read_forced(tid: Tid, bytes: &[u8]) -> Option<Record>
 
 /// The record of this kind and id that the bytes behind its id spell.
 fn read_behind(alloc: Global, kind: u8, tid: Tid, bytes: &[u8]) -> Result<Option<Record>, NoMemory>
-    ensures { IfOk result (λ found. MatchOption found (NoneGoesOn kind tid bytes.now) (BodyFollows kind tid bytes.now)) }
+    ensures { IfOk result (λ found.
+        MatchOption found (NoneGoesOn kind tid bytes.now) (BodyFollows kind tid bytes.now)) }
 {
     match kind {
         1 => read_voted(alloc, tid, bytes),

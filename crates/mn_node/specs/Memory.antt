@@ -1,5 +1,6 @@
 -- What a node keeps in memory.
-use Rattle.std.specs.Prelude.{◌≡◌, ◌≤◌, ℕ, ◌+◌, Bool, List, length, reverse, Option, vec_len, vec_capacity}
+use Rattle.std.specs.Prelude.{◌≡◌, ◌≤◌, ℕ, ◌+◌, Bool, List, length, reverse, Option, vec_len}
+use Rattle.std.specs.Prelude.{vec_capacity}
 use Rattle.std.specs.List.{list_any, AllByRecursion}
 use Rattle.mn_base.specs.Ids.{tid_same}
 use Rattle.mn_base.specs.declared.ids.Tid.{Tid}
@@ -7,7 +8,8 @@ use Rattle.mn_mini.specs.declared.part.PartItem.{PartItem}
 use Rattle.mn_mini.specs.declared.record.Record.{Record}
 use Rattle.mn_mini.specs.declared.reply.NodeReply.TheVariants as Say
 use Rattle.mn_mini.specs.Mini.{space_size}
-use Rattle.mn_mini.specs.Node.{HeldPart, held_parts, has_forced, space_of, Response, only_reply, after_locks, clash_of}
+use Rattle.mn_mini.specs.Node.{HeldPart, held_parts, has_forced, space_of, Response, only_reply}
+use Rattle.mn_mini.specs.Node.{after_locks, clash_of}
 use Rattle.mn_mini.specs.RecordGrammar.{IsRecord}
 use Rattle.mn_page.specs.Base.{base_of}
 use Rattle.mn_locks.specs.declared.hold.Hold.{Hold}
@@ -23,7 +25,8 @@ abbrev pub is_among : List Tid → Tid → Bool
 is_among tids tid = list_any (λ t. tid_same t tid) tids
 
 -- what is kept beside the records, which stand oldest first, is what they make of the base space
-pub record IsBuilt (base : List ℕ) (records : List Record) (space : List ℕ) (holds : List Hold) (forced : List Tid) (held : List Vote) : Type 0 where
+pub record IsBuilt (base : List ℕ) (records : List Record) (space : List ℕ) (holds : List Hold)
+    (forced : List Tid) (held : List Vote) : Type 0 where
   pub space_is : space ≡ space_of base (reverse records)
   pub size : length space ≡ space_size
   pub holds_are : holds ≡ holds_by (held_parts (reverse records))
@@ -32,7 +35,9 @@ pub record IsBuilt (base : List ℕ) (records : List Record) (space : List ℕ) 
   pub sound : AllByRecursion IsRecord records
 
 abbrev pub IsMemory : Memory → Type 0
-IsMemory m = IsBuilt (base_of m.nodes m.node) m.records.items m.space.items m.locks.holds m.forced.items m.held.items
+IsMemory m =
+    IsBuilt (base_of m.nodes m.node) m.records.items m.space.items m.locks.holds m.forced.items
+    m.held.items
 
 -- the room for a decision of each held part
 abbrev pub HasDecisionRoom : Memory → Type 0
@@ -41,10 +46,12 @@ HasDecisionRoom m = vec_len m.records + vec_len m.held ≤ vec_capacity m.record
 -- what the test of a part tells, with the record that a yes adds
 abbrev pub response_of : Tested → Option Record → Response
 response_of (Result.Yes reads) added = record { reply = Say.Done reads; added = added }
-response_of (Result.Locked held) added = only_reply (Say.BadLock held.range.start held.range.length held.holder)
+response_of (Result.Locked held) added =
+    only_reply (Say.BadLock held.range.start held.range.length held.holder)
 response_of (Result.Differs differs) added = only_reply (Say.BadCompare differs.item differs.found)
 
 -- the test tells what the locks and then the compares say of the part
 abbrev pub IsTested : List ℕ → List Hold → Tid → List PartItem → Tested → Type 0
 IsTested space holds tid part tested =
-    (hs : List HeldPart) → holds ≡ holds_by hs → (added : Option Record) → after_locks space part added (clash_of hs tid part) ≡ response_of tested added
+    (hs : List HeldPart) → holds ≡ holds_by hs → (added : Option Record)
+    → after_locks space part added (clash_of hs tid part) ≡ response_of tested added

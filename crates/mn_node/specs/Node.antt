@@ -1,5 +1,6 @@
 -- A node: its log, its memory, and what it does with a request.
-use Rattle.std.specs.Prelude.{◌≡◌, ◌≤◌, ◌<◌, ◌⊎◌, ◌+◌, ◌-◌, ◌*◌, ◌^◌, ℕ, List, [], ◌∷◌, ◌++◌, length, map, reverse, Option, Some, None, ⊤, vec_len, vec_capacity}
+use Rattle.std.specs.Prelude.{◌≡◌, ◌≤◌, ◌<◌, ◌⊎◌, ◌+◌, ◌-◌, ◌*◌, ◌^◌, ℕ, List, [], ◌∷◌, ◌++◌}
+use Rattle.std.specs.Prelude.{length, map, reverse, Option, Some, None, ⊤, vec_len, vec_capacity}
 use Rattle.mn_io.specs.DiskModel.{DiskState, IsStable, LeavesOnly, DiskStays}
 use Rattle.mn_io.specs.Faults.{Rose}
 use Rattle.mn_redo.specs.Grammar.{header, IsStaged, Stands}
@@ -27,14 +28,16 @@ bodies_of records = map record_bytes records
 
 -- a node that is up: its log is its records, an honest disk stands for them, and there is room for
 -- a decision of each held part
-pub record IsUp {D : Type 0} (state : D → DiskState) (redo : RedoState D) (m : Memory) : Type 0 where
+pub record IsUp {D : Type 0} (state : D → DiskState) (redo : RedoState D) (m : Memory)
+    : Type 0 where
   pub memory : IsMemory m
   pub room : HasDecisionRoom m
   pub started : redo.phase ≡ Started
   pub bodies : redo.bodies ≡ bodies_of m.records.items
   pub spare_bodies : vec_len m.held ≤ redo.spare_bodies
   pub spare_bytes : 11 * vec_len m.held ≤ redo.spare_bytes
-  pub stands : (state redo.disk).honest → StandsFor (state redo.disk) redo.node redo.nodes redo.bodies
+  pub stands : (state redo.disk).honest
+      → StandsFor (state redo.disk) redo.node redo.nodes redo.bodies
 
 -- room for one record more, of so many bytes, and so many ranges
 pub record HasMore {D : Type 0} (redo : RedoState D) (m : Memory) (size count : ℕ) : Type 0 where
@@ -48,14 +51,16 @@ pub record HasMore {D : Type 0} (redo : RedoState D) (m : Memory) (size count : 
   pub ranges : count ≤ m.locks.spare
 
 -- the log is on the same disk, and its node is the same
-pub record LogContinues {D : Type 0} (state : D → DiskState) (faults : D → ℕ) (old new : RedoState D) : Type 0 where
+pub record LogContinues {D : Type 0} (state : D → DiskState) (faults : D → ℕ)
+    (old new : RedoState D) : Type 0 where
   pub node : new.node ≡ old.node
   pub nodes : new.nodes ≡ old.nodes
   pub honest : (state old.disk).honest → (state new.disk).honest
   pub no_better : (state new.disk).honest → (state old.disk).honest
   pub later : faults old.disk ≤ faults new.disk
   -- a header that was there is still there
-  pub header : ((state old.disk).honest → HasHeader (state old.disk)) → (state new.disk).honest → HasHeader (state new.disk)
+  pub header : ((state old.disk).honest → HasHeader (state old.disk)) → (state new.disk).honest
+      → HasHeader (state new.disk)
 
 abbrev pub SameNode : Memory → Memory → Type 0
 SameNode old new = (new.node ≡ old.node) × (new.nodes ≡ old.nodes)
@@ -70,11 +75,15 @@ node_answer m request = answer (base_of m.nodes m.node) (reverse m.records.items
 
 -- each image of the disk stands for these records, or for these and the one
 abbrev pub StandsWithOrWithout : DiskState → ℕ → ℕ → List Record → Option Record → Type 0
-StandsWithOrWithout disk node nodes records added = (c : List ℕ) → disk.images c → Stands node nodes c (bodies_of records) ⊎ Stands node nodes c (bodies_of (added_to records added))
+StandsWithOrWithout disk node nodes records added =
+    (c : List ℕ) → disk.images c → Stands node nodes c (bodies_of records)
+    ⊎ Stands node nodes c (bodies_of (added_to records added))
 
 -- the bytes stand for these records, or for these and the one
 abbrev pub IsWithOrWithout : ℕ → ℕ → List Record → Option Record → List ℕ → Type 0
-IsWithOrWithout node nodes records added c = Stands node nodes c (bodies_of records) ⊎ Stands node nodes c (bodies_of (added_to records added))
+IsWithOrWithout node nodes records added c =
+    Stands node nodes c (bodies_of records)
+    ⊎ Stands node nodes c (bodies_of (added_to records added))
 
 -- what a crash at any moment of a call leaves: the disk wasn't touched, or it leaves only bytes
 -- that have P, where the disk is honest
@@ -86,7 +95,8 @@ abbrev pub DiskRestsAt : {D : Type 0} → (D → DiskState) → D → D → Type
 DiskRestsAt state old new = (new ≡ old) ⊎ ((state old).honest → DiskStays (state old) (state new))
 
 -- the body's record stands behind its closed gate, and is stable
-pub record IsHalf (disk : DiskState) (node nodes : ℕ) (bodies : List (List ℕ)) (body : List ℕ) : Type 0 where
+pub record IsHalf (disk : DiskState) (node nodes : ℕ) (bodies : List (List ℕ)) (body : List ℕ)
+    : Type 0 where
   pub staged : IsStaged (header node nodes) bodies body disk.content
   pub stable : IsStable disk
 
@@ -94,26 +104,33 @@ pub record IsHalf (disk : DiskState) (node nodes : ℕ) (bodies : List (List ℕ
 -- Of an honest disk: a stop before the log leaves it as it was; one at half of the record leaves
 -- the list from before, and, unless the disk failed, the record behind its closed gate; one after
 -- the record leaves, unless the disk failed, the list with the record.
-abbrev pub StopsAt : {D : Type 0} → (D → DiskState) → (D → ℕ) → D → D → ℕ → ℕ → List (List ℕ) → List ℕ → Option StopAt → Type 0
+abbrev pub StopsAt : {D : Type 0} → (D → DiskState) → (D → ℕ) → D → D → ℕ → ℕ → List (List ℕ)
+    → List ℕ → Option StopAt → Type 0
 StopsAt state faults old new node nodes bodies body None = Rose (faults old) (faults new)
 StopsAt state faults old new node nodes bodies body (Some Before) =
     (state old).honest → StandsFor (state new) node nodes bodies × DiskStays (state old) (state new)
 StopsAt state faults old new node nodes bodies body (Some Half) =
     ((state old).honest → StandsFor (state new) node nodes bodies)
-    × (Rose (faults old) (faults new) ⊎ ((state old).honest → IsHalf (state new) node nodes bodies body))
-StopsAt state faults old new node nodes bodies body (Some After) = Rose (faults old) (faults new) ⊎ ((state old).honest → StandsFor (state new) node nodes (bodies ++ body ∷ []))
+    × (Rose (faults old) (faults new)
+    ⊎ ((state old).honest → IsHalf (state new) node nodes bodies body))
+StopsAt state faults old new node nodes bodies body (Some After) =
+    Rose (faults old) (faults new)
+    ⊎ ((state old).honest → StandsFor (state new) node nodes (bodies ++ body ∷ []))
 
 -- the log has one body more, stable on an honest disk
-pub record IsPut {D : Type 0} (state : D → DiskState) (old new : RedoState D) (body : List ℕ) : Type 0 where
+pub record IsPut {D : Type 0} (state : D → DiskState) (old new : RedoState D) (body : List ℕ)
+    : Type 0 where
   pub started : new.phase ≡ Started
   pub bodies : new.bodies ≡ old.bodies ++ body ∷ []
   pub spare_bodies : old.spare_bodies ≤ new.spare_bodies + 1
   pub spare_bytes : old.spare_bytes ≤ new.spare_bytes + length body
-  pub stands : (state old.disk).honest → StandsFor (state new.disk) old.node old.nodes (old.bodies ++ body ∷ [])
+  pub stands : (state old.disk).honest
+      → StandsFor (state new.disk) old.node old.nodes (old.bodies ++ body ∷ [])
 
 -- a node that stopped inside a request which adds this record: its disk stands for its records,
 -- with the record or without, as far as the stop says
-pub record HasStopped {D : Type 0} (state : D → DiskState) (faults : D → ℕ) (old new : D) (node nodes : ℕ) (records : List Record) (r : Record) (stop : Option StopAt) : Type 0 where
+pub record HasStopped {D : Type 0} (state : D → DiskState) (faults : D → ℕ) (old new : D)
+    (node nodes : ℕ) (records : List Record) (r : Record) (stop : Option StopAt) : Type 0 where
   pub stands : (state old).honest → StandsWithOrWithout (state new) node nodes records (Some r)
   pub at : StopsAt state faults old new node nodes (bodies_of records) (record_bytes r) stop
 
@@ -124,22 +141,30 @@ IsUnasked (Some stop) added = added ≡ None
 
 -- what a reply says of a node that is up: nothing has changed for want of memory; else the reply is
 -- the answer, and its record is added
-abbrev pub Replies : {D : Type 0} → (D → DiskState) → Memory → Request → Option StopAt → NodeReply → RedoState D → Memory → Type 0
-Replies state m request stop Say.NoMemory new after = IsUp state new after × (after.records.items ≡ m.records.items)
+abbrev pub Replies : {D : Type 0} → (D → DiskState) → Memory → Request → Option StopAt → NodeReply
+    → RedoState D → Memory → Type 0
+Replies state m request stop Say.NoMemory new after =
+    IsUp state new after × (after.records.items ≡ m.records.items)
 Replies state m request stop Say.Stopped new after = ⊥
 Replies state m request stop Say.Down new after = ⊥
 Replies state m request stop reply new after =
-    IsUp state new after × ((node_answer m request).reply ≡ reply) × (after.records.items ≡ added_to m.records.items (node_answer m request).added) × IsUnasked stop (node_answer m request).added
+    IsUp state new after × ((node_answer m request).reply ≡ reply)
+    × (after.records.items ≡ added_to m.records.items (node_answer m request).added)
+    × IsUnasked stop (node_answer m request).added
 
 -- what a request does to a node that is up: it replies, or it stops, and then its record may stand
 -- on the disk or not
-abbrev pub Handled : {D : Type 0} → (D → DiskState) → (D → ℕ) → RedoState D → Memory → Request → Option StopAt → Served → RedoState D → Memory → Type 0
-Handled state faults redo m request stop (Serve.Replied reply) new after = Replies state m request stop reply new after
+abbrev pub Handled : {D : Type 0} → (D → DiskState) → (D → ℕ) → RedoState D → Memory → Request
+    → Option StopAt → Served → RedoState D → Memory → Type 0
+Handled state faults redo m request stop (Serve.Replied reply) new after =
+    Replies state m request stop reply new after
 Handled state faults redo m request stop (Serve.Stopped left) new after =
-    (after.records.items ≡ m.records.items) × ((node_answer m request).added ≡ Some left) × HasStopped state faults redo.disk new.disk redo.node redo.nodes m.records.items left stop
+    (after.records.items ≡ m.records.items) × ((node_answer m request).added ≡ Some left)
+    × HasStopped state faults redo.disk new.disk redo.node redo.nodes m.records.items left stop
 
 -- the log has the record, stable on an honest disk, and the memory has the room for it
-pub record IsLogged {D : Type 0} (state : D → DiskState) (redo : RedoState D) (m : Memory) (r : Record) (count : ℕ) : Type 0 where
+pub record IsLogged {D : Type 0} (state : D → DiskState) (redo : RedoState D) (m : Memory)
+    (r : Record) (count : ℕ) : Type 0 where
   pub memory : IsMemory m
   pub room : HasDecisionRoom m
   pub held : vec_len m.held < 2 ^ 32 - 2
@@ -151,12 +176,17 @@ pub record IsLogged {D : Type 0} (state : D → DiskState) (redo : RedoState D) 
   pub bodies : redo.bodies ≡ bodies_of (m.records.items ++ r ∷ [])
   pub spare_bodies : vec_len m.held + 1 ≤ redo.spare_bodies
   pub spare_bytes : 11 * (vec_len m.held + 1) ≤ redo.spare_bytes
-  pub stands : (state redo.disk).honest → StandsFor (state redo.disk) redo.node redo.nodes redo.bodies
+  pub stands : (state redo.disk).honest
+      → StandsFor (state redo.disk) redo.node redo.nodes redo.bodies
 
 -- what the attempt to log a record leaves
-abbrev pub IsKept : {D : Type 0} → (D → DiskState) → (D → ℕ) → RedoState D → Memory → Record → ℕ → Option StopAt → Kept → RedoState D → Memory → Type 0
-IsKept state faults redo m r count stop NoRoom new after = IsUp state new after × (after.records.items ≡ m.records.items)
+abbrev pub IsKept : {D : Type 0} → (D → DiskState) → (D → ℕ) → RedoState D → Memory → Record → ℕ
+    → Option StopAt → Kept → RedoState D → Memory → Type 0
+IsKept state faults redo m r count stop NoRoom new after =
+    IsUp state new after × (after.records.items ≡ m.records.items)
 IsKept state faults redo m r count stop Stopped new after =
-    (after.records.items ≡ m.records.items) × HasStopped state faults redo.disk new.disk redo.node redo.nodes m.records.items r stop
+    (after.records.items ≡ m.records.items)
+    × HasStopped state faults redo.disk new.disk redo.node redo.nodes m.records.items r stop
 IsKept state faults redo m r count stop Logged new after =
-    IsLogged state new after r count × (after.records.items ≡ m.records.items) × (vec_len after.held ≡ vec_len m.held) × (stop ≡ None)
+    IsLogged state new after r count × (after.records.items ≡ m.records.items)
+    × (vec_len after.held ≡ vec_len m.held) × (stop ≡ None)

@@ -1,5 +1,6 @@
 -- What a restart finds.
-use Rattle.std.specs.Prelude.{◌≡◌, ◌≢◌, ◌≤◌, ◌<◌, ◌⊎◌, ℕ, zero, suc, Bool, true, false, List, [], ◌∷◌, ◌++◌, length, take, get_or, Option, Some, None, ⊤}
+use Rattle.std.specs.Prelude.{◌≡◌, ◌≢◌, ◌≤◌, ◌<◌, ◌⊎◌, ℕ, zero, suc, Bool, true, false, List, []}
+use Rattle.std.specs.Prelude.{◌∷◌, ◌++◌, length, take, get_or, Option, Some, None, ⊤}
 use Rattle.mn_io.specs.DiskModel.{DiskState}
 use Rattle.mn_io.specs.Faults.{Rose}
 use Rattle.mn_redo.specs.Grammar.{IsDamaged, places}
@@ -27,7 +28,8 @@ pub record IsFront (bodies : List (List ℕ)) (records : List Record) : Type 0 w
 pub record IsOtherAt (bodies : List (List ℕ)) (records : List Record) (at : ℕ) : Type 0 where
   pub within : at ≤ length bodies
   pub first : take at bodies ≡ bodies_of (take at records)
-  pub other : at < length bodies → (r : Record) → r ≡ get_or records at r → get_or bodies at [] ≢ record_bytes r
+  pub other : at < length bodies → (r : Record) → r ≡ get_or records at r
+      → get_or bodies at [] ≢ record_bytes r
 
 -- the bodies are those of the records and the one that may be behind them
 abbrev pub HasLeft : List (List ℕ) → List Record → Option Record → Type 0
@@ -56,7 +58,8 @@ IsFound bodies at (Some r) = (at < length bodies) × Spells (get_or bodies at []
 
 -- record `at` of the bodies is the first that is not the one of the records with the pending one
 -- behind them: `kept` is the record of that number, and `found` the one that its body spells
-pub record IsFirstOther (bodies : List (List ℕ)) (records : List Record) (pending : Option Record) (at : ℕ) (kept found : Option Record) : Type 0 where
+pub record IsFirstOther (bodies : List (List ℕ)) (records : List Record) (pending : Option Record)
+    (at : ℕ) (kept found : Option Record) : Type 0 where
   pub kept_is : kept ≡ record_at records at
   pub found_is : IsFound bodies at found
   pub before : take at bodies ≡ bodies_of (take at (added_to records pending))
@@ -75,8 +78,10 @@ pub record IsBadBody (bodies : List (List ℕ)) (place : ℕ) : Type 0 where
 
 -- what damage names: the first record that differs; or the place of the gate of a body that is no
 -- record, and no record
-abbrev pub IsDamage : List (List ℕ) → List Record → Option Record → ℕ → Option Record → Option Record → Type 0
-IsDamage bodies records pending at kept found = (AreAbsent kept found × IsBadBody bodies at) ⊎ IsFirstOther bodies records pending at kept found
+abbrev pub IsDamage : List (List ℕ) → List Record → Option Record → ℕ → Option Record
+    → Option Record → Type 0
+IsDamage bodies records pending at kept found =
+    (AreAbsent kept found × IsBadBody bodies at) ⊎ IsFirstOther bodies records pending at kept found
 
 -- a body that spells no record, which is told by its place alone
 abbrev pub IsUnread : List (List ℕ) → RestartError → Type 0
@@ -88,19 +93,23 @@ IsUnread bodies NoMemory = ⊤
 -- and no record
 abbrev pub Differs : List (List ℕ) → ℕ → Option Record → RestartError → Type 0
 Differs bodies at kept Fault = ⊥
-Differs bodies at kept (Damaged place named found) = (AreAbsent named found × IsBadBody bodies place) ⊎ ((place ≡ at) × (named ≡ kept) × IsFound bodies at found)
+Differs bodies at kept (Damaged place named found) =
+    (AreAbsent named found × IsBadBody bodies place)
+    ⊎ ((place ≡ at) × (named ≡ kept) × IsFound bodies at found)
 Differs bodies at kept NoMemory = ⊤
 
 -- what a comparison with a log says
 abbrev pub Compares : List (List ℕ) → List Record → Option Record → RestartError → Type 0
 Compares bodies records pending Fault = ⊥
-Compares bodies records pending (Damaged at kept found) = IsOther bodies records pending × IsDamage bodies records pending at kept found
+Compares bodies records pending (Damaged at kept found) =
+    IsOther bodies records pending × IsDamage bodies records pending at kept found
 Compares bodies records pending NoMemory = ⊤
 
 -- a place where bytes are no log: 0 for a disk that reads as fresh, or that of the damage of some
 -- bytes that the disk gave
 abbrev pub IsNoLog : ℕ → Type 0
-IsNoLog at = (at ≡ 0) ⊎ ((node : ℕ) × (nodes : ℕ) × (content : List ℕ) × IsDamaged node nodes content at)
+IsNoLog at =
+    (at ≡ 0) ⊎ ((node : ℕ) × (nodes : ℕ) × (content : List ℕ) × IsDamaged node nodes content at)
 
 -- no damage; and a fault only where the count rose
 abbrev pub IsCause : {D : Type 0} → (D → ℕ) → D → D → RestartError → Type 0
@@ -121,7 +130,10 @@ Restarts records pending new true = IsWithLeft records pending new
 -- why a restart failed: a fault only where the count rose; damage never where the disk is honest,
 -- and it names the first record in which the bodies that the disk gave differ from the node's
 -- records, or no record and the place of what is no log or no record
-abbrev pub FailsRestart : {D : Type 0} → (D → DiskState) → (D → ℕ) → D → D → List Record → Option Record → RestartError → Type 0
+abbrev pub FailsRestart : {D : Type 0} → (D → DiskState) → (D → ℕ) → D → D → List Record
+    → Option Record → RestartError → Type 0
 FailsRestart state faults old new records pending Fault = Rose (faults old) (faults new)
-FailsRestart state faults old new records pending (Damaged at kept found) = ((state old).honest → ⊥) × ((AreAbsent kept found × IsNoLog at) ⊎ ((bodies : List (List ℕ)) × IsDamage bodies records pending at kept found))
+FailsRestart state faults old new records pending (Damaged at kept found) =
+    ((state old).honest → ⊥) × ((AreAbsent kept found × IsNoLog at)
+    ⊎ ((bodies : List (List ℕ)) × IsDamage bodies records pending at kept found))
 FailsRestart state faults old new records pending NoMemory = ⊤

@@ -1,5 +1,6 @@
 -- What contracts see of a node.
-use Rattle.std.specs.Prelude.{◌≡◌, ◌<◌, ◌≤◌, ℕ, Bool, true, false, List, [], reverse, get_or, length, Option, Some, None, take}
+use Rattle.std.specs.Prelude.{◌≡◌, ◌<◌, ◌≤◌, ℕ, Bool, true, false, List, [], reverse, get_or}
+use Rattle.std.specs.Prelude.{length, Option, Some, None, take}
 use Rattle.std.specs.List.{AllByRecursion}
 use Rattle.mn_base.specs.declared.gate.StopAt.{StopAt}
 use Rattle.mn_io.specs.DiskModel.{DiskState}
@@ -14,7 +15,8 @@ use Rattle.mn_mini.specs.Node.{Response, answer, held_parts}
 use Rattle.mn_mini.specs.RecordGrammar.{IsRecord, SpellsNone}
 use Rattle.mn_node.specs.declared.memory.Memory.{Memory}
 use Rattle.mn_page.specs.Base.{base_of}
-use Rattle.mn_node.specs.Node.{IsUp, IsUnasked, HasStopped, StandsWithOrWithout, bodies_of, added_to}
+use Rattle.mn_node.specs.Node.{IsUp, IsUnasked, HasStopped, StandsWithOrWithout, bodies_of}
+use Rattle.mn_node.specs.Node.{added_to}
 
 -- its disk, its number and that of all nodes, its records, the oldest first, and whether it is
 -- down: then beside the record of the request inside which it stopped, which may stand on the disk
@@ -29,13 +31,15 @@ pub record NodeState (D : Type 0) : Type 0 where
 
 -- an honest disk stands for the records, and while the node is down, for these or for these and the
 -- pending one
-pub record IsNode {D : Type 0} (state : D → DiskState) (redo : RedoState D) (m : Memory) (down : Bool) (pending : Option Record) : Type 0 where
+pub record IsNode {D : Type 0} (state : D → DiskState) (redo : RedoState D) (m : Memory)
+    (down : Bool) (pending : Option Record) : Type 0 where
   pub up : down ≡ false → IsUp state redo m
   pub settled : down ≡ false → pending ≡ None
   pub sound : AllByRecursion IsRecord (added_to m.records.items pending)
   pub apart : PartsAreApart (held_parts (reverse m.records.items))
   pub apart_left : PartsAreApart (held_parts (reverse (added_to m.records.items pending)))
-  pub stands : (state redo.disk).honest → StandsWithOrWithout (state redo.disk) redo.node redo.nodes m.records.items pending
+  pub stands : (state redo.disk).honest
+      → StandsWithOrWithout (state redo.disk) redo.node redo.nodes m.records.items pending
   pub header : (state redo.disk).honest → HasHeader (state redo.disk)
   pub node : m.node ≡ redo.node
   pub nodes : m.nodes ≡ redo.nodes
@@ -43,14 +47,16 @@ pub record IsNode {D : Type 0} (state : D → DiskState) (redo : RedoState D) (m
 
 -- where the disk is honest, each image of it stands for the records
 abbrev pub StandsForRecords : DiskState → ℕ → ℕ → List Record → Type 0
-StandsForRecords disk node nodes records = disk.honest → StandsFor disk node nodes (bodies_of records)
+StandsForRecords disk node nodes records =
+    disk.honest → StandsFor disk node nodes (bodies_of records)
 
 -- the reply to a request, and the record that it adds, by the records alone
 abbrev pub response_to : {D : Type 0} → NodeState D → Request → Response
 response_to n request = answer (base_of n.nodes n.node) (reverse n.records) request
 
 -- what a call leaves of a node's disk and its numbers
-pub record DiskGoesOn {D : Type 0} (state : D → DiskState) (faults : D → ℕ) (old new : NodeState D) : Type 0 where
+pub record DiskGoesOn {D : Type 0} (state : D → DiskState) (faults : D → ℕ) (old new : NodeState D)
+    : Type 0 where
   pub node : new.node ≡ old.node
   pub nodes : new.nodes ≡ old.nodes
   pub honest : (state old.disk).honest → (state new.disk).honest
@@ -61,21 +67,28 @@ pub record DiskGoesOn {D : Type 0} (state : D → DiskState) (faults : D → ℕ
 -- from before, and the record that the answer adds may stand on the disk or not, as far as the stop
 -- says. Down: it was down, and nothing has changed. Else the reply is the answer, and its record is
 -- added and stable; where a stop was asked for, there was no record to stop at.
-abbrev pub Answers : {D : Type 0} → (D → DiskState) → (D → ℕ) → NodeState D → Request → Option StopAt → NodeReply → NodeState D → Type 0
+abbrev pub Answers : {D : Type 0} → (D → DiskState) → (D → ℕ) → NodeState D → Request
+    → Option StopAt → NodeReply → NodeState D → Type 0
 Answers state faults old request stop Say.NoMemory new =
-    (old.down ≡ false) × (new.down ≡ false) × (new.records ≡ old.records) × StandsForRecords (state new.disk) new.node new.nodes new.records
+    (old.down ≡ false) × (new.down ≡ false) × (new.records ≡ old.records)
+    × StandsForRecords (state new.disk) new.node new.nodes new.records
 Answers state faults old request stop Say.Stopped new =
     (old.down ≡ false) × (new.down ≡ true) × (new.records ≡ old.records)
-    × (r : Record) × ((response_to old request).added ≡ Some r) × (new.pending ≡ Some r) × HasStopped state faults old.disk new.disk old.node old.nodes old.records r stop
+    × (r : Record) × ((response_to old request).added ≡ Some r) × (new.pending ≡ Some r)
+    × HasStopped state faults old.disk new.disk old.node old.nodes old.records r stop
 Answers state faults old request stop Say.Down new = (old.down ≡ true) × (new ≡ old)
 Answers state faults old request stop reply new =
-    (old.down ≡ false) × (new.down ≡ false) × ((response_to old request).reply ≡ reply) × (new.records ≡ added_to old.records (response_to old request).added)
-    × IsUnasked stop (response_to old request).added × StandsForRecords (state new.disk) new.node new.nodes new.records
+    (old.down ≡ false) × (new.down ≡ false) × ((response_to old request).reply ≡ reply)
+    × (new.records ≡ added_to old.records (response_to old request).added)
+    × IsUnasked stop (response_to old request).added
+    × StandsForRecords (state new.disk) new.node new.nodes new.records
 
 -- what is asked of a log before its node is started: if its bodies are records, no two parts of
 -- different ids that they hold conflict
 abbrev pub MayStart : List (List ℕ) → Type 0
-MayStart bodies = (records : List Record) → AllByRecursion IsRecord records → bodies ≡ bodies_of records → PartsAreApart (held_parts (reverse records))
+MayStart bodies =
+    (records : List Record) → AllByRecursion IsRecord records → bodies ≡ bodies_of records
+    → PartsAreApart (held_parts (reverse records))
 
 -- the bodies are those of records, which are in the grammar
 pub record AreRecords (bodies : List (List ℕ)) (records : List Record) : Type 0 where
@@ -92,7 +105,8 @@ pub record IsFirstBad (bodies : List (List ℕ)) (at : ℕ) : Type 0 where
   pub at_is : at ≡ get_or (places 16 bodies) number 0
 
 -- a node that was started on a log
-pub record IsStarted {D : Type 0} (state : D → DiskState) (redo : RedoState D) (n : NodeState D) : Type 0 where
+pub record IsStarted {D : Type 0} (state : D → DiskState) (redo : RedoState D) (n : NodeState D)
+    : Type 0 where
   pub up : n.down ≡ false
   pub records : AreRecords redo.bodies n.records
   pub node : n.node ≡ redo.node

@@ -36,7 +36,8 @@ fn place(doubts: &mut Vec<Doubt>, doubt: Doubt) -> Result<(), NoMemory>
 /// The id and the participants of a vote.
 fn doubt_of(alloc: Global, records: &[Record], vote: &Vote) -> Result<Doubt, NoMemory>
     requires vote { IsVote records.now vote.now }
-    ensures { IfOk result (λ doubt. (h : HeldPart) → IsVoteFor records.now vote.now h → doubt ≡ record { tid = h.tid; participants = h.participants }) }
+    ensures { IfOk result (λ doubt. (h : HeldPart) → IsVoteFor records.now vote.now h
+        → doubt ≡ record { tid = h.tid; participants = h.participants }) }
 {
     let participants = participants_of(records, *vote).try_copy(alloc)?;
     Ok(Doubt {

@@ -1,11 +1,13 @@
-ghost use Rattle.std.specs.Prelude.{◌≡◌, ◌≢◌, ◌≤◌, ◌<◌, ◌+◌, ◌-◌, ◌++◌, ◌∷◌, [], Bool, length, reverse, IfOk, Some, None, vec_len, vec_capacity, IsSome};
+ghost use Rattle.std.specs.Prelude.{◌≡◌, ◌≢◌, ◌≤◌, ◌<◌, ◌+◌, ◌-◌, ◌++◌, ◌∷◌, [], Bool, length};
+ghost use Rattle.std.specs.Prelude.{reverse, IfOk, Some, None, vec_len, vec_capacity, IsSome};
 ghost use Rattle.std.specs.Prelude.{◌^◌, ℕ, true, List, OnOk, if◌then◌else◌};
 ghost use Rattle.std.specs.List.{AllByRecursion};
 ghost use Rattle.mn_mini.specs.declared.record.Record.{Record};
 ghost use Rattle.mn_base.specs.Ids.{tid_same};
 ghost use Rattle.mn_mini.specs.Flat.{space_after_part};
 ghost use Rattle.mn_mini.specs.Mini.{space_size};
-ghost use Rattle.mn_mini.specs.Node.{HeldPart, held_parts, held_part_of, has_voted, has_forced, clash_of, is_held, with_held};
+ghost use Rattle.mn_mini.specs.Node.{HeldPart, held_parts, held_part_of, has_voted, has_forced};
+ghost use Rattle.mn_mini.specs.Node.{clash_of, is_held, with_held};
 ghost use Rattle.mn_mini.specs.RecordGrammar.{IsPart, IsRecord};
 ghost use Rattle.mn_node.specs.Part.{shared_of, alone_of};
 ghost use Rattle.mn_node.specs.Held.{AreHeld, IsVote, IsVoteFor};
@@ -98,7 +100,9 @@ fn write_vote(records: &[Record], vote: &Vote, space: &mut [u8], tid: Tid)
     requires size { length space.old ≡ space_size }
     requires sound { AllByRecursion IsRecord records.now }
     requires vote { IsVote records.now vote.now }
-    ensures { (h : HeldPart) → IsVoteFor records.now vote.now h → space.new ≡ (if tid_same h.tid tid then space_after_part space.old h.part else space.old) }
+    ensures { (h : HeldPart) → IsVoteFor records.now vote.now h
+        → space.new ≡ (if tid_same h.tid tid then space_after_part space.old h.part
+        else space.old) }
 {
     if !is_same(vote.tid, tid) {
         return;
@@ -112,7 +116,9 @@ pub fn write_decided(records: &[Record], held: &[Vote], space: &mut [u8], tid: T
     requires size { length space.old ≡ space_size }
     requires sound { AllByRecursion IsRecord records.now }
     requires held { AreHeld records.now held.now }
-    ensures { space.new ≡ (if yes then with_held (λ t. tid_same t tid) space.old (held_parts (reverse records.now)) else space.old) }
+    ensures { space.new ≡ (if yes
+        then with_held (λ t. tid_same t tid) space.old (held_parts (reverse records.now))
+        else space.old) }
 {
     if !yes {
         return;
@@ -148,9 +154,11 @@ impl Memory {
         requires alone { ranges.now.alone.items ≡ alone_of part.now }
         requires free { clash_of (held_parts (reverse self.old.records.items)) tid part.now ≡ None }
         requires room { HasDecisionRoom self.old }
-        requires more { vec_len self.old.records + vec_len self.old.held + 2 ≤ vec_capacity self.old.records }
+        requires more { vec_len self.old.records + vec_len self.old.held + 2
+            ≤ vec_capacity self.old.records }
         requires votes { vec_len self.old.held < vec_capacity self.old.held }
-        requires locks { length ranges.now.shared.items + length ranges.now.alone.items ≤ self.old.locks.spare }
+        requires locks { length ranges.now.shared.items + length ranges.now.alone.items
+            ≤ self.old.locks.spare }
         ensures memory { IsMemory self.new }
         ensures room { HasDecisionRoom self.new }
         ensures records { self.new.records.items ≡ self.old.records.items ++ vote ∷ [] }
@@ -172,7 +180,8 @@ impl Memory {
         requires execution { IsRecord executed }
         requires same { executed ≡ Record.Executed tid part.now }
         requires room { HasDecisionRoom self.old }
-        requires more { vec_len self.old.records + vec_len self.old.held + 1 ≤ vec_capacity self.old.records }
+        requires more { vec_len self.old.records + vec_len self.old.held + 1
+            ≤ vec_capacity self.old.records }
         ensures memory { IsMemory self.new }
         ensures room { HasDecisionRoom self.new }
         ensures records { self.new.records.items ≡ self.old.records.items ++ executed ∷ [] }
@@ -189,11 +198,13 @@ impl Memory {
         requires memory { IsMemory self.old }
         requires force { IsRecord (Record.Forced tid) }
         requires room { HasDecisionRoom self.old }
-        requires more { vec_len self.old.records + vec_len self.old.held + 1 ≤ vec_capacity self.old.records }
+        requires more { vec_len self.old.records + vec_len self.old.held + 1
+            ≤ vec_capacity self.old.records }
         requires forced { vec_len self.old.forced < vec_capacity self.old.forced }
         ensures memory { IsMemory self.new }
         ensures room { HasDecisionRoom self.new }
-        ensures records { self.new.records.items ≡ self.old.records.items ++ Record.Forced tid ∷ [] }
+        ensures records { self.new.records.items
+            ≡ self.old.records.items ++ Record.Forced tid ∷ [] }
         ensures held { vec_len self.new.held ≡ vec_len self.old.held }
         ensures node { self.new.node ≡ self.old.node }
         ensures nodes { self.new.nodes ≡ self.old.nodes }
@@ -211,7 +222,8 @@ impl Memory {
         requires room { HasDecisionRoom self.old }
         ensures memory { IsMemory self.new }
         ensures room { HasDecisionRoom self.new }
-        ensures records { self.new.records.items ≡ self.old.records.items ++ Record.Decided tid yes ∷ [] }
+        ensures records { self.new.records.items
+            ≡ self.old.records.items ++ Record.Decided tid yes ∷ [] }
         ensures held { vec_len self.new.held + 1 ≤ vec_len self.old.held }
         ensures node { self.new.node ≡ self.old.node }
         ensures nodes { self.new.nodes ≡ self.old.nodes }
@@ -231,7 +243,8 @@ impl Memory {
         ensures memory { IsMemory self.new }
         ensures room { HasDecisionRoom self.new }
         ensures held_few { OnOk result (vec_len self.new.held < 2 ^ 32 - 2) }
-        ensures more { OnOk result (vec_len self.new.records + vec_len self.new.held + 2 ≤ vec_capacity self.new.records) }
+        ensures more { OnOk result (vec_len self.new.records + vec_len self.new.held + 2
+            ≤ vec_capacity self.new.records) }
         ensures forced { OnOk result (vec_len self.new.forced < vec_capacity self.new.forced) }
         ensures votes { OnOk result (vec_len self.new.held < vec_capacity self.new.held) }
         ensures ranges { OnOk result (ranges ≤ self.new.locks.spare) }

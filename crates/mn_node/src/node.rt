@@ -1,4 +1,5 @@
-ghost use Rattle.std.specs.Prelude.{◌≡◌, ◌≢◌, ◌≤◌, ◌<◌, ℕ, List, None, true, false, IfOk, IfErr, OnOk, OnErr};
+ghost use Rattle.std.specs.Prelude.{◌≡◌, ◌≢◌, ◌≤◌, ◌<◌, ℕ, List, None, true, false, IfOk, IfErr};
+ghost use Rattle.std.specs.Prelude.{OnOk, OnErr};
 ghost use Rattle.std.specs.List.{AllByRecursion};
 ghost use Rattle.mn_io.specs.Faults.{Rose};
 ghost use Rattle.mn_mini.specs.declared.record.Record.{Record};
@@ -11,7 +12,8 @@ ghost use Rattle.mn_mini.specs.Sound.{Fits, IsDecide, IsSoundRequest};
 ghost use Rattle.mn_io.specs.DiskModel.{LeavesOnly, NoneNew, DiskStays, WritesNothing};
 ghost use Rattle.mn_node.specs.Node.{IsWithOrWithout, StandsWithOrWithout, bodies_of};
 ghost use Rattle.mn_node.specs.Restart.{FailsRestart, Restarts};
-ghost use Rattle.mn_node.specs.State.{Answers, DiskGoesOn, IsFirstBad, IsStarted, MayStart, StandsForRecords, response_to};
+ghost use Rattle.mn_node.specs.State.{Answers, DiskGoesOn, IsFirstBad, IsStarted, MayStart};
+ghost use Rattle.mn_node.specs.State.{StandsForRecords, response_to};
 ghost use Rattle.mn_node.specs.declared.start.StartCause.TheVariants as causes;
 
 use crate::memory::Memory;
@@ -44,7 +46,15 @@ impl<D: Disk> Model for Node<D> {
 
     ghost Value = { NodeState D };
 
-    ghost view = { λ n. record { disk = n.redo.value.disk; node = n.redo.value.node; nodes = n.redo.value.nodes; records = n.memory.records.items; down = n.is_down; pending = n.pending } };
+    ghost view = { λ n. record {
+      disk = n.redo.value.disk;
+      node = n.redo.value.node;
+      nodes = n.redo.value.nodes;
+      records = n.memory.records.items;
+      down = n.is_down;
+      pending =
+          n.pending;
+    } };
 
     ghost invariant = { λ n. IsNode D.state n.redo.value n.memory n.is_down n.pending };
 }
@@ -71,14 +81,25 @@ impl<D: Disk> Node<D> {
         // As far as its bodies are records, no two parts of different ids that they hold conflict.
         requires apart { MayStart redo.bodies }
         ensures started { IfOk result (IsStarted D.state redo) }
-        ensures fault { IfErr result (λ failed. failed.cause ≡ causes.Fault → Rose (D.faults redo.disk) (D.faults failed.disk)) }
-        ensures damaged { (at : ℕ) → IfErr result (λ failed. failed.cause ≡ causes.Damaged at → IsFirstBad redo.bodies at) }
-        ensures stands_err { IfErr result (λ failed. (D.state failed.disk).honest → StandsFor (D.state failed.disk) redo.node redo.nodes redo.bodies) }
+        ensures fault { IfErr result
+            (λ failed. failed.cause ≡ causes.Fault
+            → Rose (D.faults redo.disk) (D.faults failed.disk)) }
+        ensures damaged { (at : ℕ) → IfErr result
+            (λ failed. failed.cause ≡ causes.Damaged at → IsFirstBad redo.bodies at) }
+        ensures stands_err { IfErr result
+            (λ failed. (D.state failed.disk).honest
+            → StandsFor (D.state failed.disk) redo.node redo.nodes redo.bodies) }
 
         // Where each image stands for the bodies, as `Redo::open` says, a crash at any moment of
         // the call leaves the same bodies.
-        ensures moments_ok { (D.state redo.disk).honest → StandsFor (D.state redo.disk) redo.node redo.nodes redo.bodies → IfOk result (λ node. LeavesOnly (D.state redo.disk) (D.state node.disk) (λ c. Stands redo.node redo.nodes c redo.bodies)) }
-        ensures moments_err { (D.state redo.disk).honest → StandsFor (D.state redo.disk) redo.node redo.nodes redo.bodies → IfErr result (λ failed. LeavesOnly (D.state redo.disk) (D.state failed.disk) (λ c. Stands redo.node redo.nodes c redo.bodies)) }
+        ensures moments_ok { (D.state redo.disk).honest
+            → StandsFor (D.state redo.disk) redo.node redo.nodes redo.bodies
+            → IfOk result (λ node. LeavesOnly (D.state redo.disk) (D.state node.disk)
+            (λ c. Stands redo.node redo.nodes c redo.bodies)) }
+        ensures moments_err { (D.state redo.disk).honest
+            → StandsFor (D.state redo.disk) redo.node redo.nodes redo.bodies
+            → IfErr result (λ failed. LeavesOnly (D.state redo.disk) (D.state failed.disk)
+            (λ c. Stands redo.node redo.nodes c redo.bodies)) }
 
         // Of a disk that has its header nothing changes but its room.
         ensures unwritten_ok { redo.phase ≡ Started → (D.state redo.disk).honest
@@ -87,10 +108,14 @@ impl<D: Disk> Node<D> {
             → IfErr result (λ failed. DiskStays (D.state redo.disk) (D.state failed.disk)) }
         ensures later_ok { IfOk result (λ node. D.faults redo.disk ≤ D.faults node.disk) }
         ensures later_err { IfErr result (λ failed. D.faults redo.disk ≤ D.faults failed.disk) }
-        ensures honest_ok { (D.state redo.disk).honest → IfOk result (λ node. (D.state node.disk).honest) }
-        ensures honest_err { (D.state redo.disk).honest → IfErr result (λ failed. (D.state failed.disk).honest) }
-        ensures no_better_ok { IfOk result (λ node. (D.state node.disk).honest → (D.state redo.disk).honest) }
-        ensures no_better_err { IfErr result (λ failed. (D.state failed.disk).honest → (D.state redo.disk).honest) }
+        ensures honest_ok { (D.state redo.disk).honest
+            → IfOk result (λ node. (D.state node.disk).honest) }
+        ensures honest_err { (D.state redo.disk).honest
+            → IfErr result (λ failed. (D.state failed.disk).honest) }
+        ensures no_better_ok { IfOk result
+            (λ node. (D.state node.disk).honest → (D.state redo.disk).honest) }
+        ensures no_better_err { IfErr result
+            (λ failed. (D.state failed.disk).honest → (D.state redo.disk).honest) }
     {
         let mut redo = match Box::new(alloc, redo) {
             Ok(redo) => redo,
@@ -132,7 +157,10 @@ impl<D: Disk> Node<D> {
 
         // A crash at any moment of the call leaves the records from before it, with the answer's
         // one record or without.
-        ensures moments { self.old.down ≡ false → (D.state self.old.disk).honest → LeavesOnly (D.state self.old.disk) (D.state self.new.disk) (IsWithOrWithout self.old.node self.old.nodes self.old.records (response_to self.old request.now).added) }
+        ensures moments { self.old.down ≡ false → (D.state self.old.disk).honest
+            → LeavesOnly (D.state self.old.disk) (D.state self.new.disk)
+            (IsWithOrWithout self.old.node self.old.nodes self.old.records
+            (response_to self.old request.now).added) }
         ensures goes_on { DiskGoesOn D.state D.faults self.old self.new }
     {
         held_parts_apart();
@@ -156,7 +184,9 @@ impl<D: Disk> Node<D> {
         ensures records { self.new.records ≡ self.old.records }
         ensures up { self.old.down ≡ false → self.new.pending ≡ None }
         ensures same { self.old.down ≡ true → self.new ≡ self.old }
-        ensures stands { self.old.down ≡ false → StandsForRecords (D.state self.new.disk) self.new.node self.new.nodes self.new.records }
+        ensures stands { self.old.down ≡ false
+            → StandsForRecords (D.state self.new.disk) self.new.node self.new.nodes
+            self.new.records }
         ensures disk { self.new.disk ≡ self.old.disk }
         ensures node { self.new.node ≡ self.old.node }
         ensures nodes { self.new.nodes ≡ self.old.nodes }
@@ -176,15 +206,20 @@ impl<D: Disk> Node<D> {
     pub fn restart(&mut self, alloc: Global) -> Result<bool, RestartError>
         requires down { self.old.down ≡ true }
         ensures up { OnOk result (self.new.down ≡ false) }
-        ensures records { IfOk result (Restarts self.old.records self.old.pending self.new.records) }
-        ensures stands { OnOk result (StandsForRecords (D.state self.new.disk) self.new.node self.new.nodes self.new.records) }
+        ensures records { IfOk result
+            (Restarts self.old.records self.old.pending self.new.records) }
+        ensures stands { OnOk result
+            (StandsForRecords (D.state self.new.disk) self.new.node self.new.nodes
+            self.new.records) }
         ensures down { OnErr result (self.new.down ≡ true) }
         ensures before { OnErr result (self.new.records ≡ self.old.records) }
         ensures pending { OnErr result (self.new.pending ≡ self.old.pending) }
 
         // A crash at any moment of the call leaves the records, with the one that may have been
         // there or without.
-        ensures moments { (D.state self.old.disk).honest → LeavesOnly (D.state self.old.disk) (D.state self.new.disk) (IsWithOrWithout self.old.node self.old.nodes self.old.records self.old.pending) }
+        ensures moments { (D.state self.old.disk).honest
+            → LeavesOnly (D.state self.old.disk) (D.state self.new.disk)
+            (IsWithOrWithout self.old.node self.old.nodes self.old.records self.old.pending) }
 
         // Nothing was written.
         ensures unwritten { (D.state self.old.disk).honest
@@ -194,9 +229,15 @@ impl<D: Disk> Node<D> {
 
         // What each image stood for before the call it stands for after it, and the records that
         // come back are those.
-        ensures keeps { (records : List Record) → StandsForRecords (D.state self.old.disk) self.old.node self.old.nodes records → StandsForRecords (D.state self.new.disk) self.old.node self.old.nodes records }
-        ensures found { (D.state self.old.disk).honest → (records : List Record) → StandsForRecords (D.state self.old.disk) self.old.node self.old.nodes records → OnOk result (bodies_of self.new.records ≡ bodies_of records) }
-        ensures cause { IfErr result (FailsRestart D.state D.faults self.old.disk self.new.disk self.old.records self.old.pending) }
+        ensures keeps { (records : List Record)
+            → StandsForRecords (D.state self.old.disk) self.old.node self.old.nodes records
+            → StandsForRecords (D.state self.new.disk) self.old.node self.old.nodes records }
+        ensures found { (D.state self.old.disk).honest → (records : List Record)
+            → StandsForRecords (D.state self.old.disk) self.old.node self.old.nodes records
+            → OnOk result (bodies_of self.new.records ≡ bodies_of records) }
+        ensures cause { IfErr result
+            (FailsRestart D.state D.faults self.old.disk self.new.disk self.old.records
+            self.old.pending) }
         ensures goes_on { DiskGoesOn D.state D.faults self.old self.new }
     {
         one_list();
@@ -222,9 +263,11 @@ impl<D: Disk> Node<D> {
     pub fn is_down(&self) -> bool
         ensures down { result ≡ self.now.down }
         ensures up { result ≡ false
-            → StandsForRecords (D.state self.now.disk) self.now.node self.now.nodes self.now.records }
+            → StandsForRecords (D.state self.now.disk) self.now.node self.now.nodes
+            self.now.records }
         ensures stands { (D.state self.now.disk).honest
-            → StandsWithOrWithout (D.state self.now.disk) self.now.node self.now.nodes self.now.records self.now.pending }
+            → StandsWithOrWithout (D.state self.now.disk) self.now.node self.now.nodes
+            self.now.records self.now.pending }
     {
         self.is_down
     }
@@ -232,8 +275,10 @@ impl<D: Disk> Node<D> {
     /// Its disk, as the last call left it.
     pub fn close(self) -> D
         ensures disk { result ≡ self.disk }
-        ensures up { self.down ≡ false → StandsForRecords (D.state result) self.node self.nodes self.records }
-        ensures stands { (D.state result).honest → StandsWithOrWithout (D.state result) self.node self.nodes self.records self.pending }
+        ensures up { self.down ≡ false
+            → StandsForRecords (D.state result) self.node self.nodes self.records }
+        ensures stands { (D.state result).honest
+            → StandsWithOrWithout (D.state result) self.node self.nodes self.records self.pending }
     {
         Box::into_inner(self.redo).close()
     }

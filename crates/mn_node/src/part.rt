@@ -1,6 +1,7 @@
 ghost use Rattle.std.specs.Prelude.{◌≡◌, ◌≤◌, ◌+◌, length, IfOk, IfSome};
 ghost use Rattle.mn_mini.specs.Mini.{has_write, space_size};
-ghost use Rattle.mn_mini.specs.Flat.{bytes_in, overwritten, part_mismatch_from, part_reads, space_after_part};
+ghost use Rattle.mn_mini.specs.Flat.{bytes_in, overwritten, part_mismatch_from, part_reads};
+ghost use Rattle.mn_mini.specs.Flat.{space_after_part};
 ghost use Rattle.mn_node.specs.Part.{AreInside, IsMismatch, shared_of, alone_of};
 
 use mn_base::{Bytes, NoMemory, Range};

@@ -1,4 +1,5 @@
-ghost use Rattle.std.specs.Prelude.{◌≡◌, ◌≤◌, ◌<◌, ◌+◌, ◌++◌, ◌∷◌, [], ℕ, Bool, List, length, reverse, IfOk, OnOk, None, vec_len, vec_capacity};
+ghost use Rattle.std.specs.Prelude.{◌≡◌, ◌≤◌, ◌<◌, ◌+◌, ◌++◌, ◌∷◌, [], ℕ, Bool, List, length};
+ghost use Rattle.std.specs.Prelude.{reverse, IfOk, OnOk, None, vec_len, vec_capacity};
 ghost use Rattle.std.specs.List.{AllByRecursion};
 ghost use Rattle.mn_base.specs.declared.ids.Tid.{Tid};
 ghost use Rattle.mn_locks.specs.Locks.{held_of, holds_of};
@@ -32,7 +33,8 @@ fn apply(
     requires sound { AllByRecursion IsRecord before.now }
     requires next { IsRecord next.now }
     requires held { AreHeld before.now held.old.items }
-    ensures space { OnOk result ((base : List ℕ) → space.old ≡ space_of base (reverse before.now) → space.new ≡ space_of base (next.now ∷ reverse before.now)) }
+    ensures space { OnOk result ((base : List ℕ) → space.old ≡ space_of base (reverse before.now)
+        → space.new ≡ space_of base (next.now ∷ reverse before.now)) }
     ensures held { OnOk result (AreHeld (before.now ++ next.now ∷ []) held.new.items) }
 {
     match next {
@@ -71,7 +73,10 @@ fn write_all(alloc: Global, records: &[Record], space: &mut [u8]) -> Result<Vec<
 
 /// Notes the id that a record forces, if it does.
 fn note_forced(forced: &mut Vec<Tid>, next: &Record) -> Result<(), NoMemory>
-    ensures { (records : List Record) → ((tid : Tid) → is_among forced.old.items tid ≡ has_forced records tid) → OnOk result ((tid : Tid) → is_among forced.new.items tid ≡ has_forced (next.now ∷ records) tid) }
+    ensures { (records : List Record)
+        → ((tid : Tid) → is_among forced.old.items tid ≡ has_forced records tid)
+        → OnOk result ((tid : Tid) → is_among forced.new.items tid
+        ≡ has_forced (next.now ∷ records) tid) }
 {
     if let Record::Forced { tid } = next {
         forced.push(*tid)?;
@@ -81,7 +86,8 @@ fn note_forced(forced: &mut Vec<Tid>, next: &Record) -> Result<(), NoMemory>
 
 /// The ids that were forced by these records.
 fn forced_of(alloc: Global, records: &[Record]) -> Result<Vec<Tid>, NoMemory>
-    ensures { IfOk result (λ forced. (tid : Tid) → is_among forced.items tid ≡ has_forced (reverse records.now) tid) }
+    ensures { IfOk result (λ forced. (tid : Tid)
+        → is_among forced.items tid ≡ has_forced (reverse records.now) tid) }
 {
     let mut forced = Vec::new(alloc);
     for record in records {
@@ -99,7 +105,8 @@ fn lock_part(
 ) -> Result<(), NoMemory>
     requires part { IsPart part.now }
     requires free { held_of locks.old.holds tid (shared_of part.now) (alone_of part.now) ≡ None }
-    ensures { OnOk result (locks.new.holds ≡ locks.old.holds ++ holds_of tid (shared_of part.now) (alone_of part.now)) }
+    ensures { OnOk result (locks.new.holds
+        ≡ locks.old.holds ++ holds_of tid (shared_of part.now) (alone_of part.now)) }
 {
     let ranges = ranges_of(alloc, part)?;
     locks.reserve(ranges.shared.len() + ranges.alone.len())?;
@@ -115,8 +122,10 @@ fn lock_vote(
     locks: &mut LockTable,
 ) -> Result<(), NoMemory>
     requires sound { AllByRecursion IsRecord records.now }
-    requires free { (h : HeldPart) × IsVoteFor records.now vote.now h × (held_of locks.old.holds h.tid (shared_of h.part) (alone_of h.part) ≡ None) }
-    ensures { OnOk result ((h : HeldPart) → IsVoteFor records.now vote.now h → locks.new.holds ≡ locks.old.holds ++ part_holds h) }
+    requires free { (h : HeldPart) × IsVoteFor records.now vote.now h
+        × (held_of locks.old.holds h.tid (shared_of h.part) (alone_of h.part) ≡ None) }
+    ensures { OnOk result ((h : HeldPart) → IsVoteFor records.now vote.now h
+        → locks.new.holds ≡ locks.old.holds ++ part_holds h) }
 {
     lock_part(alloc, locks, vote.tid, part_of(records, *vote))?;
     Ok(())
@@ -155,7 +164,9 @@ fn made_of(alloc: Global, node: u8, nodes: u8, records: &[Record]) -> Result<Mad
     requires nodes { 0 < nodes }
     requires sound { AllByRecursion IsRecord records.now }
     requires apart { PartsAreApart (held_parts (reverse records.now)) }
-    ensures { IfOk result (λ made. IsBuilt (base_of nodes node) records.now made.space.items made.locks.holds made.forced.items made.held.items) }
+    ensures { IfOk result (λ made.
+        IsBuilt (base_of nodes node) records.now made.space.items made.locks.holds made.forced.items
+        made.held.items) }
 {
     let mut space = base_space(alloc, node, nodes)?;
     let held = write_all(alloc, records, &mut space)?;
@@ -179,7 +190,8 @@ pub fn space_after(
 ) -> Result<Vec<u8>, NoMemory>
     requires nodes { 0 < nodes }
     requires sound { AllByRecursion IsRecord records.now }
-    ensures space { IfOk result (λ space. space.items ≡ space_of (base_of nodes node) (reverse records.now)) }
+    ensures space { IfOk result (λ space. space.items
+        ≡ space_of (base_of nodes node) (reverse records.now)) }
     ensures whole { IfOk result (λ space. length space.items ≡ space_size) }
 {
     let mut space = base_space(alloc, node, nodes)?;

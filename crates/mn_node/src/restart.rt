@@ -1,4 +1,6 @@
-ghost use Rattle.std.specs.Prelude.{◌≡◌, ◌≢◌, ◌<◌, ◌++◌, ◌∷◌, [], ℕ, List, Option, length, reverse, get_or, Some, None, true, false, IfOk, IfErr, OnOk, OnErr, MatchOption};
+ghost use Rattle.std.specs.Prelude.{◌≡◌, ◌≢◌, ◌<◌, ◌++◌, ◌∷◌, [], ℕ, List, Option, length, reverse};
+ghost use Rattle.std.specs.Prelude.{get_or, Some, None, true, false, IfOk, IfErr, OnOk, OnErr};
+ghost use Rattle.std.specs.Prelude.{MatchOption};
 ghost use Rattle.std.specs.List.{AllByRecursion};
 ghost use Rattle.mn_io.specs.DiskModel.{LeavesOnly, NoneNew, DiskStays, WritesNothing};
 ghost use Rattle.mn_redo.specs.Grammar.{Stands};
@@ -9,8 +11,10 @@ ghost use Rattle.mn_mini.specs.Node.{held_parts};
 ghost use Rattle.mn_mini.specs.RecordGrammar.{IsRecord, record_bytes};
 ghost use Rattle.mn_mini.specs.declared.record.Record.{Record};
 ghost use Rattle.mn_node.specs.declared.restart.RestartError.TheVariants as errors;
-ghost use Rattle.mn_node.specs.Node.{LogContinues, IsUp, IsWithOrWithout, SameNode, StandsWithOrWithout, added_to, bodies_of};
-ghost use Rattle.mn_node.specs.Restart.{Compares, Differs, FailsRestart, HasLeft, IsCause, IsFound, IsFront, IsListed, IsOtherAt, IsUnread, Restarts};
+ghost use Rattle.mn_node.specs.Node.{LogContinues, IsUp, IsWithOrWithout, SameNode};
+ghost use Rattle.mn_node.specs.Node.{StandsWithOrWithout, added_to, bodies_of};
+ghost use Rattle.mn_node.specs.Restart.{Compares, Differs, FailsRestart, HasLeft, IsCause, IsFound};
+ghost use Rattle.mn_node.specs.Restart.{IsFront, IsListed, IsOtherAt, IsUnread, Restarts};
 
 use crate::memory::Memory;
 use crate::start::{StartCause, start_log};
@@ -95,8 +99,10 @@ fn spells<D: Disk>(
     requires going { redo.now.phase ≢ Closing }
     requires number { number < length redo.now.bodies }
     requires sound { IsRecord kept.now }
-    ensures yes { IfOk result (λ same. same ≡ true → get_or redo.now.bodies number [] ≡ record_bytes kept.now) }
-    ensures no { IfOk result (λ same. same ≡ false → get_or redo.now.bodies number [] ≢ record_bytes kept.now) }
+    ensures yes { IfOk result (λ same. same ≡ true
+        → get_or redo.now.bodies number [] ≡ record_bytes kept.now) }
+    ensures no { IfOk result (λ same. same ≡ false
+        → get_or redo.now.bodies number [] ≢ record_bytes kept.now) }
 {
     let bytes = kept.write(alloc)?;
     Ok(bytes.as_slice() == redo.body(number))
@@ -110,7 +116,9 @@ fn first_difference<D: Disk>(
 ) -> Result<Option<usize>, NoMemory>
     requires going { redo.now.phase ≢ Closing }
     requires sound { AllByRecursion IsRecord records.now }
-    ensures { IfOk result (λ found. MatchOption found (IsFront redo.now.bodies records.now) (λ at. (at < length records.now) × IsOtherAt redo.now.bodies records.now at)) }
+    ensures { IfOk result (λ found.
+        MatchOption found (IsFront redo.now.bodies records.now)
+        (λ at. (at < length records.now) × IsOtherAt redo.now.bodies records.now at)) }
 {
     let count = redo.count() as usize;
     for number in 0..records.len() {
@@ -224,11 +232,15 @@ fn wake<D: Disk>(alloc: Global, redo: &mut Redo<D>, memory: &mut Memory) -> Resu
     requires bodies { redo.old.bodies ≡ bodies_of memory.old.records.items }
     requires sound { AllByRecursion IsRecord memory.old.records.items }
     requires apart { PartsAreApart (held_parts (reverse memory.old.records.items)) }
-    requires stands { (D.state redo.old.disk).honest → StandsFor (D.state redo.old.disk) redo.old.node redo.old.nodes redo.old.bodies }
+    requires stands { (D.state redo.old.disk).honest
+        → StandsFor (D.state redo.old.disk) redo.old.node redo.old.nodes redo.old.bodies }
     ensures up { OnOk result (IsUp D.state redo.new memory.new) }
     ensures records { memory.new.records.items ≡ memory.old.records.items }
-    ensures stands { (D.state redo.new.disk).honest → StandsFor (D.state redo.new.disk) redo.old.node redo.old.nodes redo.old.bodies }
-    ensures moments { (D.state redo.old.disk).honest → LeavesOnly (D.state redo.old.disk) (D.state redo.new.disk) (λ c. Stands redo.old.node redo.old.nodes c redo.old.bodies) }
+    ensures stands { (D.state redo.new.disk).honest
+        → StandsFor (D.state redo.new.disk) redo.old.node redo.old.nodes redo.old.bodies }
+    ensures moments { (D.state redo.old.disk).honest
+        → LeavesOnly (D.state redo.old.disk) (D.state redo.new.disk)
+        (λ c. Stands redo.old.node redo.old.nodes c redo.old.bodies) }
     ensures rests { redo.old.phase ≡ Started → (D.state redo.old.disk).honest
         → DiskStays (D.state redo.old.disk) (D.state redo.new.disk) }
     ensures continues { LogContinues D.state D.faults redo.old redo.new }
@@ -254,13 +266,19 @@ fn wake_with<D: Disk>(
     requires nodes { 0 < memory.old.nodes }
     requires bodies { redo.old.bodies ≡ bodies_of (memory.old.records.items ++ left.now ∷ []) }
     requires sound { AllByRecursion IsRecord (memory.old.records.items ++ left.now ∷ []) }
-    requires apart { PartsAreApart (held_parts (reverse (memory.old.records.items ++ left.now ∷ []))) }
-    requires stands { (D.state redo.old.disk).honest → StandsFor (D.state redo.old.disk) redo.old.node redo.old.nodes redo.old.bodies }
+    requires apart { PartsAreApart
+        (held_parts (reverse (memory.old.records.items ++ left.now ∷ []))) }
+    requires stands { (D.state redo.old.disk).honest
+        → StandsFor (D.state redo.old.disk) redo.old.node redo.old.nodes redo.old.bodies }
     ensures up { OnOk result (IsUp D.state redo.new memory.new) }
-    ensures records { OnOk result (memory.new.records.items ≡ memory.old.records.items ++ left.now ∷ []) }
+    ensures records { OnOk result
+        (memory.new.records.items ≡ memory.old.records.items ++ left.now ∷ []) }
     ensures before { OnErr result (memory.new.records.items ≡ memory.old.records.items) }
-    ensures stands { (D.state redo.new.disk).honest → StandsFor (D.state redo.new.disk) redo.old.node redo.old.nodes redo.old.bodies }
-    ensures moments { (D.state redo.old.disk).honest → LeavesOnly (D.state redo.old.disk) (D.state redo.new.disk) (λ c. Stands redo.old.node redo.old.nodes c redo.old.bodies) }
+    ensures stands { (D.state redo.new.disk).honest
+        → StandsFor (D.state redo.new.disk) redo.old.node redo.old.nodes redo.old.bodies }
+    ensures moments { (D.state redo.old.disk).honest
+        → LeavesOnly (D.state redo.old.disk) (D.state redo.new.disk)
+        (λ c. Stands redo.old.node redo.old.nodes c redo.old.bodies) }
     ensures rests { redo.old.phase ≡ Started → (D.state redo.old.disk).honest
         → DiskStays (D.state redo.old.disk) (D.state redo.new.disk) }
     ensures continues { LogContinues D.state D.faults redo.old redo.new }
@@ -292,13 +310,19 @@ fn wake_found<D: Disk>(
     requires listed { IsListed redo.old.bodies memory.old.records.items pending.now there }
     requires sound { AllByRecursion IsRecord (added_to memory.old.records.items pending.now) }
     requires apart { PartsAreApart (held_parts (reverse memory.old.records.items)) }
-    requires apart_left { PartsAreApart (held_parts (reverse (added_to memory.old.records.items pending.now))) }
-    requires stands { (D.state redo.old.disk).honest → StandsFor (D.state redo.old.disk) redo.old.node redo.old.nodes redo.old.bodies }
+    requires apart_left { PartsAreApart
+        (held_parts (reverse (added_to memory.old.records.items pending.now))) }
+    requires stands { (D.state redo.old.disk).honest
+        → StandsFor (D.state redo.old.disk) redo.old.node redo.old.nodes redo.old.bodies }
     ensures up { OnOk result (IsUp D.state redo.new memory.new) }
-    ensures records { OnOk result (Restarts memory.old.records.items pending.now memory.new.records.items there) }
+    ensures records { OnOk result
+        (Restarts memory.old.records.items pending.now memory.new.records.items there) }
     ensures before { OnErr result (memory.new.records.items ≡ memory.old.records.items) }
-    ensures stands { (D.state redo.new.disk).honest → StandsFor (D.state redo.new.disk) redo.old.node redo.old.nodes redo.old.bodies }
-    ensures moments { (D.state redo.old.disk).honest → LeavesOnly (D.state redo.old.disk) (D.state redo.new.disk) (λ c. Stands redo.old.node redo.old.nodes c redo.old.bodies) }
+    ensures stands { (D.state redo.new.disk).honest
+        → StandsFor (D.state redo.new.disk) redo.old.node redo.old.nodes redo.old.bodies }
+    ensures moments { (D.state redo.old.disk).honest
+        → LeavesOnly (D.state redo.old.disk) (D.state redo.new.disk)
+        (λ c. Stands redo.old.node redo.old.nodes c redo.old.bodies) }
     ensures rests { redo.old.phase ≡ Started → (D.state redo.old.disk).honest
         → DiskStays (D.state redo.old.disk) (D.state redo.new.disk) }
     ensures continues { LogContinues D.state D.faults redo.old redo.new }
@@ -328,22 +352,33 @@ pub fn back<D: Disk>(
     requires nodes { 0 < memory.old.nodes }
     requires sound { AllByRecursion IsRecord (added_to memory.old.records.items pending.now) }
     requires apart { PartsAreApart (held_parts (reverse memory.old.records.items)) }
-    requires apart_left { PartsAreApart (held_parts (reverse (added_to memory.old.records.items pending.now))) }
-    requires stands { (D.state redo.old.disk).honest → StandsWithOrWithout (D.state redo.old.disk) redo.old.node redo.old.nodes memory.old.records.items pending.now }
+    requires apart_left { PartsAreApart
+        (held_parts (reverse (added_to memory.old.records.items pending.now))) }
+    requires stands { (D.state redo.old.disk).honest
+        → StandsWithOrWithout (D.state redo.old.disk) redo.old.node redo.old.nodes
+        memory.old.records.items pending.now }
     requires header { (D.state redo.old.disk).honest → HasHeader (D.state redo.old.disk) }
     ensures up { OnOk result (IsUp D.state redo.new memory.new) }
-    ensures records { IfOk result (Restarts memory.old.records.items pending.now memory.new.records.items) }
+    ensures records { IfOk result
+        (Restarts memory.old.records.items pending.now memory.new.records.items) }
     ensures before { OnErr result (memory.new.records.items ≡ memory.old.records.items) }
-    ensures stands { (D.state redo.new.disk).honest → StandsWithOrWithout (D.state redo.new.disk) redo.old.node redo.old.nodes memory.old.records.items pending.now }
-    ensures moments { (D.state redo.old.disk).honest → LeavesOnly (D.state redo.old.disk) (D.state redo.new.disk) (IsWithOrWithout redo.old.node redo.old.nodes memory.old.records.items pending.now) }
+    ensures stands { (D.state redo.new.disk).honest
+        → StandsWithOrWithout (D.state redo.new.disk) redo.old.node redo.old.nodes
+        memory.old.records.items pending.now }
+    ensures moments { (D.state redo.old.disk).honest
+        → LeavesOnly (D.state redo.old.disk) (D.state redo.new.disk)
+        (IsWithOrWithout redo.old.node redo.old.nodes memory.old.records.items pending.now) }
     ensures unwritten { (D.state redo.old.disk).honest
         → WritesNothing (D.state redo.old.disk) (D.state redo.new.disk) }
     ensures images { (D.state redo.old.disk).honest
         → NoneNew (D.state redo.old.disk) (D.state redo.new.disk) }
-    ensures keeps { (D.state redo.old.disk).honest → (bodies : List (List ℕ)) → StandsFor (D.state redo.old.disk) redo.old.node redo.old.nodes bodies → StandsFor (D.state redo.new.disk) redo.old.node redo.old.nodes bodies }
+    ensures keeps { (D.state redo.old.disk).honest → (bodies : List (List ℕ))
+        → StandsFor (D.state redo.old.disk) redo.old.node redo.old.nodes bodies
+        → StandsFor (D.state redo.new.disk) redo.old.node redo.old.nodes bodies }
     ensures continues { LogContinues D.state D.faults redo.old redo.new }
     ensures same { SameNode memory.old memory.new }
-    ensures cause { IfErr result (FailsRestart D.state D.faults redo.old.disk redo.new.disk memory.old.records.items pending.now) }
+    ensures cause { IfErr result (FailsRestart D.state D.faults redo.old.disk redo.new.disk
+        memory.old.records.items pending.now) }
 {
     one_list();
     damaged_or_not();

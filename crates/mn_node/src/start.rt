@@ -63,7 +63,8 @@ impl From<Fault> for StartCause {
 pub fn records_of<D: Disk>(alloc: Global, redo: &Redo<D>) -> Result<Vec<Record>, StartCause>
     requires going { redo.now.phase ≢ Closing }
     ensures records { IfOk result (λ records. AreRecords redo.now.bodies records.items) }
-    ensures damaged { (at : ℕ) → IsErrOf result (causes.Damaged at) → IsFirstBad redo.now.bodies at }
+    ensures damaged { (at : ℕ) → IsErrOf result (causes.Damaged at)
+        → IsFirstBad redo.now.bodies at }
     ensures no_fault { IsErrOf result causes.Fault → ⊥ }
 {
     let mut records = Vec::new(alloc);
@@ -88,15 +89,25 @@ pub fn start_log<D: Disk>(redo: &mut Redo<D>, held: usize) -> Result<(), StartCa
     ensures bodies { redo.new.bodies ≡ redo.old.bodies }
     ensures spare_bodies { OnOk result (held ≤ redo.new.spare_bodies) }
     ensures spare_bytes { OnOk result (11 * held ≤ redo.new.spare_bytes) }
-    ensures header { OnOk result ((D.state redo.new.disk).honest → HasHeader (D.state redo.new.disk)) }
-    ensures stands { OnOk result ((D.state redo.new.disk).honest → StandsFor (D.state redo.new.disk) redo.old.node redo.old.nodes redo.old.bodies) }
-    ensures keeps { ((D.state redo.old.disk).honest → StandsFor (D.state redo.old.disk) redo.old.node redo.old.nodes redo.old.bodies) → (D.state redo.new.disk).honest → StandsFor (D.state redo.new.disk) redo.old.node redo.old.nodes redo.old.bodies }
-    ensures moments { (D.state redo.old.disk).honest → StandsFor (D.state redo.old.disk) redo.old.node redo.old.nodes redo.old.bodies → LeavesOnly (D.state redo.old.disk) (D.state redo.new.disk) (λ c. Stands redo.old.node redo.old.nodes c redo.old.bodies) }
-    ensures stands_closing { redo.new.phase ≡ Closing → (D.state redo.new.disk).honest → StandsFor (D.state redo.new.disk) redo.old.node redo.old.nodes redo.old.bodies }
+    ensures header { OnOk result ((D.state redo.new.disk).honest
+        → HasHeader (D.state redo.new.disk)) }
+    ensures stands { OnOk result ((D.state redo.new.disk).honest
+        → StandsFor (D.state redo.new.disk) redo.old.node redo.old.nodes redo.old.bodies) }
+    ensures keeps { ((D.state redo.old.disk).honest
+        → StandsFor (D.state redo.old.disk) redo.old.node redo.old.nodes redo.old.bodies)
+        → (D.state redo.new.disk).honest
+        → StandsFor (D.state redo.new.disk) redo.old.node redo.old.nodes redo.old.bodies }
+    ensures moments { (D.state redo.old.disk).honest
+        → StandsFor (D.state redo.old.disk) redo.old.node redo.old.nodes redo.old.bodies
+        → LeavesOnly (D.state redo.old.disk) (D.state redo.new.disk)
+        (λ c. Stands redo.old.node redo.old.nodes c redo.old.bodies) }
+    ensures stands_closing { redo.new.phase ≡ Closing → (D.state redo.new.disk).honest
+        → StandsFor (D.state redo.new.disk) redo.old.node redo.old.nodes redo.old.bodies }
     ensures rests { redo.old.phase ≡ Started → (D.state redo.old.disk).honest
         → DiskStays (D.state redo.old.disk) (D.state redo.new.disk) }
     ensures continues { LogContinues D.state D.faults redo.old redo.new }
-    ensures fault { IsErrOf result causes.Fault → Rose (D.faults redo.old.disk) (D.faults redo.new.disk) }
+    ensures fault { IsErrOf result causes.Fault
+        → Rose (D.faults redo.old.disk) (D.faults redo.new.disk) }
     ensures not_damaged { (at : ℕ) → IsErrOf result (causes.Damaged at) → ⊥ }
 {
     if held > 4_294_967_295 {
@@ -115,18 +126,25 @@ pub fn ready<D: Disk>(alloc: Global, redo: &mut Redo<D>) -> Result<Memory, Start
     requires nodes { 0 < redo.old.nodes }
     requires apart { MayStart redo.old.bodies }
     ensures up { IfOk result (λ memory. IsUp D.state redo.new memory) }
-    ensures header { OnOk result ((D.state redo.new.disk).honest → HasHeader (D.state redo.new.disk)) }
+    ensures header { OnOk result ((D.state redo.new.disk).honest
+        → HasHeader (D.state redo.new.disk)) }
     ensures records { IfOk result (λ memory. AreRecords redo.old.bodies memory.records.items) }
     ensures node { IfOk result (λ memory. memory.node ≡ redo.old.node) }
     ensures nodes { IfOk result (λ memory. memory.nodes ≡ redo.old.nodes) }
     ensures bodies { redo.new.bodies ≡ redo.old.bodies }
-    ensures stands { redo.new.phase ≡ Closing → (D.state redo.new.disk).honest → StandsFor (D.state redo.new.disk) redo.old.node redo.old.nodes redo.old.bodies }
-    ensures moments { (D.state redo.old.disk).honest → StandsFor (D.state redo.old.disk) redo.old.node redo.old.nodes redo.old.bodies → LeavesOnly (D.state redo.old.disk) (D.state redo.new.disk) (λ c. Stands redo.old.node redo.old.nodes c redo.old.bodies) }
+    ensures stands { redo.new.phase ≡ Closing → (D.state redo.new.disk).honest
+        → StandsFor (D.state redo.new.disk) redo.old.node redo.old.nodes redo.old.bodies }
+    ensures moments { (D.state redo.old.disk).honest
+        → StandsFor (D.state redo.old.disk) redo.old.node redo.old.nodes redo.old.bodies
+        → LeavesOnly (D.state redo.old.disk) (D.state redo.new.disk)
+        (λ c. Stands redo.old.node redo.old.nodes c redo.old.bodies) }
     ensures rests { redo.old.phase ≡ Started → (D.state redo.old.disk).honest
         → DiskStays (D.state redo.old.disk) (D.state redo.new.disk) }
     ensures continues { LogContinues D.state D.faults redo.old redo.new }
-    ensures fault { IsErrOf result causes.Fault → Rose (D.faults redo.old.disk) (D.faults redo.new.disk) }
-    ensures damaged { (at : ℕ) → IsErrOf result (causes.Damaged at) → IsFirstBad redo.old.bodies at }
+    ensures fault { IsErrOf result causes.Fault
+        → Rose (D.faults redo.old.disk) (D.faults redo.new.disk) }
+    ensures damaged { (at : ℕ) → IsErrOf result (causes.Damaged at)
+        → IsFirstBad redo.old.bodies at }
 {
     let records = records_of(alloc, redo)?;
     let memory = memory_of(alloc, redo.node(), redo.nodes(), records)?;

@@ -1,18 +1,22 @@
 ghost use Rattle.mn_mini.specs.declared.request.Request.{Request};
 ghost use Rattle.mn_mini.specs.declared.reply.NodeReply.{NodeReply};
-ghost use Rattle.std.specs.Prelude.{◌≡◌, ◌≢◌, ◌≤◌, ◌<◌, ◌+◌, ◌*◌, ◌^◌, ◌++◌, ◌∷◌, [], ℕ, List, length, reverse, OnOk, OnErr, vec_len};
+ghost use Rattle.std.specs.Prelude.{◌≡◌, ◌≢◌, ◌≤◌, ◌<◌, ◌+◌, ◌*◌, ◌^◌, ◌++◌, ◌∷◌, [], ℕ, List};
+ghost use Rattle.std.specs.Prelude.{length, reverse, OnOk, OnErr, vec_len};
 ghost use Rattle.std.specs.Prelude.{Some, None, true, false, if◌then◌else◌};
 ghost use Rattle.mn_mini.specs.Mini.{has_write};
 ghost use Rattle.mn_mini.specs.Sound.{IsDecide, IsSoundRequest};
 ghost use Rattle.mn_mini.specs.Node.{clash_of, held_parts};
 ghost use Rattle.mn_io.specs.Faults.{Rose};
 ghost use Rattle.mn_mini.specs.declared.record.Record.{Record};
-ghost use Rattle.mn_mini.specs.RecordGrammar.{record_bytes, IsRecord, IsTid, IsPart, AreParticipants};
+ghost use Rattle.mn_mini.specs.RecordGrammar.{record_bytes, IsRecord, IsTid, IsPart};
+ghost use Rattle.mn_mini.specs.RecordGrammar.{AreParticipants};
 ghost use Rattle.mn_node.specs.Memory.{IsMemory, HasDecisionRoom};
 ghost use Rattle.mn_redo.specs.Grammar.{IsBeforeOrAfter};
 ghost use Rattle.mn_redo.specs.Redo.{StandsFor};
 ghost use Rattle.mn_redo.specs.declared.redo.Phase.TheVariants.{Started};
-ghost use Rattle.mn_node.specs.Node.{IsUp, IsPut, IsWithOrWithout, LeavesAt, DiskRestsAt, StopsAt, HasMore, LogContinues, SameNode, Handled, IsKept, bodies_of, node_answer};
+ghost use Rattle.mn_node.specs.Node.{IsUp, IsPut, IsWithOrWithout, LeavesAt, DiskRestsAt, StopsAt};
+ghost use Rattle.mn_node.specs.Node.{HasMore, LogContinues, SameNode, Handled, IsKept, bodies_of};
+ghost use Rattle.mn_node.specs.Node.{node_answer};
 ghost use Rattle.mn_node.specs.declared.step.Served.TheVariants.{Replied};
 
 use crate::held::voted;
@@ -91,13 +95,19 @@ fn put<D: Disk>(redo: &mut Redo<D>, body: &[u8], stop: Option<StopAt>) -> bool
     requires size { length body.now < 2 ^ 32 }
     requires spare_body { 0 < redo.old.spare_bodies }
     requires spare_bytes { length body.now ≤ redo.old.spare_bytes }
-    requires stands { (D.state redo.old.disk).honest → StandsFor (D.state redo.old.disk) redo.old.node redo.old.nodes redo.old.bodies }
+    requires stands { (D.state redo.old.disk).honest
+        → StandsFor (D.state redo.old.disk) redo.old.node redo.old.nodes redo.old.bodies }
     ensures put { result ≡ true → IsPut D.state redo.old redo.new body.now }
     ensures unasked { result ≡ true → stop ≡ None }
-    ensures stopped { result ≡ false → StopsAt D.state D.faults redo.old.disk redo.new.disk redo.old.node redo.old.nodes redo.old.bodies body.now stop }
-    ensures images { (D.state redo.old.disk).honest → (c : List ℕ) → (D.state redo.new.disk).images c → IsBeforeOrAfter redo.old.node redo.old.nodes redo.old.bodies body.now c }
+    ensures stopped { result ≡ false
+        → StopsAt D.state D.faults redo.old.disk redo.new.disk redo.old.node redo.old.nodes
+        redo.old.bodies body.now stop }
+    ensures images { (D.state redo.old.disk).honest → (c : List ℕ)
+        → (D.state redo.new.disk).images c
+        → IsBeforeOrAfter redo.old.node redo.old.nodes redo.old.bodies body.now c }
     ensures continues { LogContinues D.state D.faults redo.old redo.new }
-    ensures moments { LeavesAt D.state redo.old.disk redo.new.disk (IsBeforeOrAfter redo.old.node redo.old.nodes redo.old.bodies body.now) }
+    ensures moments { LeavesAt D.state redo.old.disk redo.new.disk
+        (IsBeforeOrAfter redo.old.node redo.old.nodes redo.old.bodies body.now) }
 {
     match stop {
         None => redo.append(body).is_ok(),
@@ -134,9 +144,12 @@ pub fn keep<D: Disk>(
     stop: Option<StopAt>,
 ) -> Kept
     requires up { IsUp D.state redo.old memory.old }
-    ensures kept { (r : Record) → body.now ≡ record_bytes r → IsKept D.state D.faults redo.old memory.old r ranges stop result redo.new memory.new }
+    ensures kept { (r : Record) → body.now ≡ record_bytes r
+        → IsKept D.state D.faults redo.old memory.old r ranges stop result redo.new memory.new }
     ensures continues { LogContinues D.state D.faults redo.old redo.new }
-    ensures moments { (r : Record) → body.now ≡ record_bytes r → LeavesAt D.state redo.old.disk redo.new.disk (IsWithOrWithout redo.old.node redo.old.nodes memory.old.records.items (Some r)) }
+    ensures moments { (r : Record) → body.now ≡ record_bytes r
+        → LeavesAt D.state redo.old.disk redo.new.disk
+        (IsWithOrWithout redo.old.node redo.old.nodes memory.old.records.items (Some r)) }
     ensures same { SameNode memory.old memory.new }
 {
     if make_room(redo, memory, body.len(), ranges).is_err() {
@@ -157,9 +170,12 @@ pub fn force<D: Disk>(
 ) -> Served
     requires up { IsUp D.state redo.old memory.old }
     requires tid { IsTid tid }
-    ensures handled { Handled D.state D.faults redo.old memory.old (Request.Force tid) stop result redo.new memory.new }
+    ensures handled { Handled D.state D.faults redo.old memory.old
+        (Request.Force tid) stop result redo.new memory.new }
     ensures continues { LogContinues D.state D.faults redo.old redo.new }
-    ensures moments { LeavesAt D.state redo.old.disk redo.new.disk (IsWithOrWithout redo.old.node redo.old.nodes memory.old.records.items (node_answer memory.old (Request.Force tid)).added) }
+    ensures moments { LeavesAt D.state redo.old.disk redo.new.disk
+        (IsWithOrWithout redo.old.node redo.old.nodes memory.old.records.items
+        (node_answer memory.old (Request.Force tid)).added) }
     ensures same { SameNode memory.old memory.new }
 {
     if voted(&memory.records, tid) {
@@ -198,10 +214,13 @@ pub fn decide<D: Disk>(
 ) -> Served
     requires up { IsUp D.state redo.old memory.old }
     requires tid { IsTid tid }
-    ensures handled { Handled D.state D.faults redo.old memory.old (Request.Decide tid yes) stop result redo.new memory.new }
+    ensures handled { Handled D.state D.faults redo.old memory.old
+        (Request.Decide tid yes) stop result redo.new memory.new }
     ensures memory { result ≢ Replied NodeReply.NoMemory }
     ensures continues { LogContinues D.state D.faults redo.old redo.new }
-    ensures moments { LeavesAt D.state redo.old.disk redo.new.disk (IsWithOrWithout redo.old.node redo.old.nodes memory.old.records.items (node_answer memory.old (Request.Decide tid yes)).added) }
+    ensures moments { LeavesAt D.state redo.old.disk redo.new.disk
+        (IsWithOrWithout redo.old.node redo.old.nodes memory.old.records.items
+        (node_answer memory.old (Request.Decide tid yes)).added) }
     ensures same { SameNode memory.old memory.new }
 {
     if !memory.holds(tid) {
@@ -231,9 +250,11 @@ pub fn log<D: Disk>(
 ) -> Kept
     requires up { IsUp D.state redo.old memory.old }
     requires record { IsRecord kept.now }
-    ensures kept { IsKept D.state D.faults redo.old memory.old kept.now ranges stop result redo.new memory.new }
+    ensures kept { IsKept D.state D.faults redo.old memory.old kept.now ranges stop result redo.new
+        memory.new }
     ensures continues { LogContinues D.state D.faults redo.old redo.new }
-    ensures moments { LeavesAt D.state redo.old.disk redo.new.disk (IsWithOrWithout redo.old.node redo.old.nodes memory.old.records.items (Some kept.now)) }
+    ensures moments { LeavesAt D.state redo.old.disk redo.new.disk
+        (IsWithOrWithout redo.old.node redo.old.nodes memory.old.records.items (Some kept.now)) }
     ensures same { SameNode memory.old memory.new }
 {
     let Ok(body) = kept.write(alloc) else {
@@ -255,10 +276,17 @@ fn run<D: Disk>(
     requires up { IsUp D.state redo.old memory.old }
     requires tid { IsTid tid }
     requires part { IsPart part.now }
-    requires yes { node_answer memory.old (Request.Exec tid part.now) ≡ record { reply = NodeReply.Done reads; added = if has_write part.now then Some (Record.Executed tid part.now) else None } }
-    ensures handled { Handled D.state D.faults redo.old memory.old (Request.Exec tid part.now) stop result redo.new memory.new }
+    requires yes { node_answer memory.old (Request.Exec tid part.now)
+        ≡ record {
+          reply = NodeReply.Done reads;
+          added = if has_write part.now then Some (Record.Executed tid part.now) else None;
+        } }
+    ensures handled { Handled D.state D.faults redo.old memory.old
+        (Request.Exec tid part.now) stop result redo.new memory.new }
     ensures continues { LogContinues D.state D.faults redo.old redo.new }
-    ensures moments { LeavesAt D.state redo.old.disk redo.new.disk (IsWithOrWithout redo.old.node redo.old.nodes memory.old.records.items (node_answer memory.old (Request.Exec tid part.now)).added) }
+    ensures moments { LeavesAt D.state redo.old.disk redo.new.disk
+        (IsWithOrWithout redo.old.node redo.old.nodes memory.old.records.items
+        (node_answer memory.old (Request.Exec tid part.now)).added) }
     ensures same { SameNode memory.old memory.new }
 {
     if !writes(part.as_slice()) {
@@ -298,9 +326,12 @@ pub fn exec<D: Disk>(
     requires up { IsUp D.state redo.old memory.old }
     requires tid { IsTid tid }
     requires part { IsPart part.now }
-    ensures handled { Handled D.state D.faults redo.old memory.old (Request.Exec tid part.now) stop result redo.new memory.new }
+    ensures handled { Handled D.state D.faults redo.old memory.old
+        (Request.Exec tid part.now) stop result redo.new memory.new }
     ensures continues { LogContinues D.state D.faults redo.old redo.new }
-    ensures moments { LeavesAt D.state redo.old.disk redo.new.disk (IsWithOrWithout redo.old.node redo.old.nodes memory.old.records.items (node_answer memory.old (Request.Exec tid part.now)).added) }
+    ensures moments { LeavesAt D.state redo.old.disk redo.new.disk
+        (IsWithOrWithout redo.old.node redo.old.nodes memory.old.records.items
+        (node_answer memory.old (Request.Exec tid part.now)).added) }
     ensures same { SameNode memory.old memory.new }
 {
     match test_alone(alloc, &memory.space, &memory.locks, tid, part.as_slice()) {
@@ -340,10 +371,17 @@ fn vote<D: Disk>(
     requires participants { AreParticipants participants.now }
     requires part { IsPart part.now }
     requires free { clash_of (held_parts (reverse memory.old.records.items)) tid part.now ≡ None }
-    requires yes { node_answer memory.old (Request.Prepare tid participants.now part.now) ≡ record { reply = NodeReply.Done reads; added = Some (Record.Voted tid participants.now part.now) } }
-    ensures handled { Handled D.state D.faults redo.old memory.old (Request.Prepare tid participants.now part.now) stop result redo.new memory.new }
+    requires yes { node_answer memory.old (Request.Prepare tid participants.now part.now)
+        ≡ record {
+          reply = NodeReply.Done reads;
+          added = Some (Record.Voted tid participants.now part.now);
+        } }
+    ensures handled { Handled D.state D.faults redo.old memory.old
+        (Request.Prepare tid participants.now part.now) stop result redo.new memory.new }
     ensures continues { LogContinues D.state D.faults redo.old redo.new }
-    ensures moments { LeavesAt D.state redo.old.disk redo.new.disk (IsWithOrWithout redo.old.node redo.old.nodes memory.old.records.items (node_answer memory.old (Request.Prepare tid participants.now part.now)).added) }
+    ensures moments { LeavesAt D.state redo.old.disk redo.new.disk
+        (IsWithOrWithout redo.old.node redo.old.nodes memory.old.records.items
+        (node_answer memory.old (Request.Prepare tid participants.now part.now)).added) }
     ensures same { SameNode memory.old memory.new }
 {
     let Ok(ranges) = ranges_of(alloc, part.as_slice()) else {
@@ -395,9 +433,12 @@ pub fn prepare<D: Disk>(
     requires tid { IsTid tid }
     requires participants { AreParticipants participants.now }
     requires part { IsPart part.now }
-    ensures handled { Handled D.state D.faults redo.old memory.old (Request.Prepare tid participants.now part.now) stop result redo.new memory.new }
+    ensures handled { Handled D.state D.faults redo.old memory.old
+        (Request.Prepare tid participants.now part.now) stop result redo.new memory.new }
     ensures continues { LogContinues D.state D.faults redo.old redo.new }
-    ensures moments { LeavesAt D.state redo.old.disk redo.new.disk (IsWithOrWithout redo.old.node redo.old.nodes memory.old.records.items (node_answer memory.old (Request.Prepare tid participants.now part.now)).added) }
+    ensures moments { LeavesAt D.state redo.old.disk redo.new.disk
+        (IsWithOrWithout redo.old.node redo.old.nodes memory.old.records.items
+        (node_answer memory.old (Request.Prepare tid participants.now part.now)).added) }
     ensures same { SameNode memory.old memory.new }
 {
     if is_in(&memory.forced, tid) {
@@ -438,10 +479,13 @@ pub fn serve<D: Disk>(
 ) -> Served
     requires up { IsUp D.state redo.old memory.old }
     requires sound { IsSoundRequest request.now }
-    ensures handled { Handled D.state D.faults redo.old memory.old request.now stop result redo.new memory.new }
+    ensures handled { Handled D.state D.faults redo.old memory.old request.now stop result redo.new
+        memory.new }
     ensures decides { IsDecide request.now → result ≢ Replied NodeReply.NoMemory }
     ensures continues { LogContinues D.state D.faults redo.old redo.new }
-    ensures moments { LeavesAt D.state redo.old.disk redo.new.disk (IsWithOrWithout redo.old.node redo.old.nodes memory.old.records.items (node_answer memory.old (request.now)).added) }
+    ensures moments { LeavesAt D.state redo.old.disk redo.new.disk
+        (IsWithOrWithout redo.old.node redo.old.nodes memory.old.records.items
+        (node_answer memory.old (request.now)).added) }
     ensures same { SameNode memory.old memory.new }
 {
     match request {

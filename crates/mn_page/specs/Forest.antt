@@ -1,5 +1,6 @@
 -- A forest: the catalog's entries and each node's pages; and the memory that spells it.
-use Rattle.std.specs.Prelude.{ℕ, false, List, [], ◌∷◌, ◌++◌, length, replicate, map, Option, Some, None, if◌then◌else◌, nat_eq, slice_get, slice_index_or, slice_set}
+use Rattle.std.specs.Prelude.{ℕ, false, List, [], ◌∷◌, ◌++◌, length, replicate, map, Option, Some}
+use Rattle.std.specs.Prelude.{None, if◌then◌else◌, nat_eq, slice_get, slice_index_or, slice_set}
 use Rattle.std.specs.List.{flat_map, range_with_len}
 use Rattle.std.specs.Option.{option_and_then}
 use Rattle.byteorder.specs.Endian.{big_bytes}
@@ -11,7 +12,8 @@ use Rattle.mn_page.specs.declared.page.Body.{Body}
 use Rattle.mn_page.specs.declared.page.Body.TheVariants.{Leaf, Inner}
 use Rattle.mn_page.specs.declared.page.Child.{Child}
 use Rattle.mn_page.specs.declared.entry.CatEntry.{CatEntry}
-use Rattle.mn_page.specs.Space.{count_start, count_size, catalog_start, catalog_size, slots_start, space_length}
+use Rattle.mn_page.specs.Space.{count_start, count_size, catalog_start, catalog_size, slots_start}
+use Rattle.mn_page.specs.Space.{space_length}
 use Rattle.mn_page.specs.Grammar.{padded, page_bytes, entry_bytes}
 
 -- the used entries in order of version, and for each node the pages of its slots below its count
@@ -41,7 +43,8 @@ head_of nodes n count = padded catalog_start (header_bytes nodes n ++ big_bytes 
 
 -- the bytes below the slots: the head and the catalog
 abbrev pub front_of : ℕ → ℕ → ℕ → List ℕ → List ℕ
-front_of nodes n count catalog = padded slots_start (head_of nodes n count ++ padded catalog_size catalog)
+front_of nodes n count catalog =
+    padded slots_start (head_of nodes n count ++ padded catalog_size catalog)
 
 -- the catalog stands on node 0 alone
 abbrev pub catalog_laid : Laid → ℕ → List ℕ
@@ -52,14 +55,16 @@ front_laid l n = front_of (length l.pages) n (slice_index_or l.counts n 0) (cata
 
 -- the space of a node: the front, and the pages in their slots
 abbrev pub space_laid : Laid → ℕ → List ℕ
-space_laid l n = padded space_length (front_laid l n ++ flat_map page_bytes (slice_index_or l.pages n []))
+space_laid l n =
+    padded space_length (front_laid l n ++ flat_map page_bytes (slice_index_or l.pages n []))
 
 abbrev pub memory_laid : Laid → List (List ℕ)
 memory_laid l = map (space_laid l) (range_with_len 0 (length l.pages))
 
 -- a forest, where each count is that of the pages
 abbrev pub laid_of : Forest → Laid
-laid_of f = record { entries = f.entries; counts = map (λ pages. length pages) f.pages; pages = f.pages }
+laid_of f =
+    record { entries = f.entries; counts = map (λ pages. length pages) f.pages; pages = f.pages }
 
 -- the memory that spells the forest
 abbrev pub memory_of : Forest → List (List ℕ)
@@ -68,7 +73,8 @@ memory_of f = memory_laid (laid_of f)
 -- Reading a forest
 
 abbrev pub page_at : Forest → Addr → Option Page
-page_at f addr = option_and_then (λ pages. slice_get pages addr.slot) (slice_get f.pages addr.node.0)
+page_at f addr =
+    option_and_then (λ pages. slice_get pages addr.slot) (slice_get f.pages addr.node.0)
 
 abbrev pub parent_number : Option VersionNo → Option ℕ
 parent_number None = None
@@ -89,7 +95,9 @@ pub record ChildRange : Type 0 where
 -- the child at addr, which begins at low, and the children after it
 abbrev pub ranges_from : Addr → List ℕ → List Child → Option (List ℕ) → List ChildRange
 ranges_from addr low [] high = record { addr = addr; low = low; high = high } ∷ []
-ranges_from addr low (c ∷ cs) high = record { addr = addr; low = low; high = Some c.separator } ∷ ranges_from c.addr c.separator cs high
+ranges_from addr low (c ∷ cs) high =
+    record { addr = addr; low = low; high = Some c.separator }
+    ∷ ranges_from c.addr c.separator cs high
 
 abbrev pub body_children : List ℕ → Option (List ℕ) → Body → List ChildRange
 body_children low high (Leaf pairs) = []
@@ -101,14 +109,23 @@ children_of p = body_children p.low p.high p.body
 -- What fresh nodes hold
 
 abbrev pub main_entry : CatEntry
-main_entry = record { seq = 1; frozen = false; parent = None; root = record { node = record { 0 = 0 }; slot = 0 }; name = 109 ∷ 97 ∷ 105 ∷ 110 ∷ [] }
+main_entry =
+    record {
+      seq = 1;
+      frozen = false;
+      parent = None;
+      root = record { node = record { 0 = 0 }; slot = 0 };
+      name = 109 ∷ 97 ∷ 105 ∷ 110 ∷ [];
+    }
 
 abbrev pub empty_leaf : Page
-empty_leaf = record { seq = 1; made = record { 0 = 0 }; copied = 0; low = []; high = None; body = Leaf [] }
+empty_leaf =
+    record { seq = 1; made = record { 0 = 0 }; copied = 0; low = []; high = None; body = Leaf [] }
 
 -- `main` with its empty leaf in the first slot of node 0
 abbrev pub base_forest : ℕ → Forest
-base_forest nodes = record { entries = main_entry ∷ []; pages = slice_set (replicate nodes []) 0 (empty_leaf ∷ []) }
+base_forest nodes =
+    record { entries = main_entry ∷ []; pages = slice_set (replicate nodes []) 0 (empty_leaf ∷ []) }
 
 abbrev pub base_space : ℕ → ℕ → List ℕ
 base_space nodes n = space_laid (laid_of (base_forest nodes)) n

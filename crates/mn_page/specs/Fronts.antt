@@ -1,5 +1,6 @@
 -- How many of the first bytes still begin some page, or some entry.
-use Rattle.std.specs.Prelude.{◌≤◌, ◌<◌, ℕ, ◌+◌, Bool, true, ◌&&◌, ◌||◌, nat_eq, nat_lt, List, ◌++◌, take, length, ⊤, if◌then◌else◌}
+use Rattle.std.specs.Prelude.{◌≤◌, ◌<◌, ℕ, ◌+◌, Bool, true, ◌&&◌, ◌||◌, nat_eq, nat_lt, List, ◌++◌}
+use Rattle.std.specs.Prelude.{take, length, ⊤, if◌then◌else◌}
 use Rattle.mn_base.specs.Name.{is_name_byte}
 use Rattle.mn_page.specs.declared.entry.CatEntry.{CatEntry}
 use Rattle.mn_page.specs.declared.error.PageError.{PageError}

@@ -1,5 +1,6 @@
 -- The bytes of pages and catalog entries. Each has one spelling: its fields in order, then zeros.
-use Rattle.std.specs.Prelude.{◌≡◌, ℕ, ◌+◌, ◌-◌, ◌^◌, ◌<◌, ◌≤◌, Bool, true, false, ◌&&◌, nat_lt, IsTrue, List, [], ◌∷◌, ◌++◌, length, replicate, Option, Some, None, ⊤}
+use Rattle.std.specs.Prelude.{◌≡◌, ℕ, ◌+◌, ◌-◌, ◌^◌, ◌<◌, ◌≤◌, Bool, true, false, ◌&&◌, nat_lt}
+use Rattle.std.specs.Prelude.{IsTrue, List, [], ◌∷◌, ◌++◌, length, replicate, Option, Some, None, ⊤}
 use Rattle.std.specs.List.{flat_map, list_all, AllByRecursion}
 use Rattle.byteorder.specs.Endian.{big_bytes}
 use Rattle.mn_base.specs.Name.{IsName}
@@ -61,7 +62,8 @@ body_bytes (Inner height first rest) = addr_bytes first ++ flat_map child_bytes 
 abbrev pub page_bytes : Page → List ℕ
 page_bytes p =
     padded slot_size (
-    big_bytes 8 p.seq ++ kind_of p.body ∷ [] ++ big_bytes 2 (height_of p.body) ++ p.made.0 ∷ [] ++ big_bytes 8 p.copied
+    big_bytes 8 p.seq ++ kind_of p.body ∷ [] ++ big_bytes 2 (height_of p.body) ++ p.made.0 ∷ []
+    ++ big_bytes 8 p.copied
     ++ counted p.low ++ high_bytes p.high ++ count_in p.body ∷ [] ++ body_bytes p.body
     )
 
@@ -90,10 +92,13 @@ are_ascending (c ∷ (d ∷ cs)) = key_lt c.separator d.separator && are_ascendi
 -- what the fences low and high allow a page to hold
 abbrev pub IsBody : List ℕ → Option (List ℕ) → Body → Type 0
 IsBody low high (Leaf pairs) =
-    (length pairs ≤ 8) × IsTrue (is_ascending pairs) × AllByRecursion (λ p. IsKey p.key × IsValue p.value × IsTrue (covers_key low high p.key)) pairs
+    (length pairs ≤ 8) × IsTrue (is_ascending pairs)
+    × AllByRecursion (λ p. IsKey p.key × IsValue p.value × IsTrue (covers_key low high p.key)) pairs
 IsBody low high (Inner height first rest) =
-    (1 ≤ height) × (height < 2 ^ 16) × (1 ≤ length rest) × (length rest ≤ 7) × IsAddr first × IsTrue (are_ascending rest)
-    × AllByRecursion (λ c. IsKey c.separator × IsAddr c.addr × IsTrue (key_lt low c.separator) × IsTrue (below_bound c.separator high)) rest
+    (1 ≤ height) × (height < 2 ^ 16) × (1 ≤ length rest) × (length rest ≤ 7) × IsAddr first
+    × IsTrue (are_ascending rest)
+    × AllByRecursion (λ c. IsKey c.separator × IsAddr c.addr × IsTrue (key_lt low c.separator)
+    × IsTrue (below_bound c.separator high)) rest
 
 pub record IsPage (p : Page) : Type 0 where
   pub seq_low : 1 ≤ p.seq
@@ -130,7 +135,9 @@ parent_byte None = 255
 parent_byte (Some v) = v.0
 
 abbrev pub entry_bytes : CatEntry → List ℕ
-entry_bytes e = padded entry_size (big_bytes 8 e.seq ++ state_byte e.frozen ∷ [] ++ parent_byte e.parent ∷ [] ++ addr_bytes e.root ++ counted e.name)
+entry_bytes e =
+    padded entry_size (big_bytes 8 e.seq ++ state_byte e.frozen ∷ [] ++ parent_byte e.parent ∷ []
+    ++ addr_bytes e.root ++ counted e.name)
 
 abbrev pub IsParent : Option VersionNo → Type 0
 IsParent None = ⊤

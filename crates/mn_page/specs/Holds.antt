@@ -1,6 +1,7 @@
 -- When pages make a tree, and when a memory holds a store. Where a page stands is a function of
 -- addresses, so that the pages of a memory and pages that were read share every word.
-use Rattle.std.specs.Prelude.{◌≡◌, ℕ, ◌+◌, ◌<◌, ◌≤◌, Bool, IsTrue, List, [], length, filter, Option, Some, None, slice_get}
+use Rattle.std.specs.Prelude.{◌≡◌, ℕ, ◌+◌, ◌<◌, ◌≤◌, Bool, IsTrue, List, [], length, filter, Option}
+use Rattle.std.specs.Prelude.{Some, None, slice_get}
 use Rattle.std.specs.List.{AllByRecursion}
 use Rattle.std.specs.Option.{option_map_or, option_and_then}
 use Rattle.mn_base.specs.Order.{covers_key}
@@ -14,7 +15,8 @@ use Rattle.mn_page.specs.declared.page.Body.{Body}
 use Rattle.mn_page.specs.declared.page.Body.TheVariants.{Leaf, Inner}
 use Rattle.mn_page.specs.Space.{max_slots}
 use Rattle.mn_page.specs.Grammar.{IsPage, IsEntry, height_of}
-use Rattle.mn_page.specs.Forest.{Forest, node_count, memory_of, page_at, heads_in, ChildRange, children_of}
+use Rattle.mn_page.specs.Forest.{Forest, node_count, memory_of, page_at, heads_in, ChildRange}
+use Rattle.mn_page.specs.Forest.{children_of}
 
 -- the page at each address, or none
 abbrev pub PagesAt : Type 0
@@ -51,10 +53,12 @@ pub record IsRoot (entries : List CatEntry) (at : PagesAt) (v : ℕ) : Type 0 wh
 -- made in
 pub record HasVersions (entries : List CatEntry) (p : Page) : Type 0 where
   pub made : p.made.0 < length entries
-  pub copied : AllByRecursion (λ w. (w < length entries) × IsTrue (is_ancestor (parents_of (heads_in entries)) p.made.0 w)) (versions_in p.copied)
+  pub copied : AllByRecursion (λ w. (w < length entries)
+      × IsTrue (is_ancestor (parents_of (heads_in entries)) p.made.0 w)) (versions_in p.copied)
 
 -- a child has just its range, is one height lower, and serves what its parent serves
-pub record IsChild (entries : List CatEntry) (at : PagesAt) (p : Page) (c : ChildRange) : Type 0 where
+pub record IsChild (entries : List CatEntry) (at : PagesAt) (p : Page) (c : ChildRange)
+    : Type 0 where
   pub page : Page
   pub there : at c.addr ≡ Some page
   pub low : page.low ≡ c.low
@@ -64,14 +68,16 @@ pub record IsChild (entries : List CatEntry) (at : PagesAt) (p : Page) (c : Chil
       → IsTrue (page_serves entries v page)
 
 -- the page at this address serves the version at this height, and covers the key
-pub record IsOnPath (entries : List CatEntry) (at : PagesAt) (v height : ℕ) (key : List ℕ) (addr : Addr) (page : Page) : Type 0 where
+pub record IsOnPath (entries : List CatEntry) (at : PagesAt) (v height : ℕ) (key : List ℕ)
+    (addr : Addr) (page : Page) : Type 0 where
   pub there : at addr ≡ Some page
   pub level : height_of page.body ≡ height
   pub serves : IsTrue (page_serves entries v page)
   pub covers : IsTrue (page_covers key page)
 
 -- just one page does
-pub record OneOnPath (entries : List CatEntry) (at : PagesAt) (v height : ℕ) (key : List ℕ) : Type 0 where
+pub record OneOnPath (entries : List CatEntry) (at : PagesAt) (v height : ℕ) (key : List ℕ)
+    : Type 0 where
   pub addr : Addr
   pub page : Page
   pub here : IsOnPath entries at v height key addr page
@@ -120,4 +126,6 @@ pub record Holds (memory : List (List ℕ)) (store : Store) : Type 0 where
 
 -- a memory holds at most one store
 abbrev pub HoldsOne : Type 0
-HoldsOne = (memory : List (List ℕ)) (one other : Store) → Holds memory one → Holds memory other → one ≡ other
+HoldsOne =
+    (memory : List (List ℕ)) (one other : Store) → Holds memory one → Holds memory other
+    → one ≡ other

@@ -1,5 +1,6 @@
 -- Keys of a page that are still to come.
-use Rattle.std.specs.Prelude.{◌≡◌, ℕ, zero, suc, false, nat_lt, IsTrue, List, [], ◌∷◌, ◌++◌, length, Option, Some, None, if◌then◌else◌}
+use Rattle.std.specs.Prelude.{◌≡◌, ℕ, zero, suc, false, nat_lt, IsTrue, List, [], ◌∷◌, ◌++◌, length}
+use Rattle.std.specs.Prelude.{Option, Some, None, if◌then◌else◌}
 use Rattle.std.specs.List.{list_all}
 use Rattle.mn_base.specs.Order.{key_le, key_lt, below_bound}
 use Rattle.mn_page.specs.Grammar.{IsKey}
@@ -7,7 +8,8 @@ use Rattle.mn_page.specs.Grammar.{IsKey}
 -- the key, and so many more above it, each above the one before it, lie below the bound
 abbrev pub HasRoomForKeys : List ℕ → ℕ → Option (List ℕ) → Type 0
 HasRoomForKeys key zero high = IsTrue (below_bound key high)
-HasRoomForKeys key (suc more) high = (next : List ℕ) × IsKey next × IsTrue (key_lt key next) × HasRoomForKeys next more high
+HasRoomForKeys key (suc more) high =
+    (next : List ℕ) × IsKey next × IsTrue (key_lt key next) × HasRoomForKeys next more high
 
 -- the least key above these bytes
 pub record IsNext (bytes next : List ℕ) : Type 0 where
@@ -46,4 +48,5 @@ HasNoneFrom least front size = (m : List ℕ) → IsKeyFrom least front size m �
 
 -- one of them has so many more keys above it below the bound
 abbrev pub LeavesRoom : List ℕ → List ℕ → ℕ → ℕ → Option (List ℕ) → Type 0
-LeavesRoom least front size more high = (k : List ℕ) × IsKeyFrom least front size k × HasRoomForKeys k more high
+LeavesRoom least front size more high =
+    (k : List ℕ) × IsKeyFrom least front size k × HasRoomForKeys k more high

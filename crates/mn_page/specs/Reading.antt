@@ -1,5 +1,6 @@
 -- What is read from the front of bytes.
-use Rattle.std.specs.Prelude.{◌≡◌, ℕ, ◌^◌, ◌<◌, ◌≤◌, Bool, nat_lt, nat_eq, IsTrue, List, [], ◌∷◌, ◌++◌, map, take, length, Option, if◌then◌else◌, ⊤}
+use Rattle.std.specs.Prelude.{◌≡◌, ℕ, ◌^◌, ◌<◌, ◌≤◌, Bool, nat_lt, nat_eq, IsTrue, List, [], ◌∷◌}
+use Rattle.std.specs.Prelude.{◌++◌, map, take, length, Option, if◌then◌else◌, ⊤}
 use Rattle.std.specs.List.{flat_map, list_all, AllByRecursion}
 use Rattle.byteorder.specs.Endian.{big_bytes}
 use Rattle.mn_base.specs.Order.{key_lt, below_bound, covers_key}
@@ -19,7 +20,9 @@ use Rattle.mn_page.specs.declared.page_ref.Head.{Head}
 use Rattle.mn_page.specs.declared.page_ref.PairRef.{PairRef}
 use Rattle.mn_page.specs.declared.page_ref.ChildRef.{ChildRef}
 use Rattle.mn_page.specs.declared.page_ref.BodyRef.{BodyRef}
-use Rattle.mn_page.specs.Grammar.{state_byte, parent_byte, IsParent, IsKey, IsValue, IsAddr, IsBound, counted, high_bytes, addr_bytes, child_bytes, count_in, body_bytes, height_of, are_ascending, IsBody}
+use Rattle.mn_page.specs.Grammar.{state_byte, parent_byte, IsParent, IsKey, IsValue, IsAddr}
+use Rattle.mn_page.specs.Grammar.{IsBound, counted, high_bytes, addr_bytes, child_bytes, count_in}
+use Rattle.mn_page.specs.Grammar.{body_bytes, height_of, are_ascending, IsBody}
 
 -- Values as they are lent
 
@@ -36,18 +39,22 @@ abbrev pub children_seen : ℕ → List ChildRef → List Child
 children_seen count children = map child_seen (take count children)
 
 abbrev pub body_seen : BodyRef → Body
-body_seen b = if nat_eq b.height 0 then Leaf (pairs_seen b.count b.pairs) else Inner b.height b.first (children_seen b.count b.rest)
+body_seen b =
+    if nat_eq b.height 0 then Leaf (pairs_seen b.count b.pairs)
+    else Inner b.height b.first (children_seen b.count b.rest)
 
 -- Reading
 
 -- a value that may stand there is spelled at the front, and this follows
-pub record Begins {X : Type 0} (Is : X → Type 0) (spelling : X → List ℕ) (bytes : List ℕ) (value : X) (rest : List ℕ) : Type 0 where
+pub record Begins {X : Type 0} (Is : X → Type 0) (spelling : X → List ℕ) (bytes : List ℕ)
+    (value : X) (rest : List ℕ) : Type 0 where
   pub may : Is value
   pub spelled : bytes ≡ spelling value ++ rest
 
 -- bytes of a length within bounds
 abbrev pub HasLength : ℕ → ℕ → List ℕ → Type 0
-HasLength least most text = (least ≤ length text) × (length text ≤ most) × IsTrue (list_all (λ b. nat_lt b 256) text)
+HasLength least most text =
+    (least ≤ length text) × (length text ≤ most) × IsTrue (list_all (λ b. nat_lt b 256) text)
 
 -- bytes as they stand
 abbrev pub as_they_stand : List ℕ → List ℕ
@@ -94,7 +101,9 @@ abbrev pub IsPairWithin : List ℕ → Option (List ℕ) → Pair → Type 0
 IsPairWithin low high p = IsKey p.key × IsValue p.value × IsTrue (covers_key low high p.key)
 
 abbrev pub IsChildWithin : List ℕ → Option (List ℕ) → Child → Type 0
-IsChildWithin low high c = IsKey c.separator × IsAddr c.addr × IsTrue (key_lt low c.separator) × IsTrue (below_bound c.separator high)
+IsChildWithin low high c =
+    IsKey c.separator × IsAddr c.addr × IsTrue (key_lt low c.separator)
+    × IsTrue (below_bound c.separator high)
 
 -- so many of them
 abbrev pub AreMany : {X : Type 0} → (X → Type 0) → ℕ → List X → Type 0
@@ -109,11 +118,14 @@ body_text body = count_in body ∷ body_bytes body
 
 -- the pairs of a leaf, so many; the first child of an inner page and the others, so many
 abbrev pub ArePairsOf : List ℕ → Option (List ℕ) → ℕ → List Pair → Type 0
-ArePairsOf low high count pairs = (length pairs ≡ count) × (count ≤ 8) × IsTrue (is_ascending pairs) × AllByRecursion (IsPairWithin low high) pairs
+ArePairsOf low high count pairs =
+    (length pairs ≡ count) × (count ≤ 8) × IsTrue (is_ascending pairs)
+    × AllByRecursion (IsPairWithin low high) pairs
 
 abbrev pub AreChildrenOf : List ℕ → Option (List ℕ) → ℕ → Addr × List Child → Type 0
 AreChildrenOf low high count children =
-    (length children.1 ≡ count) × (1 ≤ count) × (count ≤ 7) × IsAddr children.0 × IsTrue (are_ascending children.1) × AllByRecursion (IsChildWithin low high) children.1
+    (length children.1 ≡ count) × (1 ≤ count) × (count ≤ 7) × IsAddr children.0
+    × IsTrue (are_ascending children.1) × AllByRecursion (IsChildWithin low high) children.1
 
 abbrev pub children_text : Addr × List Child → List ℕ
 children_text children = addr_bytes children.0 ++ flat_map child_bytes children.1
@@ -127,7 +139,15 @@ pub record HasCounted (b : BodyRef) : Type 0 where
 
 -- a page by its parts
 abbrev pub page_seen : Head → List ℕ → Option (List ℕ) → Body → Page
-page_seen head low high body = record { seq = head.seq; made = head.made; copied = head.copied; low = low; high = high; body = body }
+page_seen head low high body =
+    record {
+      seq = head.seq;
+      made = head.made;
+      copied = head.copied;
+      low = low;
+      high = high;
+      body = body;
+    }
 
 abbrev pub head_of : Page → Head
 head_of p = record { seq = p.seq; height = height_of p.body; made = p.made; copied = p.copied }
@@ -137,7 +157,8 @@ abbrev pub fences_text : List ℕ × Option (List ℕ) → List ℕ
 fences_text fences = counted fences.0 ++ high_bytes fences.1
 
 abbrev pub AreFences : List ℕ × Option (List ℕ) → Type 0
-AreFences fences = HasLength 0 32 fences.0 × IsBound fences.1 × IsTrue (below_bound fences.0 fences.1)
+AreFences fences =
+    HasLength 0 32 fences.0 × IsBound fences.1 × IsTrue (below_bound fences.0 fences.1)
 
 -- its fields in order, without the zeros behind them
 abbrev pub page_text : Page → List ℕ
@@ -167,11 +188,14 @@ IsWantOfMemory e = e ≡ NoMemory
 -- Entries
 
 abbrev pub entry_seen : EntryRef → CatEntry
-entry_seen e = record { seq = e.seq; frozen = e.frozen; parent = e.parent; root = e.root; name = e.name.now }
+entry_seen e =
+    record { seq = e.seq; frozen = e.frozen; parent = e.parent; root = e.root; name = e.name.now }
 
 -- its fields in order, without the zeros behind them
 abbrev pub entry_text : CatEntry → List ℕ
-entry_text e = eight e.seq ++ (state_byte e.frozen ∷ (parent_byte e.parent ∷ (addr_bytes e.root ++ counted e.name)))
+entry_text e =
+    eight e.seq ++ (state_byte e.frozen
+    ∷ (parent_byte e.parent ∷ (addr_bytes e.root ++ counted e.name)))
 
 -- an entry, but for the rules on the bytes of its name
 pub record IsNamed (e : CatEntry) : Type 0 where

@@ -8,9 +8,12 @@ use Rattle.mn_page.specs.Overlay.{Held}
 
 -- lower pages stand first, at one height those to the left
 abbrev pub stands_first : Page → Page → Bool
-stands_first p q = nat_lt (height_of p.body) (height_of q.body) || (nat_eq (height_of p.body) (height_of q.body) && key_lt p.low q.low)
+stands_first p q =
+    nat_lt (height_of p.body) (height_of q.body)
+    || (nat_eq (height_of p.body) (height_of q.body) && key_lt p.low q.low)
 
 -- of any two, the one behind doesn't stand first
 abbrev pub AreInSlotOrder : List Held → Type 0
 AreInSlotOrder [] = ⊤
-AreInSlotOrder (h ∷ hs) = AllByRecursion (λ g. stands_first g.page h.page ≡ false) hs × AreInSlotOrder hs
+AreInSlotOrder (h ∷ hs) =
+    AllByRecursion (λ g. stands_first g.page h.page ≡ false) hs × AreInSlotOrder hs

@@ -12,7 +12,9 @@ pub record Adds (old new : List ℕ) (at end : ℕ) (text : List ℕ) : Type 0 w
 
 -- what stands before the fences
 abbrev pub head_bytes : Page → List ℕ
-head_bytes p = big_bytes 8 p.seq ++ kind_of p.body ∷ [] ++ big_bytes 2 (height_of p.body) ++ p.made.0 ∷ [] ++ big_bytes 8 p.copied
+head_bytes p =
+    big_bytes 8 p.seq ++ kind_of p.body ∷ [] ++ big_bytes 2 (height_of p.body) ++ p.made.0 ∷ []
+    ++ big_bytes 8 p.copied
 
 abbrev pub fence_bytes : Page → List ℕ
 fence_bytes p = counted p.low ++ high_bytes p.high

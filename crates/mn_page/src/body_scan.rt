@@ -8,7 +8,9 @@ ghost use Rattle.mn_page.specs.declared.page.Body.{Body};
 ghost use Rattle.mn_page.specs.declared.page.Body.TheVariants.{Leaf, Inner};
 ghost use Rattle.mn_page.specs.declared.page.Child.{Child};
 ghost use Rattle.mn_page.specs.Grammar.{are_ascending, pair_bytes};
-ghost use Rattle.mn_page.specs.Reading.{Begins, pair_seen, child_seen, pairs_seen, children_seen, body_seen, ArePairsOf, AreChildrenOf, children_text, IsBodyAt, body_text, HasCounted};
+ghost use Rattle.mn_page.specs.Reading.{Begins, pair_seen, child_seen, pairs_seen, children_seen};
+ghost use Rattle.mn_page.specs.Reading.{body_seen, ArePairsOf, AreChildrenOf, children_text};
+ghost use Rattle.mn_page.specs.Reading.{IsBodyAt, body_text, HasCounted};
 
 use crate::page_ref::{BodyRef, ChildRef, PairRef};
 use crate::scan::{
@@ -55,8 +57,13 @@ fn leaf_pairs<'a>(
     bytes: &'a [u8],
     count: usize,
 ) -> Option<([PairRef<'a>; 8], &'a [u8])>
-    ensures found { IfSome result (λ x. Begins (ArePairsOf low.now (option_map (λ h. h.now) high.entry) count) (flat_map pair_bytes) bytes.now (pairs_seen count x.0) x.1.now) }
-    ensures only { (pairs : List Pair) (more : List ℕ) → ArePairsOf low.now (option_map (λ h. h.now) high.entry) count pairs → bytes.now ≡ flat_map pair_bytes pairs ++ more → IsSomeAnd result (λ x. (pairs_seen count x.0 ≡ pairs) × (x.1.now ≡ more)) }
+    ensures found { IfSome result
+        (λ x. Begins (ArePairsOf low.now (option_map (λ h. h.now) high.entry) count)
+        (flat_map pair_bytes) bytes.now (pairs_seen count x.0) x.1.now) }
+    ensures only { (pairs : List Pair) (more : List ℕ)
+        → ArePairsOf low.now (option_map (λ h. h.now) high.entry) count pairs
+        → bytes.now ≡ flat_map pair_bytes pairs ++ more
+        → IsSomeAnd result (λ x. (pairs_seen count x.0 ≡ pairs) × (x.1.now ≡ more)) }
 {
     if count > 8 {
         return None;
@@ -75,8 +82,14 @@ fn inner_children<'a>(
     bytes: &'a [u8],
     count: usize,
 ) -> Option<(Addr, [ChildRef<'a>; 7], &'a [u8])>
-    ensures found { IfSome result (λ x. Begins (AreChildrenOf low.now (option_map (λ h. h.now) high.entry) count) children_text bytes.now (x.0, children_seen count x.1) x.2.now) }
-    ensures only { (children : Addr × List Child) (more : List ℕ) → AreChildrenOf low.now (option_map (λ h. h.now) high.entry) count children → bytes.now ≡ children_text children ++ more → IsSomeAnd result (λ x. (x.0 ≡ children.0) × (children_seen count x.1 ≡ children.1) × (x.2.now ≡ more)) }
+    ensures found { IfSome result
+        (λ x. Begins (AreChildrenOf low.now (option_map (λ h. h.now) high.entry) count)
+        children_text bytes.now (x.0, children_seen count x.1) x.2.now) }
+    ensures only { (children : Addr × List Child) (more : List ℕ)
+        → AreChildrenOf low.now (option_map (λ h. h.now) high.entry) count children
+        → bytes.now ≡ children_text children ++ more
+        → IsSomeAnd result (λ x. (x.0 ≡ children.0) × (children_seen count x.1 ≡ children.1)
+        × (x.2.now ≡ more)) }
 {
     if count < 1 || count > 7 {
         return None;
@@ -96,9 +109,15 @@ fn leaf_body<'a>(
     bytes: &'a [u8],
     count: usize,
 ) -> Option<(BodyRef<'a>, &'a [u8])>
-    ensures found { IfSome result (λ x. (pairs : List Pair) × (body_seen x.0 ≡ Leaf pairs) × Begins (ArePairsOf low.now (option_map (λ h. h.now) high.entry) count) (flat_map pair_bytes) bytes.now pairs x.1.now) }
+    ensures found { IfSome result
+        (λ x. (pairs : List Pair) × (body_seen x.0 ≡ Leaf pairs)
+        × Begins (ArePairsOf low.now (option_map (λ h. h.now) high.entry) count)
+        (flat_map pair_bytes) bytes.now pairs x.1.now) }
     ensures room { IfSome result (λ x. HasCounted x.0) }
-    ensures only { (pairs : List Pair) (more : List ℕ) → ArePairsOf low.now (option_map (λ h. h.now) high.entry) count pairs → bytes.now ≡ flat_map pair_bytes pairs ++ more → IsSomeAnd result (λ x. (body_seen x.0 ≡ Leaf pairs) × (x.1.now ≡ more)) }
+    ensures only { (pairs : List Pair) (more : List ℕ)
+        → ArePairsOf low.now (option_map (λ h. h.now) high.entry) count pairs
+        → bytes.now ≡ flat_map pair_bytes pairs ++ more
+        → IsSomeAnd result (λ x. (body_seen x.0 ≡ Leaf pairs) × (x.1.now ≡ more)) }
 {
     let (pairs, behind) = leaf_pairs(low, high, bytes, count)?;
     let first = NO_ADDR;
@@ -123,9 +142,16 @@ fn inner_body<'a>(
     count: usize,
 ) -> Option<(BodyRef<'a>, &'a [u8])>
     requires { 1 ≤ height }
-    ensures found { IfSome result (λ x. (children : Addr × List Child) × (body_seen x.0 ≡ Inner height children.0 children.1) × Begins (AreChildrenOf low.now (option_map (λ h. h.now) high.entry) count) children_text bytes.now children x.1.now) }
+    ensures found { IfSome result
+        (λ x. (children : Addr × List Child) × (body_seen x.0 ≡ Inner height children.0 children.1)
+        × Begins (AreChildrenOf low.now (option_map (λ h. h.now) high.entry) count) children_text
+        bytes.now children x.1.now) }
     ensures room { IfSome result (λ x. HasCounted x.0) }
-    ensures only { (children : Addr × List Child) (more : List ℕ) → AreChildrenOf low.now (option_map (λ h. h.now) high.entry) count children → bytes.now ≡ children_text children ++ more → IsSomeAnd result (λ x. (body_seen x.0 ≡ Inner height children.0 children.1) × (x.1.now ≡ more)) }
+    ensures only { (children : Addr × List Child) (more : List ℕ)
+        → AreChildrenOf low.now (option_map (λ h. h.now) high.entry) count children
+        → bytes.now ≡ children_text children ++ more
+        → IsSomeAnd result (λ x. (body_seen x.0 ≡ Inner height children.0 children.1)
+        × (x.1.now ≡ more)) }
 {
     let (first, rest, behind) = inner_children(low, high, bytes, count)?;
     Some((
@@ -147,9 +173,14 @@ pub fn first_body<'a>(
     high: Option<&[u8]>,
     bytes: &'a [u8],
 ) -> Option<(BodyRef<'a>, &'a [u8])>
-    ensures found { IfSome result (λ x. Begins (IsBodyAt height low.now (option_map (λ h. h.now) high.entry)) body_text bytes.now (body_seen x.0) x.1.now) }
+    ensures found { IfSome result
+        (λ x. Begins (IsBodyAt height low.now (option_map (λ h. h.now) high.entry)) body_text
+        bytes.now (body_seen x.0) x.1.now) }
     ensures room { IfSome result (λ x. HasCounted x.0) }
-    ensures only { (body : Body) (more : List ℕ) → IsBodyAt height low.now (option_map (λ h. h.now) high.entry) body → bytes.now ≡ body_text body ++ more → IsSomeAnd result (λ x. (body_seen x.0 ≡ body) × (x.1.now ≡ more)) }
+    ensures only { (body : Body) (more : List ℕ)
+        → IsBodyAt height low.now (option_map (λ h. h.now) high.entry) body
+        → bytes.now ≡ body_text body ++ more
+        → IsSomeAnd result (λ x. (body_seen x.0 ≡ body) × (x.1.now ≡ more)) }
 {
     let (count, behind) = first_byte(bytes)?;
     let count = count as usize;

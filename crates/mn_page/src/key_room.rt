@@ -1,5 +1,7 @@
-ghost use Rattle.std.specs.Prelude.{◌≡◌, ◌≤◌, ◌-◌, ◌++◌, [], ◌↔◌, IsTrue, length, replicate, MatchOption, option_map};
-ghost use Rattle.mn_page.specs.KeyRoom.{HasNoneFrom, HasRoomForKeys, IsLast, IsLeastFrom, IsNext, LeavesRoom, raised};
+ghost use Rattle.std.specs.Prelude.{◌≡◌, ◌≤◌, ◌-◌, ◌++◌, [], ◌↔◌, IsTrue, length, replicate};
+ghost use Rattle.std.specs.Prelude.{MatchOption, option_map};
+ghost use Rattle.mn_page.specs.KeyRoom.{HasNoneFrom, HasRoomForKeys, IsLast, IsLeastFrom, IsNext};
+ghost use Rattle.mn_page.specs.KeyRoom.{LeavesRoom, raised};
 
 use crate::scan::is_below;
 use arrayvec::ArrayVec;
@@ -9,7 +11,8 @@ pub type ShortKey = ArrayVec<u8, 32>;
 
 /// The least key above this one; there is none above 32 bytes of 255.
 pub fn next_key(key: &[u8]) -> Option<ShortKey>
-    ensures { length key.now ≤ 32 → MatchOption result (IsLast key.now) (λ next. IsNext key.now next.items) }
+    ensures { length key.now ≤ 32
+        → MatchOption result (IsLast key.now) (λ next. IsNext key.now next.items) }
 {
     let mut next = ShortKey::new();
     if next.try_extend_from_slice(key).is_err() {
@@ -38,7 +41,8 @@ fn raised(key: ShortKey) -> Option<ShortKey>
 
 /// The bytes, as many zeros behind them as make up the size, if they are not too many.
 pub fn filled(bytes: &[u8], size: usize) -> Option<ShortKey>
-    ensures { MatchOption result (length bytes.now ≤ 32 → size ≤ 32 → ⊥) (λ key. key.items ≡ bytes.now ++ replicate (size - length bytes.now) 0) }
+    ensures { MatchOption result (length bytes.now ≤ 32 → size ≤ 32 → ⊥)
+        (λ key. key.items ≡ bytes.now ++ replicate (size - length bytes.now) 0) }
 {
     let mut key = ShortKey::new();
     key.try_extend_from_slice(bytes).ok()?;
@@ -50,7 +54,9 @@ pub fn filled(bytes: &[u8], size: usize) -> Option<ShortKey>
 
 /// The least key of this size at or above `least`.
 fn least_from(least: &[u8], size: usize) -> Option<ShortKey>
-    ensures { length least.now ≤ 32 → size ≤ 32 → MatchOption result (HasNoneFrom least.now [] size) (λ key. IsLeastFrom least.now [] size key.items) }
+    ensures { length least.now ≤ 32 → size ≤ 32
+        → MatchOption result (HasNoneFrom least.now [] size)
+        (λ key. IsLeastFrom least.now [] size key.items) }
 {
     if least.len() <= size {
         return filled(least, size);
@@ -62,7 +68,9 @@ fn least_from(least: &[u8], size: usize) -> Option<ShortKey>
 
 /// The least key of this size that begins with `front` and is at or above `least`.
 fn least_with(least: &[u8], front: &[u8], size: usize) -> Option<ShortKey>
-    ensures { length least.now ≤ 32 → size ≤ 32 → length front.now ≤ size → MatchOption result (HasNoneFrom least.now front.now size) (λ key. IsLeastFrom least.now front.now size key.items) }
+    ensures { length least.now ≤ 32 → size ≤ 32 → length front.now ≤ size
+        → MatchOption result (HasNoneFrom least.now front.now size)
+        (λ key. IsLeastFrom least.now front.now size key.items) }
 {
     let with = filled(front, size)?;
     if !with.as_slice().cmp(least).is_lt() {
@@ -78,7 +86,8 @@ fn least_with(least: &[u8], front: &[u8], size: usize) -> Option<ShortKey>
 
 /// Whether the key and so many more above it lie below the bound.
 pub fn has_room(key: &[u8], more: usize, high: Option<&[u8]>) -> bool
-    ensures { length key.now ≤ 32 → (IsTrue result ↔ HasRoomForKeys key.now more (option_map (λ h. h.now) high.entry)) }
+    ensures { length key.now ≤ 32
+        → (IsTrue result ↔ HasRoomForKeys key.now more (option_map (λ h. h.now) high.entry)) }
 {
     let mut last = ShortKey::new();
     if last.try_extend_from_slice(key).is_err() {
@@ -104,7 +113,9 @@ pub struct Room<'a> {
 
 /// Whether a key of this size that begins with `front` leaves the room.
 pub fn leaves_room(room: &Room<'_>, front: &[u8], size: usize) -> bool
-    ensures { length room.now.least.now ≤ 32 → size ≤ 32 → length front.now ≤ size → (IsTrue result ↔ LeavesRoom room.now.least.now front.now size room.now.more (option_map (λ h. h.now) room.now.high)) }
+    ensures { length room.now.least.now ≤ 32 → size ≤ 32 → length front.now ≤ size
+        → (IsTrue result ↔ LeavesRoom room.now.least.now front.now size room.now.more
+        (option_map (λ h. h.now) room.now.high)) }
 {
     match least_with(room.least, front, size) {
         Some(key) => has_room(key.as_slice(), room.more, room.high),

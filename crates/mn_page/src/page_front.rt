@@ -1,11 +1,16 @@
-ghost use Rattle.std.specs.Prelude.{◌≡◌, ◌≤◌, ◌↔◌, IsTrue, ℕ, List, [], Option, Some, None, Bool, true, false, length, MatchOption, MatchResult};
+ghost use Rattle.std.specs.Prelude.{◌≡◌, ◌≤◌, ◌↔◌, IsTrue, ℕ, List, [], Option, Some, None, Bool};
+ghost use Rattle.std.specs.Prelude.{true, false, length, MatchOption, MatchResult};
 ghost use Rattle.std.specs.Option.{option_map};
 ghost use Rattle.mn_base.specs.declared.ids.Addr.{Addr};
 ghost use Rattle.mn_page.specs.Fronts.{BeginsPage};
 ghost use Rattle.mn_page.specs.Grammar.{IsAddr, IsKey, IsValue, addr_bytes, counted, high_bytes};
 ghost use Rattle.mn_page.specs.KeyRoom.{HasRoomForKeys};
-ghost use Rattle.mn_page.specs.Reading.{AreVersions, Begins, IsSeq, as_they_stand, eight, height_text, versions_text};
-ghost use Rattle.mn_page.specs.PageFronts.{addr_goes_on, height_goes_on, BehindFences, Decides, FromSeq, HasKeys, IsCount, IsFloor, IsHeight, IsHeld, IsHighAt, IsKeyIn, IsLeastHigh, IsLeastOver, Items, Judged, count_text, least_keys};
+ghost use Rattle.mn_page.specs.Reading.{AreVersions, Begins, IsSeq, as_they_stand, eight};
+ghost use Rattle.mn_page.specs.Reading.{height_text, versions_text};
+ghost use Rattle.mn_page.specs.PageFronts.{addr_goes_on, height_goes_on, BehindFences, Decides};
+ghost use Rattle.mn_page.specs.PageFronts.{FromSeq, HasKeys, IsCount, IsFloor, IsHeight, IsHeld};
+ghost use Rattle.mn_page.specs.PageFronts.{IsHighAt, IsKeyIn, IsLeastHigh, IsLeastOver, Items};
+ghost use Rattle.mn_page.specs.PageFronts.{Judged, count_text, least_keys};
 
 use crate::fault::SLOT;
 use crate::key_room::{Room, ShortKey, filled, has_room, leaves_room, next_key};
@@ -16,7 +21,8 @@ use crate::scan::{first_addr, first_byte, first_height, first_seq, first_text, f
 // begin it; `true` where more bytes make it a field that some page goes on from.
 
 fn front_seq(bytes: &[u8]) -> Result<&[u8], bool>
-    ensures { MatchResult result (λ rest. (seq : ℕ) × Begins IsSeq eight bytes.now seq rest.now) (λ goes. Judged IsSeq eight bytes.now goes) }
+    ensures { MatchResult result (λ rest. (seq : ℕ) × Begins IsSeq eight bytes.now seq rest.now)
+        (λ goes. Judged IsSeq eight bytes.now goes) }
 {
     match first_seq(bytes) {
         Some((_, rest)) => Ok(rest),
@@ -26,7 +32,8 @@ fn front_seq(bytes: &[u8]) -> Result<&[u8], bool>
 
 /// The height too.
 fn front_height(bytes: &[u8]) -> Result<(u16, &[u8]), bool>
-    ensures { MatchResult result (λ x. Begins IsHeight height_text bytes.now x.0 x.1.now) (λ goes. Judged IsHeight height_text bytes.now goes) }
+    ensures { MatchResult result (λ x. Begins IsHeight height_text bytes.now x.0 x.1.now)
+        (λ goes. Judged IsHeight height_text bytes.now goes) }
 {
     match first_height(bytes) {
         Some(found) => Ok(found),
@@ -48,7 +55,9 @@ fn height_goes_on(bytes: &[u8]) -> bool
 }
 
 fn front_versions(bytes: &[u8]) -> Result<&[u8], bool>
-    ensures { MatchResult result (λ rest. (v : ℕ × ℕ) × Begins AreVersions versions_text bytes.now v rest.now) (λ goes. Judged AreVersions versions_text bytes.now goes) }
+    ensures { MatchResult result (λ rest. (v : ℕ × ℕ)
+        × Begins AreVersions versions_text bytes.now v rest.now)
+        (λ goes. Judged AreVersions versions_text bytes.now goes) }
 {
     match first_versions(bytes) {
         Some((_, rest)) => Ok(rest),
@@ -70,7 +79,9 @@ fn versions_go_on(bytes: &[u8]) -> bool
 }
 
 fn front_addr(bytes: &[u8]) -> Result<&[u8], bool>
-    ensures { MatchResult result (λ rest. (addr : Addr) × Begins IsAddr addr_bytes bytes.now addr rest.now) (λ goes. Judged IsAddr addr_bytes bytes.now goes) }
+    ensures { MatchResult result (λ rest. (addr : Addr)
+        × Begins IsAddr addr_bytes bytes.now addr rest.now)
+        (λ goes. Judged IsAddr addr_bytes bytes.now goes) }
 {
     match first_addr(bytes) {
         Some((_, rest)) => Ok(rest),
@@ -97,7 +108,14 @@ fn front_key<'a>(
     shortest: usize,
     room: &Room<'_>,
 ) -> Result<(&'a [u8], &'a [u8]), bool>
-    ensures { length room.now.least.now ≤ 32 → (key : List ℕ) × IsKeyIn shortest room.now.least.now room.now.more (option_map (λ h. h.now) room.now.high) key → MatchResult result (λ x. Begins (IsKeyIn shortest room.now.least.now room.now.more (option_map (λ h. h.now) room.now.high)) counted bytes.now x.0.now x.1.now) (λ goes. Judged (IsKeyIn shortest room.now.least.now room.now.more (option_map (λ h. h.now) room.now.high)) counted bytes.now goes) }
+    ensures { length room.now.least.now ≤ 32 → (key : List ℕ)
+        × IsKeyIn shortest room.now.least.now room.now.more
+        (option_map (λ h. h.now) room.now.high) key
+        → MatchResult result (λ x. Begins
+        (IsKeyIn shortest room.now.least.now room.now.more (option_map (λ h. h.now) room.now.high))
+        counted bytes.now x.0.now x.1.now)
+        (λ goes. Judged (IsKeyIn shortest room.now.least.now room.now.more
+        (option_map (λ h. h.now) room.now.high)) counted bytes.now goes) }
 {
     let Some((size, behind)) = first_byte(bytes) else {
         return Err(true);
@@ -116,7 +134,9 @@ fn front_key<'a>(
 }
 
 fn front_value(bytes: &[u8]) -> Result<&[u8], bool>
-    ensures { MatchResult result (λ rest. (value : List ℕ) × Begins IsValue counted bytes.now value rest.now) (λ goes. Judged IsValue counted bytes.now goes) }
+    ensures { MatchResult result (λ rest. (value : List ℕ)
+        × Begins IsValue counted bytes.now value rest.now)
+        (λ goes. Judged IsValue counted bytes.now goes) }
 {
     let Some((size, behind)) = first_byte(bytes) else {
         return Err(true);
@@ -133,7 +153,9 @@ fn front_value(bytes: &[u8]) -> Result<&[u8], bool>
 
 /// What stands behind a key.
 fn front_held(bytes: &[u8], is_leaf: bool) -> Result<&[u8], bool>
-    ensures { MatchResult result (λ rest. (text : List ℕ) × Begins (IsHeld is_leaf) as_they_stand bytes.now text rest.now) (λ goes. Judged (IsHeld is_leaf) as_they_stand bytes.now goes) }
+    ensures { MatchResult result (λ rest. (text : List ℕ)
+        × Begins (IsHeld is_leaf) as_they_stand bytes.now text rest.now)
+        (λ goes. Judged (IsHeld is_leaf) as_they_stand bytes.now goes) }
 {
     if is_leaf {
         front_value(bytes)
@@ -148,7 +170,10 @@ fn front_high<'a>(
     low: &[u8],
     is_leaf: bool,
 ) -> Result<(Option<&'a [u8]>, &'a [u8]), bool>
-    ensures { length low.now ≤ 32 → HasRoomForKeys low.now (least_keys is_leaf) None → MatchResult result (λ x. Begins (IsHighAt is_leaf low.now) high_bytes bytes.now (option_map (λ h. h.now) x.0) x.1.now) (λ goes. Judged (IsHighAt is_leaf low.now) high_bytes bytes.now goes) }
+    ensures { length low.now ≤ 32 → HasRoomForKeys low.now (least_keys is_leaf) None
+        → MatchResult result (λ x. Begins (IsHighAt is_leaf low.now) high_bytes bytes.now
+        (option_map (λ h. h.now) x.0) x.1.now)
+        (λ goes. Judged (IsHighAt is_leaf low.now) high_bytes bytes.now goes) }
 {
     let Some((some, behind)) = first_byte(bytes) else {
         return Err(true);
@@ -173,7 +198,10 @@ fn front_high<'a>(
 
 /// The least bound above the keys, with a separator below it for an inner page.
 fn least_high(low: &[u8], is_leaf: bool) -> Option<ShortKey>
-    ensures { length low.now ≤ 32 → MatchOption result ((key : List ℕ) → IsKey key → HasRoomForKeys low.now (least_keys is_leaf) (Some key) → ⊥) (λ least. IsLeastHigh is_leaf low.now least.items) }
+    ensures { length low.now ≤ 32
+        → MatchOption result ((key : List ℕ) → IsKey key
+        → HasRoomForKeys low.now (least_keys is_leaf) (Some key) → ⊥)
+        (λ least. IsLeastHigh is_leaf low.now least.items) }
 {
     let above = next_key(low)?;
     if is_leaf {
@@ -185,7 +213,8 @@ fn least_high(low: &[u8], is_leaf: bool) -> Option<ShortKey>
 
 /// The least key above these bytes, if there is one.
 fn least_above(low: &[u8]) -> ShortKey
-    ensures { length low.now ≤ 32 → HasKeys false low.now 1 None → IsLeastOver false low.now result.items }
+    ensures { length low.now ≤ 32 → HasKeys false low.now 1 None
+        → IsLeastOver false low.now result.items }
 {
     next_key(low).unwrap_or_default()
 }
@@ -202,7 +231,8 @@ fn least_at(low: &[u8]) -> ShortKey
 
 /// The least key that a leaf may hold, or the least separator of an inner page.
 fn least_key(low: &[u8], is_leaf: bool) -> ShortKey
-    ensures { length low.now ≤ 32 → HasKeys is_leaf low.now 1 None → IsLeastOver is_leaf low.now result.items }
+    ensures { length low.now ≤ 32 → HasKeys is_leaf low.now 1 None
+        → IsLeastOver is_leaf low.now result.items }
 {
     if is_leaf {
         least_at(low)
@@ -218,7 +248,13 @@ fn front_count<'a>(
     high: Option<&[u8]>,
     is_leaf: bool,
 ) -> Result<(usize, &'a [u8]), bool>
-    ensures { length low.now ≤ 32 → (n : ℕ) × IsCount is_leaf low.now (option_map (λ h. h.now) high.entry) n → MatchResult result (λ x. Begins (IsCount is_leaf low.now (option_map (λ h. h.now) high.entry)) (count_text is_leaf) bytes.now x.0 x.1.now) (λ goes. Judged (IsCount is_leaf low.now (option_map (λ h. h.now) high.entry)) (count_text is_leaf) bytes.now goes) }
+    ensures { length low.now ≤ 32 → (n : ℕ)
+        × IsCount is_leaf low.now (option_map (λ h. h.now) high.entry) n
+        → MatchResult result (λ x. Begins
+        (IsCount is_leaf low.now (option_map (λ h. h.now) high.entry))
+        (count_text is_leaf) bytes.now x.0 x.1.now)
+        (λ goes. Judged (IsCount is_leaf low.now (option_map (λ h. h.now) high.entry))
+        (count_text is_leaf) bytes.now goes) }
 {
     let Some((count, rest)) = first_byte(bytes) else {
         return Err(true);
@@ -243,7 +279,12 @@ fn front_items(
     high: Option<&[u8]>,
     keys: usize,
 ) -> Result<(), bool>
-    ensures { (from : Bool) (base : List ℕ) → IsFloor keys from base least.now → HasKeys from base keys (option_map (λ h. h.now) high.entry) → MatchResult result (λ _. Decides (Items is_leaf from base (option_map (λ h. h.now) high.entry) keys) bytes.now true) (λ goes. Decides (Items is_leaf from base (option_map (λ h. h.now) high.entry) keys) bytes.now goes) }
+    ensures { (from : Bool) (base : List ℕ) → IsFloor keys from base least.now
+        → HasKeys from base keys (option_map (λ h. h.now) high.entry)
+        → MatchResult result (λ _. Decides
+        (Items is_leaf from base (option_map (λ h. h.now) high.entry) keys) bytes.now true)
+        (λ goes. Decides (Items is_leaf from base (option_map (λ h. h.now) high.entry) keys)
+        bytes.now goes) }
 {
     if keys == 0 {
         if are_zeros(bytes) {
@@ -267,7 +308,12 @@ fn least_keys(is_leaf: bool) -> usize
 
 /// What stands behind the fences.
 fn front_body(bytes: &[u8], low: &[u8], high: Option<&[u8]>, is_leaf: bool) -> Result<(), bool>
-    ensures { length low.now ≤ 32 → HasRoomForKeys low.now (least_keys is_leaf) (option_map (λ h. h.now) high.entry) → MatchResult result (λ _. Decides (BehindFences is_leaf low.now (option_map (λ h. h.now) high.entry)) bytes.now true) (λ goes. Decides (BehindFences is_leaf low.now (option_map (λ h. h.now) high.entry)) bytes.now goes) }
+    ensures { length low.now ≤ 32
+        → HasRoomForKeys low.now (least_keys is_leaf) (option_map (λ h. h.now) high.entry)
+        → MatchResult result (λ _. Decides
+        (BehindFences is_leaf low.now (option_map (λ h. h.now) high.entry)) bytes.now true)
+        (λ goes. Decides (BehindFences is_leaf low.now (option_map (λ h. h.now) high.entry))
+        bytes.now goes) }
 {
     let (keys, behind) = front_count(bytes, low, high, is_leaf)?;
     let least = least_key(low, is_leaf);
@@ -279,7 +325,8 @@ fn front_body(bytes: &[u8], low: &[u8], high: Option<&[u8]>, is_leaf: bool) -> R
 }
 
 fn front_page(bytes: &[u8]) -> Result<(), bool>
-    ensures { MatchResult result (λ _. Decides FromSeq bytes.now true) (λ goes. Decides FromSeq bytes.now goes) }
+    ensures { MatchResult result (λ _. Decides FromSeq bytes.now true)
+        (λ goes. Decides FromSeq bytes.now goes) }
 {
     let after_seq = front_seq(bytes)?;
     let (height, after_height) = front_height(after_seq)?;

@@ -1,11 +1,13 @@
-ghost use Rattle.std.specs.Prelude.{◌≡◌, ◌≤◌, List, Option, Some, None, length, map, take, IfOk, IfErr, OnErr, IsOkAnd, MatchOption};
+ghost use Rattle.std.specs.Prelude.{◌≡◌, ◌≤◌, List, Option, Some, None, length, map, take, IfOk};
+ghost use Rattle.std.specs.Prelude.{IfErr, OnErr, IsOkAnd, MatchOption};
 ghost use Rattle.std.specs.Option.{option_map};
 ghost use Rattle.mn_page.specs.declared.page.Page.{Page};
 ghost use Rattle.mn_page.specs.declared.page.Body.TheVariants.{Leaf, Inner};
 ghost use Rattle.mn_page.specs.declared.error.PageError.{PageError};
 ghost use Rattle.mn_page.specs.Fronts.{BeginsPage, IsLongest, NamesLongest};
 ghost use Rattle.mn_page.specs.Grammar.{IsFree, SpellsPage, SpellsNoPage};
-ghost use Rattle.mn_page.specs.Reading.{pair_seen, child_seen, body_seen, IsWantOfMemory, IsPlaceWithin};
+ghost use Rattle.mn_page.specs.Reading.{pair_seen, child_seen, body_seen, IsWantOfMemory};
+ghost use Rattle.mn_page.specs.Reading.{IsPlaceWithin};
 
 use crate::fault::page_fault;
 use crate::page_ref::{BodyRef, ChildRef, PairRef};
@@ -88,8 +90,10 @@ impl<'a> PageRef<'a> {
     /// The page whose bytes these are, or none for a free slot. BadPage: they are neither's; `at`
     /// is how many of the first bytes still begin some page. It takes no memory.
     pub fn new(bytes: &'a [u8]) -> Result<Option<PageRef<'a>>, BadPage>
-        ensures read { IfOk result (λ found. MatchOption found (IsFree bytes.now) (SpellsPage bytes.now)) }
-        ensures page { (p : Page) → SpellsPage bytes.now p → IsOkAnd result (λ found. found ≡ Some p) }
+        ensures read { IfOk result (λ found.
+            MatchOption found (IsFree bytes.now) (SpellsPage bytes.now)) }
+        ensures page { (p : Page) → SpellsPage bytes.now p
+            → IsOkAnd result (λ found. found ≡ Some p) }
         ensures free { IsFree bytes.now → IsOkAnd result (λ found. found ≡ None) }
         ensures bad { OnErr result (SpellsNoPage bytes.now) }
         ensures place { IfErr result (λ e. e.at ≤ length bytes.now) }
@@ -125,7 +129,8 @@ impl Page {
     /// The page whose bytes these are, or none for a free slot. BadPage: they are neither's; `at`
     /// is how many of the first bytes still begin some page. NoMemory: there was no memory for it.
     pub fn read(alloc: Global, bytes: &[u8]) -> Result<Option<Page>, PageError>
-        ensures read { IfOk result (λ found. MatchOption found (IsFree bytes.now) (SpellsPage bytes.now)) }
+        ensures read { IfOk result (λ found.
+            MatchOption found (IsFree bytes.now) (SpellsPage bytes.now)) }
         ensures page { (p : Page) → SpellsPage bytes.now p → IfOk result (λ found. found ≡ Some p) }
         ensures free { IsFree bytes.now → IfOk result (λ found. found ≡ None) }
         ensures bad { IfErr result (λ e. (IsWantOfMemory e → ⊥) → SpellsNoPage bytes.now) }

@@ -1,7 +1,8 @@
 ghost use Rattle.std.specs.Prelude.{◌≡◌, ◌<◌, length, Some, slice_get};
 ghost use Rattle.std.specs.Option.{option_map};
 ghost use Rattle.mn_page.specs.Grammar.{count_in, height_of};
-ghost use Rattle.mn_page.specs.Reading.{page_seen, body_seen, keys_in, values_in, addrs_in, HasCounted};
+ghost use Rattle.mn_page.specs.Reading.{page_seen, body_seen, keys_in, values_in, addrs_in};
+ghost use Rattle.mn_page.specs.Reading.{HasCounted};
 
 use mn_base::{Addr, VersionNo};
 use std::marker::Model;
@@ -57,7 +58,8 @@ impl<'a> Model for PageRef<'a> {
 
     ghost Value = { Page };
 
-    ghost view = { λ p. page_seen p.head p.low.now (option_map (λ h. h.now) p.high) (body_seen p.body) };
+    ghost view = { λ p. page_seen p.head p.low.now (option_map (λ h. h.now) p.high)
+        (body_seen p.body) };
 
     ghost invariant = { λ p. HasCounted p.body };
 }
@@ -71,7 +73,8 @@ impl<'a> PageRef<'a> {
         body: BodyRef<'a>,
     ) -> Self
         requires { HasCounted body }
-        ensures { result ≡ page_seen head low.now (option_map (λ h. h.now) high.entry) (body_seen body.entry) }
+        ensures { result ≡ page_seen head low.now (option_map (λ h. h.now) high.entry)
+            (body_seen body.entry) }
     {
         PageRef {
             head,

@@ -1,4 +1,6 @@
-ghost use Rattle.std.specs.Prelude.{◌≡◌, ◌++◌, ℕ, List, Option, Some, None, length, nat_eq, replicate, IfOk, OnErr, IfSome, IsOkAnd, IsSomeAnd, MatchOption, IsTrue, ◌↔◌};
+ghost use Rattle.std.specs.Prelude.{◌≡◌, ◌++◌, ℕ, List, Option, Some, None, length, nat_eq};
+ghost use Rattle.std.specs.Prelude.{replicate, IfOk, OnErr, IfSome, IsOkAnd, IsSomeAnd};
+ghost use Rattle.std.specs.Prelude.{MatchOption, IsTrue, ◌↔◌};
 ghost use Rattle.std.specs.List.{list_all};
 ghost use Rattle.std.specs.Option.{option_map};
 ghost use Rattle.mn_page.specs.declared.page.Page.{Page};
@@ -12,8 +14,13 @@ use crate::scan::{first_counted, first_head, first_high, is_below};
 
 /// The fences, and what follows them.
 fn first_fences(bytes: &[u8]) -> Option<((&[u8], Option<&[u8]>), &[u8])>
-    ensures found { IfSome result (λ x. Begins AreFences fences_text bytes.now (x.0.0.now, option_map (λ h. h.now) x.0.1) x.1.now) }
-    ensures only { (fences : List ℕ × Option (List ℕ)) (more : List ℕ) → AreFences fences → bytes.now ≡ fences_text fences ++ more → IsSomeAnd result (λ x. (x.0.0.now ≡ fences.0) × (option_map (λ h. h.now) x.0.1 ≡ fences.1) × (x.1.now ≡ more)) }
+    ensures found { IfSome result
+        (λ x. Begins AreFences fences_text bytes.now
+        (x.0.0.now, option_map (λ h. h.now) x.0.1) x.1.now) }
+    ensures only { (fences : List ℕ × Option (List ℕ)) (more : List ℕ) → AreFences fences
+        → bytes.now ≡ fences_text fences ++ more
+        → IsSomeAnd result (λ x. (x.0.0.now ≡ fences.0) × (option_map (λ h. h.now) x.0.1 ≡ fences.1)
+        × (x.1.now ≡ more)) }
 {
     let (low, behind) = first_counted(bytes, 0, 32)?;
     let (high, rest) = first_high(behind)?;
@@ -26,7 +33,8 @@ fn first_fences(bytes: &[u8]) -> Option<((&[u8], Option<&[u8]>), &[u8])>
 /// The page that the bytes begin with, and what follows it.
 fn first_page(bytes: &[u8]) -> Option<(PageRef<'_>, &[u8])>
     ensures found { IfSome result (λ x. Begins IsPage page_text bytes.now x.0 x.1.now) }
-    ensures only { (p : Page) (more : List ℕ) → IsPage p → bytes.now ≡ page_text p ++ more → IsSomeAnd result (λ x. (x.0 ≡ p) × (x.1.now ≡ more)) }
+    ensures only { (p : Page) (more : List ℕ) → IsPage p → bytes.now ≡ page_text p ++ more
+        → IsSomeAnd result (λ x. (x.0 ≡ p) × (x.1.now ≡ more)) }
 {
     let (head, behind) = first_head(bytes)?;
     let ((low, high), behind) = first_fences(behind)?;

@@ -1,6 +1,7 @@
 ghost use Rattle.std.specs.Prelude.{◌≡◌, ◌≤◌, ◌<◌, ◌+◌, ◌*◌, ◌++◌, ◌∷◌, [], List, length};
 ghost use Rattle.std.specs.List.{flat_map};
-ghost use Rattle.mn_page.specs.Grammar.{page_bytes, high_bytes, pair_bytes, child_bytes, count_in, kind_of, height_of, body_bytes};
+ghost use Rattle.mn_page.specs.Grammar.{page_bytes, high_bytes, pair_bytes, child_bytes, count_in};
+ghost use Rattle.mn_page.specs.Grammar.{kind_of, height_of, body_bytes};
 ghost use Rattle.mn_page.specs.Space.{slot_size};
 ghost use Rattle.mn_page.specs.Written.{Adds, head_bytes, fence_bytes};
 

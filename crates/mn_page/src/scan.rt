@@ -1,4 +1,5 @@
-ghost use Rattle.std.specs.Prelude.{◌≡◌, ◌≤◌, ◌<◌, ◌^◌, ◌++◌, ◌∷◌, [], ℕ, List, Option, length, IfSome, IfNone, IsSomeAnd, IsTrue, nat_lt};
+ghost use Rattle.std.specs.Prelude.{◌≡◌, ◌≤◌, ◌<◌, ◌^◌, ◌++◌, ◌∷◌, [], ℕ, List, Option, length};
+ghost use Rattle.std.specs.Prelude.{IfSome, IfNone, IsSomeAnd, IsTrue, nat_lt};
 ghost use Rattle.std.specs.List.{flat_map, list_all};
 ghost use Rattle.std.specs.Option.{option_map};
 ghost use Rattle.byteorder.specs.Endian.{big_bytes};
@@ -8,8 +9,13 @@ ghost use Rattle.mn_base.specs.declared.ids.Addr.{Addr};
 ghost use Rattle.mn_base.specs.declared.reply.Pair.{Pair};
 ghost use Rattle.mn_page.specs.declared.page.Child.{Child};
 ghost use Rattle.mn_page.specs.declared.page_ref.Head.{Head};
-ghost use Rattle.mn_page.specs.Grammar.{IsAddr, IsKey, IsValue, IsBound, addr_bytes, counted, high_bytes, pair_bytes, child_bytes};
-ghost use Rattle.mn_page.specs.Reading.{Begins, HasLength, as_they_stand, head_text, IsHead, kind_at, eight, are_above, IsSeq, height_text, versions_text, AreVersions, pair_seen, child_seen, pairs_seen, children_seen, IsPairWithin, IsChildWithin, AreMany};
+ghost use Rattle.mn_page.specs.Grammar.{IsAddr, IsKey, IsValue, IsBound, addr_bytes, counted};
+ghost use Rattle.mn_page.specs.Grammar.{high_bytes, pair_bytes, child_bytes};
+ghost use Rattle.mn_page.specs.Reading.{Begins, HasLength, as_they_stand, head_text, IsHead};
+ghost use Rattle.mn_page.specs.Reading.{kind_at, eight, are_above, IsSeq, height_text};
+ghost use Rattle.mn_page.specs.Reading.{versions_text, AreVersions, pair_seen, child_seen};
+ghost use Rattle.mn_page.specs.Reading.{pairs_seen, children_seen, IsPairWithin, IsChildWithin};
+ghost use Rattle.mn_page.specs.Reading.{AreMany};
 
 use crate::page_ref::{ChildRef, Head, PairRef};
 use byteorder::{BigEndian, ByteOrder};
@@ -18,7 +24,8 @@ use mn_base::{Addr, NodeNo, VersionNo};
 /// The first byte, and what follows it.
 pub fn first_byte(bytes: &[u8]) -> Option<(u8, &[u8])>
     ensures found { IfSome result (λ x. bytes.now ≡ x.0 ∷ x.1.now) }
-    ensures only { (byte : ℕ) (more : List ℕ) → bytes.now ≡ byte ∷ more → IsSomeAnd result (λ x. (x.0 ≡ byte) × (x.1.now ≡ more)) }
+    ensures only { (byte : ℕ) (more : List ℕ) → bytes.now ≡ byte ∷ more
+        → IsSomeAnd result (λ x. (x.0 ≡ byte) × (x.1.now ≡ more)) }
 {
     match bytes {
         [byte, rest @ ..] => Some((*byte, rest)),
@@ -29,7 +36,8 @@ pub fn first_byte(bytes: &[u8]) -> Option<(u8, &[u8])>
 /// The number in the first two bytes, and what follows them.
 fn first_u16(bytes: &[u8]) -> Option<(u16, &[u8])>
     ensures found { IfSome result (λ x. bytes.now ≡ big_bytes 2 x.0 ++ x.1.now) }
-    ensures only { (n : ℕ) (more : List ℕ) → n < 2 ^ 16 → bytes.now ≡ big_bytes 2 n ++ more → IsSomeAnd result (λ x. (x.0 ≡ n) × (x.1.now ≡ more)) }
+    ensures only { (n : ℕ) (more : List ℕ) → n < 2 ^ 16 → bytes.now ≡ big_bytes 2 n ++ more
+        → IsSomeAnd result (λ x. (x.0 ≡ n) × (x.1.now ≡ more)) }
 {
     if bytes.len() < 2 {
         return None;
@@ -41,7 +49,8 @@ fn first_u16(bytes: &[u8]) -> Option<(u16, &[u8])>
 #[tactic(auto, unfolding(crate::specs::Reading::eight))]
 fn first_u64(bytes: &[u8]) -> Option<(u64, &[u8])>
     ensures found { IfSome result (λ x. bytes.now ≡ eight x.0 ++ x.1.now) }
-    ensures only { (n : ℕ) (more : List ℕ) → n < 2 ^ 64 → bytes.now ≡ eight n ++ more → IsSomeAnd result (λ x. (x.0 ≡ n) × (x.1.now ≡ more)) }
+    ensures only { (n : ℕ) (more : List ℕ) → n < 2 ^ 64 → bytes.now ≡ eight n ++ more
+        → IsSomeAnd result (λ x. (x.0 ≡ n) × (x.1.now ≡ more)) }
 {
     if bytes.len() < 8 {
         return None;
@@ -52,8 +61,10 @@ fn first_u64(bytes: &[u8]) -> Option<(u64, &[u8])>
 /// The first bytes, so many, and what follows them.
 #[tactic(auto, using(crate::proofs::Scanned::are_bytes))]
 pub fn first_text(bytes: &[u8], length: usize) -> Option<(&[u8], &[u8])>
-    ensures found { IfSome result (λ x. Begins (HasLength length length) as_they_stand bytes.now x.0.now x.1.now) }
-    ensures only { (text more : List ℕ) → Rattle.std.specs.Prelude.length text ≡ length → bytes.now ≡ text ++ more → IsSomeAnd result (λ x. (x.0.now ≡ text) × (x.1.now ≡ more)) }
+    ensures found { IfSome result
+        (λ x. Begins (HasLength length length) as_they_stand bytes.now x.0.now x.1.now) }
+    ensures only { (text more : List ℕ) → Rattle.std.specs.Prelude.length text ≡ length
+        → bytes.now ≡ text ++ more → IsSomeAnd result (λ x. (x.0.now ≡ text) × (x.1.now ≡ more)) }
 {
     if length > bytes.len() {
         return None;
@@ -64,8 +75,11 @@ pub fn first_text(bytes: &[u8], length: usize) -> Option<(&[u8], &[u8])>
 
 /// The bytes behind their length in one byte, where it is within bounds, and what follows them.
 pub fn first_counted(bytes: &[u8], least: usize, most: usize) -> Option<(&[u8], &[u8])>
-    ensures found { IfSome result (λ x. Begins (HasLength least most) counted bytes.now x.0.now x.1.now) }
-    ensures only { (text more : List ℕ) → HasLength least most text → bytes.now ≡ counted text ++ more → IsSomeAnd result (λ x. (x.0.now ≡ text) × (x.1.now ≡ more)) }
+    ensures found { IfSome result
+        (λ x. Begins (HasLength least most) counted bytes.now x.0.now x.1.now) }
+    ensures only { (text more : List ℕ) → HasLength least most text
+        → bytes.now ≡ counted text ++ more
+        → IsSomeAnd result (λ x. (x.0.now ≡ text) × (x.1.now ≡ more)) }
 {
     let [length, rest @ ..] = bytes else {
         return None;
@@ -79,7 +93,8 @@ pub fn first_counted(bytes: &[u8], least: usize, most: usize) -> Option<(&[u8], 
 
 pub fn first_addr(bytes: &[u8]) -> Option<(Addr, &[u8])>
     ensures found { IfSome result (λ x. Begins IsAddr addr_bytes bytes.now x.0 x.1.now) }
-    ensures only { (addr : Addr) (more : List ℕ) → IsAddr addr → bytes.now ≡ addr_bytes addr ++ more → IsSomeAnd result (λ x. (x.0 ≡ addr) × (x.1.now ≡ more)) }
+    ensures only { (addr : Addr) (more : List ℕ) → IsAddr addr → bytes.now ≡ addr_bytes addr ++ more
+        → IsSomeAnd result (λ x. (x.0 ≡ addr) × (x.1.now ≡ more)) }
 {
     let [node, behind @ ..] = bytes else {
         return None;
@@ -118,7 +133,8 @@ fn kind_at(height: u16) -> u8
 /// How often the slot was written, from 1, and what follows.
 pub fn first_seq(bytes: &[u8]) -> Option<(u64, &[u8])>
     ensures found { IfSome result (λ x. Begins IsSeq eight bytes.now x.0 x.1.now) }
-    ensures only { (seq : ℕ) (more : List ℕ) → IsSeq seq → bytes.now ≡ eight seq ++ more → IsSomeAnd result (λ x. (x.0 ≡ seq) × (x.1.now ≡ more)) }
+    ensures only { (seq : ℕ) (more : List ℕ) → IsSeq seq → bytes.now ≡ eight seq ++ more
+        → IsSomeAnd result (λ x. (x.0 ≡ seq) × (x.1.now ≡ more)) }
 {
     let (seq, rest) = first_u64(bytes)?;
     if seq < 1 {
@@ -130,7 +146,9 @@ pub fn first_seq(bytes: &[u8]) -> Option<(u64, &[u8])>
 /// The height, behind its kind, and what follows.
 pub fn first_height(bytes: &[u8]) -> Option<(u16, &[u8])>
     ensures found { IfSome result (λ x. bytes.now ≡ height_text x.0 ++ x.1.now) }
-    ensures only { (height : ℕ) (more : List ℕ) → height < 2 ^ 16 → bytes.now ≡ height_text height ++ more → IsSomeAnd result (λ x. (x.0 ≡ height) × (x.1.now ≡ more)) }
+    ensures only { (height : ℕ) (more : List ℕ) → height < 2 ^ 16
+        → bytes.now ≡ height_text height ++ more
+        → IsSomeAnd result (λ x. (x.0 ≡ height) × (x.1.now ≡ more)) }
 {
     let [kind, behind @ ..] = bytes else {
         return None;
@@ -145,7 +163,8 @@ pub fn first_height(bytes: &[u8]) -> Option<(u16, &[u8])>
 /// The made version and the versions that the page was copied for, and what follows.
 pub fn first_versions(bytes: &[u8]) -> Option<((u8, u64), &[u8])>
     ensures found { IfSome result (λ x. Begins AreVersions versions_text bytes.now x.0 x.1.now) }
-    ensures only { (v : ℕ × ℕ) (more : List ℕ) → AreVersions v → bytes.now ≡ versions_text v ++ more → IsSomeAnd result (λ x. (x.0 ≡ v) × (x.1.now ≡ more)) }
+    ensures only { (v : ℕ × ℕ) (more : List ℕ) → AreVersions v → bytes.now ≡ versions_text v ++ more
+        → IsSomeAnd result (λ x. (x.0 ≡ v) × (x.1.now ≡ more)) }
 {
     let [made, behind @ ..] = bytes else {
         return None;
@@ -160,7 +179,8 @@ pub fn first_versions(bytes: &[u8]) -> Option<((u8, u64), &[u8])>
 /// What stands before the fences, and what follows.
 pub fn first_head(bytes: &[u8]) -> Option<(Head, &[u8])>
     ensures found { IfSome result (λ x. Begins IsHead head_text bytes.now x.0 x.1.now) }
-    ensures only { (head : Head) (more : List ℕ) → IsHead head → bytes.now ≡ head_text head ++ more → IsSomeAnd result (λ x. (x.0 ≡ head) × (x.1.now ≡ more)) }
+    ensures only { (head : Head) (more : List ℕ) → IsHead head → bytes.now ≡ head_text head ++ more
+        → IsSomeAnd result (λ x. (x.0 ≡ head) × (x.1.now ≡ more)) }
 {
     let (seq, behind) = first_seq(bytes)?;
     let (height, behind) = first_height(behind)?;
@@ -179,8 +199,11 @@ pub fn first_head(bytes: &[u8]) -> Option<(Head, &[u8])>
 
 /// The bound above the keys, and what follows it.
 pub fn first_high(bytes: &[u8]) -> Option<(Option<&[u8]>, &[u8])>
-    ensures found { IfSome result (λ x. Begins IsBound high_bytes bytes.now (option_map (λ h. h.now) x.0) x.1.now) }
-    ensures only { (high : Option (List ℕ)) (more : List ℕ) → IsBound high → bytes.now ≡ high_bytes high ++ more → IsSomeAnd result (λ x. (option_map (λ h. h.now) x.0 ≡ high) × (x.1.now ≡ more)) }
+    ensures found { IfSome result
+        (λ x. Begins IsBound high_bytes bytes.now (option_map (λ h. h.now) x.0) x.1.now) }
+    ensures only { (high : Option (List ℕ)) (more : List ℕ) → IsBound high
+        → bytes.now ≡ high_bytes high ++ more
+        → IsSomeAnd result (λ x. (option_map (λ h. h.now) x.0 ≡ high) × (x.1.now ≡ more)) }
 {
     match bytes {
         [0, rest @ ..] => Some((None, rest)),
@@ -208,8 +231,13 @@ fn first_pair<'a>(
     high: Option<&[u8]>,
     bytes: &'a [u8],
 ) -> Option<(PairRef<'a>, &'a [u8])>
-    ensures found { IfSome result (λ x. Begins (IsPairWithin low.now (option_map (λ h. h.now) high.entry)) pair_bytes bytes.now (pair_seen x.0) x.1.now) }
-    ensures only { (pair : Pair) (more : List ℕ) → IsPairWithin low.now (option_map (λ h. h.now) high.entry) pair → bytes.now ≡ pair_bytes pair ++ more → IsSomeAnd result (λ x. (pair_seen x.0 ≡ pair) × (x.1.now ≡ more)) }
+    ensures found { IfSome result
+        (λ x. Begins (IsPairWithin low.now (option_map (λ h. h.now) high.entry)) pair_bytes
+        bytes.now (pair_seen x.0) x.1.now) }
+    ensures only { (pair : Pair) (more : List ℕ)
+        → IsPairWithin low.now (option_map (λ h. h.now) high.entry) pair
+        → bytes.now ≡ pair_bytes pair ++ more
+        → IsSomeAnd result (λ x. (pair_seen x.0 ≡ pair) × (x.1.now ≡ more)) }
 {
     let (key, behind) = first_counted(bytes, 1, 32)?;
     let (value, rest) = first_counted(behind, 0, 64)?;
@@ -226,8 +254,13 @@ fn first_child<'a>(
     high: Option<&[u8]>,
     bytes: &'a [u8],
 ) -> Option<(ChildRef<'a>, &'a [u8])>
-    ensures found { IfSome result (λ x. Begins (IsChildWithin low.now (option_map (λ h. h.now) high.entry)) child_bytes bytes.now (child_seen x.0) x.1.now) }
-    ensures only { (child : Child) (more : List ℕ) → IsChildWithin low.now (option_map (λ h. h.now) high.entry) child → bytes.now ≡ child_bytes child ++ more → IsSomeAnd result (λ x. (child_seen x.0 ≡ child) × (x.1.now ≡ more)) }
+    ensures found { IfSome result
+        (λ x. Begins (IsChildWithin low.now (option_map (λ h. h.now) high.entry)) child_bytes
+        bytes.now (child_seen x.0) x.1.now) }
+    ensures only { (child : Child) (more : List ℕ)
+        → IsChildWithin low.now (option_map (λ h. h.now) high.entry) child
+        → bytes.now ≡ child_bytes child ++ more
+        → IsSomeAnd result (λ x. (child_seen x.0 ≡ child) × (x.1.now ≡ more)) }
 {
     let (separator, behind) = first_counted(bytes, 1, 32)?;
     let (addr, rest) = first_addr(behind)?;
@@ -265,8 +298,13 @@ pub fn first_pairs<'a>(
     count: usize,
 ) -> Option<([PairRef<'a>; 8], &'a [u8])>
     requires { count ≤ 8 }
-    ensures found { IfSome result (λ x. Begins (AreMany (IsPairWithin low.now (option_map (λ h. h.now) high.entry)) count) (flat_map pair_bytes) bytes.now (pairs_seen count x.0) x.1.now) }
-    ensures only { (pairs : List Pair) (more : List ℕ) → AreMany (IsPairWithin low.now (option_map (λ h. h.now) high.entry)) count pairs → bytes.now ≡ flat_map pair_bytes pairs ++ more → IsSomeAnd result (λ x. (pairs_seen count x.0 ≡ pairs) × (x.1.now ≡ more)) }
+    ensures found { IfSome result
+        (λ x. Begins (AreMany (IsPairWithin low.now (option_map (λ h. h.now) high.entry)) count)
+        (flat_map pair_bytes) bytes.now (pairs_seen count x.0) x.1.now) }
+    ensures only { (pairs : List Pair) (more : List ℕ)
+        → AreMany (IsPairWithin low.now (option_map (λ h. h.now) high.entry)) count pairs
+        → bytes.now ≡ flat_map pair_bytes pairs ++ more
+        → IsSomeAnd result (λ x. (pairs_seen count x.0 ≡ pairs) × (x.1.now ≡ more)) }
 {
     let mut pairs = no_pairs();
     let mut rest = bytes;
@@ -286,8 +324,13 @@ pub fn first_children<'a>(
     count: usize,
 ) -> Option<([ChildRef<'a>; 7], &'a [u8])>
     requires { count ≤ 7 }
-    ensures found { IfSome result (λ x. Begins (AreMany (IsChildWithin low.now (option_map (λ h. h.now) high.entry)) count) (flat_map child_bytes) bytes.now (children_seen count x.0) x.1.now) }
-    ensures only { (children : List Child) (more : List ℕ) → AreMany (IsChildWithin low.now (option_map (λ h. h.now) high.entry)) count children → bytes.now ≡ flat_map child_bytes children ++ more → IsSomeAnd result (λ x. (children_seen count x.0 ≡ children) × (x.1.now ≡ more)) }
+    ensures found { IfSome result
+        (λ x. Begins (AreMany (IsChildWithin low.now (option_map (λ h. h.now) high.entry)) count)
+        (flat_map child_bytes) bytes.now (children_seen count x.0) x.1.now) }
+    ensures only { (children : List Child) (more : List ℕ)
+        → AreMany (IsChildWithin low.now (option_map (λ h. h.now) high.entry)) count children
+        → bytes.now ≡ flat_map child_bytes children ++ more
+        → IsSomeAnd result (λ x. (children_seen count x.0 ≡ children) × (x.1.now ≡ more)) }
 {
     let mut children = no_children();
     let mut rest = bytes;

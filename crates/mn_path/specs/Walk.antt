@@ -18,7 +18,14 @@ pub record FrontState : Type 0 where
   pub high : Option (List ℕ)
 
 abbrev pub front_of : Page → FrontState
-front_of p = record { made = p.made; copied = p.copied; height = height_of p.body; low = p.low; high = p.high }
+front_of p =
+    record {
+      made = p.made;
+      copied = p.copied;
+      height = height_of p.body;
+      low = p.low;
+      high = p.high;
+    }
 
 -- the greatest height of a page
 abbrev pub max_height : ℕ

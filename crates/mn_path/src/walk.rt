@@ -29,7 +29,13 @@ impl<'a> Model for Front<'a> {
 
     ghost Value = { FrontState };
 
-    ghost view = { λ f. record { made = f.made; copied = f.copied; height = f.height; low = f.low.now; high = option_map (λ h. h.now) f.high } };
+    ghost view = { λ f. record {
+      made = f.made;
+      copied = f.copied;
+      height = f.height;
+      low = f.low.now;
+      high = option_map (λ h. h.now) f.high;
+    } };
 }
 
 /// The height of a page with this body; that of a leaf is 0.

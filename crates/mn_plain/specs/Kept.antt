@@ -1,12 +1,22 @@
 -- What a kept list of versions stands for, and the version of a name in it.
-use Rattle.std.specs.Prelude.{◌≡◌, ℕ, List, ◌∷◌, [], ◌++◌, Option, None, Some, false, map, option_map, slice_get, set}
+use Rattle.std.specs.Prelude.{◌≡◌, ℕ, List, ◌∷◌, [], ◌++◌, Option, None, Some, false, map}
+use Rattle.std.specs.Prelude.{option_map, slice_get, set}
 use Rattle.mn_base.specs.declared.reply.Pair.{Pair}
-use Rattle.mn_base.specs.Store.{Store, StoreVersion, heads_of, head_named, number_named, pairs_named, with_pairs, with_frozen, frozen_head}
+use Rattle.mn_base.specs.Store.{Store, StoreVersion, heads_of, head_named, number_named}
+use Rattle.mn_base.specs.Store.{pairs_named, with_pairs, with_frozen, frozen_head}
 use Rattle.mn_plain.specs.declared.version.Kept.{Kept}
 use Rattle.mn_plain.specs.declared.version.Place.{Place}
 
 abbrev pub version_of : Kept → StoreVersion
-version_of k = record { head = record { name = k.name; parent = option_map (λ p. p.0) k.parent; frozen = k.frozen }; pairs = k.pairs }
+version_of k =
+    record {
+      head = record {
+        name = k.name;
+        parent = option_map (λ p. p.0) k.parent;
+        frozen = k.frozen;
+      };
+      pairs = k.pairs;
+    }
 
 abbrev pub store_of : List Kept → Store
 store_of versions = map version_of versions
@@ -17,22 +27,35 @@ pub record IsNamed (store : Store) (name : List ℕ) (at : ℕ) (version : Store
   pub number : number_named (heads_of store) name ≡ Some at
   pub head : head_named (heads_of store) name ≡ Some version.head
   pub pairs : pairs_named store name ≡ version.pairs
-  pub changed : (ps : List Pair) → with_pairs store name ps ≡ set store at (record version { pairs = ps })
-  pub frozen : with_frozen store name ≡ set store at (record version { head = frozen_head version.head })
+  pub changed : (ps : List Pair)
+      → with_pairs store name ps ≡ set store at (record version { pairs = ps })
+  pub frozen : with_frozen store name
+      ≡ set store at (record version { head = frozen_head version.head })
 
 -- where the version of this name stands, and whether it is frozen, if it is there
 abbrev pub IsPlace : Store → List ℕ → Option Place → Type 0
 IsPlace store name None = head_named (heads_of store) name ≡ None
-IsPlace store name (Some place) = (version : StoreVersion) × IsNamed store name place.at version × (place.frozen ≡ version.head.frozen)
+IsPlace store name (Some place) =
+    (version : StoreVersion) × IsNamed store name place.at version
+    × (place.frozen ≡ version.head.frozen)
 
 -- the version with this number, with other pairs
 abbrev pub SetsPairs : (List Pair → List Pair) → Store → ℕ → Store → Type 0
-SetsPairs change old at new = (version : StoreVersion) → slice_get old at ≡ Some version → new ≡ set old at (record version { pairs = change version.pairs })
+SetsPairs change old at new =
+    (version : StoreVersion) → slice_get old at ≡ Some version
+    → new ≡ set old at (record version { pairs = change version.pairs })
 
 -- the version with this number, frozen
 abbrev pub Freezes : Store → ℕ → Store → Type 0
-Freezes old at new = (version : StoreVersion) → slice_get old at ≡ Some version → new ≡ set old at (record version { head = frozen_head version.head })
+Freezes old at new =
+    (version : StoreVersion) → slice_get old at ≡ Some version
+    → new ≡ set old at (record version { head = frozen_head version.head })
 
 -- a writable child of the version with this number stands at the end
 abbrev pub AddsChild : Store → ℕ → List ℕ → Store → Type 0
-AddsChild old at name new = (version : StoreVersion) → slice_get old at ≡ Some version → new ≡ old ++ record { head = record { name = name; parent = Some at; frozen = false }; pairs = version.pairs } ∷ []
+AddsChild old at name new =
+    (version : StoreVersion) → slice_get old at ≡ Some version
+    → new ≡ old ++ record {
+      head = record { name = name; parent = Some at; frozen = false };
+      pairs = version.pairs;
+    } ∷ []

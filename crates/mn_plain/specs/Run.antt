@@ -1,5 +1,6 @@
 -- What the steps of a transaction leave and find, step after step.
-use Rattle.std.specs.Prelude.{◌≡◌, ℕ, Bool, true, false, List, [], ◌∷◌, ◌++◌, Result, Ok, Err, Option, None, Some, if◌then◌else◌, bytes_eq}
+use Rattle.std.specs.Prelude.{◌≡◌, ℕ, Bool, true, false, List, [], ◌∷◌, ◌++◌, Result, Ok, Err}
+use Rattle.std.specs.Prelude.{Option, None, Some, if◌then◌else◌, bytes_eq}
 use Rattle.mn_base.specs.declared.error.NoMemory.{NoMemory}
 use Rattle.mn_base.specs.declared.op.Op.{Op}
 use Rattle.mn_base.specs.declared.op.Step.{Step}
@@ -7,7 +8,8 @@ use Rattle.mn_base.specs.declared.op.Step.TheVariants.{Put, Del}
 use Rattle.mn_base.specs.declared.reply.Pair.{Pair}
 use Rattle.mn_base.specs.declared.reply.Reply.{Reply}
 use Rattle.mn_base.specs.declared.reply.Reply.TheVariants as says
-use Rattle.mn_base.specs.Store.{Store, applied, pairs_after_step, is_unmet, noted_by, step_key, value_at}
+use Rattle.mn_base.specs.Store.{Store, applied, pairs_after_step, is_unmet, noted_by, step_key}
+use Rattle.mn_base.specs.Store.{value_at}
 
 -- the pairs after these steps
 abbrev pub pairs_after : List Pair → List Step → List Pair
@@ -27,9 +29,11 @@ left_by_all found (step ∷ steps) key = left_by_all (left_by found step key) st
 
 -- what a step tells of the pairs: a Get adds what it finds to the values, and a Check that is not
 -- met answers what it finds
-abbrev pub StepTells : List Pair → Step → List (Option (List ℕ)) → List (Option (List ℕ)) → Option (Option (List ℕ)) → Type 0
+abbrev pub StepTells : List Pair → Step → List (Option (List ℕ)) → List (Option (List ℕ))
+    → Option (Option (List ℕ)) → Type 0
 StepTells ps step old new None = (is_unmet ps step ≡ false) × (new ≡ old ++ noted_by ps step)
-StepTells ps step old new (Some found) = (is_unmet ps step ≡ true) × (value_at ps (step_key step) ≡ found) × (new ≡ old)
+StepTells ps step old new (Some found) =
+    (is_unmet ps step ≡ true) × (value_at ps (step_key step) ≡ found) × (new ≡ old)
 
 -- the pairs that steps with this reply leave: after an unmet Check the old ones
 abbrev pub pairs_left : List Pair → List Step → Reply → List Pair

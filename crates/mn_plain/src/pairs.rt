@@ -1,4 +1,6 @@
-ghost use Rattle.std.specs.Prelude.{◌≡◌, ◌≤◌, ◌<◌, ◌+◌, not, ℕ, List, [], ◌∷◌, ◌++◌, length, take, set, insert, bytes_eq, unwrap_or, option_map, IfOk, IfErr, OnOk, vec_len, vec_capacity};
+ghost use Rattle.std.specs.Prelude.{◌≡◌, ◌≤◌, ◌<◌, ◌+◌, not, ℕ, List, [], ◌∷◌, ◌++◌, length, take};
+ghost use Rattle.std.specs.Prelude.{set, insert, bytes_eq, unwrap_or, option_map, IfOk, IfErr};
+ghost use Rattle.std.specs.Prelude.{OnOk, vec_len, vec_capacity};
 ghost use Rattle.mn_base.specs.Store.{pairs_with, pairs_without, pairs_within, value_at};
 ghost use Rattle.mn_base.specs.Order.{key_le, below_bound};
 
@@ -21,9 +23,11 @@ pub fn value_of<'a>(pairs: &'a [Pair], key: &Key) -> Option<&'a Value>
 /// Where the pair of a key stands, or where it would go.
 fn place_of(pairs: &[Pair], key: &Key) -> Result<usize, usize>
     ensures here { IfOk result (λ at. (at < length pairs.now)
-        × ((value : List ℕ) → set pairs.now at (record { key = key.now; value = value }) ≡ pairs_with pairs.now key.now value)) }
+        × ((value : List ℕ) → set pairs.now at (record { key = key.now; value = value })
+        ≡ pairs_with pairs.now key.now value)) }
     ensures gap { IfErr result (λ at. (at ≤ length pairs.now)
-        × ((value : List ℕ) → insert pairs.now at (record { key = key.now; value = value }) ≡ pairs_with pairs.now key.now value)) }
+        × ((value : List ℕ) → insert pairs.now at (record { key = key.now; value = value })
+        ≡ pairs_with pairs.now key.now value)) }
 {
     for (at, pair) in pairs.iter().enumerate() {
         match key.as_slice().cmp(pair.key.as_slice()) {
@@ -94,7 +98,8 @@ fn push_within(
     low: &Option<Key>,
     high: &Option<Key>,
 ) -> Result<(), NoMemory>
-    ensures pairs { OnOk result (found.new.items ≡ found.old.items ++ pairs_within (pair.now ∷ []) low.now high.now) }
+    ensures pairs { OnOk result (found.new.items
+        ≡ found.old.items ++ pairs_within (pair.now ∷ []) low.now high.now) }
     ensures len { OnOk result (length found.new.items ≤ length found.old.items + 1) }
 {
     if is_from(&pair.key, low) && is_below(&pair.key, high) {
@@ -112,7 +117,8 @@ pub fn within(
     high: &Option<Key>,
     limit: u32,
 ) -> Result<Vec<Pair>, NoMemory>
-    ensures { IfOk result (λ found. found.items ≡ take limit (pairs_within pairs.now low.now high.now)) }
+    ensures { IfOk result (λ found. found.items
+        ≡ take limit (pairs_within pairs.now low.now high.now)) }
 {
     let mut found = Vec::new(alloc);
     for pair in pairs {

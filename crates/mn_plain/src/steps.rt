@@ -1,4 +1,5 @@
-ghost use Rattle.std.specs.Prelude.{◌≡◌, ◌≤◌, ◌<◌, ◌+◌, not, true, false, length, IfOk, OnOk, OnErr, option_map, bytes_eq, vec_len, vec_capacity};
+ghost use Rattle.std.specs.Prelude.{◌≡◌, ◌≤◌, ◌<◌, ◌+◌, not, true, false, length, IfOk, OnOk};
+ghost use Rattle.std.specs.Prelude.{OnErr, option_map, bytes_eq, vec_len, vec_capacity};
 ghost use Rattle.std.specs.List.{list_any};
 ghost use Rattle.std.specs.Option.{option_eq};
 ghost use Rattle.mn_base.specs.Store.{ran, is_change, value_at, pairs_after_step};
@@ -10,7 +11,8 @@ use std::alloc::Global;
 
 /// What a key has after a step, when it had this before.
 fn left<'a>(found: Option<&'a Value>, step: &'a Step, key: &Key) -> Option<&'a Value>
-    ensures { option_map (λ v. v.now) result ≡ left_by (option_map (λ v. v.now) found.entry) step.now key.now }
+    ensures { option_map (λ v. v.now) result
+        ≡ left_by (option_map (λ v. v.now) found.entry) step.now key.now }
 {
     match step {
         Step::Put { key: other, value } => {
@@ -70,7 +72,8 @@ fn note(
     step: &Step,
     values: &mut Vec<Option<Value>>,
 ) -> Result<Option<Option<Value>>, NoMemory>
-    ensures { IfOk result (StepTells (pairs_after pairs.now before.now) step.now values.old.items values.new.items) }
+    ensures { IfOk result (StepTells
+        (pairs_after pairs.now before.now) step.now values.old.items values.new.items) }
 {
     match step {
         Step::Get { key } => {
@@ -91,7 +94,8 @@ fn note(
 /// The reply to a transaction of these steps. The pairs stay as they are.
 pub fn reply_to(alloc: Global, pairs: &[Pair], steps: &[Step]) -> Result<Reply, NoMemory>
     requires { length steps.now ≤ 16 }
-    ensures { IfOk result (λ reply. ran pairs.now steps.now ≡ record { pairs = pairs_left pairs.now steps.now reply; reply = reply }) }
+    ensures { IfOk result (λ reply. ran pairs.now steps.now
+        ≡ record { pairs = pairs_left pairs.now steps.now reply; reply = reply }) }
 {
     let mut values = Vec::new(alloc);
     for (at, step) in steps.iter().enumerate() {

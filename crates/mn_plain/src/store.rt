@@ -1,5 +1,7 @@
-ghost use Rattle.std.specs.Prelude.{◌≡◌, ◌<◌, ◌&&◌, not, length, IfOk, IfNone, IsTrue, OnOk, OnErr, IsSomeAnd, slice_get, option_map, option_and_then};
-ghost use Rattle.mn_base.specs.Store.{applied, empty_store, main_store, heads_of, is_ascending, listed, listing_of, child_refusal, max_versions};
+ghost use Rattle.std.specs.Prelude.{◌≡◌, ◌<◌, ◌&&◌, not, length, IfOk, IfNone, IsTrue, OnOk, OnErr};
+ghost use Rattle.std.specs.Prelude.{IsSomeAnd, slice_get, option_map, option_and_then};
+ghost use Rattle.mn_base.specs.Store.{applied, empty_store, main_store, heads_of, is_ascending};
+ghost use Rattle.mn_base.specs.Store.{listed, listing_of, child_refusal, max_versions};
 ghost use Rattle.mn_base.specs.Stores.{IsStore};
 ghost use Rattle.mn_plain.specs.Run.{Does, is_unmet_reply, pairs_after};
 ghost use Rattle.mn_plain.specs.Digest.{pairs_digest};
@@ -56,7 +58,8 @@ fn place_of(versions: &[Kept], name: &Name) -> Option<Place>
 
 /// The name of a version.
 fn name_at(versions: &[Kept], at: usize) -> Option<&Name>
-    ensures { option_map (λ n. n.now) result ≡ option_map (λ p. p.name) (slice_get (heads_of (store_of versions.now)) at) }
+    ensures { option_map (λ n. n.now) result
+        ≡ option_map (λ p. p.name) (slice_get (heads_of (store_of versions.now)) at) }
 {
     if at < versions.len() {
         Some(&versions[at].name)
@@ -67,7 +70,9 @@ fn name_at(versions: &[Kept], at: usize) -> Option<&Name>
 
 /// The name of a version's parent.
 fn parent_name(versions: &[Kept], parent: Option<VersionNo>) -> Option<&Name>
-    ensures { option_map (λ n. n.now) result ≡ option_and_then (λ n. option_map (λ p. p.name) (slice_get (heads_of (store_of versions.now)) n)) (option_map (λ n. n.0) parent) }
+    ensures { option_map (λ n. n.now) result
+        ≡ option_and_then (λ n. option_map (λ p. p.name)
+        (slice_get (heads_of (store_of versions.now)) n)) (option_map (λ n. n.0) parent) }
 {
     match parent {
         Some(number) => name_at(versions, usize::from(number.0)),
@@ -86,7 +91,8 @@ fn copy_of_name(alloc: Global, name: Option<&Name>) -> Result<Option<Name>, NoMe
 
 /// What a listing says of a version among these.
 fn listed_of(alloc: Global, versions: &[Kept], version: &Kept) -> Result<Version, NoMemory>
-    ensures { IfOk result (λ line. line ≡ listed (heads_of (store_of versions.now)) (version_of version.now).head) }
+    ensures { IfOk result (λ line. line
+        ≡ listed (heads_of (store_of versions.now)) (version_of version.now).head) }
 {
     Ok(Version {
         name: version.name.try_copy(alloc)?,
@@ -128,7 +134,8 @@ fn take_at(
     steps: &Steps,
 ) -> Result<(), NoMemory>
     requires { at < length versions.old.items }
-    ensures taken { OnOk result (SetsPairs (λ ps. pairs_after ps steps.now) (store_of versions.old.items) at (store_of versions.new.items)) }
+    ensures taken { OnOk result (SetsPairs (λ ps. pairs_after ps steps.now)
+        (store_of versions.old.items) at (store_of versions.new.items)) }
     ensures kept { OnErr result (store_of versions.new.items ≡ store_of versions.old.items) }
 {
     let steps = steps.try_copy(alloc)?.into_vec();
@@ -156,7 +163,8 @@ fn add_child_of(
 ) -> Result<(), NoMemory>
     requires there { at < length versions.old.items }
     requires room { length versions.old.items < max_versions }
-    ensures added { OnOk result (AddsChild (store_of versions.old.items) at child.now (store_of versions.new.items)) }
+    ensures added { OnOk result (AddsChild (store_of versions.old.items) at child.now
+        (store_of versions.new.items)) }
     ensures kept { OnErr result (store_of versions.new.items ≡ store_of versions.old.items) }
 {
     let kept = Kept {
@@ -359,7 +367,8 @@ impl Store {
     /// memory for these bytes.
     pub fn digest(&self, alloc: Global, version: VersionNo) -> Result<[u8; 32], NoMemory>
         requires { version.0 < length self.now }
-        ensures { IfOk result (λ digest. IsSomeAnd (slice_get self.now version.0) (λ kept. digest ≡ pairs_digest kept.pairs)) }
+        ensures { IfOk result (λ digest.
+            IsSomeAnd (slice_get self.now version.0) (λ kept. digest ≡ pairs_digest kept.pairs)) }
     {
         digest_of(alloc, self.pairs(version).as_slice())
     }

@@ -487,7 +487,8 @@ fn are_whole(spaces: &[Bytes]) -> bool
 
 /// Whether there are 1 to 8 spaces of full size.
 fn may_be_checked(spaces: &Spaces) -> bool
-    ensures { OnTrue result ((1 ≤ length spaces.now) × (length spaces.now ≤ 8) × AllByRecursion (λ space. length space ≡ space_size) spaces.now) }
+    ensures { OnTrue result ((1 ≤ length spaces.now) × (length spaces.now ≤ 8)
+        × AllByRecursion (λ space. length space ≡ space_size) spaces.now) }
 {
     let spaces = spaces.as_slice();
     if spaces.is_empty() || spaces.len() > 8 {

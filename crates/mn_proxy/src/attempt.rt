@@ -1,4 +1,5 @@
-ghost use Rattle.std.specs.Prelude.{◌≡◌, ◌≢◌, ◌≤◌, ◌<◌, ◌+◌, [], List, Some, None, IfOk, IfSome, OnOk};
+ghost use Rattle.std.specs.Prelude.{◌≡◌, ◌≢◌, ◌≤◌, ◌<◌, ◌+◌, [], List, Some, None, IfOk, IfSome};
+ghost use Rattle.std.specs.Prelude.{OnOk};
 ghost use Rattle.std.specs.Prelude.{MatchOption, length, nat_eq, slice_get, true, false};
 ghost use Rattle.std.specs.Option.{option_map};
 ghost use Rattle.mn_alloc.specs.Plan.{new_slots, free_slots};
@@ -16,7 +17,8 @@ ghost use Rattle.mn_proxy.specs.Among.{FaultIsMet};
 ghost use Rattle.mn_proxy.specs.Answers.{worn_by};
 ghost use Rattle.mn_proxy.specs.Attempts.{Asks, CameBySteps, CountsOn};
 ghost use Rattle.mn_proxy.specs.Attempts.{ComesIn, HasCounts, HasUnmet, IsFault, IsTold, RunsOn};
-ghost use Rattle.mn_proxy.specs.Attempts.{IsBegun, KeepsSteps, MovesFurther, RunsFurther, SameButFound};
+ghost use Rattle.mn_proxy.specs.Attempts.{IsBegun, KeepsSteps, MovesFurther, RunsFurther};
+ghost use Rattle.mn_proxy.specs.Attempts.{SameButFound};
 ghost use Rattle.mn_proxy.specs.Attempts.{IsNextStep, IsOnItsWay, KeepsVersion, MovesOn};
 ghost use Rattle.mn_proxy.specs.Attempts.{SameButCounts, StaysOnItsWay, TakesRead, WantsNext};
 ghost use Rattle.mn_proxy.specs.Attempts.{was_read};
@@ -341,7 +343,8 @@ impl Attempt {
         requires node { addr.node.0 < known.old.nodes }
         ensures kept { KeepsKnown known.old known.new }
         ensures stays { KeepsVersion self.old self.new }
-        ensures taken { IfOk result (TakesRead known.old later steps.now self.old addr bytes self.new) }
+        ensures taken { IfOk result (TakesRead known.old later steps.now self.old addr bytes
+            self.new) }
         ensures way { IfOk result (CameBySteps known.new steps.now self.new) }
     {
         pages_are_known();
@@ -471,7 +474,8 @@ impl Attempt {
         requires nodes { (1 ≤ known.now.nodes) × (known.now.nodes ≤ 8) }
         requires way { IsOnItsWay known.now steps.now self.old }
         requires done { self.old.done ≡ length steps.now }
-        requires slots { slots.now ≡ new_slots self.old.overlay.draft.overlay.fresh self.old.counts.items }
+        requires slots { slots.now ≡ new_slots self.old.overlay.draft.overlay.fresh
+            self.old.counts.items }
         requires counts { HasCounts known.now self.old counts.now slots.now }
         ensures stays { KeepsVersion self.old self.new }
         ensures pages { self.new.pages ≡ self.old.pages }

@@ -2,7 +2,8 @@ ghost use Rattle.std.specs.Prelude.{◌≡◌, false, true, IfOk, OnOk};
 ghost use Rattle.mn_page.specs.Grammar.{IsPage};
 ghost use Rattle.mn_scan.specs.Scan.{IsNeeded};
 ghost use Rattle.mn_proxy.specs.Knows.{ArePages, KeepsKnown};
-ghost use Rattle.mn_proxy.specs.Scans.{FailsOffNodes, IsUnmoved, StaysBefore, ScanGoesOn, TakesPage};
+ghost use Rattle.mn_proxy.specs.Scans.{FailsOffNodes, IsUnmoved, StaysBefore, ScanGoesOn};
+ghost use Rattle.mn_proxy.specs.Scans.{TakesPage};
 ghost use Rattle.mn_proxy.specs.Scans.{WalksAlike, WantsNext, goes_by_kept, passage_of};
 ghost use Rattle.mn_proxy.specs.Walks.{IsAbove};
 

@@ -16,12 +16,14 @@ use Rattle.mn_recov.specs.Recovery.{Recovery, participant, step_of, fed}
 
 -- the list shows the votes: a yes of each that has voted, or a no
 abbrev pub ShowsVotes : List Entry → Tid → List NodeNo → ℕ → Bool → Type 0
-ShowsVotes es tid participants voted true = (i : ℕ) → i < voted → has_yes tid (participant participants i) es ≡ true
+ShowsVotes es tid participants voted true =
+    (i : ℕ) → i < voted → has_yes tid (participant participants i) es ≡ true
 ShowsVotes es tid participants voted false = has_no tid es ≡ true
 
 abbrev pub ShowsStage : List Entry → Tid → RecovStage → Type 0
 ShowsStage es tid (Looking node) = ⊤
-ShowsStage es tid (Found participants voted verdict decided) = WasListed tid participants es × ShowsVotes es tid participants voted verdict
+ShowsStage es tid (Found participants voted verdict decided) =
+    WasListed tid participants es × ShowsVotes es tid participants voted verdict
 
 -- the client's list, newest first, holds what the recovery was answered; the client has no such
 -- plan of its own in doubt
@@ -36,7 +38,8 @@ MayMake es (Ended verdict) = ⊤
 
 -- the entry is this request with its reply
 abbrev pub IsAnswered : Entry → NodeNo → Request → NodeReply → Type 0
-IsAnswered e node request reply = call_in e.node e.what ≡ record { node = node; request = request; reply = reply } ∷ []
+IsAnswered e node request reply =
+    call_in e.node e.what ≡ record { node = node; request = request; reply = reply } ∷ []
 
 -- what it wants next is allowed
 abbrev pub StepsAreAllowed : Type 0
@@ -45,7 +48,9 @@ StepsAreAllowed = (es : List Entry) (r : Recovery) → Agrees es r → MayMake e
 -- with the answer in the list it still agrees; a reply that is no entry changes nothing
 abbrev pub AnswersAgree : Type 0
 AnswersAgree =
-    (es : List Entry) (e : Entry) (r : Recovery) (node : NodeNo) (request : Request) (reply : NodeReply) → Agrees es r → step_of r ≡ Send node request → IsAnswered e node request reply
+    (es : List Entry) (e : Entry) (r : Recovery) (node : NodeNo) (request : Request)
+    (reply : NodeReply) → Agrees es r → step_of r ≡ Send node request
+    → IsAnswered e node request reply
     → Agrees (e ∷ es) (fed r reply)
 
 abbrev pub NoAnswerAgrees : Type 0

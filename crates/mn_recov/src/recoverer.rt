@@ -28,13 +28,16 @@ impl Model for Recoverer {
 
     ghost view = { λ r. record { tid = r.tid; nodes = r.nodes; stage = r.stage } };
 
-    ghost invariant = { λ r. IsSoundRecovery (record { tid = r.tid; nodes = r.nodes; stage = r.stage }) };
+    ghost invariant = { λ r. IsSoundRecovery
+        (record { tid = r.tid; nodes = r.nodes; stage = r.stage }) };
 }
 
 /// Where the list has the id.
 fn place_of(tid: Tid, doubts: &[Doubt]) -> Option<usize>
     ensures none { IfNone result (lists_doubt tid doubts.now ≡ None) }
-    ensures some { IfSome result (λ at. (at < length doubts.now) × ((d : Doubt) → slice_get doubts.now at ≡ Some d → lists_doubt tid doubts.now ≡ Some d.participants)) }
+    ensures some { IfSome result (λ at. (at < length doubts.now)
+        × ((d : Doubt) → slice_get doubts.now at ≡ Some d
+        → lists_doubt tid doubts.now ≡ Some d.participants)) }
 {
     for (at, doubt) in doubts.iter().enumerate() {
         if doubt.tid == tid {
@@ -161,8 +164,11 @@ impl Recoverer {
     pub fn feed(&mut self, reply: NodeReply)
         requires out { IsSend (step_of self.old) }
         ensures fed { self.new ≡ fed self.old reply }
-        ensures agrees { (es : List Entry) (e : Entry) (node : NodeNo) (request : Request) → Agrees es self.old → step_of self.old ≡ Send node request → IsAnswered e node request reply → Agrees (e ∷ es) self.new }
-        ensures no_entry { (reply ≡ NodeReply.NoMemory) → ((es : List Entry) → Agrees es self.old → Agrees es self.new) }
+        ensures agrees { (es : List Entry) (e : Entry) (node : NodeNo) (request : Request)
+            → Agrees es self.old → step_of self.old ≡ Send node request
+            → IsAnswered e node request reply → Agrees (e ∷ es) self.new }
+        ensures no_entry { (reply ≡ NodeReply.NoMemory)
+            → ((es : List Entry) → Agrees es self.old → Agrees es self.new) }
     {
         self.advance(reply);
     }

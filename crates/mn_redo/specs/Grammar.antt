@@ -1,5 +1,6 @@
 -- What the bytes of a disk stand for.
-use Rattle.std.specs.Prelude.{◌<◌, ◌≤◌, ◌≡◌, ◌≢◌, ◌⊎◌, ◌^◌, ℕ, zero, suc, ◌+◌, List, [], ◌∷◌, ◌++◌, length, take, drop, get_or, if◌then◌else◌, ◌==◌}
+use Rattle.std.specs.Prelude.{◌<◌, ◌≤◌, ◌≡◌, ◌≢◌, ◌⊎◌, ◌^◌, ℕ, zero, suc, ◌+◌, List, [], ◌∷◌, ◌++◌}
+use Rattle.std.specs.Prelude.{length, take, drop, get_or, if◌then◌else◌, ◌==◌}
 use Rattle.std.specs.Int.{w32, to_be_bytes, from_be_bytes}
 
 -- the first 16 bytes: an open gate, the letters MNLOG, the format, the number of the node, that of
@@ -35,7 +36,8 @@ IsFresh content = (length content < 17) ⊎ (get_or content 0 0 ≢ 1)
 
 -- a fresh disk stands for no bodies, and one with a header for those of its log
 abbrev pub Stands : ℕ → ℕ → List ℕ → List (List ℕ) → Type 0
-Stands node nodes content bodies = (IsFresh content × (bodies ≡ [])) ⊎ IsLog (header node nodes) content bodies
+Stands node nodes content bodies =
+    (IsFresh content × (bodies ≡ [])) ⊎ IsLog (header node nodes) content bodies
 
 -- the places of the gates of these bodies' records, where the first is at this place
 abbrev pub places : ℕ → List (List ℕ) → List ℕ
@@ -57,15 +59,20 @@ pub record IsDamagedAt (before content : List ℕ) (at : ℕ) : Type 0 where
 
 -- where bytes are outside the grammar: at 0 for the header, or at the gate of a record
 abbrev pub IsDamaged : ℕ → ℕ → List ℕ → ℕ → Type 0
-IsDamaged node nodes content at = ((IsFresh content → ⊥) × (take 16 content ≢ header node nodes) × (at ≡ 0)) ⊎ IsDamagedAt (header node nodes) content at
+IsDamaged node nodes content at =
+    ((IsFresh content → ⊥) × (take 16 content ≢ header node nodes) × (at ≡ 0))
+    ⊎ IsDamagedAt (header node nodes) content at
 
 -- the bytes stand for the list, with one more or without it
 abbrev pub IsBeforeOrAfter : ℕ → ℕ → List (List ℕ) → List ℕ → List ℕ → Type 0
-IsBeforeOrAfter node nodes bodies body content = Stands node nodes content bodies ⊎ Stands node nodes content (bodies ++ body ∷ [])
+IsBeforeOrAfter node nodes bodies body content =
+    Stands node nodes content bodies ⊎ Stands node nodes content (bodies ++ body ∷ [])
 
 -- the same of bytes that have a header
 abbrev pub IsLogBeforeOrAfter : ℕ → ℕ → List (List ℕ) → List ℕ → List ℕ → Type 0
-IsLogBeforeOrAfter node nodes bodies body content = IsLog (header node nodes) content bodies ⊎ IsLog (header node nodes) content (bodies ++ body ∷ [])
+IsLogBeforeOrAfter node nodes bodies body content =
+    IsLog (header node nodes) content bodies
+    ⊎ IsLog (header node nodes) content (bodies ++ body ∷ [])
 
 -- behind other bytes: the open records of these bodies, up to this place
 pub record EndAt (before content : List ℕ) (at : ℕ) (bodies : List (List ℕ)) : Type 0 where
@@ -74,17 +81,22 @@ pub record EndAt (before content : List ℕ) (at : ℕ) (bodies : List (List ℕ
 
 -- the bodies of the whole records in front of the place of damage: a header that is none has none
 abbrev pub AreInFront : ℕ → ℕ → List ℕ → ℕ → List (List ℕ) → Type 0
-AreInFront node nodes content at bodies = ((at ≡ 0) × (bodies ≡ [])) ⊎ EndAt (header node nodes) content at bodies
+AreInFront node nodes content at bodies =
+    ((at ≡ 0) × (bodies ≡ [])) ⊎ EndAt (header node nodes) content at bodies
 
 -- the bodies of the open records at the front of these bytes, at most so many
 abbrev pub bodies_in : ℕ → List ℕ → List (List ℕ)
 bodies_in zero bytes = []
 bodies_in (suc fuel) [] = []
-bodies_in (suc fuel) (gate ∷ rest) = let n = from_be_bytes w32 (take 4 rest) in if gate == 1 then take n (drop 4 rest) ∷ bodies_in fuel (drop n (drop 4 rest)) else []
+bodies_in (suc fuel) (gate ∷ rest) =
+    let n =
+    from_be_bytes w32 (take 4 rest) in if gate == 1
+    then take n (drop 4 rest) ∷ bodies_in fuel (drop n (drop 4 rest)) else []
 
 -- behind other bytes: open records of these bodies, a closed gate with the record of one more
 -- behind it, a closed gate, and anything
-pub record IsStaged (before : List ℕ) (bodies : List (List ℕ)) (body content : List ℕ) : Type 0 where
+pub record IsStaged (before : List ℕ) (bodies : List (List ℕ)) (body content : List ℕ)
+    : Type 0 where
   pub gate : ℕ
   pub tail : List ℕ
   pub closed : gate ≢ 1

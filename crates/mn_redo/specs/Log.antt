@@ -1,5 +1,6 @@
 -- What a log in memory and its disk have in common.
-use Rattle.std.specs.Prelude.{◌<◌, ◌≤◌, ◌≡◌, ◌^◌, ◌*◌, ℕ, ◌+◌, List, [], ◌∷◌, ◌++◌, length, drop, vec_len, vec_capacity}
+use Rattle.std.specs.Prelude.{◌<◌, ◌≤◌, ◌≡◌, ◌^◌, ◌*◌, ℕ, ◌+◌, List, [], ◌∷◌, ◌++◌, length, drop}
+use Rattle.std.specs.Prelude.{vec_len, vec_capacity}
 use Rattle.mn_io.specs.DiskModel.{DiskState, IsStable}
 use Rattle.mn_redo.specs.Grammar.{header, records, HaveSizes, IsLog, bodies_in, places}
 use Rattle.mn_redo.specs.declared.log.Log.{Log}
@@ -25,7 +26,8 @@ pub record IsKept {D : Type 0} (log : Log D) : Type 0 where
   pub gates : log.gates.items ≡ places 16 (listed log)
 
 -- the room that its spare numbers promise
-pub record HasPromisedRoom {D : Type 0} (spare_changes spare_bytes : D → ℕ) (log : Log D) : Type 0 where
+pub record HasPromisedRoom {D : Type 0} (spare_changes spare_bytes : D → ℕ) (log : Log D)
+    : Type 0 where
   pub gates : vec_len log.gates + log.spare_bodies ≤ vec_capacity log.gates
   pub bytes : vec_len log.bytes + log.spare_bytes + 5 * log.spare_bodies ≤ vec_capacity log.bytes
   pub count : vec_len log.gates + log.spare_bodies < 2 ^ 32
@@ -44,7 +46,8 @@ pub record IsFrontKept (node nodes : ℕ) (bytes gates : List ℕ) : Type 0 wher
   pub count : length gates < 2 ^ 32
 
 -- a log that has a header, to which more can be appended
-pub record IsReady {D : Type 0} (state : D → DiskState) (spare_changes spare_bytes : D → ℕ) (log : Log D) : Type 0 where
+pub record IsReady {D : Type 0} (state : D → DiskState) (spare_changes spare_bytes : D → ℕ)
+    (log : Log D) : Type 0 where
   pub kept : IsKept log
   pub room : HasPromisedRoom spare_changes spare_bytes log
   pub on_disk : IsOnDisk state log

@@ -27,7 +27,8 @@ abbrev pub HasHeader : DiskState → Type 0
 HasHeader disk = (c : List ℕ) → disk.images c → IsFresh c → ⊥
 
 -- a log that has no header on its disk yet, with room for it
-pub record IsBlank {D : Type 0} (state : D → DiskState) (spare_changes spare_bytes : D → ℕ) (log : Log D) : Type 0 where
+pub record IsBlank {D : Type 0} (state : D → DiskState) (spare_changes spare_bytes : D → ℕ)
+    (log : Log D) : Type 0 where
   pub none : listed log ≡ []
   pub kept : IsKept log
   pub room : HasPromisedRoom spare_changes spare_bytes log
@@ -37,6 +38,7 @@ pub record IsBlank {D : Type 0} (state : D → DiskState) (spare_changes spare_b
   pub stable : (state log.disk).honest → IsStable (state log.disk)
 
 -- what is so of a log in each phase; of one that is closing, nothing
-pub record IsSound {D : Type 0} (state : D → DiskState) (spare_changes spare_bytes : D → ℕ) (phase : Phase) (log : Log D) : Type 0 where
+pub record IsSound {D : Type 0} (state : D → DiskState) (spare_changes spare_bytes : D → ℕ)
+    (phase : Phase) (log : Log D) : Type 0 where
   pub blank : phase ≡ Fresh → IsBlank state spare_changes spare_bytes log
   pub ready : phase ≡ Started → IsReady state spare_changes spare_bytes log

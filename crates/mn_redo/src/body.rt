@@ -8,7 +8,8 @@ fn end_of(bytes: &[u8], gates: &[u64], node: u8, nodes: u8, number: usize) -> us
     requires gates { gates.now ≡ places 16 (listed_in 16 bytes.now) }
     requires number { number < length (listed_in 16 bytes.now) }
     ensures within { result ≤ length bytes.now }
-    ensures end { result ≡ get_or gates.now number 0 + 5 + length (get_or (listed_in 16 bytes.now) number []) }
+    ensures end { result ≡ get_or gates.now number 0 + 5
+        + length (get_or (listed_in 16 bytes.now) number []) }
 {
     if number < gates.len() - 1 {
         return gates[number + 1] as usize;

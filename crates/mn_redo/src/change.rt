@@ -1,4 +1,5 @@
-ghost use Rattle.std.specs.Prelude.{◌≡◌, ◌≤◌, ◌+◌, ◌++◌, ◌∷◌, [], ◌<◌, ◌^◌, length, OnOk, vec_len, vec_capacity};
+ghost use Rattle.std.specs.Prelude.{◌≡◌, ◌≤◌, ◌+◌, ◌++◌, ◌∷◌, [], ◌<◌, ◌^◌, length, OnOk, vec_len};
+ghost use Rattle.std.specs.Prelude.{vec_capacity};
 ghost use Rattle.std.specs.Int.{w32, to_be_bytes};
 ghost use Rattle.mn_io.specs.Faults.{HasCause};
 ghost use Rattle.mn_io.specs.DiskModel.{IsStable, LeavesOnly, Torn, written_at};
@@ -12,11 +13,15 @@ pub fn change<D: Disk>(disk: &mut D, at: u64, piece: &[u8]) -> Result<(), Failed
     requires stable { (D.state disk.old).honest → IsStable (D.state disk.old) }
     requires changes { 2 ≤ D.spare_changes disk.old }
     requires room { length piece.now ≤ D.spare_bytes disk.old }
-    ensures written { (D.state disk.old).honest → OnOk result ((D.state disk.new).content ≡ written_at (D.state disk.old).content at piece.now) }
+    ensures written { (D.state disk.old).honest
+        → OnOk result ((D.state disk.new).content
+        ≡ written_at (D.state disk.old).content at piece.now) }
     ensures stable { (D.state disk.old).honest → OnOk result (IsStable (D.state disk.new)) }
     ensures honest { (D.state disk.old).honest → (D.state disk.new).honest }
     ensures no_better { (D.state disk.new).honest → (D.state disk.old).honest }
-    ensures any_moment { (D.state disk.old).honest → LeavesOnly (D.state disk.old) (D.state disk.new) (Torn at (length piece.now) (D.state disk.old).content) }
+    ensures any_moment { (D.state disk.old).honest
+        → LeavesOnly (D.state disk.old) (D.state disk.new)
+        (Torn at (length piece.now) (D.state disk.old).content) }
     ensures changes { D.spare_changes disk.old ≤ D.spare_changes disk.new + 2 }
     ensures bytes { D.spare_bytes disk.old ≤ D.spare_bytes disk.new + length piece.now }
     ensures cause { HasCause (D.faults disk.old) (D.faults disk.new) result }

@@ -45,8 +45,12 @@ impl Front {
         nodes: u8,
         at: u64,
     ) -> Result<Front, OpenCause>
-        ensures front { (D.state disk.old).honest → IsDamaged node.0 nodes (D.state disk.old).content at → IfOk result (AreInFront node.0 nodes (D.state disk.old).content at) }
-        ensures damaged { (D.state disk.old).honest → IsDamaged node.0 nodes (D.state disk.old).content at → (other : ℕ) → IsErrOf result (causes.Damaged other) → ⊥ }
+        ensures front { (D.state disk.old).honest
+            → IsDamaged node.0 nodes (D.state disk.old).content at
+            → IfOk result (AreInFront node.0 nodes (D.state disk.old).content at) }
+        ensures damaged { (D.state disk.old).honest
+            → IsDamaged node.0 nodes (D.state disk.old).content at → (other : ℕ)
+            → IsErrOf result (causes.Damaged other) → ⊥ }
         ensures fault { IsErrOf result causes.Fault → Rose (D.faults disk.old) (D.faults disk.new) }
         ensures later { D.faults disk.old ≤ D.faults disk.new }
 

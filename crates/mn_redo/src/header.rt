@@ -1,4 +1,5 @@
-ghost use Rattle.std.specs.Prelude.{◌≡◌, ◌≤◌, ◌<◌, ◌+◌, ◌++◌, ◌∷◌, [], ◌↔◌, length, take, OnOk, IsTrue};
+ghost use Rattle.std.specs.Prelude.{◌≡◌, ◌≤◌, ◌<◌, ◌+◌, ◌++◌, ◌∷◌, [], ◌↔◌, length, take, OnOk};
+ghost use Rattle.std.specs.Prelude.{IsTrue};
 ghost use Rattle.mn_io.specs.Faults.{HasCause};
 ghost use Rattle.mn_io.specs.DiskModel.{IsStable, LeavesOnly, Cut};
 ghost use Rattle.mn_redo.specs.Grammar.{header, IsFresh, IsLog, Stands};
@@ -36,7 +37,8 @@ pub fn empty<D: Disk>(disk: &mut D) -> Result<(), Failed>
     ensures stable { (D.state disk.old).honest → OnOk result (IsStable (D.state disk.new)) }
     ensures honest { (D.state disk.old).honest → (D.state disk.new).honest }
     ensures no_better { (D.state disk.new).honest → (D.state disk.old).honest }
-    ensures any_moment { (D.state disk.old).honest → LeavesOnly (D.state disk.old) (D.state disk.new) (Cut 0 (D.state disk.old).content) }
+    ensures any_moment { (D.state disk.old).honest
+        → LeavesOnly (D.state disk.old) (D.state disk.new) (Cut 0 (D.state disk.old).content) }
     ensures changes { D.spare_changes disk.old ≤ D.spare_changes disk.new + 2 }
     ensures bytes { D.spare_bytes disk.old ≤ D.spare_bytes disk.new }
     ensures cause { HasCause (D.faults disk.old) (D.faults disk.new) result }
@@ -54,11 +56,13 @@ pub fn write_header<D: Disk>(disk: &mut D, node: u8, nodes: u8, bytes: &[u8]) ->
     requires stable { (D.state disk.old).honest → IsStable (D.state disk.old) }
     requires changes { 8 ≤ D.spare_changes disk.old }
     requires room { 18 ≤ D.spare_bytes disk.old }
-    ensures log { (D.state disk.old).honest → OnOk result (IsLog (header node nodes) (D.state disk.new).content []) }
+    ensures log { (D.state disk.old).honest
+        → OnOk result (IsLog (header node nodes) (D.state disk.new).content []) }
     ensures stable { (D.state disk.old).honest → OnOk result (IsStable (D.state disk.new)) }
     ensures honest { (D.state disk.old).honest → (D.state disk.new).honest }
     ensures no_better { (D.state disk.new).honest → (D.state disk.old).honest }
-    ensures any_moment { (D.state disk.old).honest → LeavesOnly (D.state disk.old) (D.state disk.new) (λ c. Stands node nodes c []) }
+    ensures any_moment { (D.state disk.old).honest
+        → LeavesOnly (D.state disk.old) (D.state disk.new) (λ c. Stands node nodes c []) }
     ensures changes { D.spare_changes disk.old ≤ D.spare_changes disk.new + 8 }
     ensures room { D.spare_bytes disk.old ≤ D.spare_bytes disk.new + 18 }
     ensures cause { HasCause (D.faults disk.old) (D.faults disk.new) result }

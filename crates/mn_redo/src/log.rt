@@ -1,4 +1,5 @@
-ghost use Rattle.std.specs.Prelude.{◌≡◌, ◌≤◌, ◌*◌, ◌<◌, ◌^◌, ◌+◌, ◌++◌, ◌∷◌, [], length, OnOk, vec_len, vec_capacity};
+ghost use Rattle.std.specs.Prelude.{◌≡◌, ◌≤◌, ◌*◌, ◌<◌, ◌^◌, ◌+◌, ◌++◌, ◌∷◌, [], length, OnOk};
+ghost use Rattle.std.specs.Prelude.{vec_len, vec_capacity};
 ghost use Rattle.mn_io.specs.Faults.{HasCause};
 ghost use Rattle.mn_io.specs.DiskModel.{LeavesOnly, IsStable, DiskStays};
 ghost use Rattle.mn_redo.specs.Grammar.{header, behind_gate, IsLog, IsLogBeforeOrAfter, IsStaged};
@@ -22,15 +23,20 @@ pub fn half<D: Disk>(
     body: &[u8],
 ) -> Result<(), Failed>
     requires kept { BytesAreKept (header node nodes) bytes.old.items }
-    requires log { (D.state disk.old).honest → IsLog (header node nodes) (D.state disk.old).content (listed_in 16 bytes.old.items) }
+    requires log { (D.state disk.old).honest
+        → IsLog (header node nodes) (D.state disk.old).content (listed_in 16 bytes.old.items) }
     requires stable { (D.state disk.old).honest → IsStable (D.state disk.old) }
     requires size { length body.now < 2 ^ 32 }
     requires room { vec_len bytes.old + 5 + length body.now ≤ vec_capacity bytes.old }
     requires changes { 2 ≤ D.spare_changes disk.old }
     requires disk_room { 5 + length body.now ≤ D.spare_bytes disk.old }
-    ensures staged { (D.state disk.old).honest → OnOk result (IsStaged (header node nodes) (listed_in 16 bytes.old.items) body.now (D.state disk.new).content) }
+    ensures staged { (D.state disk.old).honest
+        → OnOk result (IsStaged (header node nodes) (listed_in 16 bytes.old.items) body.now
+        (D.state disk.new).content) }
     ensures stable { (D.state disk.old).honest → OnOk result (IsStable (D.state disk.new)) }
-    ensures any_moment { (D.state disk.old).honest → LeavesOnly (D.state disk.old) (D.state disk.new) (λ c. IsLog (header node nodes) c (listed_in 16 bytes.old.items)) }
+    ensures any_moment { (D.state disk.old).honest
+        → LeavesOnly (D.state disk.old) (D.state disk.new)
+        (λ c. IsLog (header node nodes) c (listed_in 16 bytes.old.items)) }
     ensures bytes { bytes.new.items ≡ bytes.old.items ++ (behind_gate body.now ++ 0 ∷ []) }
     ensures room { vec_capacity bytes.old ≤ vec_capacity bytes.new }
     ensures honest { (D.state disk.old).honest → (D.state disk.new).honest }
@@ -67,11 +73,13 @@ impl<D: Disk> Log<D> {
         ensures ok { OnOk result (IsReady D.state D.spare_changes D.spare_bytes self.new) }
         ensures list { OnOk result (listed self.new ≡ listed self.old ++ body.now ∷ []) }
         ensures bodies { OnOk result (self.old.spare_bodies ≤ self.new.spare_bodies + 1) }
-        ensures bytes { OnOk result (self.old.spare_bytes ≤ self.new.spare_bytes + length body.now) }
+        ensures bytes { OnOk result (self.old.spare_bytes
+            ≤ self.new.spare_bytes + length body.now) }
 
         // A crash at any moment of the call leaves the list from before it, with the body or
         // without.
-        ensures any_moment { (D.state self.old.disk).honest → LeavesOnly (D.state self.old.disk) (D.state self.new.disk)
+        ensures any_moment { (D.state self.old.disk).honest
+            → LeavesOnly (D.state self.old.disk) (D.state self.new.disk)
             (IsLogBeforeOrAfter self.old.node self.old.nodes (listed self.old) body.now) }
         ensures node { self.new.node ≡ self.old.node }
         ensures nodes { self.new.nodes ≡ self.old.nodes }
@@ -98,13 +106,17 @@ impl<D: Disk> Log<D> {
         ensures spare_bytes { OnOk result (bytes ≤ self.new.spare_bytes) }
         ensures no_fewer { self.old.spare_bodies ≤ self.new.spare_bodies }
         ensures no_less { self.old.spare_bytes ≤ self.new.spare_bytes }
-        ensures start_changes { 4 * self.old.spare_bodies + 8 ≤ D.spare_changes self.old.disk → 4 * self.new.spare_bodies + 8 ≤ D.spare_changes self.new.disk }
-        ensures start_bytes { self.old.spare_bytes + 6 * self.old.spare_bodies + 18 ≤ D.spare_bytes self.old.disk → self.new.spare_bytes + 6 * self.new.spare_bodies + 18 ≤ D.spare_bytes self.new.disk }
+        ensures start_changes { 4 * self.old.spare_bodies + 8 ≤ D.spare_changes self.old.disk
+            → 4 * self.new.spare_bodies + 8 ≤ D.spare_changes self.new.disk }
+        ensures start_bytes { self.old.spare_bytes + 6 * self.old.spare_bodies + 18
+            ≤ D.spare_bytes self.old.disk
+            → self.new.spare_bytes + 6 * self.new.spare_bodies + 18 ≤ D.spare_bytes self.new.disk }
         ensures bytes { self.new.bytes.items ≡ self.old.bytes.items }
         ensures gates { self.new.gates.items ≡ self.old.gates.items }
         ensures node { self.new.node ≡ self.old.node }
         ensures nodes { self.new.nodes ≡ self.old.nodes }
-        ensures stays { (D.state self.old.disk).honest → DiskStays (D.state self.old.disk) (D.state self.new.disk) }
+        ensures stays { (D.state self.old.disk).honest
+            → DiskStays (D.state self.old.disk) (D.state self.new.disk) }
         ensures no_better { (D.state self.new.disk).honest → (D.state self.old.disk).honest }
         ensures faults { D.faults self.new.disk ≡ D.faults self.old.disk }
     {

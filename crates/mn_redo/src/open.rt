@@ -1,8 +1,10 @@
-ghost use Rattle.std.specs.Prelude.{◌≡◌, [], ◌≢◌, ◌≤◌, ◌<◌, ◌^◌, ◌+◌, ℕ, List, length, take, get_or, IfOk, OnOk, IfSome, IsNone, IsErrOf, true, false};
+ghost use Rattle.std.specs.Prelude.{◌≡◌, [], ◌≢◌, ◌≤◌, ◌<◌, ◌^◌, ◌+◌, ℕ, List, length, take};
+ghost use Rattle.std.specs.Prelude.{get_or, IfOk, OnOk, IfSome, IsNone, IsErrOf, true, false};
 ghost use Rattle.std.specs.Int.{w32, from_be_bytes};
 ghost use Rattle.mn_io.specs.Faults.{Rose};
 ghost use Rattle.mn_io.specs.DiskModel.{IsStable, NoneNew, DiskStays, WritesNothing};
-ghost use Rattle.mn_redo.specs.Grammar.{header, IsFront, IsFresh, IsLog, IsDamaged, IsDamagedAt, places};
+ghost use Rattle.mn_redo.specs.Grammar.{header, IsFront, IsFresh, IsLog, IsDamaged, IsDamagedAt};
+ghost use Rattle.mn_redo.specs.Grammar.{places};
 ghost use Rattle.mn_redo.specs.Log.{BytesAreKept, listed_in};
 ghost use Rattle.mn_redo.specs.declared.open.OpenCause.TheVariants as causes;
 
@@ -85,10 +87,12 @@ pub fn scan(
 ) -> Result<(Vec<u64>, usize), OpenCause>
     requires header { take 16 bytes.now ≡ header node nodes }
     requires gate { 17 ≤ length bytes.now }
-    ensures front { IfOk result (λ found. IsFront (header node nodes) bytes.now found.0.items found.1) }
+    ensures front { IfOk result (λ found.
+        IsFront (header node nodes) bytes.now found.0.items found.1) }
     ensures closed { IfOk result (λ found. get_or bytes.now found.1 0 ≢ 1) }
     ensures count { IfOk result (λ found. length found.0.items < 2 ^ 32) }
-    ensures damaged { (at : ℕ) → IsErrOf result (causes.Damaged at) → IsDamagedAt (header node nodes) bytes.now at }
+    ensures damaged { (at : ℕ) → IsErrOf result (causes.Damaged at)
+        → IsDamagedAt (header node nodes) bytes.now at }
     ensures no_fault { IsErrOf result causes.Fault → ⊥ }
 {
     let mut gates = Vec::new(alloc);
@@ -125,12 +129,16 @@ pub struct Found {
 /// have.
 pub fn read_log(alloc: Global, content: Vec<u8>, node: u8, nodes: u8) -> Result<Found, OpenCause>
     ensures kept { IfOk result (λ found. BytesAreKept (header node nodes) found.bytes.items) }
-    ensures gates { IfOk result (λ found. found.gates.items ≡ places 16 (listed_in 16 found.bytes.items)) }
+    ensures gates { IfOk result (λ found. found.gates.items
+        ≡ places 16 (listed_in 16 found.bytes.items)) }
     ensures count { IfOk result (λ found. length found.gates.items < 2 ^ 32) }
     ensures fresh { IfOk result (λ found. found.is_fresh ≡ true → IsFresh content.items) }
-    ensures none { IfOk result (λ found. found.is_fresh ≡ true → listed_in 16 found.bytes.items ≡ []) }
-    ensures log { IfOk result (λ found. found.is_fresh ≡ false → IsLog (header node nodes) content.items (listed_in 16 found.bytes.items)) }
-    ensures damaged { (at : ℕ) → IsErrOf result (causes.Damaged at) → IsDamaged node nodes content.items at }
+    ensures none { IfOk result (λ found. found.is_fresh ≡ true
+        → listed_in 16 found.bytes.items ≡ []) }
+    ensures log { IfOk result (λ found. found.is_fresh ≡ false
+        → IsLog (header node nodes) content.items (listed_in 16 found.bytes.items)) }
+    ensures damaged { (at : ℕ) → IsErrOf result (causes.Damaged at)
+        → IsDamaged node nodes content.items at }
     ensures no_fault { IsErrOf result causes.Fault → ⊥ }
 {
     if is_fresh(&content) {
@@ -158,7 +166,8 @@ pub fn read_log(alloc: Global, content: Vec<u8>, node: u8, nodes: u8) -> Result<
 
 /// All bytes of a disk.
 pub fn read_whole<D: Disk>(alloc: Global, disk: &mut D) -> Result<Vec<u8>, OpenCause>
-    ensures content { (D.state disk.old).honest → IfOk result (λ bytes. bytes.items ≡ (D.state disk.old).content) }
+    ensures content { (D.state disk.old).honest
+        → IfOk result (λ bytes. bytes.items ≡ (D.state disk.old).content) }
     ensures same { (D.state disk.old).honest → DiskStays (D.state disk.old) (D.state disk.new) }
     ensures no_better { (D.state disk.new).honest → (D.state disk.old).honest }
     ensures changes { D.spare_changes disk.old ≤ D.spare_changes disk.new }
@@ -182,21 +191,32 @@ pub fn prepare<D: Disk>(
     nodes: u8,
 ) -> Result<Found, OpenCause>
     ensures kept { IfOk result (λ found. BytesAreKept (header node nodes) found.bytes.items) }
-    ensures gates { IfOk result (λ found. found.gates.items ≡ places 16 (listed_in 16 found.bytes.items)) }
+    ensures gates { IfOk result (λ found. found.gates.items
+        ≡ places 16 (listed_in 16 found.bytes.items)) }
     ensures count { IfOk result (λ found. length found.gates.items < 2 ^ 32) }
-    ensures none { IfOk result (λ found. found.is_fresh ≡ true → listed_in 16 found.bytes.items ≡ []) }
-    ensures fresh { (D.state disk.old).honest → IfOk result (λ found. found.is_fresh ≡ true → IsFresh (D.state disk.new).content) }
-    ensures log { (D.state disk.old).honest → IfOk result (λ found. found.is_fresh ≡ false → IsLog (header node nodes) (D.state disk.new).content (listed_in 16 found.bytes.items)) }
-    ensures content { (D.state disk.old).honest → OnOk result ((D.state disk.new).content ≡ (D.state disk.old).content) }
-    ensures content_damaged { (D.state disk.old).honest → (at : ℕ) → IsErrOf result (causes.Damaged at) → (D.state disk.new).content ≡ (D.state disk.old).content }
+    ensures none { IfOk result (λ found. found.is_fresh ≡ true
+        → listed_in 16 found.bytes.items ≡ []) }
+    ensures fresh { (D.state disk.old).honest
+        → IfOk result (λ found. found.is_fresh ≡ true → IsFresh (D.state disk.new).content) }
+    ensures log { (D.state disk.old).honest
+        → IfOk result (λ found. found.is_fresh ≡ false
+        → IsLog (header node nodes) (D.state disk.new).content (listed_in 16 found.bytes.items)) }
+    ensures content { (D.state disk.old).honest
+        → OnOk result ((D.state disk.new).content ≡ (D.state disk.old).content) }
+    ensures content_damaged { (D.state disk.old).honest → (at : ℕ)
+        → IsErrOf result (causes.Damaged at)
+        → (D.state disk.new).content ≡ (D.state disk.old).content }
     ensures stable { (D.state disk.old).honest → OnOk result (IsStable (D.state disk.new)) }
     ensures changes { OnOk result (8 ≤ D.spare_changes disk.new) }
     ensures room { OnOk result (18 ≤ D.spare_bytes disk.new) }
-    ensures damaged { (D.state disk.old).honest → (at : ℕ) → IsErrOf result (causes.Damaged at) → IsDamaged node nodes (D.state disk.old).content at }
-    ensures told { (at : ℕ) → IsErrOf result (causes.Damaged at) → (content : List ℕ) × IsDamaged node nodes content at }
+    ensures damaged { (D.state disk.old).honest → (at : ℕ) → IsErrOf result (causes.Damaged at)
+        → IsDamaged node nodes (D.state disk.old).content at }
+    ensures told { (at : ℕ) → IsErrOf result (causes.Damaged at) → (content : List ℕ)
+        × IsDamaged node nodes content at }
     ensures fault { IsErrOf result causes.Fault → Rose (D.faults disk.old) (D.faults disk.new) }
     ensures later { D.faults disk.old ≤ D.faults disk.new }
-    ensures unwritten { (D.state disk.old).honest → WritesNothing (D.state disk.old) (D.state disk.new) }
+    ensures unwritten { (D.state disk.old).honest
+        → WritesNothing (D.state disk.old) (D.state disk.new) }
     ensures images { (D.state disk.old).honest → NoneNew (D.state disk.old) (D.state disk.new) }
     ensures honest { (D.state disk.old).honest → (D.state disk.new).honest }
     ensures no_better { (D.state disk.new).honest → (D.state disk.old).honest }

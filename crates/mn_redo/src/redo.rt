@@ -1,7 +1,9 @@
-ghost use Rattle.std.specs.Prelude.{◌≡◌, ◌≢◌, ◌≤◌, ◌<◌, ◌^◌, ◌+◌, ◌++◌, ◌∷◌, [], ℕ, List, length, get_or, IfOk, IfErr, IsErrOf, OnOk, OnErr, IsOk, IsTrue, ◌↔◌};
+ghost use Rattle.std.specs.Prelude.{◌≡◌, ◌≢◌, ◌≤◌, ◌<◌, ◌^◌, ◌+◌, ◌++◌, ◌∷◌, [], ℕ, List, length};
+ghost use Rattle.std.specs.Prelude.{get_or, IfOk, IfErr, IsErrOf, OnOk, OnErr, IsOk, IsTrue, ◌↔◌};
 ghost use Rattle.mn_io.specs.DiskModel.{IsStable, LeavesOnly, NoneNew, DiskStays, WritesNothing};
 ghost use Rattle.mn_io.specs.Faults.{HasCause, Rose};
-ghost use Rattle.mn_redo.specs.Grammar.{header, IsBeforeOrAfter, IsDamaged, IsFresh, IsLog, IsStaged, Stands, places};
+ghost use Rattle.mn_redo.specs.Grammar.{header, IsBeforeOrAfter, IsDamaged, IsFresh, IsLog};
+ghost use Rattle.mn_redo.specs.Grammar.{IsStaged, Stands, places};
 ghost use Rattle.mn_redo.specs.Redo.{HasHeader, StandsFor};
 ghost use Rattle.mn_redo.specs.declared.open.OpenCause.TheVariants as causes;
 
@@ -38,7 +40,16 @@ impl<D: Disk> Model for Redo<D> {
 
     ghost Value = { RedoState D };
 
-    ghost view = { λ r. record { disk = r.log.disk; node = r.log.node; nodes = r.log.nodes; phase = r.phase; bodies = listed r.log; spare_bodies = r.log.spare_bodies; spare_bytes = r.log.spare_bytes } };
+    ghost view = { λ r. record {
+      disk = r.log.disk;
+      node = r.log.node;
+      nodes = r.log.nodes;
+      phase = r.phase;
+      bodies = listed r.log;
+      spare_bodies = r.log.spare_bodies;
+      spare_bytes =
+          r.log.spare_bytes;
+    } };
 
     ghost invariant = { λ r. IsSound D.state D.spare_changes D.spare_bytes r.phase r.log };
 }
@@ -59,29 +70,48 @@ impl<D: Disk> Redo<D> {
     /// room for the bytes. The disk comes back with the cause.
     pub fn open(alloc: Global, disk: D, node: NodeNo, nodes: u8) -> Result<Redo<D>, OpenFailed<D>>
         // The list is that of the bytes that the disk had; a fresh disk has none.
-        ensures read { (D.state disk).honest → IfOk result (λ redo. Stands node.0 nodes (D.state disk).content redo.bodies) }
-        ensures stands { (D.state disk).honest → IfOk result (λ redo. StandsFor (D.state redo.disk) node.0 nodes redo.bodies) }
-        ensures fresh { (D.state disk).honest → IfOk result (λ redo. redo.phase ≡ Phase.Fresh → IsFresh (D.state disk).content) }
-        ensures used { (D.state disk).honest → IfOk result (λ redo. redo.phase ≡ Phase.Started → IsLog (header node.0 nodes) (D.state disk).content redo.bodies) }
+        ensures read { (D.state disk).honest
+            → IfOk result (λ redo. Stands node.0 nodes (D.state disk).content redo.bodies) }
+        ensures stands { (D.state disk).honest
+            → IfOk result (λ redo. StandsFor (D.state redo.disk) node.0 nodes redo.bodies) }
+        ensures fresh { (D.state disk).honest
+            → IfOk result (λ redo. redo.phase ≡ Phase.Fresh → IsFresh (D.state disk).content) }
+        ensures used { (D.state disk).honest
+            → IfOk result (λ redo. redo.phase ≡ Phase.Started
+            → IsLog (header node.0 nodes) (D.state disk).content redo.bodies) }
         ensures going { IfOk result (λ redo. redo.phase ≢ Phase.Closing) }
         ensures node { IfOk result (λ redo. redo.node ≡ node.0) }
         ensures nodes { IfOk result (λ redo. redo.nodes ≡ nodes) }
-        ensures damaged { (D.state disk).honest → (at : ℕ) → IfErr result (λ failed. failed.cause ≡ causes.Damaged at → IsDamaged node.0 nodes (D.state disk).content at) }
-        ensures fault { IfErr result (λ failed. failed.cause ≡ causes.Fault → Rose (D.faults disk) (D.faults failed.disk)) }
+        ensures damaged { (D.state disk).honest → (at : ℕ)
+            → IfErr result (λ failed. failed.cause ≡ causes.Damaged at
+            → IsDamaged node.0 nodes (D.state disk).content at) }
+        ensures fault { IfErr result
+            (λ failed. failed.cause ≡ causes.Fault → Rose (D.faults disk) (D.faults failed.disk)) }
         ensures later_ok { IfOk result (λ redo. D.faults disk ≤ D.faults redo.disk) }
         ensures later_err { IfErr result (λ failed. D.faults disk ≤ D.faults failed.disk) }
 
         // Nothing was written.
-        ensures content { (D.state disk).honest → IfOk result (λ redo. (D.state redo.disk).content ≡ (D.state disk).content) }
-        ensures content_damaged { (D.state disk).honest → (at : ℕ) → IfErr result (λ failed. failed.cause ≡ causes.Damaged at → (D.state failed.disk).content ≡ (D.state disk).content) }
-        ensures unwritten_ok { (D.state disk).honest → IfOk result (λ redo. WritesNothing (D.state disk) (D.state redo.disk)) }
-        ensures unwritten_err { (D.state disk).honest → IfErr result (λ failed. WritesNothing (D.state disk) (D.state failed.disk)) }
-        ensures images_ok { (D.state disk).honest → IfOk result (λ redo. NoneNew (D.state disk) (D.state redo.disk)) }
-        ensures images_err { (D.state disk).honest → IfErr result (λ failed. NoneNew (D.state disk) (D.state failed.disk)) }
-        ensures honest_ok { (D.state disk).honest → IfOk result (λ redo. (D.state redo.disk).honest) }
-        ensures honest_err { (D.state disk).honest → IfErr result (λ failed. (D.state failed.disk).honest) }
-        ensures no_better_ok { IfOk result (λ redo. (D.state redo.disk).honest → (D.state disk).honest) }
-        ensures no_better_err { IfErr result (λ failed. (D.state failed.disk).honest → (D.state disk).honest) }
+        ensures content { (D.state disk).honest
+            → IfOk result (λ redo. (D.state redo.disk).content ≡ (D.state disk).content) }
+        ensures content_damaged { (D.state disk).honest → (at : ℕ)
+            → IfErr result (λ failed. failed.cause ≡ causes.Damaged at
+            → (D.state failed.disk).content ≡ (D.state disk).content) }
+        ensures unwritten_ok { (D.state disk).honest
+            → IfOk result (λ redo. WritesNothing (D.state disk) (D.state redo.disk)) }
+        ensures unwritten_err { (D.state disk).honest
+            → IfErr result (λ failed. WritesNothing (D.state disk) (D.state failed.disk)) }
+        ensures images_ok { (D.state disk).honest
+            → IfOk result (λ redo. NoneNew (D.state disk) (D.state redo.disk)) }
+        ensures images_err { (D.state disk).honest
+            → IfErr result (λ failed. NoneNew (D.state disk) (D.state failed.disk)) }
+        ensures honest_ok { (D.state disk).honest
+            → IfOk result (λ redo. (D.state redo.disk).honest) }
+        ensures honest_err { (D.state disk).honest
+            → IfErr result (λ failed. (D.state failed.disk).honest) }
+        ensures no_better_ok { IfOk result
+            (λ redo. (D.state redo.disk).honest → (D.state disk).honest) }
+        ensures no_better_err { IfErr result
+            (λ failed. (D.state failed.disk).honest → (D.state disk).honest) }
     {
         let mut disk = disk;
         match prepare(alloc, &mut disk, node.0, nodes) {
@@ -111,25 +141,37 @@ impl<D: Disk> Redo<D> {
     /// The causes are those of `open`. After an error only `reopen` and `close` may be called.
     pub fn reopen(&mut self, alloc: Global) -> Result<(), OpenCause>
         // The list is that of the bytes that the disk had; a fresh disk has none.
-        ensures read { (D.state self.old.disk).honest → OnOk result (Stands self.old.node self.old.nodes (D.state self.old.disk).content self.new.bodies) }
-        ensures stands { (D.state self.old.disk).honest → OnOk result (StandsFor (D.state self.new.disk) self.old.node self.old.nodes self.new.bodies) }
+        ensures read { (D.state self.old.disk).honest
+            → OnOk result (Stands self.old.node self.old.nodes
+            (D.state self.old.disk).content self.new.bodies) }
+        ensures stands { (D.state self.old.disk).honest
+            → OnOk result (StandsFor (D.state self.new.disk) self.old.node self.old.nodes
+            self.new.bodies) }
         ensures none { OnOk result (self.new.phase ≡ Phase.Fresh → self.new.bodies ≡ []) }
-        ensures fresh { (D.state self.old.disk).honest → OnOk result (self.new.phase ≡ Phase.Fresh → IsFresh (D.state self.old.disk).content) }
+        ensures fresh { (D.state self.old.disk).honest
+            → OnOk result (self.new.phase ≡ Phase.Fresh → IsFresh (D.state self.old.disk).content) }
         ensures going { OnOk result (self.new.phase ≢ Phase.Closing) }
         ensures closing { OnErr result (self.new.phase ≡ Phase.Closing) }
         ensures node { self.new.node ≡ self.old.node }
         ensures nodes { self.new.nodes ≡ self.old.nodes }
-        ensures damaged { (D.state self.old.disk).honest → (at : ℕ) → IsErrOf result (causes.Damaged at) → IsDamaged self.old.node self.old.nodes (D.state self.old.disk).content at }
+        ensures damaged { (D.state self.old.disk).honest → (at : ℕ)
+            → IsErrOf result (causes.Damaged at)
+            → IsDamaged self.old.node self.old.nodes (D.state self.old.disk).content at }
 
         // Whatever bytes the disk gave, they are damaged there.
-        ensures told { (at : ℕ) → IsErrOf result (causes.Damaged at) → (content : List ℕ) × IsDamaged self.old.node self.old.nodes content at }
-        ensures fault { IsErrOf result causes.Fault → Rose (D.faults self.old.disk) (D.faults self.new.disk) }
+        ensures told { (at : ℕ) → IsErrOf result (causes.Damaged at) → (content : List ℕ)
+            × IsDamaged self.old.node self.old.nodes content at }
+        ensures fault { IsErrOf result causes.Fault
+            → Rose (D.faults self.old.disk) (D.faults self.new.disk) }
         ensures later { D.faults self.old.disk ≤ D.faults self.new.disk }
 
         // Nothing was written.
-        ensures unwritten { (D.state self.old.disk).honest → WritesNothing (D.state self.old.disk) (D.state self.new.disk) }
-        ensures images { (D.state self.old.disk).honest → NoneNew (D.state self.old.disk) (D.state self.new.disk) }
-        ensures header_stays { ((D.state self.old.disk).honest → HasHeader (D.state self.old.disk)) → (D.state self.new.disk).honest → HasHeader (D.state self.new.disk) }
+        ensures unwritten { (D.state self.old.disk).honest
+            → WritesNothing (D.state self.old.disk) (D.state self.new.disk) }
+        ensures images { (D.state self.old.disk).honest
+            → NoneNew (D.state self.old.disk) (D.state self.new.disk) }
+        ensures header_stays { ((D.state self.old.disk).honest → HasHeader (D.state self.old.disk))
+            → (D.state self.new.disk).honest → HasHeader (D.state self.new.disk) }
         ensures honest { (D.state self.old.disk).honest → (D.state self.new.disk).honest }
         ensures no_better { (D.state self.new.disk).honest → (D.state self.old.disk).honest }
     {
@@ -156,16 +198,20 @@ impl<D: Disk> Redo<D> {
         ensures bodies { self.new.bodies ≡ self.old.bodies }
         ensures spare_bodies { self.new.spare_bodies ≡ self.old.spare_bodies }
         ensures spare_bytes { self.new.spare_bytes ≡ self.old.spare_bytes }
-        ensures stands { (D.state self.old.disk).honest → StandsFor (D.state self.new.disk) self.old.node self.old.nodes self.old.bodies }
+        ensures stands { (D.state self.old.disk).honest
+            → StandsFor (D.state self.new.disk) self.old.node self.old.nodes self.old.bodies }
         ensures used { self.old.phase ≡ Phase.Started → self.new ≡ self.old }
         ensures used_ok { self.old.phase ≡ Phase.Started → IsOk result }
 
         // At Ok no image of the disk is fresh.
-        ensures header { (D.state self.old.disk).honest → OnOk result (HasHeader (D.state self.new.disk)) }
-        ensures header_stays { ((D.state self.old.disk).honest → HasHeader (D.state self.old.disk)) → (D.state self.new.disk).honest → HasHeader (D.state self.new.disk) }
+        ensures header { (D.state self.old.disk).honest
+            → OnOk result (HasHeader (D.state self.new.disk)) }
+        ensures header_stays { ((D.state self.old.disk).honest → HasHeader (D.state self.old.disk))
+            → (D.state self.new.disk).honest → HasHeader (D.state self.new.disk) }
 
         // A crash at any moment of the call leaves a disk that stands for the same list.
-        ensures any_moment { (D.state self.old.disk).honest → LeavesOnly (D.state self.old.disk) (D.state self.new.disk)
+        ensures any_moment { (D.state self.old.disk).honest
+            → LeavesOnly (D.state self.old.disk) (D.state self.new.disk)
             (λ c. Stands self.old.node self.old.nodes c self.old.bodies) }
         ensures node { self.new.node ≡ self.old.node }
         ensures nodes { self.new.nodes ≡ self.old.nodes }
@@ -200,8 +246,10 @@ impl<D: Disk> Redo<D> {
         ensures bodies { self.new.bodies ≡ self.old.bodies }
         ensures node { self.new.node ≡ self.old.node }
         ensures nodes { self.new.nodes ≡ self.old.nodes }
-        ensures stays { (D.state self.old.disk).honest → DiskStays (D.state self.old.disk) (D.state self.new.disk) }
-        ensures header_stays { ((D.state self.old.disk).honest → HasHeader (D.state self.old.disk)) → (D.state self.new.disk).honest → HasHeader (D.state self.new.disk) }
+        ensures stays { (D.state self.old.disk).honest
+            → DiskStays (D.state self.old.disk) (D.state self.new.disk) }
+        ensures header_stays { ((D.state self.old.disk).honest → HasHeader (D.state self.old.disk))
+            → (D.state self.new.disk).honest → HasHeader (D.state self.new.disk) }
         ensures no_better { (D.state self.new.disk).honest → (D.state self.old.disk).honest }
         ensures faults { D.faults self.new.disk ≡ D.faults self.old.disk }
     {
@@ -220,16 +268,22 @@ impl<D: Disk> Redo<D> {
         ensures closing { OnErr result (self.new.phase ≡ Phase.Closing) }
         ensures list { OnOk result (self.new.bodies ≡ self.old.bodies ++ body.now ∷ []) }
         ensures bodies { OnOk result (self.old.spare_bodies ≤ self.new.spare_bodies + 1) }
-        ensures bytes { OnOk result (self.old.spare_bytes ≤ self.new.spare_bytes + length body.now) }
+        ensures bytes { OnOk result (self.old.spare_bytes
+            ≤ self.new.spare_bytes + length body.now) }
 
         // At Ok each image of the disk stands for the list with the body.
-        ensures stable { (D.state self.old.disk).honest → OnOk result (StandsFor (D.state self.new.disk) self.old.node self.old.nodes (self.old.bodies ++ body.now ∷ [])) }
+        ensures stable { (D.state self.old.disk).honest
+            → OnOk result (StandsFor (D.state self.new.disk) self.old.node self.old.nodes
+            (self.old.bodies ++ body.now ∷ [])) }
 
         // A crash at any moment of the call leaves the list from before it, with the body or
         // without.
-        ensures any_moment { (D.state self.old.disk).honest → LeavesOnly (D.state self.old.disk) (D.state self.new.disk)
+        ensures any_moment { (D.state self.old.disk).honest
+            → LeavesOnly (D.state self.old.disk) (D.state self.new.disk)
             (IsBeforeOrAfter self.old.node self.old.nodes self.old.bodies body.now) }
-        ensures images { (D.state self.old.disk).honest → (c : List ℕ) → (D.state self.new.disk).images c → IsBeforeOrAfter self.old.node self.old.nodes self.old.bodies body.now c }
+        ensures images { (D.state self.old.disk).honest → (c : List ℕ)
+            → (D.state self.new.disk).images c
+            → IsBeforeOrAfter self.old.node self.old.nodes self.old.bodies body.now c }
         ensures header { (D.state self.old.disk).honest → HasHeader (D.state self.new.disk) }
         ensures node { self.new.node ≡ self.old.node }
         ensures nodes { self.new.nodes ≡ self.old.nodes }
@@ -252,15 +306,20 @@ impl<D: Disk> Redo<D> {
         requires spare_body { 0 < self.old.spare_bodies }
         requires spare_bytes { length body.now ≤ self.old.spare_bytes }
         ensures closing { self.new.phase ≡ Phase.Closing }
-        ensures stands { (D.state self.old.disk).honest → StandsFor (D.state self.new.disk) self.old.node self.old.nodes self.old.bodies }
-        ensures any_moment { (D.state self.old.disk).honest → LeavesOnly (D.state self.old.disk) (D.state self.new.disk)
+        ensures stands { (D.state self.old.disk).honest
+            → StandsFor (D.state self.new.disk) self.old.node self.old.nodes self.old.bodies }
+        ensures any_moment { (D.state self.old.disk).honest
+            → LeavesOnly (D.state self.old.disk) (D.state self.new.disk)
             (λ c. Stands self.old.node self.old.nodes c self.old.bodies) }
 
         ensures header { (D.state self.old.disk).honest → HasHeader (D.state self.new.disk) }
 
         // At Ok the record stands on the disk behind a closed gate.
-        ensures half { (D.state self.old.disk).honest → OnOk result (IsStaged (header self.old.node self.old.nodes) self.old.bodies body.now (D.state self.new.disk).content) }
-        ensures stable { (D.state self.old.disk).honest → OnOk result (IsStable (D.state self.new.disk)) }
+        ensures half { (D.state self.old.disk).honest
+            → OnOk result (IsStaged (header self.old.node self.old.nodes) self.old.bodies body.now
+            (D.state self.new.disk).content) }
+        ensures stable { (D.state self.old.disk).honest
+            → OnOk result (IsStable (D.state self.new.disk)) }
         ensures node { self.new.node ≡ self.old.node }
         ensures nodes { self.new.nodes ≡ self.old.nodes }
         ensures honest { (D.state self.old.disk).honest → (D.state self.new.disk).honest }
@@ -336,7 +395,8 @@ impl<D: Disk> Redo<D> {
         ensures disk { result ≡ self.disk }
 
         // Unless a call failed or wrote half a record, each image of it stands for the list.
-        ensures stands { self.phase ≢ Phase.Closing → (D.state result).honest → StandsFor (D.state result) self.node self.nodes self.bodies }
+        ensures stands { self.phase ≢ Phase.Closing → (D.state result).honest
+            → StandsFor (D.state result) self.node self.nodes self.bodies }
     {
         self.log.disk
     }

@@ -1,5 +1,6 @@
 -- What a report says of one operation.
-use Rattle.std.specs.Prelude.{◌≡◌, ◌≢◌, ◌≤◌, ℕ, ◌+◌, Bool, List, [], ◌∷◌, ◌++◌, ◌==◌, length, codes, decimal, flat_map, Option, None, Some, if◌then◌else◌, slice_index}
+use Rattle.std.specs.Prelude.{◌≡◌, ◌≢◌, ◌≤◌, ℕ, ◌+◌, Bool, List, [], ◌∷◌, ◌++◌, ◌==◌, length, codes}
+use Rattle.std.specs.Prelude.{decimal, flat_map, Option, None, Some, if◌then◌else◌, slice_index}
 use Rattle.mn_base.specs.declared.ids.Tid.{Tid}
 use Rattle.mn_base.specs.declared.reply.Pair.{Pair}
 use Rattle.mn_base.specs.declared.reply.Version.{Version}
@@ -43,10 +44,13 @@ version_text v = spaced v.name ++ (spaced (name_text v.parent) ++ spaced (state_
 
 abbrev pub reply_text : Reply → Text
 reply_text (reply.Values found) = codes "ok" ++ flat_map (λ f. spaced (found_text f)) found
-reply_text (reply.Unmet step found) = codes "unmet" ++ (spaced_number step ++ spaced (found_text found))
+reply_text (reply.Unmet step found) =
+    codes "unmet" ++ (spaced_number step ++ spaced (found_text found))
 reply_text reply.Made = codes "made"
-reply_text (reply.Pairs pairs) = codes "pairs" ++ (spaced_number (length pairs) ++ flat_map pair_text pairs)
-reply_text (reply.Listing versions) = codes "versions" ++ (spaced_number (length versions) ++ flat_map version_text versions)
+reply_text (reply.Pairs pairs) =
+    codes "pairs" ++ (spaced_number (length pairs) ++ flat_map pair_text pairs)
+reply_text (reply.Listing versions) =
+    codes "versions" ++ (spaced_number (length versions) ++ flat_map version_text versions)
 reply_text reply.NoVersion = codes "noversion"
 reply_text reply.Frozen = codes "frozen"
 reply_text reply.NotFrozen = codes "notfrozen"
@@ -61,24 +65,31 @@ same_before (e ∷ expected) (f ∷ found) = if e == f then same_before expected
 
 -- the bytes at a place, as they were expected and found
 abbrev pub both_text : Text → Text → ℕ → Text
-both_text expected found at = spaced (hex_byte (slice_index expected at)) ++ spaced (hex_byte (slice_index found at))
+both_text expected found at =
+    spaced (hex_byte (slice_index expected at)) ++ spaced (hex_byte (slice_index found at))
 
 abbrev pub moved_text : ℕ → ℕ → Text → Text
-moved_text node place bytes = codes "busy moved" ++ (spaced_number node ++ (spaced_number place ++ bytes))
+moved_text node place bytes =
+    codes "busy moved" ++ (spaced_number node ++ (spaced_number place ++ bytes))
 
 abbrev pub busy_text : Busy → Text
-busy_text (Lock node start length holder) = codes "busy lock" ++ (spaced_number node.0 ++ (spaced_number start ++ (spaced_number length ++ spaced (id_text holder))))
+busy_text (Lock node start length holder) =
+    codes "busy lock" ++ (spaced_number node.0
+    ++ (spaced_number start ++ (spaced_number length ++ spaced (id_text holder))))
 busy_text (Moved node start expected found) =
     let at = same_before expected found in
     moved_text node.0 (start + at) (both_text expected found at)
 busy_text (Forced tid) = codes "busy forced" ++ spaced (id_text tid)
-busy_text (Path addr seq) = codes "busy path" ++ (spaced_number addr.node.0 ++ (spaced_number addr.slot ++ spaced_number seq))
+busy_text (Path addr seq) =
+    codes "busy path" ++ (spaced_number addr.node.0
+    ++ (spaced_number addr.slot ++ spaced_number seq))
 
 abbrev pub answer_text : Answer → Text
 answer_text (answer.Replied reply) = reply_text reply
 answer_text (answer.Busy cause) = busy_text cause
 answer_text (answer.Down node) = codes "down" ++ spaced_number node.0
-answer_text (answer.InDoubt tid node) = codes "doubt" ++ (spaced (id_text tid) ++ spaced_number node.0)
+answer_text (answer.InDoubt tid node) =
+    codes "doubt" ++ (spaced (id_text tid) ++ spaced_number node.0)
 answer_text (answer.Full need free) = codes "full" ++ (spaced_number need ++ spaced_number free)
 answer_text (answer.Worn node start) = codes "worn" ++ (spaced_number node.0 ++ spaced_number start)
 answer_text answer.NoMemory = codes "nomemory"

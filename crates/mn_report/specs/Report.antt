@@ -1,5 +1,6 @@
 -- The text of a report.
-use Rattle.std.specs.Prelude.{ℕ, ◌+◌, Bool, List, [], ◌∷◌, ◌++◌, length, codes, decimal, flat_map, if◌then◌else◌}
+use Rattle.std.specs.Prelude.{ℕ, ◌+◌, Bool, List, [], ◌∷◌, ◌++◌, length, codes, decimal, flat_map}
+use Rattle.std.specs.Prelude.{if◌then◌else◌}
 use Rattle.std.specs.List.{AllByRecursion}
 use Rattle.hex.specs.Hex.{encode_lower}
 use Rattle.mn_report.specs.declared.lines.AnswerLine.{AnswerLine}
@@ -21,28 +22,39 @@ answer_line a = line (a.client ++ (spaced_number a.number ++ spaced (line_answer
 -- the operations of the history with their ranks, from this one on
 abbrev pub rank_lines : ℕ → List Ranked → Text
 rank_lines rank [] = []
-rank_lines rank (r ∷ rs) = line (decimal rank ++ (spaced r.client ++ spaced_number r.number)) ++ rank_lines (rank + 1) rs
+rank_lines rank (r ∷ rs) =
+    line (decimal rank ++ (spaced r.client ++ spaced_number r.number)) ++ rank_lines (rank + 1) rs
 
 abbrev pub history_text : List Ranked → Text
 history_text ranks = line (codes "history" ++ spaced_number (length ranks)) ++ rank_lines 1 ranks
 
 -- what became of an operation whose client did not learn it
 abbrev pub doubt_line : DoubtLine → Text
-doubt_line d = line (codes "doubt" ++ (spaced d.client ++ (spaced_number d.number ++ spaced (if d.committed then codes "committed" else codes "aborted"))))
+doubt_line d =
+    line (codes "doubt" ++ (spaced d.client
+    ++ (spaced_number d.number ++ spaced
+    (if d.committed then codes "committed" else codes "aborted"))))
 
 -- the crash points, numbered from this one on
 abbrev pub point_lines : ℕ → List Bool → Text
 point_lines number [] = []
-point_lines number (met ∷ points) = line (codes "point" ++ (spaced_number number ++ spaced (if met then codes "met" else codes "unmet"))) ++ point_lines (number + 1) points
+point_lines number (met ∷ points) =
+    line (codes "point" ++ (spaced_number number
+    ++ spaced (if met then codes "met" else codes "unmet"))) ++ point_lines (number + 1) points
 
 -- a version: its name, its parent's, its state, how many pairs it has, and their digest
 abbrev pub version_line : VersionLine → Text
 version_line v =
-    line (codes "version" ++ (spaced v.name ++ (spaced (name_text v.parent) ++ (spaced (state_text v.frozen) ++ (spaced_number v.count ++ spaced (encode_lower v.digest))))))
+    line (codes "version" ++ (spaced v.name
+    ++ (spaced (name_text v.parent)
+    ++ (spaced (state_text v.frozen)
+    ++ (spaced_number v.count ++ spaced (encode_lower v.digest))))))
 
 abbrev pub report_text : Report → Text
 report_text r =
-    flat_map answer_line r.answers ++ (history_text r.history ++ (flat_map doubt_line r.doubts ++ (point_lines 1 r.points ++ (flat_map version_line r.versions ++ line (codes "end")))))
+    flat_map answer_line r.answers
+    ++ (history_text r.history ++ (flat_map doubt_line r.doubts
+    ++ (point_lines 1 r.points ++ (flat_map version_line r.versions ++ line (codes "end")))))
 
 -- each answer can be told
 abbrev pub CanReport : Report → Type 0

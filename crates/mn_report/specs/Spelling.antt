@@ -1,5 +1,6 @@
 -- How a byte string and a number are spelled as words.
-use Rattle.std.specs.Prelude.{ℕ, ◌+◌, ◌/◌, ◌%◌, Bool, ◌&&◌, not, List, [], ◌∷◌, ◌==◌, nat_le, nat_lt, flat_map, decimal, if◌then◌else◌}
+use Rattle.std.specs.Prelude.{ℕ, ◌+◌, ◌/◌, ◌%◌, Bool, ◌&&◌, not, List, [], ◌∷◌, ◌==◌, nat_le}
+use Rattle.std.specs.Prelude.{nat_lt, flat_map, decimal, if◌then◌else◌}
 
 -- 21 to 7e, other than `%` and `;`
 abbrev pub is_plain : ℕ → Bool

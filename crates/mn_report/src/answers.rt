@@ -1,6 +1,9 @@
 ghost use Rattle.std.specs.Prelude.{◌≡◌, ◌<◌, ◌++◌, length, flat_map, slice_index, OnOk};
 ghost use Rattle.mn_report.specs.Spelling.{spaced, hex_byte};
-ghost use Rattle.mn_report.specs.Answers.{found_text, name_text, state_text, id_text, pair_text, version_text, reply_text, same_before, both_text, moved_text, busy_text, answer_text, line_answer_text, IsMove, CanTell, CanTellLine};
+ghost use Rattle.mn_report.specs.Answers.{found_text, name_text, state_text, id_text, pair_text};
+ghost use Rattle.mn_report.specs.Answers.{version_text, reply_text, same_before, both_text};
+ghost use Rattle.mn_report.specs.Answers.{moved_text, busy_text, answer_text, line_answer_text};
+ghost use Rattle.mn_report.specs.Answers.{IsMove, CanTell, CanTellLine};
 
 use crate::lines::LineAnswer;
 use crate::spelling::{push_hex, push_number, push_spaced_number, push_spelled};
@@ -32,7 +35,8 @@ fn push_found(out: &mut Vec<u8>, found: &Option<Value>) -> Result<(), AllocError
 }
 
 fn push_all_found(out: &mut Vec<u8>, found: &[Option<Value>]) -> Result<(), AllocError>
-    ensures { OnOk result (out.new.items ≡ out.old.items ++ flat_map (λ f. spaced (found_text f)) found.now) }
+    ensures { OnOk result (out.new.items
+        ≡ out.old.items ++ flat_map (λ f. spaced (found_text f)) found.now) }
 {
     for value in found {
         push_found(out, value)?;
@@ -154,7 +158,8 @@ fn count_same(expected: &[u8], found: &[u8]) -> usize
 /// Adds a space and one of the bytes.
 fn push_byte_at(out: &mut Vec<u8>, bytes: &[u8], at: usize) -> Result<(), AllocError>
     requires { at < length bytes.now }
-    ensures { OnOk result (out.new.items ≡ out.old.items ++ spaced (hex_byte (slice_index bytes.now at))) }
+    ensures { OnOk result (out.new.items
+        ≡ out.old.items ++ spaced (hex_byte (slice_index bytes.now at))) }
 {
     out.push(b' ')?;
     push_hex(out, bytes[at])
@@ -182,7 +187,8 @@ fn push_moved_at(
 ) -> Result<(), AllocError>
     requires expected { at < length expected.now }
     requires found { at < length found.now }
-    ensures { OnOk result (out.new.items ≡ out.old.items ++ moved_text node.0 place (both_text expected.now found.now at)) }
+    ensures { OnOk result (out.new.items
+        ≡ out.old.items ++ moved_text node.0 place (both_text expected.now found.now at)) }
 {
     out.extend_from_slice(b"busy moved")?;
     push_spaced_number(alloc, out, u64::from(node.0))?;
@@ -200,7 +206,8 @@ fn push_moved(
     found: &[u8],
 ) -> Result<(), AllocError>
     requires { IsMove start expected.now found.now }
-    ensures { OnOk result (out.new.items ≡ out.old.items ++ busy_text (Busy.Moved node start expected.now found.now)) }
+    ensures { OnOk result (out.new.items
+        ≡ out.old.items ++ busy_text (Busy.Moved node start expected.now found.now)) }
 {
     let at = count_same(expected, found);
     let place = u64::from(start) + at as u64;

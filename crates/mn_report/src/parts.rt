@@ -3,7 +3,8 @@ ghost use Rattle.hex.specs.Hex.{encode_lower};
 ghost use Rattle.mn_report.specs.Spelling.{spaced};
 ghost use Rattle.std.specs.List.{AllByRecursion};
 ghost use Rattle.mn_report.specs.Answers.{CanTellLine};
-ghost use Rattle.mn_report.specs.Report.{answer_line, rank_lines, history_text, doubt_line, point_lines, version_line};
+ghost use Rattle.mn_report.specs.Report.{answer_line, rank_lines, history_text, doubt_line};
+ghost use Rattle.mn_report.specs.Report.{point_lines, version_line};
 
 use crate::answers::{push_line_answer, push_name, push_spaced, push_state};
 use crate::lines::{AnswerLine, DoubtLine, Ranked, VersionLine};
@@ -65,7 +66,8 @@ pub fn push_history(alloc: Global, out: &mut Vec<u8>, ranks: &[Ranked]) -> Resul
 }
 
 fn push_outcome(out: &mut Vec<u8>, committed: bool) -> Result<(), AllocError>
-    ensures { OnOk result (out.new.items ≡ out.old.items ++ spaced (if committed then codes "committed" else codes "aborted")) }
+    ensures { OnOk result (out.new.items
+        ≡ out.old.items ++ spaced (if committed then codes "committed" else codes "aborted")) }
 {
     if committed {
         push_spaced(out, b"committed")
@@ -95,7 +97,8 @@ pub fn push_doubts(alloc: Global, out: &mut Vec<u8>, lines: &[DoubtLine]) -> Res
 }
 
 fn push_met(out: &mut Vec<u8>, met: bool) -> Result<(), AllocError>
-    ensures { OnOk result (out.new.items ≡ out.old.items ++ spaced (if met then codes "met" else codes "unmet")) }
+    ensures { OnOk result (out.new.items
+        ≡ out.old.items ++ spaced (if met then codes "met" else codes "unmet")) }
 {
     if met {
         push_spaced(out, b"met")

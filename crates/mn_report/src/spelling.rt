@@ -1,5 +1,6 @@
 ghost use Rattle.std.specs.Prelude.{◌≡◌, ◌<◌, ◌++◌, decimal, OnOk};
-ghost use Rattle.mn_report.specs.Spelling.{is_plain, hex_digit, hex_byte, spelled_byte, spelled, word_of, spaced_number};
+ghost use Rattle.mn_report.specs.Spelling.{is_plain, hex_digit, hex_byte, spelled_byte, spelled};
+ghost use Rattle.mn_report.specs.Spelling.{word_of, spaced_number};
 
 use std::alloc::{AllocError, Global};
 

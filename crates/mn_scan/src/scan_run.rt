@@ -92,7 +92,21 @@ impl Model for ScanRun {
 
     ghost Value = { ScanState };
 
-    ghost view = { λ s. record { parents = s.tree; version = s.version; root = s.root; low = s.low; high = s.high; limit = s.limit; at = s.at; needed = s.needed; above = s.above; began = s.began; ended = s.ended; pairs = s.pairs.items } };
+    ghost view = { λ s. record {
+      parents = s.tree;
+      version = s.version;
+      root = s.root;
+      low = s.low;
+      high = s.high;
+      limit = s.limit;
+      at = s.at;
+      needed = s.needed;
+      above = s.above;
+      began =
+          s.began;
+      ended = s.ended;
+      pairs = s.pairs.items;
+    } };
 }
 
 impl ScanRun {

@@ -1,5 +1,6 @@
 -- How a script is spelled: the line of each of its elements.
-use Rattle.std.specs.Prelude.{ℕ, zero, suc, List, [], ◌∷◌, ◌++◌, codes, flat_map, Option, Some, None}
+use Rattle.std.specs.Prelude.{ℕ, zero, suc, List, [], ◌∷◌, ◌++◌, codes, flat_map, Option, Some}
+use Rattle.std.specs.Prelude.{None}
 use Rattle.mn_base.specs.declared.gate.StopAt.{StopAt}
 use Rattle.mn_base.specs.declared.gate.StopAt.TheVariants.{Before, Half, After}
 use Rattle.mn_base.specs.declared.op.Step.{Step}
@@ -50,7 +51,8 @@ abbrev pub op_text : Op → Text
 op_text (Tx version steps) = codes "tx" ++ (spaced version ++ steps_text steps)
 op_text (Snapshot version child) = codes "snapshot" ++ (spaced version ++ spaced child)
 op_text (Branch version child) = codes "branch" ++ (spaced version ++ spaced child)
-op_text (Scan version low high limit) = codes "scan" ++ (spaced version ++ (bound_text low ++ (bound_text high ++ spaced_number limit)))
+op_text (Scan version low high limit) =
+    codes "scan" ++ (spaced version ++ (bound_text low ++ (bound_text high ++ spaced_number limit)))
 op_text Versions = codes "versions"
 
 abbrev pub mark_text : Mark → Text
@@ -60,7 +62,9 @@ mark_text Last = codes " last"
 
 -- a section: the client, and its operations
 abbrev pub client_text : ScriptClient → Text
-client_text c = line (codes "client" ++ (spaced c.name ++ mark_text c.mark)) ++ flat_map (λ op. line (op_text op)) c.ops
+client_text c =
+    line (codes "client" ++ (spaced c.name ++ mark_text c.mark))
+    ++ flat_map (λ op. line (op_text op)) c.ops
 
 -- the name of the client with this number
 abbrev pub name_of : List ScriptClient → ℕ → Text
@@ -74,8 +78,12 @@ stop_text Half = codes " half"
 stop_text After = codes " after"
 
 abbrev pub point_text : List ScriptClient → Point → Text
-point_text clients (Kill client number votes) = codes "kill" ++ (spaced (name_of clients client.0) ++ (spaced_number number ++ (codes " votes" ++ spaced_number votes)))
-point_text clients (Stop node client number at) = codes "stop" ++ (spaced_number node.0 ++ (spaced (name_of clients client.0) ++ (spaced_number number ++ stop_text at)))
+point_text clients (Kill client number votes) =
+    codes "kill" ++ (spaced (name_of clients client.0)
+    ++ (spaced_number number ++ (codes " votes" ++ spaced_number votes)))
+point_text clients (Stop node client number at) =
+    codes "stop" ++ (spaced_number node.0
+    ++ (spaced (name_of clients client.0) ++ (spaced_number number ++ stop_text at)))
 
 abbrev pub act_text : List ScriptClient → Act → Text
 act_text clients (acts.Step client) = codes "step" ++ spaced (name_of clients client.0)
@@ -84,8 +92,10 @@ act_text clients (acts.Go client) = codes "go" ++ spaced (name_of clients client
 act_text clients (acts.All client) = codes "all" ++ spaced (name_of clients client.0)
 act_text clients (acts.Halt node) = codes "halt" ++ spaced_number node.0
 act_text clients (acts.Restart node) = codes "restart" ++ spaced_number node.0
-act_text clients (acts.Rstep recoverer client) = codes "rstep" ++ (spaced_number recoverer ++ spaced (name_of clients client.0))
-act_text clients (acts.Recover recoverer client) = codes "recover" ++ (spaced_number recoverer ++ spaced (name_of clients client.0))
+act_text clients (acts.Rstep recoverer client) =
+    codes "rstep" ++ (spaced_number recoverer ++ spaced (name_of clients client.0))
+act_text clients (acts.Recover recoverer client) =
+    codes "recover" ++ (spaced_number recoverer ++ spaced (name_of clients client.0))
 
 -- how many recovery coordinators there are, unless there are none
 abbrev pub recoverers_text : ℕ → Text
@@ -94,13 +104,19 @@ recoverers_text (suc n) = line (codes "recoverers" ++ spaced_number (suc n))
 
 -- how many nodes and recovery coordinators there are
 abbrev pub head_text : ℕ → ℕ → Text
-head_text nodes recoverers = line (codes "nodes" ++ spaced_number nodes) ++ recoverers_text recoverers
+head_text nodes recoverers =
+    line (codes "nodes" ++ spaced_number nodes) ++ recoverers_text recoverers
 
 -- the acts behind their line, unless there are none
 abbrev pub schedule_text : List ScriptClient → List Act → Text
 schedule_text clients [] = []
-schedule_text clients (act ∷ acts) = line (codes "schedule") ++ flat_map (λ a. line (act_text clients a)) (act ∷ acts)
+schedule_text clients (act ∷ acts) =
+    line (codes "schedule") ++ flat_map (λ a. line (act_text clients a)) (act ∷ acts)
 
 -- one spelling of a script
 abbrev pub script_text : Script → Text
-script_text s = head_text s.nodes s.recoverers ++ (flat_map client_text s.clients ++ (flat_map (λ p. line (point_text s.clients p)) s.points ++ schedule_text s.clients s.schedule))
+script_text s =
+    head_text s.nodes s.recoverers
+    ++ (flat_map client_text s.clients
+    ++ (flat_map (λ p. line (point_text s.clients p)) s.points
+    ++ schedule_text s.clients s.schedule))

@@ -12,7 +12,9 @@ ReadIsRight = (text : Text) (script : Script) → script_of text ≡ Ok script �
 
 -- the written text of a script that meets the rules reads as that script, unless it is too long
 abbrev pub WrittenIsRead : Type 0
-WrittenIsRead = (script : Script) → IsScript script → length (script_text script) ≤ 4194304 → script_of (script_text script) ≡ Ok script
+WrittenIsRead =
+    (script : Script) → IsScript script → length (script_text script) ≤ 4194304
+    → script_of (script_text script) ≡ Ok script
 
 -- these lines begin some script, of whatever length
 abbrev pub BeginsScript : List Text → Type 0

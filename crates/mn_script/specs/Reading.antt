@@ -1,19 +1,25 @@
 -- Reading a script: line after line, up to the first at which the text can't go on to be one.
-use Rattle.std.specs.Prelude.{◌≡◌, ◌≤◌, ℕ, ◌+◌, ◌-◌, Bool, true, false, ◌&&◌, not, List, [], ◌∷◌, ◌++◌, ◌==◌, nat_le, nat_lt, length, min, codes, Option, None, is_some, Result, Ok, Err, bytes_eq, if◌then◌else◌}
+use Rattle.std.specs.Prelude.{◌≡◌, ◌≤◌, ℕ, ◌+◌, ◌-◌, Bool, true, false, ◌&&◌, not, List, [], ◌∷◌}
+use Rattle.std.specs.Prelude.{◌++◌, ◌==◌, nat_le, nat_lt, length, min, codes, Option, None, is_some}
+use Rattle.std.specs.Prelude.{Result, Ok, Err, bytes_eq, if◌then◌else◌}
 use Rattle.mn_base.specs.declared.op.Op.{Op}
 use Rattle.mn_script.specs.declared.elements.ScriptClient.{ScriptClient}
 use Rattle.mn_script.specs.declared.elements.Mark.{Mark}
 use Rattle.mn_script.specs.declared.elements.Point.{Point}
 use Rattle.mn_script.specs.declared.elements.Act.{Act}
 use Rattle.mn_script.specs.declared.draft.Phase.{Phase}
-use Rattle.mn_script.specs.declared.draft.Phase.TheVariants.{Start, Head, Begun, Section, Points, Schedule}
+use Rattle.mn_script.specs.declared.draft.Phase.TheVariants.{Start, Head, Begun, Section, Points}
+use Rattle.mn_script.specs.declared.draft.Phase.TheVariants.{Schedule}
 use Rattle.mn_script.specs.declared.error.ScriptError.{ScriptError}
 use Rattle.mn_script.specs.declared.error.ScriptError.TheVariants.{Refused, NoMemory}
 use Rattle.mn_script.specs.declared.error.LineError.{LineError}
 use Rattle.mn_script.specs.declared.error.LineError.TheVariants as line_error
-use Rattle.mn_script.specs.Words.{Text, word_at, next_at, column_at, ◌>>=◌, told_at, end_at, name_word}
-use Rattle.mn_script.specs.Script.{Script, IsScript, steps_in, limit_in, all_ops, all_steps, all_limits}
-use Rattle.mn_script.specs.Lines.{number_at, op_at, mark_at, client_named, ops_of, kill_point, stop_point, act_at}
+use Rattle.mn_script.specs.Words.{Text, word_at, next_at, column_at, ◌>>=◌, told_at, end_at}
+use Rattle.mn_script.specs.Words.{name_word}
+use Rattle.mn_script.specs.Script.{Script, IsScript, steps_in, limit_in, all_ops, all_steps}
+use Rattle.mn_script.specs.Script.{all_limits}
+use Rattle.mn_script.specs.Lines.{number_at, op_at, mark_at, client_named, ops_of, kill_point}
+use Rattle.mn_script.specs.Lines.{stop_point, act_at}
 
 -- what the lines so far say, and how many operations, steps and pairs of scans that makes
 pub record Draft : Type 0 where
@@ -28,7 +34,18 @@ pub record Draft : Type 0 where
   pub limits : ℕ
 
 abbrev pub empty_draft : Draft
-empty_draft = record { phase = Start; nodes = 0; recoverers = 0; clients = []; points = []; schedule = []; ops = 0; steps = 0; limits = 0 }
+empty_draft =
+    record {
+      phase = Start;
+      nodes = 0;
+      recoverers = 0;
+      clients = [];
+      points = [];
+      schedule = [];
+      ops = 0;
+      steps = 0;
+      limits = 0;
+    }
 
 -- the clients with one more operation of the last
 abbrev pub with_op : List ScriptClient → Op → List ScriptClient
@@ -39,11 +56,18 @@ with_op (c ∷ d ∷ cs) op = c ∷ with_op (d ∷ cs) op
 -- there is room for the operation
 abbrev pub fits_op : Draft → Op → Bool
 fits_op d op =
-    nat_lt (ops_of d.clients (length d.clients - 1)) 2000 && (nat_lt d.ops 8000 && (nat_le (d.steps + steps_in op) 20000 && nat_le (d.limits + limit_in op) 100000))
+    nat_lt (ops_of d.clients (length d.clients - 1)) 2000
+    && (nat_lt d.ops 8000 && (nat_le (d.steps + steps_in op) 20000
+    && nat_le (d.limits + limit_in op) 100000))
 
 abbrev pub add_op : Draft → Op → Result Draft ℕ
 add_op d op =
-    if fits_op d op then Ok (record d { clients = with_op d.clients op; ops = d.ops + 1; steps = d.steps + steps_in op; limits = d.limits + limit_in op })
+    if fits_op d op then Ok (record d {
+      clients = with_op d.clients op;
+      ops = d.ops + 1;
+      steps = d.steps + steps_in op;
+      limits = d.limits + limit_in op;
+    })
     else Err 1
 
 unfoldable pub op_line : Draft → Text → Result Draft ℕ
@@ -51,7 +75,11 @@ op_line d line = op_at line >>= add_op d
 
 abbrev pub add_client : Draft → Text → Mark → Result Draft ℕ
 add_client d name mark =
-    if nat_lt (length d.clients) 16 then Ok (record d { phase = Section; clients = d.clients ++ record { name = name; mark = mark; ops = [] } ∷ [] }) else Err 1
+    if nat_lt (length d.clients) 16
+    then Ok (record d {
+      phase = Section;
+      clients = d.clients ++ record { name = name; mark = mark; ops = [] } ∷ [];
+    }) else Err 1
 
 -- a name that no client has yet
 abbrev pub new_name : List ScriptClient → Text → Option Text
@@ -60,13 +88,18 @@ new_name clients word = if is_some (client_named clients word) then None else na
 unfoldable pub client_line : Draft → Text → Result Draft ℕ
 client_line d line =
     let at = next_at line 0 in
-    told_at line at (new_name d.clients (word_at line at)) >>= λ n. mark_at line n.1 >>= λ m. add_client d n.0 m
+    told_at line at (new_name d.clients (word_at line at)) >>= λ n. mark_at line n.1 >>= λ m.
+    add_client d n.0 m
 
 abbrev pub add_point : Draft → Point → Result Draft ℕ
-add_point d point = if nat_lt (length d.points) 64 then Ok (record d { phase = Points; points = d.points ++ point ∷ [] }) else Err 1
+add_point d point =
+    if nat_lt (length d.points) 64
+    then Ok (record d { phase = Points; points = d.points ++ point ∷ [] }) else Err 1
 
 abbrev pub add_act : Draft → Act → Result Draft ℕ
-add_act d act = if nat_lt (length d.schedule) 20000 then Ok (record d { schedule = d.schedule ++ act ∷ [] }) else Err 1
+add_act d act =
+    if nat_lt (length d.schedule) 20000 then Ok (record d { schedule = d.schedule ++ act ∷ [] })
+    else Err 1
 
 unfoldable pub act_line : Draft → Text → Result Draft ℕ
 act_line d line = act_at (d.nodes - 1) d.recoverers d.clients line >>= add_act d
@@ -79,11 +112,15 @@ stop_line d line = stop_point (d.nodes - 1) d.clients line (next_at line 0) >>= 
 
 unfoldable pub nodes_line : Draft → Text → Result Draft ℕ
 nodes_line d line =
-    if bytes_eq (word_at line 0) (codes "nodes") then (number_at 1 8 line (next_at line 0) >>= λ n. end_at line n.1 (record d { phase = Head; nodes = n.0 }))
+    if bytes_eq (word_at line 0) (codes "nodes")
+    then (number_at 1 8 line (next_at line 0) >>= λ n.
+    end_at line n.1 (record d { phase = Head; nodes = n.0 }))
     else Err (column_at line 0)
 
 unfoldable pub recoverers_line : Draft → Text → Result Draft ℕ
-recoverers_line d line = number_at 0 4 line (next_at line 0) >>= λ n. end_at line n.1 (record d { phase = Begun; recoverers = n.0 })
+recoverers_line d line =
+    number_at 0 4 line (next_at line 0) >>= λ n.
+    end_at line n.1 (record d { phase = Begun; recoverers = n.0 })
 
 -- the recoverers come right behind the nodes
 abbrev pub is_head : Phase → Bool
@@ -110,7 +147,14 @@ HasClient phase clients = Unit {0}
 
 -- the script that a draft makes
 abbrev pub script_in : Draft → Script
-script_in d = record { nodes = d.nodes; recoverers = d.recoverers; clients = d.clients; points = d.points; schedule = d.schedule }
+script_in d =
+    record {
+      nodes = d.nodes;
+      recoverers = d.recoverers;
+      clients = d.clients;
+      points = d.points;
+      schedule = d.schedule;
+    }
 
 -- behind the nodes a draft meets the rules of a script, and what can't have come yet is empty
 abbrev pub AreParts : Phase → Draft → Type 0
@@ -181,7 +225,9 @@ read_from d lines (line ∷ rest) =
 
 -- the script that a text spells, or the place of its first fault
 abbrev pub script_of : Text → Result Script ScriptError
-script_of text = if nat_le (length text) 4194304 then read_from empty_draft 0 (lines_of text) else Err (Refused 0 0)
+script_of text =
+    if nat_le (length text) 4194304 then read_from empty_draft 0 (lines_of text)
+    else Err (Refused 0 0)
 
 -- What the reader gave is that, unless there was no memory.
 abbrev pub IsScriptRead : Result Script ScriptError → Result Script ScriptError → Type 0

@@ -41,10 +41,12 @@ IsStep (Check key want) = IsKey key × IfSome want IsValue
 
 -- a transaction has 1 to 16 steps, and a scan a limit from 1 to 1,000
 abbrev pub IsOp : Op → Type 0
-IsOp (Tx version steps) = IsName version × (1 ≤ length steps) × (length steps ≤ 16) × AllByRecursion IsStep steps
+IsOp (Tx version steps) =
+    IsName version × (1 ≤ length steps) × (length steps ≤ 16) × AllByRecursion IsStep steps
 IsOp (Snapshot version child) = IsName version × IsName child
 IsOp (Branch version child) = IsName version × IsName child
-IsOp (Scan version low high limit) = IsName version × IfSome low IsKey × IfSome high IsKey × (1 ≤ limit) × (limit ≤ 1000)
+IsOp (Scan version low high limit) =
+    IsName version × IfSome low IsKey × IfSome high IsKey × (1 ≤ limit) × (limit ≤ 1000)
 IsOp Versions = Unit {0}
 
 -- how many steps an operation has
@@ -82,16 +84,20 @@ pub record AreClients (clients : List ScriptClient) : Type 0 where
 
 -- the operation of this number, counted from 1, of a client that is there
 abbrev pub IsTarget : List ScriptClient → ℕ → ℕ → Type 0
-IsTarget clients client number = (client < length clients) × (1 ≤ number) × (number ≤ ops_of clients client)
+IsTarget clients client number =
+    (client < length clients) × (1 ≤ number) × (number ≤ ops_of clients client)
 
 -- a crash point names an operation, and a number of votes from 1 to 8 or a node
 abbrev pub IsPoint : ℕ → List ScriptClient → Point → Type 0
-IsPoint nodes clients (Kill client number votes) = IsTarget clients client.0 number × (1 ≤ votes) × (votes ≤ 8)
-IsPoint nodes clients (Stop node client number at) = (node.0 < nodes) × IsTarget clients client.0 number
+IsPoint nodes clients (Kill client number votes) =
+    IsTarget clients client.0 number × (1 ≤ votes) × (votes ≤ 8)
+IsPoint nodes clients (Stop node client number at) =
+    (node.0 < nodes) × IsTarget clients client.0 number
 
 -- a recovery coordinator, counted from 1, and a client that are there
 abbrev pub IsRecovery : ℕ → List ScriptClient → ℕ → ℕ → Type 0
-IsRecovery recoverers clients recoverer client = (1 ≤ recoverer) × (recoverer ≤ recoverers) × (client < length clients)
+IsRecovery recoverers clients recoverer client =
+    (1 ≤ recoverer) × (recoverer ≤ recoverers) × (client < length clients)
 
 -- an act names a client, a node or a recovery coordinator and a client that are there
 abbrev pub IsAct : ℕ → ℕ → List ScriptClient → Act → Type 0
@@ -101,8 +107,10 @@ IsAct nodes recoverers clients (acts.Go client) = client.0 < length clients
 IsAct nodes recoverers clients (acts.All client) = client.0 < length clients
 IsAct nodes recoverers clients (acts.Halt node) = node.0 < nodes
 IsAct nodes recoverers clients (acts.Restart node) = node.0 < nodes
-IsAct nodes recoverers clients (acts.Rstep recoverer client) = IsRecovery recoverers clients recoverer client.0
-IsAct nodes recoverers clients (acts.Recover recoverer client) = IsRecovery recoverers clients recoverer client.0
+IsAct nodes recoverers clients (acts.Rstep recoverer client) =
+    IsRecovery recoverers clients recoverer client.0
+IsAct nodes recoverers clients (acts.Recover recoverer client) =
+    IsRecovery recoverers clients recoverer client.0
 
 -- the rules and limits of a script, but for the length of its text
 pub record IsScript (s : Script) : Type 0 where

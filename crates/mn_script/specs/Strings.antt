@@ -6,4 +6,6 @@ use Rattle.mn_script.specs.Words.{Text, unspelled}
 -- stands for nothing
 abbrev pub FirstOf : Text → Option (ℕ × ℕ) → Type 0
 FirstOf word None = (1 ≤ length word) → unspelled word ≡ None
-FirstOf word (Some first) = (1 ≤ first.1) × (first.1 ≤ length word) × (unspelled word ≡ option_map (λ bs. first.0 ∷ bs) (unspelled (drop first.1 word)))
+FirstOf word (Some first) =
+    (1 ≤ first.1) × (first.1 ≤ length word)
+    × (unspelled word ≡ option_map (λ bs. first.0 ∷ bs) (unspelled (drop first.1 word)))

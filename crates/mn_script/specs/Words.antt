@@ -1,5 +1,7 @@
 -- The words of a line, and what they say.
-use Rattle.std.specs.Prelude.{◌≡◌, ℕ, ◌+◌, ◌-◌, ◌*◌, Bool, false, ◌&&◌, not, List, [], ◌∷◌, ◌==◌, nat_le, nat_lt, length, take, drop, min, Option, Some, None, option_map, option_and_then, Result, Ok, Err, bytes_eq, if◌then◌else◌}
+use Rattle.std.specs.Prelude.{◌≡◌, ℕ, ◌+◌, ◌-◌, ◌*◌, Bool, false, ◌&&◌, not, List, [], ◌∷◌, ◌==◌}
+use Rattle.std.specs.Prelude.{nat_le, nat_lt, length, take, drop, min, Option, Some, None}
+use Rattle.std.specs.Prelude.{option_map, option_and_then, Result, Ok, Err, bytes_eq, if◌then◌else◌}
 use Rattle.std.specs.List.{list_all}
 use Rattle.mn_base.specs.Name.{is_name_byte}
 use Rattle.mn_report.specs.Spelling.{is_plain}
@@ -93,14 +95,18 @@ number_word low high word = if is_number word then in_range low high (number_fro
 
 -- the value of a lower-case hexadecimal digit
 abbrev pub digit_value : ℕ → Option ℕ
-digit_value d = if is_digit d then Some (d - 48) else (if nat_le 97 d && nat_le d 102 then Some (d - 87) else None)
+digit_value d =
+    if is_digit d then Some (d - 48)
+    else (if nat_le 97 d && nat_le d 102 then Some (d - 87) else None)
 
 abbrev pub unless_plain : ℕ → Option ℕ
 unless_plain b = if is_plain b then None else Some b
 
 -- the byte that `%` and two digits stand for; one that stands for itself may not be escaped
 abbrev pub escaped : ℕ → ℕ → Option ℕ
-escaped high low = option_and_then (λ h. option_and_then (λ l. unless_plain (h * 16 + l)) (digit_value low)) (digit_value high)
+escaped high low =
+    option_and_then (λ h. option_and_then (λ l. unless_plain (h * 16 + l)) (digit_value low))
+    (digit_value high)
 
 -- the bytes that a word spells
 abbrev pub unspelled : Text → Option Text
@@ -109,14 +115,17 @@ unspelled (b ∷ []) = if is_plain b then Some (b ∷ []) else None
 unspelled (b ∷ h ∷ []) = if is_plain b then option_map (λ bs. b ∷ bs) (unspelled (h ∷ [])) else None
 unspelled (b ∷ h ∷ l ∷ more) =
     if is_plain b then option_map (λ bs. b ∷ bs) (unspelled (h ∷ l ∷ more))
-    else (if b == 37 then option_and_then (λ x. option_map (λ bs. x ∷ bs) (unspelled more)) (escaped h l) else None)
+    else (if b == 37 then option_and_then (λ x. option_map (λ bs. x ∷ bs) (unspelled more))
+    (escaped h l) else None)
 
 -- the byte string that a word stands for: `%` alone is the empty one, and no word is empty
 abbrev pub string_word : Text → Option Text
-string_word word = if bytes_eq word (37 ∷ []) then Some [] else (if length word == 0 then None else unspelled word)
+string_word word =
+    if bytes_eq word (37 ∷ []) then Some [] else (if length word == 0 then None else unspelled word)
 
 abbrev pub of_length : ℕ → ℕ → Text → Option Text
-of_length low high bytes = if nat_le low (length bytes) && nat_le (length bytes) high then Some bytes else None
+of_length low high bytes =
+    if nat_le low (length bytes) && nat_le (length bytes) high then Some bytes else None
 
 abbrev pub key_word : Text → Option Text
 key_word word = option_and_then (of_length 1 32) (string_word word)

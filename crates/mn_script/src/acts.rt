@@ -2,7 +2,8 @@ ghost use Rattle.std.specs.Prelude.{◌≡◌, ◌≤◌, ◌+◌, length, OnOk,
 ghost use Rattle.mn_base.specs.declared.ids.NodeNo.{NodeNo};
 ghost use Rattle.mn_base.specs.declared.ids.ClientNo.{ClientNo};
 ghost use Rattle.mn_script.specs.Words.{Gives, GivesPart};
-ghost use Rattle.mn_script.specs.Lines.{number_at, client_at, by_client, by_node, by_recoverer, act_at, AreFew};
+ghost use Rattle.mn_script.specs.Lines.{number_at, client_at, by_client, by_node, by_recoverer};
+ghost use Rattle.mn_script.specs.Lines.{act_at, AreFew};
 
 use crate::clients::client;
 use crate::elements::Act;

@@ -50,7 +50,8 @@ pub fn mark(line: &[u8], at: usize) -> Result<Mark, LineError>
 
 fn mark_of(line: &[u8], at: &mut usize) -> Result<Mark, LineError>
     requires { at.old ≤ length line.now + 1 }
-    ensures said { GivesPart result at.new (told_at line.now at.old (mark_word (word_at line.now at.old))) }
+    ensures said { GivesPart result at.new
+        (told_at line.now at.old (mark_word (word_at line.now at.old))) }
     ensures within { OnOk result (at.new ≤ length line.now + 1) }
 {
     let word = word(line, *at);

@@ -1,8 +1,15 @@
-ghost use Rattle.std.specs.Prelude.{◌≡◌, ◌≤◌, ◌<◌, ◌+◌, ◌-◌, ◌^◌, length, Option, Some, None, option_map, IfSome, OnOk, OnErr, IfOk, IsOkUnless, not, is_some, bytes_eq, codes};
+ghost use Rattle.std.specs.Prelude.{◌≡◌, ◌≤◌, ◌<◌, ◌+◌, ◌-◌, ◌^◌, length, Option, Some, None};
+ghost use Rattle.std.specs.Prelude.{option_map, IfSome, OnOk, OnErr, IfOk, IsOkUnless, not};
+ghost use Rattle.std.specs.Prelude.{is_some, bytes_eq, codes};
 ghost use Rattle.mn_script.specs.Words.{word_at, told_at, Gives, GivesPart};
 ghost use Rattle.mn_script.specs.Lines.{client_named};
 ghost use Rattle.mn_script.specs.Script.{steps_in, limit_in};
-ghost use Rattle.mn_script.specs.Reading.{empty_draft, fits_op, add_op, op_line, add_client, new_name, client_line, add_point, add_act, act_line, kill_line, stop_line, nodes_line, recoverers_line, schedule_line, is_head, is_section, is_points, middle_line, line_in, is_passed, line_at, ended, IsDraft, GivesDraft, IsScriptRead};
+ghost use Rattle.mn_script.specs.Reading.{empty_draft, fits_op, add_op, op_line, add_client};
+ghost use Rattle.mn_script.specs.Reading.{new_name, client_line, add_point, add_act, act_line};
+ghost use Rattle.mn_script.specs.Reading.{kill_line, stop_line, nodes_line, recoverers_line};
+ghost use Rattle.mn_script.specs.Reading.{schedule_line, is_head, is_section, is_points};
+ghost use Rattle.mn_script.specs.Reading.{middle_line, line_in, is_passed, line_at, ended, IsDraft};
+ghost use Rattle.mn_script.specs.Reading.{GivesDraft, IsScriptRead};
 
 use crate::acts::act_of;
 use crate::clients::{count_of, mark};
@@ -51,9 +58,21 @@ impl Model for Draft {
 
     ghost Value = { reading.Draft };
 
-    ghost view = { λ d. record { phase = d.phase; nodes = d.nodes; recoverers = d.recoverers; clients = d.clients; points = d.points.items; schedule = d.schedule.items; ops = d.ops; steps = d.steps; limits = d.limits } };
+    ghost view = { λ d. record {
+      phase = d.phase;
+      nodes = d.nodes;
+      recoverers = d.recoverers;
+      clients = d.clients;
+      points = d.points.items;
+      schedule = d.schedule.items;
+      ops =
+          d.ops;
+      steps = d.steps;
+      limits = d.limits;
+    } };
 
-    ghost invariant = { λ d. (AreFew d.clients) × (reading.HasClient d.phase d.clients) × (d.ops ≤ 8000) × (d.steps ≤ 20000) × (d.limits ≤ 100000) };
+    ghost invariant = { λ d. (AreFew d.clients) × (reading.HasClient d.phase d.clients)
+        × (d.ops ≤ 8000) × (d.steps ≤ 20000) × (d.limits ≤ 100000) };
 }
 
 /// How many steps an operation has.
@@ -134,7 +153,8 @@ impl Draft {
     /// A name that no client has yet.
     fn new_name(&self, alloc: Global, line: &[u8], at: &mut usize) -> Result<Name, LineError>
         requires { at.old ≤ length line.now + 1 }
-        ensures said { GivesPart result at.new (told_at line.now at.old (new_name self.now.clients (word_at line.now at.old))) }
+        ensures said { GivesPart result at.new
+            (told_at line.now at.old (new_name self.now.clients (word_at line.now at.old))) }
         ensures within { OnOk result (at.new ≤ length line.now + 1) }
         ensures new { IfOk result (λ name. client_named self.now.clients name ≡ None) }
     {

@@ -1,6 +1,7 @@
 ghost use Rattle.std.specs.Prelude.{◌≡◌, ◌≤◌, ◌+◌, [], ◌∷◌, length, IfOk};
 ghost use Rattle.mn_script.specs.Words.{Gives, end_at};
-ghost use Rattle.mn_script.specs.Lines.{few_steps, tx_op, put_op, get_op, del_op, snapshot_op, branch_op, scan_op, op_at};
+ghost use Rattle.mn_script.specs.Lines.{few_steps, tx_op, put_op, get_op, del_op, snapshot_op};
+ghost use Rattle.mn_script.specs.Lines.{branch_op, scan_op, op_at};
 
 use crate::error::LineError;
 use crate::steps::{del, get, put, steps};

@@ -1,6 +1,7 @@
 ghost use Rattle.std.specs.Prelude.{◌≡◌, ◌≤◌, ◌+◌, length, OnOk, IfOk, ◌<◌};
 ghost use Rattle.mn_script.specs.Words.{word_at, told_at, Gives, GivesPart};
-ghost use Rattle.mn_script.specs.Lines.{number_at, stop_word, target_at, kill_point, stop_point, AreFew};
+ghost use Rattle.mn_script.specs.Lines.{number_at, stop_word, target_at, kill_point, stop_point};
+ghost use Rattle.mn_script.specs.Lines.{AreFew};
 
 use crate::clients::{client, count_of};
 use crate::elements::Point;
@@ -27,7 +28,8 @@ fn target(clients: &Roster, line: &[u8], at: &mut usize) -> Result<(usize, u32),
 
 fn stop_at(line: &[u8], at: &mut usize) -> Result<StopAt, LineError>
     requires { at.old ≤ length line.now + 1 }
-    ensures said { GivesPart result at.new (told_at line.now at.old (stop_word (word_at line.now at.old))) }
+    ensures said { GivesPart result at.new
+        (told_at line.now at.old (stop_word (word_at line.now at.old))) }
     ensures within { OnOk result (at.new ≤ length line.now + 1) }
 {
     let word = word(line, *at);

@@ -1,4 +1,5 @@
-ghost use Rattle.std.specs.Prelude.{◌≡◌, ◌<◌, ◌≤◌, ◌++◌, ◌∷◌, [], length, None, IfSome, OnOk, OnErr, IsOkUnless};
+ghost use Rattle.std.specs.Prelude.{◌≡◌, ◌<◌, ◌≤◌, ◌++◌, ◌∷◌, [], length, None, IfSome, OnOk};
+ghost use Rattle.std.specs.Prelude.{OnErr, IsOkUnless};
 ghost use Rattle.mn_script.specs.Lines.{client_named};
 ghost use Rattle.mn_script.specs.Reading.{with_op};
 
@@ -75,7 +76,8 @@ impl Roster {
     /// as before.
     pub fn push(&mut self, alloc: Global, name: Name, mark: Mark) -> Result<(), LineError>
         requires new { client_named self.old name ≡ None }
-        ensures added { OnOk result (self.new ≡ self.old ++ record { name = name; mark = mark; ops = [] } ∷ []) }
+        ensures added { OnOk result (self.new
+            ≡ self.old ++ record { name = name; mark = mark; ops = [] } ∷ []) }
         ensures kept { OnErr result (self.new ≡ self.old) }
         ensures memory { IsOkUnless result LineError.NoMemory }
     {

@@ -22,16 +22,41 @@ impl Model for Script {
 
     ghost Value = { script.Script };
 
-    ghost view = { λ s. record { nodes = s.nodes; recoverers = s.recoverers; clients = s.clients; points = s.points; schedule = s.schedule } };
+    ghost view = { λ s. record {
+      nodes = s.nodes;
+      recoverers = s.recoverers;
+      clients = s.clients;
+      points = s.points;
+      schedule = s.schedule;
+    } };
 
-    ghost invariant = { λ s. script.IsScript (record { nodes = s.nodes; recoverers = s.recoverers; clients = s.clients; points = s.points; schedule = s.schedule }) };
+    ghost invariant = { λ s. script.IsScript
+        (record {
+          nodes = s.nodes;
+          recoverers = s.recoverers;
+          clients = s.clients;
+          points = s.points;
+          schedule = s.schedule;
+        }) };
 }
 
 impl Script {
     /// The script of these parts, which meet the rules and limits.
     pub fn of(nodes: u8, recoverers: u8, clients: Clients, points: Points, schedule: Acts) -> Self
-        requires { IsScript (record { nodes = nodes; recoverers = recoverers; clients = clients; points = points; schedule = schedule }) }
-        ensures { result ≡ record { nodes = nodes; recoverers = recoverers; clients = clients; points = points; schedule = schedule } }
+        requires { IsScript (record {
+          nodes = nodes;
+          recoverers = recoverers;
+          clients = clients;
+          points = points;
+          schedule = schedule;
+        }) }
+        ensures { result ≡ record {
+          nodes = nodes;
+          recoverers = recoverers;
+          clients = clients;
+          points = points;
+          schedule = schedule;
+        } }
     {
         Script {
             nodes,

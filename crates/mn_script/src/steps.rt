@@ -1,6 +1,8 @@
 ghost use Rattle.std.specs.Prelude.{◌≡◌, ◌≤◌, ◌+◌, ◌∷◌, length, OnOk, bytes_eq, codes};
 ghost use Rattle.mn_script.specs.Words.{word_at, told_at, GivesPart, Gives};
-ghost use Rattle.mn_script.specs.Lines.{literal_at, absent_or_is, want_at, get_step, put_step, del_step, check_step, step_at, entry_at, steps_at, GivesSteps};
+ghost use Rattle.mn_script.specs.Lines.{literal_at, absent_or_is, want_at, get_step, put_step};
+ghost use Rattle.mn_script.specs.Lines.{del_step, check_step, step_at, entry_at, steps_at};
+ghost use Rattle.mn_script.specs.Lines.{GivesSteps};
 
 use crate::error::LineError;
 use crate::words::{key, next, value, word, wrong};
@@ -23,7 +25,8 @@ pub fn literal(line: &[u8], at: &mut usize, wanted: &[u8]) -> Result<(), LineErr
 /// Whether a value is wanted, by the word `is`, or none, by `absent`.
 fn is_wanted(line: &[u8], at: &mut usize) -> Result<bool, LineError>
     requires { at.old ≤ length line.now + 1 }
-    ensures said { GivesPart result at.new (told_at line.now at.old (absent_or_is (word_at line.now at.old))) }
+    ensures said { GivesPart result at.new
+        (told_at line.now at.old (absent_or_is (word_at line.now at.old))) }
     ensures within { OnOk result (at.new ≤ length line.now + 1) }
 {
     let word = word(line, *at);

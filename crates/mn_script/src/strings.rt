@@ -1,4 +1,5 @@
-ghost use Rattle.std.specs.Prelude.{◌≡◌, ◌<◌, ◌++◌, List, ℕ, [], ◌∷◌, Option, Some, None, bytes_eq, option_map, IfOk, IfSome};
+ghost use Rattle.std.specs.Prelude.{◌≡◌, ◌<◌, ◌++◌, List, ℕ, [], ◌∷◌, Option, Some, None, bytes_eq};
+ghost use Rattle.std.specs.Prelude.{option_map, IfOk, IfSome};
 ghost use Rattle.mn_report.specs.Spelling.{is_plain};
 ghost use Rattle.mn_script.specs.Words.{digit_value, escaped, unspelled, string_word};
 ghost use Rattle.mn_script.specs.Strings.{FirstOf};

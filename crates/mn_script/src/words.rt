@@ -1,6 +1,8 @@
 ghost use Rattle.std.specs.Prelude.{◌≡◌, ◌≤◌, ◌<◌, ◌+◌, ◌-◌, ◌*◌, min, length, IsTrue, IfOk, OnOk};
 ghost use Rattle.std.specs.List.{list_all};
-ghost use Rattle.mn_script.specs.Words.{len_to, word_at, next_at, column_at, told_at, end_at, Gives, GivesPart, name_word, number_word, key_word, value_word, is_digit, number_from, is_number};
+ghost use Rattle.mn_script.specs.Words.{len_to, word_at, next_at, column_at, told_at, end_at};
+ghost use Rattle.mn_script.specs.Words.{Gives, GivesPart, name_word, number_word, key_word};
+ghost use Rattle.mn_script.specs.Words.{value_word, is_digit, number_from, is_number};
 ghost use Rattle.mn_script.specs.Lines.{bound_at};
 
 use crate::error::LineError;
@@ -67,7 +69,8 @@ pub fn end(line: &[u8], at: usize) -> Result<(), LineError>
 /// A name.
 pub fn name(alloc: Global, line: &[u8], at: &mut usize) -> Result<Name, LineError>
     requires { at.old ≤ length line.now + 1 }
-    ensures said { GivesPart result at.new (told_at line.now at.old (name_word (word_at line.now at.old))) }
+    ensures said { GivesPart result at.new
+        (told_at line.now at.old (name_word (word_at line.now at.old))) }
     ensures within { OnOk result (at.new ≤ length line.now + 1) }
 {
     match Name::new(alloc, word(line, *at)) {
@@ -126,7 +129,8 @@ fn value_of(word: &[u8]) -> u32
 /// A number from `low` to `high`.
 pub fn number(line: &[u8], at: &mut usize, low: u32, high: u32) -> Result<u32, LineError>
     requires { at.old ≤ length line.now + 1 }
-    ensures said { GivesPart result at.new (told_at line.now at.old (number_word low high (word_at line.now at.old))) }
+    ensures said { GivesPart result at.new
+        (told_at line.now at.old (number_word low high (word_at line.now at.old))) }
     ensures within { OnOk result (at.new ≤ length line.now + 1) }
     ensures range { IfOk result (λ n. (low ≤ n) × (n ≤ high)) }
 {
@@ -145,7 +149,8 @@ pub fn number(line: &[u8], at: &mut usize, low: u32, high: u32) -> Result<u32, L
 /// A key.
 pub fn key(alloc: Global, line: &[u8], at: &mut usize) -> Result<Key, LineError>
     requires { at.old ≤ length line.now + 1 }
-    ensures said { GivesPart result at.new (told_at line.now at.old (key_word (word_at line.now at.old))) }
+    ensures said { GivesPart result at.new
+        (told_at line.now at.old (key_word (word_at line.now at.old))) }
     ensures within { OnOk result (at.new ≤ length line.now + 1) }
 {
     let Some(bytes) = string_of(alloc, word(line, *at))? else {
@@ -167,7 +172,8 @@ pub fn key(alloc: Global, line: &[u8], at: &mut usize) -> Result<Key, LineError>
 /// A value.
 pub fn value(alloc: Global, line: &[u8], at: &mut usize) -> Result<Value, LineError>
     requires { at.old ≤ length line.now + 1 }
-    ensures said { GivesPart result at.new (told_at line.now at.old (value_word (word_at line.now at.old))) }
+    ensures said { GivesPart result at.new
+        (told_at line.now at.old (value_word (word_at line.now at.old))) }
     ensures within { OnOk result (at.new ≤ length line.now + 1) }
 {
     let Some(bytes) = string_of(alloc, word(line, *at))? else {

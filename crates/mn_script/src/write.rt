@@ -2,7 +2,10 @@ ghost use Rattle.std.specs.Prelude.{◌≡◌, ◌≤◌, ◌++◌, length, flat
 ghost use Rattle.mn_report.specs.Spelling.{word_of, spaced, spaced_number};
 ghost use Rattle.mn_script.specs.Script.{IsScript};
 ghost use Rattle.mn_script.specs.Reading.{script_of};
-ghost use Rattle.mn_script.specs.Grammar.{line, want_text, step_text, more_text, steps_text, bound_text, op_text, mark_text, client_text, name_of, stop_text, point_text, act_text, recoverers_text, head_text, schedule_text, script_text};
+ghost use Rattle.mn_script.specs.Grammar.{line, want_text, step_text, more_text, steps_text};
+ghost use Rattle.mn_script.specs.Grammar.{bound_text, op_text, mark_text, client_text, name_of};
+ghost use Rattle.mn_script.specs.Grammar.{stop_text, point_text, act_text, recoverers_text};
+ghost use Rattle.mn_script.specs.Grammar.{head_text, schedule_text, script_text};
 
 use crate::elements::{Act, Mark, Point, ScriptClient};
 use crate::script::Script;
@@ -128,7 +131,8 @@ fn push_op(alloc: Global, out: &mut Vec<u8>, op: &Op) -> Result<(), AllocError>
 }
 
 fn push_ops(alloc: Global, out: &mut Vec<u8>, ops: &[Op]) -> Result<(), AllocError>
-    ensures { OnOk result (out.new.items ≡ out.old.items ++ flat_map (λ op. line (op_text op)) ops.now) }
+    ensures { OnOk result (out.new.items
+        ≡ out.old.items ++ flat_map (λ op. line (op_text op)) ops.now) }
 {
     for op in ops {
         push_op(alloc, out, op)?;
@@ -244,7 +248,8 @@ fn push_points(
     clients: &[ScriptClient],
     points: &[Point],
 ) -> Result<(), AllocError>
-    ensures { OnOk result (out.new.items ≡ out.old.items ++ flat_map (λ p. line (point_text clients.now p)) points.now) }
+    ensures { OnOk result (out.new.items
+        ≡ out.old.items ++ flat_map (λ p. line (point_text clients.now p)) points.now) }
 {
     for point in points {
         push_point(alloc, out, clients, point)?;
@@ -305,7 +310,8 @@ fn push_acts(
     clients: &[ScriptClient],
     acts: &[Act],
 ) -> Result<(), AllocError>
-    ensures { OnOk result (out.new.items ≡ out.old.items ++ flat_map (λ a. line (act_text clients.now a)) acts.now) }
+    ensures { OnOk result (out.new.items
+        ≡ out.old.items ++ flat_map (λ a. line (act_text clients.now a)) acts.now) }
 {
     for act in acts {
         push_act(alloc, out, clients, act)?;
@@ -321,7 +327,8 @@ fn push_number_line(
     word: &[u8],
     number: u8,
 ) -> Result<(), AllocError>
-    ensures { OnOk result (out.new.items ≡ out.old.items ++ line (word.now ++ spaced_number number)) }
+    ensures { OnOk result (out.new.items
+        ≡ out.old.items ++ line (word.now ++ spaced_number number)) }
 {
     out.extend_from_slice(word)?;
     push_spaced_number(alloc, out, u64::from(number))?;
@@ -351,7 +358,8 @@ fn push_schedule(
     clients: &[ScriptClient],
     schedule: &[Act],
 ) -> Result<(), AllocError>
-    ensures { OnOk result (out.new.items ≡ out.old.items ++ schedule_text clients.now schedule.now) }
+    ensures { OnOk result (out.new.items
+        ≡ out.old.items ++ schedule_text clients.now schedule.now) }
 {
     if schedule.is_empty() {
         return Ok(());
@@ -376,7 +384,8 @@ fn push_script(alloc: Global, out: &mut Vec<u8>, script: &Script) -> Result<(), 
 /// script. NoMemory: there was no memory for the text.
 pub fn write_script(alloc: Global, script: &Script) -> Result<Bytes, NoMemory>
     ensures text { IfOk result (λ text. text ≡ script_text script.now) }
-    ensures reads_back { IfOk result (λ text. length text ≤ 4194304 → script_of text ≡ Ok script.now) }
+    ensures reads_back { IfOk result
+        (λ text. length text ≤ 4194304 → script_of text ≡ Ok script.now) }
 {
     let mut out = Vec::new(alloc);
     push_script(alloc, &mut out, script)?;

@@ -1,6 +1,7 @@
 -- The program's command line as clap reads it: its subcommands, their positionals, and the words
 -- that they take.
-use Rattle.std.specs.Prelude.{◌≡◌, ◌<◌, ◌^◌, ◌==◌, ℕ, Bool, codes, decimal, true, false, ⊤, List, [], ◌∷◌, ◌++◌, Option, Some, None}
+use Rattle.std.specs.Prelude.{◌≡◌, ◌<◌, ◌^◌, ◌==◌, ℕ, Bool, codes, decimal, true, false, ⊤, List}
+use Rattle.std.specs.Prelude.{[], ◌∷◌, ◌++◌, Option, Some, None}
 use Rattle.std.specs.List.{list_any}
 use Rattle.clap.specs.Words.{App, Rule, new_app, new_rule, with_rule, with_subcommand}
 use Rattle.mn_top.specs.Words.{Text, command_word, folder_words}
@@ -33,10 +34,17 @@ abbrev pub checks : Text → App
 checks name = with_rule (with_rule (new_app name) nodes) needed_folder
 
 abbrev pub bare : App
-bare = record (new_app (codes "minuet")) { top = record (new_app (codes "minuet")).top { no_binary_name = true; disable_help_flag = true; disable_help_subcommand = true } }
+bare =
+    record (new_app (codes "minuet")) {
+      top = record (new_app (codes "minuet")).top
+          { no_binary_name = true; disable_help_flag = true; disable_help_subcommand = true };
+    }
 
 abbrev pub minuet : App
-minuet = with_subcommand (with_subcommand (with_subcommand (with_subcommand bare (plays (codes "replay")).top) (plays (codes "run")).top) (makes (codes "gen")).top) (checks (codes "check")).top
+minuet =
+    with_subcommand (with_subcommand
+    (with_subcommand (with_subcommand bare (plays (codes "replay")).top) (plays (codes "run")).top)
+    (makes (codes "gen")).top) (checks (codes "check")).top
 
 -- of the commands, gen alone has a number
 abbrev pub HasNumber : Command → Option Text → Type 0
@@ -52,7 +60,9 @@ HasFolder _ _ = ⊤
 
 -- the words are those of a subcommand and of its positionals
 abbrev pub Split : List Text → Command → Text → Option Text → Option Text → Type 0
-Split words command nodes number folder = (words ≡ command_word command ∷ nodes ∷ (folder_words number ++ folder_words folder)) × HasNumber command number × HasFolder command folder
+Split words command nodes number folder =
+    (words ≡ command_word command ∷ nodes ∷ (folder_words number ++ folder_words folder))
+    × HasNumber command number × HasFolder command folder
 
 -- a word that begins with a hyphen
 abbrev pub is_option : Text → Bool

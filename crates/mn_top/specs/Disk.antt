@@ -39,12 +39,16 @@ Begins content bodies = Stands 0 1 content bodies ⊎ ((at : ℕ) × IsDamagedBe
 
 -- the bytes are damaged at this place, behind bodies that are all records
 abbrev pub IsDamagedFirst : List ℕ → ℕ → Type 0
-IsDamagedFirst content at = (bodies : List (List ℕ)) × IsDamagedBehind content at bodies × ((records : List Record) × AreRecords bodies records)
+IsDamagedFirst content at =
+    (bodies : List (List ℕ)) × IsDamagedBehind content at bodies
+    × ((records : List Record) × AreRecords bodies records)
 
 -- where the log of an honest disk is first outside its grammar: at the place of its damage, or at
 -- the gate of the first body that is no record
 abbrev pub IsBadLog : DiskState → ℕ → Type 0
-IsBadLog disk at = disk.honest → IsDamagedFirst disk.content at ⊎ ((bodies : List (List ℕ)) × Begins disk.content bodies × IsFirstBad bodies at)
+IsBadLog disk at =
+    disk.honest → IsDamagedFirst disk.content at
+    ⊎ ((bodies : List (List ℕ)) × Begins disk.content bodies × IsFirstBad bodies at)
 
 -- nothing was written to an honest disk
 pub record IsUnwritten (old new : DiskState) : Type 0 where
@@ -72,7 +76,8 @@ pub record IsBetween (disk : DiskState) (start : Store) (ops : List Op) : Type 0
   pub done : List Op
   pub rest : List Op
   pub split : ops ≡ done ++ rest
-  pub images : (c : List ℕ) → disk.images c → KeepsStore c (store_after_ops start done) ⊎ KeepsStore c (store_after_ops start (done ++ take 1 rest))
+  pub images : (c : List ℕ) → disk.images c → KeepsStore c (store_after_ops start done)
+      ⊎ KeepsStore c (store_after_ops start (done ++ take 1 rest))
 
 -- a run that ended before its end, or didn't begin: an honest disk has what it had, or what it is
 -- between two of the operations
@@ -89,7 +94,8 @@ pub record IsCutShort (old new : DiskState) (ops : List Op) : Type 0 where
 -- A run that is done. It began with what the disk showed; the report is of the store's own replies,
 -- and an honest disk stands for the records from before and those of this run, whose number is one
 -- above each there was. They make the leaf of what the store is after the operations.
-pub record IsRunDone (old new : DiskState) (clients : List ScriptClient) (report : List ℕ) : Type 0 where
+pub record IsRunDone (old new : DiskState) (clients : List ScriptClient) (report : List ℕ)
+    : Type 0 where
   pub before : List Record
   pub seq : ℕ
   pub pairs : List Pair

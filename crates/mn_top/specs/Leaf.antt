@@ -14,7 +14,15 @@ use Rattle.mn_page.specs.Forest.{Forest, front_of, laid_of, space_laid, main_ent
 
 -- the leaf with open fences, made in version 0 and copied for none
 abbrev pub leaf_page : ℕ → List Pair → Page
-leaf_page seq pairs = record { seq = seq; made = record { 0 = 0 }; copied = 0; low = []; high = None; body = body.Leaf pairs }
+leaf_page seq pairs =
+    record {
+      seq = seq;
+      made = record { 0 = 0 };
+      copied = 0;
+      low = [];
+      high = None;
+      body = body.Leaf pairs;
+    }
 
 -- each has a key and a value that a page may hold
 abbrev pub ArePairs : List Pair → Type 0
@@ -22,7 +30,8 @@ ArePairs pairs = AllByRecursion (λ p. IsKey p.key × IsValue p.value) pairs
 
 -- `main` alone, with this leaf as its root in the first slot of the one node
 abbrev pub leaf_forest : ℕ → List Pair → Forest
-leaf_forest seq pairs = record { entries = main_entry ∷ []; pages = (leaf_page seq pairs ∷ []) ∷ [] }
+leaf_forest seq pairs =
+    record { entries = main_entry ∷ []; pages = (leaf_page seq pairs ∷ []) ∷ [] }
 
 unfoldable pub leaf_space : ℕ → List Pair → List ℕ
 leaf_space seq pairs = space_laid (laid_of (leaf_forest seq pairs)) 0

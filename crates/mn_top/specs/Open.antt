@@ -24,7 +24,11 @@ pub record IsOpen (bodies : List (List ℕ)) (ops : List Op) (run : ℕ) : Type 
 -- why there is no run
 abbrev pub IsJudged : List (List ℕ) → List Op → Due → Type 0
 IsJudged bodies ops (Damaged node place Log) = (node ≡ 0) × IsFirstBad bodies place
-IsJudged bodies ops (Damaged node place Runs) = (node ≡ 0) × (place ≡ 0) × ((records : List Record) × AreRecords bodies records × (HasNext records → ⊥))
-IsJudged bodies ops Unbuilt = (records : List Record) × AreRecords bodies records × HasNext records × IsUnservedDisk records ops
+IsJudged bodies ops (Damaged node place Runs) =
+    (node ≡ 0) × (place ≡ 0) × ((records : List Record) × AreRecords bodies records
+    × (HasNext records → ⊥))
+IsJudged bodies ops Unbuilt =
+    (records : List Record) × AreRecords bodies records × HasNext records
+    × IsUnservedDisk records ops
 IsJudged bodies ops NoMemory = Unit {0}
 IsJudged bodies ops _ = ⊥

@@ -18,7 +18,8 @@ use Rattle.mn_top.specs.declared.caller.Stop.TheVariants.{Fault}
 use Rattle.mn_top.specs.declared.caller.Stop.TheVariants as ended
 
 -- the log of node 0 of one was read from this disk, and nothing was written
-pub record WasOpened {D : Type 0} (state : D → DiskState) (faults : D → ℕ) (old : D) (redo : RedoState D) : Type 0 where
+pub record WasOpened {D : Type 0} (state : D → DiskState) (faults : D → ℕ) (old : D)
+    (redo : RedoState D) : Type 0 where
   pub going : redo.phase ≢ Closing
   pub node : redo.node ≡ 0
   pub nodes : redo.nodes ≡ 1
@@ -29,12 +30,15 @@ pub record WasOpened {D : Type 0} (state : D → DiskState) (faults : D → ℕ)
   pub later : faults old ≤ faults redo.disk
 
 -- the log of this disk wasn't opened, for this cause, and nothing was written
-pub record WasntOpened {D : Type 0} (state : D → DiskState) (faults : D → ℕ) (old : D) (cause : OpenCause) (disk : D) : Type 0 where
+pub record WasntOpened {D : Type 0} (state : D → DiskState) (faults : D → ℕ) (old : D)
+    (cause : OpenCause) (disk : D) : Type 0 where
   pub unwritten : IsUnwritten (state old) (state disk)
   pub later : faults old ≤ faults disk
   pub fault : cause ≡ opening.Fault → Rose (faults old) (faults disk)
-  pub damaged : (state old).honest → (at : ℕ) → cause ≡ opening.Damaged at → IsDamaged 0 1 (state old).content at
-  pub content : (state old).honest → (at : ℕ) → cause ≡ opening.Damaged at → (state disk).content ≡ (state old).content
+  pub damaged : (state old).honest → (at : ℕ) → cause ≡ opening.Damaged at
+      → IsDamaged 0 1 (state old).content at
+  pub content : (state old).honest → (at : ℕ) → cause ≡ opening.Damaged at
+      → (state disk).content ≡ (state old).content
 
 -- what is due where a log wasn't opened
 abbrev pub due_of_opening : OpenCause → Due

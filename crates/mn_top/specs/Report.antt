@@ -18,16 +18,24 @@ use Rattle.mn_top.specs.Served.{ops_of}
 abbrev pub answers_from : List ℕ → ℕ → Store → List Op → List AnswerLine
 answers_from client number store [] = []
 answers_from client number store (op ∷ ops) =
-    record { client = client; number = number; answer = Answered (Replied (applied store op).reply) } ∷ answers_from client (number + 1) (applied store op).store ops
+    record {
+      client = client;
+      number = number;
+      answer =
+          Answered (Replied (applied store op).reply);
+    }
+    ∷ answers_from client (number + 1) (applied store op).store ops
 
 -- a client's operations as a history, numbered from here on
 abbrev pub ranks_from : List ℕ → ℕ → List Op → List Ranked
 ranks_from client number [] = []
-ranks_from client number (op ∷ ops) = record { client = client; number = number } ∷ ranks_from client (number + 1) ops
+ranks_from client number (op ∷ ops) =
+    record { client = client; number = number } ∷ ranks_from client (number + 1) ops
 
 abbrev pub answers_of : Store → List ScriptClient → List AnswerLine
 answers_of store [] = []
-answers_of store (c ∷ clients) = answers_from c.name 1 store c.ops ++ answers_of (store_after_ops store c.ops) clients
+answers_of store (c ∷ clients) =
+    answers_from c.name 1 store c.ops ++ answers_of (store_after_ops store c.ops) clients
 
 abbrev pub history_of : List ScriptClient → List Ranked
 history_of clients = flat_map (λ c. ranks_from c.name 1 c.ops) clients
@@ -36,7 +44,13 @@ history_of clients = flat_map (λ c. ranks_from c.name 1 c.ops) clients
 abbrev pub version_told : Store → StoreVersion → VersionLine
 version_told store v =
     let l = listed (heads_of store) v.head in
-    record { name = l.name; parent = l.parent; frozen = l.frozen; count = length v.pairs; digest = pairs_digest v.pairs }
+    record {
+      name = l.name;
+      parent = l.parent;
+      frozen = l.frozen;
+      count = length v.pairs;
+      digest = pairs_digest v.pairs;
+    }
 
 abbrev pub versions_told : Store → List VersionLine
 versions_told store = map (version_told store) store

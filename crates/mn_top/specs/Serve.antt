@@ -1,5 +1,6 @@
 -- What an operation reads and writes in the space of the one node, and what it leaves of the node.
-use Rattle.std.specs.Prelude.{◌≡◌, ◌⊎◌, ◌+◌, ◌<◌, ◌^◌, ℕ, Bool, true, false, List, [], ◌∷◌, Result, Ok, Err, Option, None, Some, ⊤, reverse, bytes_eq}
+use Rattle.std.specs.Prelude.{◌≡◌, ◌⊎◌, ◌+◌, ◌<◌, ◌^◌, ℕ, Bool, true, false, List, [], ◌∷◌, Result}
+use Rattle.std.specs.Prelude.{Ok, Err, Option, None, Some, ⊤, reverse, bytes_eq}
 use Rattle.std.specs.List.{list_all}
 use Rattle.mn_base.specs.declared.ids.NodeNo.{NodeNo}
 use Rattle.mn_base.specs.declared.op.Op.{Op}
@@ -58,7 +59,8 @@ leaf_written (Some new) = Write node_0 20480 new ∷ []
 -- the page of the leaf with these pairs, written once more; or none, where they are the old page's
 abbrev pub IsWritten : List ℕ → ℕ → List Pair → Option (List ℕ) → Type 0
 IsWritten old seq pairs None = old ≡ page_bytes (leaf_page seq pairs)
-IsWritten old seq pairs (Some new) = (new ≡ page_bytes (leaf_page (seq + 1) pairs)) × (seq + 1 < 2 ^ 64)
+IsWritten old seq pairs (Some new) =
+    (new ≡ page_bytes (leaf_page (seq + 1) pairs)) × (seq + 1 < 2 ^ 64)
 
 abbrev pub space_on : {D : Type 0} → NodeState D → List ℕ
 space_on node = space_of (base_of 1 0) (reverse node.records)
@@ -73,7 +75,8 @@ pub record IsAlone {D : Type 0} (state : D → DiskState) (node : NodeState D) :
   pub stands : StandsForRecords (state node.disk) 0 1 node.records
 
 -- its records make this leaf
-pub record Serves {D : Type 0} (state : D → DiskState) (node : NodeState D) (seq : ℕ) (pairs : List Pair) : Type 0 where
+pub record Serves {D : Type 0} (state : D → DiskState) (node : NodeState D) (seq : ℕ)
+    (pairs : List Pair) : Type 0 where
   pub alone : IsAlone state node
   pub makes : MakesLeaf node.records seq pairs
 
@@ -82,13 +85,19 @@ SameCaller old new = (new.run ≡ old.run) × (new.client ≡ old.client)
 
 -- what a request is answered by a node that is up: its answer, or the want of memory, or the fault
 -- of its disk
-abbrev pub IsAnswered : {D : Type 0} → (D → DiskState) → (D → ℕ) → NodeState D → Request → Result NodeReply Stop → NodeState D → Type 0
+abbrev pub IsAnswered : {D : Type 0} → (D → DiskState) → (D → ℕ) → NodeState D → Request
+    → Result NodeReply Stop → NodeState D → Type 0
 IsAnswered state faults old request (Ok reply) new =
-    (new.down ≡ false) × ((response_to old request).reply ≡ reply) × (new.records ≡ added_to old.records (response_to old request).added) × StandsForRecords (state new.disk) new.node new.nodes new.records
-IsAnswered state faults old request (Err NoMemory) new = (new.down ≡ false) × (new.records ≡ old.records) × StandsForRecords (state new.disk) new.node new.nodes new.records
+    (new.down ≡ false) × ((response_to old request).reply ≡ reply)
+    × (new.records ≡ added_to old.records (response_to old request).added)
+    × StandsForRecords (state new.disk) new.node new.nodes new.records
+IsAnswered state faults old request (Err NoMemory) new =
+    (new.down ≡ false) × (new.records ≡ old.records)
+    × StandsForRecords (state new.disk) new.node new.nodes new.records
 IsAnswered state faults old request (Err Fault) new =
     Rose (faults old.disk) (faults new.disk)
-    × ((state old.disk).honest → StandsWithOrWithout (state new.disk) old.node old.nodes old.records (response_to old request).added)
+    × ((state old.disk).honest → StandsWithOrWithout (state new.disk) old.node old.nodes old.records
+    (response_to old request).added)
 
 -- a node whose records have stayed
 pub record Stays {D : Type 0} (state : D → DiskState) (old new : NodeState D) : Type 0 where
@@ -96,17 +105,22 @@ pub record Stays {D : Type 0} (state : D → DiskState) (old new : NodeState D) 
   pub records : new.records ≡ old.records
 
 -- what a read left, by why it failed
-abbrev pub Fails : {D : Type 0} → (D → DiskState) → (D → ℕ) → NodeState D → Stop → NodeState D → Type 0
+abbrev pub Fails : {D : Type 0} → (D → DiskState) → (D → ℕ) → NodeState D → Stop → NodeState D
+    → Type 0
 Fails state faults old NoMemory new = Stays state old new
-Fails state faults old Fault new = Rose (faults old.disk) (faults new.disk) × ((state old.disk).honest → StandsFor (state new.disk) 0 1 (bodies_of old.records))
+Fails state faults old Fault new =
+    Rose (faults old.disk) (faults new.disk)
+    × ((state old.disk).honest → StandsFor (state new.disk) 0 1 (bodies_of old.records))
 
 -- a read leaves the records
-abbrev pub IsRead : {D X : Type 0} → (D → DiskState) → (D → ℕ) → NodeState D → Result X Stop → NodeState D → Type 0
+abbrev pub IsRead : {D X : Type 0} → (D → DiskState) → (D → ℕ) → NodeState D → Result X Stop
+    → NodeState D → Type 0
 IsRead state faults old (Ok x) new = Stays state old new
 IsRead state faults old (Err e) new = Fails state faults old e new
 
 -- a read told these bytes
-abbrev pub Tells : {D : Type 0} → (D → DiskState) → (D → ℕ) → NodeState D → List ℕ → Result (List ℕ) Stop → NodeState D → Type 0
+abbrev pub Tells : {D : Type 0} → (D → DiskState) → (D → ℕ) → NodeState D → List ℕ
+    → Result (List ℕ) Stop → NodeState D → Type 0
 Tells state faults old bytes (Ok told) new = (told ≡ bytes) × Stays state old new
 Tells state faults old bytes (Err e) new = Fails state faults old e new
 
@@ -117,15 +131,21 @@ pub record Makes (records : List Record) (space : List ℕ) : Type 0 where
 
 -- what a minitransaction whose compares hold did: it read, and its writes are made by one more
 -- record of this run, or by none where there are none
-abbrev pub Executes : {D : Type 0} → (D → DiskState) → (D → ℕ) → ℕ → List Item → NodeState D → Result (List (List ℕ)) Stop → NodeState D → Type 0
+abbrev pub Executes : {D : Type 0} → (D → DiskState) → (D → ℕ) → ℕ → List Item → NodeState D
+    → Result (List (List ℕ)) Stop → NodeState D → Type 0
 Executes state faults run items old (Ok reads) new =
-    (reads ≡ part_reads (space_on old) (part_on items)) × IsAlone state new × (space_on new ≡ space_after_part (space_on old) (part_on items)) × Grew run old.records new.records
+    (reads ≡ part_reads (space_on old) (part_on items)) × IsAlone state new
+    × (space_on new ≡ space_after_part (space_on old) (part_on items))
+    × Grew run old.records new.records
     × (has_write (part_on items) ≡ false → new.records ≡ old.records)
 Executes state faults run items old (Err NoMemory) new = Stays state old new
 Executes state faults run items old (Err Fault) new =
     Rose (faults old.disk) (faults new.disk)
-    × ((state old.disk).honest → (c : List ℕ) → (state new.disk).images c → Stands 0 1 c (bodies_of old.records)
-    ⊎ ((has_write (part_on items) ≡ true) × ((records : List Record) × Stands 0 1 c (bodies_of records) × Makes records (space_after_part (space_on old) (part_on items)))))
+    × ((state old.disk).honest → (c : List ℕ) → (state new.disk).images c
+    → Stands 0 1 c (bodies_of old.records)
+    ⊎ ((has_write (part_on items) ≡ true)
+    × ((records : List Record) × Stands 0 1 c (bodies_of records)
+    × Makes records (space_after_part (space_on old) (part_on items)))))
 
 -- Operations
 
@@ -156,11 +176,14 @@ pub record IsTaken (pairs : List Pair) (op : Op) : Type 0 where
 -- what an operation does to a node that serves these pairs, by its end: the reply is the store's,
 -- and the node serves what the store has then; for want of memory it serves what it served; and
 -- where the disk failed, each image of an honest one keeps the store from before or behind it
-abbrev pub DoesOn : {D : Type 0} → (D → DiskState) → (D → ℕ) → ℕ → ℕ → List Pair → Op → NodeState D → Result Reply Stop → NodeState D → Type 0
+abbrev pub DoesOn : {D : Type 0} → (D → DiskState) → (D → ℕ) → ℕ → ℕ → List Pair → Op → NodeState D
+    → Result Reply Stop → NodeState D → Type 0
 DoesOn state faults run seq pairs op old (Ok reply) new =
     (reply ≡ (applied (main_store pairs) op).reply) × Grew run old.records new.records
-    × ((n : ℕ) × (left : List Pair) × Serves state new n left × (main_store left ≡ (applied (main_store pairs) op).store))
+    × ((n : ℕ) × (left : List Pair) × Serves state new n left
+    × (main_store left ≡ (applied (main_store pairs) op).store))
 DoesOn state faults run seq pairs op old (Err NoMemory) new = Serves state new seq pairs
 DoesOn state faults run seq pairs op old (Err Fault) new =
     Rose (faults old.disk) (faults new.disk)
-    × ((state old.disk).honest → (c : List ℕ) → (state new.disk).images c → KeepsStore c (main_store pairs) ⊎ KeepsStore c (applied (main_store pairs) op).store)
+    × ((state old.disk).honest → (c : List ℕ) → (state new.disk).images c
+    → KeepsStore c (main_store pairs) ⊎ KeepsStore c (applied (main_store pairs) op).store)

@@ -1,11 +1,13 @@
 -- Which scripts and which disks are served, while there is one leaf on one node.
-use Rattle.std.specs.Prelude.{◌≡◌, ◌<◌, ◌^◌, ℕ, Bool, true, false, ◌||◌, nat_lt, List, [], ◌∷◌, length, codes, bytes_eq, if◌then◌else◌}
+use Rattle.std.specs.Prelude.{◌≡◌, ◌<◌, ◌^◌, ℕ, Bool, true, false, ◌||◌, nat_lt, List, [], ◌∷◌}
+use Rattle.std.specs.Prelude.{length, codes, bytes_eq, if◌then◌else◌}
 use Rattle.std.specs.List.{list_any, flat_map}
 use Rattle.mn_base.specs.declared.op.Op.{Op}
 use Rattle.mn_base.specs.declared.op.Op.TheVariants.{Tx, Versions}
 use Rattle.mn_base.specs.declared.op.Step.{Step}
 use Rattle.mn_base.specs.declared.reply.Pair.{Pair}
-use Rattle.mn_base.specs.Store.{Store, applied, main_name, main_store, pairs_named, pairs_after_step, is_unmet}
+use Rattle.mn_base.specs.Store.{Store, applied, main_name, main_store, pairs_named}
+use Rattle.mn_base.specs.Store.{pairs_after_step, is_unmet}
 use Rattle.mn_mini.specs.declared.record.Record.{Record}
 use Rattle.mn_script.specs.declared.elements.ScriptClient.{ScriptClient}
 use Rattle.mn_script.specs.Script.{Script}
@@ -36,7 +38,9 @@ has_schedule text = list_any (λ line. bytes_eq line (codes "schedule")) (lines_
 -- it has several nodes, a recovery coordinator, a crash point, the line `schedule`, or an operation
 -- on versions
 abbrev pub is_unserved : List ℕ → Script → Bool
-is_unserved text s = nat_lt 1 s.nodes || nat_lt 0 s.recoverers || is_some_list s.points || has_schedule text || list_any is_of_versions (ops_of s.clients)
+is_unserved text s =
+    nat_lt 1 s.nodes || nat_lt 0 s.recoverers || is_some_list s.points || has_schedule text
+    || list_any is_of_versions (ops_of s.clients)
 
 -- Room
 
@@ -45,17 +49,22 @@ abbrev pub overfills : List Pair → List Step → Bool
 overfills pairs [] = false
 overfills pairs (step ∷ steps) =
     if is_unmet pairs step then false
-    else nat_lt 8 (length (pairs_after_step pairs step)) || overfills (pairs_after_step pairs step) steps
+    else nat_lt 8 (length (pairs_after_step pairs step))
+    || overfills (pairs_after_step pairs step) steps
 
 -- what a step made of a store of these pairs: a check isn't met; there are more than eight pairs;
 -- or else it was done
 abbrev pub Took : List Pair → Step → Room → Store → Type 0
 Took pairs step Unmet new = is_unmet pairs step ≡ true
-Took pairs step Full new = (is_unmet pairs step ≡ false) × (nat_lt 8 (length (pairs_after_step pairs step)) ≡ true)
-Took pairs step Free new = (is_unmet pairs step ≡ false) × (nat_lt 8 (length (pairs_after_step pairs step)) ≡ false) × (new ≡ main_store (pairs_after_step pairs step))
+Took pairs step Full new =
+    (is_unmet pairs step ≡ false) × (nat_lt 8 (length (pairs_after_step pairs step)) ≡ true)
+Took pairs step Free new =
+    (is_unmet pairs step ≡ false) × (nat_lt 8 (length (pairs_after_step pairs step)) ≡ false)
+    × (new ≡ main_store (pairs_after_step pairs step))
 
 abbrev pub op_overfills : Store → Op → Bool
-op_overfills store (Tx version steps) = if bytes_eq main_name version then overfills (pairs_named store main_name) steps else false
+op_overfills store (Tx version steps) =
+    if bytes_eq main_name version then overfills (pairs_named store main_name) steps else false
 op_overfills store _ = false
 
 -- the operations, done one after the other, bring a ninth pair into a copy of `main`
@@ -71,7 +80,8 @@ most_writes = 2 ^ 63
 
 -- the records of a disk on which these operations are served: they make a leaf with these pairs
 -- that has room for what they do
-pub record IsServed (records : List Record) (seq : ℕ) (pairs : List Pair) (ops : List Op) : Type 0 where
+pub record IsServed (records : List Record) (seq : ℕ) (pairs : List Pair) (ops : List Op)
+    : Type 0 where
   pub makes : MakesLeaf records seq pairs
   pub fresh : seq < most_writes
   pub room : ops_overfill (main_store pairs) ops ≡ false

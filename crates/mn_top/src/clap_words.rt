@@ -1,10 +1,12 @@
 //! The words of the command line, read with clap.
 
-ghost use Rattle.std.specs.Prelude.{◌≡◌, ◌∷◌, ◌↔◌, [], List, Option, ℕ, IfOk, IsTrue, MatchOption, false, map, option_map, string_bytes};
+ghost use Rattle.std.specs.Prelude.{◌≡◌, ◌∷◌, ◌↔◌, [], List, Option, ℕ, IfOk, IsTrue, MatchOption};
+ghost use Rattle.std.specs.Prelude.{false, map, option_map, string_bytes};
 ghost use Rattle.std.specs.List.{list_any};
 ghost use Rattle.clap.specs.Words.{app_of};
 ghost use Rattle.clap.specs.declared.builder.Command.TheViews.{out-Command};
-ghost use Rattle.mn_top.specs.CommandLine.{AllPlain, MayBeNumber, Split, checks, is_option, makes, minuet, plays};
+ghost use Rattle.mn_top.specs.CommandLine.{AllPlain, MayBeNumber, Split, checks, is_option, makes};
+ghost use Rattle.mn_top.specs.CommandLine.{minuet, plays};
 ghost use Rattle.mn_top.specs.Words.{AskNothing, Asked, Asks, IsSaid, MayBeFolder, Text};
 ghost use Rattle.mn_top.specs.declared.words.Command.{Command};
 
@@ -16,7 +18,8 @@ use std::alloc::{AllocError, Global};
 
 /// A subcommand that takes nodes, and perhaps a folder.
 fn plays<'a>(alloc: Global, name: &'a str) -> Result<Subcommand<'a>, AllocError>
-    ensures { IfOk result (λ r. (app_of r ≡ plays name.entry.now) × ((out-Command r).has_globals ≡ false)) }
+    ensures { IfOk result (λ r. (app_of r ≡ plays name.entry.now)
+        × ((out-Command r).has_globals ≡ false)) }
 {
     let nodes = Arg::new(alloc, "nodes").required(true);
     let folder = Arg::new(alloc, "folder");
@@ -25,7 +28,8 @@ fn plays<'a>(alloc: Global, name: &'a str) -> Result<Subcommand<'a>, AllocError>
 
 /// A subcommand that takes nodes and a number, and perhaps a folder.
 fn makes<'a>(alloc: Global, name: &'a str) -> Result<Subcommand<'a>, AllocError>
-    ensures { IfOk result (λ r. (app_of r ≡ makes name.entry.now) × ((out-Command r).has_globals ≡ false)) }
+    ensures { IfOk result (λ r. (app_of r ≡ makes name.entry.now)
+        × ((out-Command r).has_globals ≡ false)) }
 {
     let nodes = Arg::new(alloc, "nodes").required(true);
     let number = Arg::new(alloc, "number").required(true);
@@ -38,7 +42,8 @@ fn makes<'a>(alloc: Global, name: &'a str) -> Result<Subcommand<'a>, AllocError>
 
 /// A subcommand that takes nodes and a folder.
 fn checks<'a>(alloc: Global, name: &'a str) -> Result<Subcommand<'a>, AllocError>
-    ensures { IfOk result (λ r. (app_of r ≡ checks name.entry.now) × ((out-Command r).has_globals ≡ false)) }
+    ensures { IfOk result (λ r. (app_of r ≡ checks name.entry.now)
+        × ((out-Command r).has_globals ≡ false)) }
 {
     let nodes = Arg::new(alloc, "nodes").required(true);
     let folder = Arg::new(alloc, "folder").required(true);
@@ -98,8 +103,11 @@ fn has_option(words: &[String]) -> bool
 /// before clap reads them: it would take `--`.
 fn split<'a>(alloc: Global, words: &'a [String]) -> Result<Option<Parts<'a>>, AllocError>
     ensures { IfOk result (λ r. MatchOption r
-        ((command : Command) (nodes : Text) (number folder : Option Text) → AllPlain (map string_bytes words.entry.now) → Split (map string_bytes words.entry.now) command nodes number folder → ⊥)
-        (λ p. Split (map string_bytes words.entry.now) p.command p.nodes.now (option_map (λ s. s.now) p.number) (option_map (λ s. s.now) p.folder))) }
+        ((command : Command) (nodes : Text) (number folder : Option Text)
+        → AllPlain (map string_bytes words.entry.now)
+        → Split (map string_bytes words.entry.now) command nodes number folder → ⊥)
+        (λ p. Split (map string_bytes words.entry.now) p.command p.nodes.now
+        (option_map (λ s. s.now) p.number) (option_map (λ s. s.now) p.folder))) }
 {
     if has_option(words) {
         return Ok(None);
@@ -155,7 +163,9 @@ fn may_be_folder(word: Option<&str>) -> bool
 
 /// What the words ask for: nothing exactly for wrong ones.
 pub fn read_words(alloc: Global, words: &Words) -> Result<Option<CommandLine<'_>>, NoMemory>
-    ensures { IfOk result (λ line. MatchOption line (AskNothing words.now) (λ line. (asked : Asked) × Asks words.now asked × IsSaid line asked)) }
+    ensures { IfOk result (λ line.
+        MatchOption line (AskNothing words.now)
+        (λ line. (asked : Asked) × Asks words.now asked × IsSaid line asked)) }
 {
     let Some(parts) = split(alloc, words.texts())? else {
         return Ok(None);

@@ -15,7 +15,9 @@ use std::alloc::Global;
 
 /// The place of the gate of the first of these bodies that is no record.
 fn first_bad(alloc: Global, front: &Front) -> Result<Option<u64>, NoMemory>
-    ensures { IfOk result (λ found. MatchOption found ((records : List Record) × AreRecords front.now records) (IsFirstBad front.now)) }
+    ensures { IfOk result (λ found.
+        MatchOption found ((records : List Record) × AreRecords front.now records)
+        (IsFirstBad front.now)) }
 {
     for number in 0..front.count() {
         match Record::read(alloc, front.body(number)) {
@@ -41,7 +43,9 @@ fn bad_log(place: u64) -> Due
 /// What is due where a log wasn't opened. Of a damaged one it is the lower place: that of the
 /// damage, or that of the first body in front of it that is no record.
 pub fn due_of_open<D: Disk>(alloc: Global, disk: &mut D, cause: OpenCause) -> Due
-    ensures { (old : D) (clients : List ScriptClient) → WasntOpened D.state D.faults old cause disk.old → ComesTo D.state D.faults clients old result disk.new }
+    ensures { (old : D) (clients : List ScriptClient)
+        → WasntOpened D.state D.faults old cause disk.old
+        → ComesTo D.state D.faults clients old result disk.new }
 {
     match cause {
         OpenCause::Fault => Due::DiskFault { node: 0 },

@@ -33,7 +33,8 @@ fn with_number(alloc: Global, words: &[u8], number: u64) -> Result<Vec<u8>, Allo
 
 /// Words and two numbers.
 fn with_numbers(alloc: Global, words: &[u8], first: u64, second: u64) -> Result<Vec<u8>, AllocError>
-    ensures { IfOk result (λ text. text.items ≡ words.now ++ (spaced_number first ++ spaced_number second)) }
+    ensures { IfOk result (λ text. text.items
+        ≡ words.now ++ (spaced_number first ++ spaced_number second)) }
 {
     let mut text = with_number(alloc, words, first)?;
     push_spaced_number(alloc, &mut text, second)?;
@@ -42,7 +43,8 @@ fn with_numbers(alloc: Global, words: &[u8], first: u64, second: u64) -> Result<
 
 /// Where a log is damaged, and by which rule.
 fn damage_text(alloc: Global, node: u8, place: u64, rule: DamageRule) -> Result<Vec<u8>, AllocError>
-    ensures { IfOk result (λ text. text.items ≡ codes "damaged" ++ (spaced_number node ++ (spaced_number place ++ rule_name rule))) }
+    ensures { IfOk result (λ text. text.items
+        ≡ codes "damaged" ++ (spaced_number node ++ (spaced_number place ++ rule_name rule))) }
 {
     let mut text = with_numbers(alloc, b"damaged", node as u64, place)?;
     text.extend_from_slice(rule.name())?;
@@ -103,7 +105,8 @@ impl Due {
 /// Writes a text, and answers the status that goes with it, or 4 after a fault of the sink.
 fn write<W: Sink>(sink: &mut W, text: &[u8], status: u8) -> u8
     ensures { (due : Due) → text.now ≡ text_of due → status ≡ status_of due
-        → Finishes due result (W.contents sink.old) (W.contents sink.new) (Rose (W.faults sink.old) (W.faults sink.new)) }
+        → Finishes due result (W.contents sink.old) (W.contents sink.new)
+        (Rose (W.faults sink.old) (W.faults sink.new)) }
 {
     match write_all(sink, text) {
         Ok(()) => status,
@@ -114,8 +117,10 @@ fn write<W: Sink>(sink: &mut W, text: &[u8], status: u8) -> u8
 /// Writes what is due and answers its status, or 4 after a fault of the sink. Where there is no
 /// memory for a line, that is told.
 pub fn finish<W: Sink>(alloc: Global, sink: &mut W, due: &Due) -> u8
-    ensures { Finishes due.now result (W.contents sink.old) (W.contents sink.new) (Rose (W.faults sink.old) (W.faults sink.new))
-        ⊎ (IsLine due.now × Finishes dues.NoMemory result (W.contents sink.old) (W.contents sink.new) (Rose (W.faults sink.old) (W.faults sink.new))) }
+    ensures { Finishes due.now result (W.contents sink.old) (W.contents sink.new)
+        (Rose (W.faults sink.old) (W.faults sink.new))
+        ⊎ (IsLine due.now × Finishes dues.NoMemory result (W.contents sink.old)
+        (W.contents sink.new) (Rose (W.faults sink.old) (W.faults sink.new))) }
 {
     if let Due::Report { text } = due {
         return write(sink, text.as_slice(), 0);

@@ -1,4 +1,5 @@
-ghost use Rattle.std.specs.Prelude.{◌≡◌, ◌≤◌, ◌+◌, [], ℕ, List, None, length, nat_lt, IfOk, IfSome, IsTrue, IsSomeAnd, MatchOption, ◌↔◌};
+ghost use Rattle.std.specs.Prelude.{◌≡◌, ◌≤◌, ◌+◌, [], ℕ, List, None, length, nat_lt, IfOk, IfSome};
+ghost use Rattle.std.specs.Prelude.{IsTrue, IsSomeAnd, MatchOption, ◌↔◌};
 ghost use Rattle.std.specs.List.{list_all};
 ghost use Rattle.mn_base.specs.declared.reply.Pair.{Pair};
 ghost use Rattle.mn_mini.specs.Flat.{overwritten};
@@ -55,7 +56,8 @@ pub fn leaf_bytes(alloc: Global, seq: u64, pairs: &[Pair]) -> Result<Vec<u8>, No
 
 /// Whether the fences are open and the page was made in version 0 and copied for none.
 fn is_plain(page: &Page) -> bool
-    ensures { IsTrue result ↔ ((page.now.made.0 ≡ 0) × (page.now.copied ≡ 0) × (page.now.low ≡ []) × (page.now.high ≡ None)) }
+    ensures { IsTrue result ↔ ((page.now.made.0 ≡ 0) × (page.now.copied ≡ 0) × (page.now.low ≡ [])
+        × (page.now.high ≡ None)) }
 {
     page.made.0 == 0 && page.copied == 0 && page.low.as_slice().is_empty() && page.high.is_none()
 }
@@ -63,7 +65,8 @@ fn is_plain(page: &Page) -> bool
 /// The leaf that a page is, if it is one with open fences that was made in version 0 and copied for
 /// none.
 fn plain_leaf(page: Page) -> Option<Leaf>
-    ensures { MatchOption result ((seq : ℕ) (pairs : List Pair) → page ≡ leaf_page seq pairs → ⊥) (λ leaf. page ≡ leaf_page leaf.seq leaf.pairs.items) }
+    ensures { MatchOption result ((seq : ℕ) (pairs : List Pair) → page ≡ leaf_page seq pairs → ⊥)
+        (λ leaf. page ≡ leaf_page leaf.seq leaf.pairs.items) }
 {
     if !is_plain(&page) {
         return None;
@@ -87,7 +90,9 @@ fn plain_leaf(page: Page) -> Option<Leaf>
 
 /// The leaf that a slot holds, if it holds one with open fences that was made in version 0.
 pub fn read_leaf(alloc: Global, page: &[u8]) -> Result<Option<Leaf>, NoMemory>
-    ensures { IfOk result (λ found. MatchOption found ((seq : ℕ) (pairs : List Pair) → SpellsPage page.now (leaf_page seq pairs) → ⊥) (λ leaf. SpellsPage page.now (leaf_page leaf.seq leaf.pairs.items))) }
+    ensures { IfOk result (λ found.
+        MatchOption found ((seq : ℕ) (pairs : List Pair) → SpellsPage page.now (leaf_page seq pairs)
+        → ⊥) (λ leaf. SpellsPage page.now (leaf_page leaf.seq leaf.pairs.items))) }
 {
     match PageRef::new(page) {
         Ok(Some(found)) => Ok(plain_leaf(found.to_page(alloc)?)),
@@ -157,7 +162,9 @@ fn space_with(alloc: Global, page: &[u8]) -> Result<Vec<u8>, NoMemory>
 /// The leaf that a space holds, if it holds one in the first slot and is else as it begins.
 pub fn leaf_in(alloc: Global, space: &[u8]) -> Result<Option<Leaf>, NoMemory>
     requires { length space.now ≡ space_size }
-    ensures { IfOk result (λ found. MatchOption found ((seq : ℕ) (pairs : List Pair) → HoldsLeaf space.now seq pairs → ⊥) (λ leaf. HoldsLeaf space.now leaf.seq leaf.pairs.items)) }
+    ensures { IfOk result (λ found.
+        MatchOption found ((seq : ℕ) (pairs : List Pair) → HoldsLeaf space.now seq pairs → ⊥)
+        (λ leaf. HoldsLeaf space.now leaf.seq leaf.pairs.items)) }
 {
     let start = LEAF_START as usize;
     let page = &space[start..start + SLOT];

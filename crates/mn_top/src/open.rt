@@ -1,4 +1,5 @@
-ghost use Rattle.std.specs.Prelude.{◌≡◌, ◌≢◌, ◌≤◌, ◌<◌, ◌+◌, ℕ, IfOk, IfErr, List, false, MatchOption};
+ghost use Rattle.std.specs.Prelude.{◌≡◌, ◌≢◌, ◌≤◌, ◌<◌, ◌+◌, ℕ, IfOk, IfErr, List, false};
+ghost use Rattle.std.specs.Prelude.{MatchOption};
 ghost use Rattle.std.specs.List.{AllByRecursion, list_all, list_any};
 ghost use Rattle.mn_base.specs.declared.reply.Pair.{Pair};
 ghost use Rattle.mn_mini.specs.RecordGrammar.{IsRecord};
@@ -64,7 +65,9 @@ fn are_executed(records: &[Record]) -> bool
 /// The leaf that the records make, if they make one that is served.
 fn leaf_of(alloc: Global, records: &[Record]) -> Result<Option<Leaf>, NoMemory>
     requires { AllByRecursion IsRecord records.now }
-    ensures { IfOk result (λ found. MatchOption found ((seq : ℕ) (pairs : List Pair) → MakesLeaf records.now seq pairs → seq < most_writes → ⊥)
+    ensures { IfOk result (λ found.
+        MatchOption found ((seq : ℕ) (pairs : List Pair) → MakesLeaf records.now seq pairs
+        → seq < most_writes → ⊥)
         (λ leaf. MakesLeaf records.now leaf.seq leaf.pairs.items × (leaf.seq < most_writes))) }
 {
     if !are_executed(records) {

@@ -1,4 +1,5 @@
-ghost use Rattle.std.specs.Prelude.{◌≡◌, ◌≢◌, ◌≤◌, ℕ, List, Ok, Option, IfOk, IfErr, IfSome, OnOk, length, false};
+ghost use Rattle.std.specs.Prelude.{◌≡◌, ◌≢◌, ◌≤◌, ℕ, List, Ok, Option, IfOk, IfErr, IfSome, OnOk};
+ghost use Rattle.std.specs.Prelude.{length, false};
 ghost use Rattle.std.specs.Io.KnownBytes.{IsAtEnd};
 ghost use Rattle.std.specs.List.{AllByRecursion, list_any};
 ghost use Rattle.mn_base.specs.declared.reply.Pair.{Pair};
@@ -48,11 +49,14 @@ fn report_on<D: Disk>(
     run: u32,
     clients: &[ScriptClient],
 ) -> Result<Bytes, Stop>
-    requires serves { (seq : ℕ) × (pairs : List Pair) × Serves D.state node.old seq pairs × AreTaken (main_store pairs) (ops_of clients.now) }
+    requires serves { (seq : ℕ) × (pairs : List Pair) × Serves D.state node.old seq pairs
+        × AreTaken (main_store pairs) (ops_of clients.now) }
     requires run { 1 ≤ run }
     requires few { length clients.now ≤ 16 }
     requires ops { AllByRecursion HasFewOps clients.now }
-    ensures reports { (seq : ℕ) (pairs : List Pair) → Serves D.state node.old seq pairs → AreTaken (main_store pairs) (ops_of clients.now) → Reports D.state D.faults run (main_store pairs) clients.now node.old result node.new }
+    ensures reports { (seq : ℕ) (pairs : List Pair) → Serves D.state node.old seq pairs
+        → AreTaken (main_store pairs) (ops_of clients.now)
+        → Reports D.state D.faults run (main_store pairs) clients.now node.old result node.new }
     ensures goes_on { DiskGoesOn D.state D.faults node.old node.new }
 {
     let mut told = Told::new(alloc);
@@ -88,7 +92,8 @@ fn on_judged<D: Disk>(alloc: Global, redo: Redo<D>, run: u32, clients: &[ScriptC
     requires plain { list_any is_of_versions (ops_of clients.now) ≡ false }
     requires few { length clients.now ≤ 16 }
     requires ops { AllByRecursion HasFewOps clients.now }
-    ensures { (old : D) → WasOpened D.state D.faults old redo → ComesTo D.state D.faults clients.now old result.due result.disk }
+    ensures { (old : D) → WasOpened D.state D.faults old redo
+        → ComesTo D.state D.faults clients.now old result.due result.disk }
 {
     let mut node = match Node::start(alloc, redo) {
         Ok(node) => node,
@@ -129,7 +134,8 @@ fn on_log<D: Disk>(alloc: Global, redo: Redo<D>, clients: &[ScriptClient]) -> En
     requires plain { list_any is_of_versions (ops_of clients.now) ≡ false }
     requires few { length clients.now ≤ 16 }
     requires ops { AllByRecursion HasFewOps clients.now }
-    ensures { (old : D) → WasOpened D.state D.faults old redo → ComesTo D.state D.faults clients.now old result.due result.disk }
+    ensures { (old : D) → WasOpened D.state D.faults old redo
+        → ComesTo D.state D.faults clients.now old result.due result.disk }
 {
     match judge(alloc, &redo, clients) {
         Ok(run) => on_judged(alloc, redo, run, clients),
@@ -142,7 +148,9 @@ fn on_log<D: Disk>(alloc: Global, redo: Redo<D>, clients: &[ScriptClient]) -> En
 
 /// Tells why a log wasn't opened.
 fn not_opened<D: Disk>(alloc: Global, failed: OpenFailed<D>) -> Ended<D>
-    ensures { (old : D) (clients : List ScriptClient) → WasntOpened D.state D.faults old failed.cause failed.disk → ComesTo D.state D.faults clients old result.due result.disk }
+    ensures { (old : D) (clients : List ScriptClient)
+        → WasntOpened D.state D.faults old failed.cause failed.disk
+        → ComesTo D.state D.faults clients old result.due result.disk }
 {
     let OpenFailed { disk, cause } = failed;
     let mut disk = disk;
@@ -167,7 +175,9 @@ fn on_disk<D: Disk>(alloc: Global, disk: D, clients: &[ScriptClient]) -> Ended<D
 fn text_of<R: Source>(alloc: Global, source: &mut R) -> Result<mn_io::Bytes, Due>
     ensures text { IfOk result (λ text. IfSome (R.remaining source.old) (λ known. text ≡ known)) }
     ensures whole { IfOk result (λ text. IsAtEnd (R.remaining source.new)) }
-    ensures due { (words : List (List ℕ)) (given : ℕ) → AskReplay words given → IfErr result (IsDueBefore words (R.remaining source.old) (Rose (R.faults source.old) (R.faults source.new)) given) }
+    ensures due { (words : List (List ℕ)) (given : ℕ) → AskReplay words given
+        → IfErr result (IsDueBefore words (R.remaining source.old)
+        (Rose (R.faults source.old) (R.faults source.new)) given) }
 {
     match read_all(alloc, source, MAX_SCRIPT) {
         Ok(text) => Ok(text),
@@ -183,7 +193,8 @@ fn script_of(alloc: Global, text: &[u8], given: usize) -> Result<Script, Due>
     ensures nodes { IfOk result (λ script. script.nodes ≡ given) }
     ensures served { IfOk result (λ script. is_unserved text.now script ≡ false) }
     ensures ops { IfOk result (λ script. AllByRecursion HasFewOps script.clients) }
-    ensures due { (words : List (List ℕ)) (known : Option (List ℕ)) → AskReplay words given → IfSome known (λ told. text.now ≡ told) → IfErr result (IsDueBefore words known ⊥ given) }
+    ensures due { (words : List (List ℕ)) (known : Option (List ℕ)) → AskReplay words given
+        → IfSome known (λ told. text.now ≡ told) → IfErr result (IsDueBefore words known ⊥ given) }
 {
     let script = match read_script(alloc, text) {
         Ok(script) => script,
@@ -210,12 +221,15 @@ fn called<R: Source>(
     source: &mut R,
     given: usize,
 ) -> Result<Script, Due>
-    ensures called { IfOk result (IsCalled words.now (R.remaining source.old) (IsAtEnd (R.remaining source.new))) }
+    ensures called { IfOk result (IsCalled words.now (R.remaining source.old)
+        (IsAtEnd (R.remaining source.new))) }
     ensures one { OnOk result (given ≡ 1) }
-    ensures plain { IfOk result (λ script. list_any is_of_versions (ops_of script.clients) ≡ false) }
+    ensures plain { IfOk result (λ script. list_any is_of_versions (ops_of script.clients)
+        ≡ false) }
     ensures few { IfOk result (λ script. length script.clients ≤ 16) }
     ensures ops { IfOk result (λ script. AllByRecursion HasFewOps script.clients) }
-    ensures due { IfErr result (IsDueBefore words.now (R.remaining source.old) (Rose (R.faults source.old) (R.faults source.new)) given) }
+    ensures due { IfErr result (IsDueBefore words.now (R.remaining source.old)
+        (Rose (R.faults source.old) (R.faults source.new)) given) }
 {
     let Some(line) = read_words(alloc, words)? else {
         return Err(Due::Usage);
@@ -244,9 +258,9 @@ fn called<R: Source>(
 /// | 3 | `read fault` | the source failed in this call |
 /// | 4 | a prefix of what was due | the sink failed in this call |
 /// | 5 | `disk fault 0` | the disk failed in this call |
-/// | 6 | `damaged 0 PLACE RULE` | the log on the disk is none, at this place, or has no number for a new run |
+/// | 6 | `damaged 0 PLACE RULE` | the log on the disk is none, at this place, or no run is left |
 /// | 7 | `no memory` | there was no memory |
-/// | 8 | `disks GIVEN WANTED` | there are more or fewer disks than the words ask for, or than the script has nodes |
+/// | 8 | `disks GIVEN WANTED` | the words or the script ask for another number of disks |
 /// | 9 | `unbuilt` | the words, the script or what is on the disk ask for what isn't served yet |
 ///
 /// At 0 to 4, 8 and 9 nothing is written to a disk but by a script that is run; at 5 and 7 an
@@ -263,8 +277,11 @@ pub fn run_program<T: Threads + Wait + Sync, R: Source, W: Sink, D: Disk + Send,
     // Something was due, by the words, the text, the ends and the disks; it was written and its
     // status answered, or the sink failed behind a prefix.
     ensures { (due : Due)
-        × IsDue D.state D.faults words.now (R.remaining source.old) (Rose (R.faults source.old) (R.faults source.new)) (IsAtEnd (R.remaining source.new)) disks.items result.disks.items due
-        × Finishes due result.status (W.contents sink.old) (W.contents sink.new) (Rose (W.faults sink.old) (W.faults sink.new)) }
+        × IsDue D.state D.faults words.now (R.remaining source.old)
+        (Rose (R.faults source.old) (R.faults source.new))
+        (IsAtEnd (R.remaining source.new)) disks.items result.disks.items due
+        × Finishes due result.status (W.contents sink.old) (W.contents sink.new)
+        (Rose (W.faults sink.old) (W.faults sink.new)) }
 {
     let script = match called(alloc, words, source, disks.len()) {
         Ok(script) => script,

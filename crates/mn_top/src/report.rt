@@ -1,4 +1,5 @@
-ghost use Rattle.std.specs.Prelude.{◌≡◌, ◌≤◌, ◌<◌, ◌+◌, ◌^◌, ◌∷◌, ◌++◌, [], ℕ, List, length, IfOk, OnOk};
+ghost use Rattle.std.specs.Prelude.{◌≡◌, ◌≤◌, ◌<◌, ◌+◌, ◌^◌, ◌∷◌, ◌++◌, [], ℕ, List, length, IfOk};
+ghost use Rattle.std.specs.Prelude.{OnOk};
 ghost use Rattle.mn_base.specs.declared.answer.Answer.TheVariants as answers;
 ghost use Rattle.mn_base.specs.Store.{main_store};
 ghost use Rattle.mn_report.specs.Report.{report_text, CanReport};
@@ -39,8 +40,15 @@ impl Told {
         number: u32,
         reply: Reply,
     ) -> Result<(), NoMemory>
-        ensures answers { OnOk result (self.new.answers.items ≡ self.old.answers.items ++ record { client = client.now; number = number; answer = said.Answered (answers.Replied reply) } ∷ []) }
-        ensures ranks { OnOk result (self.new.ranks.items ≡ self.old.ranks.items ++ record { client = client.now; number = number } ∷ []) }
+        ensures answers { OnOk result
+            (self.new.answers.items ≡ self.old.answers.items
+            ++ record {
+              client = client.now;
+              number = number;
+              answer = said.Answered (answers.Replied reply);
+            } ∷ []) }
+        ensures ranks { OnOk result (self.new.ranks.items
+            ≡ self.old.ranks.items ++ record { client = client.now; number = number } ∷ []) }
     {
         self.answers.push(AnswerLine {
             client: client.try_copy(alloc)?,
@@ -79,8 +87,21 @@ fn versions_of(alloc: Global, pairs: &[Pair]) -> Result<VersionLines, NoMemory>
 /// The text of the report on these operations and on the pairs of `main` after them.
 pub fn report_of(alloc: Global, told: Told, pairs: &[Pair]) -> Result<Bytes, NoMemory>
     requires few { length pairs.now ≤ 8 }
-    requires telling { CanReport (record { answers = told.answers.items; history = told.ranks.items; doubts = []; points = []; versions = versions_told (main_store pairs.now) }) }
-    ensures { IfOk result (λ text. text ≡ report_text (record { answers = told.answers.items; history = told.ranks.items; doubts = []; points = []; versions = versions_told (main_store pairs.now) })) }
+    requires telling { CanReport (record {
+      answers = told.answers.items;
+      history = told.ranks.items;
+      doubts = [];
+      points = [];
+      versions = versions_told (main_store pairs.now);
+    }) }
+    ensures { IfOk result (λ text. text
+        ≡ report_text (record {
+          answers = told.answers.items;
+          history = told.ranks.items;
+          doubts = [];
+          points = [];
+          versions = versions_told (main_store pairs.now);
+        })) }
 {
     let versions = versions_of(alloc, pairs)?;
     let report = Report {

@@ -25,14 +25,22 @@ fn run_client<D: Disk>(
     caller: Caller,
     client: &ScriptClient,
 ) -> Result<(), Stop>
-    requires serves { (seq : ℕ) × (pairs : List Pair) × Serves D.state node.old seq pairs × AreTaken (main_store pairs) client.now.ops }
+    requires serves { (seq : ℕ) × (pairs : List Pair) × Serves D.state node.old seq pairs
+        × AreTaken (main_store pairs) client.now.ops }
     requires run { 1 ≤ caller.run }
     requires number { caller.client ≤ 20 }
     requires few { length client.now.ops < 2 ^ 32 }
-    ensures runs { (seq : ℕ) (pairs : List Pair) → Serves D.state node.old seq pairs → AreTaken (main_store pairs) client.now.ops → Runs D.state D.faults caller.run (main_store pairs) client.now.ops node.old result node.new }
-    ensures answers { IfOk result (λ done. (seq : ℕ) (pairs : List Pair) → Serves D.state node.old seq pairs → AreTaken (main_store pairs) client.now.ops
-        → told.new.answers.items ≡ told.old.answers.items ++ answers_from client.now.name 1 (main_store pairs) client.now.ops) }
-    ensures ranks { IfOk result (λ done. told.new.ranks.items ≡ told.old.ranks.items ++ ranks_from client.now.name 1 client.now.ops) }
+    ensures runs { (seq : ℕ) (pairs : List Pair) → Serves D.state node.old seq pairs
+        → AreTaken (main_store pairs) client.now.ops
+        → Runs D.state D.faults caller.run
+        (main_store pairs) client.now.ops node.old result node.new }
+    ensures answers { IfOk result
+        (λ done. (seq : ℕ) (pairs : List Pair) → Serves D.state node.old seq pairs
+        → AreTaken (main_store pairs) client.now.ops
+        → told.new.answers.items ≡ told.old.answers.items
+        ++ answers_from client.now.name 1 (main_store pairs) client.now.ops) }
+    ensures ranks { IfOk result (λ done. told.new.ranks.items
+        ≡ told.old.ranks.items ++ ranks_from client.now.name 1 client.now.ops) }
     ensures goes_on { DiskGoesOn D.state D.faults node.old node.new }
 {
     let mut caller = caller;
@@ -51,14 +59,22 @@ pub fn run_clients<D: Disk>(
     run: u32,
     clients: &[ScriptClient],
 ) -> Result<(), Stop>
-    requires serves { (seq : ℕ) × (pairs : List Pair) × Serves D.state node.old seq pairs × AreTaken (main_store pairs) (ops_of clients.now) }
+    requires serves { (seq : ℕ) × (pairs : List Pair) × Serves D.state node.old seq pairs
+        × AreTaken (main_store pairs) (ops_of clients.now) }
     requires run { 1 ≤ run }
     requires few { length clients.now ≤ 16 }
     requires ops { AllByRecursion HasFewOps clients.now }
-    ensures runs { (seq : ℕ) (pairs : List Pair) → Serves D.state node.old seq pairs → AreTaken (main_store pairs) (ops_of clients.now) → Runs D.state D.faults run (main_store pairs) (ops_of clients.now) node.old result node.new }
-    ensures answers { IfOk result (λ done. (seq : ℕ) (pairs : List Pair) → Serves D.state node.old seq pairs → AreTaken (main_store pairs) (ops_of clients.now)
-        → told.new.answers.items ≡ told.old.answers.items ++ answers_of (main_store pairs) clients.now) }
-    ensures ranks { IfOk result (λ done. told.new.ranks.items ≡ told.old.ranks.items ++ history_of clients.now) }
+    ensures runs { (seq : ℕ) (pairs : List Pair) → Serves D.state node.old seq pairs
+        → AreTaken (main_store pairs) (ops_of clients.now)
+        → Runs D.state D.faults run (main_store pairs)
+        (ops_of clients.now) node.old result node.new }
+    ensures answers { IfOk result
+        (λ done. (seq : ℕ) (pairs : List Pair) → Serves D.state node.old seq pairs
+        → AreTaken (main_store pairs) (ops_of clients.now)
+        → told.new.answers.items ≡ told.old.answers.items
+        ++ answers_of (main_store pairs) clients.now) }
+    ensures ranks { IfOk result (λ done. told.new.ranks.items
+        ≡ told.old.ranks.items ++ history_of clients.now) }
     ensures goes_on { DiskGoesOn D.state D.faults node.old node.new }
 {
     for (at, client) in clients.iter().enumerate() {

@@ -1,4 +1,5 @@
-ghost use Rattle.std.specs.Prelude.{◌≡◌, ◌≤◌, ◌<◌, ◌+◌, ◌^◌, ◌++◌, ℕ, List, length, false, None, IfOk, IsTrue, MatchOption, option_map};
+ghost use Rattle.std.specs.Prelude.{◌≡◌, ◌≤◌, ◌<◌, ◌+◌, ◌^◌, ◌++◌, ℕ, List, length, false, None};
+ghost use Rattle.std.specs.Prelude.{IfOk, IsTrue, MatchOption, option_map};
 ghost use Rattle.std.specs.List.{list_any};
 ghost use Rattle.mn_base.specs.declared.reply.Pair.{Pair};
 ghost use Rattle.mn_base.specs.Store.{is_ascending, is_change, main_name, main_store};
@@ -9,7 +10,10 @@ ghost use Rattle.mn_mini.specs.Sound.{IsSoundRequest};
 ghost use Rattle.mn_node.specs.State.{DiskGoesOn};
 ghost use Rattle.mn_page.specs.Grammar.{IsPage, page_bytes};
 ghost use Rattle.mn_top.specs.Leaf.{ArePairs, leaf_page};
-ghost use Rattle.mn_top.specs.Serve.{AsksCatalog, DoesOn, Executes, IsAlone, IsAnswered, IsGet, IsOneGet, IsRead, IsTaken, IsWritten, SameCaller, Serves, Tells, compare_items, is_put, leaf_written, on_one_node, part_on, space_on};
+ghost use Rattle.mn_top.specs.Serve.{AsksCatalog, DoesOn, Executes, IsAlone, IsAnswered, IsGet};
+ghost use Rattle.mn_top.specs.Serve.{IsOneGet, IsRead, IsTaken, IsWritten, SameCaller, Serves};
+ghost use Rattle.mn_top.specs.Serve.{Tells, compare_items, is_put, leaf_written, on_one_node};
+ghost use Rattle.mn_top.specs.Serve.{part_on, space_on};
 
 use crate::caller::{Caller, Stop};
 use crate::leaf::{LEAF_START, Leaf, SLOT, are_pairs, leaf_bytes, main_entry_bytes, read_leaf};
@@ -98,7 +102,8 @@ fn read<D: Disk>(
     requires run { 1 ≤ caller.old.run }
     requires client { caller.old.client ≤ 20 }
     requires inside { IsInSpace start length }
-    ensures told { Tells D.state D.faults node.old (bytes_in (space_on node.old) start length) result node.new }
+    ensures told { Tells D.state D.faults node.old
+        (bytes_in (space_on node.old) start length) result node.new }
     ensures goes_on { DiskGoesOn D.state D.faults node.old node.new }
     ensures caller { SameCaller caller.old caller.new }
 {
@@ -119,7 +124,8 @@ fn read<D: Disk>(
 /// The leaf as it stands, read without a minitransaction.
 fn peek_leaf<D: Disk>(alloc: Global, node: &mut Node<D>) -> Result<Bytes, Stop>
     requires alone { IsAlone D.state node.old }
-    ensures told { Tells D.state D.faults node.old (bytes_in (space_on node.old) 20480 1024) result node.new }
+    ensures told { Tells D.state D.faults node.old
+        (bytes_in (space_on node.old) 20480 1024) result node.new }
     ensures goes_on { DiskGoesOn D.state D.faults node.old node.new }
 {
     let request = Request::Peek {
@@ -142,8 +148,11 @@ fn store_of(alloc: Global, leaf: Leaf) -> Result<Store, NoMemory>
 
 /// The leaf in bytes that are known to spell one.
 fn leaf_of(alloc: Global, page: &[u8]) -> Result<Leaf, NoMemory>
-    requires { (seq : ℕ) × (pairs : List Pair) × IsPage (leaf_page seq pairs) × (page.now ≡ page_bytes (leaf_page seq pairs)) }
-    ensures { IfOk result (λ leaf. (seq : ℕ) (pairs : List Pair) → IsPage (leaf_page seq pairs) → page.now ≡ page_bytes (leaf_page seq pairs) → (leaf.seq ≡ seq) × (leaf.pairs.items ≡ pairs)) }
+    requires { (seq : ℕ) × (pairs : List Pair) × IsPage (leaf_page seq pairs)
+        × (page.now ≡ page_bytes (leaf_page seq pairs)) }
+    ensures { IfOk result (λ leaf. (seq : ℕ) (pairs : List Pair) → IsPage (leaf_page seq pairs)
+        → page.now ≡ page_bytes (leaf_page seq pairs) → (leaf.seq ≡ seq)
+        × (leaf.pairs.items ≡ pairs)) }
 {
     match read_leaf(alloc, page)? {
         Some(leaf) => Ok(leaf),
@@ -180,7 +189,8 @@ fn look<D: Disk>(
     requires run { 1 ≤ caller.old.run }
     requires client { caller.old.client ≤ 20 }
     requires catalog { AsksCatalog op.now }
-    ensures done { (seq : ℕ) (pairs : List Pair) → Serves D.state node.old seq pairs → DoesOn D.state D.faults caller.old.run seq pairs op.now node.old result node.new }
+    ensures done { (seq : ℕ) (pairs : List Pair) → Serves D.state node.old seq pairs
+        → DoesOn D.state D.faults caller.old.run seq pairs op.now node.old result node.new }
     ensures goes_on { DiskGoesOn D.state D.faults node.old node.new }
     ensures caller { SameCaller caller.old caller.new }
 {
@@ -201,7 +211,8 @@ fn get<D: Disk>(
     requires run { 1 ≤ caller.old.run }
     requires client { caller.old.client ≤ 20 }
     requires get { IsGet op.now }
-    ensures done { (seq : ℕ) (pairs : List Pair) → Serves D.state node.old seq pairs → DoesOn D.state D.faults caller.old.run seq pairs op.now node.old result node.new }
+    ensures done { (seq : ℕ) (pairs : List Pair) → Serves D.state node.old seq pairs
+        → DoesOn D.state D.faults caller.old.run seq pairs op.now node.old result node.new }
     ensures goes_on { DiskGoesOn D.state D.faults node.old node.new }
     ensures caller { SameCaller caller.old caller.new }
 {
@@ -253,7 +264,8 @@ fn written(
     puts: bool,
 ) -> Result<Option<Vec<u8>>, NoMemory>
     requires few { length pairs.now ≤ 8 }
-    ensures new { IfOk result (λ new. IsWritten old.now seq pairs.now (option_map (λ page. page.items) new)) }
+    ensures new { IfOk result (λ new.
+        IsWritten old.now seq pairs.now (option_map (λ page. page.items) new)) }
     ensures pairs { ArePairs pairs.now }
 {
     are_pairs(pairs);
@@ -297,7 +309,8 @@ fn plan(
     change: bool,
     new: Option<Vec<u8>>,
 ) -> Result<Vec<Item>, NoMemory>
-    ensures { IfOk result (λ items. items.items ≡ compare_items old change ++ leaf_written (option_map (λ page. page.items) new)) }
+    ensures { IfOk result (λ items. items.items
+        ≡ compare_items old change ++ leaf_written (option_map (λ page. page.items) new)) }
 {
     let mut items = compares(alloc, old, change)?;
     if let Some(page) = new {
@@ -319,11 +332,14 @@ fn transact<D: Disk>(
     op: &Op,
     steps: &[Step],
 ) -> Result<Reply, Stop>
-    requires serves { (seq : ℕ) × (pairs : List Pair) × Serves D.state node.old seq pairs × IsTaken pairs op.now }
+    requires serves { (seq : ℕ) × (pairs : List Pair) × Serves D.state node.old seq pairs
+        × IsTaken pairs op.now }
     requires run { 1 ≤ caller.old.run }
     requires client { caller.old.client ≤ 20 }
     requires on_main { op.now ≡ Op.Tx main_name steps.now }
-    ensures done { (seq : ℕ) (pairs : List Pair) → Serves D.state node.old seq pairs → IsTaken pairs op.now → DoesOn D.state D.faults caller.old.run seq pairs op.now node.old result node.new }
+    ensures done { (seq : ℕ) (pairs : List Pair) → Serves D.state node.old seq pairs
+        → IsTaken pairs op.now → DoesOn D.state D.faults caller.old.run seq pairs op.now node.old
+        result node.new }
     ensures goes_on { DiskGoesOn D.state D.faults node.old node.new }
     ensures caller { SameCaller caller.old caller.new }
 {
@@ -362,10 +378,13 @@ pub fn step<D: Disk>(
     caller: &mut Caller,
     op: &Op,
 ) -> Result<Reply, Stop>
-    requires serves { (seq : ℕ) × (pairs : List Pair) × Serves D.state node.old seq pairs × IsTaken pairs op.now }
+    requires serves { (seq : ℕ) × (pairs : List Pair) × Serves D.state node.old seq pairs
+        × IsTaken pairs op.now }
     requires run { 1 ≤ caller.old.run }
     requires client { caller.old.client ≤ 20 }
-    ensures done { (seq : ℕ) (pairs : List Pair) → Serves D.state node.old seq pairs → IsTaken pairs op.now → DoesOn D.state D.faults caller.old.run seq pairs op.now node.old result node.new }
+    ensures done { (seq : ℕ) (pairs : List Pair) → Serves D.state node.old seq pairs
+        → IsTaken pairs op.now → DoesOn D.state D.faults caller.old.run seq pairs op.now node.old
+        result node.new }
     ensures goes_on { DiskGoesOn D.state D.faults node.old node.new }
     ensures caller { SameCaller caller.old caller.new }
 {
@@ -387,7 +406,8 @@ pub fn step<D: Disk>(
 pub fn pairs_on<D: Disk>(alloc: Global, node: &mut Node<D>) -> Result<Vec<Pair>, Stop>
     requires serves { (seq : ℕ) × (pairs : List Pair) × Serves D.state node.old seq pairs }
     ensures stays { IsRead D.state D.faults node.old result node.new }
-    ensures pairs { IfOk result (λ found. (seq : ℕ) (pairs : List Pair) → Serves D.state node.old seq pairs → found.items ≡ pairs) }
+    ensures pairs { IfOk result (λ found. (seq : ℕ) (pairs : List Pair)
+        → Serves D.state node.old seq pairs → found.items ≡ pairs) }
     ensures goes_on { DiskGoesOn D.state D.faults node.old node.new }
 {
     let page = peek_leaf(alloc, node)?;

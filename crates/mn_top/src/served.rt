@@ -3,7 +3,8 @@ ghost use Rattle.std.specs.List.{list_any};
 ghost use Rattle.mn_base.specs.declared.reply.Pair.{Pair};
 ghost use Rattle.mn_base.specs.Store.{is_ascending, main_name, main_store};
 ghost use Rattle.mn_base.specs.History.{store_after_ops};
-ghost use Rattle.mn_top.specs.Served.{has_schedule, is_of_versions, is_unserved, op_overfills, ops_of, ops_overfill, overfills, Took};
+ghost use Rattle.mn_top.specs.Served.{has_schedule, is_of_versions, is_unserved, op_overfills};
+ghost use Rattle.mn_top.specs.Served.{ops_of, ops_overfill, overfills, Took};
 
 use mn_base::{Name, NoMemory, Op, Pairs, Reply, Step, Steps, TryCopy, VersionNo};
 use mn_plain::Store;
@@ -108,7 +109,8 @@ enum Room {
 
 fn take_step(alloc: Global, copy: &mut Store, step: &Step) -> Result<Room, NoMemory>
     requires { (pairs : List Pair) × (copy.old ≡ main_store pairs) }
-    ensures { (pairs : List Pair) → copy.old ≡ main_store pairs → IfOk result (λ room. Took pairs step.now room copy.new) }
+    ensures { (pairs : List Pair) → copy.old ≡ main_store pairs
+        → IfOk result (λ room. Took pairs step.now room copy.new) }
 {
     let op = one_step(alloc, step)?;
     let reply = copy.apply(alloc, &op)?;
@@ -157,7 +159,8 @@ fn ops_are_too_much(alloc: Global, store: &mut Store, ops: &[Op]) -> Result<bool
     requires main { (pairs : List Pair) × (store.old ≡ main_store pairs) }
     requires plain { list_any is_of_versions ops.now ≡ false }
     ensures over { IfOk result (λ over. over ≡ ops_overfill store.old ops.now) }
-    ensures done { IfOk result (λ over. over ≡ false → store.new ≡ store_after_ops store.old ops.now) }
+    ensures done { IfOk result (λ over. over ≡ false
+        → store.new ≡ store_after_ops store.old ops.now) }
 {
     for op in ops {
         if op_is_too_much(alloc, store, op)? {

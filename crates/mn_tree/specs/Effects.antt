@@ -13,7 +13,8 @@ use Rattle.mn_tree.specs.Writes.{origins_in, step_writes}
 use Rattle.mn_tree.specs.State.{told}
 
 -- the answer and the writes of a step on this leaf, under these pages
-pub record IsEffect (v : VersionNo) (origins : List Addr) (leaf : Held) (above : List Held) (step : Step) (e : Effect) : Type 0 where
+pub record IsEffect (v : VersionNo) (origins : List Addr) (leaf : Held) (above : List Held)
+    (step : Step) (e : Effect) : Type 0 where
   pub answer : e.answer ≡ told step (path_pairs (leaf ∷ above))
   pub writes : e.writes.items ≡ step_writes v (length origins) origins step (leaf ∷ above)
   pub bound : length origins + length (origins_in e.writes.items) ≤ 2 ^ 16
@@ -22,4 +23,6 @@ pub record IsEffect (v : VersionNo) (origins : List Addr) (leaf : Held) (above :
 abbrev pub IsProgress : VersionNo → Draft → Step → Walk → Progress → Type 0
 IsProgress v d step walk (come.Missing addr above) = walk ≡ Missing addr above
 IsProgress v d step walk (come.Wrong addr) = walk ≡ Wrong addr
-IsProgress v d step walk (come.Runs leaf effect) = (h : Held) × (above : List Held) × (h.addr ≡ leaf) × (walk ≡ Reached (h ∷ above)) × IsEffect v d.origins.items h above step effect
+IsProgress v d step walk (come.Runs leaf effect) =
+    (h : Held) × (above : List Held) × (h.addr ≡ leaf) × (walk ≡ Reached (h ∷ above))
+    × IsEffect v d.origins.items h above step effect

@@ -17,7 +17,8 @@ abbrev pub walk_after : List (Option ℕ) → ℕ → List Held → List ℕ →
     → Walk
 walk_after parents v pages key left h above (next.Missing addr) = Missing addr (Some (left + 1))
 walk_after parents v pages key left h above (next.Wrong addr) = Wrong addr
-walk_after parents v pages key left h above (next.Down held) = walk_down parents v left pages key (held_of held.now) (h ∷ above)
+walk_after parents v pages key left h above (next.Down held) =
+    walk_down parents v left pages key (held_of held.now) (h ∷ above)
 
 -- a page that a walk goes down to
 abbrev pub IsOnTheWay : List (Option ℕ) → ℕ → ℕ → List ℕ → Next → Type 0

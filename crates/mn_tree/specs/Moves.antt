@@ -1,6 +1,7 @@
 -- How a transaction comes to its pages: a page comes in where a step asks for it, and steps are
 -- done on the pages of their paths.
-use Rattle.std.specs.Prelude.{ℕ, ◌≡◌, ◌+◌, ◌≤◌, ◌⊎◌, ◌||◌, Bool, true, false, nat_eq, List, [], ◌∷◌, ◌++◌, filter, Option, None}
+use Rattle.std.specs.Prelude.{ℕ, ◌≡◌, ◌+◌, ◌≤◌, ◌⊎◌, ◌||◌, Bool, true, false, nat_eq, List, [], ◌∷◌}
+use Rattle.std.specs.Prelude.{◌++◌, filter, Option, None}
 use Rattle.std.specs.Option.{option_map_or}
 use Rattle.mn_base.specs.Store.{value_at, is_unmet, step_key, pairs_after_step, noted_by}
 use Rattle.mn_base.specs.declared.ids.Addr.{Addr}
@@ -24,7 +25,8 @@ pub data Move : Type 0 where
 
 -- a page that may come in: it is in its grammar, serves the version, isn't too high, and isn't held
 -- yet
-pub record MayCome (parents : List (Option ℕ)) (v : VersionNo) (d : Drafted) (h : Held) : Type 0 where
+pub record MayCome (parents : List (Option ℕ)) (v : VersionNo) (d : Drafted) (h : Held)
+    : Type 0 where
   pub page : IsPage h.page
   pub addr : IsAddr h.addr
   pub live : is_live parents v.0 h.page ≡ true
@@ -35,9 +37,11 @@ pub record MayCome (parents : List (Option ℕ)) (v : VersionNo) (d : Drafted) (
 -- step reaches the leaf of its key
 abbrev pub LeadsTo : List (Option ℕ) → VersionNo → Addr → Drafted → List Move → Drafted → Type 0
 LeadsTo parents v root d [] after = d ≡ after
-LeadsTo parents v root d (Comes h ∷ moves) after = MayCome parents v d h × LeadsTo parents v root (drafted_with d h.addr h.page) moves after
+LeadsTo parents v root d (Comes h ∷ moves) after =
+    MayCome parents v d h × LeadsTo parents v root (drafted_with d h.addr h.page) moves after
 LeadsTo parents v root d (Does step ∷ moves) after =
-    (path : List Held) × (walk parents v.0 d.overlay.pages root (step_key step) ≡ Reached path) × LeadsTo parents v root (drafted_after v d step path) moves after
+    (path : List Held) × (walk parents v.0 d.overlay.pages root (step_key step) ≡ Reached path)
+    × LeadsTo parents v root (drafted_after v d step path) moves after
 
 -- the pages that come in, and the steps that are done
 abbrev pub comes_in : List Move → List Held
@@ -55,12 +59,14 @@ done_in (Does step ∷ moves) = step ∷ done_in moves
 abbrev pub AreAnswered : List (Option ℕ) → VersionNo → Addr → Drafted → List Move → ℕ
     → List (Option (List ℕ)) → List Step → Reply → Type 0
 AreAnswered parents v root d [] n found steps reply = (steps ≡ []) × (reply ≡ Values found)
-AreAnswered parents v root d (Comes h ∷ moves) n found steps reply = AreAnswered parents v root (drafted_with d h.addr h.page) moves n found steps reply
+AreAnswered parents v root d (Comes h ∷ moves) n found steps reply =
+    AreAnswered parents v root (drafted_with d h.addr h.page) moves n found steps reply
 AreAnswered parents v root d (Does step ∷ moves) n found [] reply = ⊥
 AreAnswered parents v root d (Does step ∷ moves) n found (next ∷ steps) reply =
     (step ≡ next)
     × ((path : List Held) → walk parents v.0 d.overlay.pages root (step_key step) ≡ Reached path
-    → ((is_unmet (path_pairs path) step ≡ true) × (moves ≡ []) × (reply ≡ Unmet n (value_at (path_pairs path) (step_key step))))
+    → ((is_unmet (path_pairs path) step ≡ true) × (moves ≡ [])
+    × (reply ≡ Unmet n (value_at (path_pairs path) (step_key step))))
     ⊎ ((is_unmet (path_pairs path) step ≡ false)
     × AreAnswered parents v root (drafted_after v d step path) moves (n + 1)
     (found ++ noted_by (path_pairs path) step) steps reply))
@@ -78,7 +84,12 @@ leaves_at moves addrs = filter (is_leaf_at moves) addrs
 
 -- the pages of a draft that stand at these addresses, and the new ones
 abbrev pub only_at : List Addr → Overlay → Overlay
-only_at addrs o = record { pages = filter (λ h. is_new h.addr || is_noted addrs h.addr) o.pages; changed = o.changed; fresh = o.fresh }
+only_at addrs o =
+    record {
+      pages = filter (λ h. is_new h.addr || is_noted addrs h.addr) o.pages;
+      changed = o.changed;
+      fresh = o.fresh;
+    }
 
 -- the pairs after steps
 abbrev pub pairs_after : List Pair → List Step → List Pair

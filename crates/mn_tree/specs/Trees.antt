@@ -1,6 +1,7 @@
 -- Trees whose pages a transaction changes in memory: the pages that it holds, over those of the
 -- memory.
-use Rattle.std.specs.Prelude.{◌≡◌, ℕ, ◌≤◌, nat_lt, false, IsTrue, List, [], ◌∷◌, Option, Some, None, slice_get, Bool, true}
+use Rattle.std.specs.Prelude.{◌≡◌, ℕ, ◌≤◌, nat_lt, false, IsTrue, List, [], ◌∷◌, Option, Some, None}
+use Rattle.std.specs.Prelude.{slice_get, Bool, true}
 use Rattle.std.specs.List.{list_all, list_any}
 use Rattle.std.specs.Option.{option_or}
 use Rattle.mn_base.specs.Ids.{addr_same}
@@ -60,7 +61,8 @@ pub record IsChanged (at : PagesAt) (o : Overlay) (x : Addr) : Type 0 where
   pub held : held_at o.pages x ≡ Some now
 
 -- the pages of a transaction, with those of the memory under them, show the store
-pub record IsDraft (entries : List CatEntry) (at : PagesAt) (store : Store) (o : Overlay) : Type 0 where
+pub record IsDraft (entries : List CatEntry) (at : PagesAt) (store : Store) (o : Overlay)
+    : Type 0 where
   pub shown : ShowsTree entries (laid_over o.pages at) store
   -- the memory has no page at the address of a new one, and there is none yet at those to come
   pub none_new : (n : ℕ) → at (new_addr n) ≡ None

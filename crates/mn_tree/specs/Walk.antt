@@ -1,5 +1,6 @@
 -- The way from the root down to the leaf of a key, over the pages that are held.
-use Rattle.std.specs.Prelude.{ℕ, zero, suc, ◌&&◌, Bool, nat_eq, List, [], ◌∷◌, map, Option, Some, None, if◌then◌else◌}
+use Rattle.std.specs.Prelude.{ℕ, zero, suc, ◌&&◌, Bool, nat_eq, List, [], ◌∷◌, map, Option, Some}
+use Rattle.std.specs.Prelude.{None, if◌then◌else◌}
 use Rattle.std.specs.Option.{option_map_or}
 use Rattle.mn_base.specs.Tree.{serves}
 use Rattle.mn_base.specs.declared.ids.Addr.{Addr}
@@ -46,10 +47,14 @@ abbrev pub walk_down : List (Option ℕ) → ℕ → ℕ → List Held → List 
 walk_down parents v zero pages key h above = Reached (h ∷ above)
 walk_down parents v (suc height) pages key h above =
     option_map_or
-    (λ addr. option_map_or (λ p. if goes_on parents v height key p then walk_down parents v height pages key (held addr p) (h ∷ above) else Wrong addr) (held_at pages addr) (Missing addr (Some (suc height))))
+    (λ addr. option_map_or (λ p. if goes_on parents v height key p
+    then walk_down parents v height pages key (held addr p) (h ∷ above) else Wrong addr)
+    (held_at pages addr) (Missing addr (Some (suc height))))
     (child_for (children_of h.page) key) (Wrong h.addr)
 
 -- from the root, if it is there
 abbrev pub walk : List (Option ℕ) → ℕ → List Held → Addr → List ℕ → Walk
 walk parents v pages root key =
-    option_map_or (λ p. if is_met parents v key p then walk_down parents v (height_of p.body) pages key (held root p) [] else Wrong root) (held_at pages root) (Missing root None)
+    option_map_or (λ p. if is_met parents v key p
+    then walk_down parents v (height_of p.body) pages key (held root p) [] else Wrong root)
+    (held_at pages root) (Missing root None)

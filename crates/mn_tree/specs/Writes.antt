@@ -1,5 +1,6 @@
 -- What a step writes: its changes of pages one by one, from the leaf upwards.
-use Rattle.std.specs.Prelude.{ℕ, ◌+◌, ◌||◌, nat_eq, List, [], ◌∷◌, ◌++◌, length, Option, Some, None, is_some, if◌then◌else◌}
+use Rattle.std.specs.Prelude.{ℕ, ◌+◌, ◌||◌, nat_eq, List, [], ◌∷◌, ◌++◌, length, Option, Some, None}
+use Rattle.std.specs.Prelude.{is_some, if◌then◌else◌}
 use Rattle.std.specs.List.{list_any, flat_map}
 use Rattle.std.specs.Option.{option_to_list}
 use Rattle.mn_base.specs.Ids.{addr_same}
@@ -14,7 +15,9 @@ use Rattle.mn_page.specs.declared.page.Body.TheVariants.{Leaf, Inner}
 use Rattle.mn_page.specs.declared.page.Child.{Child}
 use Rattle.mn_page.specs.Grammar.{height_of}
 use Rattle.mn_page.specs.Holds.{pairs_in}
-use Rattle.mn_page.specs.Overlay.{Held, Overlay, Halves, Asked, Nothing, Child_is, held_with, is_new, new_addr, halves_of, page_with, new_page, copied_for, child_at, body_with, placed_addr}
+use Rattle.mn_page.specs.Overlay.{Held, Overlay, Halves, Asked, Nothing, Child_is, held_with}
+use Rattle.mn_page.specs.Overlay.{is_new, new_addr, halves_of, page_with, new_page, copied_for}
+use Rattle.mn_page.specs.Overlay.{child_at, body_with, placed_addr}
 use Rattle.mn_tree.specs.declared.write.Write.{Write}
 
 -- an old page, or a new one of before, as it is changed
@@ -29,7 +32,8 @@ creation n page origin = record { addr = new_addr n; page = page; origin = Some 
 
 -- of a page that was made in the version
 abbrev pub own_writes : VersionNo → ℕ → Addr → Held → Body → Option Halves → List Write
-own_writes v n origin h body None = change h.addr (page_with h.page h.page.low h.page.high body) ∷ []
+own_writes v n origin h body None =
+    change h.addr (page_with h.page h.page.low h.page.high body) ∷ []
 own_writes v n origin h body (Some halves) =
     creation n (new_page v halves.separator h.page.high halves.right) origin
     ∷ change h.addr (page_with h.page h.page.low (Some halves.separator) halves.left) ∷ []
@@ -40,7 +44,9 @@ own_asks n h (Some halves) = Child_is h.addr (Some (child_at halves.separator (n
 
 -- of one that was not, which is copied
 abbrev pub other_writes : VersionNo → ℕ → Addr → Held → Body → Option Halves → List Write
-other_writes v n origin h body None = creation n (new_page v h.page.low h.page.high body) origin ∷ change h.addr (copied_for v h.page) ∷ []
+other_writes v n origin h body None =
+    creation n (new_page v h.page.low h.page.high body) origin ∷ change h.addr (copied_for v h.page)
+    ∷ []
 other_writes v n origin h body (Some halves) =
     creation n (new_page v h.page.low (Some halves.separator) halves.left) origin
     ∷ creation (n + 1) (new_page v halves.separator h.page.high halves.right) origin
@@ -48,21 +54,29 @@ other_writes v n origin h body (Some halves) =
 
 abbrev pub other_asks : ℕ → Option Halves → Asked
 other_asks n None = Child_is (new_addr n) None
-other_asks n (Some halves) = Child_is (new_addr n) (Some (child_at halves.separator (new_addr (n + 1))))
+other_asks n (Some halves) =
+    Child_is (new_addr n) (Some (child_at halves.separator (new_addr (n + 1))))
 
 -- of the root
 abbrev pub root_writes : VersionNo → ℕ → Addr → Held → Body → Option Halves → List Write
-root_writes v n origin h body None = change h.addr (page_with h.page h.page.low h.page.high body) ∷ []
+root_writes v n origin h body None =
+    change h.addr (page_with h.page h.page.low h.page.high body) ∷ []
 root_writes v n origin h body (Some halves) =
     creation n (new_page v h.page.low (Some halves.separator) halves.left) origin
     ∷ creation (n + 1) (new_page v halves.separator h.page.high halves.right) origin
-    ∷ change h.addr (page_with h.page h.page.low h.page.high (Inner (height_of body + 1) (new_addr n) (child_at halves.separator (new_addr (n + 1)) ∷ []))) ∷ []
+    ∷ change h.addr (page_with h.page h.page.low h.page.high
+    (Inner (height_of body + 1) (new_addr n) (child_at halves.separator (new_addr (n + 1)) ∷ [])))
+    ∷ []
 
 abbrev pub page_writes : VersionNo → ℕ → Addr → Held → Body → List Write
-page_writes v n origin h body = if nat_eq h.page.made.0 v.0 then own_writes v n origin h body (halves_of body) else other_writes v n origin h body (halves_of body)
+page_writes v n origin h body =
+    if nat_eq h.page.made.0 v.0 then own_writes v n origin h body (halves_of body)
+    else other_writes v n origin h body (halves_of body)
 
 abbrev pub page_asks : VersionNo → ℕ → Held → Body → Asked
-page_asks v n h body = if nat_eq h.page.made.0 v.0 then own_asks n h (halves_of body) else other_asks n (halves_of body)
+page_asks v n h body =
+    if nat_eq h.page.made.0 v.0 then own_asks n h (halves_of body)
+    else other_asks n (halves_of body)
 
 -- Changes up a path
 
@@ -77,17 +91,22 @@ writes_if (Child_is now child) more = more now child
 -- a page of a path has this body now; behind it stands the path above, up to the root. There were n
 -- new pages before
 abbrev pub writes_up : VersionNo → ℕ → List Addr → Held → List Held → Body → List Write
-writes_up v n origins h [] body = root_writes v n (placed_addr origins h.addr) h body (halves_of body)
+writes_up v n origins h [] body =
+    root_writes v n (placed_addr origins h.addr) h body (halves_of body)
 writes_up v n origins h (parent ∷ above) body =
     let ws = page_writes v n (placed_addr origins h.addr) h body in
-    ws ++ writes_if (page_asks v n h body) (λ now more. writes_up v (n + length (origins_in ws)) origins parent above (body_with parent.page.body h.addr now more))
+    ws ++ writes_if (page_asks v n h body)
+    (λ now more. writes_up v (n + length (origins_in ws)) origins parent above
+    (body_with parent.page.body h.addr now more))
 
 -- what a step makes of the pages of its path, where the leaf stands first
 abbrev pub step_writes : VersionNo → ℕ → List Addr → Step → List Held → List Write
 step_writes v n origins step [] = []
-step_writes v n origins (Put key value) (h ∷ above) = writes_up v n origins h above (Leaf (pairs_with (pairs_in h.page.body) key value))
+step_writes v n origins (Put key value) (h ∷ above) =
+    writes_up v n origins h above (Leaf (pairs_with (pairs_in h.page.body) key value))
 step_writes v n origins (Del key) (h ∷ above) =
-    if is_some (value_at (pairs_in h.page.body) key) then writes_up v n origins h above (Leaf (pairs_without (pairs_in h.page.body) key)) else []
+    if is_some (value_at (pairs_in h.page.body) key)
+    then writes_up v n origins h above (Leaf (pairs_without (pairs_in h.page.body) key)) else []
 step_writes v n origins (Get key) (h ∷ above) = []
 step_writes v n origins (Check key want) (h ∷ above) = []
 
@@ -95,7 +114,8 @@ step_writes v n origins (Check key want) (h ∷ above) = []
 
 -- a list of old pages with this one, where it isn't there
 abbrev pub joined : List Addr → Addr → List Addr
-joined addrs addr = if is_new addr || list_any (λ a. addr_same a addr) addrs then addrs else addrs ++ addr ∷ []
+joined addrs addr =
+    if is_new addr || list_any (λ a. addr_same a addr) addrs then addrs else addrs ++ addr ∷ []
 
 abbrev pub written : Overlay → Write → Overlay
 written o w = record {

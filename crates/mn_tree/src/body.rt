@@ -131,7 +131,9 @@ fn with_tail(
     more: Option<Child>,
     after: &[Child],
 ) -> Result<Vec<Child>, NoMemory>
-    ensures { IfOk result (λ children. children.items ≡ before.items ++ (record { separator = separator.now; addr = now } ∷ (option_to_list more ++ after.now))) }
+    ensures { IfOk result (λ children. children.items
+        ≡ before.items ++ (record { separator = separator.now; addr = now }
+        ∷ (option_to_list more ++ after.now))) }
 {
     let mut children = before;
     children.push(Child {

@@ -20,7 +20,8 @@ pub struct Draft {
 
 impl Draft {
     ghost use Rattle.std.specs.Prelude.{ℕ};
-    ghost use Rattle.mn_tree.specs.State.{drafted, no_pages, drafted_with, draft_written, all_drafted, touched};
+    ghost use Rattle.mn_tree.specs.State.{drafted, no_pages, drafted_with, draft_written};
+    ghost use Rattle.mn_tree.specs.State.{all_drafted, touched};
     ghost use Rattle.mn_tree.specs.Room.{HasListRoom};
 
     pub fn new(alloc: Global) -> Self
@@ -86,7 +87,8 @@ impl Draft {
     /// Makes the writes in their turn, where the leaf there joins the read set first. NoMemory:
     /// there was no memory for all of it, and nothing has changed.
     pub fn commit(&mut self, leaf: Addr, writes: Vec<Write>) -> Result<(), NoMemory>
-        ensures written { OnOk result (drafted self.new ≡ all_drafted (touched (drafted self.old) leaf) writes.items) }
+        ensures written { OnOk result
+            (drafted self.new ≡ all_drafted (touched (drafted self.old) leaf) writes.items) }
         ensures same { OnErr result (drafted self.new ≡ drafted self.old) }
     {
         self.reserve(writes.len())?;

@@ -64,7 +64,8 @@ fn effect_on(
 ) -> Result<Effect, NoMemory>
     requires version { version.0 < 64 }
     requires bound { length origins.now ≤ 2 ^ 16 }
-    ensures { IfOk result (IsEffect version origins.now (held_of leaf.now) (lents above.now) step.now) }
+    ensures { IfOk result (IsEffect version origins.now (held_of leaf.now)
+        (lents above.now) step.now) }
 {
     let pairs = pairs_of(&leaf.page.body);
     match step {
@@ -111,7 +112,8 @@ pub fn come_down(
 ) -> Result<Progress, NoMemory>
     requires version { version.0 < 64 }
     requires bound { length draft.now.origins.items ≤ 2 ^ 16 }
-    ensures { IfOk result (IsProgress version draft.now step.now (walk tree.now version.0 (helds draft.now.pages.items) root (step_key step.now))) }
+    ensures { IfOk result (IsProgress version draft.now step.now
+        (walk tree.now version.0 (helds draft.now.pages.items) root (step_key step.now))) }
 {
     match walk_to(alloc, tree, version, &draft.pages, root, key_of(step))? {
         Walked::Missing { addr, above } => Ok(Progress::Missing { addr, above }),

@@ -1,8 +1,15 @@
-ghost use Rattle.mn_tree.specs.Laws.{WalksArePaths, ReadsAreDraft, AddKeepsDraft, PathTells, StepKeepsTree, TransactionKeepsTree, TransactionTells, PlacingKeepsTree, StepReadsChanged, PlacedKeepsTree, SteppedKeepsTree};
-ghost use Rattle.mn_tree.specs.MoveLaws.{MovesKeepTree, MovesTell, MovesRead, PlacedArePages, MovesArePlaced, MovesComeOnce, QuietMoves};
-ghost use Rattle.mn_tree.specs.Tries.{MovesTakePages, MovesTakeSteps, MovesAreMet, NeedsAreAbsent, NeedsAreSlots, NeedsMayCome, BadPathsCame, PlacedHaveRoom};
-ghost use Rattle.mn_tree.specs.Plain.{MovesAreSteps, UnmetMovesChangeNothing, TriesShowNeeds, UnmetNeedsNothing};
-ghost use Rattle.mn_tree.specs.Limits.{MovesAreFew, MovesTouchLeaves, PlacedArePut, PlacedFillSlots};
+ghost use Rattle.mn_tree.specs.Laws.{WalksArePaths, ReadsAreDraft, AddKeepsDraft, PathTells};
+ghost use Rattle.mn_tree.specs.Laws.{StepKeepsTree, TransactionKeepsTree, TransactionTells};
+ghost use Rattle.mn_tree.specs.Laws.{PlacingKeepsTree, StepReadsChanged, PlacedKeepsTree};
+ghost use Rattle.mn_tree.specs.Laws.{SteppedKeepsTree};
+ghost use Rattle.mn_tree.specs.MoveLaws.{MovesKeepTree, MovesTell, MovesRead, PlacedArePages};
+ghost use Rattle.mn_tree.specs.MoveLaws.{MovesArePlaced, MovesComeOnce, QuietMoves};
+ghost use Rattle.mn_tree.specs.Tries.{MovesTakePages, MovesTakeSteps, MovesAreMet, NeedsAreAbsent};
+ghost use Rattle.mn_tree.specs.Tries.{NeedsAreSlots, NeedsMayCome, BadPathsCame, PlacedHaveRoom};
+ghost use Rattle.mn_tree.specs.Plain.{MovesAreSteps, UnmetMovesChangeNothing, TriesShowNeeds};
+ghost use Rattle.mn_tree.specs.Plain.{UnmetNeedsNothing};
+ghost use Rattle.mn_tree.specs.Limits.{MovesAreFew, MovesTouchLeaves, PlacedArePut};
+ghost use Rattle.mn_tree.specs.Limits.{PlacedFillSlots};
 
 /// Where the root isn't too high, a walk that reaches a leaf goes the way of the plain model of the
 /// tree.

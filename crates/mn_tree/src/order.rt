@@ -1,10 +1,12 @@
-ghost use Rattle.std.specs.Prelude.{◌≡◌, ◌≤◌, ◌^◌, ◌++◌, ◌∷◌, [], length, map, filter, insert, IfOk, OnOk};
+ghost use Rattle.std.specs.Prelude.{◌≡◌, ◌≤◌, ◌^◌, ◌++◌, ◌∷◌, [], length, map, filter, insert};
+ghost use Rattle.std.specs.Prelude.{IfOk, OnOk};
 ghost use Rattle.mn_base.specs.Order.{key_lt};
 ghost use Rattle.std.specs.List.{range_with_len};
 ghost use Rattle.mn_page.specs.Overlay.{new_addr, child_at, placed_addr, placed_page, placed_body};
 ghost use Rattle.mn_page.specs.SlotOrder.{stands_first};
 ghost use Rattle.mn_tree.specs.Walk.{helds};
-ghost use Rattle.mn_tree.specs.Order.{precedes, with_number, with_numbers, place_in, slot_of, slots_by_number, is_changed, old_pages, new_pages};
+ghost use Rattle.mn_tree.specs.Order.{precedes, with_number, with_numbers, place_in, slot_of};
+ghost use Rattle.mn_tree.specs.Order.{slots_by_number, is_changed, old_pages, new_pages};
 
 use crate::addrs::Addrs;
 use crate::held::{UNPLACED, resolved};
@@ -55,7 +57,8 @@ fn is_before(pages: &HeldPages, number: u16, other: u16) -> bool
 /// Where a further number goes: before the first one that it precedes.
 fn place_before(pages: &HeldPages, order: &[u16], number: u16) -> usize
     ensures within { result ≤ length order.now }
-    ensures place { insert order.now result number ≡ with_number (helds pages.now.items) number order.now }
+    ensures place { insert order.now result number
+        ≡ with_number (helds pages.now.items) number order.now }
 {
     for (at, other) in order.iter().enumerate() {
         if is_before(pages, number, *other) {
@@ -68,7 +71,8 @@ fn place_before(pages: &HeldPages, order: &[u16], number: u16) -> usize
 /// The numbers of so many new pages in the order in which slots are asked for.
 pub fn order_of(alloc: Global, pages: &HeldPages, count: usize) -> Result<Vec<u16>, NoMemory>
     requires { count ≤ 2 ^ 16 }
-    ensures { IfOk result (λ order. order.items ≡ with_numbers (helds pages.now.items) [] (range_with_len 0 count)) }
+    ensures { IfOk result (λ order. order.items
+        ≡ with_numbers (helds pages.now.items) [] (range_with_len 0 count)) }
 {
     let mut order = Vec::new(alloc);
     for number in 0..count {
@@ -122,7 +126,8 @@ pub fn by_number(
 
 /// The children with the new ones in their slots.
 fn placed_children(alloc: Global, by: &[Addr], rest: &[Child]) -> Result<Vec<Child>, NoMemory>
-    ensures { IfOk result (λ children. children.items ≡ map (λ c. child_at c.separator (placed_addr by.now c.addr)) rest.now) }
+    ensures { IfOk result (λ children. children.items
+        ≡ map (λ c. child_at c.separator (placed_addr by.now c.addr)) rest.now) }
 {
     let mut children = Vec::new(alloc);
     for child in rest {
@@ -174,7 +179,9 @@ fn push_old(
     addr: Addr,
     placed: &mut Vec<(Addr, Page)>,
 ) -> Result<(), NoMemory>
-    ensures { OnOk result (placed.new.items ≡ placed.old.items ++ old_pages by.now (helds pages.now.items) (filter (is_changed changed.now.items) (addr ∷ []))) }
+    ensures { OnOk result (placed.new.items
+        ≡ placed.old.items ++ old_pages by.now (helds pages.now.items)
+        (filter (is_changed changed.now.items) (addr ∷ []))) }
 {
     if !changed.contains(addr) {
         return Ok(());
@@ -195,7 +202,9 @@ pub fn push_changed(
     read: &[Addr],
     placed: &mut Vec<(Addr, Page)>,
 ) -> Result<(), NoMemory>
-    ensures { OnOk result (placed.new.items ≡ placed.old.items ++ old_pages by.now (helds pages.now.items) (filter (is_changed changed.now.items) read.now)) }
+    ensures { OnOk result (placed.new.items
+        ≡ placed.old.items ++ old_pages by.now (helds pages.now.items)
+        (filter (is_changed changed.now.items) read.now)) }
 {
     for addr in read {
         push_old(alloc, by, pages, changed, *addr, placed)?;
@@ -211,7 +220,8 @@ fn push_created(
     number: u16,
     placed: &mut Vec<(Addr, Page)>,
 ) -> Result<(), NoMemory>
-    ensures { OnOk result (placed.new.items ≡ placed.old.items ++ new_pages by.now (helds pages.now.items) (number ∷ [])) }
+    ensures { OnOk result (placed.new.items
+        ≡ placed.old.items ++ new_pages by.now (helds pages.now.items) (number ∷ [])) }
 {
     let addr = place_of(number);
     if let Some(held) = pages.get(addr) {
@@ -229,7 +239,8 @@ pub fn push_new(
     order: &[u16],
     placed: &mut Vec<(Addr, Page)>,
 ) -> Result<(), NoMemory>
-    ensures { OnOk result (placed.new.items ≡ placed.old.items ++ new_pages by.now (helds pages.now.items) order.now) }
+    ensures { OnOk result (placed.new.items
+        ≡ placed.old.items ++ new_pages by.now (helds pages.now.items) order.now) }
 {
     for number in order {
         push_created(alloc, by, pages, *number, placed)?;

@@ -1,6 +1,7 @@
 ghost use Rattle.std.specs.Prelude.{◌≡◌, ◌<◌, length, IfOk, IfErr, OnOk, OnErr, IsTrue};
 ghost use Rattle.mn_tree.specs.Order.{placed};
-ghost use Rattle.mn_tree.specs.State.{new_state, fits, IsWanted, with_page, RefusesPage, stepped, AsksFor};
+ghost use Rattle.mn_tree.specs.State.{new_state, fits, IsWanted, with_page, RefusesPage, stepped};
+ghost use Rattle.mn_tree.specs.State.{AsksFor};
 
 use crate::draft::Draft;
 use crate::effect::{Progress, come_down, key_of};
@@ -32,7 +33,13 @@ impl Model for Overlay {
 
     ghost Value = { TreeState };
 
-    ghost view = { λ o. record { parents = o.tree; version = o.version; root = o.root; draft = drafted o.draft; wanted = o.wanted } };
+    ghost view = { λ o. record {
+      parents = o.tree;
+      version = o.version;
+      root = o.root;
+      draft = drafted o.draft;
+      wanted = o.wanted;
+    } };
 
     ghost invariant = { λ o. (o.version.0 < 64) × (length o.draft.origins.items ≤ 2 ^ 16) };
 }

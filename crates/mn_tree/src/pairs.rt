@@ -45,7 +45,8 @@ fn with_tail(
     value: &Value,
     after: &[Pair],
 ) -> Result<Vec<Pair>, NoMemory>
-    ensures { IfOk result (λ pairs. pairs.items ≡ before.items ++ record { key = key.now; value = value.now } ∷ after.now) }
+    ensures { IfOk result (λ pairs. pairs.items
+        ≡ before.items ++ record { key = key.now; value = value.now } ∷ after.now) }
 {
     let mut pairs = before;
     pairs.push(Pair {

@@ -79,7 +79,10 @@ fn follow<'a>(
 ) -> Next<'a>
     requires covers { page_covers key.now at.now.page ≡ true }
     requires height { height_of at.now.page.body ≡ left + 1 }
-    ensures walk { (above : List Held) → walk_down tree.now version.0 (left + 1) (helds pages.now.items) key.now (held_of at.now) above ≡ walk_after tree.now version.0 (helds pages.now.items) key.now left (held_of at.now) above result }
+    ensures walk { (above : List Held)
+        → walk_down tree.now version.0 (left + 1) (helds pages.now.items) key.now
+        (held_of at.now) above ≡ walk_after tree.now version.0 (helds pages.now.items) key.now left
+        (held_of at.now) above result }
     ensures down { IsOnTheWay tree.now version.0 left key.now result }
 {
     let Body::Inner { first, rest, .. } = &at.page.body else {
@@ -107,7 +110,8 @@ pub fn walk_to<'a>(
     root: Addr,
     key: &Key,
 ) -> Result<Walked<'a>, NoMemory>
-    ensures { IfOk result (λ walked. seen_walk walked ≡ walk tree.now version.0 (helds pages.now.items) root key.now) }
+    ensures { IfOk result (λ walked. seen_walk walked
+        ≡ walk tree.now version.0 (helds pages.now.items) root key.now) }
 {
     let Some(held) = pages.get(root) else {
         return Ok(Walked::Missing {

@@ -1,7 +1,10 @@
-ghost use Rattle.std.specs.Prelude.{◌≡◌, ◌≤◌, ◌<◌, ◌+◌, ◌^◌, ◌++◌, ◌∷◌, [], Some, length, IfOk, OnOk};
+ghost use Rattle.std.specs.Prelude.{◌≡◌, ◌≤◌, ◌<◌, ◌+◌, ◌^◌, ◌++◌, ◌∷◌, [], Some, length, IfOk};
+ghost use Rattle.std.specs.Prelude.{OnOk};
 ghost use Rattle.mn_page.specs.Overlay.{halves_of, new_addr, page_with, new_page, copied_for};
 ghost use Rattle.mn_tree.specs.Walk.{held_of};
-ghost use Rattle.mn_tree.specs.Writes.{change, creation, origins_in, own_writes, own_asks, other_writes, other_asks, root_writes, page_writes, page_asks, writes_up};
+ghost use Rattle.mn_tree.specs.Writes.{change, creation, origins_in, own_writes, own_asks};
+ghost use Rattle.mn_tree.specs.Writes.{other_writes, other_asks, root_writes, page_writes};
+ghost use Rattle.mn_tree.specs.Writes.{page_asks, writes_up};
 ghost use Rattle.mn_tree.specs.Asks.{seen_asked};
 ghost use Rattle.mn_tree.specs.Found.{lents};
 ghost use Rattle.mn_page.specs.Overlay.{placed_addr};
@@ -54,7 +57,8 @@ fn changed(alloc: Global, page: &Page, high: Option<Key>, body: Body) -> Result<
 
 /// An old page that ends at the separator now, with the left half of its body.
 fn left_half(alloc: Global, page: &Page, separator: &Key, left: Body) -> Result<Page, NoMemory>
-    ensures { IfOk result (λ made. made ≡ page_with page.now page.now.low (Some separator.now) left) }
+    ensures { IfOk result (λ made. made
+        ≡ page_with page.now page.now.low (Some separator.now) left) }
 {
     let high = Some(separator.try_copy(alloc)?);
     changed(alloc, page, high, left)
@@ -88,7 +92,9 @@ impl Writer {
     /// Adds a new page, which was made of the one that was read at `origin`.
     fn create(&mut self, page: Page, origin: Addr) -> Result<Addr, NoMemory>
         ensures at { IfOk result (λ addr. addr ≡ new_addr self.old.fresh) }
-        ensures writes { OnOk result (self.new.writes.items ≡ self.old.writes.items ++ creation self.old.fresh page origin ∷ []) }
+        ensures writes { OnOk result
+            (self.new.writes.items ≡ self.old.writes.items
+            ++ creation self.old.fresh page origin ∷ []) }
         ensures fresh { OnOk result (self.new.fresh ≡ self.old.fresh + 1) }
         ensures bound { OnOk result (self.new.fresh ≤ 2 ^ 16) }
         ensures version { self.new.version ≡ self.old.version }
@@ -105,7 +111,8 @@ impl Writer {
 
     /// Changes a page where it stands.
     fn put(&mut self, addr: Addr, page: Page) -> Result<(), NoMemory>
-        ensures writes { OnOk result (self.new.writes.items ≡ self.old.writes.items ++ change addr page ∷ []) }
+        ensures writes { OnOk result
+            (self.new.writes.items ≡ self.old.writes.items ++ change addr page ∷ []) }
         ensures fresh { self.new.fresh ≡ self.old.fresh }
         ensures version { self.new.version ≡ self.old.version }
     {
@@ -126,9 +133,16 @@ impl Writer {
         body: Body,
     ) -> Result<Ask, NoMemory>
         requires { self.old.fresh ≤ 2 ^ 16 }
-        ensures asks { IfOk result (λ ask. seen_asked ask ≡ own_asks self.old.fresh (held_of held.now) (halves_of body)) }
-        ensures writes { OnOk result (self.new.writes.items ≡ self.old.writes.items ++ own_writes self.old.version self.old.fresh origin (held_of held.now) body (halves_of body)) }
-        ensures fresh { OnOk result (self.new.fresh ≡ self.old.fresh + length (origins_in (own_writes self.old.version self.old.fresh origin (held_of held.now) body (halves_of body)))) }
+        ensures asks { IfOk result (λ ask. seen_asked ask
+            ≡ own_asks self.old.fresh (held_of held.now) (halves_of body)) }
+        ensures writes { OnOk result
+            (self.new.writes.items ≡ self.old.writes.items
+            ++ own_writes self.old.version self.old.fresh origin (held_of held.now) body
+            (halves_of body)) }
+        ensures fresh { OnOk result (self.new.fresh
+            ≡ self.old.fresh + length (origins_in
+            (own_writes self.old.version self.old.fresh origin (held_of held.now) body
+            (halves_of body)))) }
         ensures bound { OnOk result (self.new.fresh ≤ 2 ^ 16) }
         ensures version { self.new.version ≡ self.old.version }
     {
@@ -166,10 +180,13 @@ impl Writer {
         separator: &Key,
         right: Body,
     ) -> Result<(Addr, Addr), NoMemory>
-        ensures at { IfOk result (λ at. (at.0 ≡ new_addr self.old.fresh) × (at.1 ≡ new_addr (self.old.fresh + 1))) }
+        ensures at { IfOk result (λ at. (at.0 ≡ new_addr self.old.fresh)
+            × (at.1 ≡ new_addr (self.old.fresh + 1))) }
         ensures writes { OnOk result (self.new.writes.items ≡ self.old.writes.items
-            ++ creation self.old.fresh (new_page self.old.version page.now.low (Some separator.now) left) origin
-            ∷ creation (self.old.fresh + 1) (new_page self.old.version separator.now page.now.high right) origin ∷ []) }
+            ++ creation self.old.fresh (new_page self.old.version page.now.low
+            (Some separator.now) left) origin
+            ∷ creation (self.old.fresh + 1)
+            (new_page self.old.version separator.now page.now.high right) origin ∷ []) }
         ensures fresh { OnOk result (self.new.fresh ≡ self.old.fresh + 2) }
         ensures bound { OnOk result (self.new.fresh ≤ 2 ^ 16) }
         ensures version { self.new.version ≡ self.old.version }
@@ -192,9 +209,16 @@ impl Writer {
         body: Body,
     ) -> Result<Ask, NoMemory>
         requires version { self.old.version.0 < 64 }
-        ensures asks { IfOk result (λ ask. seen_asked ask ≡ other_asks self.old.fresh (halves_of body)) }
-        ensures writes { OnOk result (self.new.writes.items ≡ self.old.writes.items ++ other_writes self.old.version self.old.fresh origin (held_of held.now) body (halves_of body)) }
-        ensures fresh { OnOk result (self.new.fresh ≡ self.old.fresh + length (origins_in (other_writes self.old.version self.old.fresh origin (held_of held.now) body (halves_of body)))) }
+        ensures asks { IfOk result (λ ask. seen_asked ask
+            ≡ other_asks self.old.fresh (halves_of body)) }
+        ensures writes { OnOk result
+            (self.new.writes.items ≡ self.old.writes.items
+            ++ other_writes self.old.version self.old.fresh origin (held_of held.now) body
+            (halves_of body)) }
+        ensures fresh { OnOk result (self.new.fresh
+            ≡ self.old.fresh + length (origins_in
+            (other_writes self.old.version self.old.fresh origin (held_of held.now) body
+            (halves_of body)))) }
         ensures bound { OnOk result (self.new.fresh ≤ 2 ^ 16) }
         ensures version { self.new.version ≡ self.old.version }
     {
@@ -232,9 +256,14 @@ impl Writer {
     ) -> Result<Ask, NoMemory>
         requires version { self.old.version.0 < 64 }
         requires bound { self.old.fresh ≤ 2 ^ 16 }
-        ensures asks { IfOk result (λ ask. seen_asked ask ≡ page_asks self.old.version self.old.fresh (held_of held.now) body) }
-        ensures writes { OnOk result (self.new.writes.items ≡ self.old.writes.items ++ page_writes self.old.version self.old.fresh origin (held_of held.now) body) }
-        ensures fresh { OnOk result (self.new.fresh ≡ self.old.fresh + length (origins_in (page_writes self.old.version self.old.fresh origin (held_of held.now) body))) }
+        ensures asks { IfOk result (λ ask. seen_asked ask
+            ≡ page_asks self.old.version self.old.fresh (held_of held.now) body) }
+        ensures writes { OnOk result
+            (self.new.writes.items ≡ self.old.writes.items
+            ++ page_writes self.old.version self.old.fresh origin (held_of held.now) body) }
+        ensures fresh { OnOk result (self.new.fresh
+            ≡ self.old.fresh + length (origins_in
+            (page_writes self.old.version self.old.fresh origin (held_of held.now) body))) }
         ensures bound { OnOk result (self.new.fresh ≤ 2 ^ 16) }
         ensures version { self.new.version ≡ self.old.version }
     {
@@ -253,8 +282,14 @@ impl Writer {
         body: Body,
     ) -> Result<(), NoMemory>
         requires { self.old.fresh ≤ 2 ^ 16 }
-        ensures writes { OnOk result (self.new.writes.items ≡ self.old.writes.items ++ root_writes self.old.version self.old.fresh origin (held_of held.now) body (halves_of body)) }
-        ensures fresh { OnOk result (self.new.fresh ≡ self.old.fresh + length (origins_in (root_writes self.old.version self.old.fresh origin (held_of held.now) body (halves_of body)))) }
+        ensures writes { OnOk result
+            (self.new.writes.items ≡ self.old.writes.items
+            ++ root_writes self.old.version self.old.fresh origin (held_of held.now) body
+            (halves_of body)) }
+        ensures fresh { OnOk result (self.new.fresh
+            ≡ self.old.fresh + length (origins_in
+            (root_writes self.old.version self.old.fresh origin (held_of held.now) body
+            (halves_of body)))) }
         ensures bound { OnOk result (self.new.fresh ≤ 2 ^ 16) }
     {
         let page = &held.page;
@@ -305,8 +340,11 @@ pub fn raise(
 ) -> Result<Vec<Write>, NoMemory>
     requires version { version.0 < 64 }
     requires bound { length origins.now ≤ 2 ^ 16 }
-    ensures writes { IfOk result (λ writes. writes.items ≡ writes_up version (length origins.now) origins.now (held_of leaf.now) (lents above.now) body) }
-    ensures bound { IfOk result (λ writes. length origins.now + length (origins_in writes.items) ≤ 2 ^ 16) }
+    ensures writes { IfOk result (λ writes. writes.items
+        ≡ writes_up version (length origins.now) origins.now (held_of leaf.now)
+        (lents above.now) body) }
+    ensures bound { IfOk result (λ writes. length origins.now + length (origins_in writes.items)
+        ≤ 2 ^ 16) }
 {
     let mut writer = Writer {
         version,

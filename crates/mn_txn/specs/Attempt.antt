@@ -1,5 +1,6 @@
 -- A try of a transaction, and what it reads and writes. When that is planned.
-use Rattle.std.specs.Prelude.{ℕ, ◌≡◌, ◌+◌, ◌^◌, ◌<◌, ◌≤◌, ◌&&◌, true, false, List, [], ◌∷◌, ◌++◌, length, map, Option, Some, if◌then◌else◌, slice_index_or}
+use Rattle.std.specs.Prelude.{ℕ, ◌≡◌, ◌+◌, ◌^◌, ◌<◌, ◌≤◌, ◌&&◌, true, false, List, [], ◌∷◌, ◌++◌}
+use Rattle.std.specs.Prelude.{length, map, Option, Some, if◌then◌else◌, slice_index_or}
 use Rattle.std.specs.List.{AllByRecursion, flat_map, list_any}
 use Rattle.std.specs.Option.{option_map, option_to_list}
 use Rattle.byteorder.specs.Endian.{big_bytes}
@@ -51,7 +52,8 @@ pub record IsAttempt (kept : List Head) (nodes : ℕ) (a : Attempt) : Type 0 whe
   pub steps : AllByRecursion IsStep a.steps
   pub many : length a.steps ≤ 16
   pub leads : LeadsTo (parents_of kept) a.version a.entry.root no_pages a.moves a.draft
-  pub answered : AreAnswered (parents_of kept) a.version a.entry.root no_pages a.moves 1 [] a.steps a.reply
+  pub answered : AreAnswered (parents_of kept) a.version a.entry.root no_pages a.moves 1 [] a.steps
+      a.reply
   pub within : AllByRecursion (λ h. h.addr.node.0 < nodes) (comes_in a.moves)
 
 -- no Check is unmet; each new page has a slot, the next of its node, and no page to be changed was
@@ -77,21 +79,27 @@ page_image addr page = image addr.node (slot_start addr.slot) (page_bytes page)
 
 -- pages as they came in
 abbrev pub came_images : List Move → List Addr → List Image
-came_images moves addrs = flat_map (λ addr. option_to_list (option_map (page_image addr) (came_at moves addr))) addrs
+came_images moves addrs =
+    flat_map (λ addr. option_to_list (option_map (page_image addr) (came_at moves addr))) addrs
 
 -- the version's entry, where a step is a Put or a Del
 abbrev pub entry_images : Attempt → List Image
-entry_images a = if list_any is_change a.steps then image (node_no 0) (entry_start a.version.0) (entry_bytes a.entry) ∷ [] else []
+entry_images a =
+    if list_any is_change a.steps
+    then image (node_no 0) (entry_start a.version.0) (entry_bytes a.entry) ∷ [] else []
 
 abbrev pub count_image : ℕ → ℕ → Image
 count_image n count = image (node_no n) count_start (big_bytes count_size count)
 
 -- the counts of the nodes that give slots, as they were read, and as they are then
 abbrev pub counts_read : Attempt → List Image
-counts_read a = map (λ n. count_image n (slice_index_or a.counts n 0)) (giving_nodes a.counts a.slots)
+counts_read a =
+    map (λ n. count_image n (slice_index_or a.counts n 0)) (giving_nodes a.counts a.slots)
 
 abbrev pub counts_written : Attempt → List Image
-counts_written a = map (λ n. count_image n (slice_index_or a.counts n 0 + taken_on a.slots n)) (giving_nodes a.counts a.slots)
+counts_written a =
+    map (λ n. count_image n (slice_index_or a.counts n 0 + taken_on a.slots n))
+    (giving_nodes a.counts a.slots)
 
 -- what is compared where all Checks are met, and what is written
 abbrev pub done_reads : Attempt → List Image

@@ -1,7 +1,8 @@
 -- When a Snapshot or a Branch may be planned by what its try has read, what its plan is, and why it
 -- has none.
 use Rattle.std.specs.Prelude.{ℕ, ◌≡◌, ◌≢◌, ◌+◌, ◌-◌, ◌^◌, ◌<◌, ◌≤◌, ◌⊎◌, true, false, List, []}
-use Rattle.std.specs.Prelude.{◌∷◌, ◌++◌, length, map, replicate, None, Some, slice_get, slice_set, ⊤}
+use Rattle.std.specs.Prelude.{◌∷◌, ◌++◌, length, map, replicate, None, Some, slice_get, slice_set}
+use Rattle.std.specs.Prelude.{⊤}
 use Rattle.mn_base.specs.Store.{number_named}
 use Rattle.mn_base.specs.Tree.{has_version}
 use Rattle.mn_base.specs.declared.ids.Addr.{Addr}

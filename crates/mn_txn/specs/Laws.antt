@@ -1,13 +1,15 @@
 -- The laws of plans that follow from what a plan is. Each public law function has one of these as
 -- its contract.
-use Rattle.std.specs.Prelude.{Bool, nat_eq, filter, ℕ, ◌≡◌, ◌↔◌, IsTrue, List, length, map, Contains}
+use Rattle.std.specs.Prelude.{Bool, nat_eq, filter, ℕ, ◌≡◌, ◌↔◌, IsTrue, List, length, map}
+use Rattle.std.specs.Prelude.{Contains}
 use Rattle.std.specs.List.{AllByRecursion}
 use Rattle.mn_base.specs.declared.ids.NodeNo.{NodeNo}
 use Rattle.mn_mini.specs.declared.item.Item.{Item}
 use Rattle.mn_mini.specs.declared.item.Item.TheVariants.{Compare, Read, Write}
 use Rattle.mn_page.specs.Space.{count_start}
 use Rattle.mn_world.specs.Places.{Place}
-use Rattle.mn_world.specs.Planned.{place_rank, compare_places, write_places, are_in_order, IsNextNumber}
+use Rattle.mn_world.specs.Planned.{place_rank, compare_places, write_places, are_in_order}
+use Rattle.mn_world.specs.Planned.{IsNextNumber}
 use Rattle.mn_txn.specs.declared.image.Image.{Image}
 use Rattle.mn_txn.specs.State.{State, image, ImagesAreApart}
 use Rattle.mn_txn.specs.Order.{in_item_order}
@@ -20,7 +22,9 @@ image_place i = record { node = i.node; start = i.start; length = length i.bytes
 -- Order
 
 abbrev pub PlansAreInOrder : Type 0
-PlansAreInOrder = (t : State) → ImagesAreApart t.reads → ImagesAreApart t.writes → IsTrue (are_in_order (plan_of t).items)
+PlansAreInOrder =
+    (t : State) → ImagesAreApart t.reads → ImagesAreApart t.writes
+    → IsTrue (are_in_order (plan_of t).items)
 
 -- it stands in a slot
 abbrev pub is_page : Image → Bool

@@ -9,11 +9,15 @@ use Rattle.mn_txn.specs.declared.image.Turn.{Turn}
 -- pages come first and are alike; then come entries by node and then by place, and then counts by
 -- node
 abbrev pub turn_of : Image → Turn
-turn_of i = if nat_eq (place_rank i.start) 0 then record { rank = 0; node = 0; start = 0 } else record { rank = place_rank i.start; node = i.node.0; start = i.start }
+turn_of i =
+    if nat_eq (place_rank i.start) 0 then record { rank = 0; node = 0; start = 0 }
+    else record { rank = place_rank i.start; node = i.node.0; start = i.start }
 
 -- by rank, then by node, then by start
 abbrev pub turn_cmp : Turn → Turn → Ordering
-turn_cmp a b = ordering_then (nat_cmp a.rank b.rank) (ordering_then (nat_cmp a.node b.node) (nat_cmp a.start b.start))
+turn_cmp a b =
+    ordering_then (nat_cmp a.rank b.rank)
+    (ordering_then (nat_cmp a.node b.node) (nat_cmp a.start b.start))
 
 abbrev pub stands_before : Image → Image → Bool
 stands_before a b = is_lt (turn_cmp (turn_of a) (turn_of b))

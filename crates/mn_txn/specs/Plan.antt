@@ -1,5 +1,7 @@
 -- The plan of a transaction, and when there is none.
-use Rattle.std.specs.Prelude.{◌≡◌, ℕ, ◌+◌, ◌-◌, ◌^◌, Bool, true, false, ◌&&◌, not, nat_eq, nat_le, nat_lt, List, [], ◌∷◌, ◌++◌, length, map, Option, Some, None, if◌then◌else◌}
+use Rattle.std.specs.Prelude.{◌≡◌, ℕ, ◌+◌, ◌-◌, ◌^◌, Bool, true, false, ◌&&◌, not, nat_eq, nat_le}
+use Rattle.std.specs.Prelude.{nat_lt, List, [], ◌∷◌, ◌++◌, length, map, Option, Some, None}
+use Rattle.std.specs.Prelude.{if◌then◌else◌}
 use Rattle.byteorder.specs.Endian.{big_number}
 use Rattle.mn_base.specs.declared.ids.NodeNo.{NodeNo}
 use Rattle.mn_mini.specs.declared.item.Item.{Item}
@@ -21,12 +23,19 @@ write_of i = Write i.node i.start i.bytes
 
 -- the compares of the read set, and then the writes, each in the order of items
 abbrev pub plan_of : State → Mini
-plan_of t = record { nodes = t.nodes; items = map compare_of (in_item_order t.reads) ++ map write_of (in_item_order t.writes) }
+plan_of t =
+    record {
+      nodes = t.nodes;
+      items = map compare_of (in_item_order t.reads)
+          ++ map write_of (in_item_order t.writes);
+    }
 
 -- it may be an item's, over so many nodes: 1 to 4,096 bytes inside the space of one of them
 abbrev pub is_inside : ℕ → Image → Bool
 is_inside nodes i =
-    nat_lt i.node.0 nodes && (nat_lt i.node.0 8 && (nat_le 1 (length i.bytes) && (nat_le (length i.bytes) 4096 && nat_le (i.start + length i.bytes) space_size)))
+    nat_lt i.node.0 nodes && (nat_lt i.node.0 8
+    && (nat_le 1 (length i.bytes)
+    && (nat_le (length i.bytes) 4096 && nat_le (i.start + length i.bytes) space_size)))
 
 -- all may be items
 abbrev pub are_inside : ℕ → List Image → Bool
@@ -36,7 +45,9 @@ are_inside nodes (i ∷ is) = is_inside nodes i && are_inside nodes is
 -- it gives 1 to 1,024 items, each inside the space
 abbrev pub can_plan : State → Bool
 can_plan t =
-    nat_le 1 (length t.reads + length t.writes) && (nat_le (length t.reads + length t.writes) 1024 && (are_inside t.nodes t.reads && are_inside t.nodes t.writes))
+    nat_le 1 (length t.reads + length t.writes)
+    && (nat_le (length t.reads + length t.writes) 1024
+    && (are_inside t.nodes t.reads && are_inside t.nodes t.writes))
 
 -- bytes that begin with the last sequence number
 abbrev pub is_last : List ℕ → Bool
@@ -49,7 +60,10 @@ is_last_read (Some bytes) otherwise = is_last bytes
 
 -- a page or an entry that was read with the last number: in the read set, or else dirty
 abbrev pub is_worn : State → Image → Bool
-is_worn t i = not (nat_eq i.start count_start) && is_last_read (bytes_at i.node i.start t.reads) (is_last_read (bytes_at i.node i.start t.dirty) false)
+is_worn t i =
+    not (nat_eq i.start count_start)
+    && is_last_read (bytes_at i.node i.start t.reads)
+    (is_last_read (bytes_at i.node i.start t.dirty) false)
 
 -- where the first of these stands that was read so
 abbrev pub first_worn : State → List Image → Option (NodeNo × ℕ)

@@ -5,4 +5,6 @@ use Rattle.mn_world.specs.Growth.{AreNextSlots}
 
 -- new slots are the next of their nodes, where so many are free
 abbrev pub NewSlotsAreNext : Type 0
-NewSlotsAreNext = (need : ℕ) (counts : List ℕ) → need ≤ free_slots counts → AreNextSlots counts (new_slots need counts)
+NewSlotsAreNext =
+    (need : ℕ) (counts : List ℕ) → need ≤ free_slots counts
+    → AreNextSlots counts (new_slots need counts)

@@ -57,7 +57,8 @@ fn read_page(
     addr: Addr,
     leaves: bool,
 ) -> Result<(), NoMemory>
-    ensures { OnOk result (txn.new ≡ with_reads txn.old (page_read leaves addr (seen_at pages.now addr))) }
+    ensures { OnOk result (txn.new
+        ≡ with_reads txn.old (page_read leaves addr (seen_at pages.now addr))) }
 {
     match page_at(pages, addr) {
         Some(page) if !leaves || page.leaf => txn.read(
@@ -127,7 +128,8 @@ fn write_page(alloc: Global, txn: &mut Txn, addr: Addr, page: &Page) -> Result<(
 /// Writes pages, each at its place.
 fn write_pages(alloc: Global, txn: &mut Txn, pages: &[(Addr, Page)]) -> Result<(), NoMemory>
     requires { AllByRecursion (λ h. (count_in h.1.body ≤ 8) × (length h.1.low ≤ 32)) pages.now }
-    ensures { OnOk result (txn.new ≡ with_writes txn.old (map (λ h. page_image h.0 h.1) pages.now)) }
+    ensures { OnOk result (txn.new
+        ≡ with_writes txn.old (map (λ h. page_image h.0 h.1) pages.now)) }
 {
     for (addr, page) in pages {
         write_page(alloc, txn, *addr, page)?;
@@ -182,7 +184,8 @@ fn change_counts(
     requires nodes { length counts.now ≤ 8 }
     requires small { AllByRecursion (λ count. count ≤ max_slots) counts.now }
     requires few { length slots.now ≤ 518 }
-    ensures { OnOk result (txn.new ≡ with_counts txn.old counts.now slots.now (range_with_len 0 (length counts.now))) }
+    ensures { OnOk result (txn.new
+        ≡ with_counts txn.old counts.now slots.now (range_with_len 0 (length counts.now))) }
 {
     for number in 0..counts.len() {
         change_count(alloc, txn, NodeNo(number as u8), counts[number], slots)?;

@@ -1,7 +1,8 @@
 ghost use Rattle.std.specs.Prelude.{◌≡◌};
 ghost use Rattle.mn_txn.specs.State.{State};
 ghost use Rattle.mn_txn.specs.Plan.{plan_of};
-ghost use Rattle.mn_txn.specs.Laws.{PlansAreInOrder, PagesStay, PlansNameTheirPlaces, PlansNameNoOther, PlansHoldTheirBytes, PlansCountOn};
+ghost use Rattle.mn_txn.specs.Laws.{PlansAreInOrder, PagesStay, PlansNameTheirPlaces};
+ghost use Rattle.mn_txn.specs.Laws.{PlansNameNoOther, PlansHoldTheirBytes, PlansCountOn};
 ghost use Rattle.mn_txn.specs.Attempt.{AttemptsStandInOrder, DoneIsPlanned, UnmetIsPlanned};
 ghost use Rattle.mn_txn.specs.Children.{SnapshotIsPlanned, BranchIsPlanned, ChildrenStandInOrder};
 ghost use Rattle.mn_txn.specs.Slots.{NewSlotsAreNext};

@@ -1,10 +1,12 @@
-ghost use Rattle.std.specs.Prelude.{◌≡◌, ◌++◌, [], map, Some, None, IfOk, IfErr, OnOk, OnErr, IsTrue};
+ghost use Rattle.std.specs.Prelude.{◌≡◌, ◌++◌, [], map, Some, None, IfOk, IfErr, OnOk, OnErr};
+ghost use Rattle.std.specs.Prelude.{IsTrue};
 ghost use Rattle.mn_mini.specs.declared.error.MiniError.TheVariants as mini;
 ghost use Rattle.mn_page.specs.Space.{slot_start};
 ghost use Rattle.mn_txn.specs.declared.error.PlanError.TheVariants as plan;
 ghost use Rattle.mn_txn.specs.State.{image, joined, image_at, images_of, ImagesAreApart};
 ghost use Rattle.mn_txn.specs.Order.{in_item_order};
-ghost use Rattle.mn_txn.specs.Plan.{plan_of, compare_of, write_of, is_inside, are_inside, can_plan, is_last, is_worn, first_worn, RefusesPlan};
+ghost use Rattle.mn_txn.specs.Plan.{plan_of, compare_of, write_of, is_inside, are_inside, can_plan};
+ghost use Rattle.mn_txn.specs.Plan.{is_last, is_worn, first_worn, RefusesPlan};
 
 use crate::image::{COUNT_START, SLOTS_START};
 use crate::place::Place;
@@ -42,9 +44,16 @@ impl Model for Txn {
 
     ghost Value = { State };
 
-    ghost view = { λ t. record { nodes = t.nodes; dirty = images_of t.dirty.entries; reads = images_of t.reads.entries; writes = images_of t.writes.entries } };
+    ghost view = { λ t. record {
+      nodes = t.nodes;
+      dirty = images_of t.dirty.entries;
+      reads = images_of t.reads.entries;
+      writes = images_of t.writes.entries;
+    } };
 
-    ghost invariant = { λ t. ImagesAreApart (images_of t.dirty.entries) × ImagesAreApart (images_of t.reads.entries) × ImagesAreApart (images_of t.writes.entries) };
+    ghost invariant = { λ t. ImagesAreApart (images_of t.dirty.entries)
+        × ImagesAreApart (images_of t.reads.entries)
+        × ImagesAreApart (images_of t.writes.entries) };
 }
 
 /// Keeps the bytes of a place, in place of older ones.
@@ -54,9 +63,11 @@ fn keep(
     start: u32,
     bytes: Bytes,
 ) -> Result<(), NoMemory>
-    ensures kept { OnOk result (images_of images.new.entries ≡ joined (images_of images.old.entries) (image node start bytes)) }
+    ensures kept { OnOk result (images_of images.new.entries
+        ≡ joined (images_of images.old.entries) (image node start bytes)) }
     ensures unchanged { OnErr result (images_of images.new.entries ≡ images_of images.old.entries) }
-    ensures apart { ImagesAreApart (images_of images.old.entries) → ImagesAreApart (images_of images.new.entries) }
+    ensures apart { ImagesAreApart (images_of images.old.entries)
+        → ImagesAreApart (images_of images.new.entries) }
 {
     images.insert(Place::new(node, start), bytes)?;
     Ok(())
@@ -64,7 +75,8 @@ fn keep(
 
 /// Copies of the images, in the order of the items of a plan.
 fn in_order(alloc: Global, images: &IndexMap<Place, Bytes>) -> Result<Vec<Image>, NoMemory>
-    ensures { IfOk result (λ ordered. ordered.items ≡ in_item_order (images_of images.now.entries)) }
+    ensures { IfOk result (λ ordered. ordered.items
+        ≡ in_item_order (images_of images.now.entries)) }
 {
     let mut ordered = copied(alloc, images)?;
     ordered.sort_by_key(|image| image.turn())?;
@@ -158,7 +170,8 @@ impl Txn {
     /// A transaction over so many nodes that has read nothing and writes nothing. NoMemory: there
     /// was no memory for it.
     pub fn new(alloc: Global, nodes: u8) -> Result<Self, NoMemory>
-        ensures { IfOk result (λ txn. txn ≡ record { nodes = nodes; dirty = []; reads = []; writes = [] }) }
+        ensures { IfOk result (λ txn. txn
+            ≡ record { nodes = nodes; dirty = []; reads = []; writes = [] }) }
     {
         Ok(Txn {
             nodes,
@@ -171,7 +184,13 @@ impl Txn {
     /// Keeps a page that was read and that the plan doesn't compare, in place of older bytes of it.
     /// NoMemory: there was no memory for it, and the transaction is as before.
     pub fn dirty_read(&mut self, alloc: Global, addr: Addr, bytes: &[u8]) -> Result<(), NoMemory>
-        ensures kept { OnOk result (self.new ≡ record { nodes = self.old.nodes; dirty = joined self.old.dirty (image addr.node (slot_start addr.slot) bytes.now); reads = self.old.reads; writes = self.old.writes }) }
+        ensures kept { OnOk result (self.new
+            ≡ record {
+              nodes = self.old.nodes;
+              dirty = joined self.old.dirty (image addr.node (slot_start addr.slot) bytes.now);
+              reads = self.old.reads;
+              writes = self.old.writes;
+            }) }
         ensures unchanged { OnErr result (self.new ≡ self.old) }
     {
         let start = SLOTS_START + SLOT_SIZE * u32::from(addr.slot);
@@ -189,7 +208,14 @@ impl Txn {
         start: u32,
         bytes: &[u8],
     ) -> Result<(), NoMemory>
-        ensures kept { OnOk result (self.new ≡ record { nodes = self.old.nodes; dirty = self.old.dirty; reads = joined self.old.reads (image node start bytes.now); writes = self.old.writes }) }
+        ensures kept { OnOk result (self.new
+            ≡ record {
+              nodes = self.old.nodes;
+              dirty = self.old.dirty;
+              reads = joined self.old.reads (image node start bytes.now);
+              writes =
+                  self.old.writes;
+            }) }
         ensures unchanged { OnErr result (self.new ≡ self.old) }
     {
         let bytes = Bytes::from_vec(bytes.to_vec(alloc)?);
@@ -199,7 +225,13 @@ impl Txn {
     /// Bytes that the plan writes. A place that is written again keeps its turn, with the later
     /// bytes. NoMemory: there was no memory for it, and the transaction is as before.
     pub fn write(&mut self, node: NodeNo, start: u32, bytes: Bytes) -> Result<(), NoMemory>
-        ensures kept { OnOk result (self.new ≡ record { nodes = self.old.nodes; dirty = self.old.dirty; reads = self.old.reads; writes = joined self.old.writes (image node start bytes) }) }
+        ensures kept { OnOk result (self.new
+            ≡ record {
+              nodes = self.old.nodes;
+              dirty = self.old.dirty;
+              reads = self.old.reads;
+              writes = joined self.old.writes (image node start bytes);
+            }) }
         ensures unchanged { OnErr result (self.new ≡ self.old) }
     {
         keep(&mut self.writes, node, start, bytes)

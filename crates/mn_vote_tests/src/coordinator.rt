@@ -75,7 +75,8 @@ fn is_decide(request: &Request, verdict: bool) -> bool {
 /// The request that is handed out next, if one is.
 fn sent(coordinator: &mut Coordinator) -> Option<(NodeNo, Request)>
     requires { coordinator.old.asked ≡ false }
-    ensures { MatchOption result (coordinator.new.asked ≡ false) (λ _. coordinator.new.asked ≡ true) }
+    ensures { MatchOption result (coordinator.new.asked ≡ false)
+        (λ _. coordinator.new.asked ≡ true) }
 {
     match coordinator.next() {
         CoordStep::Send { node, request } => Some((node, request)),

@@ -1,4 +1,5 @@
-ghost use Rattle.std.specs.Prelude.{◌≡◌, ◌<◌, length, nat_lt, true, false, Some, IfOk, IfErr, OnOk, MatchOption, option_map, slice_get};
+ghost use Rattle.std.specs.Prelude.{◌≡◌, ◌<◌, length, nat_lt, true, false, Some, IfOk, IfErr, OnOk};
+ghost use Rattle.std.specs.Prelude.{MatchOption, option_map, slice_get};
 ghost use Rattle.std.specs.Option.{option_map_or};
 ghost use Rattle.mn_base.specs.Tree.{has_version, is_ancestor, serves};
 ghost use Rattle.mn_vtree.specs.Parents.{numbers_of, IsLess, AreLess, IsFirstBad, RefusesParents};
@@ -28,7 +29,8 @@ impl Model for VersionTree {
 
 // The first version whose parent isn't less.
 fn first_bad(parents: &[Option<VersionNo>]) -> Option<VersionNo>
-    ensures { MatchOption result (AreLess (numbers_of parents.now)) (λ v. IsFirstBad (numbers_of parents.now) v.0) }
+    ensures { MatchOption result (AreLess (numbers_of parents.now))
+        (λ v. IsFirstBad (numbers_of parents.now) v.0) }
 {
     for (version, parent) in parents.iter().enumerate() {
         if !is_less(*parent, version) {

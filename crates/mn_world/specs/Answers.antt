@@ -1,5 +1,7 @@
 -- When an operation may be answered, and how.
-use Rattle.std.specs.Prelude.{ℕ, ◌≡◌, ◌+◌, ◌-◌, ◌*◌, ◌^◌, ◌<◌, ◌≤◌, ◌⊎◌, Bool, true, false, not, ◌&&◌, ◌||◌, nat_eq, nat_lt, IsTrue, List, [], ◌∷◌, ◌++◌, length, reverse, sum, Option, Some, None, ⊤, Contains, slice_get}
+use Rattle.std.specs.Prelude.{ℕ, ◌≡◌, ◌+◌, ◌-◌, ◌*◌, ◌^◌, ◌<◌, ◌≤◌, ◌⊎◌, Bool, true, false, not}
+use Rattle.std.specs.Prelude.{◌&&◌, ◌||◌, nat_eq, nat_lt, IsTrue, List, [], ◌∷◌, ◌++◌, length}
+use Rattle.std.specs.Prelude.{reverse, sum, Option, Some, None, ⊤, Contains, slice_get}
 use Rattle.std.specs.List.{list_all, list_any, flat_map, AllByRecursion}
 use Rattle.byteorder.specs.Endian.{big_bytes}
 use Rattle.mn_base.specs.Ids.{node_same}
@@ -15,7 +17,8 @@ use Rattle.mn_base.specs.declared.reply.Reply.{Reply}
 use Rattle.mn_base.specs.declared.answer.Busy.{Busy}
 use Rattle.mn_base.specs.declared.answer.Busy.TheVariants.{Lock, Moved, Forced, Path}
 use Rattle.mn_base.specs.declared.answer.Answer.{Answer}
-use Rattle.mn_base.specs.declared.answer.Answer.TheVariants.{Replied, Busy as GaveUp, Down, InDoubt, Full, Worn, NoMemory}
+use Rattle.mn_base.specs.declared.answer.Answer.TheVariants.{Replied, Busy as GaveUp, Down, InDoubt}
+use Rattle.mn_base.specs.declared.answer.Answer.TheVariants.{Full, Worn, NoMemory}
 use Rattle.mn_mini.specs.declared.part.PartItem.{PartItem}
 use Rattle.mn_mini.specs.declared.part.PartItem.TheVariants as Bare
 use Rattle.mn_mini.specs.declared.request.Request.{Request}
@@ -33,18 +36,24 @@ use Rattle.mn_page.specs.Holds.{page_covers}
 use Rattle.mn_world.specs.declared.entry.Entry.{Entry}
 use Rattle.mn_world.specs.declared.entry.What.{What}
 use Rattle.mn_world.specs.declared.entry.What.TheVariants.{Issue, Answered}
-use Rattle.mn_world.specs.Calls.{Call, call_in, calls_of, is_prepare, is_exec, is_done, is_stopped, is_down_reply, is_last_of, was_told, was_told_somewhere, was_done, was_decided, was_abandoned, Issued, issue_in, issues_of, Begun, under_way, since_begin}
+use Rattle.mn_world.specs.Calls.{Call, call_in, calls_of, is_prepare, is_exec, is_done, is_stopped}
+use Rattle.mn_world.specs.Calls.{is_down_reply, is_last_of, was_told, was_told_somewhere, was_done}
+use Rattle.mn_world.specs.Calls.{was_decided, was_abandoned, Issued, issue_in, issues_of, Begun}
+use Rattle.mn_world.specs.Calls.{under_way, since_begin}
 use Rattle.mn_world.specs.Clients.{is_read, is_plan}
 use Rattle.mn_world.specs.Places.{Place, page_place, count_place, catalog_place}
 use Rattle.mn_world.specs.Planned.{IsPlanned}
 use Rattle.mn_world.specs.Needs.{NeedsSlots, WritesOld}
-use Rattle.mn_world.specs.Shown.{Seen, SeesCatalog, SeesPage, ShowsCatalog, ServesNamed, seen_in, seen_at, ReadShows, ScanShows}
+use Rattle.mn_world.specs.Shown.{Seen, SeesCatalog, SeesPage, ShowsCatalog, ServesNamed, seen_in}
+use Rattle.mn_world.specs.Shown.{seen_at, ReadShows, ScanShows}
 
 -- Plans that are over
 
 -- the plan will never be committed: it was abandoned, or its Exec was neither done nor stopped
 abbrev pub is_given_up : List Entry → Issued → Bool
-is_given_up es i = was_abandoned i.tid es || (nat_eq (length (participants_of i.mini)) 1 && not (was_told_somewhere (is_exec i.tid) (λ reply. is_done reply || is_stopped reply) es))
+is_given_up es i =
+    was_abandoned i.tid es || (nat_eq (length (participants_of i.mini)) 1
+    && not (was_told_somewhere (is_exec i.tid) (λ reply. is_done reply || is_stopped reply) es))
 
 -- every plan of the operation is given up
 abbrev pub are_given_up : List Entry → Bool
@@ -52,7 +61,9 @@ are_given_up now = list_all (λ i. is_read i.mini.items || is_given_up now i) (i
 
 -- a decision of each plan was sent to each participant that voted yes
 abbrev pub is_settled : List Entry → Issued → Bool
-is_settled now i = list_all (λ n. not (was_told (is_prepare i.tid) is_done n now) || was_decided i.tid n now) (participants_of i.mini)
+is_settled now i =
+    list_all (λ n. not (was_told (is_prepare i.tid) is_done n now) || was_decided i.tid n now)
+    (participants_of i.mini)
 
 abbrev pub are_settled : List Entry → Bool
 are_settled now = list_all (λ i. is_read i.mini.items || is_settled now i) (issues_of now)
@@ -61,7 +72,9 @@ are_settled now = list_all (λ i. is_read i.mini.items || is_settled now i) (iss
 
 -- a minitransaction is a plan of the operation, with this reply, by a catalog that the list shows
 abbrev pub IsPlanBy : List Entry → Op → Mini → Reply → Type 0
-IsPlanBy es op mini reply = (entries : List CatEntry) × ShowsCatalog es entries × IsPlanned es (heads_in entries) op mini reply
+IsPlanBy es op mini reply =
+    (entries : List CatEntry) × ShowsCatalog es entries
+    × IsPlanned es (heads_in entries) op mini reply
 
 -- the last issue of the operation under way, with the entries before it; `now` are the entries
 -- since its Begin
@@ -90,18 +103,23 @@ part_compares (Bare.Write start bytes ∷ items) = part_compares items
 -- a read of the list shows these bytes at this start
 abbrev pub ShowsBytes : List Seen → NodeNo → ℕ → List ℕ → Type 0
 ShowsBytes seens n start bytes =
-    (seen : Seen) × Contains seens seen × (seen.place.node ≡ n) × (seen.place.start ≤ start) × (bytes_in seen.bytes (start - seen.place.start) (length bytes) ≡ bytes)
+    (seen : Seen) × Contains seens seen × (seen.place.node ≡ n) × (seen.place.start ≤ start)
+    × (bytes_in seen.bytes (start - seen.place.start) (length bytes) ≡ bytes)
 
 -- a compare of a part differed, from bytes that a read of this try had shown
 abbrev pub DiffersAs : List Seen → NodeNo → List PartItem → ℕ → List ℕ → Busy → Type 0
 DiffersAs seens n part item found busy =
-    (start : ℕ) × (expected : List ℕ) × (slice_get (part_compares part) item ≡ Some (start, expected)) × ShowsBytes seens n start expected × (busy ≡ Moved n start expected found)
+    (start : ℕ) × (expected : List ℕ)
+    × (slice_get (part_compares part) item ≡ Some (start, expected))
+    × ShowsBytes seens n start expected × (busy ≡ Moved n start expected found)
 
 -- a Prepare or Exec was refused so
 abbrev pub RefusedAs : List Seen → NodeNo → Request → NodeReply → Busy → Type 0
 RefusedAs seens n request (Say.BadLock start length holder) busy = busy ≡ Lock n start length holder
-RefusedAs seens n (Ask.Prepare tid participants part) (Say.BadCompare item found) busy = DiffersAs seens n part item found busy
-RefusedAs seens n (Ask.Exec tid part) (Say.BadCompare item found) busy = DiffersAs seens n part item found busy
+RefusedAs seens n (Ask.Prepare tid participants part) (Say.BadCompare item found) busy =
+    DiffersAs seens n part item found busy
+RefusedAs seens n (Ask.Exec tid part) (Say.BadCompare item found) busy =
+    DiffersAs seens n part item found busy
 RefusedAs seens n (Ask.Prepare tid participants part) Say.BadForced busy = busy ≡ Forced tid
 RefusedAs seens n request reply busy = ⊥
 
@@ -146,11 +164,14 @@ IsPageAtFault entries op key height page =
 abbrev pub IsAtFault : List CatEntry → Op → List ℕ → Option ℕ → List ℕ → ℕ → Type 0
 IsAtFault entries op key height bytes seq =
     (((page : Page) → SpellsPage bytes page → ⊥) × (seq ≡ 0))
-    ⊎ ((page : Page) × SpellsPage bytes page × IsPageAtFault entries op key height page × (seq ≡ page.seq))
+    ⊎ ((page : Page) × SpellsPage bytes page × IsPageAtFault entries op key height page
+    × (seq ≡ page.seq))
 
 -- a catalog of the reads gives the root from which one key reaches this address
 abbrev pub ReachesAddr : List Seen → Op → List CatEntry → List ℕ → Addr → Option ℕ → Type 0
-ReachesAddr seens op entries key addr height = (catalog : Seen) × Contains seens catalog × SeesCatalog catalog entries × Reached seens op key addr height
+ReachesAddr seens op entries key addr height =
+    (catalog : Seen) × Contains seens catalog × SeesCatalog catalog entries
+    × Reached seens op key addr height
 
 -- a read met a page at fault, at an address that the reads name
 abbrev pub MeetsBadPage : List Seen → Op → Addr → ℕ → Type 0
@@ -161,7 +182,9 @@ MeetsBadPage seens op addr seq =
 
 -- the reads name an address on a node that there is not
 abbrev pub MeetsBadAddr : ℕ → List Seen → Op → Addr → ℕ → Type 0
-MeetsBadAddr nodes seens op addr seq = (key : List ℕ) × (height : Option ℕ) × (entries : List CatEntry) × ReachesAddr seens op entries key addr height × (nodes ≤ addr.node.0) × (seq ≡ 0)
+MeetsBadAddr nodes seens op addr seq =
+    (key : List ℕ) × (height : Option ℕ) × (entries : List CatEntry)
+    × ReachesAddr seens op entries key addr height × (nodes ≤ addr.node.0) × (seq ≡ 0)
 
 -- each parent has a lower number; newest first
 abbrev pub ParentsAreBelow : List (Option ℕ) → Type 0
@@ -171,19 +194,27 @@ ParentsAreBelow (Some p ∷ older) = (p < length older) × ParentsAreBelow older
 
 -- a read of the catalog's place that brought no catalog
 abbrev pub IsBadCatalog : Seen → Type 0
-IsBadCatalog seen = (seen.place ≡ catalog_place) × ((entries : List CatEntry) → SeesCatalog seen entries → ParentsAreBelow (reverse (parents_of (heads_in entries))) → ⊥)
+IsBadCatalog seen =
+    (seen.place ≡ catalog_place) × ((entries : List CatEntry) → SeesCatalog seen entries
+    → ParentsAreBelow (reverse (parents_of (heads_in entries))) → ⊥)
 
 -- a read of a node's count that brought no count
 abbrev pub IsBadCount : Seen → Type 0
-IsBadCount seen = (seen.place ≡ count_place seen.place.node) × ((count : ℕ) → count ≤ max_slots → seen.bytes ≡ big_bytes count_size count → ⊥)
+IsBadCount seen =
+    (seen.place ≡ count_place seen.place.node)
+    × ((count : ℕ) → count ≤ max_slots → seen.bytes ≡ big_bytes count_size count → ⊥)
 
 -- a read met such a catalog or count: slot 0 of its node stands for it
 abbrev pub MeetsBadPlace : List Seen → Addr → ℕ → Type 0
-MeetsBadPlace seens addr seq = (seen : Seen) × Contains seens seen × (IsBadCatalog seen ⊎ IsBadCount seen) × (addr ≡ record { node = seen.place.node; slot = 0 }) × (seq ≡ 0)
+MeetsBadPlace seens addr seq =
+    (seen : Seen) × Contains seens seen × (IsBadCatalog seen ⊎ IsBadCount seen)
+    × (addr ≡ record { node = seen.place.node; slot = 0 }) × (seq ≡ 0)
 
 -- a read of a try met a fault of path
 abbrev pub MeetsFault : ℕ → List Seen → Op → Busy → Type 0
-MeetsFault nodes seens op (Path addr seq) = MeetsBadPage seens op addr seq ⊎ MeetsBadAddr nodes seens op addr seq ⊎ MeetsBadPlace seens addr seq
+MeetsFault nodes seens op (Path addr seq) =
+    MeetsBadPage seens op addr seq ⊎ MeetsBadAddr nodes seens op addr seq
+    ⊎ MeetsBadPlace seens addr seq
 MeetsFault nodes seens op busy = ⊥
 
 -- a try, its entries newest first, failed so: its last call was refused, or a read of it met a
@@ -191,7 +222,9 @@ MeetsFault nodes seens op busy = ⊥
 abbrev pub FailsAs : ℕ → Op → List Entry → Busy → Type 0
 FailsAs nodes op [] busy = ⊥
 FailsAs nodes op (e ∷ es) busy =
-    ((call : Call) × (call_in e.node e.what ≡ call ∷ []) × RefusedAs (seen_in es) call.node call.request call.reply busy) ⊎ MeetsFault nodes (seen_in (e ∷ es)) op busy
+    ((call : Call) × (call_in e.node e.what ≡ call ∷ [])
+    × RefusedAs (seen_in es) call.node call.request call.reply busy)
+    ⊎ MeetsFault nodes (seen_in (e ∷ es)) op busy
 
 -- a Prepare or an Exec was refused
 abbrev pub is_refusal : NodeReply → Bool
@@ -222,7 +255,8 @@ is_peek request = false
 
 -- an Exec that reads the catalog
 abbrev pub asks_catalog : Request → Bool
-asks_catalog (Ask.Exec tid (Bare.Read start length ∷ [])) = nat_eq start catalog_start && nat_eq length catalog_size
+asks_catalog (Ask.Exec tid (Bare.Read start length ∷ [])) =
+    nat_eq start catalog_start && nat_eq length catalog_size
 asks_catalog request = false
 
 -- it asks node 0 for the catalog
@@ -240,7 +274,9 @@ IsWhole op taken = taken ≡ []
 
 -- an entry that brought a leaf
 abbrev pub BringsLeaf : Entry → Type 0
-BringsLeaf e = (seen : Seen) × (addr : Addr) × (page : Page) × Contains (seen_at e) seen × SeesPage seen addr page × (height_of page.body ≡ 0)
+BringsLeaf e =
+    (seen : Seen) × (addr : Addr) × (page : Page) × Contains (seen_at e) seen
+    × SeesPage seen addr page × (height_of page.body ≡ 0)
 
 -- what a scan took ends with a leaf that serves its version by a catalog read before, or is nothing
 abbrev pub EndsWithLeaf : Op → List Entry → Type 0
@@ -299,7 +335,8 @@ nodes_of (i ∷ is) = i.mini.nodes
 abbrev pub FreeSlots : ℕ → List Seen → ℕ → Type 0
 FreeSlots nodes seens free =
     (counts : List ℕ) × (length counts ≡ nodes) × (free + sum counts ≡ max_slots * nodes)
-    × ((n : NodeNo) (count : ℕ) → slice_get counts n.0 ≡ Some count → ShowsBytes seens n count_start (big_bytes count_size count))
+    × ((n : NodeNo) (count : ℕ) → slice_get counts n.0 ≡ Some count
+    → ShowsBytes seens n count_start (big_bytes count_size count))
 
 -- the newest entry was refused
 abbrev pub ends_refused : List Entry → Bool
@@ -309,7 +346,9 @@ ends_refused (e ∷ es) = list_any (λ c. is_refusal c.reply) (call_in e.node e.
 -- a later try begins after one that failed: after a refusal or a fault; that the first failed may
 -- not be seen, where it was not refused
 abbrev pub BeginsAfter : ℕ → Op → List Entry → Type 0
-BeginsAfter nodes op earlier = IsTrue (none_refused earlier || ends_refused earlier) ⊎ ((fault : Busy) × MeetsFault nodes (seen_in earlier) op fault)
+BeginsAfter nodes op earlier =
+    IsTrue (none_refused earlier || ends_refused earlier)
+    ⊎ ((fault : Busy) × MeetsFault nodes (seen_in earlier) op fault)
 
 -- the last try of the operation, a later one that was not refused, and the decisions after it
 pub record LastTry (nodes : ℕ) (op : Op) (now : List Entry) (try : List Entry) : Type 0 where
@@ -323,7 +362,9 @@ pub record LastTry (nodes : ℕ) (op : Op) (now : List Entry) (try : List Entry)
 -- a node answered Down to a request that is no Decide, or stopped inside a Prepare that was not the
 -- last
 abbrev pub is_down_cause : NodeNo → Call → Bool
-is_down_cause n c = node_same c.node n && ((is_down_reply c.reply && not (is_any_decide c.request)) || (is_stopped c.reply && (is_any_prepare c.request && not (is_last_of c.node c.request))))
+is_down_cause n c =
+    node_same c.node n && ((is_down_reply c.reply && not (is_any_decide c.request))
+    || (is_stopped c.reply && (is_any_prepare c.request && not (is_last_of c.node c.request))))
 
 -- a read since Begin shows the reply, by what the list held before it; `now` are the entries since
 -- Begin
@@ -340,24 +381,35 @@ pub record SomeReadShows (es now : List Entry) (op : Op) (reply : Reply) : Type 
 
 -- the last issue is a plan with this reply, and every participant was done
 abbrev pub LastPlanReplies : List Entry → List Entry → Op → Reply → Type 0
-LastPlanReplies es now op reply = (i : Issued) × (before : List Entry) × LastIssue es now i before × IsTrue (is_plan i.mini.items) × IsPlanBy before op i.mini reply × IsTrue (all_done es i)
+LastPlanReplies es now op reply =
+    (i : Issued) × (before : List Entry) × LastIssue es now i before × IsTrue (is_plan i.mini.items)
+    × IsPlanBy before op i.mini reply × IsTrue (all_done es i)
 
 -- that node stopped inside the last Prepare, or the Exec, of this id
 abbrev pub is_doubt_cause : NodeNo → Tid → Call → Bool
-is_doubt_cause n tid c = node_same c.node n && (is_stopped c.reply && (is_exec tid c.request || (is_prepare tid c.request && is_last_of n c.request)))
+is_doubt_cause n tid c =
+    node_same c.node n && (is_stopped c.reply
+    && (is_exec tid c.request || (is_prepare tid c.request && is_last_of n c.request)))
 
 -- what shows an answer in the client's own list
 abbrev pub ShowsAnswer : List Entry → List Entry → Op → Answer → Type 0
 ShowsAnswer es now op (Replied reply) =
-    LastPlanReplies es now op reply ⊎ (IsTrue (are_given_up now) × SomeReadShows es now op reply) ⊎ (IsTrue (are_given_up now) × ScanShows (seen_in now) op reply)
-ShowsAnswer es now op (GaveUp busy) = IsTrue (are_given_up now) × FailedTries (nodes_of (issues_of now)) op now busy
-ShowsAnswer es now op (Down n) = IsTrue (are_given_up now) × IsTrue (list_any (is_down_cause n) (calls_of now))
-ShowsAnswer es now op (InDoubt tid n) = (i : Issued) × (before : List Entry) × LastIssue es now i before × (tid ≡ i.tid) × IsTrue (list_any (is_doubt_cause n tid) (calls_of now))
+    LastPlanReplies es now op reply ⊎ (IsTrue (are_given_up now) × SomeReadShows es now op reply)
+    ⊎ (IsTrue (are_given_up now) × ScanShows (seen_in now) op reply)
+ShowsAnswer es now op (GaveUp busy) =
+    IsTrue (are_given_up now) × FailedTries (nodes_of (issues_of now)) op now busy
+ShowsAnswer es now op (Down n) =
+    IsTrue (are_given_up now) × IsTrue (list_any (is_down_cause n) (calls_of now))
+ShowsAnswer es now op (InDoubt tid n) =
+    (i : Issued) × (before : List Entry) × LastIssue es now i before × (tid ≡ i.tid)
+    × IsTrue (list_any (is_doubt_cause n tid) (calls_of now))
 ShowsAnswer es now op (Full need free) =
-    IsTrue (are_given_up now) × (try : List Entry) × LastTry (nodes_of (issues_of now)) op now try × (free < need) × NeedsSlots (seen_in try) op need
+    IsTrue (are_given_up now) × (try : List Entry) × LastTry (nodes_of (issues_of now)) op now try
+    × (free < need) × NeedsSlots (seen_in try) op need
     × FreeSlots (nodes_of (issues_of now)) (seen_in try) free
 ShowsAnswer es now op (Worn n start) =
-    IsTrue (are_given_up now) × (try : List Entry) × (place : Place) × LastTry (nodes_of (issues_of now)) op now try × (place.node ≡ n) × (place.start ≡ start)
+    IsTrue (are_given_up now) × (try : List Entry) × (place : Place)
+    × LastTry (nodes_of (issues_of now)) op now try × (place.node ≡ n) × (place.start ≡ start)
     × WritesOld (seen_in try) op place × ShowsBytes (seen_in try) n start (big_bytes 8 (2 ^ 64 - 1))
 ShowsAnswer es now op NoMemory = IsTrue (are_given_up now)
 
@@ -377,6 +429,9 @@ IsShownFor es (Some begun) answer = ShowsAnswer es (since_begin es) begun.op ans
 
 -- the meaning of a client's step, beyond the protocol: a plan is planned, and an answer is shown
 abbrev pub MeansBy : List Entry → What → Type 0
-MeansBy es (Issue tid mini) = IsTrue (are_settled (since_begin es)) × (IsTrue (is_read mini.items) ⊎ IsPlanOfOp es (under_way es) mini)
-MeansBy es (Answered number answer) = IsSettled (since_begin es) answer × IsShownFor es (under_way es) answer
+MeansBy es (Issue tid mini) =
+    IsTrue (are_settled (since_begin es))
+    × (IsTrue (is_read mini.items) ⊎ IsPlanOfOp es (under_way es) mini)
+MeansBy es (Answered number answer) =
+    IsSettled (since_begin es) answer × IsShownFor es (under_way es) answer
 MeansBy es what = ⊤

@@ -1,6 +1,7 @@
 -- Reading a log. Lists of entries stand newest first: what an entry may be is said of the entries
 -- before it.
-use Rattle.std.specs.Prelude.{ℕ, ◌≡◌, Bool, true, false, not, ◌&&◌, ◌||◌, List, [], ◌∷◌, ◌++◌, length, filter, Option, Some, None, if◌then◌else◌, Contains}
+use Rattle.std.specs.Prelude.{ℕ, ◌≡◌, Bool, true, false, not, ◌&&◌, ◌||◌, List, [], ◌∷◌, ◌++◌}
+use Rattle.std.specs.Prelude.{length, filter, Option, Some, None, if◌then◌else◌, Contains}
 use Rattle.std.specs.List.{list_any}
 use Rattle.std.specs.Option.{option_map_or}
 use Rattle.mn_base.specs.Ids.{node_same, client_same, tid_same}
@@ -16,7 +17,8 @@ use Rattle.mn_mini.specs.declared.doubt.Doubt.{Doubt}
 use Rattle.mn_mini.specs.Mini.{Mini}
 use Rattle.mn_world.specs.declared.entry.Entry.{Entry}
 use Rattle.mn_world.specs.declared.entry.What.{What}
-use Rattle.mn_world.specs.declared.entry.What.TheVariants.{Begin, Issue, Called, Stopped, Abandoned, Answered}
+use Rattle.mn_world.specs.declared.entry.What.TheVariants.{Begin, Issue, Called, Stopped, Abandoned}
+use Rattle.mn_world.specs.declared.entry.What.TheVariants.{Answered}
 
 -- Whose an entry is
 
@@ -43,7 +45,8 @@ pub record Call : Type 0 where
 abbrev pub call_in : Option NodeNo → What → List Call
 call_in None what = []
 call_in (Some n) (Called request reply) = record { node = n; request = request; reply = reply } ∷ []
-call_in (Some n) (Stopped (Some request) asked) = record { node = n; request = request; reply = Say.Stopped } ∷ []
+call_in (Some n) (Stopped (Some request) asked) =
+    record { node = n; request = request; reply = Say.Stopped } ∷ []
 call_in (Some n) what = []
 
 -- the calls of a list
@@ -106,7 +109,8 @@ is_no reply = false
 
 -- a request of this id to the node, with a reply that passes the test
 abbrev pub was_told : (Request → Bool) → (NodeReply → Bool) → NodeNo → List Entry → Bool
-was_told ask say n es = list_any (λ c. node_same c.node n && (ask c.request && say c.reply)) (calls_of es)
+was_told ask say n es =
+    list_any (λ c. node_same c.node n && (ask c.request && say c.reply)) (calls_of es)
 
 -- the same at any node
 abbrev pub was_told_somewhere : (Request → Bool) → (NodeReply → Bool) → List Entry → Bool
@@ -137,7 +141,10 @@ was_decided tid n es = was_told (is_decide tid) (λ reply. true) n es
 
 -- the node stopped inside its last Prepare or its Exec: whether it is committed is not known
 abbrev pub is_in_doubt : Tid → List Entry → Bool
-is_in_doubt tid es = list_any (λ c. is_stopped c.reply && (is_exec tid c.request || (is_prepare tid c.request && is_last_of c.node c.request))) (calls_of es)
+is_in_doubt tid es =
+    list_any (λ c. is_stopped c.reply
+    && (is_exec tid c.request || (is_prepare tid c.request && is_last_of c.node c.request)))
+    (calls_of es)
 
 abbrev pub is_abandonment : Tid → What → Bool
 is_abandonment tid (Abandoned t) = tid_same t tid
@@ -157,7 +164,8 @@ Lists tid participants reply = ⊥
 
 -- some reply of the list gives the id with these participants
 abbrev pub WasListed : Tid → List NodeNo → List Entry → Type 0
-WasListed tid participants es = (call : Call) × Contains (calls_of es) call × Lists tid participants call.reply
+WasListed tid participants es =
+    (call : Call) × Contains (calls_of es) call × Lists tid participants call.reply
 
 -- Issues
 

@@ -1,5 +1,6 @@
 -- When a minitransaction is committed, and the memory that the committed ones make.
-use Rattle.std.specs.Prelude.{ℕ, Bool, true, false, ◌&&◌, ◌||◌, List, [], ◌∷◌, Option, Some, None, if◌then◌else◌}
+use Rattle.std.specs.Prelude.{ℕ, Bool, true, false, ◌&&◌, ◌||◌, List, [], ◌∷◌, Option, Some, None}
+use Rattle.std.specs.Prelude.{if◌then◌else◌}
 use Rattle.std.specs.List.{list_all}
 use Rattle.std.specs.Option.{option_map}
 use Rattle.mn_base.specs.Ids.{node_same}
@@ -11,7 +12,8 @@ use Rattle.mn_mini.specs.Flat.{Outcome, Committed, Mismatch, outcome_on}
 use Rattle.mn_world.specs.declared.entry.Entry.{Entry}
 use Rattle.mn_world.specs.declared.entry.What.{What}
 use Rattle.mn_world.specs.declared.entry.What.TheVariants.{Called, Restarted}
-use Rattle.mn_world.specs.Calls.{is_at, node_entries, is_prepare, is_done, Issued, issues_of, issue_named}
+use Rattle.mn_world.specs.Calls.{is_at, node_entries, is_prepare, is_done, Issued, issues_of}
+use Rattle.mn_world.specs.Calls.{issue_named}
 use Rattle.mn_world.specs.Nodes.{stopped_request}
 
 -- the request that takes effect at an entry of a node: a Prepare or Exec that is answered Done, or
@@ -28,16 +30,21 @@ is_vote_effect tid (Some request) = is_prepare tid request
 -- the node voted yes for the id
 abbrev pub has_vote : Tid → NodeNo → List Entry → Bool
 has_vote tid n [] = false
-has_vote tid n (e ∷ past) = (is_at n e && is_vote_effect tid (effect_of (node_entries n past) e.what)) || has_vote tid n past
+has_vote tid n (e ∷ past) =
+    (is_at n e && is_vote_effect tid (effect_of (node_entries n past) e.what))
+    || has_vote tid n past
 
 -- an id with its minitransaction, as it was issued
 abbrev pub issued_as : Tid → List Entry → Option Issued
-issued_as tid past = option_map (λ mini. record { tid = tid; mini = mini }) (issue_named tid (issues_of past))
+issued_as tid past =
+    option_map (λ mini. record { tid = tid; mini = mini }) (issue_named tid (issues_of past))
 
 -- what commits by a request that takes effect at the node: with the last vote of its participants,
 -- or with its Exec
 abbrev pub committed_with : List Entry → NodeNo → Option Request → Option Issued
-committed_with past n (Some (Ask.Prepare tid participants part)) = if list_all (λ m. node_same m n || has_vote tid m past) participants then issued_as tid past else None
+committed_with past n (Some (Ask.Prepare tid participants part)) =
+    if list_all (λ m. node_same m n || has_vote tid m past) participants then issued_as tid past
+    else None
 committed_with past n (Some (Ask.Exec tid part)) = issued_as tid past
 committed_with past n request = None
 

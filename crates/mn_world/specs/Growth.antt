@@ -1,6 +1,8 @@
 -- Writes of pages, entries and counts: when they leave the memory of a forest that has grown. What
 -- met compares tell of a forest, and which numbers the writes have.
-use Rattle.std.specs.Prelude.{ℕ, zero, suc, ◌≡◌, ◌+◌, ◌^◌, ◌<◌, ◌≤◌, not, nat_eq, List, [], ◌∷◌, ◌++◌, length, map, filter, replicate, Some, None, ⊤, if◌then◌else◌, Contains, slice_get, slice_set, slice_index_or}
+use Rattle.std.specs.Prelude.{ℕ, zero, suc, ◌≡◌, ◌+◌, ◌^◌, ◌<◌, ◌≤◌, not, nat_eq, List, [], ◌∷◌}
+use Rattle.std.specs.Prelude.{◌++◌, length, map, filter, replicate, Some, None, ⊤, if◌then◌else◌}
+use Rattle.std.specs.Prelude.{Contains, slice_get, slice_set, slice_index_or}
 use Rattle.std.specs.List.{AllByRecursion, range_with_len}
 use Rattle.std.specs.Option.{option_or}
 use Rattle.mn_base.specs.Store.{Store, max_versions}
@@ -18,7 +20,8 @@ use Rattle.mn_page.specs.Holds.{PagesAt, Holds, IsTree, ShowsStore}
 use Rattle.mn_page.specs.Overlay.{Held, held_at}
 use Rattle.mn_world.specs.declared.entry.Entry.{Entry}
 use Rattle.mn_world.specs.Planned.{HasNextNumber, ComparesHold}
-use Rattle.mn_world.specs.Plans.{compare_page, compare_entry, write_page, compare_count, write_count}
+use Rattle.mn_world.specs.Plans.{compare_page, compare_entry, write_page, compare_count}
+use Rattle.mn_world.specs.Plans.{write_count}
 
 -- Slots
 
@@ -30,21 +33,27 @@ taken_on (s ∷ slots) n = if nat_eq s.node.0 n then taken_on slots n + 1 else t
 -- each slot is the first free one of its node, once those before it are given out
 abbrev pub AreNextSlots : List ℕ → List Addr → Type 0
 AreNextSlots counts [] = ⊤
-AreNextSlots counts (s ∷ slots) = (s.node.0 < length counts) × (slice_index_or counts s.node.0 0 ≡ s.slot) × (s.slot < max_slots) × AreNextSlots (slice_set counts s.node.0 (s.slot + 1)) slots
+AreNextSlots counts (s ∷ slots) =
+    (s.node.0 < length counts) × (slice_index_or counts s.node.0 0 ≡ s.slot) × (s.slot < max_slots)
+    × AreNextSlots (slice_set counts s.node.0 (s.slot + 1)) slots
 
 -- the nodes that give slots, by number
 abbrev pub giving_nodes : List ℕ → List Addr → List ℕ
-giving_nodes counts slots = filter (λ n. not (nat_eq (taken_on slots n) 0)) (range_with_len 0 (length counts))
+giving_nodes counts slots =
+    filter (λ n. not (nat_eq (taken_on slots n) 0)) (range_with_len 0 (length counts))
 
 abbrev pub node_no : ℕ → NodeNo
 node_no n = record { 0 = n }
 
 -- their counts, as they were and as they are then
 abbrev pub count_compares : List ℕ → List Addr → List Item
-count_compares counts slots = map (λ n. compare_count (node_no n) (slice_index_or counts n 0)) (giving_nodes counts slots)
+count_compares counts slots =
+    map (λ n. compare_count (node_no n) (slice_index_or counts n 0)) (giving_nodes counts slots)
 
 abbrev pub count_writes : List ℕ → List Addr → List Item
-count_writes counts slots = map (λ n. write_count (node_no n) (slice_index_or counts n 0 + taken_on slots n)) (giving_nodes counts slots)
+count_writes counts slots =
+    map (λ n. write_count (node_no n) (slice_index_or counts n 0 + taken_on slots n))
+    (giving_nodes counts slots)
 
 -- the count of a node of the forest
 abbrev pub count_in : Forest → ℕ → ℕ
@@ -52,7 +61,9 @@ count_in f n = length (slice_index_or f.pages n [])
 
 -- the nodes that give slots have these counts
 abbrev pub AreCounts : Forest → List ℕ → List Addr → Type 0
-AreCounts f counts slots = (length counts ≡ node_count f) × ((n : ℕ) → (taken_on slots n ≡ 0 → ⊥) → slice_index_or counts n 0 ≡ count_in f n)
+AreCounts f counts slots =
+    (length counts ≡ node_count f)
+    × ((n : ℕ) → (taken_on slots n ≡ 0 → ⊥) → slice_index_or counts n 0 ≡ count_in f n)
 
 -- the addresses of pages
 abbrev pub addrs_of : List Held → List Addr
@@ -66,8 +77,10 @@ AreDifferent (a ∷ addrs) = AllByRecursion (λ b. b ≡ a → ⊥) addrs × Are
 -- next slots are slots of the forest's nodes, free, and different
 abbrev pub NextSlotsAreFree : Type 0
 NextSlotsAreFree =
-    (memory : List (List ℕ)) (store : Store) (holds : Holds memory store) (counts : List ℕ) (slots : List Addr) → AreCounts holds.forest counts slots → AreNextSlots counts slots
-    → AllByRecursion (λ s. (page_at holds.forest s ≡ None) × (s.node.0 < node_count holds.forest) × (s.node.0 < 8) × (s.slot < max_slots)) slots × AreDifferent slots
+    (memory : List (List ℕ)) (store : Store) (holds : Holds memory store) (counts : List ℕ)
+    (slots : List Addr) → AreCounts holds.forest counts slots → AreNextSlots counts slots
+    → AllByRecursion (λ s. (page_at holds.forest s ≡ None) × (s.node.0 < node_count holds.forest)
+    × (s.node.0 < 8) × (s.slot < max_slots)) slots × AreDifferent slots
 
 -- Writes
 
@@ -82,13 +95,15 @@ write_held h = write_page h.addr h.page
 -- the pages over those of the memory are a tree that shows a store, the memory holds it then
 abbrev pub WritesLeaveStore : Type 0
 WritesLeaveStore =
-    (memory : List (List ℕ)) (store after : Store) (holds : Holds memory store) (changed new : List Held) (counts : List ℕ)
+    (memory : List (List ℕ)) (store after : Store) (holds : Holds memory store)
+    (changed new : List Held) (counts : List ℕ)
     → AllByRecursion (λ h. (was : Page) × (page_at holds.forest h.addr ≡ Some was)) changed
     → AreDifferent (addrs_of changed) → AllByRecursion (λ h. IsPage h.page) (changed ++ new)
     → AreCounts holds.forest counts (addrs_of new) → AreNextSlots counts (addrs_of new)
     → IsTree holds.forest.entries (over (changed ++ new) (page_at holds.forest))
     → ShowsStore holds.forest.entries (over (changed ++ new) (page_at holds.forest)) after
-    → Holds (memory_after memory (map write_held changed ++ map write_held new ++ count_writes counts (addrs_of new))) after
+    → Holds (memory_after memory (map write_held changed ++ map write_held new
+    ++ count_writes counts (addrs_of new))) after
 
 -- Entries
 
@@ -156,7 +171,9 @@ pub record AreMet (f : Forest) (items : List Item) : Type 0 where
       → n.0 < node_count f → count < 2 ^ 64 → count ≡ count_in f n.0
 
 abbrev pub ComparesTell : Type 0
-ComparesTell = (es : List Entry) (memory : List (List ℕ)) (store : Store) (holds : Holds memory store) (items : List Item) → ComparesHold es memory items → AreMet holds.forest items
+ComparesTell =
+    (es : List Entry) (memory : List (List ℕ)) (store : Store) (holds : Holds memory store)
+    (items : List Item) → ComparesHold es memory items → AreMet holds.forest items
 
 -- Numbers
 
@@ -174,4 +191,5 @@ pub record GoOn (f : Forest) (memory : List (List ℕ)) : Type 0 where
   pub counts : (n : NodeNo) (count : ℕ) → HasNextNumber memory (write_count n count)
 
 abbrev pub NumbersGoOn : Type 0
-NumbersGoOn = (memory : List (List ℕ)) (store : Store) (holds : Holds memory store) → GoOn holds.forest memory
+NumbersGoOn =
+    (memory : List (List ℕ)) (store : Store) (holds : Holds memory store) → GoOn holds.forest memory

@@ -1,6 +1,8 @@
 -- The history of a log: each operation that was replied to, and each one of whose plans is
 -- committed, in order of place.
-use Rattle.std.specs.Prelude.{ℕ, ◌≡◌, ◌⊎◌, Bool, false, ◌&&◌, nat_lt, nat_eq, IsTrue, List, [], ◌∷◌, ◌++◌, length, map, Option, Some, None, if◌then◌else◌, Contains, MatchBool}
+use Rattle.std.specs.Prelude.{ℕ, ◌≡◌, ◌⊎◌, Bool, false, ◌&&◌, nat_lt, nat_eq, IsTrue, List, [], ◌∷◌}
+use Rattle.std.specs.Prelude.{◌++◌, length, map, Option, Some, None, if◌then◌else◌, Contains}
+use Rattle.std.specs.Prelude.{MatchBool}
 use Rattle.std.specs.List.{list_any, AllByRecursion}
 use Rattle.mn_base.specs.Ids.{client_same}
 use Rattle.mn_base.specs.declared.ids.ClientNo.{ClientNo}
@@ -14,7 +16,8 @@ use Rattle.mn_base.specs.declared.answer.Answer.TheVariants.{Replied}
 use Rattle.mn_world.specs.declared.entry.Entry.{Entry}
 use Rattle.mn_world.specs.declared.entry.What.{What}
 use Rattle.mn_world.specs.declared.entry.What.TheVariants.{Answered}
-use Rattle.mn_world.specs.Calls.{Issued, is_by, client_entries, issue_in, Begun, begun_in, under_way, since_begin}
+use Rattle.mn_world.specs.Calls.{Issued, is_by, client_entries, issue_in, Begun, begun_in}
+use Rattle.mn_world.specs.Calls.{under_way, since_begin}
 use Rattle.mn_world.specs.Clients.{is_read}
 use Rattle.mn_world.specs.Commits.{committed_by}
 use Rattle.mn_world.specs.Shown.{Seen, seen_in, seen_at, ReadShows, IsCatalogRead}
@@ -41,23 +44,28 @@ pub record PlanOf (past : List Entry) (i : Issued) (p : Past) : Type 0 where
   pub split : past ≡ later ++ entry ∷ before
   pub issued : issue_in entry.what ≡ i ∷ []
   pub by : entry.client ≡ Some p.client
-  pub of : under_way (client_entries p.client before) ≡ Some (record { number = p.number; op = p.op })
+  pub of : under_way (client_entries p.client before)
+      ≡ Some (record { number = p.number; op = p.op })
   pub planned : IsPlanBy (client_entries p.client before) p.op i.mini p.reply
 
 -- an entry of the client in which a read shows the reply, by the list that the client has before it
 abbrev pub ShowsHere : ClientNo → List Entry → Entry → Op → Reply → Type 0
-ShowsHere c before e op reply = IsTrue (is_by c e) × ((seen : Seen) × Contains (seen_at e) seen × ReadShows (client_entries c before) seen op reply)
+ShowsHere c before e op reply =
+    IsTrue (is_by c e) × ((seen : Seen) × Contains (seen_at e) seen
+    × ReadShows (client_entries c before) seen op reply)
 
 -- the place of the client's last read since its Begin that shows the reply
 abbrev pub LastShown : ClientNo → Op → Reply → List Entry → ℕ → Type 0
 LastShown c op reply [] place = ⊥
 LastShown c op reply (e ∷ past) place =
     (ShowsHere c past e op reply × (place ≡ length past))
-    ⊎ ((ShowsHere c past e op reply → ⊥) × ((is_by c e ≡ false) ⊎ (begun_in e.what ≡ [])) × LastShown c op reply past place)
+    ⊎ ((ShowsHere c past e op reply → ⊥) × ((is_by c e ≡ false) ⊎ (begun_in e.what ≡ []))
+    × LastShown c op reply past place)
 
 -- an entry of the client that reads the catalog
 abbrev pub ReadsCatalog : ClientNo → Entry → Type 0
-ReadsCatalog c e = IsTrue (is_by c e) × ((seen : Seen) × Contains (seen_at e) seen × IsCatalogRead seen)
+ReadsCatalog c e =
+    IsTrue (is_by c e) × ((seen : Seen) × Contains (seen_at e) seen × IsCatalogRead seen)
 
 -- none of these reads the catalog
 abbrev pub NoCatalog : List Seen → Type 0
@@ -71,7 +79,8 @@ pub record FirstCatalogAt (c : ClientNo) (past : List Entry) (place : ℕ) : Typ
   pub split : past ≡ later ++ entry ∷ before
   pub here : ReadsCatalog c entry
   pub is_place : place ≡ length before
-  pub since : since_begin (client_entries c past) ≡ client_entries c later ++ entry ∷ since_begin (client_entries c before)
+  pub since : since_begin (client_entries c past)
+      ≡ client_entries c later ++ entry ∷ since_begin (client_entries c before)
   pub first : NoCatalog (seen_in (since_begin (client_entries c before)))
 
 -- where a reply that no plan gives has its place: a scan's pairs at its first catalog read
@@ -81,19 +90,25 @@ ReadPlace c past op reply place = LastShown c op reply past place
 
 -- the operation stands in the history already, by its plan
 abbrev pub has_past : ClientNo → ℕ → List Placed → Bool
-has_past c number placed = list_any (λ p. client_same p.past.client c && nat_eq p.past.number number) placed
+has_past c number placed =
+    list_any (λ p. client_same p.past.client c && nat_eq p.past.number number) placed
 
 -- what an answer puts into the history: a replied operation that no plan has put there
 abbrev pub AnswerPuts : List Entry → ClientNo → Option Begun → Answer → List Placed → List Placed
     → Type 0
 AnswerPuts past c (Some begun) (Replied reply) old new =
     MatchBool (has_past c begun.number old) (new ≡ old)
-    ((place : ℕ) × ReadPlace c past begun.op reply place × (new ≡ placed_in (record { place = place; past = record { client = c; number = begun.number; op = begun.op; reply = reply } }) old))
+    ((place : ℕ) × ReadPlace c past begun.op reply place
+    × (new ≡ placed_in (record {
+      place = place;
+      past = record { client = c; number = begun.number; op = begun.op; reply = reply };
+    }) old))
 AnswerPuts past c begun answer old new = new ≡ old
 
 -- what an entry that commits nothing puts into the history
 abbrev pub StepPuts : List Entry → Option ClientNo → What → List Placed → List Placed → Type 0
-StepPuts past (Some c) (Answered number answer) old new = AnswerPuts past c (under_way (client_entries c past)) answer old new
+StepPuts past (Some c) (Answered number answer) old new =
+    AnswerPuts past c (under_way (client_entries c past)) answer old new
 StepPuts past by what old new = new ≡ old
 
 -- what an entry puts into the history: the operation of a plan that it commits, at its end; or what
@@ -107,4 +122,5 @@ EntryPuts past e (Some i) old new =
 -- the history of a log, newest entry first
 abbrev pub IsHistory : List Entry → List Placed → Type 0
 IsHistory [] placed = placed ≡ []
-IsHistory (e ∷ past) placed = (old : List Placed) × IsHistory past old × EntryPuts past e (committed_by past e) old placed
+IsHistory (e ∷ past) placed =
+    (old : List Placed) × IsHistory past old × EntryPuts past e (committed_by past e) old placed

@@ -1,5 +1,7 @@
 -- The laws of runs. Each public law function has one of these as its contract.
-use Rattle.std.specs.Prelude.{ℕ, ◌≡◌, ◌+◌, ◌<◌, ◌≤◌, ◌⊎◌, Bool, true, false, not, ◌&&◌, ◌||◌, IsTrue, List, [], ◌∷◌, ◌++◌, length, Option, Some, None, ⊤, slice_get, slice_index_or, Contains}
+use Rattle.std.specs.Prelude.{ℕ, ◌≡◌, ◌+◌, ◌<◌, ◌≤◌, ◌⊎◌, Bool, true, false, not, ◌&&◌, ◌||◌}
+use Rattle.std.specs.Prelude.{IsTrue, List, [], ◌∷◌, ◌++◌, length, Option, Some, None, ⊤, slice_get}
+use Rattle.std.specs.Prelude.{slice_index_or, Contains}
 use Rattle.std.specs.List.{list_any, AllByRecursion}
 use Rattle.mn_base.specs.declared.ids.NodeNo.{NodeNo}
 use Rattle.mn_base.specs.declared.ids.ClientNo.{ClientNo}
@@ -10,16 +12,21 @@ use Rattle.mn_mini.specs.declared.request.Request.TheVariants as Ask
 use Rattle.mn_mini.specs.declared.reply.NodeReply.TheVariants as Say
 use Rattle.mn_mini.specs.Mini.{Mini, participants_of, range_of, is_write}
 use Rattle.mn_mini.specs.Flat.{Committed, bytes_in, outcome_on, part_reads, space_in}
-use Rattle.mn_mini.specs.Node.{HeldPart, held_parts, has_voted, has_forced, has_decided_yes, has_decided_no, space_of}
+use Rattle.mn_mini.specs.Node.{HeldPart, held_parts, has_voted, has_forced, has_decided_yes}
+use Rattle.mn_mini.specs.Node.{has_decided_no, space_of}
 use Rattle.mn_mini.specs.Laws.{PartsAreApart}
 use Rattle.mn_world.specs.declared.entry.Entry.{Entry}
 use Rattle.mn_base.specs.declared.answer.Answer.{Answer}
 use Rattle.mn_world.specs.declared.entry.What.TheVariants.{Called, Restarted, Answered}
-use Rattle.mn_world.specs.Calls.{Issued, is_by, node_entries, client_entries, is_exec, is_done, is_stopped, was_told_somewhere, was_done, was_stopped, was_abandoned, issue_named, issues_of, since_begin}
+use Rattle.mn_world.specs.Calls.{Issued, is_by, node_entries, client_entries, is_exec, is_done}
+use Rattle.mn_world.specs.Calls.{is_stopped, was_told_somewhere, was_done, was_stopped}
+use Rattle.mn_world.specs.Calls.{was_abandoned, issue_named, issues_of, since_begin}
 use Rattle.mn_world.specs.Nodes.{stopped_request, NodeAllows}
-use Rattle.mn_world.specs.Protocol.{Start, start_nodes, base_at, start_records, records_of, IsOfRun, FollowsProtocol}
+use Rattle.mn_world.specs.Protocol.{Start, start_nodes, base_at, start_records, records_of, IsOfRun}
+use Rattle.mn_world.specs.Protocol.{FollowsProtocol}
 use Rattle.mn_world.specs.Commits.{committed_by, flat_after}
-use Rattle.mn_world.specs.Opened.{AreSound, is_committed, have_voted, voted_participants, memory_in, opened_memory}
+use Rattle.mn_world.specs.Opened.{AreSound, is_committed, have_voted, voted_participants, memory_in}
+use Rattle.mn_world.specs.Opened.{opened_memory}
 use Rattle.mn_world.specs.Run.{IsRun, IsLegalBy}
 use Rattle.mn_world.specs.Answers.{is_given_up}
 use Rattle.mn_world.specs.Shown.{Seen, seen_in, seen_at}
@@ -29,7 +36,8 @@ use Rattle.mn_world.specs.Shown.{Seen, seen_in, seen_at}
 -- each entry of a node's list is allowed by the ones before it
 abbrev pub NodeListAllowed : Start → NodeNo → List Entry → Type 0
 NodeListAllowed start n [] = ⊤
-NodeListAllowed start n (e ∷ es) = NodeListAllowed start n es × NodeAllows (base_at start n) (start_records start n) es e.what
+NodeListAllowed start n (e ∷ es) =
+    NodeListAllowed start n es × NodeAllows (base_at start n) (start_records start n) es e.what
 
 -- each entry of a client's list is legal by the ones before it
 abbrev pub ClientListLegal : List Entry → Type 0
@@ -122,11 +130,13 @@ CommitsAreFlat =
 -- a write item of the part covers the place
 abbrev pub writes_at : ℕ → PartItem → Bool
 writes_at place item =
-    is_write item && (Rattle.std.specs.Prelude.nat_le (range_of item).start place && Rattle.std.specs.Prelude.nat_lt place ((range_of item).start + (range_of item).length))
+    is_write item && (Rattle.std.specs.Prelude.nat_le (range_of item).start place
+    && Rattle.std.specs.Prelude.nat_lt place ((range_of item).start + (range_of item).length))
 
 -- a held part of a committed id covers the place by a write
 abbrev pub is_pending_at : (Tid → Bool) → ℕ → List HeldPart → Bool
-is_pending_at committed place hs = list_any (λ h. committed h.tid && list_any (writes_at place) h.part) hs
+is_pending_at committed place hs =
+    list_any (λ h. committed h.tid && list_any (writes_at place) h.part) hs
 
 -- a byte of a node's space is the flat memory's, unless a write of a committed id that is still
 -- held covers it
@@ -134,8 +144,10 @@ abbrev pub SpacesAgree : Type 0
 SpacesAgree =
     (start : Start) (past : List Entry) (n : NodeNo) (place : ℕ) → StartsSound start
     → FollowsProtocol start past → n.0 < start_nodes start
-    → is_pending_at (is_committed (start_nodes start) (records_of start past)) place (held_parts (records_of start past n)) ≡ false
-    → slice_get (space_of (base_at start n) (records_of start past n)) place ≡ slice_get (space_in (flat_after (opened_memory start) past) n) place
+    → is_pending_at (is_committed (start_nodes start) (records_of start past)) place
+    (held_parts (records_of start past n)) ≡ false
+    → slice_get (space_of (base_at start n) (records_of start past n)) place
+    ≡ slice_get (space_in (flat_after (opened_memory start) past) n) place
 
 -- a node's Done to the Prepare or Exec of a part
 abbrev pub part_of_request : Request → Option (List PartItem)
@@ -146,7 +158,9 @@ part_of_request request = None
 -- the reads of a Done are those of the flat memory at its place
 abbrev pub ReadsAreFlat : Type 0
 ReadsAreFlat =
-    (start : Start) (past : List Entry) (e : Entry) (k : NodeNo) (request : Request) (part : List PartItem) (reads : List (List ℕ)) → StartsSound start → FollowsProtocol start (e ∷ past)
+    (start : Start) (past : List Entry) (e : Entry) (k : NodeNo) (request : Request)
+    (part : List PartItem) (reads : List (List ℕ)) → StartsSound start
+    → FollowsProtocol start (e ∷ past)
     → e.node ≡ Some k → e.what ≡ Called request (Say.Done reads)
     → part_of_request request ≡ Some part
     → reads ≡ part_reads (space_in (flat_after (opened_memory start) past) k) part
@@ -155,7 +169,8 @@ ReadsAreFlat =
 -- memory
 abbrev pub ExecsAreFlat : Type 0
 ExecsAreFlat =
-    (start : Start) (past : List Entry) (e : Entry) (k : NodeNo) (tid : Tid) (part : List PartItem) (reads : List (List ℕ)) → StartsSound start → FollowsProtocol start (e ∷ past)
+    (start : Start) (past : List Entry) (e : Entry) (k : NodeNo) (tid : Tid) (part : List PartItem)
+    (reads : List (List ℕ)) → StartsSound start → FollowsProtocol start (e ∷ past)
     → e.node ≡ Some k → e.what ≡ Called (Ask.Exec tid part) (Say.Done reads)
     → (i : Issued) × (memory : List (List ℕ)) × (i.tid ≡ tid) × (committed_by past e ≡ Some i)
     × (outcome_on (flat_after (opened_memory start) past) i.mini ≡ Committed reads memory)
@@ -163,7 +178,9 @@ ExecsAreFlat =
 -- a Prepare that is done answers no reads, since what has several participants has no read items
 abbrev pub PreparesReadNothing : Type 0
 PreparesReadNothing =
-    (start : Start) (past : List Entry) (e : Entry) (k : NodeNo) (tid : Tid) (participants : List NodeNo) (part : List PartItem) (reads : List (List ℕ)) → StartsSound start → FollowsProtocol start (e ∷ past)
+    (start : Start) (past : List Entry) (e : Entry) (k : NodeNo) (tid : Tid)
+    (participants : List NodeNo) (part : List PartItem) (reads : List (List ℕ)) → StartsSound start
+    → FollowsProtocol start (e ∷ past)
     → e.node ≡ Some k → e.what ≡ Called (Ask.Prepare tid participants part) (Say.Done reads)
     → reads ≡ []
 
@@ -174,7 +191,8 @@ SeenIsFlat =
     → FollowsProtocol start past → Contains (seen_in (client_entries c past)) seen
     → (e : Entry) × (later : List Entry) × (before : List Entry) × (past ≡ later ++ e ∷ before)
     × IsTrue (is_by c e) × Contains (seen_at e) seen
-    × (seen.bytes ≡ bytes_in (space_in (flat_after (opened_memory start) before) seen.place.node) seen.place.start seen.place.length)
+    × (seen.bytes ≡ bytes_in (space_in (flat_after (opened_memory start) before) seen.place.node)
+    seen.place.start seen.place.length)
 
 -- the memory that the records make, with what is committed applied whether decided or not, is the
 -- flat memory
@@ -182,12 +200,14 @@ abbrev pub MemoryIsFlat : Type 0
 MemoryIsFlat =
     (start : Start) (past : List Entry) → StartsSound start
     → FollowsProtocol start past
-    → memory_in (start_nodes start) (base_at start) (records_of start past) ≡ flat_after (opened_memory start) past
+    → memory_in (start_nodes start) (base_at start) (records_of start past)
+    ≡ flat_after (opened_memory start) past
 
 -- no entry commits the id
 abbrev pub IsNeverCommitted : Tid → List Entry → Type 0
 IsNeverCommitted tid [] = ⊤
-IsNeverCommitted tid (e ∷ past) = ((i : Issued) → committed_by past e ≡ Some i → i.tid ≡ tid → ⊥) × IsNeverCommitted tid past
+IsNeverCommitted tid (e ∷ past) =
+    ((i : Issued) → committed_by past e ≡ Some i → i.tid ≡ tid → ⊥) × IsNeverCommitted tid past
 
 -- an id that was abandoned is committed at no place, before or after
 abbrev pub AbandonedIsNever : Type 0
@@ -201,12 +221,14 @@ abbrev pub RefusedIsNever : Type 0
 RefusedIsNever =
     (start : Start) (past later : List Entry) (c : ClientNo) (tid : Tid) → StartsSound start
     → FollowsProtocol start (later ++ past)
-    → was_told_somewhere (is_exec tid) (λ reply. not (is_done reply || is_stopped reply)) (client_entries c past) ≡ true → IsNeverCommitted tid (later ++ past)
+    → was_told_somewhere (is_exec tid) (λ reply. not (is_done reply || is_stopped reply))
+    (client_entries c past) ≡ true → IsNeverCommitted tid (later ++ past)
 
 -- nor is a plan that is given up when its operation is answered
 abbrev pub GivenUpIsNever : Type 0
 GivenUpIsNever =
-    (start : Start) (past later : List Entry) (e : Entry) (c : ClientNo) (number : ℕ) (answer : Answer) (i : Issued) → StartsSound start → FollowsProtocol start (later ++ e ∷ past)
+    (start : Start) (past later : List Entry) (e : Entry) (c : ClientNo) (number : ℕ)
+    (answer : Answer) (i : Issued) → StartsSound start → FollowsProtocol start (later ++ e ∷ past)
     → e.client ≡ Some c → e.what ≡ Answered number answer
     → issue_named i.tid (issues_of (since_begin (client_entries c past))) ≡ Some i.mini
     → is_given_up (since_begin (client_entries c past)) i ≡ true
@@ -215,7 +237,8 @@ GivenUpIsNever =
 -- nor is one whose Exec a node stopped inside, where the restart did not keep it
 abbrev pub UnkeptIsNever : Type 0
 UnkeptIsNever =
-    (start : Start) (past later : List Entry) (e : Entry) (k : NodeNo) (tid : Tid) (part : List PartItem) → StartsSound start → FollowsProtocol start (later ++ e ∷ past)
+    (start : Start) (past later : List Entry) (e : Entry) (k : NodeNo) (tid : Tid)
+    (part : List PartItem) → StartsSound start → FollowsProtocol start (later ++ e ∷ past)
     → e.node ≡ Some k → e.what ≡ Restarted false
     → stopped_request (node_entries k past) ≡ Some (Ask.Exec tid part)
     → IsNeverCommitted tid (later ++ e ∷ past)
@@ -238,7 +261,9 @@ ForcedNeverVotes =
 -- done with or stopped in
 abbrev pub LacksVote : Start → List Entry → Tid → NodeNo → Type 0
 LacksVote start past tid k =
-    (has_voted (records_of start past k) tid ≡ false) × (was_done tid k (client_entries tid.client past) ≡ false) × (was_stopped tid k (client_entries tid.client past) ≡ false)
+    (has_voted (records_of start past k) tid ≡ false)
+    × (was_done tid k (client_entries tid.client past) ≡ false)
+    × (was_stopped tid k (client_entries tid.client past) ≡ false)
 
 -- after an id was abandoned, some participant lacks its vote at every later place
 abbrev pub AbandonedLacksVote : Type 0
@@ -247,7 +272,8 @@ AbandonedLacksVote =
     → FollowsProtocol start past → was_abandoned tid (client_entries c past) ≡ true
     → (mini : Mini) × (issue_named tid (issues_of past) ≡ Some mini) × (k : NodeNo)
     × Contains (participants_of mini) k
-    × ((later : List Entry) → FollowsProtocol start (later ++ past) → LacksVote start (later ++ past) tid k)
+    × ((later : List Entry) → FollowsProtocol start (later ++ past)
+    → LacksVote start (later ++ past) tid k)
 
 -- All of the flat meaning, for a run with its memory
 
@@ -259,18 +285,22 @@ pub record IsRunFrom (start : Start) (memory : List (List ℕ)) (past : List Ent
 
 -- what a committed minitransaction found, what each node's records make of its space, and what was
 -- read are the flat meaning's: `memory` is the memory before the run, `after` the one after it
-pub record IsFlatRun (start : Start) (memory after : List (List ℕ)) (past : List Entry) : Type 0 where
+pub record IsFlatRun (start : Start) (memory after : List (List ℕ)) (past : List Entry)
+    : Type 0 where
   pub commits : (later : List Entry) (e : Entry) (before : List Entry) (i : Issued)
       → past ≡ later ++ e ∷ before → committed_by before e ≡ Some i
       → (reads : List (List ℕ)) × (next : List (List ℕ))
       × (outcome_on (flat_after memory before) i.mini ≡ Committed reads next)
-  pub execs : (later : List Entry) (e : Entry) (before : List Entry) (k : NodeNo) (tid : Tid) (part : List PartItem) (reads : List (List ℕ)) → past ≡ later ++ e ∷ before
+  pub execs : (later : List Entry) (e : Entry) (before : List Entry) (k : NodeNo) (tid : Tid)
+      (part : List PartItem) (reads : List (List ℕ)) → past ≡ later ++ e ∷ before
       → e.node ≡ Some k → e.what ≡ Called (Ask.Exec tid part) (Say.Done reads)
       → (i : Issued) × (next : List (List ℕ)) × (i.tid ≡ tid) × (committed_by before e ≡ Some i)
       × (outcome_on (flat_after memory before) i.mini ≡ Committed reads next)
   pub spaces : (n : NodeNo) (place : ℕ) → n.0 < start_nodes start
-      → is_pending_at (is_committed (start_nodes start) (records_of start past)) place (held_parts (records_of start past n)) ≡ false
-      → slice_get (space_of (base_at start n) (records_of start past n)) place ≡ slice_get (space_in after n) place
+      → is_pending_at (is_committed (start_nodes start) (records_of start past)) place
+      (held_parts (records_of start past n)) ≡ false
+      → slice_get (space_of (base_at start n) (records_of start past n)) place
+      ≡ slice_get (space_in after n) place
   pub records : memory_in (start_nodes start) (base_at start) (records_of start past) ≡ after
   pub held_apart : (n : NodeNo) → n.0 < start_nodes start
       → PartsAreApart (held_parts (records_of start past n))

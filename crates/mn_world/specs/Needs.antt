@@ -25,11 +25,13 @@ pub record ReadsTree (seens : List Seen) (op : Op) : Type 0 where
   pub named : number_named (heads_in entries) (op_version op) ≡ Some version.0
   pub at : slice_get entries version.0 ≡ Some entry
   pub admitted : refusal (heads_in entries) op ≡ None
-  pub read : AllByRecursion (λ h. (seen : Seen) × Contains seens seen × SeesPage seen h.addr h.page) pages
+  pub read : AllByRecursion (λ h. (seen : Seen) × Contains seens seen × SeesPage seen h.addr h.page)
+      pages
 
 -- the splits and copies of the operation on these pages take so many new slots
 abbrev pub NeedsSlots : List Seen → Op → ℕ → Type 0
-NeedsSlots seens op need = (t : ReadsTree seens op) × (needed_slots t.version t.entry.root t.pages op ≡ Some need)
+NeedsSlots seens op need =
+    (t : ReadsTree seens op) × (needed_slots t.version t.entry.root t.pages op ≡ Some need)
 
 -- a Snapshot writes its version's entry
 abbrev pub WritesEntry : Op → ℕ → Place → Type 0
@@ -40,4 +42,6 @@ WritesEntry op v place = ⊥
 abbrev pub WritesOld : List Seen → Op → Place → Type 0
 WritesOld seens op place =
     (t : ReadsTree seens op)
-    × (((addrs : List Addr) × (addr : Addr) × (changed_pages t.version t.entry.root t.pages op ≡ Some addrs) × Contains addrs addr × (place ≡ page_place addr)) ⊎ WritesEntry op t.version.0 place)
+    × (((addrs : List Addr) × (addr : Addr)
+    × (changed_pages t.version t.entry.root t.pages op ≡ Some addrs) × Contains addrs addr
+    × (place ≡ page_place addr)) ⊎ WritesEntry op t.version.0 place)

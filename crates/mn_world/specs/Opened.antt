@@ -1,6 +1,7 @@
 -- Which records a run may start from, and which it leaves at each place. Each node's records stand
 -- newest first.
-use Rattle.std.specs.Prelude.{ℕ, ◌≡◌, ◌<◌, Bool, true, false, not, ◌||◌, List, [], ◌∷◌, map, Option, Some, None, ⊤, if◌then◌else◌, Contains}
+use Rattle.std.specs.Prelude.{ℕ, ◌≡◌, ◌<◌, Bool, true, false, not, ◌||◌, List, [], ◌∷◌, map, Option}
+use Rattle.std.specs.Prelude.{Some, None, ⊤, if◌then◌else◌, Contains}
 use Rattle.std.specs.List.{list_any, list_all, AllByRecursion}
 use Rattle.std.specs.Option.{option_map_or}
 use Rattle.mn_base.specs.Ids.{tid_same, node_numbers}
@@ -12,7 +13,8 @@ use Rattle.mn_mini.specs.declared.record.Record.{Record}
 use Rattle.mn_mini.specs.declared.record.Record.TheVariants.{Voted, Executed, Decided, Forced}
 use Rattle.mn_mini.specs.Mini.{parts_conflict}
 use Rattle.mn_mini.specs.Flat.{space_after_part}
-use Rattle.mn_mini.specs.Node.{is_of, HeldPart, held_parts, is_held, has_voted, has_executed, has_decided_yes, has_decided_no, space_of, with_held}
+use Rattle.mn_mini.specs.Node.{is_of, HeldPart, held_parts, is_held, has_voted, has_executed}
+use Rattle.mn_mini.specs.Node.{has_decided_yes, has_decided_no, space_of, with_held}
 use Rattle.mn_page.specs.Holds.{Holds}
 use Rattle.mn_world.specs.Protocol.{Start, start_nodes, base_at, start_records}
 
@@ -21,7 +23,8 @@ use Rattle.mn_world.specs.Protocol.{Start, start_nodes, base_at, start_records}
 -- the participants that the vote for the id names
 abbrev pub voted_participants : Tid → List Record → Option (List NodeNo)
 voted_participants tid [] = None
-voted_participants tid (Voted t participants part ∷ records) = if tid_same t tid then Some participants else voted_participants tid records
+voted_participants tid (Voted t participants part ∷ records) =
+    if tid_same t tid then Some participants else voted_participants tid records
 voted_participants tid (r ∷ records) = voted_participants tid records
 
 -- each of these nodes has its vote
@@ -30,7 +33,10 @@ have_voted lists tid participants = list_all (λ n. has_voted (lists n) tid) par
 
 -- each participant has voted, or the one participant has executed it
 abbrev pub is_committed : ℕ → (NodeNo → List Record) → Tid → Bool
-is_committed nodes lists tid = list_any (λ n. has_executed (lists n) tid || option_map_or (have_voted lists tid) (voted_participants tid (lists n)) false) (node_numbers nodes)
+is_committed nodes lists tid =
+    list_any (λ n. has_executed (lists n) tid
+    || option_map_or (have_voted lists tid) (voted_participants tid (lists n)) false)
+    (node_numbers nodes)
 
 -- Records in place
 
@@ -46,8 +52,10 @@ is_free hs part = not (list_any (λ h. parts_conflict part h.part) hs)
 -- their id, and a decision has its id held
 abbrev pub IsInPlace : ℕ → NodeNo → List Record → Record → Type 0
 IsInPlace nodes n older (Voted tid participants part) =
-    (has_record older tid ≡ false) × AllByRecursion (λ m. m.0 < nodes) participants × Contains participants n × (is_free (held_parts older) part ≡ true)
-IsInPlace nodes n older (Executed tid part) = (has_record older tid ≡ false) × (is_free (held_parts older) part ≡ true)
+    (has_record older tid ≡ false) × AllByRecursion (λ m. m.0 < nodes) participants
+    × Contains participants n × (is_free (held_parts older) part ≡ true)
+IsInPlace nodes n older (Executed tid part) =
+    (has_record older tid ≡ false) × (is_free (held_parts older) part ≡ true)
 IsInPlace nodes n older (Decided tid verdict) = is_held older tid ≡ true
 IsInPlace nodes n older (Forced tid) = has_record older tid ≡ false
 
@@ -79,13 +87,16 @@ pub record AreSound (nodes : ℕ) (lists : NodeNo → List Record) : Type 0 wher
 
 -- each node's space, in which every committed minitransaction is applied whether decided or not
 abbrev pub memory_in : ℕ → (NodeNo → List ℕ) → (NodeNo → List Record) → List (List ℕ)
-memory_in nodes bases lists = map (λ n. with_held (is_committed nodes lists) (space_of (bases n) (lists n)) (held_parts (lists n))) (node_numbers nodes)
+memory_in nodes bases lists =
+    map (λ n. with_held (is_committed nodes lists) (space_of (bases n) (lists n))
+    (held_parts (lists n))) (node_numbers nodes)
 
 -- the memory that a run begins with
 abbrev pub opened_memory : Start → List (List ℕ)
 opened_memory start = memory_in (start_nodes start) (base_at start) (start_records start)
 
 -- the records are sound, and their memory holds the store
-pub record IsOpened (nodes : ℕ) (bases : NodeNo → List ℕ) (lists : NodeNo → List Record) (store : Store) : Type 0 where
+pub record IsOpened (nodes : ℕ) (bases : NodeNo → List ℕ) (lists : NodeNo → List Record)
+    (store : Store) : Type 0 where
   pub sound : AreSound nodes lists
   pub holds : Holds (memory_in nodes bases lists) store

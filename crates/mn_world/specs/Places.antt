@@ -3,7 +3,8 @@ use Rattle.std.specs.Prelude.{ℕ, ◌≡◌, ◌<◌}
 use Rattle.mn_base.specs.Store.{max_versions}
 use Rattle.mn_base.specs.declared.ids.NodeNo.{NodeNo}
 use Rattle.mn_base.specs.declared.ids.Addr.{Addr}
-use Rattle.mn_page.specs.Space.{count_start, count_size, catalog_start, catalog_size, entry_size, entry_start, slot_size, slot_start}
+use Rattle.mn_page.specs.Space.{count_start, count_size, catalog_start, catalog_size, entry_size}
+use Rattle.mn_page.specs.Space.{entry_start, slot_size, slot_start}
 
 -- the range of a page, an entry, a count or the catalog
 pub record Place : Type 0 where

@@ -1,8 +1,11 @@
 -- When a minitransaction is a plan of an operation.
-use Rattle.std.specs.Prelude.{ℕ, ◌≡◌, ◌+◌, ◌^◌, ◌<◌, ◌↔◌, ◌⊎◌, Bool, true, false, ◌&&◌, ◌||◌, nat_lt, nat_eq, IsTrue, List, [], ◌∷◌, ◌++◌, length, map, take, Some, None, ⊤, if◌then◌else◌, Contains, slice_get}
+use Rattle.std.specs.Prelude.{ℕ, ◌≡◌, ◌+◌, ◌^◌, ◌<◌, ◌↔◌, ◌⊎◌, Bool, true, false, ◌&&◌, ◌||◌}
+use Rattle.std.specs.Prelude.{nat_lt, nat_eq, IsTrue, List, [], ◌∷◌, ◌++◌, length, map, take, Some}
+use Rattle.std.specs.Prelude.{None, ⊤, if◌then◌else◌, Contains, slice_get}
 use Rattle.std.specs.List.{list_any, flat_map, AllByRecursion}
 use Rattle.byteorder.specs.Endian.{big_bytes}
-use Rattle.mn_base.specs.Store.{Head, Store, heads_of, number_named, pairs_named, is_change, step_key, steps_run, op_version, applied}
+use Rattle.mn_base.specs.Store.{Head, Store, heads_of, number_named, pairs_named, is_change}
+use Rattle.mn_base.specs.Store.{step_key, steps_run, op_version, applied}
 use Rattle.mn_base.specs.declared.ids.NodeNo.{NodeNo}
 use Rattle.mn_base.specs.declared.ids.Addr.{Addr}
 use Rattle.mn_base.specs.declared.op.Step.{Step}
@@ -22,19 +25,22 @@ use Rattle.mn_page.specs.Holds.{Holds, page_covers, page_serves}
 use Rattle.mn_page.specs.Overlay.{Held}
 use Rattle.mn_page.specs.SlotOrder.{AreInSlotOrder}
 use Rattle.mn_world.specs.declared.entry.Entry.{Entry}
-use Rattle.mn_world.specs.Places.{Place, page_place, entry_place, catalog_node, IsPagePlace, IsEntryPlace, IsCountPlace}
+use Rattle.mn_world.specs.Places.{Place, page_place, entry_place, catalog_node, IsPagePlace}
+use Rattle.mn_world.specs.Places.{IsEntryPlace, IsCountPlace}
 
 -- Places of items
 
 abbrev pub compare_place : Item → List Place
-compare_place (Compare node start bytes) = record { node = node; start = start; length = length bytes } ∷ []
+compare_place (Compare node start bytes) =
+    record { node = node; start = start; length = length bytes } ∷ []
 compare_place (Read node start length) = []
 compare_place (Write node start bytes) = []
 
 abbrev pub write_place : Item → List Place
 write_place (Compare node start bytes) = []
 write_place (Read node start length) = []
-write_place (Write node start bytes) = record { node = node; start = start; length = length bytes } ∷ []
+write_place (Write node start bytes) =
+    record { node = node; start = start; length = length bytes } ∷ []
 
 abbrev pub compare_places : Mini → List Place
 compare_places mini = flat_map compare_place mini.items
@@ -47,13 +53,16 @@ write_places mini = flat_map write_place mini.items
 -- a leaf that serves the version and covers the key of one of these steps
 abbrev pub IsLeafOf : Forest → ℕ → List Step → Place → Type 0
 IsLeafOf f v steps place =
-    (addr : Addr) × (page : Page) × (place ≡ page_place addr) × (page_at f addr ≡ Some page) × (height_of page.body ≡ 0)
+    (addr : Addr) × (page : Page) × (place ≡ page_place addr) × (page_at f addr ≡ Some page)
+    × (height_of page.body ≡ 0)
     × IsTrue (page_serves f.entries v page)
     × IsTrue (list_any (λ step. page_covers (step_key step) page) steps)
 
 -- a page that is there and is written
 abbrev pub IsOldPage : Forest → Mini → Place → Type 0
-IsOldPage f mini place = (addr : Addr) × (page : Page) × (place ≡ page_place addr) × (page_at f addr ≡ Some page) × Contains (write_places mini) place
+IsOldPage f mini place =
+    (addr : Addr) × (page : Page) × (place ≡ page_place addr) × (page_at f addr ≡ Some page)
+    × Contains (write_places mini) place
 
 -- a count that is written
 abbrev pub IsWrittenCount : Mini → Place → Type 0
@@ -69,8 +78,12 @@ IsCompared f store v (Tx version steps) mini place =
     ⊎ (IsTrue (list_any is_change steps) × (place ≡ entry_place catalog_node v))
     ⊎ IsOldPage f mini place
     ⊎ IsWrittenCount mini place
-IsCompared f store v (Snapshot version child) mini place = IsRootOf f v place ⊎ (place ≡ entry_place catalog_node v) ⊎ (place ≡ entry_place catalog_node (length f.entries)) ⊎ IsWrittenCount mini place
-IsCompared f store v (Branch version child) mini place = IsRootOf f v place ⊎ (place ≡ entry_place catalog_node v) ⊎ (place ≡ entry_place catalog_node (length f.entries)) ⊎ IsWrittenCount mini place
+IsCompared f store v (Snapshot version child) mini place =
+    IsRootOf f v place ⊎ (place ≡ entry_place catalog_node v)
+    ⊎ (place ≡ entry_place catalog_node (length f.entries)) ⊎ IsWrittenCount mini place
+IsCompared f store v (Branch version child) mini place =
+    IsRootOf f v place ⊎ (place ≡ entry_place catalog_node v)
+    ⊎ (place ≡ entry_place catalog_node (length f.entries)) ⊎ IsWrittenCount mini place
 IsCompared f store v (Scan version low high limit) mini place = ⊥
 IsCompared f store v Versions mini place = ⊥
 
@@ -78,22 +91,28 @@ IsCompared f store v Versions mini place = ⊥
 
 -- the place's number in the memory is the one before that of the bytes written; a free place has 0
 abbrev pub IsNextNumber : List ℕ → List ℕ → Type 0
-IsNextNumber old new = (k : ℕ) × (k + 1 < 2 ^ 64) × (take 8 old ≡ big_bytes 8 k) × (take 8 new ≡ big_bytes 8 (k + 1))
+IsNextNumber old new =
+    (k : ℕ) × (k + 1 < 2 ^ 64) × (take 8 old ≡ big_bytes 8 k) × (take 8 new ≡ big_bytes 8 (k + 1))
 
 -- each page or entry that is written has the next number
 abbrev pub HasNextNumber : List (List ℕ) → Item → Type 0
 HasNextNumber memory (Compare node start bytes) = ⊤
 HasNextNumber memory (Read node start length) = ⊤
 HasNextNumber memory (Write node start bytes) =
-    IsCountPlace (record { node = node; start = start; length = length bytes }) ⊎ IsNextNumber (bytes_in (space_in memory node) start (length bytes)) bytes
+    IsCountPlace (record { node = node; start = start; length = length bytes })
+    ⊎ IsNextNumber (bytes_in (space_in memory node) start (length bytes)) bytes
 
 -- pages stand before entries, and entries before counts
 abbrev pub place_rank : ℕ → ℕ
-place_rank start = if nat_eq start count_start then 2 else (if nat_lt start slots_start then 1 else 0)
+place_rank start =
+    if nat_eq start count_start then 2 else (if nat_lt start slots_start then 1 else 0)
 
 -- pages by WritesPages, entries by node and then by number, counts by node
 abbrev pub may_precede : NodeNo → ℕ → NodeNo → ℕ → Bool
-may_precede n s m t = nat_lt (place_rank s) (place_rank t) || (nat_eq (place_rank s) (place_rank t) && (nat_eq (place_rank s) 0 || (nat_lt n.0 m.0 || (nat_eq n.0 m.0 && nat_lt s t))))
+may_precede n s m t =
+    nat_lt (place_rank s) (place_rank t)
+    || (nat_eq (place_rank s) (place_rank t)
+    && (nat_eq (place_rank s) 0 || (nat_lt n.0 m.0 || (nat_eq n.0 m.0 && nat_lt s t))))
 
 abbrev pub item_may_precede : Item → Item → Bool
 item_may_precede (Compare n s b) (Compare m t c) = may_precede n s m t
@@ -155,10 +174,13 @@ HasPlans op = ⊤
 abbrev pub ContinuesCatalog : List Head → List Head → Type 0
 ContinuesCatalog [] heads = ⊤
 ContinuesCatalog (k ∷ kept) [] = ⊥
-ContinuesCatalog (k ∷ kept) (h ∷ heads) = (h.name ≡ k.name) × (h.parent ≡ k.parent) × (k.frozen ≡ true → h.frozen ≡ true) × ContinuesCatalog kept heads
+ContinuesCatalog (k ∷ kept) (h ∷ heads) =
+    (h.name ≡ k.name) × (h.parent ≡ k.parent) × (k.frozen ≡ true → h.frozen ≡ true)
+    × ContinuesCatalog kept heads
 
 -- what a plan does to a memory that holds the store
-pub record PlanActs (memory : List (List ℕ)) (store : Store) (holds : Holds memory store) (op : Op) (mini : Mini) (reply : Reply) : Type 0 where
+pub record PlanActs (memory : List (List ℕ)) (store : Store) (holds : Holds memory store) (op : Op)
+    (mini : Mini) (reply : Reply) : Type 0 where
   pub effect : Holds (memory_after memory mini.items) (applied store op).store
   pub replies : reply ≡ (applied store op).reply
   pub compares : (v : ℕ) → number_named (heads_of store) (op_version op) ≡ Some v
@@ -173,12 +195,14 @@ pub record PlanActs (memory : List (List ℕ)) (store : Store) (holds : Holds me
   pub pages : WritesPages holds.forest mini
 
 -- the items' compares hold in the memory, for a client with this list
-pub record ComparesHold (es : List Entry) (memory : List (List ℕ)) (items : List Item) : Type 0 where
+pub record ComparesHold (es : List Entry) (memory : List (List ℕ)) (items : List Item)
+    : Type 0 where
   pub met : mismatch_from memory 0 items ≡ None
 
 -- wherever its compares hold for a client with this list, in a memory that holds a store that
 -- continues the kept catalog, it does what the operation does
-pub record IsPlanned (es : List Entry) (kept : List Head) (op : Op) (mini : Mini) (reply : Reply) : Type 0 where
+pub record IsPlanned (es : List Entry) (kept : List Head) (op : Op) (mini : Mini) (reply : Reply)
+    : Type 0 where
   pub acts : (memory : List (List ℕ)) (store : Store) → length memory ≡ mini.nodes
       → AllByRecursion (λ space. length space ≡ space_size) memory
       → (holds : Holds memory store) → ContinuesCatalog kept (heads_of store)

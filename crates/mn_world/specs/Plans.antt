@@ -1,5 +1,6 @@
 -- The laws of plans: that a minitransaction made from what a try read is planned.
-use Rattle.std.specs.Prelude.{ℕ, ◌≡◌, ◌+◌, ◌^◌, ◌<◌, ◌≤◌, false, IsTrue, List, [], ◌∷◌, ◌++◌, length, Some, None}
+use Rattle.std.specs.Prelude.{ℕ, ◌≡◌, ◌+◌, ◌^◌, ◌<◌, ◌≤◌, false, IsTrue, List, [], ◌∷◌, ◌++◌}
+use Rattle.std.specs.Prelude.{length, Some, None}
 use Rattle.mn_base.specs.Store.{Head, number_named, pairs_with, max_versions}
 use Rattle.mn_base.specs.declared.ids.Addr.{Addr}
 use Rattle.mn_base.specs.declared.reply.Pair.{Pair}
@@ -36,10 +37,19 @@ write_page addr p = Write addr.node (slot_start addr.slot) (page_bytes p)
 
 -- the leaf with these pairs, and the next number
 abbrev pub next_leaf : Page → List Pair → Page
-next_leaf p pairs = record { seq = p.seq + 1; made = p.made; copied = p.copied; low = p.low; high = p.high; body = Leaf pairs }
+next_leaf p pairs =
+    record {
+      seq = p.seq + 1;
+      made = p.made;
+      copied = p.copied;
+      low = p.low;
+      high = p.high;
+      body = Leaf pairs;
+    }
 
 -- the leaf of the key as it was read, made in the version, with room
-pub record IsLeafWithRoom (kept : List Head) (nodes : ℕ) (name key value : List ℕ) (v : ℕ) (e : CatEntry) (addr : Addr) (p : Page) (pairs : List Pair) : Type 0 where
+pub record IsLeafWithRoom (kept : List Head) (nodes : ℕ) (name key value : List ℕ) (v : ℕ)
+    (e : CatEntry) (addr : Addr) (p : Page) (pairs : List Pair) : Type 0 where
   pub named : number_named kept name ≡ Some v
   pub few : v < max_versions
   pub entry : IsEntry e
@@ -56,12 +66,18 @@ pub record IsLeafWithRoom (kept : List Head) (nodes : ℕ) (name key value : Lis
 
 abbrev pub put_in_place : ℕ → List ℕ → List ℕ → ℕ → CatEntry → Addr → Page → List Pair → Mini
 put_in_place nodes key value v e addr p pairs =
-    record { nodes = nodes; items = compare_page addr p ∷ compare_entry v e ∷ write_page addr (next_leaf p (pairs_with pairs key value)) ∷ [] }
+    record {
+      nodes = nodes;
+      items = compare_page addr p ∷ compare_entry v e
+          ∷ write_page addr (next_leaf p (pairs_with pairs key value)) ∷ [];
+    }
 
 abbrev pub PutIsPlanned : Type 0
 PutIsPlanned =
-    (kept : List Head) (nodes : ℕ) (name key value : List ℕ) (v : ℕ) (e : CatEntry) (addr : Addr) (p : Page) (pairs : List Pair) → IsLeafWithRoom kept nodes name key value v e addr p pairs
-    → (es : List Entry) → IsPlanned es kept (Tx name (Put key value ∷ [])) (put_in_place nodes key value v e addr p pairs) (Values [])
+    (kept : List Head) (nodes : ℕ) (name key value : List ℕ) (v : ℕ) (e : CatEntry) (addr : Addr)
+    (p : Page) (pairs : List Pair) → IsLeafWithRoom kept nodes name key value v e addr p pairs
+    → (es : List Entry) → IsPlanned es kept (Tx name (Put key value ∷ []))
+    (put_in_place nodes key value v e addr p pairs) (Values [])
 
 -- A Put that splits a root leaf, with both new slots on one node
 
@@ -75,17 +91,29 @@ abbrev pub slot_at : NodeNo → ℕ → Addr
 slot_at n slot = record { node = n; slot = slot }
 
 abbrev pub left_half : Page → List Pair → List ℕ → Page
-left_half p lows sep = record { seq = 1; made = p.made; copied = 0; low = []; high = Some sep; body = Leaf lows }
+left_half p lows sep =
+    record { seq = 1; made = p.made; copied = 0; low = []; high = Some sep; body = Leaf lows }
 
 abbrev pub right_half : Page → List Pair → List ℕ → Page
-right_half p highs sep = record { seq = 1; made = p.made; copied = 0; low = sep; high = None; body = Leaf highs }
+right_half p highs sep =
+    record { seq = 1; made = p.made; copied = 0; low = sep; high = None; body = Leaf highs }
 
 abbrev pub parent_of_halves : Page → List ℕ → Addr → Addr → Page
-parent_of_halves p sep left right = record { seq = p.seq + 1; made = p.made; copied = p.copied; low = []; high = None; body = Inner 1 left (record { separator = sep; addr = right } ∷ []) }
+parent_of_halves p sep left right =
+    record {
+      seq = p.seq + 1;
+      made = p.made;
+      copied = p.copied;
+      low = [];
+      high = None;
+      body = Inner 1 left (record { separator = sep; addr = right } ∷ []);
+    }
 
 -- the root of the version, a leaf, as it was read, with a node's count; and the leaf's new pairs in
 -- two parts
-pub record HasSplit (kept : List Head) (nodes : ℕ) (name key value : List ℕ) (v : ℕ) (e : CatEntry) (p : Page) (pairs : List Pair) (n : NodeNo) (count : ℕ) (lows : List Pair) (first : Pair) (more : List Pair) : Type 0 where
+pub record HasSplit (kept : List Head) (nodes : ℕ) (name key value : List ℕ) (v : ℕ) (e : CatEntry)
+    (p : Page) (pairs : List Pair) (n : NodeNo) (count : ℕ) (lows : List Pair) (first : Pair)
+    (more : List Pair) : Type 0 where
   pub named : number_named kept name ≡ Some v
   pub few : v < max_versions
   pub entry : IsEntry e
@@ -106,11 +134,15 @@ abbrev pub split_items : ℕ → CatEntry → Page → NodeNo → ℕ → List P
 split_items v e p n count lows first more =
     compare_page e.root p ∷ compare_entry v e ∷ compare_count n count
     ∷ write_page e.root (parent_of_halves p first.key (slot_at n count) (slot_at n (count + 1)))
-    ∷ write_page (slot_at n count) (left_half p lows first.key) ∷ write_page (slot_at n (count + 1)) (right_half p (first ∷ more) first.key)
+    ∷ write_page (slot_at n count) (left_half p lows first.key)
+    ∷ write_page (slot_at n (count + 1)) (right_half p (first ∷ more) first.key)
     ∷ write_count n (count + 2) ∷ []
 
 abbrev pub SplitIsPlanned : Type 0
 SplitIsPlanned =
-    (kept : List Head) (nodes : ℕ) (name key value : List ℕ) (v : ℕ) (e : CatEntry) (p : Page) (pairs : List Pair) (n : NodeNo) (count : ℕ) (lows : List Pair) (first : Pair) (more : List Pair)
+    (kept : List Head) (nodes : ℕ) (name key value : List ℕ) (v : ℕ) (e : CatEntry) (p : Page)
+    (pairs : List Pair) (n : NodeNo) (count : ℕ) (lows : List Pair) (first : Pair)
+    (more : List Pair)
     → HasSplit kept nodes name key value v e p pairs n count lows first more
-    → (es : List Entry) → IsPlanned es kept (Tx name (Put key value ∷ [])) (record { nodes = nodes; items = split_items v e p n count lows first more }) (Values [])
+    → (es : List Entry) → IsPlanned es kept (Tx name (Put key value ∷ []))
+    (record { nodes = nodes; items = split_items v e p n count lows first more }) (Values [])

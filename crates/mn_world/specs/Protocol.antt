@@ -1,5 +1,6 @@
 -- Runs: each entry is allowed by what its actors' lists held before it.
-use Rattle.std.specs.Prelude.{ℕ, ◌+◌, ◌≡◌, ◌<◌, ◌≤◌, List, [], ◌∷◌, length, reverse, Option, Some, None, ⊤, nat_lt, if◌then◌else◌, slice_index_or}
+use Rattle.std.specs.Prelude.{ℕ, ◌+◌, ◌≡◌, ◌<◌, ◌≤◌, List, [], ◌∷◌, length, reverse, Option, Some}
+use Rattle.std.specs.Prelude.{None, ⊤, nat_lt, if◌then◌else◌, slice_index_or}
 use Rattle.std.specs.List.{flat_map}
 use Rattle.mn_base.specs.declared.ids.NodeNo.{NodeNo}
 use Rattle.mn_base.specs.declared.ids.ClientNo.{ClientNo}
@@ -38,7 +39,8 @@ run_number start = greatest_run (flat_map (λ records. records) start.records) +
 
 -- the records of a node, newest first
 abbrev pub records_of : Start → List Entry → NodeNo → List Record
-records_of start past n = node_records (base_at start n) (start_records start n) (node_entries n past)
+records_of start past n =
+    node_records (base_at start n) (start_records start n) (node_entries n past)
 
 -- a step that a client takes alone
 abbrev pub IsOwnStep : What → Type 0
@@ -55,7 +57,9 @@ IsNodeStep what = ⊥
 
 abbrev pub AllowedAt : Start → List Entry → Option NodeNo → What → Type 0
 AllowedAt start past None what = IsOwnStep what
-AllowedAt start past (Some n) what = (n.0 < start_nodes start) × NodeAllows (base_at start n) (start_records start n) (node_entries n past) what
+AllowedAt start past (Some n) what =
+    (n.0 < start_nodes start) × NodeAllows (base_at start n) (start_records start n)
+    (node_entries n past) what
 
 abbrev pub AllowedBy : List Entry → Option ClientNo → Option NodeNo → What → Type 0
 AllowedBy past None at what = IsNodeStep what

@@ -7,7 +7,8 @@ use Rattle.mn_world.specs.declared.entry.Entry.{Entry}
 use Rattle.mn_world.specs.declared.entry.What.{What}
 use Rattle.mn_world.specs.Calls.{client_entries}
 use Rattle.mn_world.specs.Clients.{ClientAllows}
-use Rattle.mn_world.specs.Protocol.{Start, IsActor, IsOwnStep, IsNodeStep, KeepsProtocol, FollowsProtocol}
+use Rattle.mn_world.specs.Protocol.{Start, IsActor, IsOwnStep, IsNodeStep, KeepsProtocol}
+use Rattle.mn_world.specs.Protocol.{FollowsProtocol}
 use Rattle.mn_world.specs.Answers.{MeansBy}
 
 -- the meaning of a step, by its client's own list
@@ -58,4 +59,5 @@ pub record IsLogOfRun (start : Start) (log : List (ℕ × Entry)) : Type 0 where
 
 -- a run keeps the protocol
 abbrev pub RunsFollowProtocol : Type 0
-RunsFollowProtocol = (start : Start) (past : List Entry) → IsRun start past → FollowsProtocol start past
+RunsFollowProtocol =
+    (start : Start) (past : List Entry) → IsRun start past → FollowsProtocol start past

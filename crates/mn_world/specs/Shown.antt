@@ -1,9 +1,11 @@
 -- What a client's own list shows: bytes that were read, catalogs, pages, and the replies that
 -- follow from them.
-use Rattle.std.specs.Prelude.{ℕ, ◌≡◌, ◌+◌, ◌-◌, ◌≤◌, ◌⊎◌, true, IsTrue, List, [], ◌∷◌, ◌++◌, length, take, Option, Some, None, ⊤, Contains, unwrap_or, slice_get}
+use Rattle.std.specs.Prelude.{ℕ, ◌≡◌, ◌+◌, ◌-◌, ◌≤◌, ◌⊎◌, true, IsTrue, List, [], ◌∷◌, ◌++◌, length}
+use Rattle.std.specs.Prelude.{take, Option, Some, None, ⊤, Contains, unwrap_or, slice_get}
 use Rattle.std.specs.List.{flat_map, AllByRecursion}
 use Rattle.mn_base.specs.Order.{key_le}
-use Rattle.mn_base.specs.Store.{Head, number_named, head_named, value_at, pairs_within, refusal, listing_of, max_versions}
+use Rattle.mn_base.specs.Store.{Head, number_named, head_named, value_at, pairs_within, refusal}
+use Rattle.mn_base.specs.Store.{listing_of, max_versions}
 use Rattle.mn_base.specs.declared.ids.NodeNo.{NodeNo}
 use Rattle.mn_base.specs.declared.ids.Addr.{Addr}
 use Rattle.mn_base.specs.declared.reply.Pair.{Pair}
@@ -38,7 +40,8 @@ pub record Seen : Type 0 where
 
 -- an Exec of one read item that was done
 abbrev pub seen_by : NodeNo → Request → NodeReply → List Seen
-seen_by n (Ask.Exec tid (Bare.Read start length ∷ [])) (Say.Done (bytes ∷ [])) = record { place = record { node = n; start = start; length = length }; bytes = bytes } ∷ []
+seen_by n (Ask.Exec tid (Bare.Read start length ∷ [])) (Say.Done (bytes ∷ [])) =
+    record { place = record { node = n; start = start; length = length }; bytes = bytes } ∷ []
 seen_by n request reply = []
 
 -- the reads of a list that were done, the newest first
@@ -54,13 +57,16 @@ abbrev pub items_shown : NodeNo → List PartItem → List (List ℕ) → List S
 items_shown n [] reads = []
 items_shown n (Bare.Compare start bytes ∷ items) reads = items_shown n items reads
 items_shown n (Bare.Read start length ∷ items) [] = []
-items_shown n (Bare.Read start length ∷ items) (bytes ∷ reads) = record { place = record { node = n; start = start; length = length }; bytes = bytes } ∷ items_shown n items reads
+items_shown n (Bare.Read start length ∷ items) (bytes ∷ reads) =
+    record { place = record { node = n; start = start; length = length }; bytes = bytes }
+    ∷ items_shown n items reads
 items_shown n (Bare.Write start bytes ∷ items) reads = items_shown n items reads
 
 -- what a reply gives: the reads of an Exec that was done, and a Peek that was answered
 abbrev pub shown_by : NodeNo → Request → NodeReply → List Seen
 shown_by n (Ask.Exec tid part) (Say.Done reads) = items_shown n part reads
-shown_by n (Ask.Peek start length) (Say.Peeked bytes) = record { place = record { node = n; start = start; length = length }; bytes = bytes } ∷ []
+shown_by n (Ask.Peek start length) (Say.Peeked bytes) =
+    record { place = record { node = n; start = start; length = length }; bytes = bytes } ∷ []
 shown_by n request reply = []
 
 -- what the replies of a list give, the newest first
@@ -76,11 +82,14 @@ pub record GivesPlace (seen : Seen) (place : Place) (bytes : List ℕ) : Type 0 
 
 -- the list shows the bytes of a place: a reply in it gives the whole place
 abbrev pub ShowsPlace : List Entry → Place → List ℕ → Type 0
-ShowsPlace es place bytes = (seen : Seen) × Contains (shown_in es) seen × GivesPlace seen place bytes
+ShowsPlace es place bytes =
+    (seen : Seen) × Contains (shown_in es) seen × GivesPlace seen place bytes
 
 -- a read of the catalog with these entries
 abbrev pub SeesCatalog : Seen → List CatEntry → Type 0
-SeesCatalog seen entries = (seen.place ≡ catalog_place) × (length entries ≤ max_versions) × AllByRecursion IsEntry entries × (seen.bytes ≡ padded catalog_size (flat_map entry_bytes entries))
+SeesCatalog seen entries =
+    (seen.place ≡ catalog_place) × (length entries ≤ max_versions) × AllByRecursion IsEntry entries
+    × (seen.bytes ≡ padded catalog_size (flat_map entry_bytes entries))
 
 -- a read of this page at this address
 abbrev pub SeesPage : Seen → Addr → Page → Type 0
@@ -92,7 +101,8 @@ ShowsCatalog es entries = (seen : Seen) × Contains (seen_in es) seen × SeesCat
 
 -- the page serves the version of this name, by these entries
 abbrev pub ServesNamed : List CatEntry → List ℕ → Page → Type 0
-ServesNamed entries name page = (v : ℕ) × (number_named (heads_in entries) name ≡ Some v) × IsTrue (page_serves entries v page)
+ServesNamed entries name page =
+    (v : ℕ) × (number_named (heads_in entries) name ≡ Some v) × IsTrue (page_serves entries v page)
 
 -- Replies that a read shows
 
@@ -100,7 +110,8 @@ ServesNamed entries name page = (v : ℕ) × (number_named (heads_in entries) na
 -- serves the version
 abbrev pub LeafShows : List Entry → Seen → Op → Reply → Type 0
 LeafShows es seen (Tx version (Get key ∷ [])) reply =
-    (entries : List CatEntry) × (addr : Addr) × (page : Page) × ShowsCatalog es entries × SeesPage seen addr page × (height_of page.body ≡ 0)
+    (entries : List CatEntry) × (addr : Addr) × (page : Page) × ShowsCatalog es entries
+    × SeesPage seen addr page × (height_of page.body ≡ 0)
     × ServesNamed entries version page × IsTrue (page_covers key page)
     × (reply ≡ Values (value_at (pairs_in page.body) key ∷ []))
 LeafShows es seen op reply = ⊥
@@ -111,7 +122,9 @@ CatalogReplies heads Versions reply = reply ≡ Listing (listing_of heads)
 CatalogReplies heads op reply = refusal heads op ≡ Some reply
 
 abbrev pub CatalogShows : Seen → Op → Reply → Type 0
-CatalogShows seen op reply = (entries : List CatEntry) × SeesCatalog seen entries × CatalogReplies (heads_in entries) op reply
+CatalogShows seen op reply =
+    (entries : List CatEntry) × SeesCatalog seen entries
+    × CatalogReplies (heads_in entries) op reply
 
 -- a read shows a reply, by what its client's list held before it
 abbrev pub ReadShows : List Entry → Seen → Op → Reply → Type 0
@@ -147,9 +160,11 @@ abbrev pub leaf_pairs : List Page → List Pair
 leaf_pairs pages = flat_map (λ p. pairs_in p.body) pages
 
 -- leaves that were read, in order, have the pairs within the bounds, up to the limit or to the end
-pub record ShowsPairs (entries : List CatEntry) (later : List Seen) (name : List ℕ) (low high : Option (List ℕ)) (limit : ℕ) (pairs : List Pair) : Type 0 where
+pub record ShowsPairs (entries : List CatEntry) (later : List Seen) (name : List ℕ)
+    (low high : Option (List ℕ)) (limit : ℕ) (pairs : List Pair) : Type 0 where
   pub leaves : List Page
-  pub seen : AllByRecursion (λ p. (seen : Seen) × (addr : Addr) × Contains later seen × SeesPage seen addr p × (height_of p.body ≡ 0) × ServesNamed entries name p) leaves
+  pub seen : AllByRecursion (λ p. (seen : Seen) × (addr : Addr) × Contains later seen
+      × SeesPage seen addr p × (height_of p.body ≡ 0) × ServesNamed entries name p) leaves
   pub chain : IsChain leaves
   pub first : BeginsAt low leaves
   pub pairs_are : pairs ≡ take limit (pairs_within (leaf_pairs leaves) low high)
@@ -180,14 +195,18 @@ ScanShows seens op reply = ⊥
 
 -- what a list has seen, its replies give
 abbrev pub SeenIsShown : Type 0
-SeenIsShown = (es : List Entry) (seen : Seen) → Contains (seen_in es) seen → Contains (shown_in es) seen
+SeenIsShown =
+    (es : List Entry) (seen : Seen) → Contains (seen_in es) seen → Contains (shown_in es) seen
 
 -- what an older list shows, the newer one shows
 abbrev pub ShownStays : Type 0
-ShownStays = (newer older : List Entry) (place : Place) (bytes : List ℕ) → ShowsPlace older place bytes → ShowsPlace (newer ++ older) place bytes
+ShownStays =
+    (newer older : List Entry) (place : Place) (bytes : List ℕ) → ShowsPlace older place bytes
+    → ShowsPlace (newer ++ older) place bytes
 
 -- a list that shows a catalog shows each entry of it
 abbrev pub EntriesAreShown : Type 0
 EntriesAreShown =
-    (es : List Entry) (seen : Seen) (entries : List CatEntry) (v : ℕ) (e : CatEntry) → Contains (shown_in es) seen → SeesCatalog seen entries
+    (es : List Entry) (seen : Seen) (entries : List CatEntry) (v : ℕ) (e : CatEntry)
+    → Contains (shown_in es) seen → SeesCatalog seen entries
     → slice_get entries v ≡ Some e → ShowsPlace es (entry_place catalog_node v) (entry_bytes e)

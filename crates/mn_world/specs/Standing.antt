@@ -1,6 +1,7 @@
 -- What the program that computes the flat memory keeps of the entries so far, and what that tells
 -- of them.
-use Rattle.std.specs.Prelude.{◌≡◌, ℕ, ◌<◌, Bool, true, ◌&&◌, nat_eq, List, length, Option, Some, None, slice_index_or, bytes_eq, if◌then◌else◌}
+use Rattle.std.specs.Prelude.{◌≡◌, ℕ, ◌<◌, Bool, true, ◌&&◌, nat_eq, List, length, Option, Some}
+use Rattle.std.specs.Prelude.{None, slice_index_or, bytes_eq, if◌then◌else◌}
 use Rattle.std.specs.Option.{option_map}
 use Rattle.std.specs.HashMap.{get}
 use Rattle.std.specs.HashSet.{contains}
@@ -55,7 +56,8 @@ pub record StandingTells (s : Standing) (past : List Entry) : Type 0 where
 
 -- the item finds its bytes in place, if it compares
 abbrev pub item_holds : List (List ℕ) → Item → Bool
-item_holds memory (Compare node start bytes) = bytes_eq (bytes_in (space_in memory node) start (length bytes)) bytes
+item_holds memory (Compare node start bytes) =
+    bytes_eq (bytes_in (space_in memory node) start (length bytes)) bytes
 item_holds memory (Read node start length) = true
 item_holds memory (Write node start bytes) = true
 

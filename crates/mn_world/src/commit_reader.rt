@@ -40,7 +40,8 @@ fn under_id<'a>(
     effect: Option<&Request>,
     mini: Option<&'a Minitransaction>,
 ) -> Option<CommittedMini<'a>>
-    ensures { option_map issued_of result ≡ under_id (option_map (λ r. r.now) effect.entry) (option_map (λ m. m.now) mini.entry) }
+    ensures { option_map issued_of result
+        ≡ under_id (option_map (λ r. r.now) effect.entry) (option_map (λ m. m.now) mini.entry) }
 {
     match (effect, mini) {
         (Some(effect), Some(mini)) => {
@@ -65,8 +66,10 @@ impl<'a> CommitReader<'a> {
     /// its execution, which a restart may show later. NoMemory: there was no memory for it.
     pub fn follow(&mut self, entry: &'a Entry) -> Result<Option<CommittedMini<'a>>, NoMemory>
         requires { (past : List Entry) × HasRead self.old past }
-        ensures commits { (past : List Entry) → HasRead self.old past → IfOk result (λ found. option_map issued_of found ≡ committed_by past entry.now) }
-        ensures read { (past : List Entry) → HasRead self.old past → OnOk result (HasRead self.new (entry.now ∷ past)) }
+        ensures commits { (past : List Entry) → HasRead self.old past
+            → IfOk result (λ found. option_map issued_of found ≡ committed_by past entry.now) }
+        ensures read { (past : List Entry) → HasRead self.old past
+            → OnOk result (HasRead self.new (entry.now ∷ past)) }
     {
         let effect = effect_in(&self.standing, entry);
         let mini = committed_in(&self.standing, entry, effect);

@@ -1,4 +1,5 @@
-ghost use Rattle.std.specs.Prelude.{◌≡◌, ◌<◌, ◌&&◌, ◌||◌, List, [], ◌∷◌, if◌then◌else◌, length, bytes_eq, slice_set, OnOk, IfOk};
+ghost use Rattle.std.specs.Prelude.{◌≡◌, ◌<◌, ◌&&◌, ◌||◌, List, [], ◌∷◌, if◌then◌else◌, length};
+ghost use Rattle.std.specs.Prelude.{bytes_eq, slice_set, OnOk, IfOk};
 ghost use Rattle.std.specs.List.{list_all};
 ghost use Rattle.std.specs.Option.{option_map};
 ghost use Rattle.mn_base.specs.Ids.{tid_same, node_same};
@@ -8,11 +9,13 @@ ghost use Rattle.mn_mini.specs.Flat.{bytes_in, overwritten, memory_after, space_
 ghost use Rattle.mn_world.specs.declared.entry.Entry.{Entry};
 ghost use Rattle.mn_world.specs.Calls.{node_entries};
 ghost use Rattle.mn_world.specs.Nodes.{stopped_request_after};
-ghost use Rattle.mn_world.specs.Commits.{is_vote_effect, effect_of, committed_with, committed_by, memory_of_outcome, memory_after_commit, flat_after};
+ghost use Rattle.mn_world.specs.Commits.{is_vote_effect, effect_of, committed_with, committed_by};
+ghost use Rattle.mn_world.specs.Commits.{memory_of_outcome, memory_after_commit, flat_after};
 ghost use Rattle.mn_world.specs.Run.{entries_of};
 ghost use Rattle.mn_world.specs.Protocol.{Start};
 ghost use Rattle.mn_world.specs.Laws.{IsRunFrom, IsFlatRun};
-ghost use Rattle.mn_world.specs.Standing.{id_key, vote_key, kept_mini, keeps_vote, kept_request, issue_after, effect_of_entry, StandingTells, item_holds};
+ghost use Rattle.mn_world.specs.Standing.{id_key, vote_key, kept_mini, keeps_vote, kept_request};
+ghost use Rattle.mn_world.specs.Standing.{issue_after, effect_of_entry, StandingTells, item_holds};
 
 use crate::{Entry, Log, What};
 use mn_base::{Bytes, NoMemory, NodeNo, Tid, TryCopy};
@@ -106,16 +109,22 @@ fn note_issue<'a>(
     tid: Tid,
     mini: &'a Minitransaction,
 ) -> Result<(), NoMemory>
-    ensures issued { OnOk result ((q : Tid) → kept_mini standing.new q ≡ (if tid_same tid q then Some mini.now else kept_mini standing.old q)) }
-    ensures others { OnOk result ((standing.new.voted ≡ standing.old.voted) × (standing.new.stopped ≡ standing.old.stopped)) }
+    ensures issued { OnOk result ((q : Tid)
+        → kept_mini standing.new q ≡ (if tid_same tid q then Some mini.now
+        else kept_mini standing.old q)) }
+    ensures others { OnOk result ((standing.new.voted ≡ standing.old.voted)
+        × (standing.new.stopped ≡ standing.old.stopped)) }
 {
     standing.issued.insert(id_key(tid), mini)?;
     Ok(())
 }
 
 fn note_vote(standing: &mut Standing<'_>, tid: Tid, node: NodeNo) -> Result<(), NoMemory>
-    ensures voted { OnOk result ((q : Tid) (n : NodeNo) → keeps_vote standing.new q n ≡ ((tid_same tid q && node_same n node) || keeps_vote standing.old q n)) }
-    ensures others { OnOk result ((standing.new.issued ≡ standing.old.issued) × (standing.new.stopped ≡ standing.old.stopped)) }
+    ensures voted { OnOk result ((q : Tid) (n : NodeNo)
+        → keeps_vote standing.new q n
+        ≡ ((tid_same tid q && node_same n node) || keeps_vote standing.old q n)) }
+    ensures others { OnOk result ((standing.new.issued ≡ standing.old.issued)
+        × (standing.new.stopped ≡ standing.old.stopped)) }
 {
     standing.voted.insert(vote_key(tid, node))?;
     Ok(())
@@ -124,8 +133,12 @@ fn note_vote(standing: &mut Standing<'_>, tid: Tid, node: NodeNo) -> Result<(), 
 fn note_stop<'a>(standing: &mut Standing<'a>, node: NodeNo, request: Option<&'a Request>)
     requires { length standing.old.stopped.items ≡ 256 }
     ensures length { length standing.new.stopped.items ≡ 256 }
-    ensures stopped { (n : NodeNo) → n.0 < 256 → kept_request standing.new n ≡ (if node_same n node then option_map (λ r. r.now) request.entry else kept_request standing.old n) }
-    ensures others { (standing.new.issued ≡ standing.old.issued) × (standing.new.voted ≡ standing.old.voted) }
+    ensures stopped { (n : NodeNo) → n.0 < 256
+        → kept_request standing.new n
+        ≡ (if node_same n node then option_map (λ r. r.now) request.entry
+        else kept_request standing.old n) }
+    ensures others { (standing.new.issued ≡ standing.old.issued)
+        × (standing.new.voted ≡ standing.old.voted) }
 {
     standing.stopped[node.0 as usize] = request;
 }
@@ -133,7 +146,8 @@ fn note_stop<'a>(standing: &mut Standing<'a>, node: NodeNo, request: Option<&'a 
 /// The request that takes effect at an entry of the node.
 fn effect_at<'a>(standing: &Standing<'a>, node: NodeNo, what: &'a What) -> Option<&'a Request>
     requires { length standing.now.stopped.items ≡ 256 }
-    ensures { (past : List Entry) → StandingTells standing.now past → option_map (λ r. r.now) result ≡ effect_of (node_entries node past) what.now }
+    ensures { (past : List Entry) → StandingTells standing.now past
+        → option_map (λ r. r.now) result ≡ effect_of (node_entries node past) what.now }
 {
     match what {
         What::Called {
@@ -147,7 +161,8 @@ fn effect_at<'a>(standing: &Standing<'a>, node: NodeNo, what: &'a What) -> Optio
 
 /// Whether each of these nodes has voted yes, but for the one that votes now.
 fn all_voted(standing: &Standing<'_>, tid: Tid, now: NodeNo, participants: &[NodeNo]) -> bool
-    ensures { result ≡ list_all (λ m. node_same m now || keeps_vote standing.now tid m) participants.now }
+    ensures { result ≡ list_all (λ m. node_same m now || keeps_vote standing.now tid m)
+        participants.now }
 {
     participants
         .iter()
@@ -160,7 +175,9 @@ fn committed_at<'a>(
     node: NodeNo,
     request: &Request,
 ) -> Option<&'a Minitransaction>
-    ensures { (past : List Entry) → StandingTells standing.now past → option_map (λ m. m.now) result ≡ option_map (λ i. i.mini) (committed_with past node (Some request.now)) }
+    ensures { (past : List Entry) → StandingTells standing.now past
+        → option_map (λ m. m.now) result
+        ≡ option_map (λ i. i.mini) (committed_with past node (Some request.now)) }
 {
     match request {
         Request::Prepare {
@@ -185,8 +202,12 @@ fn note_effect(
     node: NodeNo,
     effect: Option<&Request>,
 ) -> Result<(), NoMemory>
-    ensures voted { OnOk result ((q : Tid) (n : NodeNo) → keeps_vote standing.new q n ≡ ((node_same n node && is_vote_effect q (option_map (λ r. r.now) effect.entry)) || keeps_vote standing.old q n)) }
-    ensures others { OnOk result ((standing.new.issued ≡ standing.old.issued) × (standing.new.stopped ≡ standing.old.stopped)) }
+    ensures voted { OnOk result ((q : Tid) (n : NodeNo)
+        → keeps_vote standing.new q n
+        ≡ ((node_same n node && is_vote_effect q (option_map (λ r. r.now) effect.entry))
+        || keeps_vote standing.old q n)) }
+    ensures others { OnOk result ((standing.new.issued ≡ standing.old.issued)
+        × (standing.new.stopped ≡ standing.old.stopped)) }
 {
     if let Some(Request::Prepare { tid, .. }) = effect {
         note_vote(standing, *tid, node)?;
@@ -198,8 +219,12 @@ fn note_effect(
 fn note_stopped<'a>(standing: &mut Standing<'a>, node: NodeNo, what: &'a What)
     requires { length standing.old.stopped.items ≡ 256 }
     ensures length { length standing.new.stopped.items ≡ 256 }
-    ensures stopped { (n : NodeNo) → n.0 < 256 → kept_request standing.new n ≡ (if node_same n node then stopped_request_after what.now (kept_request standing.old n) else kept_request standing.old n) }
-    ensures others { (standing.new.issued ≡ standing.old.issued) × (standing.new.voted ≡ standing.old.voted) }
+    ensures stopped { (n : NodeNo) → n.0 < 256
+        → kept_request standing.new n
+        ≡ (if node_same n node then stopped_request_after what.now (kept_request standing.old n)
+        else kept_request standing.old n) }
+    ensures others { (standing.new.issued ≡ standing.old.issued)
+        × (standing.new.voted ≡ standing.old.voted) }
 {
     if let What::Stopped { request, .. } = what {
         note_stop(standing, node, request.as_ref());
@@ -208,8 +233,10 @@ fn note_stopped<'a>(standing: &mut Standing<'a>, node: NodeNo, what: &'a What)
 
 /// Notes the minitransaction that was issued, if one was.
 fn note_issued<'a>(standing: &mut Standing<'a>, what: &'a What) -> Result<(), NoMemory>
-    ensures issued { OnOk result ((q : Tid) → kept_mini standing.new q ≡ issue_after what.now q (kept_mini standing.old q)) }
-    ensures others { OnOk result ((standing.new.voted ≡ standing.old.voted) × (standing.new.stopped ≡ standing.old.stopped)) }
+    ensures issued { OnOk result ((q : Tid)
+        → kept_mini standing.new q ≡ issue_after what.now q (kept_mini standing.old q)) }
+    ensures others { OnOk result ((standing.new.voted ≡ standing.old.voted)
+        × (standing.new.stopped ≡ standing.old.stopped)) }
 {
     if let What::Issue { tid, mini } = what {
         note_issue(standing, *tid, mini)?;
@@ -220,7 +247,8 @@ fn note_issued<'a>(standing: &mut Standing<'a>, what: &'a What) -> Result<(), No
 /// The request that takes effect at the entry.
 pub fn effect_in<'a>(standing: &Standing<'a>, entry: &'a Entry) -> Option<&'a Request>
     requires { length standing.now.stopped.items ≡ 256 }
-    ensures { (past : List Entry) → StandingTells standing.now past → option_map (λ r. r.now) result ≡ effect_of_entry past entry.now }
+    ensures { (past : List Entry) → StandingTells standing.now past
+        → option_map (λ r. r.now) result ≡ effect_of_entry past entry.now }
 {
     match entry.node {
         Some(node) => effect_at(standing, node, &entry.what),
@@ -234,7 +262,9 @@ pub fn committed_in<'a>(
     entry: &Entry,
     effect: Option<&Request>,
 ) -> Option<&'a Minitransaction>
-    ensures { (past : List Entry) → StandingTells standing.now past → option_map (λ r. r.now) effect.entry ≡ effect_of_entry past entry.now → option_map (λ m. m.now) result ≡ option_map (λ i. i.mini) (committed_by past entry.now) }
+    ensures { (past : List Entry) → StandingTells standing.now past
+        → option_map (λ r. r.now) effect.entry ≡ effect_of_entry past entry.now
+        → option_map (λ m. m.now) result ≡ option_map (λ i. i.mini) (committed_by past entry.now) }
 {
     match (entry.node, effect) {
         (Some(node), Some(request)) => committed_at(standing, node, request),
@@ -250,7 +280,9 @@ pub fn note<'a>(
 ) -> Result<(), NoMemory>
     requires { length standing.old.stopped.items ≡ 256 }
     ensures length { OnOk result (length standing.new.stopped.items ≡ 256) }
-    ensures tells { OnOk result ((past : List Entry) → StandingTells standing.old past → option_map (λ r. r.now) effect.entry ≡ effect_of_entry past entry.now → StandingTells standing.new (entry.now ∷ past)) }
+    ensures tells { OnOk result ((past : List Entry) → StandingTells standing.old past
+        → option_map (λ r. r.now) effect.entry ≡ effect_of_entry past entry.now
+        → StandingTells standing.new (entry.now ∷ past)) }
 {
     note_issued(standing, &entry.what)?;
     if let Some(node) = entry.node {
@@ -309,7 +341,8 @@ fn overwrite(space: &mut [u8], start: u32, bytes: &[u8])
 }
 
 fn write(alloc: Global, memory: &mut Vec<Bytes>, node: NodeNo, start: u32, bytes: &[u8])
-    ensures { memory.new.items ≡ slice_set memory.old.items node.0 (overwritten (space_in memory.old.items node) start bytes.now) }
+    ensures { memory.new.items ≡ slice_set memory.old.items node.0
+        (overwritten (space_in memory.old.items node) start bytes.now) }
 {
     let at = node.0 as usize;
     if at < memory.len() {
@@ -331,7 +364,8 @@ fn write_all(alloc: Global, memory: &mut Vec<Bytes>, items: &[Item])
 
 /// All of the minitransaction, or nothing where a compare item differs.
 fn commit(alloc: Global, memory: &mut Vec<Bytes>, mini: &Minitransaction)
-    ensures { memory.new.items ≡ memory_of_outcome memory.old.items (outcome_on memory.old.items mini.now) }
+    ensures { memory.new.items ≡ memory_of_outcome memory.old.items
+        (outcome_on memory.old.items mini.now) }
 {
     if all_hold(memory, mini.items()) {
         write_all(alloc, memory, mini.items());
@@ -347,8 +381,10 @@ fn step<'a>(
 ) -> Result<(), NoMemory>
     requires { length standing.old.stopped.items ≡ 256 }
     ensures length { OnOk result (length standing.new.stopped.items ≡ 256) }
-    ensures tells { OnOk result ((past : List Entry) → StandingTells standing.old past → StandingTells standing.new (entry.now ∷ past)) }
-    ensures memory { (past : List Entry) → StandingTells standing.old past → memory.new.items ≡ memory_after_commit memory.old.items (committed_by past entry.now) }
+    ensures tells { OnOk result ((past : List Entry) → StandingTells standing.old past
+        → StandingTells standing.new (entry.now ∷ past)) }
+    ensures memory { (past : List Entry) → StandingTells standing.old past
+        → memory.new.items ≡ memory_after_commit memory.old.items (committed_by past entry.now) }
 {
     let effect = effect_in(standing, entry);
     if let Some(mini) = committed_in(standing, entry, effect) {
@@ -367,7 +403,8 @@ fn step<'a>(
 /// space is the flat memory's but for writes that are committed and still held.
 pub fn flat_after(alloc: Global, start: &Spaces, log: &Log) -> Result<Spaces, NoMemory>
     ensures memory { IfOk result (λ after. after ≡ flat_after start.now (entries_of log.now)) }
-    ensures run { (from : Start) → IsRunFrom from start.now (entries_of log.now) → IfOk result (λ after. IsFlatRun from start.now after (entries_of log.now)) }
+    ensures run { (from : Start) → IsRunFrom from start.now (entries_of log.now)
+        → IfOk result (λ after. IsFlatRun from start.now after (entries_of log.now)) }
 {
     let mut memory = start.try_copy(alloc)?.into_vec();
     let mut standing = nothing(alloc)?;

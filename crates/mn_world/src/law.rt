@@ -11,5 +11,6 @@ impl Law for CoreLaw {
 
     type Entry = Entry;
 
-    ghost legal = { λ node client line. (line.entry.node ≡ line.node) × (line.entry.client ≡ line.client) × IsLegalBy (entries_of client) line.entry };
+    ghost legal = { λ node client line. (line.entry.node ≡ line.node)
+        × (line.entry.client ≡ line.client) × IsLegalBy (entries_of client) line.entry };
 }

@@ -1,4 +1,5 @@
-ghost use Rattle.std.specs.Prelude.{◌≡◌, ◌≤◌, ◌<◌, ◌+◌, ◌^◌, ◌++◌, ◌∷◌, [], length, max, OnOk, OnErr};
+ghost use Rattle.std.specs.Prelude.{◌≡◌, ◌≤◌, ◌<◌, ◌+◌, ◌^◌, ◌++◌, ◌∷◌, [], length, max, OnOk};
+ghost use Rattle.std.specs.Prelude.{OnErr};
 
 use crate::Entry;
 use mn_base::{ClientNo, NoMemory};
@@ -97,7 +98,8 @@ impl Model for ClientList {
 
     ghost view = { λ l. record { client = l.client; entries = l.entries.items; room = l.room } };
 
-    ghost invariant = { λ l. IsClientList l.client (vec_len l.entries) (vec_capacity l.entries) l.room };
+    ghost invariant = { λ l. IsClientList l.client (vec_len l.entries)
+        (vec_capacity l.entries) l.room };
 }
 
 impl ClientList {
