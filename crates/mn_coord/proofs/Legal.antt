@@ -1,5 +1,5 @@
 -- A coordinator makes only entries that the commit protocol allows its client.
-use Rattle.std.proofs.Common.{◌≡◌, ℕ, ◌+◌, ◌<◌, ◌≤◌, Bool, true, false, ◌&&◌, ◌||◌, not, List, [], ◌∷◌, ◌++◌, length, Option, Some, None, refl, sym, ap, subst, ◌∙◌, arith, inl, if◌then◌else◌}
+use Rattle.std.proofs.Common.{◌≡◌, ℕ, ◌+◌, ◌<◌, ◌≤◌, Bool, true, false, ◌&&◌, ◌||◌, not, List, [], ◌∷◌, ◌++◌, length, Option, Some, None, refl, sym, ap, subst, ◌∙◌, arith, inl, inr, if◌then◌else◌}
 use Rattle.std.specs.Prelude.{nat_lt, nat_eq, Contains, MatchOption, slice_index_or, slice_set, ⊤}
 use Rattle.std.specs.List.{list_any}
 use Rattle.std.proofs.lemmas.List.{get_or-set_other, get_or-set_same, length-set}
@@ -9,7 +9,7 @@ use Rattle.mn_base.specs.Ids.{node_same}
 use Rattle.mn_base.specs.declared.ids.NodeNo.{NodeNo}
 use Rattle.mn_base.specs.declared.ids.ClientNo.{ClientNo}
 use Rattle.mn_base.specs.declared.ids.Tid.{Tid}
-use Rattle.mn_base.proofs.Booleans.{and_false, or_left, or_right}
+use Rattle.mn_base.proofs.Booleans.{and_false, clash, falsely, or_left, or_right}
 use Rattle.mn_base.proofs.Naturals.{eq_turned}
 use Rattle.mn_mini.specs.declared.request.Request.{Request}
 use Rattle.mn_mini.specs.declared.request.Request.TheVariants as Ask
@@ -19,16 +19,18 @@ use Rattle.mn_mini.specs.Mini.{Mini, participants_of, part_of}
 use Rattle.mn_world.specs.declared.entry.Entry.{Entry}
 use Rattle.mn_world.specs.declared.entry.What.{What}
 use Rattle.mn_world.specs.declared.entry.What.TheVariants.{Begin, Issue, Called, Stopped, Restarted, Abandoned, Answered}
-use Rattle.mn_world.specs.Calls.{Call, call_in, calls_of, is_prepare, is_exec, is_try, is_done, is_stopped, is_last_of, was_told, was_done, was_sent, was_stopped, has_yes, was_abandoned, is_abandonment, is_in_doubt, Issued, issue_in, issues_of, issue_named, since_begin, since_begin_after}
+use Rattle.mn_world.specs.Calls.{Call, call_in, calls_of, is_decide, is_prepare, is_exec, is_try, is_done, is_stopped, is_last_of, was_told, was_done, was_sent, was_stopped, has_yes, was_decided, was_abandoned, is_abandonment, is_in_doubt, Issued, issue_in, issues_of, issue_named, since_begin, since_begin_after}
 use Rattle.mn_world.specs.Clients.{Sends}
+use Rattle.mn_world.proofs.Commits.Never.{since_abandoned}
 use Rattle.mn_world.proofs.Reading.Same.{tid_same-refl}
 use Rattle.mn_coord.specs.declared.stage.Stage.{Stage}
 use Rattle.mn_coord.specs.declared.stage.Stage.TheVariants as At
 use Rattle.mn_coord.specs.declared.step.CoordStep.{CoordStep}
 use Rattle.mn_coord.specs.declared.step.CoordStep.TheVariants.{Send, Abandon, Committed, Failed, Doubt}
 use Rattle.mn_coord.specs.Coordination.{Coordination, is_stopped_at_last, stage_of, stage_in, participant, try_request, step_at, step_of, after_step, after_reply, fed_at}
-use Rattle.mn_coord.specs.Legal.{has_stopped, is_doubtful, Agrees, HasAnswers, answer_of, node_of, MayMake, IsAnswered, StepsAreAllowed, AnswersAgree, NoAnswerAgrees, AbandonedAgrees, names_tid, IssuesAgree}
+use Rattle.mn_coord.specs.Legal.{has_stopped, is_doubtful, Agrees, HasAnswers, IsAnswerOf, TriesAre, answer_of, node_of, MayMake, IsAnswered, StepsAreAllowed, AnswersAgree, NoAnswerAgrees, AbandonedAgrees, names_tid, IssuesAgree}
 use Rattle.mn_coord.proofs.Stages.{asking}
+use Rattle.mn_coord.proofs.Tries.{answered_still, decided_still, tries_fresh, tries_more, tries_same}
 use Rattle.mn_coord.proofs.Order.{participants_ascend, all_of, order_down, told_apart, element, any_at, last_at, below_next, single}
 
 abbrev count : Coordination → ℕ
@@ -149,6 +151,20 @@ cancel_allowed es c a stage =
     let facts = (refusing (count c) c.done c.refused c.told c.decided At.Cancel stage).1 refl in
     (not_doubtful es c a facts.0, or_left _ _ (a.told ∙ facts.1))
 
+-- where the last one did not stop, and one stopped, there is a later one
+pub not_last : (n done : ℕ) (reply : NodeReply) → done < n → is_stopped_at_last n done reply ≡ false → is_stopped reply ≡ true → done + 1 < n
+not_last n done Say.Stopped low known is = let apart = eqb-false (done + 1) n known in omega (arith, apart, low)
+not_last n done (Say.Done reads) low known is = absurd cc
+not_last n done (Say.BadLock s k h) low known is = absurd cc
+not_last n done (Say.BadCompare i f) low known is = absurd cc
+not_last n done Say.BadForced low known is = absurd cc
+not_last n done (Say.Vote v) low known is = absurd cc
+not_last n done Say.Decided low known is = absurd cc
+not_last n done (Say.Listed d) low known is = absurd cc
+not_last n done (Say.Peeked b) low known is = absurd cc
+not_last n done Say.Down low known is = absurd cc
+not_last n done Say.NoMemory low known is = absurd cc
+
 abandon_allowed : (es : List Entry) (c : Coordination) → Agrees es c → stage_in c ≡ At.Abandon → MayMake es c.tid Abandon
 abandon_allowed es c a stage = (c.mini, a.ever, by (is_stopped r.reply) refl)
   where
@@ -166,23 +182,9 @@ abandon_allowed es c a stage = (c.mini, a.ever, by (is_stopped r.reply) refl)
         any_at (λ n. not (was_done c.tid n es) && not (was_stopped c.tid n es)) (participants_of c.mini) i l
         (ap (λ b. not b && not (was_stopped c.tid (participant c i) es)) (a.done i l ∙ le-ltb i c.done high) ∙ ap (λ b. true && not b) free)
 
-    -- the last one did not stop
-    not_last : (reply : NodeReply) → is_stopped_at_last (count c) c.done reply ≡ false → is_stopped reply ≡ true → c.done + 1 < count c
-    not_last Say.Stopped known is = let apart = eqb-false (c.done + 1) (count c) known in omega (arith, apart, low)
-    not_last (Say.Done reads) known is = absurd cc
-    not_last (Say.BadLock s k h) known is = absurd cc
-    not_last (Say.BadCompare i f) known is = absurd cc
-    not_last Say.BadForced known is = absurd cc
-    not_last (Say.Vote v) known is = absurd cc
-    not_last Say.Decided known is = absurd cc
-    not_last (Say.Listed d) known is = absurd cc
-    not_last (Say.Peeked b) known is = absurd cc
-    not_last Say.Down known is = absurd cc
-    not_last Say.NoMemory known is = absurd cc
-
     by : (b : Bool) → is_stopped r.reply ≡ b → list_any (λ n. not (was_done c.tid n es) && not (was_stopped c.tid n es)) (participants_of c.mini) ≡ true
     by true e =
-        let next = not_last r.reply r.known e in
+        let next = not_last (count c) c.done r.reply low r.known e in
         lacks (c.done + 1) next (omega arith) (stopped_is (c.done + 1) next ∙ ap (λ b. b && is_stopped r.reply) (ne_eqb (c.done + 1) c.done (λ f. absurd (omega arith))))
     by false e = lacks c.done low (omega arith) (stopped_is c.done low ∙ (ap (λ b. nat_eq c.done c.done && b) e ∙ and_false (nat_eq c.done c.done)))
 
@@ -234,6 +236,9 @@ still_ever es e tid mini k h = ap (issue_named tid) (same_issues es e k.issues) 
 
 still_told : (es : List Entry) (e : Entry) (tid : Tid) → IsCall es e → was_abandoned tid (e ∷ es) ≡ was_abandoned tid es
 still_told es e tid k = ap (λ b. b || was_abandoned tid es) (k.keeps tid)
+
+still_given_up : (es : List Entry) (e : Entry) (tid : Tid) → IsCall es e → was_abandoned tid (since_begin (e ∷ es)) ≡ was_abandoned tid (since_begin es)
+still_given_up es e tid k = ap (was_abandoned tid) k.since ∙ ap (λ b. b || was_abandoned tid (since_begin es)) (k.keeps tid)
 
 -- A decision is passed over
 
@@ -348,9 +353,10 @@ one_failed es e tid mini done all reply refused h is = record {
   failed = λ other. answer_in es e (answer_of tid mini done reply) is;
 }
 
-decided_agrees : (es : List Entry) (e : Entry) (c : Coordination) (n : NodeNo) (request : Request) (reply : NodeReply) (k : ℕ) (asked : Bool) → Agrees es c → IsAnswered e n request reply → IsDecide request
-    → Agrees (e ∷ es) (record c { decided = k; asked = asked })
-decided_agrees es e c n request reply k asked a is d =
+decided_agrees : (es : List Entry) (e : Entry) (c : Coordination) (n : NodeNo) (request : Request) (reply : NodeReply) → Agrees es c → IsAnswered e n request reply → IsDecide request
+    → participant c c.decided ≡ n → is_decide c.tid request ≡ true
+    → Agrees (e ∷ es) (record c { decided = c.decided + 1; asked = false })
+decided_agrees es e c n request reply a is d at own =
     let none = decide_no_try c.tid request d in
     let call = a_call es e (record { node = n; request = request; reply = reply }) is in
     record {
@@ -366,7 +372,21 @@ decided_agrees es e c n request reply k asked a is d =
       stopped = λ i low. pass_over (is_try c.tid) is_stopped es e n (participant c i) request reply is none ∙ a.stopped i low;
       doubt = no_doubt es e n request reply c.tid is none ∙ a.doubt;
       answers = later_answers es e c.tid c.mini c.done c.reads c.refused call.since a.answers;
+      tries = tries_more es e (record { node = n; request = request; reply = reply }) c.tid c.mini c.done c.done c.refused c.refused is a.tries (λ k h. h) (λ t. absurd (clash (is_try c.tid request) t none));
+      given_up = still_given_up es e c.tid call ∙ a.given_up;
+      decided = λ i low below. by i low below call.since (nat_eq i c.decided) refl;
     }
+  where
+    here : (i : ℕ) → i ≡ c.decided → since_begin (e ∷ es) ≡ e ∷ since_begin es → was_decided c.tid (participant c i) (since_begin (e ∷ es)) ≡ true
+    here i same since =
+        let there : participant c i ≡ n = ap (participant c) same ∙ at in
+        ap (was_decided c.tid (participant c i)) since
+        ∙ (any_more (λ (k : Call). node_same k.node (participant c i) && (is_decide c.tid k.request && true)) (since_begin es) e (record { node = n; request = request; reply = reply }) is
+        ∙ or_left _ _ (ap (λ b. b && (is_decide c.tid request && true)) (eq-eqb n.0 (participant c i).0 (ap (λ (m : NodeNo). m.0) (sym there))) ∙ ap (λ b. b && true) own))
+
+    by : (i : ℕ) → i < count c → i < c.decided + 1 → since_begin (e ∷ es) ≡ e ∷ since_begin es → (b : Bool) → nat_eq i c.decided ≡ b → was_decided c.tid (participant c i) (since_begin (e ∷ es)) ≡ true
+    by i low below since true f = here i (eqb-true i c.decided f) since
+    by i low below since false f = let apart = eqb-false i c.decided f in decided_still es e c.tid (participant c i) since (a.decided i low (omega (arith, apart)))
 
 -- A try
 
@@ -376,7 +396,7 @@ pub record IsTryOf (c : Coordination) (request : Request) : Type 0 where
   pub prepare : 2 ≤ count c → is_prepare c.tid request ≡ true
   pub last : (is_exec c.tid request || (is_prepare c.tid request && is_last_of (participant c c.done) request)) ≡ nat_eq (c.done + 1) (count c)
 
-try_is : (c : Coordination) → c.done < count c → IsTryOf c (try_request c.tid c.mini (participant c c.done))
+pub try_is : (c : Coordination) → c.done < count c → IsTryOf c (try_request c.tid c.mini (participant c c.done))
 try_is c low = by (nat_eq (count c) 1) refl
   where
     by : (b : Bool) → nat_eq (count c) 1 ≡ b → IsTryOf c (if b then Ask.Exec c.tid (part_of c.mini (participant c c.done)) else Ask.Prepare c.tid (participants_of c.mini) (part_of c.mini (participant c c.done)))
@@ -400,8 +420,9 @@ noted t say es e c i request reply is own here low =
 
 done_agrees : (es : List Entry) (e : Entry) (c : Coordination) (request : Request) (reads : List (List ℕ)) (all : List (List (List ℕ))) → Agrees es c → c.refused ≡ None → c.done < count c → IsTryOf c request
     → HasAnswers (since_begin (e ∷ es)) c.tid c.mini (c.done + 1) all c.refused
+    → request ≡ try_request c.tid c.mini (participant c c.done)
     → IsAnswered e (participant c c.done) request (Say.Done reads) → Agrees (e ∷ es) (record c { done = c.done + 1; reads = all; asked = false })
-done_agrees es e c request reads all a open_still low t answers is =
+done_agrees es e c request reads all a open_still low t answers own is =
     let call = a_call es e (record { node = participant c c.done; request = request; reply = Say.Done reads }) is in
     record {
       now = still_now es e c.tid c.mini call a.now;
@@ -420,6 +441,11 @@ done_agrees es e c request reads all a open_still low t answers is =
       doubt = doubt_more es e (participant c c.done) request (Say.Done reads) c.tid is
           ∙ (a.doubt ∙ (ap (is_doubtful (count c) c.done) open_still ∙ sym (ap (is_doubtful (count c) (c.done + 1)) open_still)));
       answers = answers;
+      tries = tries_more es e (record { node = participant c c.done; request = request; reply = Say.Done reads }) c.tid c.mini c.done (c.done + 1) c.refused c.refused is a.tries
+          (answered_still c.tid c.mini c.done c.refused open_still (c.done + 1) c.refused (omega arith))
+          (λ t. record { number = c.done; is = ap (λ (r : Request). record { node = participant c c.done; request = r; reply = Say.Done reads }) own; said = inl (omega arith, refl) });
+      given_up = still_given_up es e c.tid call ∙ a.given_up;
+      decided = λ i l below. decided_still es e c.tid (participant c i) call.since (a.decided i l below);
     }
   where
     and_true : (b : Bool) → (b && true) ≡ b
@@ -459,6 +485,11 @@ refused_agrees es e c request reply a open_still low t other last own is =
           ∙ (ap (λ b. (is_stopped reply && nat_eq (c.done + 1) (count c)) || b) (a.doubt ∙ ap (is_doubtful (count c) c.done) open_still) ∙ (or_none (is_stopped reply && nat_eq (c.done + 1) (count c)) ∙ last)));
       answers = subst (λ (l : List Entry). HasAnswers l c.tid c.mini c.done c.reads (Some reply)) (sym call.since)
           (one_failed (since_begin es) e c.tid c.mini c.done c.reads reply c.refused a.answers (subst (λ (r : Request). IsAnswered e (participant c c.done) r reply) own is));
+      tries = tries_more es e (record { node = participant c c.done; request = request; reply = reply }) c.tid c.mini c.done c.done c.refused (Some reply) is a.tries
+          (answered_still c.tid c.mini c.done c.refused open_still c.done (Some reply) (omega arith))
+          (λ t. record { number = c.done; is = ap (λ (r : Request). record { node = participant c c.done; request = r; reply = reply }) own; said = inr (refl, other) });
+      given_up = still_given_up es e c.tid call ∙ a.given_up;
+      decided = λ i l below. decided_still es e c.tid (participant c i) call.since (a.decided i l below);
     }
   where
     or_none : (b : Bool) → (b || false) ≡ b
@@ -472,7 +503,7 @@ reply_agrees es e c request (Say.Done reads) a o low t own is =
     done_agrees es e c request reads (slice_set c.reads c.done reads) a o low t
     (subst (λ (l : List Entry). HasAnswers l c.tid c.mini (c.done + 1) (slice_set c.reads c.done reads) c.refused)
     (sym (a_call es e (record { node = participant c c.done; request = request; reply = Say.Done reads }) is).since)
-    (one_more (since_begin es) e c.tid c.mini c.done c.reads reads c.refused o a.answers low (subst (λ (r : Request). IsAnswered e (participant c c.done) r (Say.Done reads)) own is))) is
+    (one_more (since_begin es) e c.tid c.mini c.done c.reads reads c.refused o a.answers low (subst (λ (r : Request). IsAnswered e (participant c c.done) r (Say.Done reads)) own is))) own is
 reply_agrees es e c request (Say.BadLock s k h) a o low t own is = refused_agrees es e c request (Say.BadLock s k h) a o low t refl refl own is
 reply_agrees es e c request (Say.BadCompare i f) a o low t own is = refused_agrees es e c request (Say.BadCompare i f) a o low t refl refl own is
 reply_agrees es e c request Say.BadForced a o low t own is = refused_agrees es e c request Say.BadForced a o low t refl refl own is
@@ -493,14 +524,17 @@ moved e n m q r reply f g is = is ∙ (ap (λ (k : NodeNo). record { node = k; r
 pub answers_agree : AnswersAgree
 answers_agree es e c node request reply a step is = by (stage_in c) refl step
   where
+    decides : (verdict : Bool) → participant c c.decided ≡ node → Ask.Decide c.tid verdict ≡ request → Agrees (e ∷ es) (record c { decided = c.decided + 1; asked = false })
+    decides verdict at same = decided_agrees es e c node request reply a is (subst IsDecide same tt) at (ap (is_decide c.tid) (sym same) ∙ tid_same-refl c.tid)
+
     by : (stage : Stage) → stage_in c ≡ stage → step_at c stage ≡ Send node request → Agrees (e ∷ es) (fed_at c stage reply)
     by At.Ask s f =
         let facts = asking (count c) c.done c.refused c.told c.decided s in
         let parts = send_is _ _ _ _ f in
         reply_agrees es e c (try_request c.tid c.mini (participant c c.done)) reply a facts.0 facts.1 (try_is c facts.1) refl
         (moved e (participant c c.done) node (try_request c.tid c.mini (participant c c.done)) request reply parts.0 parts.1 is)
-    by At.Commit s f = decided_agrees es e c node request reply (c.decided + 1) false a is (subst IsDecide (send_is _ _ _ _ f).1 tt)
-    by At.Cancel s f = decided_agrees es e c node request reply (c.decided + 1) false a is (subst IsDecide (send_is _ _ _ _ f).1 tt)
+    by At.Commit s f = let parts = send_is _ _ _ _ f in decides true parts.0 parts.1
+    by At.Cancel s f = let parts = send_is _ _ _ _ f in decides false parts.0 parts.1
     by At.Abandon s f = absurd cc
     by At.Committed s f = absurd cc
     by At.Failed s f = absurd cc
@@ -509,38 +543,29 @@ answers_agree es e c node request reply a step is = by (stage_in c) refl step
 -- A reply that is no entry
 
 pub no_answer_agrees : NoAnswerAgrees
-no_answer_agrees es c a = by (stage_in c) refl
+no_answer_agrees es c asks a = subst (λ (stage : Stage). Agrees es (fed_at c stage Say.NoMemory)) (sym asks) refuses
   where
-    same : (k : ℕ) → Agrees es (record c { decided = k; asked = false })
-    same k = record { now = a.now; ever = a.ever; some = a.some; within = a.within; untold = a.untold; told = a.told; done = a.done; votes = a.votes; sent = a.sent; stopped = a.stopped; doubt = a.doubt; answers = a.answers }
+    facts : (c.refused ≡ None) × (c.done < count c)
+    facts = asking (count c) c.done c.refused c.told c.decided asks
 
-    idle : Agrees es (record c { asked = false })
-    idle = record { now = a.now; ever = a.ever; some = a.some; within = a.within; untold = a.untold; told = a.told; done = a.done; votes = a.votes; sent = a.sent; stopped = a.stopped; doubt = a.doubt; answers = a.answers }
-
-    refuses : c.refused ≡ None → c.done < count c → Agrees es (record c { refused = Some Say.NoMemory; asked = false })
-    refuses o low = record {
+    refuses : Agrees es (record c { refused = Some Say.NoMemory; asked = false })
+    refuses = record {
       now = a.now;
       ever = a.ever;
       some = a.some;
-      within = low;
+      within = facts.1;
       untold = λ none. absurd cc;
       told = a.told;
       done = a.done;
       votes = a.votes;
       sent = λ none. absurd cc;
-      stopped = λ i l. a.stopped i l ∙ (ap (λ (r : Option NodeReply). nat_eq i c.done && has_stopped r) o);
-      doubt = a.doubt ∙ ap (is_doubtful (count c) c.done) o;
+      stopped = λ i l. a.stopped i l ∙ (ap (λ (r : Option NodeReply). nat_eq i c.done && has_stopped r) facts.0);
+      doubt = a.doubt ∙ ap (is_doubtful (count c) c.done) facts.0;
       answers = record { long = a.answers.long; read = a.answers.read; failed = λ other. absurd (other refl) };
+      tries = λ call there t. answered_still c.tid c.mini c.done c.refused facts.0 c.done (Some Say.NoMemory) (omega arith) call (a.tries call there t);
+      given_up = a.given_up;
+      decided = a.decided;
     }
-
-    by : (stage : Stage) → stage_in c ≡ stage → Agrees es (fed_at c stage Say.NoMemory)
-    by At.Ask s = let facts = asking (count c) c.done c.refused c.told c.decided s in refuses facts.0 facts.1
-    by At.Commit s = same (c.decided + 1)
-    by At.Cancel s = same (c.decided + 1)
-    by At.Abandon s = idle
-    by At.Committed s = idle
-    by At.Failed s = idle
-    by At.Doubt s = idle
 
 -- Abandoned
 
@@ -576,8 +601,14 @@ abandoned_agrees es e c a step none what = record {
   sent = λ o i l. ap (list_any (λ (k : Call). node_same k.node (participant c i) && (is_try c.tid k.request && true))) (same_calls es e none) ∙ a.sent o i l;
   stopped = λ i l. ap (list_any (λ (k : Call). node_same k.node (participant c i) && (is_try c.tid k.request && is_stopped k.reply))) (same_calls es e none) ∙ a.stopped i l;
   doubt = ap (list_any (λ (k : Call). is_stopped k.reply && (is_exec c.tid k.request || (is_prepare c.tid k.request && is_last_of k.node k.request)))) (same_calls es e none) ∙ a.doubt;
-  answers = later_answers es e c.tid c.mini c.done c.reads c.refused (ap (λ (w : What). since_begin_after w e (since_begin es)) what) a.answers;
+  answers = later_answers es e c.tid c.mini c.done c.reads c.refused since a.answers;
+  tries = tries_same es e c.tid c.mini c.done c.refused (same_calls es e none) a.tries;
+  given_up = ap (was_abandoned c.tid) since ∙ (ap (λ (w : What). is_abandonment c.tid w || was_abandoned c.tid (since_begin es)) what ∙ ap (λ b. b || was_abandoned c.tid (since_begin es)) (tid_same-refl c.tid));
+  decided = λ i l below. decided_still es e c.tid (participant c i) since (a.decided i l below);
 }
+  where
+    since : since_begin (e ∷ es) ≡ e ∷ since_begin es
+    since = ap (λ (w : What). since_begin_after w e (since_begin es)) what
 
 -- The issue
 
@@ -613,7 +644,7 @@ none_below : (i k : ℕ) → k ≡ 0 → nat_lt i k ≡ false
 none_below i k e = le-ltb i k (omega arith)
 
 pub issues_agree : IssuesAgree
-issues_agree es e c fresh some long zero_done open_still quiet none what = record {
+issues_agree es e c fresh some long zero_done open_still quiet undecided none what = record {
   now = ap (λ (l : List Entry). issue_named c.tid (issues_of l)) (ap (λ (w : What). since_begin_after w e (since_begin es)) what)
       ∙ (ap (λ (w : What). issue_named c.tid (issue_in w ++ issues_of (since_begin es))) what ∙ issue_first c.tid c.mini (issues_of (since_begin es)));
   ever = ap (λ (w : What). issue_named c.tid (issue_in w ++ issues_of es)) what ∙ issue_first c.tid c.mini (issues_of es);
@@ -632,6 +663,11 @@ issues_agree es e c fresh some long zero_done open_still quiet none what = recor
     read = λ i low. absurd (omega (arith, zero_done));
     failed = subst (λ (o : Option NodeReply). MatchOption o ⊤ (λ reply. (reply ≡ Say.NoMemory → ⊥) → Contains (calls_of (since_begin (e ∷ es))) (answer_of c.tid c.mini c.done reply))) (sym open_still) tt;
   };
+  tries = tries_same es e c.tid c.mini c.done c.refused (same_calls es e none) (tries_fresh es c.tid c.mini c.done c.refused fresh.0);
+  given_up = ap (was_abandoned c.tid) (ap (λ (w : What). since_begin_after w e (since_begin es)) what)
+      ∙ (ap (λ (w : What). is_abandonment c.tid w || was_abandoned c.tid (since_begin es)) what
+      ∙ (falsely (was_abandoned c.tid (since_begin es)) (λ was. clash (was_abandoned c.tid es) (since_abandoned es c.tid was) fresh.1) ∙ sym quiet));
+  decided = λ i l below. absurd (omega (arith, undecided));
 }
   where
     tested : (t : Request → Bool) (say : NodeReply → Bool) → ((request : Request) → is_try c.tid request ≡ false → t request ≡ false) → (i : ℕ) → was_told t say (participant c i) (e ∷ es) ≡ false
@@ -644,7 +680,7 @@ pub handed_out_agrees : (es : List Entry) (c : Coordination) → Agrees es c →
 handed_out_agrees es c a other = by (step_of c) other
   where
     out : Agrees es (record c { asked = true })
-    out = record { now = a.now; ever = a.ever; some = a.some; within = a.within; untold = a.untold; told = a.told; done = a.done; votes = a.votes; sent = a.sent; stopped = a.stopped; doubt = a.doubt; answers = a.answers }
+    out = record { now = a.now; ever = a.ever; some = a.some; within = a.within; untold = a.untold; told = a.told; done = a.done; votes = a.votes; sent = a.sent; stopped = a.stopped; doubt = a.doubt; answers = a.answers; tries = a.tries; given_up = a.given_up; decided = a.decided }
 
     by : (step : CoordStep) → (step ≡ Abandon → ⊥) → Agrees es (after_step c step)
     by (Send node request) o = out

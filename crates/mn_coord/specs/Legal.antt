@@ -1,7 +1,7 @@
 -- A coordinator makes only entries that the commit protocol allows its client.
 use Rattle.std.specs.Prelude.{◌≡◌, ◌≢◌, ℕ, ◌+◌, ◌<◌, ◌≤◌, Bool, Contains, slice_index_or, true}
-use Rattle.std.specs.Prelude.{false, ◌&&◌, nat_lt, nat_eq, List, [], ◌∷◌, length, Option, Some}
-use Rattle.std.specs.Prelude.{None, MatchOption, ⊤}
+use Rattle.std.specs.Prelude.{false, ◌&&◌, ◌⊎◌, nat_lt, nat_eq, List, [], ◌∷◌, length, Option}
+use Rattle.std.specs.Prelude.{Some, None, MatchOption, ⊤}
 use Rattle.std.specs.List.{list_any}
 use Rattle.mn_base.specs.declared.ids.NodeNo.{NodeNo}
 use Rattle.mn_base.specs.declared.ids.Tid.{Tid}
@@ -13,12 +13,13 @@ use Rattle.mn_world.specs.declared.entry.Entry.{Entry}
 use Rattle.mn_world.specs.declared.entry.What.TheVariants.{Issue, Abandoned}
 use Rattle.mn_world.specs.Calls.{Call, call_in, calls_of, is_prepare, is_done, is_stopped, was_told}
 use Rattle.mn_world.specs.Calls.{was_sent, was_done, was_stopped, was_abandoned, is_in_doubt}
-use Rattle.mn_world.specs.Calls.{issues_of, issue_named, since_begin, is_try}
+use Rattle.mn_world.specs.Calls.{was_decided, issues_of, issue_named, since_begin, is_try}
 use Rattle.mn_world.specs.Clients.{Sends, AllowsAbandoned}
 use Rattle.mn_coord.specs.declared.step.CoordStep.{CoordStep}
 use Rattle.mn_coord.specs.declared.step.CoordStep.TheVariants.{Send, Abandon}
+use Rattle.mn_coord.specs.declared.stage.Stage.TheVariants as At
 use Rattle.mn_coord.specs.Coordination.{Coordination, is_stopped_at_last, participant, try_request}
-use Rattle.mn_coord.specs.Coordination.{step_of, after_step, fed}
+use Rattle.mn_coord.specs.Coordination.{stage_in, step_of, after_step, fed}
 
 abbrev pub has_stopped : Option NodeReply → Bool
 has_stopped None = false
@@ -51,8 +52,22 @@ pub record HasAnswers (now : List Entry) (tid : Tid) (mini : Mini) (done : ℕ)
   pub failed : MatchOption refused ⊤
       (λ reply. reply ≢ Say.NoMemory → Contains (calls_of now) (answer_of tid mini done reply))
 
+-- it is the answer of one of the participants that answered Done, or the one that refused
+pub record IsAnswerOf (tid : Tid) (mini : Mini) (done : ℕ) (refused : Option NodeReply)
+    (call : Call) : Type 0 where
+  pub number : ℕ
+  pub is : call ≡ answer_of tid mini number call.reply
+  pub said : ((number < done) × (is_done call.reply ≡ true))
+      ⊎ ((refused ≡ Some call.reply) × (is_done call.reply ≡ false))
+
+-- the list holds no other Prepare and no other Exec of the id
+abbrev pub TriesAre : List Entry → Tid → Mini → ℕ → Option NodeReply → Type 0
+TriesAre es tid mini done refused =
+    (call : Call) → Contains (calls_of es) call → is_try tid call.request ≡ true
+    → IsAnswerOf tid mini done refused call
+
 -- the client's list, newest first, holds the issue of the operation under way, and what the
--- coordinator was answered and has told
+-- coordinator was answered, has told and has decided
 pub record Agrees (es : List Entry) (c : Coordination) : Type 0 where
   pub now : issue_named c.tid (issues_of (since_begin es)) ≡ Some c.mini
   pub ever : issue_named c.tid (issues_of es) ≡ Some c.mini
@@ -71,6 +86,10 @@ pub record Agrees (es : List Entry) (c : Coordination) : Type 0 where
       → was_stopped c.tid (participant c i) es ≡ (nat_eq i c.done && has_stopped c.refused)
   pub doubt : is_in_doubt c.tid es ≡ is_doubtful (length (participants_of c.mini)) c.done c.refused
   pub answers : HasAnswers (since_begin es) c.tid c.mini c.done c.reads c.refused
+  pub tries : TriesAre es c.tid c.mini c.done c.refused
+  pub given_up : was_abandoned c.tid (since_begin es) ≡ c.told
+  pub decided : (i : ℕ) → i < length (participants_of c.mini) → i < c.decided
+      → was_decided c.tid (participant c i) (since_begin es) ≡ true
 
 -- the client may make this step
 abbrev pub MayMake : List Entry → Tid → CoordStep → Type 0
@@ -95,9 +114,15 @@ AnswersAgree =
     → IsAnswered e node request reply
     → Agrees (e ∷ es) (fed c reply)
 
--- a reply that is no entry refuses, and leaves the list as it was
+-- a participant is asked: no Decide is out
+abbrev pub IsAsking : Coordination → Type 0
+IsAsking c = stage_in c ≡ At.Ask
+
+-- to a Prepare or an Exec a reply that is no entry refuses, and leaves the list as it was
 abbrev pub NoAnswerAgrees : Type 0
-NoAnswerAgrees = (es : List Entry) (c : Coordination) → Agrees es c → Agrees es (fed c Say.NoMemory)
+NoAnswerAgrees =
+    (es : List Entry) (c : Coordination) → IsAsking c → Agrees es c
+    → Agrees es (fed c Say.NoMemory)
 
 -- so does Abandoned, once it is told
 abbrev pub AbandonedAgrees : Type 0
@@ -118,5 +143,5 @@ IssuesAgree =
     (es : List Entry) (e : Entry) (c : Coordination) → IsFresh c.tid es
     → 1 ≤ length (participants_of c.mini)
     → length c.reads ≡ length (participants_of c.mini) → c.done ≡ 0 → c.refused ≡ None
-    → c.told ≡ false
+    → c.told ≡ false → c.decided ≡ 0
     → e.node ≡ None → e.what ≡ Issue c.tid c.mini → Agrees (e ∷ es) c

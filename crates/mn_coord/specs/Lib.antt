@@ -2,3 +2,4 @@ pub mod Coordination
 pub mod Tries
 pub mod Inside
 pub mod Legal
+pub mod Endings

@@ -110,7 +110,7 @@ impl Coordinator {
     ghost use Rattle.mn_coord.specs.declared.step.CoordStep.TheVariants.{Send, Abandon};
     ghost use Rattle.mn_coord.specs.Coordination.{IsSoundCoordination, IsSoundStep, stage_in};
     ghost use Rattle.mn_coord.specs.Coordination.{step_of, after_step, fed};
-    ghost use Rattle.mn_coord.specs.Legal.{Agrees, IsFresh, IsAnswered, MayMake};
+    ghost use Rattle.mn_coord.specs.Legal.{Agrees, IsAsking, IsFresh, IsAnswered, MayMake};
 
     /// The coordinator of the minitransaction under this id, which has a run and a serial from 1 on
     /// and a client from 0 to 20. NoMemory: there was no memory for all that it will need.
@@ -243,8 +243,10 @@ impl Coordinator {
         ensures agrees { (es : List Entry) (e : Entry) (node : NodeNo) (request : Request)
             → Agrees es self.old → step_of self.old ≡ Send node request
             → IsAnswered e node request reply → Agrees (e ∷ es) self.new }
-        ensures no_entry { (reply ≡ NodeReply.NoMemory)
-            → ((es : List Entry) → Agrees es self.old → Agrees es self.new) }
+
+        // NoMemory to a Prepare or an Exec is no entry.
+        ensures no_entry { reply ≡ NodeReply.NoMemory → IsAsking self.old
+            → (es : List Entry) → Agrees es self.old → Agrees es self.new }
     {
         self.take(reply);
     }

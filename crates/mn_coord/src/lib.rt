@@ -4,9 +4,11 @@
 #![tactic(auto)]
 
 mod coordinator;
+mod laws;
 mod stage;
 mod step;
 
 pub use coordinator::Coordinator;
+pub use laws::{done_is_settled, doubt_is_shown, failed_is_given_up};
 pub use stage::Stage;
 pub use step::{CoordStep, Outcome};

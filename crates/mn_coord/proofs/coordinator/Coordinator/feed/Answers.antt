@@ -12,4 +12,4 @@ pub returns-clause-agrees : goal.returns-clause-agrees
 returns-clause-agrees c = λ es e node request a step is. subst (Agrees (e ∷ es)) (sym c.take.ensures) (answers_agree es e c.args.self.now node request c.args.reply a step is)
 
 pub returns-clause-no_entry : goal.returns-clause-no_entry
-returns-clause-no_entry c = λ none es a. subst (Agrees es) (sym (c.take.ensures ∙ ap (fed c.args.self.now) none)) (no_answer_agrees es c.args.self.now a)
+returns-clause-no_entry c = λ none asks es a. subst (Agrees es) (sym (c.take.ensures ∙ ap (fed c.args.self.now) none)) (no_answer_agrees es c.args.self.now asks a)
