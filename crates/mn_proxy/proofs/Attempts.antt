@@ -1,7 +1,7 @@
 -- How a transaction of several steps goes on.
 use Rattle.std.proofs.Common.{◌≡◌, ◌⊎◌, inl, inr, ℕ, zero, suc, ◌+◌, ◌<◌, ◌≤◌, Bool, true, false}
 use Rattle.std.proofs.Common.{◌&&◌, ◌||◌, List, [], ◌∷◌, ◌++◌, map, length, Option, Some, None, refl, subst}
-use Rattle.std.proofs.Common.{sym, ap, ◌∙◌, arith, get_or, slice_get, if◌then◌else◌, Vec, Global}
+use Rattle.std.proofs.Common.{sym, ap, ◌∙◌, arith, get_or, slice_get, if◌then◌else◌, Vec, Global, Contains}
 use Rattle.std.specs.Prelude.{MatchOption, drop, nat_eq, take}
 use Rattle.std.specs.List.{AllByRecursion, list_any}
 use Rattle.std.specs.Option.{is_some, option_map}
@@ -22,14 +22,16 @@ use Rattle.mn_base.specs.declared.reply.Pair.{Pair}
 use Rattle.mn_base.specs.declared.reply.Reply.{Reply}
 use Rattle.mn_base.specs.declared.reply.Reply.TheVariants.{Frozen, Values, Unmet}
 use Rattle.mn_base.proofs.Lists.{all_append}
+use Rattle.mn_mini.specs.declared.item.Item.TheVariants.{Compare}
 use Rattle.mn_mini.specs.Mini.{Mini}
+use Rattle.mn_world.specs.Clients.{is_plan}
 use Rattle.mn_world.specs.Growth.{AreNextSlots}
 use Rattle.mn_page.specs.declared.page.Page.{Page}
 use Rattle.mn_page.specs.declared.entry.CatEntry.{CatEntry}
 use Rattle.mn_page.specs.Forest.{entry_head, heads_in}
 use Rattle.mn_page.specs.Grammar.{IsAddr, IsEntry, IsPage, SpellsPage, height_of}
 use Rattle.mn_page.specs.Overlay.{Held, path_pairs}
-use Rattle.mn_page.specs.Space.{max_slots}
+use Rattle.mn_page.specs.Space.{entry_start, max_slots}
 use Rattle.mn_tree.specs.MoveLaws.{IsStep}
 use Rattle.mn_tree.specs.Moves.{AreAnswered, Move, Comes, Does, LeadsTo, MayCome, comes_in}
 use Rattle.mn_tree.specs.Order.{placed}
@@ -40,8 +42,8 @@ use Rattle.mn_tree.specs.declared.stepped.Stepped.{Stepped}
 use Rattle.mn_tree.specs.declared.stepped.Stepped.TheVariants as steps
 use Rattle.mn_txn.specs.declared.seen.SeenPage.{SeenPage}
 use Rattle.mn_txn.specs.Seen.{seen_as, seen_at}
-use Rattle.mn_txn.specs.Attempt.{Attempt as Tried, IsAttempt}
-use Rattle.mn_txn.specs.AttemptPlan.{DonePlanned, HasTried, MayBeDone, MayBeUnmet, RefusesDone}
+use Rattle.mn_txn.specs.Attempt.{Attempt as Tried, IsAttempt, done_reads, done_writes, unmet_reads}
+use Rattle.mn_txn.specs.AttemptPlan.{DonePlanned, HasTried, IsDonePlan, IsUnmetPlan, MayBeDone, MayBeUnmet, RefusesDone}
 use Rattle.mn_txn.specs.AttemptPlan.{UnmetPlanned}
 use Rattle.mn_txn.specs.Tries.{IsWornPage}
 use Rattle.mn_txn.specs.declared.error.PlanError.TheVariants.{Worn}
@@ -56,7 +58,8 @@ use Rattle.mn_txn.specs.declared.attempt.Tried.{Tried as Told}
 use Rattle.mn_proxy.specs.declared.attempt.Attempt.{Attempt}
 use Rattle.mn_proxy.specs.declared.known.Known.{Known}
 use Rattle.mn_proxy.specs.Attempts.{Asks, ComesIn, DoesSteps, HasCounts, HasUnmet, IsNextStep, IsOnItsWay, IsTold, IsUnderWay, IsUnmet}
-use Rattle.mn_proxy.specs.Attempts.{KeepsSteps, KeepsVersion, was_read}
+use Rattle.mn_proxy.specs.Attempts.{IsPlanWanted, IsReadAt, KeepsSteps, KeepsVersion, SameButFound, was_read}
+use Rattle.mn_proxy.proofs.Compares.{HasRead, done_read, items_plan, of_items, of_reads, reads_plan, unmet_read}
 use Rattle.mn_base.specs.declared.answer.Busy.{Busy}
 use Rattle.mn_proxy.specs.declared.next.Next.{Next}
 use Rattle.mn_proxy.specs.declared.next.Taken.{Taken}
@@ -541,6 +544,10 @@ module _ (nodes : ℕ) (entries : List CatEntry) (all : List Step) (a : Attempt)
       unmet = record { step = n; found = found; reply = refl };
     }
 
+no_length : {X : Type 0} (xs : List X) → length xs ≡ 0 → xs ≡ []
+no_length [] e = refl
+no_length (x ∷ xs) e = absurd cc
+
 -- no counts were read, where no slots are to be taken
 abbrev pub no_counts : ℕ → List ℕ
 no_counts zero = []
@@ -622,11 +629,52 @@ module _ (known : Known) (all : List Step) (a : Attempt) (entry : CatEntry) (r :
           start_is = w.start_is;
         }
 
-    pub does_steps : (mini : Mini) → DonePlanned r p mini
+    does_steps : (mini : Mini) → DonePlanned r p mini
         → DoesSteps entries all a (Values a.found.items) mini
     does_steps mini planned name es admits =
         let m = by_counts name admits counts in
         planned (heads_in entries) _ m.2 es
+
+    -- its counts are those that were read, or it takes no slots
+    its_counts : (kept : List Head) (t : Tried) → MayBeDone kept r p t
+        → t.draft.overlay.fresh ≡ a.overlay.draft.overlay.fresh
+        → (t.counts ≡ a.counts.items) ⊎ (t.slots ≡ [])
+    its_counts kept t may fresh = by may.counts counts
+      where
+        by : ((p.counts.now ≡ t.counts) ⊎ ((p.counts.now ≡ []) × (t.slots ≡ [])))
+            → HasCounts known a p.counts.now p.slots.now
+            → (t.counts ≡ a.counts.items) ⊎ (t.slots ≡ [])
+        by (inl are) (inl has) = inl (sym are ∙ has.0)
+        by (inl are) (inr has) = inr (no_length t.slots (may.long ∙ fresh ∙ has.1))
+        by (inr none) has = inr none.1
+
+    abbrev pub its_done : List ℕ → List Addr → Tried
+    its_done counts slots = record {
+      name = way.name;
+      version = a.version;
+      entry = entry;
+      steps = all;
+      moves = way.moves;
+      draft = a.overlay.draft;
+      reply = Values a.found.items;
+      counts = counts;
+      slots = slots;
+    }
+
+    pub plan_wanted : (mini : Mini) → DonePlanned r p mini → IsDonePlan r p mini
+        → IsPlanWanted known.nodes entries all a (Values a.found.items) mini
+    plan_wanted mini planned made =
+        let m = by_counts way.name way.admits counts in
+        let t = its_done m.0 m.1 in
+        let items = made (heads_in entries) t m.2 in
+        let read = done_read entries a t way.came way.pages way.come.pages refl there (its_counts (heads_in entries) t m.2 refl) in
+        record {
+          does = does_steps mini planned;
+          compares = λ n start bytes has.
+              of_items (HasRead entries a) (done_reads t) (done_writes t) read n start bytes (subst (λ (x : Mini). Contains x.items (Compare n start bytes)) items has);
+          nodes_are = ap (λ (x : Mini). x.nodes) items ∙ told.0;
+          plan = ap (λ (x : Mini). is_plan x.items) items ∙ items_plan (done_reads t) (done_writes t);
+        }
 
 -- the plan of a try whose next step is a Check that is unmet
 module _ (nodes : ℕ) (entries : List CatEntry) (all : List Step) (a : Attempt)
@@ -649,13 +697,39 @@ module _ (nodes : ℕ) (entries : List CatEntry) (all : List Step) (a : Attempt)
       (subst (λ (l : List Step). AreAnswered tree_is a.version a.root no_pages unmet.moves 1 [] l (Unmet (1 + length (take a.done all)) found))
       (sym (split_at all a.done unmet.step unmet.next)) (unmet.ends.answered (drop (a.done + 1) all)))
 
-  pub does_unmet : (mini : Mini) → UnmetPlanned r mini
-      → DoesSteps entries all a (Unmet (a.done + 1) found) mini
-  does_unmet mini planned name es admits =
-      planned (heads_in entries) _
-      (may_be_unmet nodes entries all a name entry (subst IsEntry entry_is unmet.entry) unmet.early admits there
+  abbrev pub its_try : List ℕ → Tried
+  its_try name = record {
+    name = name;
+    version = a.version;
+    entry = entry;
+    steps = all;
+    moves = unmet.moves;
+    draft = a.overlay.draft;
+    reply = Unmet (a.done + 1) found;
+    counts = [];
+    slots = [];
+  }
+
+  its_unmet : (name : List ℕ) → Admits entries (Tx name all) a.version a.root
+      → MayBeUnmet (heads_in entries) r (its_try name)
+  its_unmet name admits =
+      may_be_unmet nodes entries all a name entry (subst IsEntry entry_is unmet.entry) unmet.early admits there
       (subst (λ (e : CatEntry). e.root ≡ a.root) entry_is unmet.admits.root_is) unmet.right unmet.some unmet.many few r told unmet.moves unmet.came unmet.pages unmet.ends.pages unmet.within unmet.ends.leads
-      (a.done + 1) found answers) es
+      (a.done + 1) found answers
+
+  pub unmet_wanted : (mini : Mini) → UnmetPlanned r mini → IsUnmetPlan r mini
+      → IsPlanWanted nodes entries all a (Unmet (a.done + 1) found) mini
+  unmet_wanted mini planned made =
+      let t = its_try unmet.name in
+      let items = made (heads_in entries) t (its_unmet unmet.name unmet.admits) in
+      let read = unmet_read entries a t unmet.came unmet.pages unmet.ends.pages refl there in
+      record {
+        does = λ name es admits. planned (heads_in entries) (its_try name) (its_unmet name admits) es;
+        compares = λ n start bytes has.
+            of_reads (HasRead entries a) (unmet_reads t) read n start bytes (subst (λ (x : Mini). Contains x.items (Compare n start bytes)) items has);
+        nodes_are = ap (λ (x : Mini). x.nodes) items ∙ told.0;
+        plan = ap (λ (x : Mini). is_plan x.items) items ∙ reads_plan (unmet_reads t);
+      }
 
 -- Causes
 
@@ -839,11 +913,42 @@ unmet_may nodes entries all a found unmet entry there few r told = (
     same : unmet.admits.entry ≡ entry
     same = let e = sym unmet.admits.there ∙ there in cc
 
--- with other pages and counts at hand the version stays
-pub does_kept : (entries : List CatEntry) (all : List Step) (a b : Attempt) (reply : Reply) (mini : Mini)
-    → KeepsVersion a b → DoesSteps entries all a reply mini → DoesSteps entries all b reply mini
-does_kept entries all a b reply mini keeps does name es admits =
-    does name es (admits_after entries (Tx name all) b a (sym keeps.0, sym keeps.1) admits)
+-- what it has found aside
+pub wanted_kept : (nodes : ℕ) (entries : List CatEntry) (all : List Step) (a b : Attempt) (reply : Reply)
+    (mini : Mini) → SameButFound a b → IsPlanWanted nodes entries all a reply mini
+    → IsPlanWanted nodes entries all b reply mini
+wanted_kept nodes entries all a b reply mini same wanted = record {
+  does = λ name es admits. wanted.does name es (admits_after entries (Tx name all) b a (sym same.0.0, sym same.0.1) admits);
+  compares = λ n start bytes has. on n start bytes (wanted.compares n start bytes has);
+  nodes_are = wanted.nodes_are;
+  plan = wanted.plan;
+}
+  where
+    on : (n : NodeNo) (start : ℕ) (bytes : List ℕ) → IsReadAt entries a n start bytes
+        → IsReadAt entries b n start bytes
+    on n start bytes (inl read) =
+        inl (record {
+          page = read.page;
+          among = subst (λ (v : Vec SeenPage Global). Contains v.items read.page) (sym same.2) read.among;
+          node_is = read.node_is;
+          start_is = read.start_is;
+          bytes_are = read.bytes_are;
+        })
+    on n start bytes (inr (inl read)) =
+        inr (inl (record {
+          entry = read.entry;
+          there = subst (λ (v : VersionNo). slice_get entries v.0 ≡ Some read.entry) (sym same.0.0) read.there;
+          node_is = read.node_is;
+          start_is = ap (λ (v : VersionNo). entry_start v.0) same.0.0 ∙ read.start_is;
+          bytes_are = read.bytes_are;
+        }))
+    on n start bytes (inr (inr read)) =
+        inr (inr (record {
+          count = read.count;
+          there = subst (λ (v : Vec ℕ Global). slice_get v.items n.0 ≡ Some read.count) (sym same.3) read.there;
+          start_is = read.start_is;
+          bytes_are = read.bytes_are;
+        }))
 
 -- what it wants where a page is worn
 pub worn_way : (known : Known) (all : List Step) (a : Attempt) (later : Bool) (node : NodeNo) (start : ℕ)
@@ -882,16 +987,18 @@ pub record RunsSo (before now : Known) (later : Bool) (all : List Step) (a b : A
   pub kept : KeepsKnown before now
   pub cached : ArePages now.cache
   pub stays : KeepsVersion a b
+  pub counts : b.counts ≡ a.counts
   pub same : later ≡ true → b.pages ≡ a.pages
   pub way : IsOnItsWay now all b
 
 pub runs_on : (k1 k2 k3 : Known) (later : Bool) (all : List Step) (a b c : Attempt)
-    → RunsSo k1 k2 later all a b → KeepsKnown k2 k3 → KeepsVersion b c
+    → RunsSo k1 k2 later all a b → KeepsKnown k2 k3 → KeepsVersion b c → c.counts ≡ b.counts
     → (later ≡ true → c.pages ≡ b.pages) → IsOnItsWay k3 all c → RunsSo k1 k3 later all a c
-runs_on k1 k2 k3 later all a b c so kept stays same way = record {
+runs_on k1 k2 k3 later all a b c so kept stays counts same way = record {
   kept = (kept.0 ∙ so.kept.0, kept.1 ∙ so.kept.1, λ are. kept.2 (so.kept.2 are));
   cached = kept.2 so.cached;
   stays = (stays.0 ∙ so.stays.0, stays.1 ∙ so.stays.1);
+  counts = counts ∙ so.counts;
   same = λ l. same l ∙ so.same l;
   way = way;
 }

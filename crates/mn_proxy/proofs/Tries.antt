@@ -358,18 +358,18 @@ gives_up_fault nodes op now try busy t asked fault =
 
 module _ (seens more : List Seen) (op : Op)
     (on : (s : Seen) → Contains seens s → Contains more s) where
-  reached_on : (key : List ℕ) (addr : Addr) (height : Option ℕ) → Reached seens op key addr height
+  pub reached_on : (key : List ℕ) (addr : Addr) (height : Option ℕ) → Reached seens op key addr height
       → Reached more op key addr height
   reached_on key _ _ (by_root seen entries v e has sees named there) =
       Reached.by_root seen entries v e (on seen has) sees named there
   reached_on key _ _ (by_child addr height seen page child above has sees of covers) =
       Reached.by_child addr height seen page child (reached_on key addr height above) (on seen has) sees of covers
 
-  reaches_on : (entries : List CatEntry) (key : List ℕ) (addr : Addr) (height : Option ℕ)
+  pub reaches_on : (entries : List CatEntry) (key : List ℕ) (addr : Addr) (height : Option ℕ)
       → ReachesAddr seens op entries key addr height → ReachesAddr more op entries key addr height
   reaches_on entries key addr height r = (r.0, on r.0 r.1, r.2, reached_on key addr height r.3)
 
-  fault_on : (nodes : ℕ) (busy : Busy) → MeetsFault nodes seens op busy → MeetsFault nodes more op busy
+  pub fault_on : (nodes : ℕ) (busy : Busy) → MeetsFault nodes seens op busy → MeetsFault nodes more op busy
   fault_on nodes (Path addr seq) (inl bad) =
       inl (bad.0, bad.1, bad.2, bad.3, on bad.0 bad.4, reaches_on bad.3 bad.1 addr bad.2 bad.5, bad.6, bad.7)
   fault_on nodes (Path addr seq) (inr (inl off)) =

@@ -26,7 +26,7 @@ use Rattle.mn_proxy.specs.Seen.{SpellsNone}
 use Rattle.mn_proxy.specs.Walks.{IsAbove, height_below, seen_page}
 
 -- one of two fails
-either : (x y : Bool) → (x && y) ≡ false → (x ≡ false) ⊎ (y ≡ false)
+pub either : (x y : Bool) → (x && y) ≡ false → (x ≡ false) ⊎ (y ≡ false)
 either true y h = inr h
 either false y h = inl refl
 

@@ -1,9 +1,10 @@
 -- How a transaction of several steps goes on.
 use Rattle.std.specs.Prelude.{ℕ, ◌≡◌, ◌+◌, ◌<◌, ◌≤◌, ◌⊎◌, Bool, true, false, not, nat_eq, List, []}
 use Rattle.std.specs.Prelude.{◌∷◌, ◌++◌, length, map, take, Option, Some, None, ⊤}
-use Rattle.std.specs.Prelude.{MatchOption, slice_get}
+use Rattle.std.specs.Prelude.{MatchOption, Contains, IsTrue, slice_get}
 use Rattle.std.specs.List.{AllByRecursion, list_any}
 use Rattle.std.specs.Option.{is_some}
+use Rattle.byteorder.specs.Endian.{big_bytes}
 use Rattle.mn_alloc.specs.Plan.{free_slots, new_slots}
 use Rattle.mn_base.specs.Store.{max_versions, step_key}
 use Rattle.mn_base.specs.Tree.{parents_of}
@@ -17,19 +18,22 @@ use Rattle.mn_base.specs.declared.op.Op.TheVariants.{Tx}
 use Rattle.mn_base.specs.declared.op.Step.{Step}
 use Rattle.mn_base.specs.declared.reply.Reply.{Reply}
 use Rattle.mn_base.specs.declared.reply.Reply.TheVariants.{Values}
+use Rattle.mn_mini.specs.declared.item.Item.TheVariants.{Compare}
 use Rattle.mn_mini.specs.Mini.{Mini}
 use Rattle.mn_page.specs.declared.page.Page.{Page}
 use Rattle.mn_page.specs.declared.entry.CatEntry.{CatEntry}
 use Rattle.mn_page.specs.Forest.{heads_in}
-use Rattle.mn_page.specs.Grammar.{IsEntry, SpellsPage, height_of, page_bytes}
+use Rattle.mn_page.specs.Grammar.{IsEntry, SpellsPage, entry_bytes, height_of, page_bytes}
 use Rattle.mn_page.specs.Overlay.{Held}
-use Rattle.mn_page.specs.Space.{max_slots}
+use Rattle.mn_page.specs.Space.{count_size, count_start, entry_start, max_slots, slot_start}
 use Rattle.mn_tree.specs.State.{IsWanted, fits, new_state, stepped, with_page}
 use Rattle.mn_tree.specs.MoveLaws.{IsStep}
 use Rattle.mn_tree.specs.Moves.{Move}
 use Rattle.mn_tree.specs.Tries.{ComeTo, EndsUnmet}
 use Rattle.mn_tree.specs.declared.stepped.Stepped.TheVariants as steps
 use Rattle.mn_world.specs.declared.entry.Entry.{Entry}
+use Rattle.mn_world.specs.Clients.{is_plan}
+use Rattle.mn_world.specs.Places.{catalog_node}
 use Rattle.mn_world.specs.Planned.{IsPlanned}
 use Rattle.mn_txn.specs.Attempt.{Attempt as Tried}
 use Rattle.mn_txn.specs.Tries.{IsWornPage}
@@ -171,6 +175,49 @@ DoesSteps entries all a reply mini =
     (name : List ℕ) (es : List Entry) → Admits entries (Tx name all) a.version a.root
     → IsPlanned es (heads_in entries) (Tx name all) mini reply
 
+-- the try read the page there with these bytes
+pub record IsPageRead (a : Attempt) (n : NodeNo) (start : ℕ) (bytes : List ℕ) : Type 0 where
+  pub page : SeenPage
+  pub among : Contains a.pages.items page
+  pub node_is : page.addr.node ≡ n
+  pub start_is : slot_start page.addr.slot ≡ start
+  pub bytes_are : page.bytes ≡ bytes
+
+-- its catalog has the version's entry there
+pub record IsEntryRead (entries : List CatEntry) (a : Attempt) (n : NodeNo) (start : ℕ)
+    (bytes : List ℕ) : Type 0 where
+  pub entry : CatEntry
+  pub there : slice_get entries a.version.0 ≡ Some entry
+  pub node_is : catalog_node ≡ n
+  pub start_is : entry_start a.version.0 ≡ start
+  pub bytes_are : entry_bytes entry ≡ bytes
+
+-- it read the node's count there
+pub record IsCountRead (a : Attempt) (n : NodeNo) (start : ℕ) (bytes : List ℕ) : Type 0 where
+  pub count : ℕ
+  pub there : slice_get a.counts.items n.0 ≡ Some count
+  pub start_is : count_start ≡ start
+  pub bytes_are : big_bytes count_size count ≡ bytes
+
+-- the try went by these bytes
+abbrev pub IsReadAt : List CatEntry → Attempt → NodeNo → ℕ → List ℕ → Type 0
+IsReadAt entries a n start bytes =
+    IsPageRead a n start bytes ⊎ IsEntryRead entries a n start bytes ⊎ IsCountRead a n start bytes
+
+-- so it did by all that the plan compares
+abbrev pub ComparesRead : List CatEntry → Attempt → Mini → Type 0
+ComparesRead entries a mini =
+    (n : NodeNo) (start : ℕ) (bytes : List ℕ) → Contains mini.items (Compare n start bytes)
+    → IsReadAt entries a n start bytes
+
+-- the plan that it wants: over all nodes, of compares and writes alone
+pub record IsPlanWanted (nodes : ℕ) (entries : List CatEntry) (all : List Step) (a : Attempt)
+    (reply : Reply) (mini : Mini) : Type 0 where
+  pub does : DoesSteps entries all a reply mini
+  pub compares : ComparesRead entries a mini
+  pub nodes_are : mini.nodes ≡ nodes
+  pub plan : IsTrue (is_plan mini.items)
+
 -- the answer of a later try: there are too few slots, or there are enough and a page is worn
 abbrev pub IsAnsweredAs : ℕ → List CatEntry → List Step → Attempt → Answer → Type 0
 IsAnsweredAs nodes entries all a (answer.Full need free) = IsShort a need free
@@ -187,7 +234,8 @@ WantsBy nodes entries later all a (Next.Page addr peek) =
 WantsBy nodes entries later all a (Next.Count node peek) =
     (a.done ≡ length all) × (1 ≤ a.overlay.draft.overlay.fresh)
     × (node.0 ≡ length a.counts.items) × (node.0 < nodes) × (peek ≡ not later)
-WantsBy nodes entries later all a (Next.Plan mini reply) = DoesSteps entries all a reply mini
+WantsBy nodes entries later all a (Next.Plan mini reply) =
+    IsPlanWanted nodes entries all a reply mini
 WantsBy nodes entries later all a (Next.Answers answer) =
     (later ≡ true) × HasAll nodes all a × IsAnsweredAs nodes entries all a answer
 WantsBy nodes entries later all a (Next.Fails (Some cause)) =

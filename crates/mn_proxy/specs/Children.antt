@@ -139,6 +139,9 @@ pub record IsWanted (nodes : ℕ) (entries : List CatEntry) (op : Op) (c : Child
   pub page : c.page ≡ Some root
   pub planned : DoesChild entries op mini
   pub plan : IsPlanFor nodes entries op root (next_slot c.counts.items) mini
+  -- the count of the slot's node is among those that were read
+  pub counted : length c.counts.items ≡ nodes
+  pub node : (next_slot c.counts.items).node.0 < nodes
 
 -- there is no slot left, or what is to be written is worn: the answer of a later try
 abbrev pub IsAnsweredAs : List CatEntry → Op → Child → Answer → Type 0
@@ -153,7 +156,7 @@ abbrev pub EndsBy : ℕ → List CatEntry → Bool → Op → Child → Next →
 EndsBy nodes entries later op c (Next.Plan mini reply) =
     (reply ≡ Made) × IsWanted nodes entries op c mini
 EndsBy nodes entries later op c (Next.Answers answer) =
-    (later ≡ true) × IsAnsweredAs entries op c answer
+    (later ≡ true) × (length c.counts.items ≡ nodes) × IsAnsweredAs entries op c answer
 EndsBy nodes entries later op c (Next.Fails None) = ⊤
 EndsBy nodes entries later op c next = ⊥
 

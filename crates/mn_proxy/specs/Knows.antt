@@ -1,5 +1,5 @@
 -- What a proxy keeps from one operation to the next.
-use Rattle.std.specs.Prelude.{ℕ, ◌≡◌, ◌≤◌, Bool, true, false, List, Option, Some, None}
+use Rattle.std.specs.Prelude.{ℕ, ◌≡◌, ◌≤◌, ◌⊎◌, Bool, true, false, List, Option, Some, None}
 use Rattle.std.specs.Option.{is_some, option_map_or}
 use Rattle.std.specs.List.{AllByRecursion}
 use Rattle.mn_base.specs.Store.{refusal}
@@ -11,12 +11,16 @@ use Rattle.mn_page.specs.declared.entry.CatEntry.{CatEntry}
 use Rattle.mn_page.specs.Forest.{heads_in}
 use Rattle.mn_page.specs.Grammar.{IsPage, height_of}
 use Rattle.mn_proxy.specs.declared.known.Known.{Known}
-use Rattle.mn_proxy.specs.Catalogs.{SpellsNoVersions, SpellsVersions}
+use Rattle.mn_proxy.specs.Catalogs.{SpellsNoVersions, SpellsVersions, TellsVersions}
 
 -- by these bytes the catalog is now kept, or none is
 abbrev pub LearnsFrom : List ℕ → Option (List CatEntry) → Bool → Type 0
 LearnsFrom bytes None learnt = (learnt ≡ false) × SpellsNoVersions bytes
 LearnsFrom bytes (Some entries) learnt = (learnt ≡ true) × SpellsVersions bytes entries
+
+-- by these bytes the catalog is now kept, or none is; or the older one stays
+abbrev pub LearnsOrKeeps : List ℕ → Option (List CatEntry) → Option (List CatEntry) → Type 0
+LearnsOrKeeps bytes before after = (after ≡ before) ⊎ TellsVersions bytes after
 
 -- an operation has to read the catalog first: each but a transaction that the kept one admits
 abbrev pub lacks_catalog : Option (List CatEntry) → Op → Bool

@@ -1,3 +1,4 @@
+pub mod Agrees
 pub mod Among
 pub mod Answers
 pub mod Attempts
@@ -6,10 +7,15 @@ pub mod Catalogs
 pub mod Children
 pub mod Counts
 pub mod Descents
+pub mod Issues
+pub mod Jobs
 pub mod Knows
 pub mod Places
 pub mod Refusals
 pub mod Scans
 pub mod Seen
+pub mod State
 pub mod Tries
+pub mod Turns
 pub mod Walks
+pub mod Works

@@ -169,6 +169,7 @@ impl Attempt {
         requires way { IsOnItsWay known.old steps.now self.old }
         ensures kept { KeepsKnown known.old known.new }
         ensures stays { KeepsVersion self.old self.new }
+        ensures counts { self.new.counts ≡ self.old.counts }
         ensures way { IfOk result (StaysOnItsWay known.new steps.now self.new) }
         ensures later { later ≡ true → self.new.pages ≡ self.old.pages }
         ensures wants { IfOk result (WantsNext known.new later steps.now self.new) }
@@ -197,6 +198,7 @@ impl Attempt {
         requires more { self.old.done < length steps.now }
         ensures kept { KeepsKnown known.old known.new }
         ensures stays { KeepsVersion self.old self.new }
+        ensures counts { self.new.counts ≡ self.old.counts }
         ensures later { later ≡ true → self.new.pages ≡ self.old.pages }
         ensures ran { IfOk result (RunsOn known.new later steps.now self.new) }
         ensures further { IfOk result (RunsFurther self.old self.new) }
@@ -225,6 +227,7 @@ impl Attempt {
         requires more { self.old.done < length steps.now }
         ensures kept { KeepsKnown known.old known.new }
         ensures stays { KeepsVersion self.old self.new }
+        ensures counts { self.new.counts ≡ self.old.counts }
         ensures later { later ≡ true → self.new.pages ≡ self.old.pages }
         ensures moved { IfOk result (MovesOn known.new later steps.now self.new) }
         ensures further { IfOk result (MovesFurther self.old self.new) }
@@ -263,6 +266,7 @@ impl Attempt {
         requires asks { Asks steps.now self.old addr }
         ensures kept { KeepsKnown known.old known.new }
         ensures stays { KeepsVersion self.old self.new }
+        ensures counts { self.new.counts ≡ self.old.counts }
         ensures later { later ≡ true → self.new.pages ≡ self.old.pages }
         ensures moved { IfOk result (MovesOn known.new later steps.now self.new) }
         ensures further { IfOk result (MovesFurther self.old self.new) }
@@ -294,6 +298,7 @@ impl Attempt {
         requires node { addr.node.0 < known.old.nodes }
         ensures kept { KeepsKnown known.old known.new }
         ensures stays { KeepsVersion self.old self.new }
+        ensures counts { self.new.counts ≡ self.old.counts }
         ensures moved { IfOk result (MovesOn known.new false steps.now self.new) }
         ensures further { IfOk result (MovesFurther self.old self.new) }
     {
@@ -343,6 +348,7 @@ impl Attempt {
         requires node { addr.node.0 < known.old.nodes }
         ensures kept { KeepsKnown known.old known.new }
         ensures stays { KeepsVersion self.old self.new }
+        ensures counts { self.new.counts ≡ self.old.counts }
         ensures taken { IfOk result (TakesRead known.old later steps.now self.old addr bytes
             self.new) }
         ensures way { IfOk result (CameBySteps known.new steps.now self.new) }
@@ -431,6 +437,7 @@ impl Attempt {
         requires way { IsOnItsWay known.now steps.now self.old }
         requires done { self.old.done ≡ length steps.now }
         ensures stays { KeepsVersion self.old self.new }
+        ensures counts { self.new.counts ≡ self.old.counts }
         ensures pages { self.new.pages ≡ self.old.pages }
         ensures way { IfOk result (StaysOnItsWay known.now steps.now self.new) }
         ensures wants { IfOk result (WantsNext known.now later steps.now self.new) }
@@ -478,6 +485,7 @@ impl Attempt {
             self.old.counts.items }
         requires counts { HasCounts known.now self.old counts.now slots.now }
         ensures stays { KeepsVersion self.old self.new }
+        ensures counts { self.new.counts ≡ self.old.counts }
         ensures pages { self.new.pages ≡ self.old.pages }
         ensures way { IfOk result (StaysOnItsWay known.now steps.now self.new) }
         ensures wants { IfOk result (WantsNext known.now later steps.now self.new) }

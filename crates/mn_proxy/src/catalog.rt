@@ -2,6 +2,7 @@ ghost use Rattle.std.specs.Prelude.{◌≡◌, IfErr, IfOk, OnOk};
 ghost use Rattle.std.specs.Option.{option_map};
 ghost use Rattle.mn_base.specs.Store.{listed, listing_of, refusal};
 ghost use Rattle.mn_base.specs.Tree.{parents_of};
+ghost use Rattle.mn_catalog.specs.Grammar.{IsCatalog};
 ghost use Rattle.mn_page.specs.Forest.{entry_head, heads_in};
 ghost use Rattle.mn_proxy.specs.Catalogs.{HasParentsBelow, RefusesTree, TellsVersions};
 ghost use Rattle.mn_proxy.specs.Catalogs.{found, name_in, parent_in, root_named};
@@ -107,6 +108,13 @@ fn listed_of(alloc: Global, entries: &[CatEntry], entry: &CatEntry) -> Result<Ve
 }
 
 impl Kept {
+    /// Its entries are those of a catalog. It does nothing.
+    pub fn has_entries(&self)
+        ensures { IsCatalog self.now }
+    {
+        self.catalog.entries();
+    }
+
     /// Its catalog.
     pub fn catalog(&self) -> &Catalog
         ensures { result.now ≡ self.now }

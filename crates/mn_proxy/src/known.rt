@@ -1,4 +1,4 @@
-ghost use Rattle.std.specs.Prelude.{◌≡◌, IfOk, IfSome, nat_lt};
+ghost use Rattle.std.specs.Prelude.{◌≡◌, IfOk, IfSome, OnErr, nat_lt};
 ghost use Rattle.std.specs.Option.{option_map};
 ghost use Rattle.mn_page.specs.Grammar.{IsPage};
 ghost use Rattle.mn_proxy.specs.Catalogs.{found, refusal_by, root_by};
@@ -24,6 +24,7 @@ impl Known {
     /// Keeps the catalog that the bytes spell, in place of the older one. Whether they spell one.
     pub fn learn(&mut self, alloc: Global, bytes: &[u8]) -> Result<bool, NoMemory>
         ensures learnt { IfOk result (LearnsFrom bytes.now self.new.catalog) }
+        ensures left { OnErr result (self.new.catalog ≡ self.old.catalog) }
         ensures kept { (self.new.nodes ≡ self.old.nodes) × (self.new.cache ≡ self.old.cache) }
     {
         self.catalog = kept_of(alloc, bytes)?;

@@ -8,9 +8,17 @@ mod catalog;
 mod causes;
 mod child;
 mod counts;
+mod errand;
 mod get;
+mod grammar;
 mod known;
 mod next;
 mod place;
+mod proxy;
 mod scan;
 mod seen;
+mod step;
+mod work;
+
+pub use proxy::Proxy;
+pub use step::ProxyStep;

@@ -2,10 +2,11 @@ use Rattle.std.proofs.Common.{◌≡◌, ◌∙◌, false, sym, ap, subst, lengt
 use Rattle.mn_tree.specs.State.{TreeState}
 use Rattle.mn_txn.specs.declared.seen.SeenPage.{SeenPage}
 use Rattle.mn_txn.specs.AttemptPlan.{RefusesDone}
+use Rattle.mn_base.specs.declared.reply.Reply.TheVariants.{Values}
 use Rattle.mn_proxy.specs.declared.next.Next.TheVariants as next
-use Rattle.mn_proxy.specs.Attempts.{IsOnItsWay, IsTold, IsUnderWay, StaysOnItsWay, WantsBy, WantsNext, DoesSteps, was_read}
+use Rattle.mn_proxy.specs.Attempts.{IsOnItsWay, IsTold, IsUnderWay, StaysOnItsWay, WantsBy, WantsNext, IsPlanWanted, was_read}
 use Rattle.mn_proxy.specs.Answers.{worn_by}
-use Rattle.mn_proxy.proofs.Attempts.{at_index, does_kept, does_steps, done_may, of_kept, slots_are_many, to_kept, with_overlay, worn_page, worn_wants, worn_way}
+use Rattle.mn_proxy.proofs.Attempts.{at_index, done_may, of_kept, plan_wanted, slots_are_many, to_kept, wanted_kept, with_overlay, worn_page, worn_wants, worn_way}
 use Rattle.mn_proxy.proofs.attempt.Attempt.end.Goals as goal
 
 pub place-requires : goal.place-requires
@@ -26,9 +27,10 @@ returns-in-Ok-clause-wants c =
     let unread = subst (λ (l : List SeenPage). was_read l c.args.slots.now ≡ false) c.as_slice.ensures.value (sym c.was_read.ensures ∙ c.if-was_read.false) in
     let told = subst (λ (s : TreeState). IsTold c.args.known.now.nodes c.index-entries-from.result c.args.steps.now (with_overlay c.args.self.now s) c.tried.result) c.in_ok-pages.ensures.unchanged c.tried.ensures in
     to_kept c.args.known.now.catalog c.in-Some.kept (λ es. WantsBy c.args.known.now.nodes es c.args.later c.args.steps.now c.values.new.self (next.Plan c.in-Ok.mini c.values.result)) c.in-Some.is
-    (does_kept c.in-Some.kept c.args.steps.now c.args.self.now c.values.new.self c.values.result c.in-Ok.mini c.values.ensures.same.0
-    (subst (λ reply. DoesSteps c.in-Some.kept c.args.steps.now c.args.self.now reply c.in-Ok.mini) (sym c.values.ensures.reply)
-    (does_steps c.args.known.now c.args.steps.now c.args.self.now c.index-entries-from.result c.tried.result _ c.moves_are_met.ensures c.new_slots_are_next.ensures c.requires.done c.requires.nodes.1 c.requires.slots c.requires.counts unread c.in_ok-pages.ensures.placed c.in-Some.kept way there told c.in-Ok.mini c.in-Ok.ensures.planned)))
+    (wanted_kept c.args.known.now.nodes c.in-Some.kept c.args.steps.now (with_overlay c.args.self.now c.place.new.self) c.values.new.self c.values.result c.in-Ok.mini c.values.ensures.same
+    (subst (λ reply. IsPlanWanted c.args.known.now.nodes c.in-Some.kept c.args.steps.now (with_overlay c.args.self.now c.place.new.self) reply c.in-Ok.mini) (sym c.values.ensures.reply)
+    (subst (λ (s : TreeState). IsPlanWanted c.args.known.now.nodes c.in-Some.kept c.args.steps.now (with_overlay c.args.self.now s) (Values c.args.self.now.found.items) c.in-Ok.mini) (sym c.in_ok-pages.ensures.unchanged)
+    (plan_wanted c.args.known.now c.args.steps.now c.args.self.now c.index-entries-from.result c.tried.result _ c.moves_are_met.ensures c.new_slots_are_next.ensures c.requires.done c.requires.nodes.1 c.requires.slots c.requires.counts unread c.in_ok-pages.ensures.placed c.in-Some.kept way there told c.in-Ok.mini c.in-Ok.ensures.planned c.in-Ok.ensures.made))))
 
 pub returns-in-Err-Worn-clause-way : goal.returns-in-Err-Worn-clause-way
 returns-in-Err-Worn-clause-way c =

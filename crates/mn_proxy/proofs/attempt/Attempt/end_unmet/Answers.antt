@@ -1,7 +1,7 @@
 use Rattle.std.proofs.Common.{◌+◌, ◌∙◌, sym, ap, arith, Some}
 use Rattle.std.proofs.lemmas.Option.{slice_get_within}
 use Rattle.mn_proxy.specs.Attempts.{IsUnmet, WantsBy}
-use Rattle.mn_proxy.proofs.Attempts.{at_index, does_unmet, of_kept, to_kept, unmet_may}
+use Rattle.mn_proxy.proofs.Attempts.{at_index, of_kept, to_kept, unmet_may, unmet_wanted}
 use Rattle.mn_proxy.specs.declared.next.Next.TheVariants as next
 use Rattle.mn_base.specs.declared.reply.Reply.TheVariants.{Unmet}
 use Rattle.mn_proxy.proofs.attempt.Attempt.end_unmet.Goals as goal
@@ -33,6 +33,6 @@ pub returns : goal.returns
 returns c =
     let unmet = of_kept c.args.known.now.catalog c.in-Some.kept (λ es. IsUnmet c.args.known.now.nodes es c.args.steps.now c.args.self.now c.args.found) c.in-Some.is c.requires.unmet in
     to_kept c.args.known.now.catalog c.in-Some.kept (λ es. WantsBy c.args.known.now.nodes es c.args.later c.args.steps.now c.args.self.now (next.Plan c.in_ok-mini.mini (Unmet (c.args.self.now.done + 1) c.args.found))) c.in-Some.is
-    (does_unmet c.args.known.now.nodes c.in-Some.kept c.args.steps.now c.args.self.now c.args.found unmet c.index-entries-from.result
+    (unmet_wanted c.args.known.now.nodes c.in-Some.kept c.args.steps.now c.args.self.now c.args.found unmet c.index-entries-from.result
     (unmet.admits.there ∙ ap Some (sym (at_index c.in-Some.kept c.args.self.now.version.0 unmet.admits.entry c.index-entries-from.result _ unmet.admits.there (rw c.catalog.ensures at (rw c.entries.ensures.entries at (rw c.from.ensures at c.index-entries-from.is))))))
-    c.requires.nodes c.tried.result c.tried.ensures c.in_ok-mini.mini c.in_ok-mini.ensures.planned)
+    c.requires.nodes c.tried.result c.tried.ensures c.in_ok-mini.mini c.in_ok-mini.ensures.planned c.in_ok-mini.ensures.made)

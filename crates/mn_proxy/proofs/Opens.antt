@@ -1,0 +1,208 @@
+-- An operation whose try goes on, with one more entry in its client's own list.
+use Rattle.std.proofs.Common.{◌≡◌, ℕ, zero, suc, Bool, true, false, not, ◌&&◌, ◌||◌, ◌+◌, List, [], ◌∷◌, ◌++◌, length}
+use Rattle.std.proofs.Common.{Option, Some, None, refl, subst, sym, ap, ◌∙◌, arith}
+use Rattle.std.specs.Prelude.{MatchOption, nat_eq, ⊤}
+use Rattle.std.specs.List.{AllByRecursion, list_all, list_any}
+use Rattle.std.proofs.lemmas.List.Folds.{list_any-append}
+use Rattle.mn_base.specs.declared.op.Op.{Op}
+use Rattle.mn_base.specs.declared.op.Op.TheVariants.{Tx, Snapshot, Branch, Scan, Versions}
+use Rattle.mn_page.specs.declared.entry.CatEntry.{CatEntry}
+use Rattle.mn_world.specs.declared.entry.Entry.{Entry}
+use Rattle.mn_world.specs.Answers.{MayBeKept, asks_catalog, asks_for_catalog, is_refusal}
+use Rattle.mn_base.specs.declared.ids.Tid.{Tid}
+use Rattle.mn_world.specs.declared.entry.What.TheVariants.{Issue}
+use Rattle.mn_world.specs.Calls.{Call, call_in, calls_of, issue_in, issues_of, since_begin}
+use Rattle.mn_world.specs.Causes.{recovers_nothing}
+use Rattle.mn_world.specs.Shown.{IsCatalogRead, Seen, seen_at, seen_in}
+use Rattle.mn_world.proofs.Reading.Sees.{seen_in-cons}
+use Rattle.mn_proxy.specs.declared.errand.Errand.{Errand}
+use Rattle.mn_proxy.specs.declared.known.Known.{Known}
+use Rattle.mn_proxy.specs.declared.work.Job.{Job}
+use Rattle.mn_proxy.specs.declared.work.Job.TheVariants as at
+use Rattle.mn_proxy.specs.declared.work.Work.{Work}
+use Rattle.mn_mini.specs.Mini.{Mini}
+use Rattle.mn_proxy.specs.Agrees.{AreOverNodes, IsKept, IsOpen, IsOwn, IsUnderWay, JobAsked}
+use Rattle.mn_proxy.specs.Issues.{AreFresh, tid_of}
+use Rattle.mn_proxy.specs.State.{ProxyState}
+use Rattle.mn_proxy.specs.Jobs.{ReadsShowBy, ScanShown}
+use Rattle.mn_proxy.specs.Tries.{HasAsked, IsTrying}
+use Rattle.mn_proxy.proofs.Issues.{GoesOn, catalog_stays, fresh_issued, issues_kept, issues_on, no_issue}
+use Rattle.mn_proxy.proofs.Issues.{one_issue, own_recovers_none, since_on, under_way_on}
+use Rattle.mn_proxy.proofs.ScansShow.{leafless_on, scan_on, silent_no_leaf}
+use Rattle.mn_proxy.proofs.Tries.{NoPeek, trying_on}
+
+-- the entry reads nothing, refuses nothing, and peeks only where it may
+pub record IsQuiet (failed : ℕ) (e : Entry) : Type 0 where
+  pub goes : GoesOn e.what
+  pub reads : seen_at e ≡ []
+  pub good : list_all (λ c. not (is_refusal c.reply)) (call_in e.node e.what) ≡ true
+  pub peeks : NoPeek failed e
+
+-- the same operation is under way
+pub under_way_still : (e : Entry) (es : List Entry) (op : Op) → GoesOn e.what → IsUnderWay es op
+    → IsUnderWay (e ∷ es) op
+under_way_still e es op goes (number, of) = (number, under_way_on e es goes ∙ of)
+
+-- Catalogs that were asked for
+
+or_more : (a b : Bool) → b ≡ true → (a || b) ≡ true
+or_more true b is = refl
+or_more false b is = is
+
+pub asks_on : (e : Entry) (try : List Entry) → asks_for_catalog try ≡ true
+    → asks_for_catalog (e ∷ try) ≡ true
+asks_on e try asked =
+    list_any-append asks (call_in e.node e.what) (calls_of try)
+    ∙ or_more (list_any asks (call_in e.node e.what)) (list_any asks (calls_of try)) asked
+  where
+    asks : Call → Bool
+    asks c = nat_eq c.node.0 0 && asks_catalog c.request
+
+kept_on : (op : Op) (taken try : List Entry) (e : Entry) → MayBeKept op taken try
+    → MayBeKept op taken (e ∷ try)
+kept_on (Tx name steps) taken try e kept = tt
+kept_on (Snapshot name child) taken try e kept = asks_on e try kept
+kept_on (Branch name child) taken try e kept = asks_on e try kept
+kept_on (Scan name low high limit) [] try e kept = asks_on e try kept
+kept_on (Scan name low high limit) (x ∷ xs) try e kept = tt
+kept_on Versions taken try e kept = asks_on e try kept
+
+pub asked_on : (failed : ℕ) (op : Op) (before try : List Entry) (e : Entry)
+    → HasAsked failed op before try → HasAsked failed op before (e ∷ try)
+asked_on zero op before try e asked = kept_on op before try e asked
+asked_on (suc n) op before try e asked = asks_on e try asked
+
+pub job_asked_on : (nodes failed : ℕ) (op : Op) (now later before try : List Entry) (e : Entry)
+    (catalog : Option (List CatEntry)) (job : Job)
+    → (AreOverNodes nodes failed now → AreOverNodes nodes failed later)
+    → JobAsked nodes failed op now before try catalog job
+    → JobAsked nodes failed op later before (e ∷ try) catalog job
+job_asked_on nodes failed op now later before try e None job over asked = tt
+job_asked_on nodes failed op now later before try e (Some entries) at.Start over asked = tt
+job_asked_on nodes failed op now later before try e (Some entries) (at.Get d) over asked =
+    (asked_on failed op before try e asked.0, over asked.1)
+job_asked_on nodes failed op now later before try e (Some entries) (at.Transaction a) over asked =
+    (asked_on failed op before try e asked.0, over asked.1)
+job_asked_on nodes failed op now later before try e (Some entries) (at.Child c) over asked =
+    (asked_on failed op before try e asked.0, over asked.1)
+job_asked_on nodes failed op now later before try e (Some entries) (at.Scan s) over asked =
+    (asked_on failed op before try e asked.0, over asked.1)
+
+-- What a job has read
+
+pub seen_quiet : (e : Entry) (es : List Entry) → seen_at e ≡ [] → seen_in (e ∷ es) ≡ seen_in es
+seen_quiet e es none = seen_in-cons e es ∙ ap (λ (l : List Seen). l ++ seen_in es) none
+
+pub scan_shown_quiet : (e : Entry) (now : List Entry) (spoiled : Bool) (op : Op) (job : Job)
+    → seen_at e ≡ [] → ScanShown now spoiled op job → ScanShown (e ∷ now) spoiled op job
+scan_shown_quiet e now spoiled (Tx name steps) job none shown = tt
+scan_shown_quiet e now spoiled (Snapshot name child) job none shown = tt
+scan_shown_quiet e now spoiled (Branch name child) job none shown = tt
+scan_shown_quiet e now spoiled (Scan name low high limit) at.Start none shown = λ whole.
+    subst (AllByRecursion (λ (seen : Seen). IsCatalogRead seen → ⊥)) (sym (seen_quiet e now none)) (shown whole)
+scan_shown_quiet e now spoiled (Scan name low high limit) (at.Scan s) none shown =
+    scan_on e now name low high limit s shown
+scan_shown_quiet e now spoiled (Scan name low high limit) (at.Get d) none shown = tt
+scan_shown_quiet e now spoiled (Scan name low high limit) (at.Transaction a) none shown = tt
+scan_shown_quiet e now spoiled (Scan name low high limit) (at.Child c) none shown = tt
+scan_shown_quiet e now spoiled Versions job none shown = tt
+
+-- The try
+
+-- it goes on, and has read what it had
+pub record GoesOnAs (es : List Entry) (known : Known) (w : Work) (seens : List Seen) : Type 0 where
+  pub is : IsOpen es known w
+  pub seens_are : seen_in is.try ≡ seens
+
+-- a try with one more entry
+pub tried_on : (es : List Entry) (nodes : ℕ) (op : Op) (failed : ℕ) (try : List Entry) (e : Entry)
+    (t : IsTrying nodes op failed (since_begin es) try) → since_begin (e ∷ es) ≡ e ∷ since_begin es
+    → IsTrying nodes op failed (e ∷ since_begin es) (e ∷ try)
+    → (u : IsTrying nodes op failed (since_begin (e ∷ es)) (e ∷ try)) × (u.before ≡ t.before)
+tried_on es nodes op failed try e t since next = (
+  record {
+    before = t.before;
+    split = since ∙ ap (λ (l : List Entry). e ∷ l) t.split;
+    have_failed = t.have_failed;
+    unrefused = next.unrefused;
+    peeks = next.peeks;
+    leaf = next.leaf;
+  },
+  refl,
+)
+
+-- one more entry that is quiet
+pub open_on : (es : List Entry) (known : Known) (w : Work) (e : Entry) (o : IsOpen es known w)
+    → IsQuiet w.failed e
+    → (AreOverNodes known.nodes w.failed (since_begin es)
+    → AreOverNodes known.nodes w.failed (e ∷ since_begin es))
+    → GoesOnAs (e ∷ es) known w (seen_in o.try)
+open_on es known w e o quiet over = record {
+  is = record {
+    of = under_way_still e es w.op quiet.goes o.of;
+    try = e ∷ o.try;
+    trying = tried.0;
+    leafless = leafless_on w.op e o.try (silent_no_leaf e quiet.reads) o.leafless;
+    asked = subst (λ (l : List Entry). JobAsked known.nodes w.failed w.op (since_begin (e ∷ es)) l (e ∷ o.try) known.catalog w.job) (sym tried.1)
+        (subst (λ (l : List Entry). JobAsked known.nodes w.failed w.op l o.trying.before (e ∷ o.try) known.catalog w.job) (sym since) (job_asked_on known.nodes w.failed w.op (since_begin es) (e ∷ since_begin es) o.trying.before o.try e known.catalog w.job over o.asked));
+    shows = (
+      subst (λ (l : List Entry). ScanShown l w.spoiled w.op w.job) (sym since)
+          (scan_shown_quiet e (since_begin es) w.spoiled w.op w.job quiet.reads o.shows.0),
+      subst (λ (l : List Seen). ReadsShowBy known w.failed l w.op w.job) (sym (seen_quiet e o.try quiet.reads)) o.shows.1,
+    );
+  };
+  seens_are = seen_quiet e o.try quiet.reads;
+}
+  where
+    since : since_begin (e ∷ es) ≡ e ∷ since_begin es
+    since = since_on e es quiet.goes
+
+    next : IsTrying known.nodes w.op w.failed (e ∷ since_begin es) (e ∷ o.try)
+    next = trying_on known.nodes w.op w.failed (since_begin es) o.try e o.trying o.leafless quiet.good quiet.peeks
+
+    tried : (u : IsTrying known.nodes w.op w.failed (since_begin (e ∷ es)) (e ∷ o.try)) × (u.before ≡ o.trying.before)
+    tried = tried_on es known.nodes w.op w.failed o.try e o.trying since next
+
+-- What is so whatever is under way
+
+kept_still : (e : Entry) (es : List Entry) (catalog : Option (List CatEntry))
+    → MatchOption catalog ⊤ (IsKept es) → MatchOption catalog ⊤ (IsKept (e ∷ es))
+kept_still e es None kept = tt
+kept_still e es (Some entries) kept = (catalog_stays e es entries kept.0, kept.1)
+
+-- it stays with an entry that issues nothing
+pub own_on : (e : Entry) (es : List Entry) (p : ProxyState) → IsOwn es p → issue_in e.what ≡ []
+    → AreFresh p.client p.run (e ∷ es) → recovers_nothing (e ∷ es) ≡ true → IsOwn (e ∷ es) p
+own_on e es p own none fresh recovers = record {
+  issues = issues_kept p.client p.run p.known.nodes e es own.issues none;
+  issued = ap length (no_issue e es none) ∙ own.issued;
+  fresh = fresh;
+  catalog = kept_still e es p.known.catalog own.catalog;
+  recovers = recovers;
+}
+
+-- one more serial is given out, and this goes on
+abbrev pub with_serial : ProxyState → Option (Work × Errand) → ProxyState
+with_serial p work = record {
+  client = p.client;
+  run = p.run;
+  issued = p.issued + 1;
+  known = p.known;
+  work = work;
+}
+
+one_longer : (n m : ℕ) → n ≡ m → suc n ≡ m + 1
+one_longer n m is = omega arith
+
+-- and with an issue that has the next serial, once that is given out
+pub own_issued : (e : Entry) (es : List Entry) (p : ProxyState) (work : Option (Work × Errand))
+    (tid : Tid) (mini : Mini) → IsOwn es p → e.node ≡ None → e.what ≡ Issue tid mini
+    → tid ≡ tid_of p.client p.run (length (issues_of es) + 1) → mini.nodes ≡ p.known.nodes
+    → IsOwn (e ∷ es) (with_serial p work)
+own_issued e es p work tid mini own node is next nodes = record {
+  issues = issues_on p.client p.run p.known.nodes e es tid mini own.issues is next nodes;
+  issued = ap length (one_issue e es tid mini is) ∙ one_longer (length (issues_of es)) p.issued own.issued;
+  fresh = fresh_issued p.client p.run e es tid mini own.fresh node is;
+  catalog = kept_still e es p.known.catalog own.catalog;
+  recovers = own_recovers_none e es node own.recovers;
+}

@@ -1,0 +1,276 @@
+-- How a proxy goes on with what a try wants.
+use Rattle.std.proofs.Common.{◌≡◌, inl, inr, ℕ, zero, suc, Bool, true, List, Option}
+use Rattle.std.proofs.Common.{Some, None, refl, subst, sym, ap, ◌∙◌, length, []}
+use Rattle.std.specs.Prelude.{MatchOption, ⊤}
+use Rattle.mn_base.specs.declared.answer.Answer.{Answer}
+use Rattle.mn_base.specs.declared.answer.Answer.TheVariants as answers
+use Rattle.mn_base.specs.declared.answer.Busy.{Busy}
+use Rattle.mn_base.specs.declared.ids.Addr.{Addr}
+use Rattle.mn_base.specs.declared.ids.NodeNo.{NodeNo}
+use Rattle.mn_base.specs.declared.op.Op.{Op}
+use Rattle.mn_base.specs.declared.op.Op.TheVariants.{Tx, Snapshot, Branch, Scan, Versions}
+use Rattle.mn_base.specs.declared.reply.Reply.{Reply}
+use Rattle.mn_mini.specs.Mini.{Mini}
+use Rattle.mn_page.specs.declared.entry.CatEntry.{CatEntry}
+use Rattle.mn_txn.specs.Tries.{FreeSlotsAreLeft, TriesShowCauses, WornPagesShow}
+use Rattle.mn_world.specs.declared.entry.Entry.{Entry}
+use Rattle.mn_world.specs.Answers.{IsSettled, IsWhole, LastTry, MeetsFault, ShowsAnswer}
+use Rattle.mn_world.specs.Answers.{FreeSlots}
+use Rattle.mn_world.specs.Calls.{issues_of, since_begin}
+use Rattle.mn_world.specs.Places.{Place, count_place}
+use Rattle.mn_world.specs.Shown.{ScanShows, Seen, seen_in}
+use Rattle.mn_proxy.specs.declared.errand.Purpose.TheVariants as by
+use Rattle.mn_proxy.specs.declared.known.Known.{Known}
+use Rattle.mn_proxy.specs.declared.next.Next.{Next}
+use Rattle.mn_proxy.specs.declared.step.ProxyStep.TheVariants as steps
+use Rattle.mn_proxy.specs.declared.work.Job.{Job}
+use Rattle.mn_proxy.specs.declared.work.Job.TheVariants as at
+use Rattle.mn_proxy.specs.declared.work.Work.{Work}
+use Rattle.mn_proxy.specs.Agrees.{AreComparesShown, AreOverNodes, IsAtRest, IsKept, IsOwn, IsPlaceFor, MayPeekFor}
+use Rattle.mn_proxy.specs.Agrees.{MayStep}
+use Rattle.mn_proxy.specs.Issues.{AreClosed, AreIssues}
+use Rattle.mn_proxy.specs.Knows.{KeepsKnown}
+use Rattle.mn_proxy.specs.State.{ProxyState}
+use Rattle.mn_proxy.specs.Tries.{HasAsked, IsTrying}
+use Rattle.mn_proxy.specs.declared.proxy.Turn.TheVariants as turns
+use Rattle.mn_proxy.specs.Turns.{FailedNow, HasFailed, KeepsSelf, MayIssue, TurnAgrees, with_known}
+use Rattle.mn_proxy.specs.Walks.{FailsBy, IfLater}
+use Rattle.mn_proxy.specs.Works.{AsksCountFor, IsJobOf, KeepsOp, WantsNext, counts_of}
+use Rattle.mn_proxy.proofs.Advancing.{AdvanceTells, AnswerTold, IsNoScan, NextTold, OpenAs, PeeksAs}
+use Rattle.mn_proxy.proofs.Advancing.{advance_tells, open_kept}
+use Rattle.mn_proxy.proofs.Answered.{answered_own, may_answer}
+use Rattle.mn_proxy.proofs.CatalogsShow.{retried_scan_as}
+use Rattle.mn_proxy.proofs.Issues.{closed_are_given_up, closed_are_settled}
+use Rattle.mn_proxy.proofs.Shown.{AnswerShown, not_later}
+use Rattle.mn_proxy.proofs.Tries.{last_try}
+use Rattle.mn_proxy.proofs.Works.{plan_asked, retried_after_wants}
+
+-- What is kept
+
+-- what is so of a proxy stays as long as the catalog does
+pub own_known : (es : List Entry) (p : ProxyState) (known : Known) → KeepsKnown p.known known
+    → IsOwn es p → IsOwn es (with_known p known)
+own_known es p known keeps own = record {
+  issues = subst (λ (n : ℕ). AreIssues p.client p.run n (issues_of es)) (sym keeps.0) own.issues;
+  issued = own.issued;
+  fresh = own.fresh;
+  catalog = subst (λ (c : Option (List CatEntry)). MatchOption c ⊤ (IsKept es)) (sym keeps.1) own.catalog;
+  recovers = own.recovers;
+}
+
+-- a kept catalog is one that the list shows
+kept_shown : (es : List Entry) (o : Option (List CatEntry)) (P : List CatEntry → Type 0)
+    → MatchOption o ⊤ (IsKept es) → MatchOption o ⊥ P
+    → (entries : List CatEntry) × IsKept es entries × P entries
+kept_shown es None P kept told = absurd told
+kept_shown es (Some entries) P kept told = (entries, kept, told)
+
+-- Counts
+
+-- the count of the next node is the one that the job asks for
+pub counts_place : (op : Op) (job : Job) (node : NodeNo) (place : Place) → AsksCountFor op job
+    → node.0 ≡ length (counts_of job) → place ≡ count_place node → IsPlaceFor job by.Count place
+counts_place op job node place asks next is = by_op op job asks next
+  where
+    there : (counts : List ℕ) → node.0 ≡ length counts → place ≡ count_place (record { 0 = length counts })
+    there counts e = is ∙ ap (λ (n : ℕ). count_place (record { 0 = n })) e
+
+    by_op : (o : Op) (j : Job) → AsksCountFor o j → node.0 ≡ length (counts_of j) → IsPlaceFor j by.Count place
+    by_op (Tx name steps) (at.Transaction a) asks e = there a.counts.items e
+    by_op o (at.Child c) asks e = there c.counts.items e
+    by_op o j asks e = absurd asks
+
+-- Causes and answers
+
+-- a cause that is told is the one that was met
+cause_told : (nodes failed : ℕ) (seens : List Seen) (op : Op) (cause : Option Busy) (busy : Busy)
+    → IfLater failed (cause ≡ Some busy) → FailsBy nodes failed seens op cause
+    → IfLater failed (MeetsFault nodes seens op busy)
+cause_told nodes zero seens op cause busy is fails = tt
+cause_told nodes (suc n) seens op cause busy is fails =
+    subst (λ (c : Option Busy). MatchOption c ⊤ (λ b. IfLater (suc n) (MeetsFault nodes seens op b))) is fails
+
+-- the tries of an operation that is no scan are all of its entries
+whole_is : (op : Op) → IsNoScan op → (taken : List Entry) → IsWhole op taken → taken ≡ []
+whole_is (Tx name steps) scanless taken whole = whole
+whole_is (Snapshot name child) scanless taken whole = whole
+whole_is (Branch name child) scanless taken whole = whole
+whole_is (Scan name low high limit) scanless taken whole = absurd scanless
+whole_is Versions scanless taken whole = whole
+
+-- an answer of a later try is shown by that try, the last one
+last_shown : (es : List Entry) (nodes failed : ℕ) (op : Op) (try : List Entry)
+    (t : IsTrying nodes op failed (since_begin es) try) → HasAsked failed op t.before try
+    → AreOverNodes nodes failed (since_begin es) → IsNoScan op → AreClosed (since_begin es)
+    → (answer : Answer) → AnswerShown nodes failed (seen_in try) op answer
+    → ShowsAnswer es (since_begin es) op answer × IsSettled (since_begin es) answer
+last_shown es nodes zero op try t asked over scanless closed (answers.Full need free) shown =
+    absurd (not_later shown.0)
+last_shown es nodes zero op try t asked over scanless closed (answers.Worn node start) shown =
+    absurd (not_later shown.0)
+last_shown es nodes (suc n) op try t asked over scanless closed (answers.Full need free) shown =
+    let last = last_try nodes op n (since_begin es) try t asked (whole_is op scanless) in (
+      (
+        closed_are_given_up (since_begin es) closed,
+        try,
+        subst (λ (k : ℕ). LastTry k op (since_begin es) try) (sym over) last,
+        shown.1,
+        shown.2,
+        subst (λ (k : ℕ). FreeSlots k (seen_in try) free) (sym over) shown.3,
+      ),
+      closed_are_settled (since_begin es) closed,
+    )
+last_shown es nodes (suc n) op try t asked over scanless closed (answers.Worn node start) shown =
+    let last = last_try nodes op n (since_begin es) try t asked (whole_is op scanless) in (
+      (
+        closed_are_given_up (since_begin es) closed,
+        try,
+        shown.1.0,
+        subst (λ (k : ℕ). LastTry k op (since_begin es) try) (sym over) last,
+        shown.1.1,
+        shown.1.2,
+        shown.1.3,
+        shown.1.4,
+      ),
+      closed_are_settled (since_begin es) closed,
+    )
+last_shown es nodes failed op try t asked over scanless closed answer shown = absurd shown
+
+-- What a try wants
+
+module _ (es : List Entry) (p : ProxyState) (known : Known) (before after : Work) (next : Next)
+    (keeps : KeepsKnown p.known known) (is : IsJobOf p.known before) (op : KeepsOp before after)
+    (wants : WantsNext known before after next) (causes : TriesShowCauses) (worns : WornPagesShow)
+    (left : FreeSlotsAreLeft) (own : IsOwn es p) (rest : IsAtRest es p.known before) where
+  now : List Entry
+  now = since_begin es
+
+  stays : OpenAs es known before rest.0.try
+  stays = open_kept es p.known known before keeps.0 keeps.1 rest.0
+
+  tells : AdvanceTells es known after before stays.is.trying.before stays.is.try next
+  tells = advance_tells es p.known known before after next keeps is op wants causes worns left stays.is
+
+  -- where its try goes on, the client is at rest
+  rest_of : OpenAs es known after stays.is.try → IsAtRest es known after
+  rest_of open_still = (open_still.is, rest.1)
+
+  told_of : (n : Next)
+      → MatchOption known.catalog ⊥
+      (λ entries. NextTold known.nodes after.failed (since_begin es) (seen_in stays.is.try) after.op entries n
+      × PeeksAs after.failed after.job n)
+      → (entries : List CatEntry) × IsKept es entries
+      × (NextTold known.nodes after.failed (since_begin es) (seen_in stays.is.try) after.op entries n
+      × PeeksAs after.failed after.job n)
+  told_of n told =
+      kept_shown es known.catalog
+      (λ entries. NextTold known.nodes after.failed (since_begin es) (seen_in stays.is.try) after.op entries n
+      × PeeksAs after.failed after.job n) (own_known es p known keeps own).catalog told
+
+  pub asks_catalog : next ≡ Next.Catalog → IsAtRest es known after
+  asks_catalog e =
+      rest_of (subst (λ (n : Next). AdvanceTells es known after before stays.is.trying.before stays.is.try n) e tells).open_still
+
+  pub asks_page : (addr : Addr) (peek : Bool) → next ≡ Next.Page addr peek
+      → IsAtRest es known after × (peek ≡ true → (after.failed ≡ 0) × MayPeekFor after.job (by.Page addr))
+  asks_page addr peek e =
+      let t = subst (λ (n : Next). AdvanceTells es known after before stays.is.trying.before stays.is.try n) e tells in
+      (rest_of t.open_still, (told_of (Next.Page addr peek) t.told).2.1)
+
+  pub asks_count : (node : NodeNo) (peek : Bool) → next ≡ Next.Count node peek
+      → IsAtRest es known after × (peek ≡ true → (after.failed ≡ 0) × MayPeekFor after.job by.Count)
+  asks_count node peek e =
+      let t = subst (λ (n : Next). AdvanceTells es known after before stays.is.trying.before stays.is.try n) e tells in
+      (rest_of t.open_still, (told_of (Next.Count node peek) t.told).2.1)
+
+  pub makes_plan : (mini : Mini) (reply : Reply) → next ≡ Next.Plan mini reply
+      → MayIssue es known after (by.Plan reply) mini
+  unfolding rest_of
+  makes_plan mini reply e =
+      let t = subst (λ (n : Next). AdvanceTells es known after before stays.is.trying.before stays.is.try n) e tells in
+      let told = told_of (Next.Plan mini reply) t.told in
+      let begun = plan_asked p.known known before after keeps is op mini reply
+      (subst (λ (n : Next). WantsNext known before after n) e wants) in
+      record {
+        rest = rest_of t.open_still;
+        made = (told.2.0.3, (told.0, told.1.0, told.2.0.0 es), begun.1);
+        shown = subst (λ (l : List Entry). IfLater after.failed (AreComparesShown (seen_in l) mini)) (sym t.open_still.try_is) told.2.0.1;
+      }
+
+  pub has_failed : (cause : Option Busy) → next ≡ Next.Fails cause → HasFailed es known after cause
+  has_failed cause e =
+      let t = subst (λ (n : Next). AdvanceTells es known after before stays.is.trying.before stays.is.try n) e tells in
+      let told = told_of (Next.Fails cause) t.told in
+      let same = retried_after_wants p.known known before after cause keeps is (subst (λ (n : Next). WantsNext known before after n) e wants) in
+      record {
+        of = t.open_still.is.of;
+        closed = rest.1;
+        over = subst (λ (n : ℕ). AreOverNodes known.nodes n (since_begin es)) (sym op.1) t.asked.1;
+        failed_by = λ busy told_cause.
+            subst (λ (n : ℕ). FailedNow known.nodes n after.op (since_begin es) busy) (sym op.1)
+            (subst (λ (o : Op). FailedNow known.nodes before.failed o (since_begin es) busy) (sym op.0)
+            (inr (stays.is.try, stays.is.trying, t.asked.0, by_cause busy told_cause told.2.0)));
+        scan = retried_scan_as p.known (since_begin es) before after is op.0 same.0 same.1 rest.0.shows.0;
+      }
+    where
+      by_cause : (busy : Busy) → IfLater after.failed (cause ≡ Some busy)
+          → FailsBy known.nodes after.failed (seen_in stays.is.try) after.op cause
+          → IfLater before.failed (MeetsFault known.nodes (seen_in stays.is.try) before.op busy)
+      by_cause busy cause_is fails =
+          cause_told known.nodes before.failed (seen_in stays.is.try) before.op cause busy
+          (subst (λ (n : ℕ). IfLater n (cause ≡ Some busy)) op.1 cause_is)
+          (subst (λ (n : ℕ). FailsBy known.nodes n (seen_in stays.is.try) before.op cause) op.1
+          (subst (λ (o : Op). FailsBy known.nodes after.failed (seen_in stays.is.try) o cause) op.0 fails))
+
+  pub answers_so : (answer : Answer) → next ≡ Next.Answers answer
+      → MayStep es (with_known p known) (steps.Done answer)
+  answers_so answer e =
+      let t = subst (λ (n : Next). AdvanceTells es known after before stays.is.trying.before stays.is.try n) e tells in
+      by t.asked (told_of (Next.Answers answer) t.told).2.0
+    where
+      by : HasAsked before.failed before.op stays.is.trying.before stays.is.try
+          × AreOverNodes known.nodes before.failed (since_begin es)
+          → AnswerTold known.nodes after.failed (since_begin es) (seen_in stays.is.try) after.op answer
+          → MayStep es (with_known p known) (steps.Done answer)
+      by asked (inl (shown, scanless)) =
+          let it = last_shown es known.nodes before.failed before.op stays.is.try stays.is.trying asked.0 asked.1
+          (subst IsNoScan op.0 scanless) rest.1 answer
+          (subst (λ (n : ℕ). AnswerShown known.nodes n (seen_in stays.is.try) before.op answer) op.1
+          (subst (λ (o : Op). AnswerShown known.nodes after.failed (seen_in stays.is.try) o answer) op.0 shown)) in
+          may_answer es (with_known p known) before.op answer rest.0.of it.1 it.0
+      by asked (inr (reply, is, shows)) =
+          subst (λ (a : Answer). MayStep es (with_known p known) (steps.Done a)) (sym is)
+          (may_answer es (with_known p known) before.op (answers.Replied reply) rest.0.of (closed_are_settled (since_begin es) rest.1)
+          (inr (inr (closed_are_given_up (since_begin es) rest.1, subst (λ (o : Op). ScanShows (seen_in (since_begin es)) o reply) op.0 shows))))
+
+-- The proxy itself
+
+-- it keeps what it wanted by
+pub own_self : (es : List Entry) (p q : ProxyState) → q ≡ with_known p q.known
+    → KeepsKnown p.known q.known → IsOwn es p → IsOwn es q
+own_self es p q same keeps own = subst (IsOwn es) (sym same) (own_known es p q.known keeps own)
+
+pub kept_self : (p q n : ProxyState) → q ≡ with_known p q.known → KeepsKnown p.known q.known
+    → KeepsSelf q n × (n.work ≡ None) → KeepsSelf p n × (n.work ≡ None)
+kept_self p q n same keeps k = (
+  (
+    k.0.0 ∙ ap (λ (s : ProxyState). s.client) same,
+    k.0.1 ∙ ap (λ (s : ProxyState). s.run) same,
+    k.0.2 ∙ keeps.0,
+  ),
+  k.1,
+)
+
+-- with an answer it is idle, and keeps what it wanted by
+pub answers_self : (es : List Entry) (p q : ProxyState) (answer : Answer) → q ≡ with_known p q.known
+    → KeepsKnown p.known q.known → IsOwn es p → MayStep es (with_known p q.known) (steps.Done answer)
+    → TurnAgrees es q (turns.Ends answer)
+answers_self es p q answer same keeps own may = (
+  subst (λ (s : ProxyState). MayStep es s (steps.Done answer)) (sym same) may,
+  λ new enters. answered_own es new q answer (own_self es p q same keeps own) enters,
+)
+
+pub kept_idle : (p q : ProxyState) → q ≡ with_known p q.known → KeepsKnown p.known q.known
+    → p.work ≡ None → KeepsSelf p q × (q.work ≡ None)
+kept_idle p q same keeps idle =
+    kept_self p q q same keeps ((refl, refl, refl), ap (λ (s : ProxyState). s.work) same ∙ idle)

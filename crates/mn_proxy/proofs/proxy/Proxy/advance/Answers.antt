@@ -1,0 +1,162 @@
+-- What a try wants goes on by the callee's own clause.
+use Rattle.std.proofs.Common.{◌<◌, ℕ, sym, ap, subst, Result, Ok, Err}
+use Rattle.std.specs.Prelude.{OnErr}
+use Rattle.mn_proxy.specs.declared.next.Next.{Next}
+use Rattle.mn_proxy.specs.Places.{place_of}
+use Rattle.mn_proxy.specs.Turns.{TurnAgrees}
+use Rattle.mn_proxy.specs.Works.{WantsNext}
+use Rattle.mn_world.specs.Places.{Place as Range}
+use Rattle.mn_proxy.proofs.Wanting.{answers_so, asks_catalog, asks_count, asks_page, counts_place}
+use Rattle.mn_proxy.proofs.Wanting.{answers_self, has_failed, kept_idle, kept_self, makes_plan, own_self}
+use Rattle.mn_proxy.proofs.Works.{catalog_asked, count_asked, page_asked, plan_asked, retry_after_wants, starts_right}
+use Rattle.mn_proxy.proofs.proxy.Proxy.advance.Goals as goal
+
+any_err : {T E : Type 0} (r : Result T E) (A : Type 0) → A → OnErr r A
+any_err (Ok x) A a = tt
+any_err (Err e) A a = a
+
+pub returns-in_err-want-clause-left : goal.returns-in_err-want-clause-left
+returns-in_err-want-clause-left c = λ es own.
+    any_err c.from_residual.result _ (own_self es c.args.self.now c.want.new.self c.want.ensures.same c.want.ensures.kept own)
+
+-- The catalog
+
+pub read_catalog-requires-clause-job : goal.read_catalog-requires-clause-job
+read_catalog-requires-clause-job c =
+    starts_right c.want.new.self.known c.want.new.work
+    (catalog_asked c.args.self.now.known c.want.new.self.known c.args.work c.want.new.work c.want.ensures.kept c.requires.job c.want.ensures.op
+    (subst (λ (n : Next). WantsNext c.want.new.self.known c.args.work c.want.new.work n) c.in-Catalog.is c.in_ok-want.ensures.wants)).1
+
+pub read_catalog-requires-clause-startable : goal.read_catalog-requires-clause-startable
+read_catalog-requires-clause-startable c =
+    (catalog_asked c.args.self.now.known c.want.new.self.known c.args.work c.want.new.work c.want.ensures.kept c.requires.job c.want.ensures.op
+    (subst (λ (n : Next). WantsNext c.want.new.self.known c.args.work c.want.new.work n) c.in-Catalog.is c.in_ok-want.ensures.wants)).1
+
+pub returns-in-Catalog-clause-turns : goal.returns-in-Catalog-clause-turns
+returns-in-Catalog-clause-turns c = λ es own rest.
+    c.read_catalog.ensures.turns es (own_self es c.args.self.now c.want.new.self c.want.ensures.same c.want.ensures.kept own)
+    (asks_catalog es c.args.self.now c.want.new.self.known c.args.work c.want.new.work c.in_ok-want.field-0 c.want.ensures.kept c.requires.job c.want.ensures.op c.in_ok-want.ensures.wants c.causes_are_shown.ensures.causes c.causes_are_shown.ensures.worns c.causes_are_shown.ensures.left own rest c.in-Catalog.is)
+
+pub returns-in-Catalog-clause-left : goal.returns-in-Catalog-clause-left
+returns-in-Catalog-clause-left c = λ es own.
+    c.read_catalog.ensures.left es (own_self es c.args.self.now c.want.new.self c.want.ensures.same c.want.ensures.kept own)
+
+pub returns-in-Catalog-clause-kept : goal.returns-in-Catalog-clause-kept
+returns-in-Catalog-clause-kept c =
+    kept_self c.args.self.now c.want.new.self c.read_catalog.new.self c.want.ensures.same c.want.ensures.kept c.read_catalog.ensures.kept
+
+-- A page
+
+pub read-requires-clause-waits : goal.read-requires-clause-waits
+read-requires-clause-waits c =
+    let t = page_asked c.args.self.now.known c.want.new.self.known c.args.work c.want.new.work c.want.ensures.kept c.requires.job c.want.ensures.op c.in-Page.addr c.in-Page.peek
+    (subst (λ (n : Next). WantsNext c.want.new.self.known c.args.work c.want.new.work n) c.in-Page.is c.in_ok-want.ensures.wants) in
+    (t.0, (t.1, t.2))
+
+pub read-requires-clause-node : goal.read-requires-clause-node
+read-requires-clause-node c =
+    let t = page_asked c.args.self.now.known c.want.new.self.known c.args.work c.want.new.work c.want.ensures.kept c.requires.job c.want.ensures.op c.in-Page.addr c.in-Page.peek
+    (subst (λ (n : Next). WantsNext c.want.new.self.known c.args.work c.want.new.work n) c.in-Page.is c.in_ok-want.ensures.wants) in
+    subst (λ (k : ℕ). k < c.want.new.self.known.nodes) (sym (ap (λ (r : Range). r.node.0) c.of_page-place.ensures)) t.2
+
+pub returns-in-Page-clause-turns : goal.returns-in-Page-clause-turns
+returns-in-Page-clause-turns c = λ es own rest.
+    let t = asks_page es c.args.self.now c.want.new.self.known c.args.work c.want.new.work c.in_ok-want.field-0 c.want.ensures.kept c.requires.job c.want.ensures.op c.in_ok-want.ensures.wants c.causes_are_shown.ensures.causes c.causes_are_shown.ensures.worns c.causes_are_shown.ensures.left own rest c.in-Page.addr c.in-Page.peek c.in-Page.is in
+    c.read.ensures.turns es (own_self es c.args.self.now c.want.new.self c.want.ensures.same c.want.ensures.kept own) t.0 c.of_page-place.ensures t.1
+
+pub returns-in-Page-clause-left : goal.returns-in-Page-clause-left
+returns-in-Page-clause-left c = λ es own.
+    c.read.ensures.left es (own_self es c.args.self.now c.want.new.self c.want.ensures.same c.want.ensures.kept own)
+
+pub returns-in-Page-clause-kept : goal.returns-in-Page-clause-kept
+returns-in-Page-clause-kept c =
+    kept_self c.args.self.now c.want.new.self c.read.new.self c.want.ensures.same c.want.ensures.kept c.read.ensures.kept
+
+-- A count
+
+pub read-requires-in-Count-clause-waits : goal.read-requires-in-Count-clause-waits
+read-requires-in-Count-clause-waits c =
+    let t = count_asked c.args.self.now.known c.want.new.self.known c.args.work c.want.new.work c.want.ensures.kept c.requires.job c.want.ensures.op c.in-Count.node c.in-Count.peek c.want.ensures.few
+    (subst (λ (n : Next). WantsNext c.want.new.self.known c.args.work c.want.new.work n) c.in-Count.is c.in_ok-want.ensures.wants) in
+    (t.0, (t.1, subst (λ (n : ℕ). n < c.want.new.self.known.nodes) t.3 t.2))
+
+pub read-requires-in-Count-clause-node : goal.read-requires-in-Count-clause-node
+read-requires-in-Count-clause-node c =
+    let t = count_asked c.args.self.now.known c.want.new.self.known c.args.work c.want.new.work c.want.ensures.kept c.requires.job c.want.ensures.op c.in-Count.node c.in-Count.peek c.want.ensures.few
+    (subst (λ (n : Next). WantsNext c.want.new.self.known c.args.work c.want.new.work n) c.in-Count.is c.in_ok-want.ensures.wants) in
+    subst (λ (k : ℕ). k < c.want.new.self.known.nodes) (sym (ap (λ (r : Range). r.node.0) c.of_count.ensures)) t.2
+
+pub returns-in-Count-clause-turns : goal.returns-in-Count-clause-turns
+returns-in-Count-clause-turns c = λ es own rest.
+    let asked = asks_count es c.args.self.now c.want.new.self.known c.args.work c.want.new.work c.in_ok-want.field-0 c.want.ensures.kept c.requires.job c.want.ensures.op c.in_ok-want.ensures.wants c.causes_are_shown.ensures.causes c.causes_are_shown.ensures.worns c.causes_are_shown.ensures.left own rest c.in-Count.node c.in-Count.peek c.in-Count.is in
+    let t = count_asked c.args.self.now.known c.want.new.self.known c.args.work c.want.new.work c.want.ensures.kept c.requires.job c.want.ensures.op c.in-Count.node c.in-Count.peek c.want.ensures.few
+    (subst (λ (n : Next). WantsNext c.want.new.self.known c.args.work c.want.new.work n) c.in-Count.is c.in_ok-want.ensures.wants) in
+    c.read-in-Count.ensures.turns es (own_self es c.args.self.now c.want.new.self c.want.ensures.same c.want.ensures.kept own) asked.0
+    (counts_place c.want.new.work.op c.want.new.work.job c.in-Count.node (place_of c.of_count.result) t.1 t.3 c.of_count.ensures)
+    asked.1
+
+pub returns-in-Count-clause-left : goal.returns-in-Count-clause-left
+returns-in-Count-clause-left c = λ es own.
+    c.read-in-Count.ensures.left es (own_self es c.args.self.now c.want.new.self c.want.ensures.same c.want.ensures.kept own)
+
+pub returns-in-Count-clause-kept : goal.returns-in-Count-clause-kept
+returns-in-Count-clause-kept c =
+    kept_self c.args.self.now c.want.new.self c.read-in-Count.new.self c.want.ensures.same c.want.ensures.kept c.read-in-Count.ensures.kept
+
+-- A plan
+
+pub issue-requires-clause-waits : goal.issue-requires-clause-waits
+issue-requires-clause-waits c = (
+  retry_after_wants c.args.self.now.known c.want.new.self.known c.args.work c.want.new.work c.in_ok-want.field-0 c.want.ensures.kept c.requires.job c.want.ensures.op c.in_ok-want.ensures.wants,
+  (plan_asked c.args.self.now.known c.want.new.self.known c.args.work c.want.new.work c.want.ensures.kept c.requires.job c.want.ensures.op c.in-Plan.mini c.in-Plan.reply
+      (subst (λ (n : Next). WantsNext c.want.new.self.known c.args.work c.want.new.work n) c.in-Plan.is c.in_ok-want.ensures.wants)).2,
+)
+
+pub issue-requires-clause-nodes : goal.issue-requires-clause-nodes
+issue-requires-clause-nodes c =
+    (plan_asked c.args.self.now.known c.want.new.self.known c.args.work c.want.new.work c.want.ensures.kept c.requires.job c.want.ensures.op c.in-Plan.mini c.in-Plan.reply
+    (subst (λ (n : Next). WantsNext c.want.new.self.known c.args.work c.want.new.work n) c.in-Plan.is c.in_ok-want.ensures.wants)).0
+
+pub returns-in-Plan-clause-turns : goal.returns-in-Plan-clause-turns
+returns-in-Plan-clause-turns c = λ es own rest.
+    c.issue.ensures.turns es (own_self es c.args.self.now c.want.new.self c.want.ensures.same c.want.ensures.kept own)
+    (makes_plan es c.args.self.now c.want.new.self.known c.args.work c.want.new.work c.in_ok-want.field-0 c.want.ensures.kept c.requires.job c.want.ensures.op c.in_ok-want.ensures.wants c.causes_are_shown.ensures.causes c.causes_are_shown.ensures.worns c.causes_are_shown.ensures.left own rest c.in-Plan.mini c.in-Plan.reply c.in-Plan.is)
+
+pub returns-in-Plan-clause-left : goal.returns-in-Plan-clause-left
+returns-in-Plan-clause-left c = λ es own.
+    c.issue.ensures.left es (own_self es c.args.self.now c.want.new.self c.want.ensures.same c.want.ensures.kept own)
+
+pub returns-in-Plan-clause-kept : goal.returns-in-Plan-clause-kept
+returns-in-Plan-clause-kept c =
+    kept_self c.args.self.now c.want.new.self c.issue.new.self c.want.ensures.same c.want.ensures.kept c.issue.ensures.kept
+
+-- A try that failed
+
+pub fail-requires-clause-startable : goal.fail-requires-clause-startable
+fail-requires-clause-startable c =
+    retry_after_wants c.args.self.now.known c.want.new.self.known c.args.work c.want.new.work c.in_ok-want.field-0 c.want.ensures.kept c.requires.job c.want.ensures.op c.in_ok-want.ensures.wants
+
+pub returns-in-Fails-clause-turns : goal.returns-in-Fails-clause-turns
+returns-in-Fails-clause-turns c = λ es own rest.
+    c.fail.ensures.turns es (own_self es c.args.self.now c.want.new.self c.want.ensures.same c.want.ensures.kept own)
+    (has_failed es c.args.self.now c.want.new.self.known c.args.work c.want.new.work c.in_ok-want.field-0 c.want.ensures.kept c.requires.job c.want.ensures.op c.in_ok-want.ensures.wants c.causes_are_shown.ensures.causes c.causes_are_shown.ensures.worns c.causes_are_shown.ensures.left own rest c.in-Fails.cause c.in-Fails.is)
+
+pub returns-in-Fails-clause-left : goal.returns-in-Fails-clause-left
+returns-in-Fails-clause-left c = λ es own.
+    c.fail.ensures.left es (own_self es c.args.self.now c.want.new.self c.want.ensures.same c.want.ensures.kept own)
+
+pub returns-in-Fails-clause-kept : goal.returns-in-Fails-clause-kept
+returns-in-Fails-clause-kept c =
+    kept_self c.args.self.now c.want.new.self c.fail.new.self c.want.ensures.same c.want.ensures.kept c.fail.ensures.kept
+
+-- An answer
+
+pub returns-in-Answers-clause-turns : goal.returns-in-Answers-clause-turns
+returns-in-Answers-clause-turns c = λ es own rest.
+    subst (TurnAgrees es c.want.new.self) (sym c.ends.ensures)
+    (answers_self es c.args.self.now c.want.new.self c.in-Answers.answer c.want.ensures.same c.want.ensures.kept own
+    (answers_so es c.args.self.now c.want.new.self.known c.args.work c.want.new.work c.in_ok-want.field-0 c.want.ensures.kept c.requires.job c.want.ensures.op c.in_ok-want.ensures.wants c.causes_are_shown.ensures.causes c.causes_are_shown.ensures.worns c.causes_are_shown.ensures.left own rest c.in-Answers.answer c.in-Answers.is))
+
+pub returns-in-Answers-clause-kept : goal.returns-in-Answers-clause-kept
+returns-in-Answers-clause-kept c =
+    kept_idle c.args.self.now c.want.new.self c.want.ensures.same c.want.ensures.kept c.requires.idle

@@ -1,0 +1,140 @@
+use Rattle.std.proofs.Common.{◌≡◌, ℕ, List, Option, refl, subst, sym, ap, ◌∙◌}
+use Rattle.mn_coord.specs.Coordination.{Coordination, IsSoundStep as IsSoundCoordStep, after_step}
+use Rattle.mn_coord.specs.Legal.{MayMake}
+use Rattle.mn_coord.specs.declared.step.CoordStep.TheVariants.{Send, Abandon}
+use Rattle.mn_mini.specs.Mini.{Mini}
+use Rattle.mn_mini.specs.declared.reply.NodeReply.{NodeReply}
+use Rattle.mn_proxy.specs.declared.errand.Errand.TheVariants as out
+use Rattle.mn_proxy.specs.declared.proxy.Turn.TheVariants as turns
+use Rattle.mn_proxy.specs.declared.step.ProxyStep.{ProxyStep}
+use Rattle.mn_proxy.specs.Agrees.{MayWant}
+use Rattle.mn_proxy.specs.Turns.{IsCommitted, IsRefused, IsSoundTurn, TurnAgrees}
+use Rattle.mn_proxy.proofs.Answered.{may_want}
+use Rattle.mn_proxy.proofs.Coordinating.{abandons_soundly, fails_over, mini_abandons, mini_commits, mini_doubts, mini_fails, mini_sends, on_err, sends_soundly, waits_startable}
+use Rattle.mn_proxy.proofs.proxy.Proxy.coordinate.Goals as goal
+use Rattle.mn_proxy.proofs.proxy.Proxy.coordinate.Goals.{in-Send, in-Abandon}
+
+pub next-requires : goal.next-requires
+next-requires c = record { idle = c.requires.quiet }
+
+pub commit-requires-clause-idle : goal.commit-requires-clause-idle
+commit-requires-clause-idle c = c.requires.idle
+
+pub commit-requires-clause-few : goal.commit-requires-clause-few
+commit-requires-clause-few c = c.requires.few
+
+pub commit-requires-clause-waits : goal.commit-requires-clause-waits
+commit-requires-clause-waits c = c.requires.waits
+
+pub returns-in-Committed-clause-sound : goal.returns-in-Committed-clause-sound
+returns-in-Committed-clause-sound c = c.commit.ensures.sound
+
+pub returns-in-Committed-clause-turns : goal.returns-in-Committed-clause-turns
+returns-in-Committed-clause-turns c = λ es own m.
+    let p = c.args.self.now in
+    c.commit.ensures.turns es own
+    (subst (λ (r : List (List (List ℕ))). IsCommitted es p.known c.args.work r c.args.purpose)
+    (sym (c.into_outcome.ensures.reads ∙ ap (λ (x : Coordination). x.reads) (c.next.ensures.after ∙ ap (after_step c.args.coordinator) c.in-Committed.is)))
+    (mini_commits es p c.args.work c.args.tid c.args.coordinator c.args.purpose own m (sym c.next.ensures.step ∙ c.in-Committed.is)))
+
+pub returns-in-Committed-clause-want : goal.returns-in-Committed-clause-want
+returns-in-Committed-clause-want c = λ es own m.
+    let p = c.args.self.now in
+    c.commit.ensures.want es own
+    (subst (λ (r : List (List (List ℕ))). IsCommitted es p.known c.args.work r c.args.purpose)
+    (sym (c.into_outcome.ensures.reads ∙ ap (λ (x : Coordination). x.reads) (c.next.ensures.after ∙ ap (after_step c.args.coordinator) c.in-Committed.is)))
+    (mini_commits es p c.args.work c.args.tid c.args.coordinator c.args.purpose own m (sym c.next.ensures.step ∙ c.in-Committed.is)))
+
+pub returns-in-Committed-clause-left : goal.returns-in-Committed-clause-left
+returns-in-Committed-clause-left c = λ es own m.
+    let p = c.args.self.now in
+    c.commit.ensures.left es own
+    (subst (λ (r : List (List (List ℕ))). IsCommitted es p.known c.args.work r c.args.purpose)
+    (sym (c.into_outcome.ensures.reads ∙ ap (λ (x : Coordination). x.reads) (c.next.ensures.after ∙ ap (after_step c.args.coordinator) c.in-Committed.is)))
+    (mini_commits es p c.args.work c.args.tid c.args.coordinator c.args.purpose own m (sym c.next.ensures.step ∙ c.in-Committed.is)))
+
+pub returns-in-Committed-clause-kept : goal.returns-in-Committed-clause-kept
+returns-in-Committed-clause-kept c = c.commit.ensures.kept
+
+pub refuse-requires-clause-idle : goal.refuse-requires-clause-idle
+refuse-requires-clause-idle c = c.requires.idle
+
+pub refuse-requires-clause-few : goal.refuse-requires-clause-few
+refuse-requires-clause-few c = c.requires.few
+
+pub refuse-requires-clause-startable : goal.refuse-requires-clause-startable
+refuse-requires-clause-startable c = waits_startable c.args.self.now.known c.args.work c.args.purpose c.requires.waits
+
+pub returns-in-Failed-clause-sound : goal.returns-in-Failed-clause-sound
+returns-in-Failed-clause-sound c = c.refuse.ensures.sound
+
+pub returns-in-Failed-clause-turns : goal.returns-in-Failed-clause-turns
+returns-in-Failed-clause-turns c = λ es own m.
+    let p = c.args.self.now in
+    let same = c.next.ensures.after ∙ ap (after_step c.args.coordinator) c.in-Failed.is in
+    c.refuse.ensures.turns es own
+    (subst (λ (r : Option NodeReply). IsRefused es p.known c.args.work c.args.tid c.into_outcome-in-Failed.result.mini c.in-Failed.node r)
+    (sym (c.into_outcome-in-Failed.ensures.reply ∙ ap (λ (x : Coordination). x.refused) same))
+    (subst (λ (x : Mini). IsRefused es p.known c.args.work c.args.tid x c.in-Failed.node c.args.coordinator.refused)
+    (sym (c.into_outcome-in-Failed.ensures.mini ∙ ap (λ (x : Coordination). x.mini) same))
+    (mini_fails es p c.args.work c.args.tid c.args.coordinator c.args.purpose c.in-Failed.node own m c.requires.waits (sym c.next.ensures.step ∙ c.in-Failed.is))))
+
+pub returns-in-Failed-clause-want : goal.returns-in-Failed-clause-want
+returns-in-Failed-clause-want c = λ es own m.
+    on_err c.refuse.result (MayWant es) (may_want es c.args.work.op
+    (fails_over es c.args.self.now c.args.work c.args.tid c.args.coordinator c.args.purpose c.in-Failed.node own m (sym c.next.ensures.step ∙ c.in-Failed.is)))
+
+pub returns-in-Failed-clause-left : goal.returns-in-Failed-clause-left
+returns-in-Failed-clause-left c = λ es own m. c.refuse.ensures.left es own
+
+pub returns-in-Failed-clause-kept : goal.returns-in-Failed-clause-kept
+returns-in-Failed-clause-kept c = c.refuse.ensures.kept
+
+pub returns-in-Doubt-clause-sound : goal.returns-in-Doubt-clause-sound
+returns-in-Doubt-clause-sound c = subst (IsSoundTurn c.args.self.now.known) (sym c.ends.ensures) tt
+
+pub returns-in-Doubt-clause-turns : goal.returns-in-Doubt-clause-turns
+returns-in-Doubt-clause-turns c = λ es own m.
+    subst (TurnAgrees es c.args.self.now) (sym c.ends.ensures)
+    (mini_doubts es c.args.self.now c.args.work c.args.tid c.args.coordinator c.args.purpose c.in-Doubt.node own m (sym c.next.ensures.step ∙ c.in-Doubt.is))
+
+pub returns-in-Doubt-clause-kept : goal.returns-in-Doubt-clause-kept
+returns-in-Doubt-clause-kept c = ((refl, refl, refl), c.requires.idle)
+
+pub returns-clause-sound : goal.returns-clause-sound
+returns-clause-sound c =
+    let known = c.args.self.now.known in
+    subst (IsSoundTurn known) (sym c.goes.ensures) (elim c.match-next.branch [
+      | in-Send w ↦
+          subst (λ (s : ProxyStep). IsSoundTurn known (turns.Goes s c.args.work (out.Mini c.args.tid c.next.new.self c.args.purpose))) (sym w.step-is)
+          (sends_soundly known c.args.work c.args.tid c.args.coordinator c.next.new.self c.args.purpose w.in-Send.node w.in-Send.request
+          (c.next.ensures.after ∙ ap (after_step c.args.coordinator) w.in-Send.is) (sym c.next.ensures.step ∙ w.in-Send.is) c.requires.nodes
+          (subst (IsSoundCoordStep c.args.coordinator.mini.nodes) w.in-Send.is c.next.ensures.sound)
+          (record { few = c.requires.few; errand_is = (c.requires.nodes, c.requires.waits) }))
+      | in-Abandon w ↦
+          subst (λ (s : ProxyStep). IsSoundTurn known (turns.Goes s c.args.work (out.Mini c.args.tid c.next.new.self c.args.purpose))) (sym w.step-is)
+          (abandons_soundly known c.args.work c.args.tid c.args.coordinator c.next.new.self c.args.purpose
+          (c.next.ensures.after ∙ ap (after_step c.args.coordinator) w.in-Abandon.is) c.requires.quiet
+          (record { few = c.requires.few; errand_is = (c.requires.nodes, c.requires.waits) }))
+    ])
+
+pub returns-clause-turns : goal.returns-clause-turns
+returns-clause-turns c = λ es own m.
+    let p = c.args.self.now in
+    subst (TurnAgrees es p) (sym c.goes.ensures) (elim c.match-next.branch [
+      | in-Send w ↦
+          subst (λ (s : ProxyStep). TurnAgrees es p (turns.Goes s c.args.work (out.Mini c.args.tid c.next.new.self c.args.purpose))) (sym w.step-is)
+          (mini_sends es p c.args.work c.args.tid c.args.coordinator c.next.new.self c.args.purpose w.in-Send.node w.in-Send.request
+          (c.next.ensures.after ∙ ap (after_step c.args.coordinator) w.in-Send.is) own m
+          (subst (MayMake es c.args.coordinator.tid) w.in-Send.is (c.next.ensures.legal es m.coordinates))
+          (c.next.ensures.agrees es m.coordinates (λ gone. (let both : Send w.in-Send.node w.in-Send.request ≡ Abandon = sym w.in-Send.is ∙ (c.next.ensures.step ∙ gone) in absurd cc))))
+      | in-Abandon w ↦
+          subst (λ (s : ProxyStep). TurnAgrees es p (turns.Goes s c.args.work (out.Mini c.args.tid c.next.new.self c.args.purpose))) (sym w.step-is)
+          (mini_abandons es p c.args.work c.args.tid c.args.coordinator c.next.new.self c.args.purpose
+          (c.next.ensures.after ∙ ap (after_step c.args.coordinator) w.in-Abandon.is) (sym c.next.ensures.step ∙ w.in-Abandon.is) own m
+          (subst (MayMake es c.args.coordinator.tid) w.in-Abandon.is (c.next.ensures.legal es m.coordinates))
+          (λ e none what. c.next.ensures.abandoned es e m.coordinates (sym c.next.ensures.step ∙ w.in-Abandon.is) none what))
+    ])
+
+pub returns-clause-kept : goal.returns-clause-kept
+returns-clause-kept c = ((refl, refl, refl), c.requires.idle)

@@ -1,0 +1,45 @@
+use Rattle.std.proofs.Common.{◌≡◌, subst, sym, ◌∙◌}
+use Rattle.mn_proxy.specs.Agrees.{Agrees, HasOut}
+use Rattle.mn_proxy.specs.State.{ProxyState}
+use Rattle.mn_proxy.specs.Turns.{OwesNoDecide}
+use Rattle.mn_proxy.proofs.Feeding.{fed_in, fed_work, feed_agrees, feed_unanswered, sound_of}
+use Rattle.mn_proxy.proofs.proxy.Proxy.feed.Goals as goal
+
+pub invariant_of-self-2 : goal.invariant_of-self-2
+invariant_of-self-2 c = record {
+  client = c.self.invariant.client;
+  run = c.self.invariant.run;
+  nodes = c.self.invariant.nodes;
+  pages = c.self.invariant.pages;
+  work = fed_work c.self.inside.known c.in-Some.work c.in-Some.errand c.fed.result c.args.reply
+      (sound_of c.self.inside.known c.self.inside.work c.in-Some.work c.in-Some.errand (sym c.take.ensures.value ∙ c.in-Some.is) c.self.invariant.work) c.fed.ensures;
+}
+
+pub returns-clause-ready : goal.returns-clause-ready
+returns-clause-ready c = (λ none. absurd cc, fed_in c.in-Some.work c.in-Some.errand c.fed.result c.args.reply c.fed.ensures)
+
+pub returns-clause-agrees : goal.returns-clause-agrees
+returns-clause-agrees c = λ es e node request a has fits is.
+    let p : ProxyState = record {
+      client = c.self.inside.client;
+      run = c.self.inside.run;
+      issued = c.self.inside.issued;
+      known = c.self.inside.known;
+      work = c.self.inside.work;
+    } in
+    let same : c.args.self.now ≡ p = sym c.self.view_is in
+    feed_agrees p c.in-Some.work c.in-Some.errand c.fed.result c.args.reply (sym c.take.ensures.value ∙ c.in-Some.is) c.self.invariant.work c.fed.ensures es e node request
+    (subst (Agrees es) same a) (subst (λ (q : ProxyState). HasOut q node request) same has) fits is
+
+pub returns-clause-no_entry : goal.returns-clause-no_entry
+returns-clause-no_entry c = λ es a none owes.
+    let p : ProxyState = record {
+      client = c.self.inside.client;
+      run = c.self.inside.run;
+      issued = c.self.inside.issued;
+      known = c.self.inside.known;
+      work = c.self.inside.work;
+    } in
+    let same : c.args.self.now ≡ p = sym c.self.view_is in
+    feed_unanswered p c.in-Some.work c.in-Some.errand c.fed.result c.args.reply (sym c.take.ensures.value ∙ c.in-Some.is) c.self.invariant.work c.fed.ensures es
+    (subst (Agrees es) same a) none (subst OwesNoDecide same owes)

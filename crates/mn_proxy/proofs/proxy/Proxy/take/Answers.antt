@@ -1,0 +1,185 @@
+-- What was read goes on, is a leaf, shows the reply, or failed the try.
+use Rattle.std.proofs.Common.{◌≡◌, ◌∙◌, inl, inr, ap, subst, sym, refl, lit<}
+use Rattle.mn_proxy.specs.State.{ProxyState}
+use Rattle.mn_proxy.specs.Turns.{IsSoundTurn, TurnAgrees, WaitsFor, with_known}
+use Rattle.mn_proxy.specs.Agrees.{IsOwn}
+use Rattle.mn_proxy.specs.declared.next.Taken.{Taken}
+use Rattle.mn_proxy.specs.contracts.proxy.Proxy.{the_view}
+use Rattle.mn_proxy.proofs.Taking.{few_as, job_as, kept_as, none_left, none_made, own_left_as, replies_as, sound_left, startable_as, tells_as}
+use Rattle.mn_proxy.proofs.proxy.Proxy.take.Goals as goal
+use Rattle.mn_proxy.proofs.proxy.Proxy.take.Goals.{in-Transaction-2, in-Child-2, in-Scan-2, in-Start-2}
+
+pub taken_for-requires-clause-pages : goal.taken_for-requires-clause-pages
+taken_for-requires-clause-pages c = c.self.invariant.pages
+
+pub taken_for-requires-clause-waits : goal.taken_for-requires-clause-waits
+taken_for-requires-clause-waits c =
+    subst (λ (p : ProxyState). WaitsFor p.known c.args.work c.args.purpose) (sym c.self.view_is) c.requires.waits
+
+pub invariant_of-self : goal.invariant_of-self
+invariant_of-self c =
+    sound_left c.self.inside c.taken_for.new.known c.args.purpose c.args.bytes c.self.invariant
+    (ap (λ (p : ProxyState). p.work) c.self.view_is ∙ c.requires.idle) c.taken_for.ensures.leaves c.taken_for.ensures.pages
+
+pub returns-in_err-taken_for-clause-sound : goal.returns-in_err-taken_for-clause-sound
+returns-in_err-taken_for-clause-sound c =
+    none_made c.from_residual.result (IsSoundTurn c.taken_for.new.known) c.from_residual.ensures.0
+
+pub returns-in_err-taken_for-clause-turns : goal.returns-in_err-taken_for-clause-turns
+returns-in_err-taken_for-clause-turns c = λ es own read closed over.
+    none_made c.from_residual.result (TurnAgrees es (with_known (the_view c.self.inside) c.taken_for.new.known)) c.from_residual.ensures.0
+
+pub returns-in_err-taken_for-clause-left : goal.returns-in_err-taken_for-clause-left
+returns-in_err-taken_for-clause-left c = λ es own read.
+    none_left c.from_residual.result (IsOwn es (with_known (the_view c.self.inside) c.taken_for.new.known))
+    (own_left_as es (the_view c.self.inside) c.args.self.now c.self.view_is c.taken_for.new.known c.args.work c.args.purpose c.args.bytes own read c.taken_for.ensures.leaves)
+
+pub returns-in_err-taken_for-clause-kept : goal.returns-in_err-taken_for-clause-kept
+returns-in_err-taken_for-clause-kept c =
+    kept_as (the_view c.self.inside) c.args.self.now (with_known (the_view c.self.inside) c.taken_for.new.known) c.taken_for.new.known c.args.purpose c.args.bytes c.self.view_is c.taken_for.ensures.leaves
+    ((refl, refl, refl), ap (λ (p : ProxyState). p.work) c.self.view_is ∙ c.requires.idle)
+
+pub invariant_of-self-in-GoesOn : goal.invariant_of-self-in-GoesOn
+invariant_of-self-in-GoesOn c =
+    sound_left c.self.inside c.taken_for.new.known c.args.purpose c.args.bytes c.self.invariant
+    (ap (λ (p : ProxyState). p.work) c.self.view_is ∙ c.requires.idle) c.taken_for.ensures.leaves c.taken_for.ensures.pages
+
+pub advance-requires-clause-idle : goal.advance-requires-clause-idle
+advance-requires-clause-idle c = ap (λ (p : ProxyState). p.work) c.self.view_is ∙ c.requires.idle
+
+pub advance-requires-clause-few : goal.advance-requires-clause-few
+advance-requires-clause-few c =
+    few_as (the_view c.self.inside) c.args.self.now c.self.view_is c.taken_for.new.known c.args.work c.taken_for.new.work c.args.purpose c.args.bytes c.in_ok-taken_for.field-0 c.requires.waits c.in_ok-taken_for.ensures.came c.requires.few
+
+pub advance-requires-clause-job : goal.advance-requires-clause-job
+advance-requires-clause-job c =
+    job_as (the_view c.self.inside) c.args.self.now c.self.view_is c.taken_for.new.known c.args.work c.taken_for.new.work c.args.purpose c.args.bytes c.in_ok-taken_for.field-0 c.requires.waits c.in_ok-taken_for.ensures.came (inl c.in-GoesOn.is)
+
+pub invariant_of-self-in-Leaf : goal.invariant_of-self-in-Leaf
+invariant_of-self-in-Leaf c =
+    sound_left c.self.inside c.taken_for.new.known c.args.purpose c.args.bytes c.self.invariant
+    (ap (λ (p : ProxyState). p.work) c.self.view_is ∙ c.requires.idle) c.taken_for.ensures.leaves c.taken_for.ensures.pages
+
+pub advance-requires-in-Leaf-clause-idle : goal.advance-requires-in-Leaf-clause-idle
+advance-requires-in-Leaf-clause-idle c = ap (λ (p : ProxyState). p.work) c.self.view_is ∙ c.requires.idle
+
+pub advance-requires-in-Leaf-clause-few : goal.advance-requires-in-Leaf-clause-few
+advance-requires-in-Leaf-clause-few c = lit< tt
+
+pub advance-requires-in-Leaf-clause-job : goal.advance-requires-in-Leaf-clause-job
+advance-requires-in-Leaf-clause-job c =
+    job_as (the_view c.self.inside) c.args.self.now c.self.view_is c.taken_for.new.known c.args.work c.taken_for.new.work c.args.purpose c.args.bytes c.in_ok-taken_for.field-0 c.requires.waits c.in_ok-taken_for.ensures.came (inr c.in-Leaf.is)
+
+pub invariant_of-self-in-Replies : goal.invariant_of-self-in-Replies
+invariant_of-self-in-Replies c =
+    sound_left c.self.inside c.taken_for.new.known c.args.purpose c.args.bytes c.self.invariant
+    (ap (λ (p : ProxyState). p.work) c.self.view_is ∙ c.requires.idle) c.taken_for.ensures.leaves c.taken_for.ensures.pages
+
+pub invariant_of-self-in-Replies-2 : goal.invariant_of-self-in-Replies-2
+invariant_of-self-in-Replies-2 c =
+    sound_left c.self.inside c.taken_for.new.known c.args.purpose c.args.bytes c.self.invariant
+    (ap (λ (p : ProxyState). p.work) c.self.view_is ∙ c.requires.idle) c.taken_for.ensures.leaves c.taken_for.ensures.pages
+
+pub invariant_of-self-in-Replies-3 : goal.invariant_of-self-in-Replies-3
+invariant_of-self-in-Replies-3 c =
+    sound_left c.self.inside c.taken_for.new.known c.args.purpose c.args.bytes c.self.invariant
+    (ap (λ (p : ProxyState). p.work) c.self.view_is ∙ c.requires.idle) c.taken_for.ensures.leaves c.taken_for.ensures.pages
+
+pub invariant_of-self-in-Replies-4 : goal.invariant_of-self-in-Replies-4
+invariant_of-self-in-Replies-4 c =
+    sound_left c.self.inside c.taken_for.new.known c.args.purpose c.args.bytes c.self.invariant
+    (ap (λ (p : ProxyState). p.work) c.self.view_is ∙ c.requires.idle) c.taken_for.ensures.leaves c.taken_for.ensures.pages
+
+pub invariant_of-self-in-Fails : goal.invariant_of-self-in-Fails
+invariant_of-self-in-Fails c =
+    sound_left c.self.inside c.taken_for.new.known c.args.purpose c.args.bytes c.self.invariant
+    (ap (λ (p : ProxyState). p.work) c.self.view_is ∙ c.requires.idle) c.taken_for.ensures.leaves c.taken_for.ensures.pages
+
+pub fail-requires-clause-idle : goal.fail-requires-clause-idle
+fail-requires-clause-idle c = ap (λ (p : ProxyState). p.work) c.self.view_is ∙ c.requires.idle
+
+pub fail-requires-clause-few : goal.fail-requires-clause-few
+fail-requires-clause-few c =
+    few_as (the_view c.self.inside) c.args.self.now c.self.view_is c.taken_for.new.known c.args.work c.taken_for.new.work c.args.purpose c.args.bytes c.in_ok-taken_for.field-0 c.requires.waits c.in_ok-taken_for.ensures.came c.requires.few
+
+pub fail-requires-clause-startable : goal.fail-requires-clause-startable
+fail-requires-clause-startable c =
+    startable_as (the_view c.self.inside) c.args.self.now c.self.view_is c.taken_for.new.known c.args.work c.taken_for.new.work c.args.purpose c.args.bytes c.in_ok-taken_for.field-0 c.requires.waits c.in_ok-taken_for.ensures.came c.in-Fails.cause c.in-Fails.is
+
+pub returns-in-GoesOn-clause-sound : goal.returns-in-GoesOn-clause-sound
+returns-in-GoesOn-clause-sound c = c.advance.ensures.sound
+
+pub returns-in-GoesOn-clause-turns : goal.returns-in-GoesOn-clause-turns
+returns-in-GoesOn-clause-turns c = λ es own read closed over.
+    c.advance.ensures.turns es
+    (own_left_as es (the_view c.self.inside) c.args.self.now c.self.view_is c.taken_for.new.known c.args.work c.args.purpose c.args.bytes own read c.taken_for.ensures.leaves)
+    (tells_as es (the_view c.self.inside) c.args.self.now c.self.view_is c.taken_for.new.known c.args.work c.args.purpose c.args.bytes own read c.taken_for.new.work c.in_ok-taken_for.field-0 Taken.GoesOn c.in-GoesOn.is c.requires.waits closed over c.in_ok-taken_for.ensures.came)
+
+pub returns-in-GoesOn-clause-left : goal.returns-in-GoesOn-clause-left
+returns-in-GoesOn-clause-left c = λ es own read.
+    c.advance.ensures.left es
+    (own_left_as es (the_view c.self.inside) c.args.self.now c.self.view_is c.taken_for.new.known c.args.work c.args.purpose c.args.bytes own read c.taken_for.ensures.leaves)
+
+pub returns-in-GoesOn-clause-kept : goal.returns-in-GoesOn-clause-kept
+returns-in-GoesOn-clause-kept c =
+    kept_as (the_view c.self.inside) c.args.self.now c.advance.new.self c.taken_for.new.known c.args.purpose c.args.bytes c.self.view_is c.taken_for.ensures.leaves c.advance.ensures.kept
+
+pub returns-in-Leaf-clause-sound : goal.returns-in-Leaf-clause-sound
+returns-in-Leaf-clause-sound c = c.advance-in-Leaf.ensures.sound
+
+pub returns-in-Leaf-clause-turns : goal.returns-in-Leaf-clause-turns
+returns-in-Leaf-clause-turns c = λ es own read closed over.
+    c.advance-in-Leaf.ensures.turns es
+    (own_left_as es (the_view c.self.inside) c.args.self.now c.self.view_is c.taken_for.new.known c.args.work c.args.purpose c.args.bytes own read c.taken_for.ensures.leaves)
+    (tells_as es (the_view c.self.inside) c.args.self.now c.self.view_is c.taken_for.new.known c.args.work c.args.purpose c.args.bytes own read c.taken_for.new.work c.in_ok-taken_for.field-0 Taken.Leaf c.in-Leaf.is c.requires.waits closed over c.in_ok-taken_for.ensures.came)
+
+pub returns-in-Leaf-clause-left : goal.returns-in-Leaf-clause-left
+returns-in-Leaf-clause-left c = λ es own read.
+    c.advance-in-Leaf.ensures.left es
+    (own_left_as es (the_view c.self.inside) c.args.self.now c.self.view_is c.taken_for.new.known c.args.work c.args.purpose c.args.bytes own read c.taken_for.ensures.leaves)
+
+pub returns-in-Leaf-clause-kept : goal.returns-in-Leaf-clause-kept
+returns-in-Leaf-clause-kept c =
+    kept_as (the_view c.self.inside) c.args.self.now c.advance-in-Leaf.new.self c.taken_for.new.known c.args.purpose c.args.bytes c.self.view_is c.taken_for.ensures.leaves c.advance-in-Leaf.ensures.kept
+
+-- the state stays while the operation is dropped
+state_after : (c : goal.Joined-work-5) → c.match-work-5.self ≡ with_known (the_view c.self.inside) c.taken_for.new.known
+state_after c =
+    elim c.match-work-5.branch [
+      | in-Transaction-2 w ↦ w.self-is
+      | in-Child-2 w ↦ w.self-is
+      | in-Scan-2 w ↦ w.self-is
+      | in-Start-2 w ↦ w.self-is
+    ]
+
+pub returns-in-Replies-clause-sound : goal.returns-in-Replies-clause-sound
+returns-in-Replies-clause-sound c = subst (IsSoundTurn c.match-work-5.self.known) (sym c.ends.ensures) tt
+
+pub returns-in-Replies-clause-turns : goal.returns-in-Replies-clause-turns
+returns-in-Replies-clause-turns c = λ es own read closed over.
+    replies_as es (the_view c.self.inside) c.args.self.now c.self.view_is c.taken_for.new.known c.args.work c.args.purpose c.args.bytes own read c.taken_for.new.work c.in_ok-taken_for.field-0 c.in-Replies.reply c.ends.result c.match-work-5.self (state_after c) c.ends.ensures c.in-Replies.is c.requires.waits closed over c.in_ok-taken_for.ensures.came c.taken_for.ensures.leaves
+
+pub returns-in-Replies-clause-kept : goal.returns-in-Replies-clause-kept
+returns-in-Replies-clause-kept c =
+    kept_as (the_view c.self.inside) c.args.self.now c.match-work-5.self c.taken_for.new.known c.args.purpose c.args.bytes c.self.view_is c.taken_for.ensures.leaves (
+      (ap (λ (p : ProxyState). p.client) (state_after c), ap (λ (p : ProxyState). p.run) (state_after c), ap (λ (p : ProxyState). p.known.nodes) (state_after c)),
+      ap (λ (p : ProxyState). p.work) (state_after c) ∙ ap (λ (p : ProxyState). p.work) c.self.view_is ∙ c.requires.idle,
+    )
+
+pub returns-in-Fails-clause-sound : goal.returns-in-Fails-clause-sound
+returns-in-Fails-clause-sound c = c.fail.ensures.sound
+
+pub returns-in-Fails-clause-turns : goal.returns-in-Fails-clause-turns
+returns-in-Fails-clause-turns c = λ es own read closed over.
+    c.fail.ensures.turns es
+    (own_left_as es (the_view c.self.inside) c.args.self.now c.self.view_is c.taken_for.new.known c.args.work c.args.purpose c.args.bytes own read c.taken_for.ensures.leaves)
+    (tells_as es (the_view c.self.inside) c.args.self.now c.self.view_is c.taken_for.new.known c.args.work c.args.purpose c.args.bytes own read c.taken_for.new.work c.in_ok-taken_for.field-0 (Taken.Fails c.in-Fails.cause) c.in-Fails.is c.requires.waits closed over c.in_ok-taken_for.ensures.came)
+
+pub returns-in-Fails-clause-left : goal.returns-in-Fails-clause-left
+returns-in-Fails-clause-left c = λ es own read.
+    c.fail.ensures.left es
+    (own_left_as es (the_view c.self.inside) c.args.self.now c.self.view_is c.taken_for.new.known c.args.work c.args.purpose c.args.bytes own read c.taken_for.ensures.leaves)
+
+pub returns-in-Fails-clause-kept : goal.returns-in-Fails-clause-kept
+returns-in-Fails-clause-kept c =
+    kept_as (the_view c.self.inside) c.args.self.now c.fail.new.self c.taken_for.new.known c.args.purpose c.args.bytes c.self.view_is c.taken_for.ensures.leaves c.fail.ensures.kept

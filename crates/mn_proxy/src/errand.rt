@@ -1,0 +1,41 @@
+use crate::place::Place;
+use mn_base::{Addr, Reply, Tid};
+use mn_coord::Coordinator;
+use mn_mini::NodeReply;
+
+/// What a minitransaction or a Peek is for.
+#[derive(Debug, Drop)]
+pub enum Purpose {
+    /// It reads the catalog.
+    Catalog,
+    /// It reads the page at this address.
+    Page { addr: Addr },
+    /// It reads the count of the next node.
+    Count,
+    /// It is the operation's plan, with this reply.
+    Plan { reply: Reply },
+}
+
+/// What is on its way to the nodes.
+#[derive(Debug, Drop)]
+pub enum Errand {
+    /// Nothing: the try says what comes next.
+    Nothing,
+    /// A Peek of this place, which wasn't answered.
+    Peek {
+        place: Place,
+        purpose: Purpose,
+    },
+    /// A Peek that was answered.
+    Peeked {
+        place: Place,
+        reply: NodeReply,
+        purpose: Purpose,
+    },
+    /// A minitransaction.
+    Mini {
+        tid: Tid,
+        coordinator: Coordinator,
+        purpose: Purpose,
+    },
+}
