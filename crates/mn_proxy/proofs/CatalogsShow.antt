@@ -27,7 +27,7 @@ use Rattle.mn_page.specs.declared.page.Page.{Page}
 use Rattle.mn_page.specs.Forest.{heads_in}
 use Rattle.mn_page.specs.Grammar.{IsEntry}
 use Rattle.mn_page.specs.Space.{catalog_size, catalog_start}
-use Rattle.mn_scan.specs.Scan.{ScanState, key_at, new_scan, restarted}
+use Rattle.mn_scan.specs.Scan.{ScanState, key_at, new_scan}
 use Rattle.mn_world.specs.declared.entry.Entry.{Entry}
 use Rattle.mn_world.specs.Answers.{MayBeKept, MeetsFault, Reached, ReachesAddr, asks_catalog, asks_for_catalog}
 use Rattle.mn_world.specs.Answers.Reached.{by_root}
@@ -54,6 +54,7 @@ use Rattle.mn_proxy.specs.Tries.{HasAsked}
 use Rattle.mn_proxy.specs.Walks.{Admits, IfLater, WalkComesTo}
 use Rattle.mn_proxy.specs.Works.{BeginsBy, BeginsOn, GoesOnFrom, IsJobIn, IsJobOf, IsNewChild, IsScan, IsStartable, KeepsOp}
 use Rattle.mn_proxy.specs.Works.{StartsOn, TakesCatalog, catalog_addr, lone_key, retried, retried_job}
+use Rattle.mn_proxy.proofs.ScansShow.{scan_elsewhere}
 use Rattle.mn_proxy.proofs.Works.{admits_as, begins_steps, retry_starts}
 
 -- Catalogs
@@ -405,26 +406,6 @@ module _ (bytes : List ℕ) (e : Entry) (is : seen_at e ≡ catalog_seen bytes �
 
 -- A later try
 
--- a scan that walks from its root again has what it had
-again_scanned : (now : List Entry) (name : List ℕ) (s : ScanState) → HasScanned now name s
-    → HasScanned now name (restarted s)
-again_scanned now name s h = record {
-  catalog = h.catalog;
-  later = h.later;
-  entries = h.entries;
-  head = h.head;
-  leaves = h.leaves;
-  first = h.first;
-  sees = h.sees;
-  named = h.named;
-  head_is = h.head_is;
-  frozen = h.frozen;
-  parents = h.parents;
-  gathered = h.gathered;
-  stands = h.stands;
-  ends = h.ends;
-}
-
 -- where no catalog is kept, a job that may begin on a new one shows what its scan has
 pub starts_shows : (known : Known) (now try : List Entry) (w : Work) → known.catalog ≡ None
     → IsStartable w.op w.job → ScanShown now w.spoiled w.op w.job → JobShows known now try w
@@ -439,7 +420,7 @@ pub retried_scan : (known : Known) (now : List Entry) (w : Work) → IsJobOf kno
 retried_scan known now w is shown = by w.op w.job is shown
   where
     by : (o : Op) (j : Job) → IsJobIn known o j → ScanShown now w.spoiled o j → ScanShown now w.spoiled o (retried_job j)
-    by (Scan name low high limit) (at.Scan s) is shown = (again_scanned now name s shown.0, shown.1, shown.2, shown.3)
+    by (Scan name low high limit) (at.Scan s) is shown = (scan_elsewhere now name s s.root None shown.0, shown.1, shown.2, shown.3)
     by (Scan name low high limit) at.Start is shown = shown
     by (Scan name low high limit) (at.Get d) is shown = absurd is
     by (Scan name low high limit) (at.Transaction a) is shown = absurd is

@@ -211,28 +211,11 @@ abbrev pub ScanComes : ℕ → List Seen → Op → List CatEntry → ScanState 
 ScanComes failed seens op entries s =
     WalkComesTo failed seens op entries (key_at s) s.needed s.above
 
-from_root : (now : List Entry) (name : List ℕ) (s : ScanState) → HasScanned now name s
-    → HasScanned now name (restarted s)
-from_root now name s h = record {
-  catalog = h.catalog;
-  later = h.later;
-  entries = h.entries;
-  head = h.head;
-  leaves = h.leaves;
-  first = h.first;
-  sees = h.sees;
-  named = h.named;
-  head_is = h.head_is;
-  frozen = h.frozen;
-  parents = h.parents;
-  gathered = h.gathered;
-  stands = h.stands;
-  ends = h.ends;
-}
-
-to_where : (now : List Entry) (name : List ℕ) (s : ScanState) → HasScanned now name (restarted s)
-    → HasScanned now name s
-to_where now name s h = record {
+-- it has what it had, wherever it walks
+pub scan_elsewhere : (now : List Entry) (name : List ℕ) (s : ScanState) (needed : Addr)
+    (above : Option ℕ) → HasScanned now name s
+    → HasScanned now name (record s { needed = needed; above = above })
+scan_elsewhere now name s needed above h = record {
   catalog = h.catalog;
   later = h.later;
   entries = h.entries;
@@ -254,7 +237,8 @@ pub scan_alike : (now : List Entry) (name : List ℕ) (low high : Option (List �
     (s t : ScanState) → WalksAlike s t → ScanStands now name low high limit s
     → ScanStands now name low high limit t
 scan_alike now name low high limit s t alike (h, is_low, is_high, is_limit) = (
-  to_where now name t (subst (HasScanned now name) (sym alike) (from_root now name s h)),
+  scan_elsewhere now name (restarted t) t.needed t.above
+      (subst (HasScanned now name) (sym alike) (scan_elsewhere now name s s.root None h)),
   ap (λ (x : ScanState). x.low) alike ∙ is_low,
   ap (λ (x : ScanState). x.high) alike ∙ is_high,
   ap (λ (x : ScanState). x.limit) alike ∙ is_limit,
