@@ -35,7 +35,7 @@ use crate::work::Work;
 use mn_base::{Answer, Busy, Bytes, ClientNo, NoMemory, NodeNo, Op, Tid, TryCopy};
 use mn_cache::Cache;
 use mn_coord::{CoordStep, Coordinator, Outcome};
-use mn_mini::{Item, Items, Minitransaction, NodeReply, Request};
+use mn_mini::{Item, Items, MAX_ITEM, Minitransaction, NodeReply, Request, SPACE};
 use std::alloc::Global;
 use std::marker::Model;
 
@@ -186,8 +186,8 @@ fn is_in_space(place: &Place) -> bool
     ensures { result ≡ true → IsInSpace place.now.start place.now.length }
 {
     place.length >= 1
-        && place.length <= 4_096
-        && u64::from(place.start) + u64::from(place.length) <= 4_214_784
+        && place.length <= MAX_ITEM
+        && u64::from(place.start) + u64::from(place.length) <= u64::from(SPACE)
 }
 
 /// What is known of tries that end for want of slots or of numbers.
@@ -480,15 +480,8 @@ impl Proxy {
         ensures wants { IfOk result (WantsNext self.new.known work.old work.new) }
         ensures few { self.new.known.nodes ≤ 8 }
     {
-        self.has_few_nodes();
+        self.has_nodes();
         work.advance(alloc, &mut self.known)
-    }
-
-    // There are at most eight nodes.
-    fn has_few_nodes(&self)
-        ensures { self.now.known.nodes ≤ 8 }
-    {
-        let _nodes = self.known.nodes;
     }
 
     /// Goes on with what the try wants next.
@@ -519,9 +512,10 @@ impl Proxy {
         }
     }
 
-    // There is a node.
-    fn has_node(&self)
-        ensures { 1 ≤ self.now.known.nodes }
+    // There are 1 to 8 nodes.
+    fn has_nodes(&self)
+        ensures some { 1 ≤ self.now.known.nodes }
+        ensures few { self.now.known.nodes ≤ 8 }
     {
         let _nodes = self.known.nodes;
     }
@@ -538,7 +532,7 @@ impl Proxy {
         ensures left { (es : List Entry) → IsOwn es self.old → OnErr result (IsOwn es self.new) }
         ensures kept { KeepsSelf self.old self.new × (self.new.work ≡ None) }
     {
-        self.has_node();
+        self.has_nodes();
         self.read(alloc, work, Place::of_catalog(), false, Purpose::Catalog)
     }
 
