@@ -90,6 +90,15 @@ impl<N: Named, D: Disk> Station<N, D> {
         }
     }
 
+    /// Tells what the node and its entries come to, whenever no call is under way.
+    pub fn made(&self)
+        ensures { HasMade D.state D.faults (start_of N.records) self.now.number
+            (N.faults self.now.number.0) (N.honest self.now.number.0) (entries_of self.now.list)
+            self.now.node }
+    {
+        let _ = &self.node;
+    }
+
     /// The node, its list and its pass.
     pub fn into_parts(self) -> (Node<D>, EntryList, Pass<CoreLaw>)
         ensures node { result.0 ≡ self.node }

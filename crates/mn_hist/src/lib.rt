@@ -14,4 +14,5 @@ pub use auditing::audit;
 pub use history::history_of;
 pub use lists::{ClientLists, Lists, NodeLists};
 pub use merging::merge;
+pub use points::{Step, asked_in, may_stop, meet, none_met, voted_id};
 pub use shown::{Read, shows};

@@ -36,19 +36,19 @@ fn try_key(client: ClientNo, tid: Tid) -> TryKey
 
 /// What a step of a client is to crash points.
 #[derive(Clone, Copy)]
-struct Step {
-    client: ClientNo,
+pub struct Step {
+    pub client: ClientNo,
     /// The number of its operation under way.
-    number: Option<u32>,
-    node: Option<NodeNo>,
+    pub number: Option<u32>,
+    pub node: Option<NodeNo>,
     /// Its yes votes for the id that the step brings one for.
-    votes: Option<usize>,
+    pub votes: Option<usize>,
     /// Where the node stopped as it was asked to.
-    asked: Option<StopAt>,
+    pub asked: Option<StopAt>,
 }
 
 /// The id for which the step brings a yes vote.
-fn voted_id(what: &What) -> Option<Tid>
+pub fn voted_id(what: &What) -> Option<Tid>
     ensures { result ≡ voted_id what.now }
 {
     match what {
@@ -61,14 +61,14 @@ fn voted_id(what: &What) -> Option<Tid>
 }
 
 /// Whether a point may stop a node inside the request.
-fn may_stop(request: &Request) -> bool
+pub fn may_stop(request: &Request) -> bool
     ensures { result ≡ may_stop request.now }
 {
     matches!(request, Request::Prepare { .. } | Request::Exec { .. })
 }
 
 /// Where the node stopped, as it was asked to, inside a request that a point may stop.
-fn asked_in(what: &What) -> Option<StopAt>
+pub fn asked_in(what: &What) -> Option<StopAt>
     ensures { result ≡ asked_in what.now }
 {
     match what {
@@ -134,7 +134,7 @@ fn first_fit(points: &[Point], met: &[bool], step: &Step) -> Option<usize>
 
 /// The first point that fits the step and that was not met before is met. The points are looked at
 /// only if some may fit.
-fn meet(points: &[Point], met: &mut [bool], step: &Step)
+pub fn meet(points: &[Point], met: &mut [bool], step: &Step)
     requires { length met.old ≡ length points.now }
     ensures met { met.new ≡ with_met (step_fits step.now) points.now met.old }
     ensures long { length met.new ≡ length met.old }
@@ -208,7 +208,7 @@ fn no_numbers(alloc: Global) -> Result<Vec<Option<u32>>, NoMemory>
 }
 
 /// So many points of which none was met.
-fn none_met(alloc: Global, points: usize) -> Result<Vec<bool>, NoMemory>
+pub fn none_met(alloc: Global, points: usize) -> Result<Vec<bool>, NoMemory>
     ensures { IfOk result (λ met. met.items ≡ replicate points false) }
 {
     let mut met = Vec::with_capacity(alloc, points)?;
