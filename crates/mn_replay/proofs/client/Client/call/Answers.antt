@@ -1,0 +1,52 @@
+use Rattle.std.proofs.Common.{subst, sym, ◌∙◌}
+use Rattle.mn_proxy.specs.State.{IsOut, ProxyState}
+use Rattle.mn_world.specs.Protocol.{start_of}
+use Rattle.mn_replay.specs.declared.client.Client.{Client}
+use Rattle.mn_replay.proofs.Turns.{goes_further, goes_nowhere}
+use Rattle.mn_replay.proofs.ClientCalls.{dead_client, due_alive, fed_steps, lives_by, none_taken, waits}
+use Rattle.mn_replay.proofs.client.Client.call.Goals as goal
+
+pub returns-in_default-clause-goes_on : goal.returns-in_default-clause-goes_on
+returns-in_default-clause-goes_on g c = goes_nowhere _
+
+pub returns-in_default-clause-client : goal.returns-in_default-clause-client
+returns-in_default-clause-client g c =
+    none_taken (start_of g.N.Named.records) c.args.points.now c.args.self.now c.take.new.self c.requires.client (sym c.take.ensures.value ∙ c.in_default.is) c.take.ensures.after
+
+pub send-reply-requires-clause-proxy : goal.send-reply-requires-clause-proxy
+send-reply-requires-clause-proxy g c =
+    (due_alive (start_of g.N.Named.records) c.args.points.now c.args.self.now c.in-Some.field-0 c.requires.client (sym c.take.ensures.value ∙ c.in-Some.is)).1
+
+pub send-reply-requires-clause-due : goal.send-reply-requires-clause-due
+send-reply-requires-clause-due g c =
+    (due_alive (start_of g.N.Named.records) c.args.points.now c.args.self.now c.in-Some.field-0 c.requires.client (sym c.take.ensures.value ∙ c.in-Some.is)).2
+
+pub has_died-requires : goal.has_died-requires
+has_died-requires g c = c.send-reply.ensures.run.met
+
+pub returns-then-has_died-clause-client : goal.returns-then-has_died-clause-client
+returns-then-has_died-clause-client g c =
+    dead_client (start_of g.N.Named.records) c.args.points.now c.send-reply.new.self c.send-reply.ensures.run (c.send-reply.ensures.stays.1 ∙ c.take.ensures.after) (sym c.has_died.ensures ∙ c.if-has_died.true)
+
+pub feed-requires : goal.feed-requires
+feed-requires g c =
+    let old = c.args.self.now in
+    let call = c.in-Some.field-0 in
+    let alive = due_alive (start_of g.N.Named.records) c.args.points.now old call c.requires.client (sym c.take.ensures.value ∙ c.in-Some.is) in
+    record { out = subst (λ (p : ProxyState). IsOut p) (sym c.send-reply.ensures.stays.0) (waits old.proxy.work call.node call.request alive.2.out) }
+
+pub go_on-requires-clause-steps : goal.go_on-requires-clause-steps
+go_on-requires-clause-steps g c =
+    let start = start_of g.N.Named.records in
+    let points = c.args.points.now in
+    let old : Client = record c.args.self.now { due = c.take.new.self } in
+    let call = c.in-Some.field-0 in
+    let alive = due_alive start points c.args.self.now call c.requires.client (sym c.take.ensures.value ∙ c.in-Some.is) in
+    let send = c.send-reply.ensures in
+    fed_steps start points old c.send-reply.new.self c.feed.new.self call.node call.request c.send-reply.result alive.1 alive.2 send.stays.0 send.client send.fits send.answer send.none
+    (λ none decide. c.is_decide-is_decide.ensures (c.is_lost.ensures c.if-is_lost.false none) decide)
+    (record { ready = c.feed.ensures.ready; agrees = c.feed.ensures.agrees; no_entry = c.feed.ensures.no_entry; kept = c.feed.ensures.kept })
+    (send.stays.1 ∙ c.take.ensures.after) send.run (lives_by points c.send-reply.new.self (sym c.has_died.ensures ∙ c.if-has_died.false))
+
+pub returns-clause-goes_on : goal.returns-clause-goes_on
+returns-clause-goes_on g c = goes_further _ _ _ c.send-reply.ensures.goes_on c.go_on.ensures.goes_on

@@ -1,0 +1,35 @@
+use Rattle.std.proofs.Common.{subst}
+use Rattle.mn_world.specs.Protocol.{start_of}
+use Rattle.mn_replay.specs.declared.client.Went.{Went}
+use Rattle.mn_replay.specs.Going.{HasGone}
+use Rattle.mn_replay.proofs.Turns.{goes_further, goes_nowhere}
+use Rattle.mn_replay.proofs.ClientSteps.{steps_list, steps_rest, still_steps}
+use Rattle.mn_replay.proofs.client.Client.go_on.Goals as goal
+
+pub loop-init : goal.loop-init
+loop-init g c = record { turn = c.requires.turn; goes_on = goes_nowhere _; steps = c.requires.steps }
+
+pub own_step-requires-clause-list : goal.own_step-requires-clause-list
+own_step-requires-clause-list g c = steps_list (start_of g.N.Named.records) c.args.points.now c.loop.self c.loop.invariant.steps
+
+pub returns-in_err-own_step-clause-goes_on : goal.returns-in_err-own_step-clause-goes_on
+returns-in_err-own_step-clause-goes_on g c = goes_further _ _ _ c.loop.invariant.goes_on c.own_step.ensures.goes_on
+
+pub returns-in-Rests-clause-goes_on : goal.returns-in-Rests-clause-goes_on
+returns-in-Rests-clause-goes_on g c = goes_further _ _ _ c.loop.invariant.goes_on c.own_step.ensures.goes_on
+
+pub returns-in-Rests-clause-client : goal.returns-in-Rests-clause-client
+returns-in-Rests-clause-client g c =
+    let start = start_of g.N.Named.records in
+    let new = c.own_step.new.self in
+    steps_rest start c.args.points.now c.loop.self new c.loop.invariant.steps c.own_step.ensures.list c.own_step.ensures.points (subst (λ (w : Went). HasGone start new w) c.in-Rests.is c.in_ok-own_step.ensures.went)
+
+pub loop-preserved : goal.loop-preserved
+loop-preserved g c =
+    let start = start_of g.N.Named.records in
+    let new = c.own_step.new.self in
+    record {
+      turn = c.own_step.ensures.turn;
+      goes_on = goes_further _ _ _ c.loop.invariant.goes_on c.own_step.ensures.goes_on;
+      steps = still_steps start c.args.points.now c.loop.self new c.loop.invariant.steps c.own_step.ensures.list c.own_step.ensures.points (subst (λ (w : Went). HasGone start new w) c.in-On.is c.in_ok-own_step.ensures.went);
+    }

@@ -1,0 +1,12 @@
+use Rattle.std.proofs.Common.{length}
+use Rattle.mn_world.specs.Protocol.{start_of}
+use Rattle.mn_replay.specs.Desks.{IsDesk}
+use Rattle.mn_replay.specs.Turn.{GoesOn, IsTurn, seen_of, turn_of}
+use Rattle.mn_replay.proofs.desk.Desk.recover.Given as goal
+
+abbrev pub invariant-loop : goal.invariant-loop
+invariant-loop g l = record {
+  turn : IsTurn g.N.Named.board (length g.N.Named.records) (turn_of (seen_of l.table.board) l.table.stations.items l.pass l.self.list);
+  goes_on : GoesOn (turn_of (seen_of l.fn.table.board) l.fn.table.stations.items l.fn.pass l.fn.self.list) (turn_of (seen_of l.table.board) l.table.stations.items l.pass l.self.list);
+  desk : IsDesk (start_of g.N.Named.records) l.self;
+}

@@ -1,0 +1,10 @@
+use Rattle.mn_world.specs.Protocol.{start_of}
+use Rattle.mn_replay.specs.Plays.{AreReady, IsPlay, play_of}
+use Rattle.mn_replay.specs.Turn.{seen_of}
+use Rattle.mn_replay.proofs.play.Play.finish.Given as goal
+
+abbrev pub invariant-loop-at : goal.invariant-loop-at
+invariant-loop-at g l = record {
+  play : IsPlay g.N.Named.board (start_of g.N.Named.records) l.script (play_of (seen_of l.self.table.board) l.self.table.stations.items l.self.rest l.self.callers);
+  ready : AreReady (start_of g.N.Named.records) l.script l.self.callers;
+}

@@ -1,0 +1,55 @@
+use Rattle.std.proofs.Common.{◌∙◌, ◌+◌, ◌-◌, ℕ, Option, refl, sym, ap, subst, arith, MatchOption}
+use Rattle.std.specs.Prelude.{slice_set, ⊤}
+use Rattle.std.specs.Vec.{with_item}
+use Rattle.mn_actors.specs.Sight.{board_of, view_of}
+use Rattle.mn_base.specs.declared.ids.Tid.{Tid}
+use Rattle.mn_mini.specs.RecordGrammar.{IsTid}
+use Rattle.mn_world.specs.Protocol.{start_of}
+use Rattle.mn_replay.specs.Plays.{caller_at, list_by, play_of}
+use Rattle.mn_replay.specs.Turn.{seen_of, turn_of}
+use Rattle.mn_replay.proofs.Acting.{desk_begins, desk_ends, met_at}
+use Rattle.mn_replay.proofs.play.Play.recoverer_turn.Goals as goal
+
+pub split-pass-requires-clause-owns : goal.split-pass-requires-clause-owns
+split-pass-requires-clause-owns g c =
+    let actor = caller_at (17 + (c.args.recoverer - 1)) in
+    let few = c.requires.recoverer in
+    (list_by c.args.self.now.callers actor, c.requires.play.1.rests.owns actor (omega arith))
+
+pub work-done-requires-clause-turn : goal.work-done-requires-clause-turn
+work-done-requires-clause-turn g c =
+    let four = c.requires.play.1.rests.four in
+    let few = c.requires.recoverer in
+    let there = met_at c.args.self.now.callers.desks.items (c.args.recoverer - 1) c.from-2.result c.index_mut-desk.result.now (omega arith) c.from-2.ensures c.index_mut-desk.ensures.value in
+    let p = c.args.self.now in
+    desk_begins g.N.Named.board (start_of g.N.Named.records) (play_of (seen_of p.table.board) p.table.stations.items p.rest p.callers) c.requires.play.1.rests (c.args.recoverer - 1) c.index_mut-desk.result.now there
+    (view_of c.split-pass.new.from) (view_of c.split-pass.result) (board_of c.split-pass.result) c.split-pass.ensures.view c.split-pass.ensures.board.1
+
+pub work-done-requires-clause-desk : goal.work-done-requires-clause-desk
+work-done-requires-clause-desk g c =
+    let four = c.requires.play.1.rests.four in
+    let few = c.requires.recoverer in
+    let there = met_at c.args.self.now.callers.desks.items (c.args.recoverer - 1) c.from-2.result c.index_mut-desk.result.now (omega arith) c.from-2.ensures c.index_mut-desk.ensures.value in
+    c.requires.play.1.callers.desks (c.args.recoverer - 1) c.index_mut-desk.result.now there
+
+pub work-done-requires-clause-id : goal.work-done-requires-clause-id
+work-done-requires-clause-id g c =
+    let client = c.index.result.now in
+    let is = met_at c.args.self.now.callers.clients.items c.args.client.0 c.from.result client c.requires.client c.from.ensures c.index.ensures in
+    subst (λ (o : Option Tid). MatchOption o ⊤ IsTid) (sym c.shared-shared.ensures) (c.requires.play.1.callers.clients c.args.client.0 client is).shared
+
+pub returns-clause-play : goal.returns-clause-play
+returns-clause-play g c =
+    let four = c.requires.play.1.rests.four in
+    let few = c.requires.recoverer in
+    let there = met_at c.args.self.now.callers.desks.items (c.args.recoverer - 1) c.from-2.result c.index_mut-desk.result.now (omega arith) c.from-2.ensures c.index_mut-desk.ensures.value in
+    let p = c.args.self.now in
+    let start = start_of g.N.Named.records in
+    let state = play_of (seen_of p.table.board) p.table.stations.items p.rest p.callers in
+    let table = c.work-done.new.table in
+    let desk = c.work-done.new.desk in
+    desk_ends g.N.Named.board start state c.requires.play.1.rests (c.args.recoverer - 1) c.index_mut-desk.result.now there
+    (play_of (seen_of table.board) table.stations.items c.join.new.into (record { clients = p.callers.clients; desks = with_item p.callers.desks c.from-2.result desk; closer = p.callers.closer }))
+    (view_of c.split-pass.new.from) (view_of c.split-pass.result) (board_of c.split-pass.result) (turn_of (seen_of table.board) table.stations.items c.work-done.new.pass desk.list) desk
+    c.split-pass.ensures.view c.work-done.ensures.turn c.work-done.ensures.goes_on c.join.ensures.view (c.join.ensures.board ∙ c.split-pass.ensures.board.0) refl refl refl
+    (ap (λ (k : ℕ). slice_set p.callers.desks.items k desk) c.from-2.ensures) refl refl c.work-done.ensures.desk

@@ -1,0 +1,128 @@
+-- How a client goes on by itself from one call to the next. Lists of entries stand newest first.
+use Rattle.std.specs.Prelude.{ℕ, ◌≡◌, Bool, List, [], ◌∷◌, Option, Some, None, MatchOption, ⊤}
+use Rattle.std.specs.List.{AllByRecursion}
+use Rattle.mn_base.specs.declared.ids.ClientNo.{ClientNo}
+use Rattle.mn_base.specs.declared.ids.NodeNo.{NodeNo}
+use Rattle.mn_base.specs.declared.ids.Tid.{Tid}
+use Rattle.mn_cell.specs.Runs.{IsIssueOf}
+use Rattle.mn_coord.specs.Legal.{IsAnswered}
+use Rattle.mn_mini.specs.RecordGrammar.{IsTid}
+use Rattle.mn_mini.specs.declared.reply.NodeReply.{NodeReply}
+use Rattle.mn_mini.specs.declared.request.Request.{Request}
+use Rattle.mn_proxy.specs.Agrees.{Agrees, Enters, IsSoundStep, MayStep, Wants}
+use Rattle.mn_proxy.specs.State.{IsReady, ProxyState}
+use Rattle.mn_proxy.specs.declared.step.ProxyStep.{ProxyStep}
+use Rattle.mn_script.specs.declared.elements.Point.{Point}
+use Rattle.mn_world.specs.declared.entry.Entry.{Entry}
+use Rattle.mn_world.specs.declared.entry.What.{What}
+use Rattle.mn_world.specs.Answers.{MeansBy}
+use Rattle.mn_world.specs.Calls.{begun_in, begun_of}
+use Rattle.mn_world.specs.Clients.{ClientAllows, last_number}
+use Rattle.mn_world.specs.Lists.{ClientState}
+use Rattle.mn_world.specs.Protocol.{IsOwnStep, Start, run_number, start_nodes}
+use Rattle.mn_world.specs.Protocol.{IsOfRun as IsWhatOfRun}
+use Rattle.mn_world.specs.Run.{entries_of}
+use Rattle.mn_hist.specs.Points.{points_met}
+use Rattle.mn_hist.specs.Watching.{number_of}
+use Rattle.mn_replay.specs.declared.client.Client.{Client}
+use Rattle.mn_replay.specs.declared.client.Went.{Went}
+use Rattle.mn_replay.specs.declared.client.Went.TheVariants.{On, Rests}
+use Rattle.mn_replay.specs.Clients.{HasProxy, IsAlive, past_of}
+use Rattle.mn_replay.specs.Points.{AsksAs, stop_due}
+use Rattle.mn_replay.specs.Steps.{own_entry}
+
+-- Steps of its own
+
+-- all but the list is the same
+abbrev pub IsSameBut : Client → Client → Type 0
+IsSameBut old new = new ≡ record old { list = new.list }
+
+-- its list has other room, and all else is the same
+abbrev pub IsSameButRoom : Client → Client → Type 0
+IsSameButRoom old new = new ≡ record old { list = record old.list { room = new.list.room } }
+
+-- the client of this list may make the step by itself
+abbrev pub MayAdd : ClientNo → List Entry → What → Type 0
+MayAdd c es what = IsOwnStep what × ClientAllows c es None what × MeansBy es what
+
+-- the list is its client's own and of this run, so many operations were begun, and the shared id is
+-- such as there may be
+pub record IsList (start : Start) (list : ClientState) (count : ℕ) (id : Option Tid)
+    : Type 0 where
+  pub own : AllByRecursion (λ e. e.client ≡ Some list.client) (entries_of list.entries)
+  pub of_run : AllByRecursion (IsIssueOf start) (entries_of list.entries)
+  pub begun : last_number (begun_of (entries_of list.entries)) ≡ count
+  pub shared : MatchOption id ⊤ IsTid
+
+-- what is so of its list, whatever the crash points
+abbrev pub HasList : Start → Client → Type 0
+HasList start c = IsList start c.list c.begun c.shared
+
+-- the lists met the same points, and the flags stay
+pub record MeetsSame (old : ClientState) (before : List Bool) (new : ClientState)
+    (after : List Bool) : Type 0 where
+  pub client : new.client ≡ old.client
+  pub flags : after ≡ before
+  pub met : (points : List Point)
+      → points_met points (entries_of new.entries) ≡ points_met points (entries_of old.entries)
+
+-- its list met the same points before and after
+abbrev pub KeepsPoints : Client → Client → Type 0
+KeepsPoints old new = MeetsSame old.list old.met.items new.list new.met.items
+
+-- the proxy works for the client of the list, in this run
+pub record WorksFor (start : Start) (list : ClientState) (p : ProxyState) : Type 0 where
+  pub client : p.client ≡ list.client
+  pub run : p.run ≡ run_number start
+  pub nodes : p.known.nodes ≡ start_nodes start
+
+-- the client of the list may make the step, with which the proxy agrees, and which begins no
+-- operation
+pub record MayMake (start : Start) (list : ClientState) (p : ProxyState) (what : What)
+    : Type 0 where
+  pub proxy : WorksFor start list p
+  pub may : MayAdd list.client (entries_of list.entries) what
+  pub agrees : Agrees (own_entry list.client what ∷ entries_of list.entries) p
+  pub of_run : IsWhatOfRun start what
+  pub begins_none : begun_in what ≡ []
+
+abbrev pub MakesStep : Start → Client → What → Type 0
+MakesStep start c what = MayMake start c.list c.proxy what
+
+-- Steps of its proxy
+
+-- the proxy handed out the step, which the list allows, and with which the proxy agrees
+pub record HandedOut (start : Start) (list : ClientState) (p : ProxyState) (step : ProxyStep)
+    : Type 0 where
+  pub proxy : WorksFor start list p
+  pub may : MayStep (entries_of list.entries) p step
+  pub enters : (new : List Entry) → Enters (entries_of list.entries) p step new → Agrees new p
+  pub sound : IsSoundStep (start_nodes start) step
+  pub wants : Wants step p
+
+abbrev pub MayTake : Start → Client → ProxyStep → Type 0
+MayTake start c step = HandedOut start c.list c.proxy step
+
+-- how it has gone on: its proxy is to be asked again, or nothing of its own is left to do
+abbrev pub HasGone : Start → Client → Went → Type 0
+HasGone start c On = HasProxy start c × IsReady c.proxy × (c.due ≡ None)
+HasGone start c Rests = IsAlive start c
+
+-- Calls
+
+-- its newest entry answers the call, which was asked to stop where the points say so
+pub record HasAnswer (points : List Point) (node : NodeNo) (request : Request) (reply : NodeReply)
+    (old new : Client) : Type 0 where
+  pub entry : Entry
+  pub longer : past_of new ≡ entry ∷ past_of old
+  pub answers : IsAnswered entry node request reply
+  pub stops : AsksAs (stop_due points old.list.client node request (past_of old)) entry.what
+
+-- its newest entry, which it made in its last operation, is still to be noted
+pub record IsUnnoted (points : List Point) (c : Client) : Type 0 where
+  pub last : Entry
+  pub before : List Entry
+  pub split : past_of c ≡ last ∷ before
+  pub own : AllByRecursion (λ e. e.client ≡ Some c.list.client) (past_of c)
+  pub number : number_of before ≡ Some c.begun
+  pub met : c.met.items ≡ points_met points before

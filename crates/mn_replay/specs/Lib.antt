@@ -1,0 +1,15 @@
+pub mod Turn
+pub mod Steps
+pub mod Points
+pub mod Clients
+pub mod Desks
+pub mod Trace
+pub mod Failed
+pub mod Causes
+pub mod Settled
+pub mod Doings
+pub mod Closing
+pub mod Going
+pub mod Plays
+pub mod Begins
+pub mod Ended

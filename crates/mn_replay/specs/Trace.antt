@@ -1,0 +1,72 @@
+-- What a replay comes to. Lists of entries stand newest first.
+use Rattle.std.specs.Prelude.{ℕ, ◌≡◌, ◌<◌, true, false, List, length, map, reverse, slice_get}
+use Rattle.std.specs.Prelude.{Some}
+use Rattle.mn_base.specs.declared.ids.NodeNo.{NodeNo}
+use Rattle.mn_cell.specs.Calls.{numbered}
+use Rattle.mn_cell.specs.Station.{AllStopAsTheyAdd, KeepsAsAsked, RoseBy, unasked}
+use Rattle.mn_io.specs.DiskModel.{DiskState}
+use Rattle.mn_io.specs.Faults.{Rose}
+use Rattle.mn_node.specs.State.{NodeState}
+use Rattle.mn_world.specs.declared.entry.Entry.{Entry}
+use Rattle.mn_world.specs.Calls.{node_entries}
+use Rattle.mn_world.specs.Nodes.{added_by, is_down, stopped_request}
+use Rattle.mn_world.specs.OneHistory.{AreFree, AreUp}
+use Rattle.mn_world.specs.Opened.{AreSound}
+use Rattle.mn_world.specs.Protocol.{Start, base_at, records_of, start_nodes, start_of}
+use Rattle.mn_world.specs.Protocol.{start_records}
+use Rattle.mn_world.specs.Run.{IsLogOfRun, entries_of}
+
+-- The nodes
+
+-- the nodes that are given: so many, numbered from 0 in order, and each up
+pub record MayBegin {D : Type 0} (nodes : ℕ) (given : List (NodeState D)) : Type 0 where
+  pub count : length given ≡ nodes
+  pub each : (k : ℕ) (m : NodeState D) → slice_get given k ≡ Some m
+      → (m.node ≡ k) × (m.nodes ≡ nodes) × (m.down ≡ false)
+
+-- a run starts from their records
+abbrev pub start_on : {D : Type 0} → List (NodeState D) → Start
+start_on given = start_of (map (λ m. m.records) given)
+
+-- The node is handed back as the log says: its records, up or down, and while it is down with the
+-- record of the request inside which it stopped. It stopped inside a request only where that would
+-- have added a record; unasked, at most as often as its disk's count of faults rose. An honest disk
+-- is left honest, and then each restart found what the stop before it had asked for.
+pub record IsHandedBack {D : Type 0} (state : D → DiskState) (faults : D → ℕ) (start : Start)
+    (past : List Entry) (n : NodeNo) (given left : NodeState D) : Type 0 where
+  pub node : left.node ≡ n.0
+  pub nodes : left.nodes ≡ start_nodes start
+  pub records : reverse left.records ≡ records_of start past n
+  pub down : left.down ≡ is_down (node_entries n past)
+  pub pending : left.down ≡ true → left.pending
+      ≡ added_by (base_at start n) (records_of start past n) (stopped_request (node_entries n past))
+  pub stops : AllStopAsTheyAdd (base_at start n) (start_records start n) (node_entries n past)
+  pub counted : RoseBy (unasked (node_entries n past)) (faults given.disk) (faults left.disk)
+  pub honest : (state given.disk).honest → (state left.disk).honest
+  pub kept : (state left.disk).honest
+      → KeepsAsAsked (Rose (faults given.disk) (faults left.disk)) (node_entries n past)
+
+-- each node is
+abbrev pub AreHandedBack : {D : Type 0} → (D → DiskState) → (D → ℕ) → Start → List Entry
+    → List (NodeState D) → List (NodeState D) → Type 0
+AreHandedBack {D} state faults start past given left =
+    (k : ℕ) (m w : NodeState D) → slice_get given k ≡ Some m → slice_get left k ≡ Some w
+    → IsHandedBack state faults start past (numbered k) m w
+
+-- The log
+
+-- each node is up, and none holds anything
+abbrev pub IsQuiet : Start → List Entry → Type 0
+IsQuiet start past = AreUp start past × AreFree start past
+
+-- the records with which the run starts fit together
+abbrev pub StartsSound : Start → Type 0
+StartsSound start = AreSound (start_nodes start) (start_records start)
+
+-- a trace: its log is a run, its nodes are handed back as the log says, and it ends quiet
+pub record IsTrace {D : Type 0} (state : D → DiskState) (faults : D → ℕ)
+    (given left : List (NodeState D)) (log : List (ℕ × Entry)) : Type 0 where
+  pub count : length left ≡ length given
+  pub run : IsLogOfRun (start_on given) log
+  pub back : AreHandedBack state faults (start_on given) (entries_of log) given left
+  pub quiet : StartsSound (start_on given) → IsQuiet (start_on given) (entries_of log)

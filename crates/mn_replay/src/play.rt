@@ -1,0 +1,412 @@
+//! A run that is played on one thread, act after act.
+ghost use Rattle.std.specs.Prelude.{◌≡◌, ◌≤◌, ◌<◌, ◌^◌, [], length, IfErr, IfOk, MatchOption, OnOk};
+ghost use Rattle.std.specs.Prelude.{⊤};
+ghost use Rattle.mn_base.specs.declared.ids.ClientNo.{ClientNo as ClientNumber};
+ghost use Rattle.mn_mini.specs.RecordGrammar.{IsTid};
+ghost use Rattle.mn_script.specs.Script.{IsAct};
+ghost use Rattle.mn_world.specs.Protocol.{Start, run_number, start_nodes, start_of};
+ghost use Rattle.mn_replay.specs.Begins.{AreNewClients, AreNewDesks};
+ghost use Rattle.mn_replay.specs.Causes.{IsCaused};
+ghost use Rattle.mn_replay.specs.Clients.{IsClient, IsOfRun};
+ghost use Rattle.mn_replay.specs.Desks.{IsDesk};
+ghost use Rattle.mn_replay.specs.Plays.{AreCallers, AreReady, HaveNumbers, IsOfSome, IsPlay};
+ghost use Rattle.mn_replay.specs.Plays.{StayReady, StaysPlay, list_by, play_of};
+ghost use Rattle.mn_replay.specs.Settled.{AreSettled};
+ghost use Rattle.mn_replay.specs.Turn.{GoesOn, IsTurn, seen_of, turn_of};
+
+use crate::client::Client;
+use crate::desk::Desk;
+use crate::settle::{CLOSER, Closer};
+use crate::table::Table;
+use mn_actors::{Actor, Pass};
+use mn_base::{ClientNo, NoMemory, NodeNo, Op, Tid};
+use mn_cell::{Named, RunCause};
+use mn_io::Disk;
+use mn_script::{Act, Point, Script};
+use mn_world::{ClientList, CoreLaw};
+use std::alloc::Global;
+
+/// The actor that is recovery coordinator 1.
+const FIRST_RECOVERER: u8 = 17;
+
+/// The most recovery coordinators.
+const RECOVERERS: u8 = 4;
+
+/// The callers of a run: its clients and recovery coordinators, and the coordinator that opens and
+/// closes.
+#[derive(Drop)]
+pub struct Callers {
+    pub clients: Vec<Client>,
+    pub desks: Vec<Desk>,
+    pub closer: Closer,
+}
+
+/// The clients of a script, of which none has done anything. NoMemory: there was no memory for
+/// them.
+fn new_clients(alloc: Global, script: &Script, run: u32) -> Result<Vec<Client>, NoMemory>
+    requires run { 1 ≤ run }
+    ensures count { IfOk result (λ clients. length clients.items ≡ length script.now.clients) }
+    ensures few { IfOk result (λ clients. length clients.items ≤ 16) }
+    ensures new { IfOk result (λ clients. AreNewClients run script.now clients.items) }
+{
+    let count = script.clients().len();
+    let mut clients = Vec::with_capacity(alloc, count)?;
+    for at in 0..count {
+        let client = ClientNo(at as u8);
+        clients.push(Client::new(alloc, client, run, script.nodes(), script.points())?)?;
+    }
+    Ok(clients)
+}
+
+/// The recovery coordinators, of which none has done anything. NoMemory: there was no memory for
+/// them.
+fn new_desks(alloc: Global) -> Result<Vec<Desk>, NoMemory>
+    ensures count { IfOk result (λ desks. length desks.items ≡ 4) }
+    ensures new { IfOk result (λ desks. AreNewDesks desks.items) }
+{
+    let mut desks = Vec::with_capacity(alloc, usize::from(RECOVERERS))?;
+    for at in 0..RECOVERERS {
+        desks.push(Desk::new(alloc, ClientNo(FIRST_RECOVERER + at)))?;
+    }
+    Ok(desks)
+}
+
+impl Callers {
+    /// The callers of a script, of which none has done anything. NoMemory: there was no memory for
+    /// them.
+    pub fn new(alloc: Global, script: &Script, run: u32) -> Result<Callers, NoMemory>
+        requires run { 1 ≤ run }
+        ensures callers { (start : Start) → run ≡ run_number start
+            → script.now.nodes ≡ start_nodes start
+            → IfOk result (AreCallers start script.now) }
+        ensures ready { (start : Start) → run ≡ run_number start
+            → script.now.nodes ≡ start_nodes start
+            → IfOk result (AreReady start script.now) }
+        ensures empty { (c : ClientNumber) → IfOk result (λ callers. list_by callers c ≡ []) }
+        ensures numbers { IfOk result HaveNumbers }
+        ensures few { IfOk result (λ callers. length callers.clients.items ≤ 16) }
+        ensures desks { IfOk result (λ callers. length callers.desks.items ≡ 4) }
+    {
+        Ok(Callers {
+            clients: new_clients(alloc, script, run)?,
+            desks: new_desks(alloc)?,
+            closer: Closer {
+                list: ClientList::new(alloc, CLOSER),
+            },
+        })
+    }
+}
+
+/// A run of a script that is under way: `rest` owns the callers that have no turn. A turn begins
+/// where the pass is split that owns its actor alone: all that stands in the log by then stands
+/// before its next entry.
+#[derive(Drop)]
+pub struct Play<N: Named, D: Disk> {
+    pub table: Table<N, D>,
+    pub rest: Pass<CoreLaw>,
+    pub callers: Callers,
+}
+
+/// What a client is to do.
+#[derive(Clone, Copy)]
+enum Move {
+    Step,
+    Plan,
+    Go,
+    All,
+}
+
+/// The client does it.
+fn make_move<N: Named, D: Disk>(
+    alloc: Global,
+    caller: &mut Client,
+    table: &mut Table<N, D>,
+    pass: &mut Pass<CoreLaw>,
+    points: &[Point],
+    ops: &[Op],
+    what: Move,
+) -> Result<(), NoMemory>
+    requires turn { IsTurn N.board (length N.records)
+        (turn_of (seen_of table.old.board) table.old.stations.items pass.old caller.old.list) }
+    requires client { IsClient (start_of N.records) points.now caller.old }
+    requires few { length ops.now < 2 ^ 32 }
+    ensures turn { IsTurn N.board (length N.records)
+        (turn_of (seen_of table.new.board) table.new.stations.items pass.new caller.new.list) }
+    ensures goes_on { GoesOn (turn_of
+        (seen_of table.old.board) table.old.stations.items pass.old caller.old.list)
+        (turn_of (seen_of table.new.board) table.new.stations.items pass.new caller.new.list) }
+    ensures client { OnOk result (IsClient (start_of N.records) points.now caller.new) }
+    ensures of_run { IsOfRun (start_of N.records) points.now caller.new }
+{
+    match what {
+        Move::Step => caller.step(alloc, table, pass, points, ops),
+        Move::Plan => caller.plan(alloc, table, pass, points, ops),
+        Move::Go => caller.go(alloc, table, pass, points, ops),
+        Move::All => caller.all(alloc, table, pass, points, ops),
+    }
+}
+
+/// The recovery coordinator works: one call, or as far as it comes.
+fn work<N: Named, D: Disk>(
+    alloc: Global,
+    desk: &mut Desk,
+    table: &mut Table<N, D>,
+    pass: &mut Pass<CoreLaw>,
+    shared: Option<Tid>,
+    to_the_end: bool,
+) -> Result<(), NoMemory>
+    requires turn { IsTurn N.board (length N.records)
+        (turn_of (seen_of table.old.board) table.old.stations.items pass.old desk.old.list) }
+    requires desk { IsDesk (start_of N.records) desk.old }
+    requires id { MatchOption shared ⊤ IsTid }
+    ensures turn { IsTurn N.board (length N.records)
+        (turn_of (seen_of table.new.board) table.new.stations.items pass.new desk.new.list) }
+    ensures goes_on { GoesOn (turn_of
+        (seen_of table.old.board) table.old.stations.items pass.old desk.old.list)
+        (turn_of (seen_of table.new.board) table.new.stations.items pass.new desk.new.list) }
+    ensures desk { IsDesk (start_of N.records) desk.new }
+{
+    if to_the_end {
+        desk.recover(alloc, table, pass, shared)
+    } else {
+        desk.step(alloc, table, pass, shared)
+    }
+}
+
+impl<N: Named, D: Disk> Play<N, D> {
+    /// The client does something in its turn.
+    fn client_turn(
+        &mut self,
+        alloc: Global,
+        script: &Script,
+        client: ClientNo,
+        what: Move,
+    ) -> Result<(), NoMemory>
+        requires play { IsPlay N.board (start_of N.records) script.now
+            (play_of (seen_of self.old.table.board) self.old.table.stations.items self.old.rest
+            self.old.callers) }
+        requires ready { AreReady (start_of N.records) script.now self.old.callers }
+        requires client { client.0 < length script.now.clients }
+        ensures play { IsPlay N.board (start_of N.records) script.now
+            (play_of (seen_of self.new.table.board) self.new.table.stations.items self.new.rest
+            self.new.callers) }
+        ensures ready { OnOk result (AreReady (start_of N.records) script.now self.new.callers) }
+    {
+        let at = usize::from(client.0);
+        let ops = script.clients()[at].ops.as_slice();
+        let points = script.points();
+        let mut pass = self
+            .table
+            .board
+            .split(&mut self.rest, Actor::Client { client });
+        let caller = &mut self.callers.clients[at];
+        let done = make_move(alloc, caller, &mut self.table, &mut pass, points, ops, what);
+        self.table.board.join(&mut self.rest, pass);
+        done
+    }
+
+    /// The recovery coordinator (from 1) works in its turn: one call, or as far as it comes.
+    fn recoverer_turn(
+        &mut self,
+        alloc: Global,
+        recoverer: u8,
+        client: ClientNo,
+        to_the_end: bool,
+    ) -> Result<(), NoMemory>
+        requires play { IsOfSome N.board (start_of N.records)
+            (play_of (seen_of self.old.table.board) self.old.table.stations.items self.old.rest
+            self.old.callers) }
+        requires recoverer { (1 ≤ recoverer) × (recoverer ≤ 4) }
+        requires client { client.0 < length self.old.callers.clients.items }
+        ensures play { StaysPlay N.board (start_of N.records)
+            (play_of (seen_of self.old.table.board) self.old.table.stations.items self.old.rest
+            self.old.callers) (play_of (seen_of self.new.table.board) self.new.table.stations.items
+            self.new.rest self.new.callers) }
+        ensures ready { StayReady (start_of N.records) self.old.callers self.new.callers }
+    {
+        let shared = self.callers.clients[usize::from(client.0)].shared();
+        let at = recoverer - 1;
+        let actor = ClientNo(FIRST_RECOVERER + at);
+        let mut pass = self
+            .table
+            .board
+            .split(&mut self.rest, Actor::Client { client: actor });
+        let desk = &mut self.callers.desks[usize::from(at)];
+        let done = work(alloc, desk, &mut self.table, &mut pass, shared, to_the_end);
+        self.table.board.join(&mut self.rest, pass);
+        done
+    }
+
+    /// A node stops between two calls.
+    fn halt(&mut self, node: NodeNo) -> Result<(), NoMemory>
+        requires play { IsOfSome N.board (start_of N.records)
+            (play_of (seen_of self.old.table.board) self.old.table.stations.items self.old.rest
+            self.old.callers) }
+        requires node { node.0 < length N.records }
+        ensures play { StaysPlay N.board (start_of N.records)
+            (play_of (seen_of self.old.table.board) self.old.table.stations.items self.old.rest
+            self.old.callers) (play_of (seen_of self.new.table.board) self.new.table.stations.items
+            self.new.rest self.new.callers) }
+        ensures ready { StayReady (start_of N.records) self.old.callers self.new.callers }
+    {
+        let mut pass = self
+            .table
+            .board
+            .split(&mut self.rest, Actor::Client { client: CLOSER });
+        let done = self
+            .table
+            .halt(&mut pass, &mut self.callers.closer.list, node);
+        self.table.board.join(&mut self.rest, pass);
+        done
+    }
+
+    /// A node is restarted. One whose restart fails stays down.
+    fn restart(&mut self, alloc: Global, node: NodeNo)
+        requires play { IsOfSome N.board (start_of N.records)
+            (play_of (seen_of self.old.table.board) self.old.table.stations.items self.old.rest
+            self.old.callers) }
+        requires node { node.0 < length N.records }
+        ensures play { StaysPlay N.board (start_of N.records)
+            (play_of (seen_of self.old.table.board) self.old.table.stations.items self.old.rest
+            self.old.callers) (play_of (seen_of self.new.table.board) self.new.table.stations.items
+            self.new.rest self.new.callers) }
+        ensures ready { StayReady (start_of N.records) self.old.callers self.new.callers }
+    {
+        let mut pass = self
+            .table
+            .board
+            .split(&mut self.rest, Actor::Client { client: CLOSER });
+        let _done = self
+            .table
+            .restart(alloc, &mut pass, &mut self.callers.closer.list, node);
+        self.table.board.join(&mut self.rest, pass);
+    }
+
+    /// Does an act. NoMemory: there was no memory to begin it.
+    fn act(&mut self, alloc: Global, script: &Script, act: Act) -> Result<(), NoMemory>
+        requires play { IsPlay N.board (start_of N.records) script.now
+            (play_of (seen_of self.old.table.board) self.old.table.stations.items self.old.rest
+            self.old.callers) }
+        requires ready { AreReady (start_of N.records) script.now self.old.callers }
+        requires act { IsAct script.now.nodes script.now.recoverers script.now.clients act }
+        requires recoverers { script.now.recoverers ≤ 4 }
+        ensures play { IsPlay N.board (start_of N.records) script.now
+            (play_of (seen_of self.new.table.board) self.new.table.stations.items self.new.rest
+            self.new.callers) }
+        ensures ready { OnOk result (AreReady (start_of N.records) script.now self.new.callers) }
+    {
+        match act {
+            Act::Step { client } => self.client_turn(alloc, script, client, Move::Step),
+            Act::Plan { client } => self.client_turn(alloc, script, client, Move::Plan),
+            Act::Go { client } => self.client_turn(alloc, script, client, Move::Go),
+            Act::All { client } => self.client_turn(alloc, script, client, Move::All),
+            Act::Halt { node } => self.halt(node),
+            Act::Restart { node } => {
+                self.restart(alloc, node);
+                Ok(())
+            }
+            Act::Rstep { recoverer, client } => {
+                self.recoverer_turn(alloc, recoverer, client, false)
+            }
+            Act::Recover { recoverer, client } => {
+                self.recoverer_turn(alloc, recoverer, client, true)
+            }
+        }
+    }
+
+    /// Does the acts of the schedule.
+    fn do_schedule(&mut self, alloc: Global, script: &Script) -> Result<(), NoMemory>
+        requires play { IsPlay N.board (start_of N.records) script.now
+            (play_of (seen_of self.old.table.board) self.old.table.stations.items self.old.rest
+            self.old.callers) }
+        requires ready { AreReady (start_of N.records) script.now self.old.callers }
+        ensures play { IsPlay N.board (start_of N.records) script.now
+            (play_of (seen_of self.new.table.board) self.new.table.stations.items self.new.rest
+            self.new.callers) }
+        ensures ready { OnOk result (AreReady (start_of N.records) script.now self.new.callers) }
+    {
+        for act in script.schedule() {
+            self.act(alloc, script, *act)?;
+        }
+        Ok(())
+    }
+
+    /// Does all that each client has left.
+    fn finish(&mut self, alloc: Global, script: &Script) -> Result<(), NoMemory>
+        requires play { IsPlay N.board (start_of N.records) script.now
+            (play_of (seen_of self.old.table.board) self.old.table.stations.items self.old.rest
+            self.old.callers) }
+        requires ready { AreReady (start_of N.records) script.now self.old.callers }
+        ensures play { IsPlay N.board (start_of N.records) script.now
+            (play_of (seen_of self.new.table.board) self.new.table.stations.items self.new.rest
+            self.new.callers) }
+    {
+        let count = script.clients().len();
+        for at in 0..count {
+            self.client_turn(alloc, script, ClientNo(at as u8), Move::All)?;
+        }
+        Ok(())
+    }
+
+    /// Does the acts of the schedule, and then all that each client has left.
+    fn do_acts(&mut self, alloc: Global, script: &Script) -> Result<(), NoMemory>
+        requires play { IsPlay N.board (start_of N.records) script.now
+            (play_of (seen_of self.old.table.board) self.old.table.stations.items self.old.rest
+            self.old.callers) }
+        requires ready { AreReady (start_of N.records) script.now self.old.callers }
+        ensures play { IsPlay N.board (start_of N.records) script.now
+            (play_of (seen_of self.new.table.board) self.new.table.stations.items self.new.rest
+            self.new.callers) }
+    {
+        self.do_schedule(alloc, script)?;
+        self.finish(alloc, script)
+    }
+
+    /// Opens or closes: restarts each node that is down, and recovers each id that a node holds.
+    fn settle(&mut self, alloc: Global) -> Result<(), RunCause>
+        requires play { IsOfSome N.board (start_of N.records)
+            (play_of (seen_of self.old.table.board) self.old.table.stations.items self.old.rest
+            self.old.callers) }
+        ensures play { StaysPlay N.board (start_of N.records)
+            (play_of (seen_of self.old.table.board) self.old.table.stations.items self.old.rest
+            self.old.callers) (play_of (seen_of self.new.table.board) self.new.table.stations.items
+            self.new.rest self.new.callers) }
+        ensures ready { StayReady (start_of N.records) self.old.callers self.new.callers }
+        ensures settled { OnOk result
+            (AreSettled (length N.records) self.new.table.stations.items) }
+        ensures caused { IfErr result
+            (IsCaused D.faults N.faults N.honest self.new.table.stations.items) }
+    {
+        let mut pass = self
+            .table
+            .board
+            .split(&mut self.rest, Actor::Client { client: CLOSER });
+        let done = self
+            .callers
+            .closer
+            .settle(alloc, &mut self.table, &mut pass);
+        self.table.board.join(&mut self.rest, pass);
+        done
+    }
+
+    /// Opens, does the acts, and closes.
+    pub fn play(&mut self, alloc: Global, script: &Script) -> Result<(), RunCause>
+        requires play { IsPlay N.board (start_of N.records) script.now
+            (play_of (seen_of self.old.table.board) self.old.table.stations.items self.old.rest
+            self.old.callers) }
+        requires ready { AreReady (start_of N.records) script.now self.old.callers }
+        ensures play { IsPlay N.board (start_of N.records) script.now
+            (play_of (seen_of self.new.table.board) self.new.table.stations.items self.new.rest
+            self.new.callers) }
+        ensures settled { OnOk result
+            (AreSettled (length N.records) self.new.table.stations.items) }
+        ensures caused { IfErr result
+            (IsCaused D.faults N.faults N.honest self.new.table.stations.items) }
+    {
+        self.settle(alloc)?;
+        if self.do_acts(alloc, script).is_err() {
+            return Err(RunCause::NoMemory);
+        }
+        self.settle(alloc)
+    }
+}

@@ -1,0 +1,180 @@
+//! What the actors of a run share: its board, and the stations of its nodes.
+ghost use Rattle.std.specs.Prelude.{◌≡◌, ◌≢◌, ◌≤◌, ◌<◌, ◌+◌, ◌++◌, ◌∷◌, ◌^◌, [], Some, None, IfOk};
+ghost use Rattle.std.specs.Prelude.{IfErr, length, true, false};
+ghost use Rattle.std.specs.Prelude.{◌⊎◌, Bool, OnErr, OnOk, slice_get};
+ghost use Rattle.mn_replay.specs.Turn.{seen_of};
+ghost use Rattle.mn_base.specs.declared.ids.NodeNo.{NodeNo as Numbered};
+ghost use Rattle.mn_cell.specs.Calls.{IsUndamaged, KeepsStop, MaySend, entry_at, what_said};
+ghost use Rattle.mn_cell.specs.Promises.{IsOwedAt, decided_by};
+ghost use Rattle.mn_mini.specs.Sound.{Fits, IsSoundRequest};
+ghost use Rattle.mn_world.specs.declared.entry.What.TheVariants.{Stopped, Restarted};
+ghost use Rattle.mn_world.specs.Run.{IsLegalBy, entries_of};
+ghost use Rattle.mn_replay.specs.Turn.{AreStations, GoesOn, IsTurn, turn_of};
+ghost use Rattle.mn_replay.specs.Steps.{Adds, Keeps, own_entry};
+ghost use Rattle.mn_replay.specs.Causes.{IsCaused, cause_of};
+ghost use Rattle.mn_replay.specs.Doings.{HasAnswered, IsAnswer, IsDownAs, OthersStay};
+ghost use Rattle.mn_replay.specs.Failed.{closer};
+ghost use Rattle.mn_world.specs.Protocol.{base_at, start_of};
+ghost use Rattle.mn_cell.specs.declared.trace.RunCause.{RunCause};
+
+use mn_actors::{Board, Pass};
+use mn_base::{NoMemory, NodeNo, StopAt};
+use mn_cell::{Named, Station};
+use mn_io::Disk;
+use mn_mini::{NodeReply, Request};
+use mn_node::RestartError;
+use mn_world::{ClientList, CoreLaw, Entry, What};
+use std::alloc::Global;
+
+/// The board of a run and the stations of its nodes, from number 0 on.
+#[derive(Drop)]
+pub struct Table<N: Named, D: Disk> {
+    pub board: Board<CoreLaw>,
+    pub stations: Vec<Station<N, D>>,
+}
+
+impl<N: Named, D: Disk> Table<N, D> {
+    /// Adds a step that an actor makes by itself, for which its list has room.
+    pub fn add(&mut self, pass: &mut Pass<CoreLaw>, list: &mut ClientList, what: What)
+        requires turn { IsTurn N.board (length N.records)
+            (turn_of (seen_of self.old.board) self.old.stations.items pass.old list.old) }
+        requires legal { IsLegalBy (entries_of list.old.entries) (own_entry list.old.client what) }
+        requires room { 0 < list.old.room }
+        ensures turn { IsTurn N.board (length N.records)
+            (turn_of (seen_of self.new.board) self.new.stations.items pass.new list.new) }
+        ensures goes_on { GoesOn (turn_of
+            (seen_of self.old.board) self.old.stations.items pass.old list.old)
+            (turn_of (seen_of self.new.board) self.new.stations.items pass.new list.new) }
+        ensures added { Adds (own_entry list.old.client what) list.old list.new }
+        ensures room { list.new.room + 1 ≡ list.old.room }
+        ensures stations { self.new.stations.items ≡ self.old.stations.items }
+    {
+        let client = list.client();
+        // A list with room is no longer than a log may be.
+        let _room = list.room();
+        let entry = Entry {
+            node: None,
+            client: Some(client),
+            what,
+        };
+        let place = self.board.append_ref(pass, &entry, None, Some(client));
+        list.push(place, entry);
+    }
+
+    /// Calls a node for an actor, and stops it inside the call where that is asked. NoMemory: there
+    /// was none, and there is no entry. It never comes for a decision that is owed, where the list
+    /// has room.
+    pub fn call(
+        &mut self,
+        alloc: Global,
+        pass: &mut Pass<CoreLaw>,
+        list: &mut ClientList,
+        node: NodeNo,
+        request: Request,
+        stop: Option<StopAt>,
+    ) -> NodeReply
+        requires turn { IsTurn N.board (length N.records)
+            (turn_of (seen_of self.old.board) self.old.stations.items pass.old list.old) }
+        requires node { node.0 < length N.records }
+        requires sound { IsSoundRequest request }
+        requires legal { MaySend node list.old.client list.old.entries request stop }
+        ensures turn { IsTurn N.board (length N.records)
+            (turn_of (seen_of self.new.board) self.new.stations.items pass.new list.new) }
+        ensures goes_on { GoesOn (turn_of
+            (seen_of self.old.board) self.old.stations.items pass.old list.old)
+            (turn_of (seen_of self.new.board) self.new.stations.items pass.new list.new) }
+        ensures fits { Fits request result }
+        ensures said { result ≢ NodeReply.NoMemory
+            → Adds (entry_at node list.old.client (what_said request stop result)) list.old
+            list.new }
+        ensures none { result ≡ NodeReply.NoMemory → list.new.entries ≡ list.old.entries }
+        ensures room { list.old.room ≤ list.new.room + 1 }
+        ensures owed { IsOwedAt node (decided_by request) (entries_of list.old.entries)
+            → 0 < list.old.room → result ≢ NodeReply.NoMemory }
+        ensures stop { KeepsStop stop request result }
+        ensures others { OthersStay node self.old.stations.items self.new.stations.items }
+        ensures answered { IsAnswer result
+            → HasAnswered (base_at (start_of N.records) node) node request result
+            self.old.stations.items self.new.stations.items }
+        ensures was_down { result ≡ NodeReply.Down → IsDownAs true self.old.stations.items node }
+        ensures stopped { result ≡ NodeReply.Stopped → stop ≡ None → list.old.client ≡ closer
+            → IsCaused D.faults N.faults N.honest self.new.stations.items (RunCause.Disk node) }
+    {
+        // What the call does shows by what the station has made before and after it.
+        let station = &mut self.stations[usize::from(node.0)];
+        station.made();
+        let reply = station.call(alloc, &self.board, pass, list, request, stop);
+        station.made();
+        reply
+    }
+
+    /// Stops a node between two calls, if it is up. NoMemory: there was none for the entry.
+    pub fn halt(
+        &mut self,
+        pass: &mut Pass<CoreLaw>,
+        list: &mut ClientList,
+        node: NodeNo,
+    ) -> Result<(), NoMemory>
+        requires turn { IsTurn N.board (length N.records)
+            (turn_of (seen_of self.old.board) self.old.stations.items pass.old list.old) }
+        requires node { node.0 < length N.records }
+        ensures turn { IsTurn N.board (length N.records)
+            (turn_of (seen_of self.new.board) self.new.stations.items pass.new list.new) }
+        ensures goes_on { GoesOn (turn_of
+            (seen_of self.old.board) self.old.stations.items pass.old list.old)
+            (turn_of (seen_of self.new.board) self.new.stations.items pass.new list.new) }
+        ensures halts { OnOk result (Keeps list.old list.new
+            ⊎ Adds (entry_at node list.old.client (Stopped None None)) list.old list.new) }
+        ensures none { OnErr result (Keeps list.old list.new) }
+    {
+        let station = &mut self.stations[usize::from(node.0)];
+        station.halt(&self.board, pass, list)?;
+        Ok(())
+    }
+
+    /// Restarts a node, if it is down. The causes are those of the station's own restart; after an
+    /// error there is no entry, and the node is still down.
+    pub fn restart(
+        &mut self,
+        alloc: Global,
+        pass: &mut Pass<CoreLaw>,
+        list: &mut ClientList,
+        node: NodeNo,
+    ) -> Result<(), RestartError>
+        requires turn { IsTurn N.board (length N.records)
+            (turn_of (seen_of self.old.board) self.old.stations.items pass.old list.old) }
+        requires node { node.0 < length N.records }
+        ensures turn { IsTurn N.board (length N.records)
+            (turn_of (seen_of self.new.board) self.new.stations.items pass.new list.new) }
+        ensures goes_on { GoesOn (turn_of
+            (seen_of self.old.board) self.old.stations.items pass.old list.old)
+            (turn_of (seen_of self.new.board) self.new.stations.items pass.new list.new) }
+        ensures restarts { OnOk result
+            (Keeps list.old list.new ⊎ ((kept : Bool)
+            × Adds (entry_at node list.old.client (Restarted kept)) list.old list.new)) }
+        ensures none { OnErr result (Keeps list.old list.new) }
+        ensures failed { IfErr result
+            (λ e. IsCaused D.faults N.faults N.honest self.new.stations.items (cause_of node e)) }
+        ensures others { OthersStay node self.old.stations.items self.new.stations.items }
+        ensures up { OnOk result (IsDownAs false self.new.stations.items node) }
+    {
+        let station = &mut self.stations[usize::from(node.0)];
+        station.made();
+        match station.restart(alloc, &self.board, pass, list) {
+            Ok(_kept) => Ok(()),
+            Err(error) => {
+                station.made();
+                Err(error)
+            }
+        }
+    }
+
+    /// How many nodes there are.
+    pub fn nodes(&self) -> u8
+        requires { AreStations (length N.records) self.now.stations.items }
+        ensures count { result ≡ length N.records }
+        ensures few { result ≤ 8 }
+    {
+        self.stations.len() as u8
+    }
+}
