@@ -1,20 +1,16 @@
 -- What is due before a disk is touched, and by whom a line is told instead of another.
-use Rattle.std.proofs.Common.{◌≡◌, ◌<◌, ◌≤◌, ◌^◌, ℕ, true, List, [], ◌∷◌, ◌++◌, suc, length, refl, ap, sym, subst, ◌∙◌, inl, inr, arith, Result, Ok, Err}
+use Rattle.std.proofs.Common.{◌≡◌, ℕ, true, List, refl, ap, sym, subst, ◌∙◌, inl, inr, Result, Ok, Err}
 use Rattle.std.specs.Prelude.{Option, Some, None, IfErr, ◌⊎◌}
-use Rattle.std.specs.List.{AllByRecursion}
 use Rattle.std.proofs.lemmas.Bool.{false≢true}
 use Rattle.mn_io.specs.DiskModel.{DiskState}
-use Rattle.mn_script.specs.declared.elements.ScriptClient.{ScriptClient}
-use Rattle.mn_script.specs.Script.{IsClient}
-use Rattle.mn_top.specs.declared.due.DamageRule.TheVariants.{Log, Runs}
+use Rattle.mn_top.specs.declared.due.DamageRule.TheVariants.{Log, Votes, Both, Forest, Runs, Kept}
 use Rattle.mn_top.specs.declared.due.Due.{Due}
 use Rattle.mn_top.specs.declared.due.Due.TheVariants.{Report, Usage, Refused, ReadFault, DiskFault, Damaged, NoMemory, Disks, Unbuilt}
 use Rattle.mn_top.specs.declared.words.Command.{Command}
 use Rattle.mn_top.specs.declared.words.Command.TheVariants.{Replay, Run, Gen, Check}
-use Rattle.mn_script.specs.Script.{Script}
-use Rattle.std.proofs.lemmas.List.{length-append}
-use Rattle.mn_top.specs.Program.{ComesTo, IsCalled, IsDue, IsDueBefore, IsLine}
-use Rattle.mn_top.specs.Run.{HasFewOps}
+use Rattle.mn_world.specs.declared.entry.Entry.{Entry}
+use Rattle.mn_top.specs.Ending.{ComesTo, EndsEarly, IsUntouchedOrRun, Replaying}
+use Rattle.mn_top.specs.Program.{IsDue, IsDueBefore, IsLine}
 use Rattle.mn_top.specs.Words.{AskReplay, Asked, Asks, Text, is_there, replay_on}
 
 there_asks : (words : List Text) (command : Command) (nodes : ℕ) (number : Option ℕ) (folder : Option Text) → Asks words (record { command = command; nodes = nodes; number = number; folder = folder })
@@ -33,13 +29,6 @@ asks_replay words asked command nodes given folder asks of_command of_nodes of_f
     let is = sym (ap (λ (c : Command). is_there c folder) of_command ∙ ap (λ (f : Option Text). is_there asked.command f) of_folder) ∙ there in
     subst (AskReplay words) (sym of_nodes ∙ same) (there_asks words asked.command asked.nodes asked.number asked.folder asks is)
 
-pub few_ops : (clients : List ScriptClient) → AllByRecursion IsClient clients → AllByRecursion HasFewOps clients
-few_ops [] all = tt
-few_ops (c ∷ clients) all = (few (length c.ops) all.0.1, few_ops clients all.1)
-  where
-    few : (n : ℕ) → n ≤ 2000 → n < 2 ^ 32
-    few n h = omega arith
-
 -- a script that is none is not by a fault of the source
 pub due_before : (words : List Text) (known : Option (List ℕ)) (failed : Type 0) (given : ℕ) (due : Due) → IsDueBefore words known ⊥ given due → IsDueBefore words known failed given due
 due_before words known failed given Usage why = why
@@ -57,19 +46,37 @@ pub err_before : {X : Type 0} (words : List Text) (known : Option (List ℕ)) (f
 err_before words known failed given (Ok x) why = why
 err_before words known failed given (Err due) why = due_before words known failed given due why
 
--- where there is no memory for a line, that is told, and it is true of the disk too
-pub told_instead : {D : Type 0} (state : D → DiskState) (faults : D → ℕ) (clients : List ScriptClient) (old new : D) (due : Due) → IsLine due → ComesTo state faults clients old due new
-    → ComesTo state faults clients old NoMemory new
-told_instead state faults clients old new (DiskFault node) line comes = comes.2
-told_instead state faults clients old new (Damaged node place Log) line comes = inl (comes.1).unwritten
-told_instead state faults clients old new (Damaged node place Runs) line comes = inl (comes.2).unwritten
-told_instead state faults clients old new NoMemory line comes = comes
-told_instead state faults clients old new Unbuilt line comes = inl comes.unwritten
-told_instead state faults clients old new (Report report) line comes = absurd line
-told_instead state faults clients old new Usage line comes = absurd comes
-told_instead state faults clients old new (Refused row column) line comes = absurd comes
-told_instead state faults clients old new ReadFault line comes = absurd comes
-told_instead state faults clients old new (Disks given wanted) line comes = absurd comes
+-- where there is no memory for a line, that is told, and it is true of the replay too
+early : {D : Type 0} (state : D → DiskState) (faults : D → ℕ) (r : Replaying D) → IsUntouchedOrRun state faults r → EndsEarly state faults r
+early state faults r (inl none) = inl none
+early state faults r (inr run) = inr (r.log, run, inl refl)
+
+told_instead : {D : Type 0} (state : D → DiskState) (faults : D → ℕ) (r : Replaying D) (due : Due) → IsLine due → ComesTo state faults r due → ComesTo state faults r NoMemory
+told_instead state faults r (DiskFault node) line comes = early state faults r comes.log
+told_instead state faults r (Damaged node place Log) line comes = inl comes.0
+told_instead state faults r (Damaged node place Votes) line comes = inl comes.0
+told_instead state faults r (Damaged node place Both) line comes = inl comes.0
+told_instead state faults r (Damaged node place (Forest rule)) line comes = inl comes.0
+told_instead state faults r (Damaged node place Runs) line comes = inl comes.0
+told_instead state faults r (Damaged node place Kept) line comes = inr (r.log, comes.made, inl refl)
+told_instead state faults r NoMemory line comes = comes
+told_instead state faults r (Report report) line comes = absurd line
+told_instead state faults r Unbuilt line comes = absurd comes
+told_instead state faults r Usage line comes = absurd comes
+told_instead state faults r (Refused row column) line comes = absurd comes
+told_instead state faults r ReadFault line comes = absurd comes
+told_instead state faults r (Disks given wanted) line comes = absurd comes
+
+-- and of what is due before
+due_instead : {D : Type 0} (state : D → DiskState) (faults : D → ℕ) (words : List Text) (known : Option (List ℕ)) (failed ended : Type 0) (given left : List D) (log : List (ℕ × Entry)) (due : Due)
+    → IsLine due → IsDue state faults words known failed ended given left log due → IsDue state faults words known failed ended given left log NoMemory
+due_instead state faults words known failed ended given left log due line (inl (before, same, none)) = inl (tt, same, none)
+due_instead state faults words known failed ended given left log due line (inr meets) = inr (record {
+  script = meets.script;
+  called = meets.called;
+  count = meets.count;
+  so = told_instead state faults _ due line meets.so;
+})
 
 pub is_line : (due : Due) → ((text : List ℕ) → due ≡ Report text → ⊥) → IsLine due
 is_line (Report report) none = none report refl
@@ -82,16 +89,9 @@ is_line NoMemory none = tt
 is_line (Disks told wanted) none = tt
 is_line Unbuilt none = tt
 
--- a run on the one disk, and what was written of it
-pub meets : {D : Type 0} (state : D → DiskState) (faults : D → ℕ) (words : List Text) (known : Option (List ℕ)) (failed ended : Type 0) (old new : List D) (due : Due) (script : Script) (disk after : D)
-    → IsCalled words known ended script → old ≡ disk ∷ [] → new ≡ after ∷ [] → ComesTo state faults script.clients disk due after → {So : Due → Type 0} → So due ⊎ (IsLine due × So NoMemory)
-    → (told : Due) × IsDue state faults words known failed ended old new told × So told
-meets state faults words known failed ended old new due script disk after called old_is new_is comes (inl finished) =
-    (due, inr (record { script = script; called = called; disk = disk; after = after; old_is = old_is; new_is = new_is; so = comes }), finished)
-meets state faults words known failed ended old new due script disk after called old_is new_is comes (inr instead) =
-    (NoMemory, inr (record { script = script; called = called; disk = disk; after = after; old_is = old_is; new_is = new_is; so = told_instead state faults script.clients disk after due instead.0 comes }), instead.1)
-
--- the last of one disk is the one
-pub one_disk : {D : Type 0} (disks rest : List D) (disk : D) → length disks ≡ 1 → disks ≡ rest ++ disk ∷ [] → rest ≡ []
-one_disk disks [] disk one e = refl
-one_disk disks (d ∷ rest) disk one e = absurd (let n = sym one ∙ ap (λ l. length l) e ∙ ap suc (length-append rest (disk ∷ [])) in grind arith)
+-- what was due, or want of memory, was written
+pub so_due : {D : Type 0} (state : D → DiskState) (faults : D → ℕ) (words : List Text) (known : Option (List ℕ)) (failed ended : Type 0) (given left : List D) (log : List (ℕ × Entry)) (due : Due)
+    → IsDue state faults words known failed ended given left log due → {So : Due → Type 0} → So due ⊎ (IsLine due × So NoMemory)
+    → (told : Due) × IsDue state faults words known failed ended given left log told × So told
+so_due state faults words known failed ended given left log due is (inl finished) = (due, is, finished)
+so_due state faults words known failed ended given left log due is (inr instead) = (NoMemory, due_instead state faults words known failed ended given left log due instead.0 is, instead.1)

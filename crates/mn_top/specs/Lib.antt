@@ -1,11 +1,8 @@
 pub mod Words
-pub mod Leaf
-pub mod Served
-pub mod Report
-pub mod Disk
-pub mod Program
-pub mod Open
-pub mod Serve
-pub mod Run
-pub mod Opening
 pub mod CommandLine
+pub mod Opening
+pub mod Replayed
+pub mod Ending
+pub mod Logs
+pub mod Crashes
+pub mod Program

@@ -1,59 +1,79 @@
--- A disk that was opened, and what came of it.
-use Rattle.std.specs.Prelude.{◌≡◌, ◌≢◌, ◌≤◌, ℕ, List, Result, Ok, Err}
-use Rattle.mn_io.specs.DiskModel.{DiskState}
-use Rattle.mn_io.specs.Faults.{Rose}
-use Rattle.mn_node.specs.declared.start.StartCause.{StartCause}
-use Rattle.mn_node.specs.declared.start.StartCause.TheVariants as starting
-use Rattle.mn_redo.specs.declared.open.OpenCause.{OpenCause}
-use Rattle.mn_redo.specs.declared.open.OpenCause.TheVariants as opening
-use Rattle.mn_redo.specs.declared.redo.Phase.TheVariants.{Closing}
-use Rattle.mn_redo.specs.Grammar.{IsDamaged, Stands}
-use Rattle.mn_redo.specs.Redo.{RedoState, StandsFor}
-use Rattle.mn_top.specs.Disk.{IsUnwritten}
-use Rattle.mn_top.specs.declared.due.DamageRule.TheVariants.{Log}
-use Rattle.mn_top.specs.declared.due.Due.{Due}
-use Rattle.mn_top.specs.declared.due.Due.TheVariants.{Report, DiskFault, Damaged, NoMemory}
-use Rattle.mn_top.specs.declared.caller.Stop.{Stop}
-use Rattle.mn_top.specs.declared.caller.Stop.TheVariants.{Fault}
-use Rattle.mn_top.specs.declared.caller.Stop.TheVariants as ended
+-- What disks show when they are opened, and where their logs are none.
+use Rattle.std.specs.Prelude.{ℕ, ◌≡◌, ◌<◌, ◌⊎◌, List, length, slice_get, Some}
+use Rattle.std.specs.List.{AllByRecursion}
+use Rattle.mn_base.specs.Store.{Store}
+use Rattle.mn_io.specs.DiskModel.{DiskState, NoneNew, WritesNothing}
+use Rattle.mn_mini.specs.declared.record.Record.{Record}
+use Rattle.mn_mini.specs.RecordGrammar.{IsRecord}
+use Rattle.mn_node.specs.Node.{bodies_of}
+use Rattle.mn_node.specs.State.{AreRecords, IsFirstBad}
+use Rattle.mn_redo.specs.Grammar.{AreInFront, IsDamaged, Stands}
+use Rattle.mn_world.specs.Opened.{IsOpened}
+use Rattle.mn_world.specs.Protocol.{Start, base_at, run_number, start_nodes, start_records}
 
--- the log of node 0 of one was read from this disk, and nothing was written
-pub record WasOpened {D : Type 0} (state : D → DiskState) (faults : D → ℕ) (old : D)
-    (redo : RedoState D) : Type 0 where
-  pub going : redo.phase ≢ Closing
-  pub node : redo.node ≡ 0
-  pub nodes : redo.nodes ≡ 1
-  pub shown : (state old).honest → Stands 0 1 (state old).content redo.bodies
-  pub stands : (state redo.disk).honest → StandsFor (state redo.disk) 0 1 redo.bodies
-  pub unwritten : IsUnwritten (state old) (state redo.disk)
-  pub no_better : (state redo.disk).honest → (state old).honest
-  pub later : faults old ≤ faults redo.disk
+-- Records
 
--- the log of this disk wasn't opened, for this cause, and nothing was written
-pub record WasntOpened {D : Type 0} (state : D → DiskState) (faults : D → ℕ) (old : D)
-    (cause : OpenCause) (disk : D) : Type 0 where
-  pub unwritten : IsUnwritten (state old) (state disk)
-  pub later : faults old ≤ faults disk
-  pub fault : cause ≡ opening.Fault → Rose (faults old) (faults disk)
-  pub damaged : (state old).honest → (at : ℕ) → cause ≡ opening.Damaged at
-      → IsDamaged 0 1 (state old).content at
-  pub content : (state old).honest → (at : ℕ) → cause ≡ opening.Damaged at
-      → (state disk).content ≡ (state old).content
+-- an honest disk of the node of this number, of so many nodes, reads as these records
+pub record ReadsAs (nodes k : ℕ) (disk : DiskState) (list : List Record) : Type 0 where
+  pub sound : AllByRecursion IsRecord list
+  pub stands : disk.honest → Stands k nodes disk.content (bodies_of list)
 
--- what is due where a log wasn't opened
-abbrev pub due_of_opening : OpenCause → Due
-due_of_opening opening.Fault = DiskFault 0
-due_of_opening (opening.Damaged at) = Damaged 0 at Log
-due_of_opening opening.NoMemory = NoMemory
+-- the disks show these records, a list for each node
+pub record Show {D : Type 0} (state : D → DiskState) (given : List D)
+    (records : List (List Record)) : Type 0 where
+  pub count : length records ≡ length given
+  pub read : (k : ℕ) (disk : D) (list : List Record) → slice_get given k ≡ Some disk
+      → slice_get records k ≡ Some list → ReadsAs (length given) k (state disk) list
 
--- and where a node wasn't started
-abbrev pub due_of_starting : StartCause → Due
-due_of_starting starting.Fault = DiskFault 0
-due_of_starting (starting.Damaged at) = Damaged 0 at Log
-due_of_starting starting.NoMemory = NoMemory
+-- the records fit together, and their memory holds the store
+abbrev pub IsOpenedAs : Start → Store → Type 0
+IsOpenedAs start store = IsOpened (start_nodes start) (base_at start) (start_records start) store
 
--- and after a run
-abbrev pub due_of_running : Result (List ℕ) Stop → Due
-due_of_running (Ok report) = Report report
-due_of_running (Err Fault) = DiskFault 0
-due_of_running (Err ended.NoMemory) = NoMemory
+-- there is a number for a further run: 4,294,967,294 is the last one that a run may have
+abbrev pub HasNumber : Start → Type 0
+HasNumber start = run_number start < 4294967295
+
+-- Damage
+
+-- the bytes are damaged at this place, and these bodies stand in front of it
+abbrev pub IsDamagedBehind : ℕ → ℕ → List ℕ → ℕ → List (List ℕ) → Type 0
+IsDamagedBehind nodes k content at bodies =
+    IsDamaged k nodes content at × AreInFront k nodes content at bodies
+
+-- the whole log is these bodies, or they stand in front of its damage
+abbrev pub Begins : ℕ → ℕ → List ℕ → List (List ℕ) → Type 0
+Begins nodes k content bodies =
+    Stands k nodes content bodies ⊎ ((at : ℕ) × IsDamagedBehind nodes k content at bodies)
+
+-- the bytes are damaged at this place, behind bodies that are all records
+abbrev pub IsDamagedFirst : ℕ → ℕ → List ℕ → ℕ → Type 0
+IsDamagedFirst nodes k content at =
+    (bodies : List (List ℕ)) × IsDamagedBehind nodes k content at bodies
+    × ((list : List Record) × AreRecords bodies list)
+
+-- where the log of an honest disk is first outside its grammar: at the place of its damage, or at
+-- the gate of the first body that is no record
+abbrev pub IsBadLog : ℕ → ℕ → DiskState → ℕ → Type 0
+IsBadLog nodes k disk at =
+    disk.honest → IsDamagedFirst nodes k disk.content at
+    ⊎ ((bodies : List (List ℕ)) × Begins nodes k disk.content bodies × IsFirstBad bodies at)
+
+-- that disk's log is bad there, and each disk before it reads as records
+pub record IsFirstBadLog {D : Type 0} (state : D → DiskState) (given : List D) (k at : ℕ)
+    : Type 0 where
+  pub disk : D
+  pub is : slice_get given k ≡ Some disk
+  pub bad : IsBadLog (length given) k (state disk) at
+  pub before : (m : ℕ) (d : D) → m < k → slice_get given m ≡ Some d
+      → (list : List Record) × ReadsAs (length given) m (state d) list
+
+-- nothing was written to an honest disk
+pub record IsUnwritten (old new : DiskState) : Type 0 where
+  pub honest : old.honest → new.honest
+  pub writes_nothing : old.honest → WritesNothing old new
+  pub none_new : old.honest → NoneNew old new
+
+abbrev pub AreUnwritten : {D : Type 0} → (D → DiskState) → List D → List D → Type 0
+AreUnwritten {D} state given left =
+    (k : ℕ) (old new : D) → slice_get given k ≡ Some old → slice_get left k ≡ Some new
+    → IsUnwritten (state old) (state new)

@@ -1,22 +1,21 @@
 -- What the program answers, and when.
-use Rattle.std.specs.Prelude.{◌≡◌, ◌≢◌, ◌⊎◌, ◌++◌, ◌∷◌, [], true, false, codes, ℕ, List, Option, Ok}
+use Rattle.std.specs.Prelude.{◌≡◌, ◌≢◌, ◌⊎◌, ◌++◌, ◌∷◌, [], false, codes, ℕ, List, Option, Ok}
 use Rattle.std.specs.Prelude.{Err, length, take, IfSome}
 use Rattle.std.specs.Io.KnownBytes.{Appends}
+use Rattle.mn_forest.specs.declared.error.Rule.{Rule}
+use Rattle.mn_forest.specs.declared.error.Rule.TheVariants as rules
 use Rattle.mn_io.specs.DiskModel.{DiskState}
-use Rattle.mn_io.specs.Faults.{Rose}
-use Rattle.mn_mini.specs.declared.record.Record.{Record}
 use Rattle.mn_report.specs.Spelling.{spaced_number}
 use Rattle.mn_script.specs.declared.error.ScriptError.TheVariants.{Refused as WrongText}
-use Rattle.mn_script.specs.declared.elements.ScriptClient.{ScriptClient}
 use Rattle.mn_script.specs.Script.{Script}
 use Rattle.mn_script.specs.Reading.{script_of}
 use Rattle.mn_top.specs.declared.due.DamageRule.{DamageRule}
-use Rattle.mn_top.specs.declared.due.DamageRule.TheVariants.{Log, Runs}
+use Rattle.mn_top.specs.declared.due.DamageRule.TheVariants.{Log, Votes, Both, Forest, Runs, Kept}
 use Rattle.mn_top.specs.declared.due.Due.{Due}
 use Rattle.mn_top.specs.declared.due.Due.TheVariants.{Report, Usage, Refused, ReadFault, DiskFault}
 use Rattle.mn_top.specs.declared.due.Due.TheVariants.{Damaged, NoMemory, Disks, Unbuilt}
-use Rattle.mn_top.specs.Disk.{DiskShows, IsBadLog, IsUnwritten, IsCutShort, IsRunDone, HasNext}
-use Rattle.mn_top.specs.Served.{IsUnservedDisk, is_unserved, ops_of}
+use Rattle.mn_top.specs.Ending.{ComesTo}
+use Rattle.mn_world.specs.declared.entry.Entry.{Entry}
 use Rattle.mn_top.specs.Words.{Asked, Asks, AskNothing, AskReplay, is_there}
 
 -- What is written
@@ -25,9 +24,22 @@ use Rattle.mn_top.specs.Words.{Asked, Asks, AskNothing, AskReplay, is_there}
 abbrev pub line : List ℕ → List ℕ
 line message = message ++ 10 ∷ []
 
+abbrev pub forest_rule_name : Rule → List ℕ
+forest_rule_name rules.Header = codes " header"
+forest_rule_name rules.Count = codes " count"
+forest_rule_name rules.Entry = codes " entry"
+forest_rule_name rules.Root = codes " root"
+forest_rule_name rules.Page = codes " page"
+forest_rule_name rules.Child = codes " child"
+forest_rule_name rules.Reach = codes " reach"
+
 abbrev pub rule_name : DamageRule → List ℕ
 rule_name Log = codes " log"
+rule_name Votes = codes " votes"
+rule_name Both = codes " both"
+rule_name (Forest rule) = forest_rule_name rule
 rule_name Runs = codes " runs"
+rule_name Kept = codes " kept"
 
 -- what is written for what is due
 abbrev pub text_of : Due → List ℕ
@@ -83,76 +95,33 @@ IsDueBefore words known failed given (Disks told wanted) =
     × (AskReplay words wanted ⊎ (AskReplay words given
     × ((script : Script) × IsTextOf known script × (script.nodes ≡ wanted))))
 IsDueBefore words known failed given Unbuilt =
-    ((asked : Asked) × Asks words asked × (is_there asked.command asked.folder ≡ false))
-    ⊎ (AskReplay words given × ((script : Script) × IsTextOf known script × (script.nodes ≡ given)
-    × IfSome known (λ text. is_unserved text script ≡ true)))
+    (asked : Asked) × Asks words asked × (is_there asked.command asked.folder ≡ false)
 IsDueBefore words known failed given NoMemory = Unit {0}
 IsDueBefore words known failed given due = ⊥
 
--- the words ask to replay a script of one node, the source holds it and no more, and it is served,
--- as far as that isn't a matter of the disk
-pub record IsCalled (words : List (List ℕ)) (known : Option (List ℕ)) (ended : Type 0)
+-- the words ask to replay a script of as many nodes as there are disks, and the source held it and
+-- no more
+pub record IsCalled (words : List (List ℕ)) (known : Option (List ℕ)) (ended : Type 0) (given : ℕ)
     (script : Script) : Type 0 where
-  pub asked : AskReplay words 1
+  pub asked : AskReplay words given
   pub spelled : IsTextOf known script
-  pub served : IfSome known (λ text. is_unserved text script ≡ false)
+  pub nodes : script.nodes ≡ given
   pub whole : ended
 
--- the log of the disk can't be taken further: its greatest run is the last but one that a number
--- has, or the last
-pub record HasLastRun (old new : DiskState) : Type 0 where
-  pub records : List Record
-  pub shown : DiskShows old records
-  pub last : HasNext records → ⊥
-  pub unwritten : IsUnwritten old new
-
--- the operations aren't served on what the disk shows
-pub record IsRefusedBy (old new : DiskState) (clients : List ScriptClient) : Type 0 where
-  pub records : List Record
-  pub shown : DiskShows old records
-  pub numbered : HasNext records
-  pub unserved : IsUnservedDisk records (ops_of clients)
-  pub unwritten : IsUnwritten old new
-
--- at this place the log of the disk is none
-pub record IsDamagedBy (old new : DiskState) (at : ℕ) : Type 0 where
-  pub bad : IsBadLog old at
-  pub unwritten : IsUnwritten old new
-
--- an end before the run's end: nothing was written, or some of the operations were done
-abbrev pub LeavesSome : DiskState → DiskState → List ScriptClient → Type 0
-LeavesSome old new clients = IsUnwritten old new ⊎ IsCutShort old new (ops_of clients)
-
--- what a run of clients on a disk comes to, and what it leaves on it
-abbrev pub ComesTo : {D : Type 0} → (D → DiskState) → (D → ℕ) → List ScriptClient → D → Due → D
-    → Type 0
-ComesTo state faults clients old (Report report) new =
-    IsRunDone (state old) (state new) clients report
-ComesTo state faults clients old (DiskFault node) new =
-    (node ≡ 0) × Rose (faults old) (faults new) × LeavesSome (state old) (state new) clients
-ComesTo state faults clients old (Damaged node place Log) new =
-    (node ≡ 0) × IsDamagedBy (state old) (state new) place
-ComesTo state faults clients old (Damaged node place Runs) new =
-    (node ≡ 0) × (place ≡ 0) × HasLastRun (state old) (state new)
-ComesTo state faults clients old NoMemory new = LeavesSome (state old) (state new) clients
-ComesTo state faults clients old Unbuilt new = IsRefusedBy (state old) (state new) clients
-ComesTo state faults clients old due new = ⊥
-
--- a script was run on the one disk that was given, and came to this
+-- the script was replayed on the disks that were given, and came to this
 pub record Meets {D : Type 0} (state : D → DiskState) (faults : D → ℕ) (words : List (List ℕ))
-    (known : Option (List ℕ)) (ended : Type 0) (old new : List D) (due : Due) : Type 0 where
+    (known : Option (List ℕ)) (ended : Type 0) (given left : List D) (log : List (ℕ × Entry))
+    (due : Due) : Type 0 where
   pub script : Script
-  pub called : IsCalled words known ended script
-  pub disk : D
-  pub after : D
-  pub old_is : old ≡ disk ∷ []
-  pub new_is : new ≡ after ∷ []
-  pub so : ComesTo state faults script.clients disk due after
+  pub called : IsCalled words known ended (length given) script
+  pub count : length left ≡ length given
+  pub so : ComesTo state faults
+      (record { script = script; given = given; left = left; log = log }) due
 
--- What may be due: without the disks, which are then handed back as they were; or of a run on the
--- one disk
+-- What may be due: without the disks, which are then handed back as they were; or of a replay on
+-- them
 abbrev pub IsDue : {D : Type 0} → (D → DiskState) → (D → ℕ) → List (List ℕ) → Option (List ℕ)
-    → Type 0 → Type 0 → List D → List D → Due → Type 0
-IsDue state faults words known failed ended old new due =
-    (IsDueBefore words known failed (length old) due × (new ≡ old))
-    ⊎ Meets state faults words known ended old new due
+    → Type 0 → Type 0 → List D → List D → List (ℕ × Entry) → Due → Type 0
+IsDue state faults words known failed ended given left log due =
+    (IsDueBefore words known failed (length given) due × (left ≡ given) × (log ≡ []))
+    ⊎ Meets state faults words known ended given left log due

@@ -1,14 +1,31 @@
 ghost use Rattle.std.specs.Prelude.{◌≡◌, ◌⊎◌, ◌++◌, IfOk, codes};
 ghost use Rattle.mn_io.specs.Faults.{Rose};
 ghost use Rattle.mn_report.specs.Spelling.{spaced_number};
-ghost use Rattle.mn_top.specs.Program.{line, text_of, rule_name, status_of, Finishes, IsLine};
+ghost use Rattle.mn_top.specs.Program.{line, text_of, forest_rule_name, rule_name, status_of};
+ghost use Rattle.mn_top.specs.Program.{Finishes, IsLine};
 ghost use Rattle.mn_top.specs.declared.due.Due.{Due};
 ghost use Rattle.mn_top.specs.declared.due.Due.TheVariants as dues;
 
 use crate::due::{DamageRule, Due};
+use mn_forest::Rule;
 use mn_io::{Sink, write_all};
 use mn_report::push_spaced_number;
 use std::alloc::{AllocError, Global};
+
+/// The name of a rule of the memory behind a space.
+fn forest_rule_name(rule: Rule) -> &'static [u8]
+    ensures { result.now ≡ forest_rule_name rule }
+{
+    match rule {
+        Rule::Header => b" header",
+        Rule::Count => b" count",
+        Rule::Entry => b" entry",
+        Rule::Root => b" root",
+        Rule::Page => b" page",
+        Rule::Child => b" child",
+        Rule::Reach => b" reach",
+    }
+}
 
 impl DamageRule {
     /// Its name behind a space.
@@ -17,7 +34,11 @@ impl DamageRule {
     {
         match self {
             DamageRule::Log => b" log",
+            DamageRule::Votes => b" votes",
+            DamageRule::Both => b" both",
+            DamageRule::Forest { rule } => forest_rule_name(rule),
             DamageRule::Runs => b" runs",
+            DamageRule::Kept => b" kept",
         }
     }
 }

@@ -1,0 +1,240 @@
+-- What a run on started nodes leaves of the disks.
+use Rattle.std.proofs.Common.{◌≡◌, ◌<◌, ◌≤◌, ◌∙◌, ℕ, suc, List, [], ◌∷◌, Bool, true, false, length, map, reverse, refl, ap, sym, subst, arith, inl, inr, Option, Some, None, if◌then◌else◌}
+use Rattle.std.specs.Prelude.{slice_get}
+use Rattle.std.proofs.lemmas.List.{length-map, reverse-reverse}
+use Rattle.mn_base.specs.Store.{Store}
+use Rattle.mn_base.specs.declared.gate.StopAt.{StopAt}
+use Rattle.mn_base.specs.declared.gate.StopAt.TheVariants.{Before, Half, After}
+use Rattle.mn_base.specs.declared.ids.NodeNo.{NodeNo}
+use Rattle.mn_cell.specs.Calls.{numbered}
+use Rattle.mn_cell.specs.Station.{IsKeptAs, KeepsAs, KeepsAsAsked, RoseBy, last_asked}
+use Rattle.mn_cell.specs.declared.trace.RunCause.{RunCause}
+use Rattle.mn_cell.specs.declared.trace.RunCause.TheVariants as runs
+use Rattle.mn_io.specs.DiskModel.{DiskState}
+use Rattle.mn_mini.specs.declared.record.Record.{Record}
+use Rattle.mn_node.specs.Node.{StandsWithOrWithout, bodies_of}
+use Rattle.mn_node.specs.State.{NodeState}
+use Rattle.mn_node.proofs.Steps.{rose_later}
+use Rattle.mn_redo.specs.Redo.{StandsFor}
+use Rattle.mn_replay.specs.Failed.{FailsSo, HadOther, HasCause, IsRunOn, TellsRun}
+use Rattle.mn_replay.specs.Trace.{AreHandedBack, IsHandedBack, IsQuiet, IsTrace, StartsSound, start_on}
+use Rattle.mn_script.specs.Script.{Script}
+use Rattle.mn_world.specs.declared.entry.Entry.{Entry}
+use Rattle.mn_world.specs.declared.entry.What.{What}
+use Rattle.mn_world.specs.declared.entry.What.TheVariants.{Begin, Issue, Called, Stopped, Restarted, Abandoned, Answered}
+use Rattle.mn_world.specs.Calls.{node_entries}
+use Rattle.mn_world.specs.Nodes.{added_by, is_down, stopped_request}
+use Rattle.mn_world.specs.Protocol.{Start, base_at, records_of, start_nodes, start_of}
+use Rattle.mn_world.specs.Run.{IsLogOfRun, entries_of}
+use Rattle.mn_top.specs.declared.due.Due.{Due}
+use Rattle.mn_top.specs.declared.due.Due.TheVariants.{Report, Usage, Refused, ReadFault, DiskFault, Damaged, NoMemory, Disks, Unbuilt}
+use Rattle.mn_top.specs.Ending.{ComesTo, HasRun}
+use Rattle.mn_top.specs.Logs.{AllCloseSo, AreReady, ClosesSo, IsReady, IsToldOf, MakeStart, due_of_failing}
+use Rattle.mn_top.specs.Opening.{Show}
+use Rattle.mn_top.specs.Replayed.{IsLeft, StandsAsLogged, left_behind}
+use Rattle.mn_top.proofs.Gets.{map_at, mapped_at, there_at, within}
+use Rattle.mn_top.proofs.Starting.{all_at}
+
+-- Counts of faults
+
+rose_before : (by old before now : ℕ) → old ≤ before → RoseBy by before now → RoseBy by old now
+rose_before by old before now le rose = omega (arith, rose, le)
+
+kept_on : (A B : Type 0) → (A → B) → (asked : Option StopAt) (kept : Bool) → IsKeptAs A asked kept → IsKeptAs B asked kept
+kept_on A B f None kept is = tt
+kept_on A B f (Some Before) kept is = is
+kept_on A B f (Some Half) kept is = is
+kept_on A B f (Some After) kept (inl a) = inl (f a)
+kept_on A B f (Some After) kept (inr is) = inr is
+
+keeps_on : (A B : Type 0) → (A → B) → (what : What) (asked : Option StopAt) → KeepsAs A what asked → KeepsAs B what asked
+keeps_on A B f (Restarted kept) asked is = kept_on A B f asked kept is
+keeps_on A B f (Called request reply) asked is = tt
+keeps_on A B f (Stopped request stop) asked is = tt
+keeps_on A B f (Begin n op) asked is = tt
+keeps_on A B f (Issue tid mini) asked is = tt
+keeps_on A B f (Abandoned tid) asked is = tt
+keeps_on A B f (Answered n answer) asked is = tt
+
+all_keep_on : (A B : Type 0) → (A → B) → (es : List Entry) → KeepsAsAsked A es → KeepsAsAsked B es
+all_keep_on A B f [] are = tt
+all_keep_on A B f (e ∷ es) are = (keeps_on A B f e.what (last_asked es) are.0, all_keep_on A B f es are.1)
+
+-- One node
+
+same_for : (disk : DiskState) (n n' ns ns' : ℕ) (rs rs' : List Record) → n ≡ n' → ns ≡ ns' → rs ≡ rs' → StandsFor disk n ns (bodies_of rs) → StandsFor disk n' ns' (bodies_of rs')
+same_for disk n n' ns ns' rs rs' e f g stands =
+    subst (λ (l : List Record). StandsFor disk n' ns' (bodies_of l)) g (subst (λ (k : ℕ). StandsFor disk n' k (bodies_of rs)) f (subst (λ (k : ℕ). StandsFor disk k ns (bodies_of rs)) e stands))
+
+same_with : (disk : DiskState) (n n' ns ns' : ℕ) (rs rs' : List Record) (o o' : Option Record) → n ≡ n' → ns ≡ ns' → rs ≡ rs' → o ≡ o' → StandsWithOrWithout disk n ns rs o → StandsWithOrWithout disk n' ns' rs' o'
+same_with disk n n' ns ns' rs rs' o o' e f g h stands =
+    subst (λ (p : Option Record). StandsWithOrWithout disk n' ns' rs' p) h
+    (subst (λ (l : List Record). StandsWithOrWithout disk n' ns' l o) g (subst (λ (k : ℕ). StandsWithOrWithout disk n' k rs o) f (subst (λ (k : ℕ). StandsWithOrWithout disk k ns rs o) e stands)))
+
+module _ {D : Type 0} (state : D → DiskState) (faults : D → ℕ) (start : Start) (past : List Entry) (n : NodeNo) (given left : NodeState D) (back : IsHandedBack state faults start past n given left) (closes : ClosesSo state left) where
+  records_are : left.records ≡ reverse (records_of start past n)
+  records_are = sym (reverse-reverse left.records) ∙ ap (λ (l : List Record). reverse l) back.records
+
+  -- the disk of a node that is up
+  up_stands : is_down (node_entries n past) ≡ false → (state left.disk).honest → StandsFor (state left.disk) n.0 (start_nodes start) (bodies_of (reverse (records_of start past n)))
+  up_stands up h = same_for (state left.disk) left.node n.0 left.nodes (start_nodes start) left.records (reverse (records_of start past n)) back.node back.nodes records_are (closes.up (back.down ∙ up) h)
+
+  behind_down : is_down (node_entries n past) ≡ true → left_behind start past n ≡ added_by (base_at start n) (records_of start past n) (stopped_request (node_entries n past))
+  behind_down down = ap (λ (b : Bool). if b then added_by (base_at start n) (records_of start past n) (stopped_request (node_entries n past)) else None) down
+
+  behind_up : is_down (node_entries n past) ≡ false → left_behind start past n ≡ None
+  behind_up up = ap (λ (b : Bool). if b then added_by (base_at start n) (records_of start past n) (stopped_request (node_entries n past)) else None) up
+
+  stands_by : (down : Bool) → is_down (node_entries n past) ≡ down → (state left.disk).honest → StandsWithOrWithout (state left.disk) n.0 (start_nodes start) (reverse (records_of start past n)) (left_behind start past n)
+  stands_by true is h =
+      same_with (state left.disk) left.node n.0 left.nodes (start_nodes start) left.records (reverse (records_of start past n)) left.pending (left_behind start past n) back.node back.nodes records_are
+      (back.pending (back.down ∙ is) ∙ sym (behind_down is)) (closes.stands h)
+  stands_by false is h = subst (λ (o : Option Record). StandsWithOrWithout (state left.disk) n.0 (start_nodes start) (reverse (records_of start past n)) o) (sym (behind_up is)) (λ c image. inl (up_stands is h c image))
+
+  stands_behind : (state left.disk).honest → StandsWithOrWithout (state left.disk) n.0 (start_nodes start) (reverse (records_of start past n)) (left_behind start past n)
+  stands_behind = stands_by (is_down (node_entries n past)) refl
+
+  -- as it was before the node was started on it
+  node_left : (old : D) → ((state old).honest → (state given.disk).honest) → faults old ≤ faults given.disk → IsLeft state faults start past n old left.disk
+  node_left old honest later = record {
+    honest = λ h. back.honest (honest h);
+    stands = λ h. stands_behind (back.honest (honest h));
+    stops = back.stops;
+    counted = rose_before _ (faults old) (faults given.disk) (faults left.disk) later back.counted;
+    kept = λ h. all_keep_on _ _ (λ rose. rose_later (faults old) (faults given.disk) (faults left.disk) later rose) (node_entries n past) (back.kept (back.honest (honest h)));
+  }
+
+-- All nodes
+
+same_lists : {X : Type 0} (xs ys : List X) → length xs ≡ length ys → ((k : ℕ) (x y : X) → slice_get xs k ≡ Some x → slice_get ys k ≡ Some y → x ≡ y) → xs ≡ ys
+same_lists [] [] same each = refl
+same_lists [] (y ∷ ys) same each = absurd (omega (arith, same))
+same_lists (x ∷ xs) [] same each = absurd (omega (arith, same))
+same_lists (x ∷ xs) (y ∷ ys) same each =
+    let first : x ≡ y = each 0 x y refl refl in
+    let fewer : length xs ≡ length ys = omega (arith, same) in
+    let rest : xs ≡ ys = same_lists xs ys fewer (λ k a b p q. each (suc k) a b p q) in
+    cc
+
+module _ {D : Type 0} (state : D → DiskState) (faults : D → ℕ) (given : List D) (records : List (List Record)) (nodes : List (NodeState D)) (ready : AreReady state faults given records nodes) where
+  ready_at : (k : ℕ) (old : D) (m : NodeState D) → slice_get given k ≡ Some old → slice_get nodes k ≡ Some m → (list : List Record) × IsReady state faults (length given) k old list m
+  ready_at k old m was is =
+      let there = there_at records k (let low = within given k old was in omega (arith, low, ready.same)) in
+      (there.0, ready.each k old there.0 m was there.1 is)
+
+  given_at : (k : ℕ) (m : NodeState D) → slice_get nodes k ≡ Some m → (old : D) × (slice_get given k ≡ Some old)
+  given_at k m is = there_at given k (let low = within nodes k m is in omega (arith, low, ready.count))
+
+  pub records_same : map (λ (m : NodeState D). m.records) nodes ≡ records
+  records_same = same_lists (map (λ (m : NodeState D). m.records) nodes) records (length-map nodes (λ (m : NodeState D). m.records) ∙ (ready.count ∙ sym ready.same))
+      (λ k x y at is.
+      let there = map_at (λ (m : NodeState D). m.records) nodes k x at in
+      let old = given_at k there.0 there.1 in
+      sym there.2 ∙ (ready.each k old.0 y there.0 old.1 is there.1).records)
+
+  start_same : start_on nodes ≡ start_of records
+  start_same = ap start_of records_same
+
+  module _ (shown : Show state given records) (after : List (NodeState D)) (left : List D) (script : Script) (count : length after ≡ length nodes) (close : AllCloseSo state after) (is : left ≡ map (λ (w : NodeState D). w.disk) after)
+      (store : Store) (number : ℕ) (made' : MakeStart (map (λ (m : NodeState D). m.records) nodes) store number) where
+    made : MakeStart records store number
+    made = subst (λ (l : List (List Record)). MakeStart l store number) records_same made'
+
+    -- the node of a place, as it was started and as it is closed
+    node_at : (k : ℕ) (new : D) → slice_get left k ≡ Some new → (m w : NodeState D) × (slice_get nodes k ≡ Some m) × (slice_get after k ≡ Some w) × (w.disk ≡ new)
+    node_at k new at =
+        let there = map_at (λ (w : NodeState D). w.disk) after k new (subst (λ (l : List D). slice_get l k ≡ Some new) is at) in
+        let before = there_at nodes k (let low = within after k there.0 there.1 in omega (arith, low, count)) in
+        (before.0, there.0, before.1, there.1, there.2)
+
+    left_at : (past : List Entry) → AreHandedBack state faults (start_of records) past nodes after → (k : ℕ) (old new : D) → slice_get given k ≡ Some old → slice_get left k ≡ Some new
+        → IsLeft state faults (start_of records) past (numbered k) old new
+    left_at past back k old new was at =
+        let n = node_at k new at in
+        let m = n.0 in
+        let w = n.1 in
+        let begun = ready_at k old m was n.2 in
+        subst (λ (d : D). IsLeft state faults (start_of records) past (numbered k) old d) n.4
+        (node_left state faults (start_of records) past (numbered k) m w (back k m w n.2 n.3) (all_at (ClosesSo state) after k w close n.3) old begun.1.honest begun.1.later)
+
+    up_at : (past : List Entry) → AreHandedBack state faults (start_of records) past nodes after → ((n : NodeNo) → n.0 < start_nodes (start_of records) → is_down (node_entries n past) ≡ false) → (k : ℕ) (old new : D) → slice_get given k ≡ Some old
+        → slice_get left k ≡ Some new → StandsAsLogged state (start_of records) past (numbered k) old new
+    up_at past back up k old new was at h =
+        let n = node_at k new at in
+        let m = n.0 in
+        let w = n.1 in
+        let begun = ready_at k old m was n.2 in
+        let low : k < length records = let lower = within given k old was in omega (arith, lower, ready.same) in
+        let so = back k m w n.2 n.3 in
+        subst (λ (d : D). StandsFor (state d) k (length records) (bodies_of (reverse (records_of (start_of records) past (numbered k))))) n.4
+        (up_stands state faults (start_of records) past (numbered k) m w so (all_at (ClosesSo state) after k w close n.3) (up (numbered k) low) (so.honest (begun.1.honest h)))
+
+    same_run : (past : List (ℕ × Entry)) → IsRunOn state faults nodes after past → IsLogOfRun (start_of records) past × AreHandedBack state faults (start_of records) (entries_of past) nodes after
+    same_run past run = subst (λ (s : Start). IsLogOfRun s past × AreHandedBack state faults s (entries_of past) nodes after) start_same run
+
+    has_run : (log past : List (ℕ × Entry)) → IsRunOn state faults nodes after past → HasRun state faults (record { script = script; given = given; left = left; log = log }) past
+    has_run log past run = let so = same_run past run in
+        record { records = records; shown = shown; store = store; opened = made.opened; numbered_so = made.numbered_so; run = so.0; disks = left_at (entries_of past) so.1 }
+
+    -- a run that failed
+    failed_so : (log : List (ℕ × Entry)) (cause : RunCause) → HasCause state faults nodes after log cause → TellsRun state faults nodes after log cause
+        → ComesTo state faults (record { script = script; given = given; left = left; log = log }) (due_of_failing cause)
+    unfolding has_run
+    failed_so log (runs.Disk n) (at, rose) run =
+        let old = given_at n.0 at.before at.was in
+        let begun = ready_at n.0 old.0 at.before old.1 at.was in
+        record {
+          old = old.0;
+          new = at.now.disk;
+          was = old.1;
+          is = ap (λ (l : List D). slice_get l n.0) is ∙ mapped_at (λ (w : NodeState D). w.disk) after n.0 at.now at.is;
+          rose = rose_before _ (faults old.0) (faults at.before.disk) (faults at.now.disk) begun.1.later rose;
+          log = inr (has_run log log run);
+        }
+    failed_so log (runs.Damaged n place kept found) (at, dishonest, down, other) run =
+        let old = given_at n.0 at.before at.was in
+        let begun = ready_at n.0 old.0 at.before old.1 at.was in
+        record {
+          made = has_run log log run;
+          old = old.0;
+          was = old.1;
+          dishonest = λ h. dishonest (begun.1.honest h);
+          down = down;
+          kept = kept;
+          found = found;
+          other = subst (λ (s : Start). HadOther s (entries_of log) n place kept found) start_same other;
+        }
+    failed_so log runs.NoMemory none (past, run) = inr (past, has_run log past run, inr none)
+
+    -- a run that is done
+    told_so : (log : List (ℕ × Entry)) → IsTrace state faults nodes after log → (due : Due) → IsToldOf (start_of records) store script (entries_of log) due → ComesTo state faults (record { script = script; given = given; left = left; log = log }) due
+    told_so log trace (Report text) (report, audit, spelled) =
+        let so = same_run log (trace.run, trace.back) in
+        let quiet = subst (λ (s : Start). StartsSound s → IsQuiet s (entries_of log)) start_same trace.quiet made.opened.sound in
+        record {
+          records = records;
+          shown = shown;
+          store = store;
+          opened = made.opened;
+          numbered_so = made.numbered_so;
+          run = so.0;
+          report = report;
+          audit = audit;
+          printed = spelled;
+          quiet = quiet;
+          disks = λ k old new was at. (left_at (entries_of log) so.1 k old new was at, up_at (entries_of log) so.1 quiet.0 k old new was at);
+        }
+    told_so log trace NoMemory told = inr (log, has_run log log (trace.run, trace.back), inl refl)
+    told_so log trace (DiskFault n) told = absurd told
+    told_so log trace (Damaged n place rule) told = absurd told
+    told_so log trace Usage told = absurd told
+    told_so log trace (Refused row column) told = absurd told
+    told_so log trace ReadFault told = absurd told
+    told_so log trace (Disks told wanted) is_told = absurd is_told
+    told_so log trace Unbuilt told = absurd told
+
+    pub played : (log : List (ℕ × Entry)) (due : Due) → IsTrace state faults nodes after log → IsToldOf (start_on nodes) store script (entries_of log) due → ComesTo state faults (record { script = script; given = given; left = left; log = log }) due
+    played log due trace told = told_so log trace due (subst (λ (s : Start). IsToldOf s store script (entries_of log) due) start_same told)
+
+    pub failed : (log : List (ℕ × Entry)) (cause : RunCause) → FailsSo state faults nodes after log cause → ComesTo state faults (record { script = script; given = given; left = left; log = log }) (due_of_failing cause)
+    failed log cause fails = failed_so log cause fails.cause_is fails.told

@@ -1,1 +1,0 @@
--- Bytes of a space, read and written over.

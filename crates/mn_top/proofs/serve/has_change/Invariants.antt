@@ -1,8 +1,0 @@
-use Rattle.std.proofs.Common.{◌≡◌, drop}
-use Rattle.std.specs.List.{list_any}
-use Rattle.mn_base.specs.Store.{is_change}
-use Rattle.mn_top.proofs.serve.has_change.Given as goal
-
--- none so far
-abbrev pub invariant-loop-step : goal.invariant-loop-step
-invariant-loop-step l = list_any is_change (drop l.step-index l.steps) ≡ list_any is_change l.steps

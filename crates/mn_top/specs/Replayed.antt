@@ -1,0 +1,77 @@
+-- The headline: what the program has done where it writes the report on a replay.
+use Rattle.std.specs.Prelude.{ℕ, ◌≡◌, List, reverse, slice_get, Option, Some, None}
+use Rattle.std.specs.Prelude.{if◌then◌else◌}
+use Rattle.mn_base.specs.Store.{Store}
+use Rattle.mn_base.specs.declared.ids.NodeNo.{NodeNo}
+use Rattle.mn_cell.specs.Calls.{numbered}
+use Rattle.mn_cell.specs.Station.{AllStopAsTheyAdd, KeepsAsAsked, RoseBy, unasked}
+use Rattle.mn_hist.specs.Audit.{IsAudit}
+use Rattle.mn_io.specs.DiskModel.{DiskState}
+use Rattle.mn_io.specs.Faults.{Rose}
+use Rattle.mn_mini.specs.declared.record.Record.{Record}
+use Rattle.mn_node.specs.Node.{StandsWithOrWithout, bodies_of}
+use Rattle.mn_redo.specs.Redo.{StandsFor}
+use Rattle.mn_replay.specs.Trace.{IsQuiet}
+use Rattle.mn_report.specs.declared.report.Report.{Report}
+use Rattle.mn_report.specs.Report.{report_text}
+use Rattle.mn_script.specs.Script.{Script}
+use Rattle.mn_world.specs.declared.entry.Entry.{Entry}
+use Rattle.mn_world.specs.Calls.{node_entries}
+use Rattle.mn_world.specs.Nodes.{added_by, is_down, stopped_request}
+use Rattle.mn_world.specs.Protocol.{Start, base_at, records_of, start_nodes, start_of}
+use Rattle.mn_world.specs.Protocol.{start_records}
+use Rattle.mn_world.specs.Run.{IsLogOfRun, entries_of}
+use Rattle.mn_top.specs.Opening.{HasNumber, IsOpenedAs, Show}
+
+-- the record that may stand behind those of the node: while it is down, the one that the request
+-- adds inside which it stopped
+abbrev pub left_behind : Start → List Entry → NodeNo → Option Record
+left_behind start past n =
+    if is_down (node_entries n past)
+    then added_by (base_at start n) (records_of start past n)
+    (stopped_request (node_entries n past)) else None
+
+-- The disk of a node as the entries leave it. Each image of an honest disk stands for the node's
+-- records, or, while the node is down, for these and the one that may stand behind them. The node
+-- stopped inside a request only where that would have added a record; unasked, at most as often as
+-- the disk's count of faults rose. Each restart of a node with an honest disk found what the stop
+-- before it had asked for.
+pub record IsLeft {D : Type 0} (state : D → DiskState) (faults : D → ℕ) (start : Start)
+    (past : List Entry) (n : NodeNo) (given left : D) : Type 0 where
+  pub honest : (state given).honest → (state left).honest
+  pub stands : (state given).honest → StandsWithOrWithout (state left) n.0 (start_nodes start)
+      (reverse (records_of start past n)) (left_behind start past n)
+  pub stops : AllStopAsTheyAdd (base_at start n) (start_records start n) (node_entries n past)
+  pub counted : RoseBy (unasked (node_entries n past)) (faults given) (faults left)
+  pub kept : (state given).honest
+      → KeepsAsAsked (Rose (faults given) (faults left)) (node_entries n past)
+
+-- each image of an honest disk stands for the node's records
+abbrev pub StandsAsLogged : {D : Type 0} → (D → DiskState) → Start → List Entry → NodeNo → D → D
+    → Type 0
+StandsAsLogged state start past n given left =
+    (state given).honest → StandsFor (state left) n.0 (start_nodes start)
+    (bodies_of (reverse (records_of start past n)))
+
+-- From what the disks showed, a replay of the script has made this log, left these disks, and this
+-- is the text of its report.
+pub record IsReplayed {D : Type 0} (state : D → DiskState) (faults : D → ℕ) (script : Script)
+    (given left : List D) (log : List (ℕ × Entry)) (text : List ℕ) : Type 0 where
+  -- shown at opening
+  pub records : List (List Record)
+  pub shown : Show state given records
+  pub store : Store
+  pub opened : IsOpenedAs (start_of records) store
+  pub numbered_so : HasNumber (start_of records)
+  -- however proxies, nodes, crashes, restarts and recovery coordinators interleave
+  pub run : IsLogOfRun (start_of records) log
+  -- the operations that took effect or were replied to are, in commit order, one legal history, and
+  -- printed answers are that history's
+  pub report : Report
+  pub audit : IsAudit (start_of records) store script (entries_of log) report
+  pub printed : text ≡ report_text report
+  -- each node is up and holds nothing, and final disks are that history's
+  pub quiet : IsQuiet (start_of records) (entries_of log)
+  pub disks : (k : ℕ) (old new : D) → slice_get given k ≡ Some old → slice_get left k ≡ Some new
+      → IsLeft state faults (start_of records) (entries_of log) (numbered k) old new
+      × StandsAsLogged state (start_of records) (entries_of log) (numbered k) old new

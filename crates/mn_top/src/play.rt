@@ -1,0 +1,277 @@
+//! A replay on disks: they are opened, their nodes started, the script is run, and they are closed.
+ghost use Rattle.std.specs.Prelude.{◌≡◌, ◌≤◌, ◌+◌, ◌++◌, ◌∷◌, [], List, IfOk, IfErr, length, map};
+ghost use Rattle.std.specs.Prelude.{reverse, vec_capacity};
+ghost use Rattle.mn_base.specs.Store.{Store};
+ghost use Rattle.mn_mini.specs.declared.record.Record.{Record};
+ghost use Rattle.mn_replay.specs.Trace.{MayBegin, start_on};
+ghost use Rattle.mn_top.specs.Ending.{ComesTo};
+ghost use Rattle.mn_top.specs.Logs.{AllCloseSo, AllRead, AreReady, AreStarted, IsToldOf, MakeStart};
+ghost use Rattle.mn_top.specs.Logs.{MayAllBeStarted, WerentStarted, due_of_failing};
+ghost use Rattle.mn_top.specs.Opening.{Show};
+ghost use Rattle.mn_top.specs.declared.due.Due.TheVariants.{Report};
+ghost use Rattle.mn_world.specs.Meaning.{OpenedRun};
+ghost use Rattle.mn_world.specs.Protocol.{Start};
+ghost use Rattle.mn_world.specs.Run.{entries_of};
+
+use crate::damage::due_of_start;
+use crate::due::{DamageRule, Due};
+use crate::open::{Judged, Logs, NotOpened, close_all, judge, open_all};
+use mn_base::{Bytes, NoMemory, NodeNo};
+use mn_cell::{RunCause, RunFailed, Trace};
+use mn_hist::audit;
+use mn_io::Disk;
+use mn_node::{Node, StartFailed};
+use mn_plain::Store;
+use mn_redo::Redo;
+use mn_replay::replay;
+use mn_report::write_report;
+use mn_script::Script;
+use mn_world::Log;
+use std::alloc::Global;
+
+/// What is due, the disks handed back in order, and the log, which is empty where none was made.
+pub struct Ended<D> {
+    pub due: Due,
+    pub disks: Vec<D>,
+    pub log: Log,
+}
+
+/// What is due where no log was made.
+pub fn without_log<D>(alloc: Global, disks: Vec<D>, due: Due) -> Ended<D>
+    ensures due { result.due ≡ due }
+    ensures disks { result.disks.items ≡ disks.items }
+    ensures log { result.log ≡ [] }
+{
+    Ended {
+        due,
+        disks,
+        log: Log::from_vec(Vec::new(alloc)),
+    }
+}
+
+/// Puts the disks of the nodes behind the others, in order.
+fn close_nodes<D: Disk>(nodes: Vec<Node<D>>, room: Vec<D>) -> Vec<D>
+    requires { length nodes.items + length room.items ≤ vec_capacity room }
+    ensures disks { result.items ≡ room.items ++ map (λ n. n.disk) nodes.items }
+    ensures room { vec_capacity result ≡ vec_capacity room }
+    ensures closed { AllCloseSo D.state nodes.items }
+{
+    let mut left = nodes;
+    let mut disks = room;
+    left.reverse();
+    while let Some(node) = left.pop() {
+        disks.push_reserved(node.close());
+    }
+    left.destroy_empty();
+    disks
+}
+
+/// Puts the disks of logs behind the others, that of the last log first.
+fn close_rest<D: Disk>(redos: Vec<Redo<D>>, room: Vec<D>) -> Vec<D>
+    requires { length redos.items + length room.items ≤ vec_capacity room }
+    ensures { result.items ≡ room.items ++ reverse (map (λ r. r.disk) redos.items) }
+{
+    let mut left = redos;
+    let mut disks = room;
+    while let Some(redo) = left.pop() {
+        disks.push_reserved(redo.close());
+    }
+    left.destroy_empty();
+    disks
+}
+
+/// The nodes of all logs, with the room for their disks.
+struct Started<D: Disk> {
+    nodes: Vec<Node<D>>,
+    room: Vec<D>,
+}
+
+/// The disks of the nodes that were started, of the one that wasn't, and of the logs behind it,
+/// which stand in `left`, the last one first.
+fn close_failed<D: Disk>(nodes: Vec<Node<D>>, disk: D, left: Vec<Redo<D>>, room: Vec<D>) -> Vec<D>
+    requires room { length nodes.items + 1 + length left.items ≤ vec_capacity room }
+    requires empty { room.items ≡ [] }
+    ensures disks { result.items ≡ map (λ n. n.disk) nodes.items
+        ++ disk ∷ reverse (map (λ r. r.disk) left.items) }
+    ensures closed { AllCloseSo D.state nodes.items }
+{
+    let mut disks = close_nodes(nodes, room);
+    disks.push_reserved(disk);
+    close_rest(left, disks)
+}
+
+/// Starts the node of each log in order.
+fn start_all<D: Disk>(
+    alloc: Global,
+    redos: Vec<Redo<D>>,
+    room: Vec<D>,
+) -> Result<Started<D>, NotOpened<D>>
+    requires may { MayAllBeStarted D.state redos.items }
+    requires few { length redos.items ≤ 8 }
+    requires empty { room.items ≡ [] }
+    requires room { length redos.items ≤ vec_capacity room }
+    ensures started { IfOk result (λ started.
+        AreStarted D.state D.faults redos.items started.nodes.items) }
+    ensures all { IfOk result (λ started. length started.nodes.items ≡ length redos.items) }
+    ensures room { IfOk result (λ started. (started.room.items ≡ [])
+        × (length redos.items ≤ vec_capacity started.room)) }
+    ensures failed { IfErr result (λ failed.
+        WerentStarted D.state D.faults redos.items failed.disks.items failed.due) }
+{
+    let Ok(mut nodes) = Vec::<Node<D>>::with_capacity(alloc, redos.len()) else {
+        return Err(NotOpened {
+            disks: close_all(redos, room),
+            due: Due::NoMemory,
+        });
+    };
+    let mut left = redos;
+    left.reverse();
+    while let Some(redo) = left.pop() {
+        match Node::start(alloc, redo) {
+            Ok(node) => nodes.push_reserved(node),
+            Err(StartFailed { disk, cause }) => {
+                let due = due_of_start(NodeNo(nodes.len() as u8), cause);
+                return Err(NotOpened {
+                    disks: close_failed(nodes, disk, left, room),
+                    due,
+                });
+            }
+        }
+    }
+    left.destroy_empty();
+    Ok(Started { nodes, room })
+}
+
+/// The report on a log.
+fn text_of(alloc: Global, start: &Store, log: &Log, script: &Script) -> Result<Bytes, NoMemory>
+    requires { (from : Start) × OpenedRun from start.now (entries_of log.now) }
+    ensures { (from : Start) → OpenedRun from start.now (entries_of log.now)
+        → IfOk result (λ text. IsToldOf from start.now script.now (entries_of log.now)
+        (Report text)) }
+{
+    let report = audit(alloc, start, log, script)?;
+    write_report(alloc, &report)
+}
+
+/// What is due after a run.
+fn due_of_trace(alloc: Global, start: &Store, log: &Log, script: &Script) -> Due
+    requires { (from : Start) × OpenedRun from start.now (entries_of log.now) }
+    ensures { (from : Start) → OpenedRun from start.now (entries_of log.now)
+        → IsToldOf from start.now script.now (entries_of log.now) result }
+{
+    match text_of(alloc, start, log, script) {
+        Ok(text) => Due::Report { text },
+        Err(_) => Due::NoMemory,
+    }
+}
+
+/// What is due after a run that failed.
+fn due_of_cause(cause: RunCause) -> Due
+    ensures { result ≡ due_of_failing cause }
+{
+    match cause {
+        RunCause::Disk { node } => Due::DiskFault { node: node.0 },
+        RunCause::Damaged {
+            node,
+            place,
+            kept: _kept,
+            found: _found,
+        } => Due::Damaged {
+            node: node.0,
+            place,
+            rule: DamageRule::Kept,
+        },
+        RunCause::NoMemory => Due::NoMemory,
+    }
+}
+
+/// Plays the script on the nodes, whose records make this store.
+fn play_on<D: Disk>(
+    alloc: Global,
+    started: Started<D>,
+    script: &Script,
+    judged: &Judged,
+) -> Ended<D>
+    requires nodes { MayBegin script.now.nodes started.nodes.items }
+    requires start { MakeStart (map (λ n. n.records) started.nodes.items) judged.now.store
+        judged.now.run }
+    requires empty { started.room.items ≡ [] }
+    requires room { length started.nodes.items ≤ vec_capacity started.room }
+    ensures count { length result.disks.items ≡ length started.nodes.items }
+    ensures comes_to { (given : List D) (records : List (List Record))
+        → Show D.state given records
+        → AreReady D.state D.faults given records started.nodes.items
+        → ComesTo D.state D.faults (record {
+          script = script.now;
+          given = given;
+          left = result.disks.items;
+          log = result.log;
+        }) result.due }
+{
+    let Started { nodes, room } = started;
+    match replay(alloc, nodes, script, judged.run) {
+        Ok(Trace { nodes, log }) => Ended {
+            due: due_of_trace(alloc, &judged.store, &log, script),
+            disks: close_nodes(nodes, room),
+            log,
+        },
+        Err(RunFailed { nodes, log, cause }) => Ended {
+            due: due_of_cause(cause),
+            disks: close_nodes(nodes, room),
+            log,
+        },
+    }
+}
+
+/// Plays the script on the logs, if their records make a store.
+fn on_logs<D: Disk>(alloc: Global, logs: Logs<D>, script: &Script) -> Ended<D>
+    requires read { (given : List D)
+        × AllRead D.state D.faults given logs.redos.items logs.records.items }
+    requires nodes { script.now.nodes ≡ length logs.redos.items }
+    requires some { 1 ≤ length logs.redos.items }
+    requires few { length logs.redos.items ≤ 8 }
+    requires empty { logs.room.items ≡ [] }
+    requires room { length logs.redos.items ≤ vec_capacity logs.room }
+    ensures count { length result.disks.items ≡ length logs.redos.items }
+    ensures comes_to { (given : List D)
+        → AllRead D.state D.faults given logs.redos.items logs.records.items
+        → ComesTo D.state D.faults (record {
+          script = script.now;
+          given = given;
+          left = result.disks.items;
+          log = result.log;
+        }) result.due }
+{
+    let Logs {
+        redos,
+        records,
+        room,
+    } = logs;
+    let judged = match judge(alloc, &records) {
+        Ok(judged) => judged,
+        Err(due) => return without_log(alloc, close_all(redos, room), due),
+    };
+    match start_all(alloc, redos, room) {
+        Ok(started) => play_on(alloc, started, script, &judged),
+        Err(NotOpened { disks, due }) => without_log(alloc, disks, due),
+    }
+}
+
+/// Opens the disks, plays the script on them, and tells what is due.
+pub fn play<D: Disk>(alloc: Global, disks: Vec<D>, script: &Script) -> Ended<D>
+    requires nodes { script.now.nodes ≡ length disks.items }
+    requires some { 1 ≤ length disks.items }
+    requires few { length disks.items ≤ 8 }
+    ensures count { length result.disks.items ≡ length disks.items }
+    ensures comes_to { ComesTo D.state D.faults (record {
+      script = script.now;
+      given = disks.items;
+      left = result.disks.items;
+      log = result.log;
+    }) result.due }
+{
+    match open_all(alloc, disks) {
+        Ok(logs) => on_logs(alloc, logs, script),
+        Err(NotOpened { disks, due }) => without_log(alloc, disks, due),
+    }
+}
