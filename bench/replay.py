@@ -1,5 +1,6 @@
 #!/usr/bin/env python3
-"""Times the program on scripts of N operations over 4 nodes: every second one a put, over 1,000 keys, at most 2,000 a client.
+"""Times the program on scripts of N operations over 4 nodes: every second one a put, over 1,000
+keys, at most 2,000 a client.
 
 bench/replay.py [N ..]     default 1000 2000 4000 8000; build first with scripts/minuet prove
 """
@@ -27,8 +28,10 @@ def script(operations: int) -> bytes:
 def main() -> None:
     for operations in [int(word) for word in sys.argv[1:]] or [1000, 2000, 4000, 8000]:
         began = time.monotonic()
-        done = subprocess.run([PROGRAM, "replay", str(NODES)], input=script(operations), stdout=subprocess.PIPE)
-        print(f"{operations} operations: {time.monotonic() - began:.2f} s, status {done.returncode}")
+        words = [PROGRAM, "replay", str(NODES)]
+        done = subprocess.run(words, input=script(operations), stdout=subprocess.PIPE)
+        seconds = time.monotonic() - began
+        print(f"{operations} operations: {seconds:.2f} s, status {done.returncode}")
 
 
 if __name__ == "__main__":
