@@ -98,7 +98,7 @@ keeps_on A B f (Issue tid mini) asked is = tt
 keeps_on A B f (Abandoned tid) asked is = tt
 keeps_on A B f (Answered n answer) asked is = tt
 
-all_keep_on : (A B : Type 0) → (A → B) → (es : List Entry) → KeepsAsAsked A es → KeepsAsAsked B es
+pub all_keep_on : (A B : Type 0) → (A → B) → (es : List Entry) → KeepsAsAsked A es → KeepsAsAsked B es
 all_keep_on A B f [] are = tt
 all_keep_on A B f (e ∷ es) are = (keeps_on A B f e.what (last_asked es) are.0, all_keep_on A B f es are.1)
 

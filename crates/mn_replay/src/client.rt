@@ -1,7 +1,6 @@
 //! A client of the script, and what the acts of a schedule make it do.
 ghost use Rattle.std.specs.Prelude.{◌≡◌, ◌≢◌, ◌≤◌, ◌<◌, ◌+◌, ◌^◌, [], length, IfOk, OnOk, OnErr};
 ghost use Rattle.std.specs.Prelude.{MatchBool, MatchOption, None, is_some, true, false, ⊤};
-ghost use Rattle.mn_replay.specs.Turn.{seen_of};
 ghost use Rattle.mn_hist.specs.Points.{points_met};
 ghost use Rattle.mn_mini.specs.RecordGrammar.{IsTid};
 ghost use Rattle.mn_mini.specs.Sound.{Fits, IsDecide, IsSoundRequest};
@@ -12,7 +11,7 @@ ghost use Rattle.mn_replay.specs.Going.{HasAnswer, HasGone, HasList, IsSameBut, 
 ghost use Rattle.mn_replay.specs.Going.{IsUnnoted, KeepsPoints, MakesStep, MayAdd, MayTake};
 ghost use Rattle.mn_replay.specs.Points.{has_died};
 ghost use Rattle.mn_replay.specs.Steps.{Adds, Keeps, own_entry};
-ghost use Rattle.mn_replay.specs.Turn.{GoesOn, IsTurn, turn_of};
+ghost use Rattle.mn_replay.specs.Turn.{GoesOn, IsTurn, seen_of, turn_of};
 
 use crate::points::{has_met_kill, note, stop_due};
 use crate::table::Table;

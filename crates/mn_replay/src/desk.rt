@@ -1,6 +1,5 @@
 //! A recovery coordinator of the script.
 ghost use Rattle.std.specs.Prelude.{◌≡◌, ◌≢◌, ◌≤◌, ◌<◌, [], length, MatchOption, ⊤};
-ghost use Rattle.mn_replay.specs.Turn.{seen_of};
 ghost use Rattle.mn_cell.specs.Calls.{entry_at, what_said};
 ghost use Rattle.mn_mini.specs.RecordGrammar.{IsTid};
 ghost use Rattle.mn_mini.specs.Sound.{IsSoundRequest};
@@ -9,7 +8,7 @@ ghost use Rattle.mn_world.specs.Protocol.{Start, start_nodes, start_of};
 ghost use Rattle.mn_world.specs.Run.{entries_of};
 ghost use Rattle.mn_replay.specs.Desks.{IsDesk, IsOfRecovery, IsRecoveryCall};
 ghost use Rattle.mn_replay.specs.Steps.{Adds, Keeps};
-ghost use Rattle.mn_replay.specs.Turn.{GoesOn, IsTurn, turn_of};
+ghost use Rattle.mn_replay.specs.Turn.{GoesOn, IsTurn, seen_of, turn_of};
 
 use crate::table::Table;
 use mn_actors::Pass;

@@ -2,7 +2,6 @@
 ghost use Rattle.std.specs.Prelude.{◌≡◌, ◌<◌, ◌++◌, false, IfErr, IfOk, OnErr, OnOk, None, Some};
 ghost use Rattle.std.specs.Prelude.{Contains, length, map};
 ghost use Rattle.std.specs.List.{AllByRecursion};
-ghost use Rattle.mn_replay.specs.Turn.{seen_of};
 ghost use Rattle.mn_base.specs.declared.ids.NodeNo.{NodeNo as Numbered};
 ghost use Rattle.mn_base.specs.declared.ids.Tid.{Tid as Id};
 ghost use Rattle.mn_cell.specs.Calls.{entry_at, what_said};
@@ -22,7 +21,7 @@ ghost use Rattle.mn_replay.specs.Doings.{HasAnswered, IsAnswer, IsDownAs, Others
 ghost use Rattle.mn_replay.specs.Failed.{closer};
 ghost use Rattle.mn_replay.specs.Settled.{AllUp, AreSettled, records_at};
 ghost use Rattle.mn_replay.specs.Steps.{Adds};
-ghost use Rattle.mn_replay.specs.Turn.{GoesOn, IsTurn, turn_of};
+ghost use Rattle.mn_replay.specs.Turn.{GoesOn, IsTurn, seen_of, turn_of};
 
 use crate::desk::make_room;
 use crate::table::Table;

@@ -2,14 +2,13 @@
 ghost use Rattle.std.specs.Prelude.{◌≡◌, ◌≢◌, ◌≤◌, ◌<◌, ◌+◌, ◌++◌, ◌∷◌, ◌^◌, [], Some, None, IfOk};
 ghost use Rattle.std.specs.Prelude.{IfErr, length, true, false};
 ghost use Rattle.std.specs.Prelude.{◌⊎◌, Bool, OnErr, OnOk, slice_get};
-ghost use Rattle.mn_replay.specs.Turn.{seen_of};
 ghost use Rattle.mn_base.specs.declared.ids.NodeNo.{NodeNo as Numbered};
 ghost use Rattle.mn_cell.specs.Calls.{IsUndamaged, KeepsStop, MaySend, entry_at, what_said};
 ghost use Rattle.mn_cell.specs.Promises.{IsOwedAt, decided_by};
 ghost use Rattle.mn_mini.specs.Sound.{Fits, IsSoundRequest};
 ghost use Rattle.mn_world.specs.declared.entry.What.TheVariants.{Stopped, Restarted};
 ghost use Rattle.mn_world.specs.Run.{IsLegalBy, entries_of};
-ghost use Rattle.mn_replay.specs.Turn.{AreStations, GoesOn, IsTurn, turn_of};
+ghost use Rattle.mn_replay.specs.Turn.{AreStations, GoesOn, IsTurn, seen_of, turn_of};
 ghost use Rattle.mn_replay.specs.Steps.{Adds, Keeps, own_entry};
 ghost use Rattle.mn_replay.specs.Causes.{IsCaused, cause_of};
 ghost use Rattle.mn_replay.specs.Doings.{HasAnswered, IsAnswer, IsDownAs, OthersStay};

@@ -3,13 +3,12 @@ use Rattle.std.proofs.Common.{◌≡◌, ◌<◌, ◌≤◌, ◌∙◌, ℕ, suc
 use Rattle.std.specs.Prelude.{slice_get}
 use Rattle.std.proofs.lemmas.List.{length-map, reverse-reverse}
 use Rattle.mn_base.specs.Store.{Store}
-use Rattle.mn_base.specs.declared.gate.StopAt.{StopAt}
-use Rattle.mn_base.specs.declared.gate.StopAt.TheVariants.{Before, Half, After}
 use Rattle.mn_base.specs.declared.ids.NodeNo.{NodeNo}
 use Rattle.mn_cell.specs.Calls.{numbered}
-use Rattle.mn_cell.specs.Station.{IsKeptAs, KeepsAs, KeepsAsAsked, RoseBy, last_asked}
+use Rattle.mn_cell.specs.Station.{RoseBy}
 use Rattle.mn_cell.specs.declared.trace.RunCause.{RunCause}
 use Rattle.mn_cell.specs.declared.trace.RunCause.TheVariants as runs
+use Rattle.mn_cell.proofs.Made.{all_keep_on}
 use Rattle.mn_io.specs.DiskModel.{DiskState}
 use Rattle.mn_mini.specs.declared.record.Record.{Record}
 use Rattle.mn_node.specs.Node.{StandsWithOrWithout, bodies_of}
@@ -20,8 +19,6 @@ use Rattle.mn_replay.specs.Failed.{FailsSo, HadOther, HasCause, IsRunOn, TellsRu
 use Rattle.mn_replay.specs.Trace.{AreHandedBack, IsHandedBack, IsQuiet, IsTrace, StartsSound, start_on}
 use Rattle.mn_script.specs.Script.{Script}
 use Rattle.mn_world.specs.declared.entry.Entry.{Entry}
-use Rattle.mn_world.specs.declared.entry.What.{What}
-use Rattle.mn_world.specs.declared.entry.What.TheVariants.{Begin, Issue, Called, Stopped, Restarted, Abandoned, Answered}
 use Rattle.mn_world.specs.Calls.{node_entries}
 use Rattle.mn_world.specs.Nodes.{added_by, is_down, stopped_request}
 use Rattle.mn_world.specs.Protocol.{Start, base_at, records_of, start_nodes, start_of}
@@ -39,26 +36,6 @@ use Rattle.mn_top.proofs.Starting.{all_at}
 
 rose_before : (by old before now : ℕ) → old ≤ before → RoseBy by before now → RoseBy by old now
 rose_before by old before now le rose = omega (arith, rose, le)
-
-kept_on : (A B : Type 0) → (A → B) → (asked : Option StopAt) (kept : Bool) → IsKeptAs A asked kept → IsKeptAs B asked kept
-kept_on A B f None kept is = tt
-kept_on A B f (Some Before) kept is = is
-kept_on A B f (Some Half) kept is = is
-kept_on A B f (Some After) kept (inl a) = inl (f a)
-kept_on A B f (Some After) kept (inr is) = inr is
-
-keeps_on : (A B : Type 0) → (A → B) → (what : What) (asked : Option StopAt) → KeepsAs A what asked → KeepsAs B what asked
-keeps_on A B f (Restarted kept) asked is = kept_on A B f asked kept is
-keeps_on A B f (Called request reply) asked is = tt
-keeps_on A B f (Stopped request stop) asked is = tt
-keeps_on A B f (Begin n op) asked is = tt
-keeps_on A B f (Issue tid mini) asked is = tt
-keeps_on A B f (Abandoned tid) asked is = tt
-keeps_on A B f (Answered n answer) asked is = tt
-
-all_keep_on : (A B : Type 0) → (A → B) → (es : List Entry) → KeepsAsAsked A es → KeepsAsAsked B es
-all_keep_on A B f [] are = tt
-all_keep_on A B f (e ∷ es) are = (keeps_on A B f e.what (last_asked es) are.0, all_keep_on A B f es are.1)
 
 -- One node
 
