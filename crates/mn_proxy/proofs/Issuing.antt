@@ -22,6 +22,7 @@ use Rattle.mn_world.specs.Clients.{ClientAllows, is_plan, is_read, last_number}
 use Rattle.mn_world.specs.Answers.{is_peek}
 use Rattle.mn_world.specs.Places.{Place}
 use Rattle.mn_world.specs.Shown.{Seen, seen_by, seen_in}
+use Rattle.mn_proxy.specs.declared.proxy.TheConstants.{PEEKS}
 use Rattle.mn_proxy.specs.declared.errand.Errand.{Errand}
 use Rattle.mn_proxy.specs.declared.errand.Errand.TheVariants as out
 use Rattle.mn_proxy.specs.declared.errand.Purpose.{Purpose}
@@ -98,12 +99,23 @@ own_with es p work own = record {
   recovers = own.recovers;
 }
 
+-- and whatever Peeks may come
+pub own_peeks : (es : List Entry) (p : ProxyState) (peeks : ℕ) (work : Option (Work × Errand)) → IsOwn es p
+    → IsOwn es (record p { peeks = peeks; work = work })
+own_peeks es p peeks work own = record {
+  issues = own.issues;
+  issued = own.issued;
+  fresh = own.fresh;
+  catalog = own.catalog;
+  recovers = own.recovers;
+}
+
 -- an operation begins
 pub begins_agree : (es : List Entry) (p : ProxyState) (op : Op) (e : Entry) (w : Work)
     → w ≡ new_work op → Agrees es p → BeginsNext es p.client op e
-    → Agrees (e ∷ es) (record p { work = Some (w, out.Nothing) })
+    → Agrees (e ∷ es) (record p { peeks = PEEKS; work = Some (w, out.Nothing) })
 begins_agree es p op e w new agrees begins = (
-  own_with (e ∷ es) p (Some (w, out.Nothing))
+  own_peeks (e ∷ es) p PEEKS (Some (w, out.Nothing))
       (own_on e es p own (ap issue_in is) (fresh_begun p.client p.run e es (last_number (begun_of es) + 1) op own.fresh begins.own.node is) (own_recovers_none e es begins.own.node own.recovers)),
   (
     subst (IsOpen (e ∷ es) p.known) (sym new) (begins_open es e (last_number (begun_of es) + 1) op p.known is),

@@ -14,6 +14,7 @@ pub mod Feeding
 pub mod GetsShow
 pub mod Issues
 pub mod Issuing
+pub mod Measure
 pub mod Opens
 pub mod ReadsShow
 pub mod Retrying

@@ -26,6 +26,7 @@ use Rattle.mn_proxy.specs.Issues.{AreFresh, tid_of}
 use Rattle.mn_proxy.specs.State.{ProxyState}
 use Rattle.mn_proxy.specs.Jobs.{ReadsShowBy, ScanShown}
 use Rattle.mn_proxy.specs.Tries.{HasAsked, IsTrying}
+use Rattle.mn_proxy.specs.declared.proxy.TheConstants.{PEEKS}
 use Rattle.mn_proxy.proofs.Issues.{GoesOn, catalog_stays, fresh_issued, issues_kept, issues_on, no_issue}
 use Rattle.mn_proxy.proofs.Issues.{one_issue, own_recovers_none, since_on, under_way_on}
 use Rattle.mn_proxy.proofs.ScansShow.{leafless_on, scan_on, silent_no_leaf}
@@ -187,6 +188,7 @@ with_serial p work = record {
   client = p.client;
   run = p.run;
   issued = p.issued + 1;
+  peeks = PEEKS;
   known = p.known;
   work = work;
 }

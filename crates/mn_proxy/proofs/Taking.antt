@@ -873,7 +873,7 @@ left_nodes old new (reads_for.Plan reply) bytes leaves = leaves.0
 -- it is sound still
 pub sound_left : (p : Inside) (new : Known) (purpose : Purpose) (bytes : List ℕ) → IsSoundInside p → p.work ≡ None
     → Leaves p.known new purpose bytes → ArePages new.cache
-    → IsSoundInside (record { client = p.client; run = p.run; issued = p.issued; known = new; work = p.work })
+    → IsSoundInside (record { client = p.client; run = p.run; issued = p.issued; peeks = p.peeks; known = new; work = p.work })
 sound_left p new purpose bytes sound idle leaves pages = record {
   client = sound.client;
   run = sound.run;

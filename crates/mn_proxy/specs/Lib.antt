@@ -10,6 +10,7 @@ pub mod Descents
 pub mod Issues
 pub mod Jobs
 pub mod Knows
+pub mod Measure
 pub mod Places
 pub mod Refusals
 pub mod Scans

@@ -5,15 +5,17 @@ use Rattle.mn_base.specs.declared.op.Op.{Op}
 use Rattle.mn_proxy.specs.declared.errand.Errand.{Errand}
 use Rattle.mn_proxy.specs.declared.errand.Errand.TheVariants as out
 use Rattle.mn_proxy.specs.declared.known.Known.{Known}
+use Rattle.mn_proxy.specs.declared.proxy.TheConstants.{PEEKS}
 use Rattle.mn_proxy.specs.declared.work.Work.{Work}
 use Rattle.mn_proxy.specs.Works.{new_work}
 
--- the client, the run, and how many serials were given out; what is kept; the operation under way
--- and what is on its way for it
+-- the client, the run, and how many serials were given out; how many Peeks may come before the next
+-- serial; what is kept; the operation under way and what is on its way for it
 pub record ProxyState : Type 0 where
   pub client : ClientNo
   pub run : ℕ
   pub issued : ℕ
+  pub peeks : ℕ
   pub known : Known
   pub work : Option (Work × Errand)
 
@@ -23,6 +25,7 @@ new_proxy client run nodes = record {
   client = client;
   run = run;
   issued = 0;
+  peeks = PEEKS;
   known = record { nodes = nodes; catalog = None; cache = [] };
   work = None;
 }
@@ -33,6 +36,7 @@ begun p op = record {
   client = p.client;
   run = p.run;
   issued = p.issued;
+  peeks = PEEKS;
   known = p.known;
   work = Some (new_work op, out.Nothing);
 }

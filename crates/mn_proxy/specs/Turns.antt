@@ -103,6 +103,7 @@ with_known p known = record {
   client = p.client;
   run = p.run;
   issued = p.issued;
+  peeks = p.peeks;
   known = known;
   work = p.work;
 }
@@ -113,6 +114,7 @@ with_work p work errand = record {
   client = p.client;
   run = p.run;
   issued = p.issued;
+  peeks = p.peeks;
   known = p.known;
   work = Some (work, errand);
 }

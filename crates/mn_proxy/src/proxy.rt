@@ -16,13 +16,14 @@ ghost use Rattle.mn_proxy.specs.Agrees.{HasOut, HasRead, IsAtRest, IsOwn, IsPlac
 ghost use Rattle.mn_proxy.specs.Agrees.{MayPeekFor, MayStep, MayWant, MiniAgrees, Wants};
 ghost use Rattle.mn_proxy.specs.Issues.{AreClosed};
 ghost use Rattle.mn_proxy.specs.Knows.{ArePages, KeepsKnown};
+ghost use Rattle.mn_proxy.specs.Measure.{Falls, GoesBelow, left_after, left_of, steps_left};
 ghost use Rattle.mn_proxy.specs.Places.{place_of};
 ghost use Rattle.mn_proxy.specs.State.{IsIdle, IsOut, IsOutIn, IsReady, begun, new_proxy};
 ghost use Rattle.mn_proxy.specs.Tries.{max_tries};
 ghost use Rattle.mn_proxy.specs.Turns.{CameOf, FailsSo, HasFailed, IsCommitted, IsFed, IsOutFor};
 ghost use Rattle.mn_proxy.specs.Turns.{IsRefused, IsSoundTurn, IsSoundWork, KeepsSelf, Leaves};
 ghost use Rattle.mn_proxy.specs.Turns.{MayIssue, MayRetry, OwesNoDecide, TurnAgrees, WaitsFor};
-ghost use Rattle.mn_proxy.specs.Turns.{read_alone, read_mini, with_known};
+ghost use Rattle.mn_proxy.specs.Turns.{read_alone, read_mini, with_known, with_work};
 ghost use Rattle.mn_proxy.specs.Works.{IsJobOf, IsStartable, KeepsOp, WantsNext, retried_job};
 
 use crate::causes::refusal;
@@ -41,6 +42,10 @@ use std::marker::Model;
 
 /// The most tries of an operation, and of each leaf of a scan.
 const TRIES: u8 = 8;
+
+/// The most Peeks between two minitransactions: more than a try can ask for, and a bound of the
+/// steps of an operation.
+const PEEKS: u16 = 4_096;
 
 /// How an operation goes on.
 #[derive(Debug, Drop)]
@@ -73,6 +78,8 @@ pub struct Proxy {
     run: u32,
     /// How many serials were given out.
     issued: u32,
+    /// How many Peeks may come before the next one is.
+    peeks: u16,
     known: Known,
     /// The operation under way, and what is on its way for it.
     work: Option<(Work, Errand)>,
@@ -88,6 +95,7 @@ impl Model for Proxy {
       client = p.client;
       run = p.run;
       issued = p.issued;
+      peeks = p.peeks;
       known = p.known;
       work = p.work;
     } };
@@ -215,6 +223,7 @@ impl Proxy {
             client,
             run,
             issued: 0,
+            peeks: PEEKS,
             known: Known {
                 nodes,
                 catalog: None,
@@ -232,6 +241,7 @@ impl Proxy {
         ensures agrees { (es : List Entry) (e : Entry) → Agrees es self.old
             → BeginsNext es self.old.client op e → Agrees (e ∷ es) self.new }
     {
+        self.peeks = PEEKS;
         self.work = Some((Work::new(op), Errand::Nothing));
     }
 
@@ -256,6 +266,9 @@ impl Proxy {
             → OnErr result (EntersWant es self.old new → Agrees new self.new) }
         ensures ended { OnErr result (IsIdle self.new) }
         ensures kept { KeepsSelf self.old self.new }
+
+        // Each step lowers the number of steps that are left, which `feed` never raises.
+        ensures falls { IfOk result (Falls self.old self.new) }
     {
         let Some((work, errand)) = self.work.take() else {
             return Err(NoMemory);
@@ -282,6 +295,8 @@ impl Proxy {
         ensures left { (es : List Entry) → IsOwn es self.old
             → ErrandAgrees es self.old.known work errand → OnErr result (IsOwn es self.new) }
         ensures kept { KeepsSelf self.old self.new × (self.new.work ≡ None) }
+        ensures falls { IfOk result
+            (GoesBelow (steps_left (with_work self.old work errand)) self.new) }
     {
         match errand {
             Errand::Nothing => self.advance(alloc, work),
@@ -325,6 +340,7 @@ impl Proxy {
             → ErrandAgrees es self.old.known work (errands.Peeked place reply purpose)
             → OnErr result (IsOwn es self.new) }
         ensures kept { KeepsSelf self.old self.new × (self.new.work ≡ None) }
+        ensures falls { IfOk result (GoesBelow (left_after self.old) self.new) }
     {
         match reply {
             NodeReply::Peeked { bytes } => self.take(alloc, work, purpose, bytes),
@@ -358,6 +374,8 @@ impl Proxy {
             → MiniAgrees es self.old.known work tid coordinator purpose
             → OnErr result (IsOwn es self.new) }
         ensures kept { KeepsSelf self.old self.new × (self.new.work ≡ None) }
+        ensures falls { IfOk result
+            (GoesBelow (left_after self.old + left_of coordinator) self.new) }
     {
         let mut coordinator = coordinator;
         let step = match coordinator.next() {
@@ -403,6 +421,7 @@ impl Proxy {
             → IsCommitted es self.old.known work outcome.reads.items purpose
             → OnErr result (IsOwn es self.new) }
         ensures kept { KeepsSelf self.old self.new × (self.new.work ≡ None) }
+        ensures falls { IfOk result (GoesBelow (left_after self.old) self.new) }
     {
         match purpose {
             Purpose::Plan { reply } => Ok(ends(Answer::Replied { reply })),
@@ -431,6 +450,7 @@ impl Proxy {
             → IfOk result (TurnAgrees es self.new) }
         ensures left { (es : List Entry) → IsOwn es self.old → OnErr result (IsOwn es self.new) }
         ensures kept { KeepsSelf self.old self.new × (self.new.work ≡ None) }
+        ensures falls { IfOk result (GoesBelow (left_after self.old) self.new) }
     {
         match failure_of(alloc, tid, node, outcome)? {
             Failure::Down => Ok(ends(Answer::Down { node })),
@@ -457,6 +477,7 @@ impl Proxy {
         ensures left { (es : List Entry) → IsOwn es self.old
             → HasRead es self.old.known work purpose bytes → OnErr result (IsOwn es self.new) }
         ensures kept { KeepsSelf self.old self.new × (self.new.work ≡ None) }
+        ensures falls { IfOk result (GoesBelow (left_after self.old) self.new) }
     {
         let mut work = work;
         match taken_for(alloc, &mut work, &mut self.known, purpose, bytes)? {
@@ -494,6 +515,7 @@ impl Proxy {
             → IfOk result (TurnAgrees es self.new) }
         ensures left { (es : List Entry) → IsOwn es self.old → OnErr result (IsOwn es self.new) }
         ensures kept { KeepsSelf self.old self.new × (self.new.work ≡ None) }
+        ensures falls { IfOk result (GoesBelow (left_after self.old) self.new) }
     {
         causes_are_shown();
         let mut work = work;
@@ -531,6 +553,7 @@ impl Proxy {
             → IfOk result (TurnAgrees es self.new) }
         ensures left { (es : List Entry) → IsOwn es self.old → OnErr result (IsOwn es self.new) }
         ensures kept { KeepsSelf self.old self.new × (self.new.work ≡ None) }
+        ensures falls { IfOk result (GoesBelow (left_after self.old) self.new) }
     {
         self.has_nodes();
         self.read(alloc, work, Place::of_catalog(), false, Purpose::Catalog)
@@ -556,14 +579,42 @@ impl Proxy {
             → IfOk result (TurnAgrees es self.new) }
         ensures left { (es : List Entry) → IsOwn es self.old → OnErr result (IsOwn es self.new) }
         ensures kept { KeepsSelf self.old self.new × (self.new.work ≡ None) }
+        ensures falls { IfOk result (GoesBelow (left_after self.old) self.new) }
     {
-        if !peek {
+        if !self.may_peek(peek) {
             let mini = read_of(alloc, self.known.nodes, place)?;
             return self.issue(alloc, work, mini, purpose);
         }
+        self.peek(work, place, purpose)
+    }
+
+    /// Whether a place is read by a Peek, where it may be.
+    fn may_peek(&self, peek: bool) -> bool
+        ensures { result ≡ true → (peek ≡ true) × (1 ≤ self.now.peeks) }
+    {
+        peek && self.peeks > 0
+    }
+
+    /// Reads a place by a Peek.
+    fn peek(&mut self, work: Work, place: Place, purpose: Purpose) -> Result<Turn, NoMemory>
+        requires idle { self.old.work ≡ None }
+        requires few { work.failed < max_tries }
+        requires waits { WaitsFor self.old.known work purpose }
+        requires node { place.node.0 < self.old.known.nodes }
+        requires left { 1 ≤ self.old.peeks }
+        ensures sound { IfOk result (IsSoundTurn self.new.known) }
+        ensures turns { (es : List Entry) → IsOwn es self.old → IsAtRest es self.old.known work
+            → IsPlaceFor work.job purpose (place_of place)
+            → (work.failed ≡ 0) × MayPeekFor work.job purpose
+            → IfOk result (TurnAgrees es self.new) }
+        ensures left { (es : List Entry) → IsOwn es self.old → OnErr result (IsOwn es self.new) }
+        ensures kept { KeepsSelf self.old self.new × (self.new.work ≡ None) }
+        ensures falls { IfOk result (GoesBelow (left_after self.old) self.new) }
+    {
         if !is_in_space(&place) {
             return Err(NoMemory);
         }
+        self.peeks -= 1;
         let step = ProxyStep::Call {
             node: place.node,
             request: Request::Peek {
@@ -592,6 +643,7 @@ impl Proxy {
             → MayIssue es self.old.known work purpose mini → IfOk result (TurnAgrees es self.new) }
         ensures left { (es : List Entry) → IsOwn es self.old → OnErr result (IsOwn es self.new) }
         ensures kept { KeepsSelf self.old self.new × (self.new.work ≡ None) }
+        ensures falls { IfOk result (GoesBelow (left_after self.old) self.new) }
     {
         is_sound(&mini);
         if self.issued == u32::MAX {
@@ -604,6 +656,7 @@ impl Proxy {
         };
         let coordinator = Coordinator::new(alloc, tid, mini.try_copy(alloc)?)?;
         self.issued += 1;
+        self.peeks = PEEKS;
         let errand = Errand::Mini {
             tid,
             coordinator,
@@ -623,6 +676,7 @@ impl Proxy {
             → HasFailed es self.old.known work cause → IfOk result (TurnAgrees es self.new) }
         ensures left { (es : List Entry) → IsOwn es self.old → OnErr result (IsOwn es self.new) }
         ensures kept { KeepsSelf self.old self.new × (self.new.work ≡ None) }
+        ensures falls { IfOk result (GoesBelow (left_after self.old) self.new) }
     {
         match cause {
             None if work.is_later() => Err(NoMemory),
@@ -641,6 +695,7 @@ impl Proxy {
             → IfOk result (TurnAgrees es self.new) }
         ensures left { (es : List Entry) → IsOwn es self.old → OnErr result (IsOwn es self.new) }
         ensures kept { KeepsSelf self.old self.new × (self.new.work ≡ None) }
+        ensures falls { IfOk result (GoesBelow (left_after self.old) self.new) }
     {
         let mut work = work;
         work.retry();
@@ -660,6 +715,7 @@ impl Proxy {
         ensures no_entry { (es : List Entry) → Agrees es self.old → reply ≡ NodeReply.NoMemory
             → OwesNoDecide self.old → Agrees es self.new }
         ensures kept { KeepsSelf self.old self.new }
+        ensures falls { steps_left self.new ≤ steps_left self.old }
     {
         let Some((work, errand)) = self.work.take() else {
             return;

@@ -9,6 +9,8 @@ use Rattle.mn_world.specs.Places.{Place as Range}
 use Rattle.mn_proxy.proofs.Wanting.{answers_so, asks_catalog, asks_count, asks_page, counts_place}
 use Rattle.mn_proxy.proofs.Wanting.{answers_self, has_failed, kept_idle, kept_self, makes_plan, own_self}
 use Rattle.mn_proxy.proofs.Works.{catalog_asked, count_asked, page_asked, plan_asked, retry_after_wants, starts_right}
+use Rattle.mn_proxy.specs.Measure.{GoesBelow, left_after}
+use Rattle.mn_proxy.proofs.Measure.{known_goes}
 use Rattle.mn_proxy.proofs.proxy.Proxy.advance.Goals as goal
 
 any_err : {T E : Type 0} (r : Result T E) (A : Type 0) → A → OnErr r A
@@ -160,3 +162,28 @@ returns-in-Answers-clause-turns c = λ es own rest.
 pub returns-in-Answers-clause-kept : goal.returns-in-Answers-clause-kept
 returns-in-Answers-clause-kept c =
     kept_idle c.args.self.now c.want.new.self c.want.ensures.same c.want.ensures.kept c.requires.idle
+
+-- Fewer steps are left
+
+pub returns-in-Catalog-clause-falls : goal.returns-in-Catalog-clause-falls
+returns-in-Catalog-clause-falls c =
+    known_goes c.args.self.now c.want.new.self c.read_catalog.new.self c.read_catalog.result c.want.ensures.same c.read_catalog.ensures.falls
+
+pub returns-in-Page-clause-falls : goal.returns-in-Page-clause-falls
+returns-in-Page-clause-falls c =
+    known_goes c.args.self.now c.want.new.self c.read.new.self c.read.result c.want.ensures.same c.read.ensures.falls
+
+pub returns-in-Count-clause-falls : goal.returns-in-Count-clause-falls
+returns-in-Count-clause-falls c =
+    known_goes c.args.self.now c.want.new.self c.read-in-Count.new.self c.read-in-Count.result c.want.ensures.same c.read-in-Count.ensures.falls
+
+pub returns-in-Plan-clause-falls : goal.returns-in-Plan-clause-falls
+returns-in-Plan-clause-falls c =
+    known_goes c.args.self.now c.want.new.self c.issue.new.self c.issue.result c.want.ensures.same c.issue.ensures.falls
+
+pub returns-in-Fails-clause-falls : goal.returns-in-Fails-clause-falls
+returns-in-Fails-clause-falls c =
+    known_goes c.args.self.now c.want.new.self c.fail.new.self c.fail.result c.want.ensures.same c.fail.ensures.falls
+
+pub returns-in-Answers-clause-falls : goal.returns-in-Answers-clause-falls
+returns-in-Answers-clause-falls c = subst (GoesBelow (left_after c.args.self.now) c.want.new.self) (sym c.ends.ensures) tt

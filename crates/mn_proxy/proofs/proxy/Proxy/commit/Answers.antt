@@ -1,5 +1,6 @@
 use Rattle.std.proofs.Common.{refl, subst, sym, ◌∙◌}
 use Rattle.mn_proxy.specs.Agrees.{MayWant}
+use Rattle.mn_proxy.specs.Measure.{GoesBelow, left_after}
 use Rattle.mn_proxy.specs.Turns.{IsCommitted, IsSoundTurn, TurnAgrees}
 use Rattle.mn_proxy.proofs.Coordinating.{committed_read, done_read, on_err, plan_answered, read_may_want}
 use Rattle.mn_proxy.proofs.proxy.Proxy.commit.Goals as goal
@@ -19,6 +20,10 @@ returns-in-Plan-clause-turns c = λ es own is.
 pub returns-in-Plan-clause-kept : goal.returns-in-Plan-clause-kept
 returns-in-Plan-clause-kept c = ((refl, refl, refl), c.requires.idle)
 
+pub returns-in-Plan-clause-falls : goal.returns-in-Plan-clause-falls
+returns-in-Plan-clause-falls c =
+    subst (GoesBelow (left_after c.args.self.now) c.args.self.now) (sym c.ends.ensures) tt
+
 pub returns-in-Some : goal.returns-in-Some
 returns-in-Some c = record {
   sound = c.take.ensures.sound;
@@ -32,6 +37,7 @@ returns-in-Some c = record {
       let d = committed_read es c.args.self.now.known c.args.work c.args.outcome.reads.items c.args.purpose c.in_default.not-Plan is in
       c.take.ensures.left es own (done_read es c.args.self.now.known c.args.work c.args.outcome.reads.items c.args.purpose c.in-Some.bytes d (sym c.only_read.ensures ∙ c.in-Some.is));
   kept = c.take.ensures.kept;
+  falls = c.take.ensures.falls;
 }
 
 pub returns-in-None : goal.returns-in-None
@@ -42,4 +48,5 @@ returns-in-None c = record {
       (committed_read es c.args.self.now.known c.args.work c.args.outcome.reads.items c.args.purpose c.in_default.not-Plan is);
   left = λ es own is. own;
   kept = ((refl, refl, refl), c.requires.idle);
+  falls = tt;
 }

@@ -1,4 +1,4 @@
-use Rattle.std.proofs.Common.{◌≡◌, ℕ, List, Option, refl, subst, sym, ap, ◌∙◌}
+use Rattle.std.proofs.Common.{◌≡◌, ◌+◌, ℕ, List, Option, refl, subst, sym, ap, ◌∙◌}
 use Rattle.mn_coord.specs.Coordination.{Coordination, IsSoundStep as IsSoundCoordStep, after_step}
 use Rattle.mn_coord.specs.Legal.{MayMake}
 use Rattle.mn_coord.specs.declared.step.CoordStep.TheVariants.{Send, Abandon}
@@ -11,6 +11,8 @@ use Rattle.mn_proxy.specs.Agrees.{MayWant}
 use Rattle.mn_proxy.specs.Turns.{IsCommitted, IsRefused, IsSoundTurn, TurnAgrees}
 use Rattle.mn_proxy.proofs.Answered.{may_want}
 use Rattle.mn_proxy.proofs.Coordinating.{abandons_soundly, fails_over, mini_abandons, mini_commits, mini_doubts, mini_fails, mini_sends, on_err, sends_soundly, waits_startable}
+use Rattle.mn_proxy.specs.Measure.{GoesBelow, left_after, left_of}
+use Rattle.mn_proxy.proofs.Measure.{abandon_falls, coordinates_below, mini_goes, send_falls}
 use Rattle.mn_proxy.proofs.proxy.Proxy.coordinate.Goals as goal
 use Rattle.mn_proxy.proofs.proxy.Proxy.coordinate.Goals.{in-Send, in-Abandon}
 
@@ -138,3 +140,28 @@ returns-clause-turns c = λ es own m.
 
 pub returns-clause-kept : goal.returns-clause-kept
 returns-clause-kept c = ((refl, refl, refl), c.requires.idle)
+
+pub returns-in-Committed-clause-falls : goal.returns-in-Committed-clause-falls
+returns-in-Committed-clause-falls c =
+    mini_goes c.args.self.now c.commit.new.self c.args.coordinator c.commit.result c.commit.ensures.falls
+
+pub returns-in-Failed-clause-falls : goal.returns-in-Failed-clause-falls
+returns-in-Failed-clause-falls c =
+    mini_goes c.args.self.now c.refuse.new.self c.args.coordinator c.refuse.result c.refuse.ensures.falls
+
+pub returns-in-Doubt-clause-falls : goal.returns-in-Doubt-clause-falls
+returns-in-Doubt-clause-falls c =
+    subst (GoesBelow (left_after c.args.self.now + left_of c.args.coordinator) c.args.self.now) (sym c.ends.ensures) tt
+
+pub returns-clause-falls : goal.returns-clause-falls
+returns-clause-falls c =
+    let p = c.args.self.now in
+    subst (GoesBelow (left_after p + left_of c.args.coordinator) p) (sym c.goes.ensures)
+    (coordinates_below p c.args.coordinator c.next.new.self (elim c.match-next.branch [
+      | in-Send w ↦
+          send_falls c.args.coordinator c.next.new.self w.in-Send.node w.in-Send.request c.requires.quiet
+          (sym c.next.ensures.step ∙ w.in-Send.is) (c.next.ensures.after ∙ ap (after_step c.args.coordinator) w.in-Send.is)
+      | in-Abandon w ↦
+          abandon_falls c.args.coordinator c.next.new.self (sym c.next.ensures.step ∙ w.in-Abandon.is)
+          (c.next.ensures.after ∙ ap (after_step c.args.coordinator) w.in-Abandon.is)
+    ]))

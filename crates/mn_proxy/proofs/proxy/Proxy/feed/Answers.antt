@@ -1,8 +1,11 @@
-use Rattle.std.proofs.Common.{◌≡◌, subst, sym, ◌∙◌}
+use Rattle.std.proofs.Common.{◌≡◌, ◌≤◌, subst, sym, ◌∙◌}
 use Rattle.mn_proxy.specs.Agrees.{Agrees, HasOut}
-use Rattle.mn_proxy.specs.State.{ProxyState}
-use Rattle.mn_proxy.specs.Turns.{OwesNoDecide}
+use Rattle.mn_proxy.specs.Measure.{steps_left}
+use Rattle.mn_proxy.specs.State.{IsOut, ProxyState}
+use Rattle.mn_proxy.specs.contracts.proxy.Proxy.{the_view}
+use Rattle.mn_proxy.specs.Turns.{OwesNoDecide, with_work}
 use Rattle.mn_proxy.proofs.Feeding.{fed_in, fed_work, feed_agrees, feed_unanswered, sound_of}
+use Rattle.mn_proxy.proofs.Measure.{feed_falls}
 use Rattle.mn_proxy.proofs.proxy.Proxy.feed.Goals as goal
 
 pub invariant_of-self-2 : goal.invariant_of-self-2
@@ -24,6 +27,7 @@ returns-clause-agrees c = λ es e node request a has fits is.
       client = c.self.inside.client;
       run = c.self.inside.run;
       issued = c.self.inside.issued;
+      peeks = c.self.inside.peeks;
       known = c.self.inside.known;
       work = c.self.inside.work;
     } in
@@ -37,9 +41,16 @@ returns-clause-no_entry c = λ es a none owes.
       client = c.self.inside.client;
       run = c.self.inside.run;
       issued = c.self.inside.issued;
+      peeks = c.self.inside.peeks;
       known = c.self.inside.known;
       work = c.self.inside.work;
     } in
     let same : c.args.self.now ≡ p = sym c.self.view_is in
     feed_unanswered p c.in-Some.work c.in-Some.errand c.fed.result c.args.reply (sym c.take.ensures.value ∙ c.in-Some.is) c.self.invariant.work c.fed.ensures es
     (subst (Agrees es) same a) none (subst OwesNoDecide same owes)
+
+pub returns-clause-falls : goal.returns-clause-falls
+returns-clause-falls c =
+    subst (λ (q : ProxyState). steps_left (with_work (the_view c.self.inside) c.in-Some.work c.fed.result) ≤ steps_left q) c.self.view_is
+    (feed_falls (the_view c.self.inside) c.in-Some.work c.in-Some.errand c.fed.result c.args.reply
+    (sym c.take.ensures.value ∙ c.in-Some.is) (subst IsOut (sym c.self.view_is) c.requires.out) c.fed.ensures)

@@ -3,8 +3,10 @@ use Rattle.std.proofs.Common.{Some, ap, refl, subst, sym, ◌∙◌}
 use Rattle.mn_proxy.specs.contracts.proxy.Proxy.{the_view}
 use Rattle.mn_proxy.specs.Agrees.{Agrees, EntersWant}
 use Rattle.mn_proxy.specs.State.{ProxyState}
-use Rattle.mn_proxy.specs.Turns.{TurnAgrees}
+use Rattle.mn_proxy.specs.Measure.{Falls}
+use Rattle.mn_proxy.specs.Turns.{TurnAgrees, with_work}
 use Rattle.mn_proxy.proofs.Turning.{goes_agree, goes_legal, goes_sound, goes_wants, left_agrees, on_error, turn_errand, turn_own}
+use Rattle.mn_proxy.proofs.Measure.{goes_falls}
 use Rattle.mn_proxy.proofs.proxy.Proxy.next.Goals as goal
 
 pub returns-in_err-step-clause-left : goal.returns-in_err-step-clause-left
@@ -44,3 +46,10 @@ pub returns-in-Goes-clause-goes_on : goal.returns-in-Goes-clause-goes_on
 returns-in-Goes-clause-goes_on c =
     goes_wants c.turn.new.self.known (record (the_view c.self-2.inside) { work = Some (c.in-Goes.work, c.in-Goes.errand) })
     c.in_ok-step.field-0 c.in-Goes.step c.in-Goes.work c.in-Goes.errand c.in-Goes.is refl c.in_ok-step.ensures.sound
+
+pub returns-in-Goes-clause-falls : goal.returns-in-Goes-clause-falls
+returns-in-Goes-clause-falls c =
+    subst (λ (p : ProxyState). Falls p (with_work (the_view c.self-2.inside) c.in-Goes.work c.in-Goes.errand) c.in-Goes.step) c.self.view_is
+    (subst (λ (q : ProxyState). Falls (the_view c.self.inside) (with_work q c.in-Goes.work c.in-Goes.errand) c.in-Goes.step) (sym c.self-2.view_is)
+    (goes_falls (the_view c.self.inside) c.turn.new.self c.in-Some.work c.in-Goes.work c.in-Some.errand c.in-Goes.errand c.in-Goes.step c.in_ok-step.field-0
+    (sym c.in-Some.ensures.value) c.in-Goes.is c.in_ok-step.ensures.falls))

@@ -6,6 +6,8 @@ use Rattle.mn_proxy.specs.Agrees.{IsOwn}
 use Rattle.mn_proxy.specs.declared.next.Taken.{Taken}
 use Rattle.mn_proxy.specs.contracts.proxy.Proxy.{the_view}
 use Rattle.mn_proxy.proofs.Taking.{few_as, job_as, kept_as, none_left, none_made, own_left_as, replies_as, sound_left, startable_as, tells_as}
+use Rattle.mn_proxy.specs.Measure.{GoesBelow, left_after}
+use Rattle.mn_proxy.proofs.Measure.{same_goes}
 use Rattle.mn_proxy.proofs.proxy.Proxy.take.Goals as goal
 use Rattle.mn_proxy.proofs.proxy.Proxy.take.Goals.{in-Transaction-2, in-Child-2, in-Scan-2, in-Start-2}
 
@@ -183,3 +185,22 @@ returns-in-Fails-clause-left c = λ es own read.
 pub returns-in-Fails-clause-kept : goal.returns-in-Fails-clause-kept
 returns-in-Fails-clause-kept c =
     kept_as (the_view c.self.inside) c.args.self.now c.fail.new.self c.taken_for.new.known c.args.purpose c.args.bytes c.self.view_is c.taken_for.ensures.leaves c.fail.ensures.kept
+
+pub returns-in_err-taken_for-clause-falls : goal.returns-in_err-taken_for-clause-falls
+returns-in_err-taken_for-clause-falls c =
+    none_made c.from_residual.result (GoesBelow (left_after c.args.self.now) (with_known (the_view c.self.inside) c.taken_for.new.known)) c.from_residual.ensures.0
+
+pub returns-in-GoesOn-clause-falls : goal.returns-in-GoesOn-clause-falls
+returns-in-GoesOn-clause-falls c =
+    same_goes c.args.self.now (the_view c.self.inside) c.advance.new.self c.advance.result c.self.view_is c.advance.ensures.falls
+
+pub returns-in-Leaf-clause-falls : goal.returns-in-Leaf-clause-falls
+returns-in-Leaf-clause-falls c =
+    same_goes c.args.self.now (the_view c.self.inside) c.advance-in-Leaf.new.self c.advance-in-Leaf.result c.self.view_is c.advance-in-Leaf.ensures.falls
+
+pub returns-in-Fails-clause-falls : goal.returns-in-Fails-clause-falls
+returns-in-Fails-clause-falls c =
+    same_goes c.args.self.now (the_view c.self.inside) c.fail.new.self c.fail.result c.self.view_is c.fail.ensures.falls
+
+pub returns-in-Replies-clause-falls : goal.returns-in-Replies-clause-falls
+returns-in-Replies-clause-falls c = subst (GoesBelow (left_after c.args.self.now) c.match-work-5.self) (sym c.ends.ensures) tt

@@ -24,4 +24,5 @@ returns-in_default c = record {
       peeked_may_want es c.args.self.now.known c.args.work (place_of c.args.place) c.args.purpose c.args.reply agrees.0 agrees.1;
   left = λ es own agrees. own;
   kept = ((refl, refl, refl), c.requires.idle);
+  falls = tt;
 }

@@ -1,0 +1,9 @@
+-- One Peek fewer may come.
+use Rattle.mn_proxy.specs.contracts.proxy.Proxy.{the_view}
+use Rattle.mn_proxy.proofs.Measure.{peek_goes}
+use Rattle.mn_proxy.proofs.proxy.Proxy.peek.Goals as goal
+
+pub returns-clause-falls : goal.returns-clause-falls
+returns-clause-falls c =
+    peek_goes c.args.self.now (the_view c.self.inside) c.args.work c.args.place c.args.purpose _ c.goes.result
+    c.self.view_is c.requires.left c.goes.ensures
