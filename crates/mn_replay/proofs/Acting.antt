@@ -1,6 +1,6 @@
 -- The turns of clients and of recovery coordinators.
-use Rattle.std.proofs.Common.{◌≡◌, ℕ, ◌+◌, ◌-◌, ◌<◌, ◌≤◌, Result, Ok, Err, OnOk, Bool, true, false, Option, Some, None, List, [], length, get_or, refl, sym, ap, ◌∙◌, subst, arith, nat_eq, nat_lt}
-use Rattle.std.specs.Prelude.{slice_get, slice_set}
+use Rattle.std.proofs.Common.{◌≡◌, ℕ, zero, suc, ◌+◌, ◌-◌, ◌<◌, Result, Ok, Err, is_err, IfOk, OnOk, Bool, false, Option, Some, None, List, [], ◌∷◌, ◌++◌, length, map, get_or, refl, sym, ap, ◌∙◌, subst, arith, nat_eq}
+use Rattle.std.specs.Prelude.{slice_get, slice_index_or, slice_set}
 use Rattle.std.specs.List.{AllByRecursion}
 use Rattle.std.specs.Option.{option_map_or}
 use Rattle.std.proofs.lemmas.Bool.{le-ltb, lt-ltb, ne_eqb}
@@ -8,26 +8,49 @@ use Rattle.std.proofs.lemmas.Option.{slice_get_read, slice_get_within}
 use Rattle.atomic_table.specs.Seated.{TableId}
 use Rattle.mn_actors.specs.declared.actor.Actor.TheVariants.{Client as Calls}
 use Rattle.mn_actors.specs.declared.clock.View.{View}
-use Rattle.mn_actors.specs.Lists.{IsJoined, IsSplit, Owns}
+use Rattle.mn_actors.specs.Lists.{IsJoined, IsSplit}
 use Rattle.mn_cell.specs.Runs.{IsIssueOf}
+use Rattle.mn_base.specs.declared.ids.ClientNo.{ClientNo}
+use Rattle.mn_recov.specs.Recovery.{Recovery}
+use Rattle.mn_base.specs.declared.op.Op.{Op}
+use Rattle.mn_script.specs.declared.elements.Point.{Point}
+use Rattle.mn_script.specs.declared.elements.ScriptClient.{ScriptClient}
 use Rattle.mn_script.specs.Script.{Script}
 use Rattle.mn_world.specs.declared.entry.Entry.{Entry}
+use Rattle.mn_world.specs.Calls.{client_entries}
 use Rattle.mn_world.specs.Lists.{ClientState}
 use Rattle.mn_world.specs.Protocol.{Start, start_nodes}
 use Rattle.mn_world.specs.Run.{entries_of}
 use Rattle.mn_replay.specs.declared.client.Client.{Client}
 use Rattle.mn_replay.specs.declared.desk.Desk.{Desk}
 use Rattle.mn_replay.specs.declared.play.Callers.{Callers}
+use Rattle.mn_replay.specs.Acts.{as_role}
 use Rattle.mn_replay.specs.Clients.{IsOfRun}
 use Rattle.mn_replay.specs.Desks.{IsDesk}
-use Rattle.mn_replay.specs.Plays.{IsAtRest, IsOfSome, IsPlay, PlayState, StaysPlay, caller_at, list_by}
-use Rattle.mn_replay.specs.Turn.{GoesOn, IsTurn, Turn, callers_count}
-use Rattle.mn_replay.proofs.Resting.{Replaces, turn_begins, turn_ends}
+use Rattle.mn_replay.specs.Plays.{IsAtRest, IsPlay, PlayState, StaysPlay, caller_at, list_by}
+use Rattle.mn_replay.specs.Logs.{GoesAs, HasLog, played_by, works_of}
+use Rattle.mn_replay.specs.Recoveries.{Bench, bench_of}
+use Rattle.mn_replay.specs.Schedule.{IsOfClient, IsOfRecoverer, recoverer, role_of}
+use Rattle.mn_replay.specs.Turn.{GoesOn, IsTurn, Turn, callers_count, past_in, trail_by}
+use Rattle.mn_replay.proofs.Resting.{IsAfter, IsTurnOf, Replaces, turn_after, turn_begins, turn_ends}
+use Rattle.mn_replay.proofs.Scheduled.{client_acts, list_of_client as list_of_client_in, recoverer_acts}
 use Rattle.mn_replay.proofs.Replacing.{client_among, client_replaced, desk_among, desk_replaced, list_of}
 
 pub ok_then : {E : Type 0} (r : Result (Unit {0}) E) (P Q : Type 0) → (P → Q) → OnOk r P → OnOk r Q
 ok_then (Ok u) P Q f p = f p
 ok_then (Err e) P Q f p = tt
+
+pub ok_so : {E : Type 0} (r : Result (Unit {0}) E) (P : Type 0) → P → OnOk r P
+ok_so (Ok u) P p = p
+ok_so (Err e) P p = tt
+
+pub if_ok : {T E : Type 0} (r : Result T E) {P Q : T → Type 0} → IfOk r P → ((t : T) → P t → Q t) → IfOk r Q
+if_ok (Ok t) p f = f t p
+if_ok (Err e) p f = tt
+
+pub not_err : {E : Type 0} (r : Result (Unit {0}) E) (P : Type 0) → is_err r ≡ false → OnOk r P → P
+not_err (Ok u) P is p = p
+not_err (Err e) P is p = absurd cc
 
 -- the element that was read
 pub read_at : {X : Type 0} (xs : List X) (k : ℕ) (x : X) → k < length xs → x ≡ get_or xs k x → slice_get xs k ≡ Some x
@@ -36,10 +59,17 @@ read_at xs k x within is = slice_get_read xs (length xs) k x refl within is
 pub met_at : {X : Type 0} (xs : List X) (k j : ℕ) (x : X) → k < length xs → j ≡ k → x ≡ get_or xs j x → slice_get xs k ≡ Some x
 met_at xs k j x within same is = read_at xs k x within (is ∙ ap (λ (i : ℕ). get_or xs i x) same)
 
-list_of_client : (callers : Callers) (k : ℕ) (c : Client) → k < 16 → slice_get callers.clients.items k ≡ Some c → list_by callers (caller_at k) ≡ c.list.entries
+pub list_of_client : (callers : Callers) (k : ℕ) (c : Client) → k < 16 → slice_get callers.clients.items k ≡ Some c → list_by callers (caller_at k) ≡ c.list.entries
 list_of_client callers k c below there =
     ap (λ (b : Bool). list_of b (nat_eq k 16) (slice_get callers.clients.items k) callers.closer.list.entries (slice_get callers.desks.items (k - 17))) (lt-ltb k 16 below)
     ∙ ap (λ (o : Option Client). option_map_or (λ k. k.list.entries) o []) there
+
+-- the role of a client, by its number and its operations
+pub role_same : (script : Script) (points : List Point) (c d : ClientNo) (ops : List Op) (k : ScriptClient) → points ≡ script.points → d ≡ c → slice_get script.clients c.0 ≡ Some k → ops ≡ k.ops → as_role points d ops ≡ role_of script c
+role_same script points c d ops k points_is same there ops_is =
+    ap (λ (ps : List Point). as_role ps d ops) points_is
+    ∙ (ap (λ (e : ClientNo). as_role script.points e ops) same
+    ∙ ap (λ (l : List Op). as_role script.points c l) (ops_is ∙ sym (ap (λ (o : Option ScriptClient). option_map_or (λ (x : ScriptClient). x.ops) o []) there)))
 
 list_of_desk : (callers : Callers) (k : ℕ) (d : Desk) → slice_get callers.desks.items k ≡ Some d → list_by callers (caller_at (17 + k)) ≡ d.list.entries
 list_of_desk callers k d there =
@@ -48,6 +78,20 @@ list_of_desk callers k d there =
     ∙ (ap (λ (b : Bool). list_of false b (slice_get callers.clients.items (17 + k)) callers.closer.list.entries (slice_get callers.desks.items ((17 + k) - 17))) (ne_eqb (17 + k) 16 (λ is. absurd (omega arith)))
     ∙ (ap (λ (j : ℕ). option_map_or (λ d. d.list.entries) (slice_get callers.desks.items j) []) place
     ∙ ap (λ (o : Option Desk). option_map_or (λ d. d.list.entries) o []) there))
+
+-- the works of recovery coordinators
+work_at : (ds : List Desk) (k : ℕ) (d : Desk) → slice_get ds k ≡ Some d → slice_index_or (map (λ (e : Desk). e.work) ds) k None ≡ d.work
+work_at [] k d at = absurd cc
+work_at (e ∷ ds) zero d at = let same : e ≡ d = cc in ap (λ (f : Desk). f.work) same
+work_at (e ∷ ds) (suc k) d at = work_at ds k d at
+
+map_set : {X Y : Type 0} (f : X → Y) (xs : List X) (k : ℕ) (x : X) → map f (slice_set xs k x) ≡ slice_set (map f xs) k (f x)
+map_set f [] k x = refl
+map_set f (y ∷ xs) zero x = refl
+map_set f (y ∷ xs) (suc k) x = ap (λ l. f y ∷ l) (map_set f xs k x)
+
+abbrev Acts : {D : Type 0} → PlayState D → (List Entry → Bench → Bench → Type 0) → ClientNo → ℕ → List Entry → List Entry → List (Option Recovery) → Type 0
+Acts p does client number es later ws = IsOfRecoverer number (does (client_entries client es)) (played_by p es) (record { past = later; works = ws })
 
 module _ {D : Type 0} (board : TableId) (start : Start) (p : PlayState D) (rests : IsAtRest board start p) (k : ℕ) where
   -- Clients
@@ -64,34 +108,56 @@ module _ {D : Type 0} (board : TableId) (start : Start) (p : PlayState D) (rests
     client_begins w u at split is =
         turn_begins board start p (caller_at k) w u at c.list rests among split (is ∙ rests.passes) (rests.numbers.clients k c there) (sym (list_of_client p.callers k c below there))
 
-    pub client_ends : (script : Script) → IsPlay board start script p → (q : PlayState D) (w u : View Entry) (at : TableId) (t : Turn D) (c' : Client)
+    pub client_turn : (q : PlayState D) (w u : View Entry) (at : TableId) (t : Turn D) (c' : Client)
         → IsSplit p.view (Calls (caller_at k)) w u → IsTurn board (start_nodes start) t
         → GoesOn (record { table = p.table; stations = p.stations; board = at; view = u; list = c.list }) t
         → IsJoined w t.view q.view → q.rest ≡ p.rest → q.table ≡ t.table → q.stations ≡ t.stations → t.list ≡ c'.list
         → q.callers.clients.items ≡ slice_set p.callers.clients.items k c' → q.callers.desks.items ≡ p.callers.desks.items → q.callers.closer.list ≡ p.callers.closer.list
+        → AllByRecursion (IsIssueOf start) (entries_of c'.list.entries) → IsTurnOf board start p q (caller_at k) w u q.view at c.list t
+    client_turn q w u at t c' split turn goes joined rest table stations list clients desks closing of_run =
+        record {
+          rests = rests;
+          among = among;
+          split = split;
+          client = rests.numbers.clients k c there;
+          entries = sym (list_of_client p.callers k c below there);
+          turn = turn;
+          goes = goes;
+          joined = joined;
+          passes = rest ∙ rests.passes;
+          table = table;
+          stations = stations;
+          view = refl;
+          replaces = subst (λ (l : ClientState). Replaces (caller_at k) l p.callers q.callers) (sym list)
+              (client_replaced p.callers q.callers k c c' rests.few rests.numbers there clients desks closing (ap (λ (l : ClientState). l.client) (sym list) ∙ goes.client));
+          of_run = subst (λ (l : ClientState). AllByRecursion (IsIssueOf start) (entries_of l.entries)) (sym list) of_run;
+        }
+
+    pub client_ends : (script : Script) → IsPlay board start script p → (q : PlayState D) (w u : View Entry) (at : TableId) (t : Turn D) (c' : Client)
+        → IsTurnOf board start p q (caller_at k) w u q.view at c.list t
+        → q.callers.clients.items ≡ slice_set p.callers.clients.items k c' → q.callers.desks.items ≡ p.callers.desks.items → q.callers.closer.list ≡ p.callers.closer.list
         → IsOfRun start script.points c' → IsPlay board start script q
-    client_ends script play q w u at t c' split turn goes joined rest table stations list clients desks closing of_run =
+    client_ends script play q w u at t c' of clients desks closing of_run =
         record {
           nodes = play.nodes;
-          rests = turn_ends board start p q (caller_at k) w u q.view at c.list t (record {
-            rests = rests;
-            among = among;
-            split = split;
-            client = rests.numbers.clients k c there;
-            entries = sym (list_of_client p.callers k c below there);
-            turn = turn;
-            goes = goes;
-            joined = joined;
-            passes = rest ∙ rests.passes;
-            table = table;
-            stations = stations;
-            view = refl;
-            replaces = subst (λ (l : ClientState). Replaces (caller_at k) l p.callers q.callers) (sym list)
-                (client_replaced p.callers q.callers k c c' rests.few rests.numbers there clients desks closing (ap (λ (l : ClientState). l.client) (sym list) ∙ goes.client));
-            of_run = subst (λ (l : ClientState). AllByRecursion (IsIssueOf start) (entries_of l.entries)) (sym list) of_run.of_run;
-          });
+          rests = turn_ends board start p q (caller_at k) w u q.view at c.list t of;
           callers = client_among start script p.callers q.callers k c c' play.callers there clients desks closing of_run;
         }
+
+    -- what it does with its own list, its turn does with the log
+    pub client_goes : (does : List Entry → List Entry → Type 0) (q : PlayState D) (w u : View Entry) (at : TableId) (t : Turn D)
+        → IsTurnOf board start p q (caller_at k) w u q.view at c.list t → q.callers.desks.items ≡ p.callers.desks.items
+        → does (entries_of c.list.entries) (entries_of t.list.entries) → GoesAs (IsOfClient (caller_at k) does) p q
+    client_goes does q w u at t of desks so past log =
+        let after = turn_after board start p q (caller_at k) w u q.view at c.list t of log.trail in
+        let acts = client_acts (caller_at k) does after.own log.trail.trail c.list.entries t.list.entries (works_of p.callers) after.was after.is after.by so in
+        let works : works_of q.callers ≡ works_of p.callers = ap (map (λ (d : Desk). d.work)) desks in (
+          past_in after.trail.trail,
+          record { trail = after.trail; past_is = refl },
+          subst (λ (es : List Entry). IsOfClient (caller_at k) does (played_by p es) (played_by q (past_in after.trail.trail))) (sym log.past_is)
+              (subst (λ (l : List (ℕ × Entry)). IsOfClient (caller_at k) does (played_by p (past_in log.trail.trail)) (played_by q (past_in l))) (sym after.trail_is)
+              (subst (λ (ws : List (Option Recovery)). IsOfClient (caller_at k) does (played_by p (past_in log.trail.trail)) (record { past = past_in (after.own ++ log.trail.trail); works = ws })) (sym works) acts)),
+        )
 
   -- Recovery coordinators
 
@@ -104,31 +170,88 @@ module _ {D : Type 0} (board : TableId) (start : Start) (p : PlayState D) (rests
     desk_begins w u at split is =
         turn_begins board start p (caller_at (17 + k)) w u at d.list rests among' split (is ∙ rests.passes) (rests.numbers.desks k d there) (sym (list_of_desk p.callers k d there))
 
-    pub desk_ends : (q : PlayState D) (w u : View Entry) (at : TableId) (t : Turn D) (d' : Desk)
+    pub desk_turn : (q : PlayState D) (w u : View Entry) (at : TableId) (t : Turn D) (d' : Desk)
         → IsSplit p.view (Calls (caller_at (17 + k))) w u → IsTurn board (start_nodes start) t
         → GoesOn (record { table = p.table; stations = p.stations; board = at; view = u; list = d.list }) t
         → IsJoined w t.view q.view → q.rest ≡ p.rest → q.table ≡ t.table → q.stations ≡ t.stations → t.list ≡ d'.list
         → q.callers.desks.items ≡ slice_set p.callers.desks.items k d' → q.callers.clients.items ≡ p.callers.clients.items → q.callers.closer.list ≡ p.callers.closer.list
+        → IsDesk start d' → IsTurnOf board start p q (caller_at (17 + k)) w u q.view at d.list t
+    desk_turn q w u at t d' split turn goes joined rest table stations list desks clients closing desk =
+        record {
+          rests = rests;
+          among = among';
+          split = split;
+          client = rests.numbers.desks k d there;
+          entries = sym (list_of_desk p.callers k d there);
+          turn = turn;
+          goes = goes;
+          joined = joined;
+          passes = rest ∙ rests.passes;
+          table = table;
+          stations = stations;
+          view = refl;
+          replaces = subst (λ (l : ClientState). Replaces (caller_at (17 + k)) l p.callers q.callers) (sym list)
+              (desk_replaced p.callers q.callers k d d' rests.numbers there desks clients closing (ap (λ (l : ClientState). l.client) (sym list) ∙ goes.client));
+          of_run = subst (λ (l : ClientState). AllByRecursion (IsIssueOf start) (entries_of l.entries)) (sym list) desk.list.of_run;
+        }
+
+    pub desk_ends : (q : PlayState D) (w u : View Entry) (at : TableId) (t : Turn D) (d' : Desk)
+        → IsTurnOf board start p q (caller_at (17 + k)) w u q.view at d.list t
+        → q.callers.desks.items ≡ slice_set p.callers.desks.items k d' → q.callers.clients.items ≡ p.callers.clients.items → q.callers.closer.list ≡ p.callers.closer.list
         → IsDesk start d' → StaysPlay board start p q
-    desk_ends q w u at t d' split turn goes joined rest table stations list desks clients closing desk script play =
+    desk_ends q w u at t d' of desks clients closing desk script play =
         record {
           nodes = play.nodes;
-          rests = turn_ends board start p q (caller_at (17 + k)) w u q.view at d.list t (record {
-            rests = rests;
-            among = among';
-            split = split;
-            client = rests.numbers.desks k d there;
-            entries = sym (list_of_desk p.callers k d there);
-            turn = turn;
-            goes = goes;
-            joined = joined;
-            passes = rest ∙ rests.passes;
-            table = table;
-            stations = stations;
-            view = refl;
-            replaces = subst (λ (l : ClientState). Replaces (caller_at (17 + k)) l p.callers q.callers) (sym list)
-                (desk_replaced p.callers q.callers k d d' rests.numbers there desks clients closing (ap (λ (l : ClientState). l.client) (sym list) ∙ goes.client));
-            of_run = subst (λ (l : ClientState). AllByRecursion (IsIssueOf start) (entries_of l.entries)) (sym list) desk.list.of_run;
-          });
+          rests = turn_ends board start p q (caller_at (17 + k)) w u q.view at d.list t of;
           callers = desk_among start script p.callers q.callers k d d' play.callers there desks clients closing desk;
         }
+
+    -- what it does with its own list and its work, its turn does with the log
+    pub desk_goes : (number : ℕ) → number ≡ k + 1 → (does : List Entry → Bench → Bench → Type 0) (q : PlayState D) (w u : View Entry) (at : TableId) (t : Turn D) (d' : Desk)
+        → IsTurnOf board start p q (caller_at (17 + k)) w u q.view at d.list t → t.list ≡ d'.list → q.callers.desks.items ≡ slice_set p.callers.desks.items k d'
+        → (client : ClientNo) → client.0 < callers_count → does (entries_of (list_by p.callers client)) (bench_of d) (bench_of d')
+        → GoesAs (λ old new. IsOfRecoverer number (does (client_entries client old.past)) old new) p q
+    desk_goes number is does q w u at t d' of list desks client known so past log =
+        by number is
+      where
+        after : IsAfter p q (caller_at (17 + k)) d.list.entries t.list.entries log.trail
+        after = turn_after board start p q (caller_at (17 + k)) w u q.view at d.list t of log.trail
+
+        told : entries_of (list_by p.callers client) ≡ client_entries client (past_in log.trail.trail)
+        told = ap (λ (l : List (ℕ × Entry)). entries_of l) (log.trail.by client known) ∙ list_of_client_in client log.trail.trail
+
+        before : suc k - 1 ≡ k
+        before = omega arith
+
+        had : slice_index_or (works_of p.callers) (suc k - 1) None ≡ d.work
+        had = ap (λ (i : ℕ). slice_index_or (works_of p.callers) i None) before ∙ work_at p.callers.desks.items k d there
+
+        works : works_of q.callers ≡ slice_set (works_of p.callers) (suc k - 1) d'.work
+        works = ap (map (λ (e : Desk). e.work)) desks
+            ∙ (map_set (λ (e : Desk). e.work) p.callers.desks.items k d'
+            ∙ ap (λ (i : ℕ). slice_set (works_of p.callers) i d'.work) (sym before))
+
+        does_so : does (client_entries client (past_in log.trail.trail)) (record { list = entries_of d.list.entries; work = slice_index_or (works_of p.callers) (suc k - 1) None }) (record { list = entries_of t.list.entries; work = d'.work })
+        does_so =
+            subst (λ (es : List Entry). does es (record { list = entries_of d.list.entries; work = slice_index_or (works_of p.callers) (suc k - 1) None }) (record { list = entries_of t.list.entries; work = d'.work })) told
+            (subst (λ (o : Option Recovery). does (entries_of (list_by p.callers client)) (record { list = entries_of d.list.entries; work = o }) (record { list = entries_of t.list.entries; work = d'.work })) (sym had)
+            (subst (λ (l : ClientState). does (entries_of (list_by p.callers client)) (bench_of d) (record { list = entries_of l.entries; work = d'.work })) (sym list) so))
+
+        actor : caller_at (17 + k) ≡ recoverer (suc k)
+        actor = ap caller_at (let same : 17 + k ≡ 16 + suc k = omega arith in same)
+
+        acts : IsOfRecoverer (suc k) (does (client_entries client (past_in log.trail.trail))) (played_by p (past_in log.trail.trail)) (record { past = past_in (after.own ++ log.trail.trail); works = slice_set (works_of p.callers) (suc k - 1) d'.work })
+        acts = recoverer_acts (suc k) (does (client_entries client (past_in log.trail.trail))) after.own log.trail.trail d.list.entries t.list.entries (works_of p.callers) d'.work
+            (subst (λ (c : ClientNo). d.list.entries ≡ trail_by c log.trail.trail) actor after.was)
+            (subst (λ (c : ClientNo). t.list.entries ≡ trail_by c (after.own ++ log.trail.trail)) actor after.is)
+            (subst (λ (c : ClientNo). AllByRecursion (λ x. x.1.client ≡ Some c) after.own) actor after.by) does_so
+
+        by : (number : ℕ) → number ≡ k + 1 → (later : List Entry) × HasLog q later × Acts p does client number past later (works_of q.callers)
+        by number is = (
+          past_in after.trail.trail,
+          record { trail = after.trail; past_is = refl },
+          subst (λ (n : ℕ). Acts p does client n past (past_in after.trail.trail) (works_of q.callers)) (sym (is ∙ omega arith))
+              (subst (λ (es : List Entry). Acts p does client (suc k) es (past_in after.trail.trail) (works_of q.callers)) (sym log.past_is)
+              (subst (λ (l : List (ℕ × Entry)). Acts p does client (suc k) (past_in log.trail.trail) (past_in l) (works_of q.callers)) (sym after.trail_is)
+              (subst (λ (ws : List (Option Recovery)). Acts p does client (suc k) (past_in log.trail.trail) (past_in (after.own ++ log.trail.trail)) ws) (sym works) acts))),
+        )

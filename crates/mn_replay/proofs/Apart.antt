@@ -5,7 +5,6 @@ use Rattle.std.specs.List.{AllByRecursion}
 use Rattle.std.proofs.lemmas.Bool.{eqb-false, eqb-true, ltb-false, ltb-true}
 use Rattle.std.proofs.lemmas.List.{append-nil, append_assoc, length-append, length-map, map-append, reverse-append, reverse-reverse}
 use Rattle.std.proofs.lemmas.Option.{slice_get_past, slice_get_within}
-use Rattle.mn_actors.specs.declared.actor.Actor.{Actor}
 use Rattle.mn_actors.specs.declared.actor.Actor.TheVariants.{Client, Node}
 use Rattle.mn_actors.specs.declared.clock.View.{View}
 use Rattle.mn_actors.specs.Lists.{IsJoined, Owns, held, or_else}
@@ -19,7 +18,6 @@ use Rattle.mn_node.specs.State.{NodeState}
 use Rattle.mn_world.specs.declared.entry.Entry.{Entry}
 use Rattle.mn_world.specs.Protocol.{Start}
 use Rattle.mn_replay.specs.Ended.{AllHaveMade, AreMadeFromLast, HasMadeList, HoldsNodes, OwnsNodes, SameCallers}
-use Rattle.mn_replay.specs.Turn.{AreStations}
 
 -- Lists
 

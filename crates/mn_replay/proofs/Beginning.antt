@@ -1,28 +1,12 @@
 -- How a run begins: its callers have done nothing.
-use Rattle.std.proofs.Common.{◌≡◌, ℕ, ◌+◌, ◌-◌, ◌<◌, ◌≤◌, Bool, true, false, Option, Some, None, List, [], ◌∷◌, ◌++◌, length, refl, sym, ap, ◌∙◌, subst, arith, nat_eq, nat_lt, eqb}
+use Rattle.std.proofs.Common.{◌≡◌, ℕ, suc, map, replicate, ◌+◌, ◌<◌, Bool, true, false, Some, None, List, [], ◌∷◌, ◌++◌, length, refl, sym, ap, ◌∙◌, subst, arith, eqb}
 use Rattle.std.specs.Prelude.{slice_get}
-use Rattle.std.specs.List.{AllByRecursion}
-use Rattle.std.specs.Option.{option_map_or}
 use Rattle.std.proofs.lemmas.Bool.{eqb-false, eqb-true}
 use Rattle.std.proofs.lemmas.List.{length-append}
 use Rattle.std.proofs.lemmas.Option.{slice_get_within}
-use Rattle.mn_base.specs.declared.ids.ClientNo.{ClientNo}
 use Rattle.mn_base.proofs.Lists.{before_last, last_at}
-use Rattle.mn_cell.specs.Runs.{IsIssueOf}
-use Rattle.mn_script.specs.Script.{Script}
-use Rattle.mn_world.specs.declared.entry.Entry.{Entry}
-use Rattle.mn_world.specs.Lists.{ClientState}
-use Rattle.mn_world.specs.Protocol.{Start, run_number, start_nodes}
-use Rattle.mn_world.specs.Run.{entries_of}
-use Rattle.mn_replay.specs.declared.client.Client.{Client}
 use Rattle.mn_replay.specs.declared.desk.Desk.{Desk}
-use Rattle.mn_replay.specs.declared.play.Callers.{Callers}
-use Rattle.mn_replay.specs.Begins.{AreNewClients, AreNewDesks, IsNewClient, IsNewDesk}
-use Rattle.mn_replay.specs.Clients.{IsClient}
-use Rattle.mn_replay.specs.Desks.{DoubtsNothing, IsOfRecovery}
-use Rattle.mn_replay.specs.Failed.{closer}
-use Rattle.mn_replay.specs.Plays.{AreCallers, AreReady, HaveNumbers, list_by}
-use Rattle.mn_replay.proofs.Replacing.{list_of}
+use Rattle.mn_replay.specs.Begins.{AreNewDesks}
 
 -- One more element
 
@@ -42,3 +26,11 @@ pushed {X} P xs y n count new old k x at = by (eqb k (length xs)) refl
         let long : length (xs ++ y ∷ []) ≡ length xs + 1 = length-append xs (y ∷ []) in
         let below : k < length xs = omega arith in
         old k x (sym (before_last xs (y ∷ []) k below) ∙ at)
+
+-- no recovery coordinator has work
+pub none_works : (ds : List Desk) → AreNewDesks ds → map (λ (d : Desk). d.work) ds ≡ replicate (length ds) None
+none_works ds new = go ds (λ k d at. (new k d at).idle)
+  where
+    go : (ds : List Desk) → ((k : ℕ) (d : Desk) → slice_get ds k ≡ Some d → d.work ≡ None) → map (λ (d : Desk). d.work) ds ≡ replicate (length ds) None
+    go [] each = refl
+    go (d ∷ ds) each = ap (λ o. o ∷ map (λ (e : Desk). e.work) ds) (each 0 d refl) ∙ ap (λ l. None ∷ l) (go ds (λ k e at. each (suc k) e at))

@@ -1,5 +1,5 @@
 -- What the calls of a client, and the operations that it begins, make of its list and its proxy.
-use Rattle.std.proofs.Common.{length, replicate, take, ◌≡◌, ◌≢◌, ℕ, ◌+◌, ◌-◌, ◌<◌, ◌≤◌, Bool, true, false, List, [], ◌∷◌, ◌++◌, Option, Some, None, refl, sym, ap, ◌∙◌, subst, arith, inl, inr}
+use Rattle.std.proofs.Common.{length, replicate, take, ◌≡◌, ◌≢◌, ℕ, ◌+◌, ◌-◌, ◌≤◌, Bool, true, false, List, [], ◌∷◌, ◌++◌, Option, Some, None, refl, sym, ap, ◌∙◌, subst, inl, inr}
 use Rattle.std.specs.Prelude.{◌⊎◌, MatchOption, ⊤, if◌then◌else◌, option_and_then}
 use Rattle.std.specs.Option.{option_map}
 use Rattle.std.specs.List.{AllByRecursion}
@@ -15,8 +15,7 @@ use Rattle.mn_coord.specs.Coordination.{Coordination, step_at, stage_in}
 use Rattle.mn_coord.specs.Legal.{IsAnswered}
 use Rattle.mn_coord.specs.declared.stage.Stage.{Stage}
 use Rattle.mn_coord.specs.declared.stage.Stage.TheVariants as At
-use Rattle.mn_coord.specs.declared.step.CoordStep.{CoordStep}
-use Rattle.mn_coord.specs.declared.step.CoordStep.TheVariants.{Send, Abandon, Committed, Failed, Doubt}
+use Rattle.mn_coord.specs.declared.step.CoordStep.TheVariants.{Send}
 use Rattle.mn_mini.specs.RecordGrammar.{IsTid}
 use Rattle.mn_mini.specs.Sound.{Fits, IsDecide}
 use Rattle.mn_mini.specs.declared.reply.NodeReply.{NodeReply}
@@ -27,7 +26,7 @@ use Rattle.mn_script.specs.declared.elements.Point.{Point}
 use Rattle.mn_world.specs.declared.entry.Entry.{Entry}
 use Rattle.mn_world.specs.declared.entry.What.{What}
 use Rattle.mn_world.specs.declared.entry.What.TheVariants.{Begin, Called, Stopped}
-use Rattle.mn_world.specs.Calls.{Begun, begun_in, begun_of, under_way}
+use Rattle.mn_world.specs.Calls.{Begun, begun_in, begun_of, issue_in, under_way}
 use Rattle.mn_world.specs.Clients.{last_number}
 use Rattle.mn_world.specs.Lists.{ClientState}
 use Rattle.mn_world.specs.Protocol.{Start, run_number, start_nodes}
@@ -44,11 +43,11 @@ use Rattle.mn_proxy.specs.State.{begun as begun_with}
 use Rattle.mn_proxy.specs.Turns.{KeepsSelf, OwesNoneIn}
 use Rattle.mn_replay.specs.declared.client.Call.{Call}
 use Rattle.mn_replay.specs.declared.client.Client.{Client}
-use Rattle.mn_replay.specs.Clients.{HasProxy, IsAlive, IsAtSteps, IsClient, IsDue, IsListOfRun, IsOfRun, is_dead, past_of}
+use Rattle.mn_replay.specs.Clients.{HasProxy, IsAlive, IsAtSteps, IsClient, IsDue, IsListOfRun, IsOfRun, KeepsIssues, is_dead, past_of}
 use Rattle.mn_replay.specs.Going.{HasAnswer, IsSameBut, IsSameButRoom, IsUnnoted, MayAdd}
 use Rattle.mn_replay.specs.Points.{AsksAs, has_died, is_kill_of, is_some_met, is_stop_at, stop_among, stop_due}
 use Rattle.mn_replay.specs.Steps.{Adds, Keeps, own_entry}
-use Rattle.mn_replay.proofs.ClientSteps.{as_same, last_number_of, longer, out_works, ready_last, same_list, with_entry}
+use Rattle.mn_replay.proofs.ClientSteps.{as_same, last_number_of, longer, out_works, ready_last, same_issues, same_list, with_entry}
 use Rattle.mn_replay.proofs.MetPoints.{last_entry, own_meets_none}
 
 -- Replies
@@ -103,6 +102,9 @@ asks_so due request reply keeps =
 begins_none : (request : Request) (stop : Option StopAt) (reply : NodeReply) → begun_in (what_said request stop reply) ≡ []
 begins_none request stop reply = of_said (λ what said. begun_in what ≡ []) request stop refl (λ said. refl) reply
 
+no_issue : (request : Request) (stop : Option StopAt) (reply : NodeReply) → issue_in (what_said request stop reply) ≡ []
+no_issue request stop reply = of_said (λ what said. issue_in what ≡ []) request stop refl (λ said. refl) reply
+
 issues_none : (start : Start) (node : NodeNo) (client : ClientNo) (request : Request) (stop : Option StopAt) (reply : NodeReply) → IsIssueOf start (entry_at node client (what_said request stop reply))
 issues_none start node client request stop reply = of_said (λ what said. IsIssueOf start (entry_at node client what)) request stop tt (λ said. tt) reply
 
@@ -139,13 +141,14 @@ module _ (start : Start) (points : List Point) (c : Client) (node : NodeNo) (req
   pub said_unnoted : number_of (past_of c) ≡ Some c.begun → IsUnnoted points (record c { list = l })
   said_unnoted number = record { last = e; before = past_of c; split = longer e c.list l adds; own = own_after; number = number; met = run.met }
 
-  pub said_run : (flags : List Bool) → flags ≡ points_met points (entries_of l.entries) → IsListOfRun start points l flags c.begun c.shared
+  pub said_run : (flags : List Bool) → flags ≡ points_met points (entries_of l.entries) → IsListOfRun start points l flags c.begun c.shared c.is_plan
   said_run flags met = record {
     own = own_after;
     of_run = with_entry (λ d es. AllByRecursion (IsIssueOf start) es) e c.list l adds (issues_none start node c.list.client request stop reply, run.of_run);
     met = met;
     begun = with_entry (λ d es. last_number (begun_of es) ≡ c.begun) e c.list l adds (ap (λ (bs : List Begun). last_number (bs ++ begun_of (past_of c))) (begins_none request stop reply) ∙ run.begun);
     shared = run.shared;
+    issues = with_entry (λ d es. KeepsIssues es c.shared c.is_plan) e c.list l adds (same_issues e (past_of c) c.shared c.is_plan (no_issue request stop reply) run.issues);
   }
 
   pub said_answer : (after : Client) → after.list ≡ l → stop ≡ stop_due points c.list.client node request (past_of c) → KeepsStop stop request reply → HasAnswer points node request reply c after
@@ -165,19 +168,20 @@ own_before c d list list' e some same client own =
 
 -- Nothing more in the list
 
-pub same_run : (start : Start) (points : List Point) (old new : ClientState) (flags flags' : List Bool) (begun : ℕ) (shared : Option Tid) → Keeps old new → flags' ≡ points_met points (entries_of new.entries)
-    → IsListOfRun start points old flags begun shared → IsListOfRun start points new flags' begun shared
-same_run start points old new flags flags' begun shared keeps met run = record {
+pub same_run : (start : Start) (points : List Point) (old new : ClientState) (flags flags' : List Bool) (begun : ℕ) (id : Option Tid) (plan : Bool) → Keeps old new → flags' ≡ points_met points (entries_of new.entries)
+    → IsListOfRun start points old flags begun id plan → IsListOfRun start points new flags' begun id plan
+same_run start points old new flags flags' begun id plan keeps met run = record {
   own = same_list (λ d es. AllByRecursion (λ x. x.client ≡ Some d) es) old new keeps.client keeps.entries run.own;
   of_run = same_list (λ d es. AllByRecursion (IsIssueOf start) es) old new keeps.client keeps.entries run.of_run;
   met = met;
   begun = same_list (λ d es. last_number (begun_of es) ≡ begun) old new keeps.client keeps.entries run.begun;
   shared = run.shared;
+  issues = same_list (λ d es. KeepsIssues es id plan) old new keeps.client keeps.entries run.issues;
 }
 
-pub kept_run : (start : Start) (points : List Point) (old new : ClientState) (flags : List Bool) (begun : ℕ) (shared : Option Tid) → Keeps old new → IsListOfRun start points old flags begun shared → IsListOfRun start points new flags begun shared
-kept_run start points old new flags begun shared keeps run =
-    same_run start points old new flags flags begun shared keeps (run.met ∙ sym (ap (λ (l : List (ℕ × Entry)). points_met points (entries_of l)) keeps.entries)) run
+pub kept_run : (start : Start) (points : List Point) (old new : ClientState) (flags : List Bool) (begun : ℕ) (id : Option Tid) (plan : Bool) → Keeps old new → IsListOfRun start points old flags begun id plan → IsListOfRun start points new flags begun id plan
+kept_run start points old new flags begun id plan keeps run =
+    same_run start points old new flags flags begun id plan keeps (run.met ∙ sym (ap (λ (l : List (ℕ × Entry)). points_met points (entries_of l)) keeps.entries)) run
 
 -- the list has other room
 
@@ -187,7 +191,7 @@ room_keeps old new same = record { client = ap (λ (k : Client). k.list.client) 
 pub room_run : (start : Start) (points : List Point) (old new : Client) → IsSameButRoom old new → IsOfRun start points old → IsOfRun start points new
 room_run start points old new same run =
     let l : ClientState = record old.list { room = new.list.room } in
-    as_same (IsOfRun start points) (record old { list = l }) new same (kept_run start points old.list l old.met.items old.begun old.shared (record { client = refl; entries = refl }) run)
+    as_same (IsOfRun start points) (record old { list = l }) new same (kept_run start points old.list l old.met.items old.begun old.shared old.is_plan (record { client = refl; entries = refl }) run)
 
 pub room_proxy : (start : Start) (old new : Client) → IsSameButRoom old new → HasProxy start old → HasProxy start new
 room_proxy start old new same has =
@@ -222,7 +226,7 @@ module _ (start : Start) (points : List Point) (c : Client) (node : NodeNo) (req
   module _ (m : Client) (same : m ≡ record c { list = l; met = m.met }) where
     pub asked_run : m.met.items ≡ points_met points (entries_of l.entries) → IsOfRun start points m
     asked_run met = as_same (IsOfRun start points) (record c { list = l; met = m.met }) m same (elim (entry_or_none reply) [
-      | inl is ↦ same_run start points c.list l c.met.items m.met.items c.begun c.shared (record { client = client; entries = none is }) met run
+      | inl is ↦ same_run start points c.list l c.met.items m.met.items c.begun c.shared c.is_plan (record { client = client; entries = none is }) met run
       | inr is ↦ said_run start points c node request stop reply l run (said is) m.met.items met
     ])
 
@@ -347,7 +351,7 @@ living_client start points c run lives alive = record { run = run; dead = λ dea
 
 -- An operation is begun
 
-works_none : (es : List Entry) (p : ProxyState) (work : Option (Work × Errand)) → work ≡ None → WorksBy es p work → under_way es ≡ None
+pub works_none : (es : List Entry) (p : ProxyState) (work : Option (Work × Errand)) → work ≡ None → WorksBy es p work → under_way es ≡ None
 works_none es p None is a = a
 works_none es p (Some w) is a = absurd cc
 
@@ -370,6 +374,7 @@ begin_steps start points c op l p run lives none proxy idle adds begins = record
     met = run.met ∙ sym met;
     begun = with_entry (λ d es. last_number (begun_of es) ≡ c.begun + 1) e c.list l adds refl;
     shared = run.shared;
+    issues = with_entry (λ d es. KeepsIssues es c.shared c.is_plan) e c.list l adds (same_issues e (past_of c) c.shared c.is_plan refl run.issues);
   };
   lives = λ dead. lives (sym (ap (λ (d : ClientNo). is_some_met (is_kill_of d) points (points_met points (entries_of l.entries))) adds.client
       ∙ ap (λ (flags : List Bool). is_some_met (is_kill_of c.list.client) points flags) met) ∙ dead);
@@ -411,17 +416,18 @@ begun_steps start points old mid op copy p is none lives same equal adds begins 
 -- it failed to begin one
 pub unbegun_run : (start : Start) (points : List Point) (old new : Client) → IsSameBut old new → Keeps old.list new.list → IsOfRun start points old → IsOfRun start points new
 unbegun_run start points old new same keeps run =
-    as_same (IsOfRun start points) (record old { list = new.list }) new same (kept_run start points old.list new.list old.met.items old.begun old.shared keeps run)
+    as_same (IsOfRun start points) (record old { list = new.list }) new same (kept_run start points old.list new.list old.met.items old.begun old.shared old.is_plan keeps run)
 
 -- The start
 
-pub first_run : (start : Start) (points : List Point) (c : Client) → c.list.entries ≡ [] → c.begun ≡ 0 → c.shared ≡ None → c.met.items ≡ replicate (length points) false → IsOfRun start points c
-first_run start points c empty begun shared met = record {
+pub first_run : (start : Start) (points : List Point) (c : Client) → c.list.entries ≡ [] → c.begun ≡ 0 → c.shared ≡ None → c.is_plan ≡ false → c.met.items ≡ replicate (length points) false → IsOfRun start points c
+first_run start points c empty begun shared plan met = record {
   own = none (λ es. AllByRecursion (λ x. x.client ≡ Some c.list.client) es) tt;
   of_run = none (λ es. AllByRecursion (IsIssueOf start) es) tt;
   met = none_met points c.met.items met ∙ sym (ap (λ (l : List (ℕ × Entry)). points_met points (entries_of l)) empty);
   begun = none (λ es. last_number (begun_of es) ≡ c.begun) (sym begun);
   shared = subst (λ (o : Option Tid). MatchOption o ⊤ IsTid) (sym shared) tt;
+  issues = none (λ es. KeepsIssues es c.shared c.is_plan) (record { id_is = shared; plan_is = plan });
 }
   where
     none : (P : List Entry → Type 0) → P [] → P (past_of c)
@@ -435,10 +441,10 @@ pub first_lives : (points : List Point) (c : Client) → c.list.entries ≡ [] �
 first_lives points c empty dead =
     clash (is_some_met (is_kill_of c.list.client) points (points_met points [])) (ap (λ (l : List (ℕ × Entry)). is_some_met (is_kill_of c.list.client) points (points_met points (entries_of l))) (sym empty) ∙ dead) (no_death points (is_kill_of c.list.client))
 
-pub first_client : (start : Start) (points : List Point) (c : Client) (client : ClientNo) → c.list ≡ record { client = client; entries = []; room = 0 } → c.begun ≡ 0 → c.due ≡ None → c.shared ≡ None → c.met.items ≡ replicate (length points) false
+pub first_client : (start : Start) (points : List Point) (c : Client) (client : ClientNo) → c.list ≡ record { client = client; entries = []; room = 0 } → c.begun ≡ 0 → c.due ≡ None → c.shared ≡ None → c.is_plan ≡ false → c.met.items ≡ replicate (length points) false
     → c.proxy ≡ new_proxy client (run_number start) (start_nodes start) → Agrees [] c.proxy → IsClient start points c
-first_client start points c client list begun due shared met proxy agrees = record {
-  run = first_run start points c empty begun shared met;
+first_client start points c client list begun due shared plan met proxy agrees = record {
+  run = first_run start points c empty begun shared plan met;
   dead = λ dead. due;
   alive = λ lives. record {
     proxy = record {

@@ -1,6 +1,6 @@
 -- What the entries of a client make of its list and its proxy.
-use Rattle.std.proofs.Common.{◌≡◌, ◌≢◌, ℕ, ◌+◌, ◌<◌, ◌≤◌, Bool, true, false, List, [], ◌∷◌, ◌++◌, length, map, reverse, Option, Some, None, Result, Ok, Err, refl, sym, ap, ◌∙◌, subst, arith, inl, inr}
-use Rattle.std.specs.Prelude.{◌⊎◌, MatchOption, OnErr, OnOk, ⊤}
+use Rattle.std.proofs.Common.{◌≡◌, ◌≢◌, ℕ, ◌+◌, ◌≤◌, Bool, true, not, List, [], ◌∷◌, ◌++◌, length, map, reverse, Option, Some, None, Result, Ok, Err, refl, sym, ap, ◌∙◌, subst, arith, inl, inr}
+use Rattle.std.specs.Prelude.{MatchOption, OnErr, OnOk, ⊤, if◌then◌else◌, nat_le}
 use Rattle.std.specs.List.{AllByRecursion}
 use Rattle.std.specs.Option.{option_map}
 use Rattle.std.proofs.lemmas.List.{map-append, reverse-append}
@@ -11,22 +11,21 @@ use Rattle.mn_base.specs.declared.ids.NodeNo.{NodeNo}
 use Rattle.mn_base.specs.declared.ids.Tid.{Tid}
 use Rattle.mn_base.specs.declared.op.Op.{Op}
 use Rattle.mn_cell.specs.Runs.{IsIssueOf}
-use Rattle.mn_mini.specs.Mini.{Mini}
+use Rattle.mn_mini.specs.Mini.{Mini, participants_of}
 use Rattle.mn_mini.specs.RecordGrammar.{IsTid}
 use Rattle.mn_mini.specs.declared.reply.NodeReply.{NodeReply}
 use Rattle.mn_mini.specs.declared.reply.NodeReply.TheVariants as Say
 use Rattle.mn_mini.specs.declared.request.Request.{Request}
-use Rattle.mn_mini.specs.declared.request.Request.TheVariants as Ask
 use Rattle.mn_script.specs.declared.elements.Point.{Point}
 use Rattle.mn_world.specs.declared.entry.Entry.{Entry}
 use Rattle.mn_world.specs.declared.entry.What.{What}
 use Rattle.mn_world.specs.declared.entry.What.TheVariants.{Begin, Issue, Called, Stopped, Restarted, Abandoned, Answered}
 use Rattle.mn_world.specs.Answers.{MeansBy}
-use Rattle.mn_world.specs.Calls.{Begun, Call as Asked, begun_in, begun_of, call_in, issues_of, under_way, under_way_after}
-use Rattle.mn_world.specs.Clients.{ClientAllows, last_number}
+use Rattle.mn_world.specs.Calls.{Begun, Call as Asked, Issued, begun_in, begun_of, call_in, issue_in, issues_of, under_way, under_way_after}
+use Rattle.mn_world.specs.Clients.{ClientAllows, is_read, last_number}
 use Rattle.mn_world.specs.Lists.{ClientState}
 use Rattle.mn_world.specs.Places.{Place}
-use Rattle.mn_world.specs.Protocol.{IsOwnStep, Start, run_number, start_nodes}
+use Rattle.mn_world.specs.Protocol.{Start}
 use Rattle.mn_world.specs.Run.{entries_of}
 use Rattle.mn_hist.specs.Points.{points_met}
 use Rattle.mn_hist.specs.Watching.{number_of}
@@ -44,7 +43,7 @@ use Rattle.mn_proxy.specs.Turns.{KeepsSelf}
 use Rattle.mn_replay.specs.declared.client.Call.{Call}
 use Rattle.mn_replay.specs.declared.client.Client.{Client}
 use Rattle.mn_replay.specs.declared.client.Went.TheVariants.{On}
-use Rattle.mn_replay.specs.Clients.{HasProxy, IsAlive, IsAtSteps, IsClient, IsDue, IsListOfRun, IsOfRun, IsProxyFor, MayCall}
+use Rattle.mn_replay.specs.Clients.{HasProxy, IsAlive, IsAtSteps, IsClient, IsDue, IsListOfRun, IsOfRun, IsProxyFor, KeepsIssues, MayCall, is_plan_first, last_shared}
 use Rattle.mn_replay.specs.Going.{HandedOut, HasGone, HasList, IsList, IsSameBut, KeepsPoints, MayMake, MeetsSame, WorksFor}
 use Rattle.mn_replay.specs.Points.{has_died, is_kill_of, is_some_met}
 use Rattle.mn_replay.specs.Steps.{Adds, Keeps, own_entry}
@@ -58,6 +57,10 @@ in_both (Err e) a b f g = g b
 pub on_error : {T E : Type 0} (r : Result T E) (P : Type 0) → P → OnErr r P
 on_error (Ok x) P so = tt
 on_error (Err e) P so = so
+
+pub on_ok : {T E : Type 0} (r : Result T E) (P Q : Type 0) → (P → Q) → OnOk r P → OnOk r Q
+on_ok (Ok x) P Q f so = f so
+on_ok (Err e) P Q f so = tt
 
 -- what is so of a client is so of one that is the same
 pub as_same : (P : Client → Type 0) (same new : Client) → new ≡ same → P same → P new
@@ -76,16 +79,34 @@ pub with_entry : (P : ClientNo → List Entry → Type 0) (e : Entry) (old new :
 with_entry P e old new adds so =
     subst (λ (c : ClientNo). P c (entries_of new.entries)) (sym adds.client) (subst (λ (l : List Entry). P old.client l) (sym (longer e old new adds)) so)
 
+-- What is kept of the issues
+
+pub same_issues : (e : Entry) (es : List Entry) (id : Option Tid) (plan : Bool) → issue_in e.what ≡ [] → KeepsIssues es id plan → KeepsIssues (e ∷ es) id plan
+same_issues e es id plan none keeps =
+    let same : issues_of es ≡ issues_of (e ∷ es) = sym (ap (λ (l : List Issued). l ++ issues_of es) none) in
+    record {
+      id_is = keeps.id_is ∙ ap (λ (l : List Issued). last_shared l) same;
+      plan_is = keeps.plan_is ∙ ap (λ (l : List Issued). is_plan_first l) same;
+    }
+
+pub one_issue : (c : ClientNo) (tid : Tid) (mini : Mini) (es : List Entry) (id id' : Option Tid) (plan is_shared reads : Bool) → is_shared ≡ nat_le 2 (length (participants_of mini)) → reads ≡ is_read mini.items
+    → id' ≡ (if is_shared then Some tid else id) → KeepsIssues es id plan → KeepsIssues (own_entry c (Issue tid mini) ∷ es) id' (not reads)
+one_issue c tid mini es id id' plan is_shared reads several read is keeps = record {
+  id_is = is ∙ (ap (λ (b : Bool). if b then Some tid else id) several ∙ ap (λ (o : Option Tid). if nat_le 2 (length (participants_of mini)) then Some tid else o) keeps.id_is);
+  plan_is = ap (λ (b : Bool). not b) read;
+}
+
 module _ (start : Start) (old new : ClientState) (p : ProxyState) (what : What) (step : MayMake start old p what) (adds : Adds (own_entry old.client what) old new) where
   abbrev e : Entry
   e = own_entry old.client what
 
-  pub made_list : (begun : ℕ) (shared : Option Tid) → IsList start old begun shared → IsList start new begun shared
-  made_list begun shared has = record {
+  pub made_list : (begun : ℕ) (id id' : Option Tid) (plan plan' : Bool) → MatchOption id' ⊤ IsTid → KeepsIssues (e ∷ entries_of old.entries) id' plan' → IsList start old begun id plan → IsList start new begun id' plan'
+  made_list begun id id' plan plan' shared issues has = record {
     own = with_entry (λ d es. AllByRecursion (λ x. x.client ≡ Some d) es) e old new adds (refl, has.own);
     of_run = with_entry (λ d es. AllByRecursion (IsIssueOf start) es) e old new adds (step.of_run, has.of_run);
     begun = with_entry (λ d es. last_number (begun_of es) ≡ begun) e old new adds (ap (λ (bs : List Begun). last_number (bs ++ begun_of (entries_of old.entries))) step.begins_none ∙ has.begun);
-    shared = has.shared;
+    shared = shared;
+    issues = with_entry (λ d es. KeepsIssues es id' plan') e old new adds issues;
   }
 
   pub made_proxy : IsProxyFor start new p
@@ -108,12 +129,13 @@ pub same_list : (P : ClientNo → List Entry → Type 0) (old new : ClientState)
 same_list P old new client entries so =
     subst (λ (d : ClientNo). P d (entries_of new.entries)) (sym client) (subst (λ (l : List (ℕ × Entry)). P old.client (entries_of l)) (sym entries) so)
 
-pub kept_list : (start : Start) (old new : ClientState) (begun : ℕ) (shared : Option Tid) → Keeps old new → IsList start old begun shared → IsList start new begun shared
-kept_list start old new begun shared keeps has = record {
+pub kept_list : (start : Start) (old new : ClientState) (begun : ℕ) (id : Option Tid) (plan : Bool) → Keeps old new → IsList start old begun id plan → IsList start new begun id plan
+kept_list start old new begun id plan keeps has = record {
   own = same_list (λ d es. AllByRecursion (λ x. x.client ≡ Some d) es) old new keeps.client keeps.entries has.own;
   of_run = same_list (λ d es. AllByRecursion (IsIssueOf start) es) old new keeps.client keeps.entries has.of_run;
   begun = same_list (λ d es. last_number (begun_of es) ≡ begun) old new keeps.client keeps.entries has.begun;
   shared = has.shared;
+  issues = same_list (λ d es. KeepsIssues es id plan) old new keeps.client keeps.entries has.issues;
 }
 
 pub kept_points : (old new : ClientState) (flags : List Bool) → Keeps old new → MeetsSame old flags new flags
@@ -124,6 +146,30 @@ same_points l flags = record { client = refl; flags = refl; met = λ points. ref
 
 pub then_points : {a b c : ClientState} {f g h : List Bool} → MeetsSame a f b g → MeetsSame b g c h → MeetsSame a f c h
 then_points one two = record { client = two.client ∙ one.client; flags = two.flags ∙ one.flags; met = λ points. two.met points ∙ one.met points }
+
+-- A minitransaction was issued, and what is to be known of it is kept
+
+module _ (start : Start) (old mid new : Client) (tid : Tid) (mini : Mini) (is_shared reads : Bool) (step : MayMake start old.list old.proxy (Issue tid mini)) (same : IsSameBut old mid)
+    (adds : Adds (own_entry old.list.client (Issue tid mini)) old.list mid.list) (is : new ≡ record mid { shared = new.shared; is_plan = not reads }) where
+  abbrev after : Client
+  after = record old { list = mid.list; shared = new.shared; is_plan = not reads }
+
+  issued_is : new ≡ after
+  issued_is = is ∙ ap (λ (k : Client). record k { shared = new.shared; is_plan = not reads }) same
+
+  pub issued_list : MatchOption new.shared ⊤ IsTid → new.shared ≡ (if is_shared then Some tid else mid.shared) → is_shared ≡ nat_le 2 (length (participants_of mini)) → reads ≡ is_read mini.items → HasList start old → HasList start new
+  issued_list known id several read has =
+      as_same (HasList start) after new issued_is (made_list start old.list mid.list old.proxy (Issue tid mini) step adds old.begun old.shared new.shared old.is_plan (not reads) known
+      (one_issue old.list.client tid mini (entries_of old.list.entries) old.shared new.shared old.is_plan is_shared reads several read (id ∙ ap (λ (k : Client). if is_shared then Some tid else k.shared) same) has.issues) has)
+
+  pub issued_proxy : HasProxy start new
+  issued_proxy = as_same (HasProxy start) after new issued_is (made_proxy start old.list mid.list old.proxy (Issue tid mini) step adds)
+
+  pub issued_points : KeepsPoints old new
+  issued_points = as_same (KeepsPoints old) after new issued_is (made_points start old.list mid.list old.proxy (Issue tid mini) step adds old.met.items)
+
+  pub issued_stays : (new.proxy ≡ old.proxy) × (new.due ≡ old.due)
+  issued_stays = (ap (λ (k : Client). k.proxy) issued_is, ap (λ (k : Client). k.due) issued_is)
 
 -- The operation under way
 
@@ -297,14 +343,15 @@ module _ (start : Start) (l : ClientState) (old p : ProxyState) (kept : KeepsSel
 
 -- Crash points
 
-pub kept_run : (start : Start) (points : List Point) (old new : ClientState) (flags flags' : List Bool) (begun count : ℕ) (shared id : Option Tid) → IsList start new count id → MeetsSame old flags new flags'
-    → IsListOfRun start points old flags begun shared → IsListOfRun start points new flags' count id
-kept_run start points old new flags flags' begun count shared id has keeps run = record {
+pub kept_run : (start : Start) (points : List Point) (old new : ClientState) (flags flags' : List Bool) (begun count : ℕ) (id id' : Option Tid) (plan plan' : Bool) → IsList start new count id' plan' → MeetsSame old flags new flags'
+    → IsListOfRun start points old flags begun id plan → IsListOfRun start points new flags' count id' plan'
+kept_run start points old new flags flags' begun count id id' plan plan' has keeps run = record {
   own = has.own;
   of_run = has.of_run;
   met = keeps.flags ∙ (run.met ∙ sym (keeps.met points));
   begun = has.begun;
   shared = has.shared;
+  issues = has.issues;
 }
 
 pub kept_death : (points : List Point) (old new : ClientState) (flags flags' : List Bool) → MeetsSame old flags new flags' → has_died points new.client (entries_of new.entries) ≡ true → has_died points old.client (entries_of old.entries) ≡ true
@@ -312,8 +359,8 @@ kept_death points old new flags flags' keeps dead =
     sym (ap (λ (d : ClientNo). is_some_met (is_kill_of d) points (points_met points (entries_of new.entries))) keeps.client
     ∙ ap (λ (met : List Bool). is_some_met (is_kill_of old.client) points met) (keeps.met points)) ∙ dead
 
-pub list_of_run : (start : Start) (points : List Point) (l : ClientState) (flags : List Bool) (begun : ℕ) (shared : Option Tid) → IsListOfRun start points l flags begun shared → IsList start l begun shared
-list_of_run start points l flags begun shared run = record { own = run.own; of_run = run.of_run; begun = run.begun; shared = run.shared }
+pub list_of_run : (start : Start) (points : List Point) (l : ClientState) (flags : List Bool) (begun : ℕ) (id : Option Tid) (plan : Bool) → IsListOfRun start points l flags begun id plan → IsList start l begun id plan
+list_of_run start points l flags begun id plan run = record { own = run.own; of_run = run.of_run; begun = run.begun; shared = run.shared; issues = run.issues }
 
 -- How a client has gone on
 
@@ -335,7 +382,7 @@ answered_rests start old new same idle none has = record {
 
 pub still_steps : (start : Start) (points : List Point) (old new : Client) → IsAtSteps start points old → HasList start new → KeepsPoints old new → HasGone start new On → IsAtSteps start points new
 still_steps start points old new at has keeps gone = record {
-  run = kept_run start points old.list new.list old.met.items new.met.items old.begun new.begun old.shared new.shared has keeps at.run;
+  run = kept_run start points old.list new.list old.met.items new.met.items old.begun new.begun old.shared new.shared old.is_plan new.is_plan has keeps at.run;
   lives = λ dead. at.lives (kept_death points old.list new.list old.met.items new.met.items keeps dead);
   proxy = gone.0;
   ready = gone.1;
@@ -344,13 +391,13 @@ still_steps start points old new at has keeps gone = record {
 
 pub steps_rest : (start : Start) (points : List Point) (old new : Client) → IsAtSteps start points old → HasList start new → KeepsPoints old new → IsAlive start new → IsClient start points new
 steps_rest start points old new at has keeps alive = record {
-  run = kept_run start points old.list new.list old.met.items new.met.items old.begun new.begun old.shared new.shared has keeps at.run;
+  run = kept_run start points old.list new.list old.met.items new.met.items old.begun new.begun old.shared new.shared old.is_plan new.is_plan has keeps at.run;
   dead = λ dead. absurd (at.lives (kept_death points old.list new.list old.met.items new.met.items keeps dead));
   alive = λ lives. alive;
 }
 
 pub steps_run : (start : Start) (points : List Point) (old new : Client) → IsAtSteps start points old → HasList start new → KeepsPoints old new → IsOfRun start points new
-steps_run start points old new at has keeps = kept_run start points old.list new.list old.met.items new.met.items old.begun new.begun old.shared new.shared has keeps at.run
+steps_run start points old new at has keeps = kept_run start points old.list new.list old.met.items new.met.items old.begun new.begun old.shared new.shared old.is_plan new.is_plan has keeps at.run
 
 pub steps_list : (start : Start) (points : List Point) (c : Client) → IsAtSteps start points c → HasList start c
-steps_list start points c at = list_of_run start points c.list c.met.items c.begun c.shared at.run
+steps_list start points c at = list_of_run start points c.list c.met.items c.begun c.shared c.is_plan at.run

@@ -1,6 +1,8 @@
 -- The turns of the coordinator that opens and closes.
-use Rattle.std.proofs.Common.{◌≡◌, ℕ, ◌+◌, ◌<◌, ◌⊎◌, Bool, true, false, Option, Some, None, List, [], ◌∷◌, ◌++◌, Result, Ok, Err, OnErr, OnOk, refl, sym, ap, ◌∙◌, subst, inl, inr, lit<, ⊎_elim}
+use Rattle.std.proofs.Common.{◌≡◌, ℕ, ◌⊎◌, Bool, true, false, Option, Some, None, List, [], ◌∷◌, ◌++◌, map, reverse, MatchBool, Result, Ok, Err, IsOk, OnErr, OnOk, refl, sym, ap, ◌∙◌, subst, inl, inr, lit<, ⊎_elim}
+use Rattle.std.specs.Prelude.{slice_get}
 use Rattle.std.specs.List.{AllByRecursion}
+use Rattle.std.proofs.lemmas.List.{append-nil, append_cancel_left, append_cancel_right, map-append, reverse-reverse}
 use Rattle.atomic_table.specs.Seated.{TableId}
 use Rattle.mn_actors.specs.declared.actor.Actor.TheVariants.{Client}
 use Rattle.mn_actors.specs.declared.clock.View.{View}
@@ -10,25 +12,31 @@ use Rattle.mn_base.specs.declared.ids.NodeNo.{NodeNo}
 use Rattle.mn_base.specs.declared.ids.Tid.{Tid}
 use Rattle.mn_cell.specs.Calls.{entry_at}
 use Rattle.mn_cell.specs.Runs.{IsIssueOf}
+use Rattle.mn_cell.specs.Station.{StationState}
 use Rattle.mn_cell.proofs.Owing.{newest_entry}
-use Rattle.mn_script.specs.Script.{Script}
+use Rattle.mn_recov.specs.Recovery.{Recovery}
 use Rattle.mn_world.specs.declared.entry.Entry.{Entry}
 use Rattle.mn_world.specs.declared.entry.What.{What}
 use Rattle.mn_world.specs.declared.entry.What.TheVariants.{Stopped, Restarted}
-use Rattle.mn_world.specs.Calls.{call_in, is_in_doubt}
+use Rattle.mn_world.specs.Calls.{call_in, is_in_doubt, node_entries}
 use Rattle.mn_world.specs.Lists.{ClientState}
+use Rattle.mn_world.specs.Nodes.{is_down}
 use Rattle.mn_world.specs.Protocol.{IsOfRun, Start, start_nodes}
 use Rattle.mn_world.specs.Run.{entries_of}
-use Rattle.mn_replay.specs.declared.client.Client.{Client as OfClient}
 use Rattle.mn_replay.specs.declared.desk.Desk.{Desk}
-use Rattle.mn_replay.specs.declared.play.Callers.{Callers}
+use Rattle.mn_replay.specs.Closing.{ClosesOn, IsCallOrRestart}
 use Rattle.mn_replay.specs.Desks.{DoubtsNothing, IsOfRecovery}
+use Rattle.mn_replay.specs.Doings.{Halts, Restarts}
 use Rattle.mn_replay.specs.Failed.{closer}
-use Rattle.mn_replay.specs.Plays.{IsAtRest, IsOfSome, IsPlay, PlayState, StaysPlay, list_by}
+use Rattle.mn_replay.specs.Logs.{GoesAs, Settles, played_by, works_of}
+use Rattle.mn_replay.specs.Plays.{HasTrail, IsAtRest, IsOfSome, PlayState, StaysPlay, list_by}
+use Rattle.mn_replay.specs.Schedule.{AreOfCloser, HaltsNode, Played, RestartsNode, with_entry}
 use Rattle.mn_replay.specs.Steps.{Adds, Keeps}
-use Rattle.mn_replay.specs.Turn.{BoardState, GoesOn, IsTurn, Turn}
-use Rattle.mn_replay.proofs.Resting.{IsTurnOf, Replaces, turn_begins, turn_ends}
+use Rattle.mn_replay.specs.Turn.{GoesOn, IsTurn, Turn, past_in}
+use Rattle.mn_replay.proofs.Doings.{went_either_way}
+use Rattle.mn_replay.proofs.Resting.{IsAfter, IsTurnOf, Replaces, turn_after, turn_begins, turn_ends}
 use Rattle.mn_replay.proofs.Replacing.{closer_among, closer_replaced}
+use Rattle.mn_replay.proofs.Scheduled.{by_map, entries_back, entries_both, list_of_node}
 
 -- Its list
 
@@ -56,19 +64,13 @@ adds_recovery start old new n what of_run none adds of =
     doubts : (tid : Tid) (es : List Entry) → is_in_doubt tid es ≡ false → is_in_doubt tid (entry_at n old.client what ∷ es) ≡ false
     doubts tid es is = rw none is
 
-abbrev Halts : NodeNo → ClientState → ClientState → Type 0
-Halts n old new = Keeps old new ⊎ Adds (entry_at n old.client (Stopped None None)) old new
-
-abbrev Restarts : NodeNo → ClientState → ClientState → Type 0
-Restarts n old new = Keeps old new ⊎ ((kept : Bool) × Adds (entry_at n old.client (Restarted kept)) old new)
-
-pub halt_recovery : {E : Type 0} (start : Start) (old new : ClientState) (n : NodeNo) (r : Result (Unit {0}) E) → OnOk r (Halts n old new) → OnErr r (Keeps old new) → IsOfRecovery start old → IsOfRecovery start new
-halt_recovery start old new n (Ok u) halts none of = ⊎_elim (λ keeps. keeps_recovery start old new keeps of) (λ adds. adds_recovery start old new n (Stopped None None) tt refl adds of) halts
+pub halt_recovery : {D E : Type 0} {stations : List (StationState D)} (start : Start) (old new : ClientState) (n : NodeNo) (r : Result (Unit {0}) E) → Halts n stations r old new → OnErr r (Keeps old new) → IsOfRecovery start old → IsOfRecovery start new
+halt_recovery start old new n (Ok u) halts none of = ⊎_elim (λ keeps. keeps_recovery start old new keeps of) (λ adds. adds_recovery start old new n (Stopped None None) tt refl adds of) (went_either_way n _ halts)
 halt_recovery start old new n (Err e) halts none of = keeps_recovery start old new none of
 
-pub restart_recovery : {E : Type 0} (start : Start) (old new : ClientState) (n : NodeNo) (r : Result (Unit {0}) E) → OnOk r (Restarts n old new) → OnErr r (Keeps old new) → IsOfRecovery start old → IsOfRecovery start new
+pub restart_recovery : {D E : Type 0} {stations : List (StationState D)} (start : Start) (old new : ClientState) (n : NodeNo) (r : Result (Unit {0}) E) → Restarts n stations r old new → OnErr r (Keeps old new) → IsOfRecovery start old → IsOfRecovery start new
 restart_recovery start old new n (Ok u) restarts none of =
-    ⊎_elim (λ keeps. keeps_recovery start old new keeps of) (λ adds. adds_recovery start old new n (Restarted adds.0) tt refl adds.1 of) restarts
+    ⊎_elim (λ adds. adds_recovery start old new n (Restarted adds.0) tt refl adds.1 of) (λ keeps. keeps_recovery start old new keeps of) (went_either_way n _ restarts)
 restart_recovery start old new n (Err e) restarts none of = keeps_recovery start old new none of
 
 -- Its turn
@@ -87,29 +89,144 @@ module _ {D : Type 0} (board : TableId) (start : Start) (p : PlayState D) (some 
       → IsTurn board (start_nodes start) (record { table = p.table; stations = p.stations; board = at; view = u; list = p.callers.closer.list })
   closer_begins w u at split is = turn_begins board start p closer w u at p.callers.closer.list rests (lit< tt) split (is ∙ rests.passes) rests.numbers.closer_is refl
 
-  pub closer_ends : (q : PlayState D) (w u : View Entry) (at : TableId) (t : Turn D) → IsSplit p.view (Client closer) w u → IsTurn board (start_nodes start) t
+  pub closer_turn : (q : PlayState D) (w u : View Entry) (at : TableId) (t : Turn D) → IsSplit p.view (Client closer) w u → IsTurn board (start_nodes start) t
       → GoesOn (record { table = p.table; stations = p.stations; board = at; view = u; list = p.callers.closer.list }) t
       → IsJoined w t.view q.view → q.rest ≡ p.rest → q.table ≡ t.table → q.stations ≡ t.stations → q.callers.closer.list ≡ t.list
+      → q.callers.clients.items ≡ p.callers.clients.items → q.callers.desks.items ≡ p.callers.desks.items → IsOfRecovery start t.list
+      → IsTurnOf board start p q closer w u q.view at p.callers.closer.list t
+  closer_turn q w u at t split turn goes joined rest table stations list clients desks recovery =
+      record {
+        rests = rests;
+        among = lit< tt;
+        split = split;
+        client = rests.numbers.closer_is;
+        entries = refl;
+        turn = turn;
+        goes = goes;
+        joined = joined;
+        passes = rest ∙ rests.passes;
+        table = table;
+        stations = stations;
+        view = refl;
+        replaces = subst (λ (l : ClientState). Replaces closer l p.callers q.callers) list
+            (closer_replaced p.callers q.callers rests.numbers clients desks (ap (λ (l : ClientState). l.client) list ∙ goes.client));
+        of_run = recovery.of_run;
+      }
+
+  pub closer_ends : (q : PlayState D) (w u : View Entry) (at : TableId) (t : Turn D) → IsTurnOf board start p q closer w u q.view at p.callers.closer.list t → q.callers.closer.list ≡ t.list
       → q.callers.clients.items ≡ p.callers.clients.items → q.callers.desks.items ≡ p.callers.desks.items → IsOfRecovery start t.list → StaysPlay board start p q
-  closer_ends q w u at t split turn goes joined rest table stations list clients desks recovery script play =
+  closer_ends q w u at t of list clients desks recovery script play =
       record {
         nodes = play.nodes;
-        rests = turn_ends board start p q closer w u q.view at p.callers.closer.list t (record {
-          rests = rests;
-          among = lit< tt;
-          split = split;
-          client = rests.numbers.closer_is;
-          entries = refl;
-          turn = turn;
-          goes = goes;
-          joined = joined;
-          passes = rest ∙ rests.passes;
-          table = table;
-          stations = stations;
-          view = refl;
-          replaces = subst (λ (l : ClientState). Replaces closer l p.callers q.callers) list
-              (closer_replaced p.callers q.callers rests.numbers clients desks (ap (λ (l : ClientState). l.client) list ∙ goes.client));
-          of_run = recovery.of_run;
-        });
+        rests = turn_ends board start p q closer w u q.view at p.callers.closer.list t of;
         callers = closer_among start script p.callers q.callers play.callers clients desks (subst (IsOfRecovery start) (sym list) recovery);
       }
+
+  -- what its entries make of the log, its turn does
+  pub closer_goes : (does : Played → Played → Type 0) (q : PlayState D) (w u : View Entry) (at : TableId) (t : Turn D) → IsTurnOf board start p q closer w u q.view at p.callers.closer.list t
+      → q.callers.desks.items ≡ p.callers.desks.items
+      → ((before : HasTrail p.stations p.view.known p.callers) (after : IsAfter p q closer p.callers.closer.list.entries t.list.entries before)
+      → does (played_by p (past_in before.trail)) (record { past = past_in (after.own ++ before.trail); works = works_of p.callers })) → GoesAs does p q
+  closer_goes does q w u at t of desks so past log =
+      let after = turn_after board start p q closer w u q.view at p.callers.closer.list t of log.trail in
+      let works : works_of q.callers ≡ works_of p.callers = ap (map (λ (d : Desk). d.work)) desks in (
+        past_in after.trail.trail,
+        record { trail = after.trail; past_is = refl },
+        subst (λ (es : List Entry). does (played_by p es) (played_by q (past_in after.trail.trail))) (sym log.past_is)
+            (subst (λ (l : List (ℕ × Entry)). does (played_by p (past_in log.trail.trail)) (played_by q (past_in l))) (sym after.trail_is)
+            (subst (λ (ws : List (Option Recovery)). does (played_by p (past_in log.trail.trail)) (record { past = past_in (after.own ++ log.trail.trail); works = ws })) (sym works) (so log.trail after))),
+      )
+
+-- What its entries make of the log
+
+-- something is so where there is a result
+pub done_so : {E : Type 0} (r : Result (Unit {0}) E) (P : Type 0) → (IsOk r → P) → OnOk r P
+done_so (Ok u) P f = f refl
+done_so (Err e) P f = tt
+
+pub told_so : {E : Type 0} (r : Result (Unit {0}) E) (P : Type 0) → IsOk r → OnOk r P → P
+told_so (Ok u) P done so = so
+told_so (Err e) P done so = absurd cc
+
+turned : {X : Type 0} (xs ys : List X) → reverse xs ≡ ys → xs ≡ reverse ys
+turned xs ys is = sym (reverse-reverse xs) ∙ ap reverse is
+
+-- a restart that is none, or has failed
+same_restart : (n : NodeNo) (p : Played) → RestartsNode n p p
+same_restart n p = by (is_down (node_entries n p.past))
+  where
+    by : (b : Bool) → MatchBool b ((p ≡ p) ⊎ ((kept : Bool) × (p ≡ with_entry (entry_at n closer (Restarted kept)) p))) (p ≡ p)
+    by true = inl refl
+    by false = refl
+
+restarted : (n : NodeNo) (p q : Played) → true ≡ is_down (node_entries n p.past) → (q ≡ p) ⊎ ((kept : Bool) × (q ≡ with_entry (entry_at n closer (Restarted kept)) p)) → RestartsNode n p q
+restarted n p q is so = subst (λ (b : Bool). MatchBool b ((q ≡ p) ⊎ ((kept : Bool) × (q ≡ with_entry (entry_at n closer (Restarted kept)) p))) (q ≡ p)) is so
+
+module _ {D : Type 0} (p q : PlayState D) (old new : ClientState) (before : HasTrail p.stations p.view.known p.callers) (after : IsAfter p q closer old.entries new.entries before) where
+  keeps_log : Keeps old new → after.own ≡ []
+  keeps_log keeps = turned after.own [] (sym (append_cancel_left old.entries [] (reverse after.own) (append-nil old.entries ∙ (sym keeps.entries ∙ after.list_is))))
+
+  adds_log : (e : Entry) (adds : Adds e old new) → after.own ≡ (adds.place, e) ∷ []
+  adds_log e adds = turned after.own ((adds.place, e) ∷ []) (sym (append_cancel_left old.entries ((adds.place, e) ∷ []) (reverse after.own) (sym adds.ends ∙ after.list_is)))
+
+  abbrev So : (Played → Played → Type 0) → List (ℕ × Entry) → Type 0
+  So does own = does (played_by p (past_in before.trail)) (record { past = past_in (own ++ before.trail); works = works_of p.callers })
+
+  -- the node is down in the log where it is by its station's list
+  down_in : (n : NodeNo) (s : StationState D) → slice_get p.stations n.0 ≡ Some s → is_down (entries_of s.list) ≡ is_down (node_entries n (past_in before.trail))
+  down_in n s there = ap (λ (l : List (ℕ × Entry)). is_down (entries_of l)) (before.is.at_nodes n.0 s there) ∙ ap is_down (list_of_node n.0 before.trail)
+
+  pub halts_log : {E : Type 0} (n : NodeNo) (r : Result (Unit {0}) E) → old.client ≡ closer → Halts n p.stations r old new → OnOk r (So (HaltsNode n) after.own)
+  halts_log n (Err e) client halts = tt
+  halts_log n (Ok u) client halts = by (is_down (entries_of halts.station.list)) (down_in n halts.station halts.at) halts.so
+    where
+      now : Played
+      now = played_by p (past_in before.trail)
+
+      by : (b : Bool) → b ≡ is_down (node_entries n (past_in before.trail)) → MatchBool b (Keeps old new) (Adds (entry_at n old.client (Stopped None None)) old new) → So (HaltsNode n) after.own
+      by true is keeps =
+          let none : after.own ≡ [] = keeps_log keeps in
+          subst (λ (own : List (ℕ × Entry)). So (HaltsNode n) own) (sym none)
+          (subst (λ (b : Bool). MatchBool b (now ≡ now) (now ≡ with_entry (entry_at n closer (Stopped None None)) now)) is refl)
+      by false is adds =
+          let e = entry_at n old.client (Stopped None None) in
+          let one : after.own ≡ (adds.place, e) ∷ [] = adds_log e adds in
+          subst (λ (own : List (ℕ × Entry)). So (HaltsNode n) own) (sym one)
+          (subst (λ (b : Bool). MatchBool b (with_entry e now ≡ now) (with_entry e now ≡ with_entry (entry_at n closer (Stopped None None)) now)) is
+          (ap (λ (c : ClientNo). with_entry (entry_at n c (Stopped None None)) now) client))
+
+  pub restarts_log : {E : Type 0} (n : NodeNo) (r : Result (Unit {0}) E) → old.client ≡ closer → Restarts n p.stations r old new → OnErr r (Keeps old new) → So (RestartsNode n) after.own
+  restarts_log n (Err e) client restarts none =
+      let none' : after.own ≡ [] = keeps_log none in
+      subst (λ (own : List (ℕ × Entry)). So (RestartsNode n) own) (sym none') (same_restart n (played_by p (past_in before.trail)))
+  restarts_log n (Ok u) client restarts none = by (is_down (entries_of restarts.station.list)) (down_in n restarts.station restarts.at) restarts.so
+    where
+      now : Played
+      now = played_by p (past_in before.trail)
+
+      by : (b : Bool) → b ≡ is_down (node_entries n (past_in before.trail)) → MatchBool b ((kept : Bool) × Adds (entry_at n old.client (Restarted kept)) old new) (Keeps old new) → So (RestartsNode n) after.own
+      by true is adds =
+          let e = entry_at n old.client (Restarted adds.0) in
+          let one : after.own ≡ (adds.1.place, e) ∷ [] = adds_log e adds.1 in
+          let so : with_entry e now ≡ with_entry (entry_at n closer (Restarted adds.0)) now = ap (λ (c : ClientNo). with_entry (entry_at n c (Restarted adds.0)) now) client in
+          subst (λ (own : List (ℕ × Entry)). So (RestartsNode n) own) (sym one) (restarted n now (with_entry e now) is (inr (adds.0, so)))
+      by false is keeps =
+          let none' : after.own ≡ [] = keeps_log keeps in
+          subst (λ (own : List (ℕ × Entry)). So (RestartsNode n) own) (sym none') (same_restart n now)
+
+  pub settles_log : ClosesOn (entries_of old.entries) (entries_of new.entries) → So Settles after.own
+  settles_log closes =
+      let new_is : entries_of new.entries ≡ past_in after.own ++ entries_of old.entries =
+      ap (λ (l : List (ℕ × Entry)). entries_of l) after.list_is ∙ (entries_both old.entries (reverse after.own)
+      ∙ ap (λ (l : List Entry). l ++ entries_of old.entries) (entries_back after.own)) in
+      let own : past_in after.own ≡ closes.own = append_cancel_right (past_in after.own) closes.own (entries_of old.entries) (sym new_is ∙ closes.new_is) in
+      record {
+        own = past_in after.own;
+        past_is = map-append (λ (x : ℕ × Entry). x.1) after.own before.trail;
+        of_closer = both (past_in after.own) (by_map closer after.own after.by) (subst (λ (es : List Entry). AllByRecursion (λ e. IsCallOrRestart e.what) es) (sym own) closes.kinds);
+        works = refl;
+      }
+    where
+      both : (es : List Entry) → AllByRecursion (λ e. e.client ≡ Some closer) es → AllByRecursion (λ e. IsCallOrRestart e.what) es → AreOfCloser es
+      both [] one other = tt
+      both (e ∷ es) one other = ((one.0, other.0), both es one.1 other.1)

@@ -12,6 +12,7 @@ use Rattle.mn_base.specs.declared.ids.Tid.{Tid}
 use Rattle.mn_base.proofs.Lists.{all_append, weaker}
 use Rattle.mn_cell.specs.Calls.{entry_at, numbered, what_said}
 use Rattle.mn_cell.specs.Station.{StationState}
+use Rattle.mn_cell.proofs.Owing.{newest_entry}
 use Rattle.mn_cell.specs.declared.trace.RunCause.{RunCause}
 use Rattle.mn_cell.specs.declared.trace.RunCause.TheVariants as cause
 use Rattle.mn_mini.specs.declared.record.Record.{Record}
@@ -22,11 +23,13 @@ use Rattle.mn_mini.specs.declared.doubt.Doubt.{Doubt}
 use Rattle.mn_mini.specs.Node.{HeldPart, doubts_of, held_parts}
 use Rattle.mn_mini.specs.RecordGrammar.{IsTid}
 use Rattle.mn_mini.specs.Sound.{IsDoubt}
+use Rattle.mn_world.specs.declared.entry.Entry.{Entry}
 use Rattle.mn_world.specs.declared.entry.What.TheVariants.{Restarted}
 use Rattle.mn_world.specs.Lists.{ClientState}
 use Rattle.mn_world.specs.Protocol.{Start, start_nodes}
+use Rattle.mn_world.specs.Run.{entries_of}
 use Rattle.mn_replay.specs.Causes.{IsCaused}
-use Rattle.mn_replay.specs.Closing.{AllExtend, AreHeldIn, Extends, IsClosing, IsDone, failure_of}
+use Rattle.mn_replay.specs.Closing.{AllExtend, AreHeldIn, ClosesOn, Extends, IsCallOrRestart, IsClosing, IsDone, failure_of}
 use Rattle.mn_replay.specs.Desks.{IsRecoveryCall}
 use Rattle.mn_replay.specs.Doings.{HasAnswered, IsAnswer, IsDownAs, OthersStay}
 use Rattle.mn_replay.specs.Settled.{AllUp, AreSettled, records_at}
@@ -67,6 +70,13 @@ closing_restarted board start t t' is turn client n restarts = record {
 }
 
 -- Replies
+
+-- no failure, so it is an answer
+pub no_failure : (n : NodeNo) (reply : NodeReply) → None ≡ failure_of n reply → IsAnswer reply
+no_failure n Say.Stopped none = absurd (cc)
+no_failure n Say.Down none = absurd (cc)
+no_failure n Say.NoMemory none = absurd (cc)
+no_failure n reply none = tt
 
 pub caused_by : {D : Type 0} (faults : D → ℕ) (before : ℕ → ℕ) (honest : ℕ → Type 0) (stations : List (StationState D)) (n : NodeNo) (reply : NodeReply) (why : RunCause) → Some why ≡ failure_of n reply
     → (reply ≡ Say.Stopped → IsCaused faults before honest stations (cause.Disk n)) → (reply ≡ Say.Down → ⊥) → IsCaused faults before honest stations why
@@ -182,3 +192,45 @@ settled_by nodes old new tids held up ext done = (
 pub on_ok : {X E A B C P : Type 0} (r : Result X E) → OnOk r A → OnOk r B → OnOk r C → (A → B → C → P) → OnOk r P
 on_ok (Ok x) a b c f = f a b c
 on_ok (Err e) a b c f = tt
+
+-- Its list
+
+pub closes_nowhere : (es : List Entry) → ClosesOn es es
+closes_nowhere es = record { own = []; new_is = refl; kinds = tt }
+
+pub closes_further : (a b c : List Entry) → ClosesOn a b → ClosesOn b c → ClosesOn a c
+closes_further a b c one two = record {
+  own = two.own ++ one.own;
+  new_is = two.new_is ∙ (ap (λ (l : List Entry). two.own ++ l) one.new_is ∙ sym (append_assoc two.own one.own a));
+  kinds = all_append (λ (e : Entry). IsCallOrRestart e.what) two.own one.own two.kinds one.kinds;
+}
+
+-- one entry more
+pub closes_adds : (e : Entry) (old new : ClientState) → IsCallOrRestart e.what → Adds e old new → ClosesOn (entries_of old.entries) (entries_of new.entries)
+closes_adds e old new kind adds = record {
+  own = e ∷ [];
+  new_is = ap (λ (l : List (ℕ × Entry)). entries_of l) adds.ends ∙ newest_entry old.entries adds.place e;
+  kinds = (kind, tt);
+}
+
+pub closes_same : (old new : ClientState) → new.entries ≡ old.entries → ClosesOn (entries_of old.entries) (entries_of new.entries)
+closes_same old new same = subst (λ (l : List (ℕ × Entry)). ClosesOn (entries_of old.entries) (entries_of l)) (sym same) (closes_nowhere (entries_of old.entries))
+
+-- a call that is answered
+answered_kind : (request : Request) (reply : NodeReply) → IsAnswer reply → IsCallOrRestart (what_said request None reply)
+answered_kind request Say.Stopped answers = absurd answers
+answered_kind request reply answers = tt
+
+pub closes_called : (old new : ClientState) (n : NodeNo) (request : Request) (reply : NodeReply) → IsAnswer reply → Adds (entry_at n old.client (what_said request None reply)) old new → ClosesOn (entries_of old.entries) (entries_of new.entries)
+closes_called old new n request reply answers adds = closes_adds (entry_at n old.client (what_said request None reply)) old new (answered_kind request reply answers) adds
+
+-- a restart, where the node was down
+pub closes_restarted : (old new : ClientState) (n : NodeNo) → Keeps old new ⊎ ((kept : Bool) × Adds (entry_at n old.client (Restarted kept)) old new) → ClosesOn (entries_of old.entries) (entries_of new.entries)
+closes_restarted old new n restarts = ⊎_elim
+    (λ keeps. closes_same old new keeps.entries)
+    (λ adds. closes_adds (entry_at n old.client (Restarted adds.0)) old new tt adds.1)
+    restarts
+
+pub closes_after : {X E : Type 0} (r : Result X E) (a b c : List Entry) → ClosesOn a b → OnOk r (ClosesOn b c) → OnOk r (ClosesOn a c)
+closes_after (Ok x) a b c one two = closes_further a b c one two
+closes_after (Err e) a b c one two = tt

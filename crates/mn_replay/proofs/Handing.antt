@@ -1,11 +1,11 @@
 -- What a run comes to that has ended: its nodes are handed back as its log says, and why it failed.
-use Rattle.std.proofs.Common.{◌≡◌, ℕ, zero, suc, ◌+◌, ◌<◌, ◌≤◌, ◌⊎◌, Bool, true, false, Option, Some, None, List, [], ◌∷◌, ◌++◌, length, map, reverse, refl, sym, ap, ◌∙◌, subst, inl, inr, ⊎_elim, if◌then◌else◌, arith, Result, Ok, Err, IfErr, OnOk, get_or, ltb}
-use Rattle.std.specs.Prelude.{filter, slice_get, slice_index_or}
-use Rattle.std.specs.Option.{option_map, option_map_or}
+use Rattle.std.proofs.Common.{◌≡◌, ℕ, zero, suc, ◌+◌, ◌<◌, ◌≤◌, Bool, true, false, Option, Some, None, List, [], ◌∷◌, length, map, reverse, refl, sym, ap, ◌∙◌, subst, inl, inr, ⊎_elim, if◌then◌else◌, arith, Result, Ok, Err, IfErr, OnOk, ltb}
+use Rattle.std.specs.Prelude.{slice_get}
+use Rattle.std.specs.Option.{option_map_or}
 use Rattle.std.proofs.Math.Path.{fun_ext}
 use Rattle.std.proofs.lemmas.Bool.{ltb-false, ltb-true, ne_eqb}
 use Rattle.std.proofs.lemmas.List.{get_or_past, length-map, reverse-reverse}
-use Rattle.std.proofs.lemmas.Option.{slice_get_past, slice_get_within, slice_get-get_or}
+use Rattle.std.proofs.lemmas.Option.{slice_get_past, slice_get_within}
 use Rattle.mn_base.specs.Ids.{node_same}
 use Rattle.mn_base.specs.declared.ids.NodeNo.{NodeNo}
 use Rattle.mn_cell.specs.Calls.{numbered}
@@ -20,18 +20,19 @@ use Rattle.mn_mini.specs.Node.{held_parts}
 use Rattle.mn_node.specs.Restart.{IsDamage}
 use Rattle.mn_node.specs.State.{NodeState}
 use Rattle.mn_world.specs.declared.entry.Entry.{Entry}
-use Rattle.mn_world.specs.Calls.{is_at, node_entries}
+use Rattle.mn_world.specs.Calls.{node_entries}
 use Rattle.mn_world.specs.Laws.{RecordsStaySound}
-use Rattle.mn_world.specs.Nodes.{is_down, node_records}
+use Rattle.mn_world.specs.Nodes.{node_records}
+use Rattle.mn_world.specs.OneHistory.{AreFree}
 use Rattle.mn_world.specs.Opened.{AreSound}
 use Rattle.mn_world.specs.Protocol.{AllowedAt, FollowsProtocol, Start, base_at, records_of, start_nodes, start_of, start_records}
-use Rattle.mn_world.specs.Run.{IsLogOfRun, RunsFollowProtocol, entries_of}
-use Rattle.mn_replay.specs.Causes.{HasStation, IsCaused}
+use Rattle.mn_world.specs.Run.{RunsFollowProtocol, entries_of}
+use Rattle.mn_replay.specs.Causes.{IsCaused}
 use Rattle.mn_replay.specs.Ended.{IsEnded}
-use Rattle.mn_replay.specs.Failed.{FailsSo, HasCause, HadOther, IsAmong, IsRunOn, unasked_by_others}
+use Rattle.mn_replay.specs.Failed.{FailsSo, HasCause, IsAmong, IsRunOn, unasked_by_others}
 use Rattle.mn_replay.specs.Plays.{NamesGiven}
 use Rattle.mn_replay.specs.Settled.{AreSettled, records_at}
-use Rattle.mn_replay.specs.Trace.{AreHandedBack, IsHandedBack, IsQuiet, IsTrace, StartsSound, start_on}
+use Rattle.mn_replay.specs.Trace.{AreHandedBack, IsQuiet, IsTrace, StartsSound, start_on}
 
 -- Lists
 
@@ -65,6 +66,28 @@ none_beyond start n beyond (e ∷ past) follows =
     elsewhere None allowed = refl
     elsewhere (Some m) allowed = let among : m.0 < start_nodes start = allowed.0 in ne_eqb n.0 m.0 (λ same. absurd (omega arith))
 
+-- the records of the stations' nodes are those of a log that has each of their lists
+module _ {D : Type 0} (start : Start) (stations : List (StationState D)) (past : List Entry) (count : length stations ≡ start_nodes start)
+    (each : (k : ℕ) (s : StationState D) → slice_get stations k ≡ Some s → reverse s.node.records ≡ records_of start past (numbered k)) (follows : FollowsProtocol start past) where
+  pub same_records : (n : NodeNo) → records_at stations n ≡ records_of start past n
+  same_records n = by (ltb n.0 (length stations)) refl
+    where
+      by : (b : Bool) → ltb n.0 (length stations) ≡ b → records_at stations n ≡ records_of start past n
+      by true is =
+          let found = within_at stations n.0 (ltb-true n.0 (length stations) is) in
+          ap (λ (o : Option (StationState D)). option_map_or (λ s. reverse s.node.records) o []) found.1 ∙ each n.0 found.0 found.1
+      by false is =
+          let above : length stations ≤ n.0 = ltb-false n.0 (length stations) is in
+          let beyond : start_nodes start ≤ n.0 = subst (λ (k : ℕ). k ≤ n.0) count above in
+          ap (λ (o : Option (StationState D)). option_map_or (λ s. reverse s.node.records) o []) (slice_get_past stations n.0 above)
+          ∙ sym (ap (node_records (base_at start n) (start_records start n)) (none_beyond start n beyond past follows) ∙ ap reverse (get_or_past start.records n.0 [] beyond))
+
+  pub free_as : AreSettled (start_nodes start) stations → AreSound (start_nodes start) (records_of start past) → AreFree start past
+  free_as settled sound n among =
+      let same : records_at stations ≡ records_of start past = fun_ext same_records in
+      let sound_now = subst (λ (lists : NodeNo → List Record). AreSound (start_nodes start) lists) (sym same) sound in
+      ap held_parts (sym (same_records n)) ∙ settled.1 sound_now n among
+
 module _ {D : Type 0} (state : D → DiskState) (faults : D → ℕ) (start : Start) (counts : ℕ → ℕ) (honest : ℕ → Type 0) (nodes : List (NodeState D))
     (played : Result (Unit {0}) RunCause) (log : List (ℕ × Entry)) (ended : IsEnded state faults start counts honest nodes played log) where
   abbrev past : List Entry
@@ -78,26 +101,11 @@ module _ {D : Type 0} (state : D → DiskState) (faults : D → ℕ) (start : St
 
   -- Quiet
 
-  same_records : FollowsProtocol start past → (n : NodeNo) → records_at ended.stations n ≡ records_of start past n
-  same_records follows n = by (ltb n.0 (length ended.stations)) refl
-    where
-      by : (b : Bool) → ltb n.0 (length ended.stations) ≡ b → records_at ended.stations n ≡ records_of start past n
-      by true is =
-          let found = within_at ended.stations n.0 (ltb-true n.0 (length ended.stations) is) in
-          ap (λ (o : Option (StationState D)). option_map_or (λ s. reverse s.node.records) o []) found.1 ∙ (made_at n.0 found.0 found.1).records
-      by false is =
-          let above : length ended.stations ≤ n.0 = ltb-false n.0 (length ended.stations) is in
-          let beyond : start_nodes start ≤ n.0 = subst (λ (k : ℕ). k ≤ n.0) ended.count above in
-          ap (λ (o : Option (StationState D)). option_map_or (λ s. reverse s.node.records) o []) (slice_get_past ended.stations n.0 above)
-          ∙ sym (ap (node_records (base_at start n) (start_records start n)) (none_beyond start n beyond past follows) ∙ ap reverse (get_or_past start.records n.0 [] beyond))
-
   pub quiet : RunsFollowProtocol → RecordsStaySound → AreSettled (start_nodes start) ended.stations → StartsSound start → IsQuiet start past
   quiet follow stay settled sound =
-      let follows = follow start past ended.run.run in
-      let same : records_at ended.stations ≡ records_of start past = fun_ext (same_records follows) in
-      let sound_now = subst (λ (lists : NodeNo → List Record). AreSound (start_nodes start) lists) (sym same) (stay start past sound follows) in (
+      let follows = follow start past ended.run.run in (
         λ n among. let found = there n among in sym (made_at n.0 found.0 found.1).down ∙ settled.0 n.0 found.0 found.1,
-        λ n among. ap held_parts (sym (same_records follows n)) ∙ settled.1 sound_now n among,
+        free_as start ended.stations past ended.count (λ k s at. (made_at k s at).records) follows settled (stay start past sound follows),
       )
     where
       there : (n : NodeNo) → n.0 < start_nodes start → (s : StationState D) × (slice_get ended.stations n.0 ≡ Some s)

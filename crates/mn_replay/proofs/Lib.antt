@@ -12,9 +12,16 @@ pub mod Staging
 pub mod Opening
 pub mod Stations
 pub mod Recovering
+pub mod Recoveries
+pub mod Doings
 pub mod Held
 pub mod Closing
 pub mod Advancing
 pub mod MetPoints
 pub mod ClientSteps
 pub mod ClientCalls
+pub mod ClientActs
+pub mod OneTrail
+pub mod PlansDue
+pub mod Scheduled
+pub mod Opened

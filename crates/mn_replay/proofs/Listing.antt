@@ -1,11 +1,10 @@
 -- The lists of all callers, in order of number.
-use Rattle.std.proofs.Common.{◌≡◌, ℕ, zero, suc, ◌+◌, ◌-◌, ◌<◌, ◌≤◌, Bool, true, false, Option, Some, None, List, [], ◌∷◌, ◌++◌, length, map, refl, sym, ap, ◌∙◌, subst, arith, nat_eq, nat_lt, replicate, get_or}
+use Rattle.std.proofs.Common.{◌≡◌, ℕ, zero, suc, ◌+◌, ◌-◌, ◌<◌, ◌≤◌, Bool, true, false, Some, List, [], ◌∷◌, ◌++◌, length, map, refl, sym, ap, ◌∙◌, arith, nat_eq, nat_lt, replicate}
 use Rattle.std.specs.Prelude.{slice_get}
 use Rattle.std.specs.Option.{option_map, option_map_or}
 use Rattle.std.proofs.lemmas.Bool.{eqb-false, eqb-true, ltb-false, ltb-true}
 use Rattle.std.proofs.lemmas.List.{get_or-replicate, length-append, length-map, length-replicate, map-append}
 use Rattle.std.proofs.lemmas.Option.{slice_get-get_or, slice_get-map}
-use Rattle.mn_base.specs.declared.ids.ClientNo.{ClientNo}
 use Rattle.mn_base.proofs.Lists.{before_last}
 use Rattle.mn_world.specs.declared.entry.Entry.{Entry}
 use Rattle.mn_world.specs.Lists.{ClientState}
@@ -13,7 +12,6 @@ use Rattle.mn_replay.specs.declared.client.Client.{Client}
 use Rattle.mn_replay.specs.declared.desk.Desk.{Desk}
 use Rattle.mn_replay.specs.declared.play.Callers.{Callers}
 use Rattle.mn_replay.specs.Ended.{AreLists}
-use Rattle.mn_replay.specs.Plays.{list_by}
 use Rattle.mn_replay.specs.Turn.{callers_count}
 use Rattle.mn_replay.proofs.Apart.{get_middle}
 use Rattle.mn_replay.proofs.Replacing.{list_of}

@@ -1,5 +1,5 @@
 -- The lists that a run leaves are one log, which is a run, and has each node's list.
-use Rattle.std.proofs.Common.{◌≡◌, ℕ, zero, suc, ◌+◌, ◌<◌, Bool, true, false, Option, Some, None, List, [], ◌∷◌, ◌++◌, length, map, reverse, refl, sym, ap, ◌∙◌, subst, if◌then◌else◌, Result, IfErr, IfOk, OnOk}
+use Rattle.std.proofs.Common.{◌≡◌, ℕ, suc, ◌+◌, ◌<◌, Bool, true, false, Option, Some, None, List, [], ◌∷◌, ◌++◌, length, map, reverse, refl, sym, ap, ◌∙◌, subst, if◌then◌else◌, Result, Ok, Err, IfErr, IfOk, OnOk}
 use Rattle.std.specs.Prelude.{filter, slice_get}
 use Rattle.std.specs.List.{AllByRecursion}
 use Rattle.std.specs.Option.{option_map_or}
@@ -31,10 +31,11 @@ use Rattle.mn_world.specs.Run.{entries_of}
 use Rattle.mn_replay.specs.declared.play.Callers.{Callers}
 use Rattle.mn_replay.specs.Causes.{IsCaused}
 use Rattle.mn_replay.specs.Ended.{AllHaveMade, AreLists, HoldsNodes, IsEnded}
-use Rattle.mn_replay.specs.Plays.{list_by}
+use Rattle.mn_replay.specs.Plays.{HasTrail, list_by}
 use Rattle.mn_replay.specs.Settled.{AreSettled}
-use Rattle.mn_replay.specs.Turn.{AreStations, callers_count}
+use Rattle.mn_replay.specs.Turn.{AreStations, callers_count, past_in, trail_at, trail_by}
 use Rattle.mn_replay.proofs.Handing.{mapped_at, maps_at, some_same, within_at}
+use Rattle.mn_replay.proofs.OneTrail.{IsMannedBy, trail_is_past}
 
 -- A node's entries
 
@@ -156,3 +157,28 @@ module _ {D : Type 0} (state : D → DiskState) (faults : D → ℕ) (start : St
       },
       told,
     )
+
+    -- a trail of the play is that log
+    pub log_told : (known : ℕ) (h : HasTrail stations known callers) → entries_of log ≡ past_in h.trail
+    log_told known h = trail_is_past (length node_lists) (length client_lists) clock (list_of node_lists client_lists) one known h.trail h.is.falling at by
+        (subst (λ (k : ℕ). AllByRecursion (IsMannedBy k) h.trail) (sym lists.count) h.manned)
+      where
+        at : (n : NodeNo) → n.0 < length node_lists → list_of node_lists client_lists (Node n) ≡ Some (trail_at n.0 h.trail)
+        at n below =
+            let found = within_at stations n.0 (subst (λ (k : ℕ). n.0 < k) (ap length lists_are ∙ length-map stations (λ (s : StationState D). s.list)) below) in
+            ap (λ (l : List (List (ℕ × Entry))). slice_get l n.0) lists_are
+            ∙ (maps_at (λ (s : StationState D). s.list) stations n.0 found.0 found.1
+            ∙ ap (λ (l : List (ℕ × Entry)). Some l) (h.is.at_nodes n.0 found.0 found.1))
+
+        by : (c : ClientNo) → c.0 < length client_lists → list_of node_lists client_lists (Client c) ≡ Some (trail_by c h.trail)
+        by c below =
+            let known = subst (λ (k : ℕ). c.0 < k) lists.count below in
+            lists.each c known ∙ ap (λ (l : List (ℕ × Entry)). Some l) (h.by c known)
+
+    -- and so is the one that was merged
+    pub log_merged : {X E F : Type 0} (log_in : X → List (ℕ × Entry)) (result : Result X F) (merged : Result (List (ℕ × Entry)) E) (known : ℕ) → IfOk merged (λ l. l ≡ log) → IfOk result (λ t. merged ≡ Ok (log_in t))
+        → IfOk result (λ t. (past : List Entry) (h : HasTrail stations known callers) → past ≡ past_in h.trail → entries_of (log_in t) ≡ past)
+    log_merged log_in (Err e) merged known told is = tt
+    log_merged {X} {E} log_in (Ok t) merged known told is = λ past h past_is.
+        let same : log_in t ≡ log = subst (λ (r : Result (List (ℕ × Entry)) E). IfOk r (λ l. l ≡ log)) is told in
+        ap (λ (l : List (ℕ × Entry)). entries_of l) same ∙ (log_told known h ∙ sym past_is)

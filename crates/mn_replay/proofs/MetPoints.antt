@@ -1,9 +1,9 @@
 -- Crash points as the list of one client meets them.
-use Rattle.std.proofs.Common.{◌≡◌, ℕ, zero, suc, ◌+◌, ◌-◌, ◌<◌, ◌≤◌, Bool, true, false, ◌&&◌, ◌||◌, nat_eq, List, [], ◌∷◌, ◌++◌, length, map, filter, reverse, take, drop, slice_index_or, Option, Some, None, if◌then◌else◌, refl, sym, ap, ◌∙◌, subst, arith}
+use Rattle.std.proofs.Common.{◌≡◌, ℕ, suc, ◌+◌, ◌-◌, ◌<◌, ◌≤◌, Bool, true, false, ◌&&◌, ◌||◌, nat_eq, List, [], ◌∷◌, length, map, filter, reverse, take, drop, slice_index_or, Option, Some, None, if◌then◌else◌, refl, sym, ap, ◌∙◌, arith}
 use Rattle.std.specs.List.{AllByRecursion, list_any}
-use Rattle.std.specs.Option.{option_map, option_map_or, is_some}
-use Rattle.std.proofs.lemmas.List.{drop_more, drop_all, take_all, take_more, map_more, map-append, reverse-append, length-append}
-use Rattle.mn_base.specs.Ids.{client_same, node_same, tid_same}
+use Rattle.std.specs.Option.{option_map, option_map_or}
+use Rattle.std.proofs.lemmas.List.{drop_more, drop_all, take_all, map_more, reverse-append}
+use Rattle.mn_base.specs.Ids.{client_same, node_same}
 use Rattle.mn_base.specs.declared.gate.StopAt.{StopAt}
 use Rattle.mn_base.specs.declared.ids.ClientNo.{ClientNo}
 use Rattle.mn_base.specs.declared.ids.NodeNo.{NodeNo}
@@ -20,10 +20,10 @@ use Rattle.mn_world.specs.Protocol.{IsOwnStep}
 use Rattle.mn_world.specs.Run.{entries_of}
 use Rattle.mn_world.proofs.Reading.Same.{client_same-refl}
 use Rattle.mn_hist.specs.declared.points.Step.{Step}
-use Rattle.mn_hist.specs.Points.{asked_in, client_of, fits, fits_after, is_vote_for, points_met, stops_same, voted_id, votes_for, votes_with, with_met}
+use Rattle.mn_hist.specs.Points.{asked_in, fits, is_vote_for, points_met, stops_same, voted_id, votes_for, votes_with, with_met}
 use Rattle.mn_hist.specs.Watching.{number_of, step_fits}
-use Rattle.mn_hist.proofs.Flags.{as_many, step_is, with_none, with_same}
-use Rattle.mn_replay.specs.Points.{is_kill_of, is_some_met, is_stop_at, place_of_stop, stop_among}
+use Rattle.mn_hist.proofs.Flags.{step_is, with_none, with_same}
+use Rattle.mn_replay.specs.Points.{is_kill_of, is_some_met, is_stop_at, stop_among}
 
 -- Looking through points
 

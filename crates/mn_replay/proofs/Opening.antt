@@ -1,5 +1,5 @@
 -- A run before its first turn.
-use Rattle.std.proofs.Common.{◌≡◌, ℕ, ◌<◌, ◌≤◌, true, false, Option, Some, None, List, [], length, map, reverse, refl, sym, ap, ◌∙◌, subst, arith, zero-add}
+use Rattle.std.proofs.Common.{◌≡◌, ℕ, ◌<◌, ◌≤◌, true, false, Some, None, List, [], length, map, replicate, reverse, refl, sym, ap, ◌∙◌, subst, arith}
 use Rattle.std.specs.Prelude.{slice_get}
 use Rattle.std.specs.List.{AllByRecursion}
 use Rattle.std.proofs.lemmas.List.{length-map}
@@ -23,6 +23,7 @@ use Rattle.mn_world.specs.Run.{entries_of}
 use Rattle.mn_replay.specs.Begins.{AreBare, HoldsEmpty}
 use Rattle.mn_replay.specs.Ended.{HoldsNodes, OwnsNodes, SameCallers}
 use Rattle.mn_replay.specs.Failed.{IsRunOn}
+use Rattle.mn_replay.specs.Logs.{IsFresh, works_of}
 use Rattle.mn_replay.specs.Plays.{AreCallers, HaveNumbers, IsPlay, NamesGiven, PlayState, list_by}
 use Rattle.mn_replay.specs.Trace.{IsHandedBack, MayBegin, start_on}
 use Rattle.mn_replay.specs.Turn.{AreStations, IsBoard, callers_count}
@@ -101,4 +102,18 @@ first_play {D} board records script p v count table stations bare passes nodes s
     };
   };
   callers = callers;
+}
+
+pub fresh_play : {D : Type 0} (p : PlayState D) → AreBare p.stations → ((c : ClientNo) → list_by p.callers c ≡ []) → works_of p.callers ≡ replicate 4 None → IsFresh p
+fresh_play p bare none idle = record {
+  log = record {
+    trail = record {
+      trail = [];
+      is = record { at_nodes = bare; falling = tt };
+      by = λ c below. none c;
+      manned = tt;
+    };
+    past_is = refl;
+  };
+  idle = idle;
 }

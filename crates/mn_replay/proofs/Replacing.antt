@@ -1,5 +1,5 @@
 -- A caller that had its turn stands among the callers again.
-use Rattle.std.proofs.Common.{◌≡◌, ℕ, ◌+◌, ◌-◌, ◌<◌, ◌≤◌, Bool, true, false, Option, Some, None, List, [], length, refl, sym, ap, ◌∙◌, subst, if◌then◌else◌, arith, nat_eq, nat_lt}
+use Rattle.std.proofs.Common.{◌≡◌, ℕ, ◌+◌, ◌-◌, ◌<◌, ◌≤◌, Bool, true, false, Option, Some, List, [], length, refl, sym, ap, ◌∙◌, subst, if◌then◌else◌, arith, nat_eq, nat_lt}
 use Rattle.std.specs.Prelude.{slice_get, slice_set}
 use Rattle.std.specs.Option.{option_map_or}
 use Rattle.std.proofs.lemmas.Bool.{eqb-false, eqb-true, le-ltb, lt-ltb, ltb-false, ne_eqb}
@@ -18,7 +18,7 @@ use Rattle.mn_replay.specs.declared.play.Callers.{Callers}
 use Rattle.mn_replay.specs.Clients.{IsClient, IsOfRun}
 use Rattle.mn_replay.specs.Desks.{IsDesk, IsOfRecovery}
 use Rattle.mn_replay.specs.Failed.{closer}
-use Rattle.mn_replay.specs.Plays.{AreCallers, AreReady, HaveNumbers, caller_at, list_by}
+use Rattle.mn_replay.specs.Plays.{AreCallers, AreReady, HaveNumbers, caller_at}
 use Rattle.mn_replay.proofs.Resting.{Replaces}
 
 -- The list of a caller, by what tells it

@@ -1,6 +1,6 @@
 -- A turn begins, and it ends: what holds between two turns.
-use Rattle.std.proofs.Common.{◌≡◌, ℕ, ◌+◌, ◌<◌, ◌≤◌, max, Bool, true, false, Option, Some, None, List, [], ◌∷◌, ◌++◌, length, reverse, refl, sym, ap, ◌∙◌, subst, if◌then◌else◌, arith}
-use Rattle.std.specs.Prelude.{filter, slice_get}
+use Rattle.std.proofs.Common.{◌≡◌, ℕ, ◌<◌, ◌≤◌, Bool, true, false, Option, Some, None, List, [], ◌∷◌, ◌++◌, length, reverse, refl, sym, ap, ◌∙◌, subst, if◌then◌else◌, arith}
+use Rattle.std.specs.Prelude.{filter}
 use Rattle.std.specs.List.{AllByRecursion}
 use Rattle.std.specs.Option.{option_map_or}
 use Rattle.std.proofs.lemmas.List.{append-nil, reverse-append}
@@ -12,7 +12,6 @@ use Rattle.mn_actors.specs.declared.clock.View.{View}
 use Rattle.mn_actors.specs.Lists.{IsJoined, IsSplit, held, or_else}
 use Rattle.mn_base.specs.Ids.{client_same}
 use Rattle.mn_base.specs.declared.ids.ClientNo.{ClientNo}
-use Rattle.mn_base.specs.declared.ids.NodeNo.{NodeNo}
 use Rattle.mn_base.proofs.Lists.{all_append}
 use Rattle.mn_cell.specs.Passes.{OwnsJust}
 use Rattle.mn_cell.specs.Runs.{IsIssueOf}
@@ -127,6 +126,63 @@ or_first : {E : Type 0} (o p : Option (List (ℕ × E))) (l : List (ℕ × E)) �
 or_first None p l is = absurd cc
 or_first (Some m) p l is = is
 
+-- how the log that the play had goes on by a turn
+pub record IsAfter {D : Type 0} (p q : PlayState D) (c : ClientNo) (old new : List (ℕ × Entry)) (before : HasTrail p.stations p.view.known p.callers) : Type 0 where
+  pub own : List (ℕ × Entry)
+  pub trail : HasTrail q.stations q.view.known q.callers
+  pub trail_is : trail.trail ≡ own ++ before.trail
+  pub by : AllBy c own
+  pub was : old ≡ trail_by c before.trail
+  pub is : new ≡ trail_by c (own ++ before.trail)
+  pub list_is : new ≡ old ++ reverse own
+
+pub turn_after : {D : Type 0} (board : TableId) (start : Start) (p q : PlayState D) (c : ClientNo) (w u v : View Entry) (at : TableId) (list : ClientState) (t : Turn D)
+    → IsTurnOf board start p q c w u v at list t → (before : HasTrail p.stations p.view.known p.callers) → IsAfter p q c list.entries t.list.entries before
+turn_after {D} board start p q c w u v at list t of before =
+    record {
+      own = own;
+      trail = trail;
+      trail_is = refl;
+      by = all_own;
+      was = of.entries ∙ before.by c of.among;
+      is = here;
+      list_is = of.goes.list_is;
+    }
+  where
+    own : List (ℕ × Entry)
+    own = of.goes.own
+
+    all_own : AllBy c own
+    all_own = subst (λ (k : ClientNo). AllBy k own) of.client of.goes.by
+
+    after : IsTrail t.stations t.view.known (own ++ before.trail)
+    after = of.goes.trail before.trail (subst (λ (k : ℕ). IsTrail p.stations k before.trail) (sym of.split.known.1) before.is)
+
+    here : t.list.entries ≡ trail_by c (own ++ before.trail)
+    here =
+        of.goes.list_is
+        ∙ (ap (λ (l : List (ℕ × Entry)). l ++ reverse own) (of.entries ∙ before.by c of.among)
+        ∙ sym (trail_own c own before.trail all_own))
+
+    by : (d : ClientNo) → d.0 < callers_count → (b : Bool) → client_same d c ≡ b → list_by q.callers d ≡ trail_by d (own ++ before.trail)
+    by d below true is =
+        subst (λ (k : ClientNo). list_by q.callers k ≡ trail_by k (own ++ before.trail)) (sym (client_same-true d c is))
+        (of.replaces.here ∙ here)
+    by d below false is = of.replaces.others d below is ∙ (before.by d below ∙ sym (trail_other d c own before.trail is all_own))
+
+    trail : HasTrail q.stations q.view.known q.callers
+    trail =
+        let later : t.view.known ≤ q.view.known = let known = ap (λ (x : View Entry). x.known) of.view ∙ of.joined.known in omega arith in
+        record {
+          trail = own ++ before.trail;
+          is = record {
+            at_nodes = (subst (λ (stations : List (StationState D)). IsTrail stations t.view.known (own ++ before.trail)) (sym of.stations) after).at_nodes;
+            falling = fall_later t.view.known q.view.known (own ++ before.trail) later after.falling;
+          };
+          by = λ d below. by d below (client_same d c) refl;
+          manned = all_append (λ (p : ℕ × Entry). IsManned p.1) own before.trail (all_manned c of.among own all_own) before.manned;
+        }
+
 pub turn_ends : {D : Type 0} (board : TableId) (start : Start) (p q : PlayState D) (c : ClientNo) (w u v : View Entry) (at : TableId) (list : ClientState) (t : Turn D)
     → IsTurnOf board start p q c w u v at list t → IsAtRest board start q
 turn_ends {D} board start p q c w u v at list t of =
@@ -141,7 +197,7 @@ turn_ends {D} board start p q c w u v at list t of =
       few = subst (λ (k : ℕ). k ≤ 16) (sym of.replaces.clients) of.rests.few;
       four = of.replaces.desks ∙ of.rests.four;
       numbers = of.replaces.numbers;
-      trail = trail;
+      trail = (turn_after board start p q c w u v at list t of of.rests.trail).trail;
     }
   where
     client_is : t.list.client ≡ c
@@ -185,36 +241,3 @@ turn_ends {D} board start p q c w u v at list t of =
         subst (λ (l : List (ℕ × Entry)). AllByRecursion (IsIssueOf start) (entries_of l)) (sym (ap (list_by q.callers) (client_same-true d c is) ∙ of.replaces.here)) of.of_run
     of_run d below false is =
         subst (λ (l : List (ℕ × Entry)). AllByRecursion (IsIssueOf start) (entries_of l)) (sym (of.replaces.others d below is)) (of.rests.of_run d below)
-
-    own : List (ℕ × Entry)
-    own = of.goes.own
-
-    all_own : AllBy c own
-    all_own = subst (λ (k : ClientNo). AllBy k own) of.client of.goes.by
-
-    before : HasTrail p.stations p.view.known p.callers
-    before = of.rests.trail
-
-    after : IsTrail t.stations t.view.known (own ++ before.trail)
-    after = of.goes.trail before.trail (subst (λ (k : ℕ). IsTrail p.stations k before.trail) (sym of.split.known.1) before.is)
-
-    by : (d : ClientNo) → d.0 < callers_count → (b : Bool) → client_same d c ≡ b → list_by q.callers d ≡ trail_by d (own ++ before.trail)
-    by d below true is =
-        subst (λ (k : ClientNo). list_by q.callers k ≡ trail_by k (own ++ before.trail)) (sym (client_same-true d c is))
-        (of.replaces.here ∙ (of.goes.list_is
-        ∙ (ap (λ (l : List (ℕ × Entry)). l ++ reverse own) (of.entries ∙ before.by c of.among)
-        ∙ sym (trail_own c own before.trail all_own))))
-    by d below false is = of.replaces.others d below is ∙ (before.by d below ∙ sym (trail_other d c own before.trail is all_own))
-
-    trail : HasTrail q.stations q.view.known q.callers
-    trail =
-        let later : t.view.known ≤ q.view.known = let known = ap (λ (x : View Entry). x.known) of.view ∙ of.joined.known in omega arith in
-        record {
-          trail = own ++ before.trail;
-          is = record {
-            at_nodes = (subst (λ (stations : List (StationState D)). IsTrail stations t.view.known (own ++ before.trail)) (sym of.stations) after).at_nodes;
-            falling = fall_later t.view.known q.view.known (own ++ before.trail) later after.falling;
-          };
-          by = λ d below. by d below (client_same d c) refl;
-          manned = all_append (λ (p : ℕ × Entry). IsManned p.1) own before.trail (all_manned c of.among own all_own) before.manned;
-        }

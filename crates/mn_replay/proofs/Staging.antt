@@ -1,10 +1,9 @@
 -- Stations are made of the nodes that are given, from the last one on.
 use Rattle.std.proofs.Common.{◌≡◌, ℕ, ◌+◌, ◌-◌, ◌<◌, ◌≤◌, Bool, true, false, Option, Some, None, List, [], ◌∷◌, ◌++◌, length, map, reverse, refl, sym, ap, ◌∙◌, subst, arith, get_or, eqb}
-use Rattle.std.specs.Prelude.{slice_get, slice_index_or}
+use Rattle.std.specs.Prelude.{slice_get}
 use Rattle.std.proofs.lemmas.Bool.{eqb-false, eqb-true, ne_eqb}
 use Rattle.std.proofs.lemmas.List.{append_assoc, get_or-reverse, length-append, length-map, length-reverse}
 use Rattle.std.proofs.lemmas.Option.{get_or_from_slice_get, slice_get_within, slice_get-get_or}
-use Rattle.mn_actors.specs.declared.actor.Actor.{Actor}
 use Rattle.mn_actors.specs.declared.actor.Actor.TheVariants.{Client, Node}
 use Rattle.mn_actors.specs.declared.clock.View.{View}
 use Rattle.mn_actors.specs.Lists.{IsJoined, IsSplit, Owns, held, or_else}
@@ -18,11 +17,11 @@ use Rattle.mn_node.specs.State.{NodeState}
 use Rattle.mn_world.specs.declared.entry.Entry.{Entry}
 use Rattle.mn_world.specs.Protocol.{start_of}
 use Rattle.mn_replay.specs.Begins.{AreBare, HoldsEmpty}
-use Rattle.mn_replay.specs.Ended.{AreMadeFromLast, HoldsNodes, OwnsNodes, SameCallers}
+use Rattle.mn_replay.specs.Ended.{AreMadeFromLast, OwnsNodes, SameCallers}
 use Rattle.mn_replay.specs.Plays.{NamesGiven}
 use Rattle.mn_replay.specs.Trace.{MayBegin}
 use Rattle.mn_replay.specs.Turn.{AreStations}
-use Rattle.mn_replay.proofs.Apart.{get_middle, nodes_back, or_none}
+use Rattle.mn_replay.proofs.Apart.{get_middle, or_none}
 use Rattle.mn_replay.proofs.Beginning.{pushed}
 use Rattle.mn_replay.proofs.Handing.{maps_at}
 

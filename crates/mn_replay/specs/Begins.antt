@@ -1,5 +1,5 @@
 -- Callers and nodes that have done nothing.
-use Rattle.std.specs.Prelude.{ℕ, ◌+◌, ◌≡◌, ◌≤◌, ◌<◌, List, [], length, slice_get, Some, None}
+use Rattle.std.specs.Prelude.{ℕ, ◌+◌, ◌≡◌, ◌≤◌, ◌<◌, List, [], slice_get, Some, None}
 use Rattle.mn_actors.specs.declared.actor.Actor.TheVariants.{Node}
 use Rattle.mn_actors.specs.declared.clock.View.{View}
 use Rattle.mn_actors.specs.Lists.{held}
@@ -29,6 +29,7 @@ AreNewClients run script clients =
 pub record IsNewDesk (k : ℕ) (d : Desk) : Type 0 where
   pub number : d.list.client ≡ caller_at (17 + k)
   pub empty : d.list.entries ≡ []
+  pub idle : d.work ≡ None
   pub is_desk : (start : Start) → IsDesk start d
 
 abbrev pub AreNewDesks : List Desk → Type 0

@@ -4,7 +4,6 @@ use Rattle.mn_base.specs.declared.ids.NodeNo.{NodeNo}
 use Rattle.mn_cell.specs.declared.trace.RunCause.{RunCause}
 use Rattle.mn_cell.specs.declared.trace.RunCause.TheVariants.{Disk, Damaged, NoMemory}
 use Rattle.mn_cell.specs.Station.{RoseBy, StationState}
-use Rattle.mn_io.specs.DiskModel.{DiskState}
 use Rattle.mn_node.specs.declared.restart.RestartError.{RestartError}
 use Rattle.mn_node.specs.declared.restart.RestartError.TheVariants as error
 use Rattle.mn_node.specs.Restart.{AreAbsent, IsNoLog, IsDamage}

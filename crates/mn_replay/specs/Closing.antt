@@ -18,6 +18,9 @@ use Rattle.mn_mini.specs.Node.{doubts_of, held_parts, is_held}
 use Rattle.mn_recov.specs.declared.stage.RecovStage.{RecovStage}
 use Rattle.mn_recov.specs.declared.stage.RecovStage.TheVariants.{Looking, Found}
 use Rattle.mn_recov.specs.Recovery.{participant}
+use Rattle.mn_world.specs.declared.entry.Entry.{Entry}
+use Rattle.mn_world.specs.declared.entry.What.{What}
+use Rattle.mn_world.specs.declared.entry.What.TheVariants.{Called, Restarted}
 use Rattle.mn_world.specs.Calls.{lists_doubt}
 use Rattle.mn_world.specs.Protocol.{Start, start_nodes}
 use Rattle.mn_replay.specs.Desks.{IsOfRecovery}
@@ -108,3 +111,17 @@ abbrev pub calls_left : ℕ → RecovStage → ℕ
 calls_left nodes (Looking node) = (nodes - node) + 17
 calls_left nodes (Found participants voted verdict decided) =
     (length participants - voted) + (length participants - decided)
+
+-- Its list
+
+-- a call that is answered, or a restart
+abbrev pub IsCallOrRestart : What → Type 0
+IsCallOrRestart (Called request reply) = ⊤
+IsCallOrRestart (Restarted kept) = ⊤
+IsCallOrRestart what = ⊥
+
+-- the list went on by such entries
+pub record ClosesOn (old new : List Entry) : Type 0 where
+  pub own : List Entry
+  pub new_is : new ≡ own ++ old
+  pub kinds : AllByRecursion (λ e. IsCallOrRestart e.what) own

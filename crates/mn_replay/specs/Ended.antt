@@ -1,6 +1,6 @@
 -- A run that has ended: its stations are taken apart, and its lists are one log.
 use Rattle.std.specs.Prelude.{ℕ, ◌+◌, ◌≡◌, ◌≤◌, ◌<◌, vec_capacity, List, [], length, map, slice_get}
-use Rattle.std.specs.Prelude.{Some, None, Result, IfErr}
+use Rattle.std.specs.Prelude.{Some, Result, IfErr}
 use Rattle.std.specs.Prelude.{OnOk}
 use Rattle.mn_base.specs.declared.ids.ClientNo.{ClientNo}
 use Rattle.mn_base.specs.declared.ids.NodeNo.{NodeNo}

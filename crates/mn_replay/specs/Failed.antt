@@ -1,5 +1,5 @@
 -- Why a replay fails. Lists of entries stand newest first.
-use Rattle.std.specs.Prelude.{ℕ, ◌+◌, ◌≡◌, ◌<◌, ◌⊎◌, List, [], ◌∷◌, length, reverse, true, Some}
+use Rattle.std.specs.Prelude.{ℕ, ◌+◌, ◌≡◌, ◌⊎◌, List, [], ◌∷◌, length, reverse, true, Some}
 use Rattle.std.specs.Prelude.{Option, slice_get, if◌then◌else◌}
 use Rattle.mn_base.specs.declared.ids.ClientNo.{ClientNo}
 use Rattle.mn_base.specs.declared.ids.NodeNo.{NodeNo}

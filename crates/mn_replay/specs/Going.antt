@@ -1,5 +1,6 @@
 -- How a client goes on by itself from one call to the next. Lists of entries stand newest first.
-use Rattle.std.specs.Prelude.{ℕ, ◌≡◌, Bool, List, [], ◌∷◌, Option, Some, None, MatchOption, ⊤}
+use Rattle.std.specs.Prelude.{ℕ, ◌≡◌, Bool, true, ◌&&◌, List, [], ◌∷◌, Option, Some, None}
+use Rattle.std.specs.Prelude.{MatchOption, ⊤}
 use Rattle.std.specs.List.{AllByRecursion}
 use Rattle.mn_base.specs.declared.ids.ClientNo.{ClientNo}
 use Rattle.mn_base.specs.declared.ids.NodeNo.{NodeNo}
@@ -16,18 +17,19 @@ use Rattle.mn_script.specs.declared.elements.Point.{Point}
 use Rattle.mn_world.specs.declared.entry.Entry.{Entry}
 use Rattle.mn_world.specs.declared.entry.What.{What}
 use Rattle.mn_world.specs.Answers.{MeansBy}
-use Rattle.mn_world.specs.Calls.{begun_in, begun_of}
+use Rattle.mn_world.specs.Calls.{begun_in, begun_of, issue_in}
 use Rattle.mn_world.specs.Clients.{ClientAllows, last_number}
 use Rattle.mn_world.specs.Lists.{ClientState}
 use Rattle.mn_world.specs.Protocol.{IsOwnStep, Start, run_number, start_nodes}
 use Rattle.mn_world.specs.Protocol.{IsOfRun as IsWhatOfRun}
 use Rattle.mn_world.specs.Run.{entries_of}
-use Rattle.mn_hist.specs.Points.{points_met}
+use Rattle.mn_hist.specs.Points.{may_stop, points_met}
 use Rattle.mn_hist.specs.Watching.{number_of}
+use Rattle.mn_replay.specs.declared.client.Call.{Call}
 use Rattle.mn_replay.specs.declared.client.Client.{Client}
 use Rattle.mn_replay.specs.declared.client.Went.{Went}
 use Rattle.mn_replay.specs.declared.client.Went.TheVariants.{On, Rests}
-use Rattle.mn_replay.specs.Clients.{HasProxy, IsAlive, past_of}
+use Rattle.mn_replay.specs.Clients.{HasProxy, IsAlive, KeepsIssues, past_of}
 use Rattle.mn_replay.specs.Points.{AsksAs, stop_due}
 use Rattle.mn_replay.specs.Steps.{own_entry}
 
@@ -45,18 +47,19 @@ IsSameButRoom old new = new ≡ record old { list = record old.list { room = new
 abbrev pub MayAdd : ClientNo → List Entry → What → Type 0
 MayAdd c es what = IsOwnStep what × ClientAllows c es None what × MeansBy es what
 
--- the list is its client's own and of this run, so many operations were begun, and the shared id is
--- such as there may be
-pub record IsList (start : Start) (list : ClientState) (count : ℕ) (id : Option Tid)
+-- the list is its client's own and of this run, so many operations were begun, the shared id is
+-- such as there may be, and this is kept of its issues
+pub record IsList (start : Start) (list : ClientState) (count : ℕ) (id : Option Tid) (plan : Bool)
     : Type 0 where
   pub own : AllByRecursion (λ e. e.client ≡ Some list.client) (entries_of list.entries)
   pub of_run : AllByRecursion (IsIssueOf start) (entries_of list.entries)
   pub begun : last_number (begun_of (entries_of list.entries)) ≡ count
   pub shared : MatchOption id ⊤ IsTid
+  pub issues : KeepsIssues (entries_of list.entries) id plan
 
 -- what is so of its list, whatever the crash points
 abbrev pub HasList : Start → Client → Type 0
-HasList start c = IsList start c.list c.begun c.shared
+HasList start c = IsList start c.list c.begun c.shared c.is_plan
 
 -- the lists met the same points, and the flags stay
 pub record MeetsSame (old : ClientState) (before : List Bool) (new : ClientState)
@@ -86,8 +89,9 @@ pub record MayMake (start : Start) (list : ClientState) (p : ProxyState) (what :
   pub of_run : IsWhatOfRun start what
   pub begins_none : begun_in what ≡ []
 
+-- and issues nothing by it
 abbrev pub MakesStep : Start → Client → What → Type 0
-MakesStep start c what = MayMake start c.list c.proxy what
+MakesStep start c what = MayMake start c.list c.proxy what × (issue_in what ≡ [])
 
 -- Steps of its proxy
 
@@ -109,6 +113,11 @@ HasGone start c On = HasProxy start c × IsReady c.proxy × (c.due ≡ None)
 HasGone start c Rests = IsAlive start c
 
 -- Calls
+
+-- no call is due, or it is one of a plan: a Prepare or an Exec, where the last issue is a plan
+abbrev pub is_planned : Option Call → Bool → Bool
+is_planned None plan = true
+is_planned (Some call) plan = may_stop call.request && plan
 
 -- its newest entry answers the call, which was asked to stop where the points say so
 pub record HasAnswer (points : List Point) (node : NodeNo) (request : Request) (reply : NodeReply)

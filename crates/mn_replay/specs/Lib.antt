@@ -13,3 +13,8 @@ pub mod Going
 pub mod Plays
 pub mod Begins
 pub mod Ended
+pub mod Acts
+pub mod Recoveries
+pub mod Schedule
+pub mod Logs
+pub mod Follows

@@ -1,6 +1,6 @@
 -- The turn of an actor: what it sees of the run while it acts, and how the log goes on by it. A
 -- trail is the log so far, newest first.
-use Rattle.std.specs.Prelude.{ℕ, ◌≡◌, ◌≤◌, ◌<◌, List, [], ◌∷◌, ◌++◌, length, filter, reverse}
+use Rattle.std.specs.Prelude.{ℕ, ◌≡◌, ◌≤◌, ◌<◌, List, [], ◌∷◌, ◌++◌, length, filter, map, reverse}
 use Rattle.std.specs.Prelude.{Some, slice_get, ⊤}
 use Rattle.std.specs.List.{AllByRecursion}
 use Rattle.atomic_table.specs.Seated.{TableId}
@@ -73,6 +73,10 @@ pub record IsTurn {D : Type 0} (board : TableId) (nodes : ℕ) (t : Turn D) : Ty
   pub list : held t.view (Client t.list.client) ≡ Some t.list.entries
 
 -- The log
+
+-- its entries
+abbrev pub past_in : List (ℕ × Entry) → List Entry
+past_in trail = map (λ p. p.1) trail
 
 -- places fall from below this one
 abbrev pub Fall : ℕ → List (ℕ × Entry) → Type 0

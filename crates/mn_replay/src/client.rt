@@ -1,14 +1,21 @@
 //! A client of the script, and what the acts of a schedule make it do.
-ghost use Rattle.std.specs.Prelude.{◌≡◌, ◌≢◌, ◌≤◌, ◌<◌, ◌+◌, ◌^◌, [], length, IfOk, OnOk, OnErr};
-ghost use Rattle.std.specs.Prelude.{MatchBool, MatchOption, None, is_some, true, false, ⊤};
+ghost use Rattle.std.specs.Prelude.{◌≡◌, ◌≢◌, ◌≤◌, ◌<◌, ◌+◌, ◌^◌, List, [], length, nat_le};
+ghost use Rattle.std.specs.Prelude.{IfOk, OnOk, OnErr, MatchBool, MatchOption, None, is_some};
+ghost use Rattle.std.specs.Prelude.{true, false, not, ◌&&◌, ◌||◌, nat_lt, if◌then◌else◌, ⊤};
+ghost use Rattle.mn_base.specs.declared.op.Op.{Op};
 ghost use Rattle.mn_hist.specs.Points.{points_met};
+ghost use Rattle.mn_mini.specs.Mini.{participants_of};
 ghost use Rattle.mn_mini.specs.RecordGrammar.{IsTid};
 ghost use Rattle.mn_mini.specs.Sound.{Fits, IsDecide, IsSoundRequest};
 ghost use Rattle.mn_proxy.specs.State.{IsReady};
+ghost use Rattle.mn_world.specs.Clients.{is_read};
 ghost use Rattle.mn_world.specs.Protocol.{Start, run_number, start_nodes, start_of};
+ghost use Rattle.mn_replay.specs.Acts.{BeginsOp, CallsOnce, DoesAll, DoesGo, DoesPlan, DoesStep};
+ghost use Rattle.mn_replay.specs.Acts.{GoesByItself, IsUnderWay, as_role};
 ghost use Rattle.mn_replay.specs.Clients.{HasProxy, IsAtSteps, IsClient, IsDue, IsOfRun, past_of};
 ghost use Rattle.mn_replay.specs.Going.{HasAnswer, HasGone, HasList, IsSameBut, IsSameButRoom};
 ghost use Rattle.mn_replay.specs.Going.{IsUnnoted, KeepsPoints, MakesStep, MayAdd, MayTake};
+ghost use Rattle.mn_replay.specs.Going.{is_planned};
 ghost use Rattle.mn_replay.specs.Points.{has_died};
 ghost use Rattle.mn_replay.specs.Steps.{Adds, Keeps, own_entry};
 ghost use Rattle.mn_replay.specs.Turn.{GoesOn, IsTurn, seen_of, turn_of};
@@ -18,9 +25,9 @@ use crate::table::Table;
 use mn_actors::Pass;
 use mn_base::{Answer, ClientNo, NoMemory, NodeNo, Op, Tid, TryCopy};
 use mn_cell::Named;
-use mn_hist::none_met;
+use mn_hist::{may_stop, none_met};
 use mn_io::Disk;
-use mn_mini::{Minitransaction, NodeReply, PartItem, Request};
+use mn_mini::{Item, Minitransaction, NodeReply, Request};
 use mn_proxy::{Proxy, ProxyStep};
 use mn_script::Point;
 use mn_world::{ClientList, CoreLaw, What};
@@ -51,21 +58,24 @@ pub struct Client {
     due: Option<Call>,
     /// The id of the last minitransaction that it issued with several participants.
     shared: Option<Tid>,
+    /// Whether the last minitransaction that it issued is a plan: whether it compares or writes.
+    is_plan: bool,
     /// Whether each crash point of the script was met by its entries.
     met: Vec<bool>,
 }
 
-/// Whether the call is a Prepare or the Exec of a plan: an Exec that compares or writes.
-fn is_of_plan(request: &Request) -> bool {
-    match request {
-        Request::Prepare { .. } => true,
-        Request::Exec { part, .. } => !part.as_slice().iter().all(is_read),
-        _ => false,
-    }
+/// Whether the minitransaction has several participants.
+fn is_shared(mini: &Minitransaction) -> bool
+    ensures { result ≡ nat_le 2 (length (participants_of mini.now)) }
+{
+    mini.participants().as_slice().len() >= 2
 }
 
-fn is_read(item: &PartItem) -> bool {
-    matches!(item, PartItem::Read { .. })
+/// Whether the minitransaction is one read.
+fn is_read(mini: &Minitransaction) -> bool
+    ensures { result ≡ is_read mini.now.items }
+{
+    matches!(mini.items(), [Item::Read { .. }])
 }
 
 /// How many entries have to have room before a call: with the first Prepare those of its whole plan
@@ -140,6 +150,7 @@ impl Client {
             begun: 0,
             due: None,
             shared: None,
+            is_plan: false,
             met: none_met(alloc, points.len())?,
         })
     }
@@ -172,14 +183,18 @@ impl Client {
         ensures left { result ≡ true → self.now.due ≡ None → self.now.begun < length ops.now }
         ensures lives { result ≡ true → self.now.due ≡ None
             → has_died points.now self.now.list.client (past_of self.now) ≡ false }
+        ensures is { result ≡ (is_some self.now.due || (nat_lt self.now.begun (length ops.now)
+            && not (has_died points.now self.now.list.client (past_of self.now)))) }
     {
         self.is_at_work() || ((self.begun as usize) < ops.len() && !self.has_died(points))
     }
 
     /// Whether the next call is a Prepare or the Exec of a plan, or there is none.
-    fn is_planned(&self) -> bool {
+    fn is_planned(&self) -> bool
+        ensures { result ≡ is_planned self.now.due self.now.is_plan }
+    {
         match &self.due {
-            Some(call) => is_of_plan(&call.request),
+            Some(call) => may_stop(&call.request) && self.is_plan,
             None => true,
         }
     }
@@ -211,7 +226,7 @@ impl Client {
         Ok(())
     }
 
-    /// Makes a step by itself that begins no operation.
+    /// Makes a step by itself that begins no operation, and issues nothing.
     fn make<N: Named, D: Disk>(
         &mut self,
         table: &mut Table<N, D>,
@@ -231,23 +246,28 @@ impl Client {
         ensures proxy { OnOk result (HasProxy (start_of N.records) self.new) }
         ensures points { KeepsPoints self.old self.new }
         ensures same { IsSameBut self.old self.new }
+        ensures own { OnOk result (GoesByItself self.old.list.client
+            (past_of self.old) (past_of self.new)) }
     {
         self.add(table, pass, what)
     }
 
-    /// Keeps the id of a minitransaction that it issues, if that has several participants.
-    fn keep_shared(&mut self, tid: Tid, mini: &Minitransaction)
+    /// Keeps what it has to know of a minitransaction that it has issued.
+    fn keep_issue(&mut self, tid: Tid, is_shared: bool, is_plan: bool)
         requires shared { MatchOption self.old.shared ⊤ IsTid }
         requires run { 1 ≤ tid.run }
         requires client { tid.client ≡ self.old.list.client }
         requires serial { 1 ≤ tid.serial }
         ensures shared { MatchOption self.new.shared ⊤ IsTid }
-        ensures same { self.new ≡ record self.old { shared = self.new.shared } }
+        ensures id { self.new.shared ≡ (if is_shared then Some tid else self.old.shared) }
+        ensures same { self.new
+            ≡ record self.old { shared = self.new.shared; is_plan = is_plan } }
     {
         let _client = self.list.client();
         let _run = tid.run;
         let _serial = tid.serial;
-        if mini.participants().as_slice().len() >= 2 {
+        self.is_plan = is_plan;
+        if is_shared {
             self.shared = Some(tid);
         }
     }
@@ -273,9 +293,14 @@ impl Client {
         ensures proxy { OnOk result (HasProxy (start_of N.records) self.new) }
         ensures points { KeepsPoints self.old self.new }
         ensures stays { (self.new.proxy ≡ self.old.proxy) × (self.new.due ≡ self.old.due) }
+        ensures own { OnOk result (GoesByItself self.old.list.client
+            (past_of self.old) (past_of self.new)) }
     {
-        self.keep_shared(tid, &mini);
-        self.make(table, pass, What::Issue { tid, mini })
+        let is_shared = is_shared(&mini);
+        let is_read = is_read(&mini);
+        self.add(table, pass, What::Issue { tid, mini })?;
+        self.keep_issue(tid, is_shared, !is_read);
+        Ok(())
     }
 
     /// Takes one step of the proxy.
@@ -298,6 +323,8 @@ impl Client {
         ensures list { HasList (start_of N.records) self.new }
         ensures points { KeepsPoints self.old self.new }
         ensures went { IfOk result (λ went. HasGone (start_of N.records) self.new went) }
+        ensures own { OnOk result (GoesByItself self.old.list.client
+            (past_of self.old) (past_of self.new)) }
     {
         match step {
             ProxyStep::Issue { tid, mini } => {
@@ -339,6 +366,8 @@ impl Client {
         ensures list { HasList (start_of N.records) self.new }
         ensures points { KeepsPoints self.old self.new }
         ensures went { IfOk result (λ went. HasGone (start_of N.records) self.new went) }
+        ensures own { OnOk result (GoesByItself self.old.list.client
+            (past_of self.old) (past_of self.new)) }
     {
         match self.proxy.next(alloc) {
             Ok(step) => self.take_step(table, pass, step),
@@ -369,6 +398,8 @@ impl Client {
             (turn_of (seen_of table.new.board) table.new.stations.items pass.new self.new.list) }
         ensures client { OnOk result (IsClient (start_of N.records) points.now self.new) }
         ensures of_run { OnErr result (IsOfRun (start_of N.records) points.now self.new) }
+        ensures own { OnOk result (GoesByItself self.old.list.client
+            (past_of self.old) (past_of self.new)) }
     {
         for _ in 0..MANY {
             match self.own_step(alloc, table, pass)? {
@@ -401,6 +432,8 @@ impl Client {
             (turn_of (seen_of table.new.board) table.new.stations.items pass.new self.new.list) }
         ensures client { OnOk result (IsClient (start_of N.records) points.now self.new) }
         ensures of_run { OnErr result (IsOfRun (start_of N.records) points.now self.new) }
+        ensures begins { OnOk result (BeginsOp self.old.list.client op.now
+            (past_of self.old) (past_of self.new)) }
     {
         let asked = op.try_copy(alloc)?;
         let op = op.try_copy(alloc)?;
@@ -434,6 +467,9 @@ impl Client {
             (turn_of (seen_of table.new.board) table.new.stations.items pass.new self.new.list) }
         ensures client { OnOk result (IsClient (start_of N.records) points.now self.new) }
         ensures of_run { OnErr result (IsOfRun (start_of N.records) points.now self.new) }
+        ensures under_way { OnOk result (IsUnderWay
+            (as_role points.now self.old.list.client ops.now)
+            (past_of self.old) (past_of self.new)) }
     {
         if self.is_at_work() {
             return Ok(());
@@ -578,6 +614,9 @@ impl Client {
             (turn_of (seen_of table.new.board) table.new.stations.items pass.new self.new.list) }
         ensures client { OnOk result (IsClient (start_of N.records) points.now self.new) }
         ensures of_run { OnErr result (IsOfRun (start_of N.records) points.now self.new) }
+        ensures calls { OnOk result ((ops : List Op)
+            → CallsOnce (as_role points.now self.old.list.client ops)
+            (past_of self.old) (past_of self.new)) }
     {
         let Some(Call { node, request }) = self.due.take() else {
             return Ok(());
@@ -615,6 +654,9 @@ impl Client {
             (turn_of (seen_of table.new.board) table.new.stations.items pass.new self.new.list) }
         ensures client { OnOk result (IsClient (start_of N.records) points.now self.new) }
         ensures of_run { IsOfRun (start_of N.records) points.now self.new }
+        ensures does { OnOk result (DoesStep
+            (as_role points.now self.old.list.client ops.now)
+            (past_of self.old) (past_of self.new)) }
     {
         if !self.has_work(points, ops) {
             return Ok(());
@@ -643,6 +685,9 @@ impl Client {
             (turn_of (seen_of table.new.board) table.new.stations.items pass.new self.new.list) }
         ensures client { OnOk result (IsClient (start_of N.records) points.now self.new) }
         ensures of_run { IsOfRun (start_of N.records) points.now self.new }
+        ensures does { OnOk result (DoesPlan
+            (as_role points.now self.old.list.client ops.now)
+            (past_of self.old) (past_of self.new)) }
     {
         if !self.has_work(points, ops) {
             return Ok(());
@@ -677,6 +722,9 @@ impl Client {
             (turn_of (seen_of table.new.board) table.new.stations.items pass.new self.new.list) }
         ensures client { OnOk result (IsClient (start_of N.records) points.now self.new) }
         ensures of_run { IsOfRun (start_of N.records) points.now self.new }
+        ensures does { OnOk result (DoesGo
+            (as_role points.now self.old.list.client ops.now)
+            (past_of self.old) (past_of self.new)) }
     {
         if !self.has_work(points, ops) {
             return Ok(());
@@ -711,6 +759,9 @@ impl Client {
             (turn_of (seen_of table.new.board) table.new.stations.items pass.new self.new.list) }
         ensures client { OnOk result (IsClient (start_of N.records) points.now self.new) }
         ensures of_run { IsOfRun (start_of N.records) points.now self.new }
+        ensures does { OnOk result (DoesAll
+            (as_role points.now self.old.list.client ops.now)
+            (past_of self.old) (past_of self.new)) }
     {
         for _ in 0..MANY {
             if !self.has_work(points, ops) {

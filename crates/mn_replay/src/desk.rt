@@ -1,12 +1,18 @@
 //! A recovery coordinator of the script.
-ghost use Rattle.std.specs.Prelude.{◌≡◌, ◌≢◌, ◌≤◌, ◌<◌, [], length, MatchOption, ⊤};
+ghost use Rattle.std.specs.Prelude.{◌≡◌, ◌≢◌, ◌≤◌, ◌<◌, ◌&&◌, [], false, length, List, not};
+ghost use Rattle.std.specs.Prelude.{MatchOption, None, OnErr, OnOk, ⊤};
 ghost use Rattle.mn_cell.specs.Calls.{entry_at, what_said};
 ghost use Rattle.mn_mini.specs.RecordGrammar.{IsTid};
 ghost use Rattle.mn_mini.specs.Sound.{IsSoundRequest};
+ghost use Rattle.mn_world.specs.declared.entry.Entry.{Entry};
+ghost use Rattle.mn_world.specs.Calls.{issues_of};
 ghost use Rattle.mn_world.specs.Clients.{Sends};
 ghost use Rattle.mn_world.specs.Protocol.{Start, start_nodes, start_of};
 ghost use Rattle.mn_world.specs.Run.{entries_of};
+ghost use Rattle.mn_replay.specs.Clients.{last_shared};
 ghost use Rattle.mn_replay.specs.Desks.{IsDesk, IsOfRecovery, IsRecoveryCall};
+ghost use Rattle.mn_replay.specs.Recoveries.{AsksIf, DoesRecover, DoesRstep, bench_of, is_force};
+ghost use Rattle.mn_replay.specs.Recoveries.{is_vote, work_of};
 ghost use Rattle.mn_replay.specs.Steps.{Adds, Keeps};
 ghost use Rattle.mn_replay.specs.Turn.{GoesOn, IsTurn, seen_of, turn_of};
 
@@ -45,9 +51,18 @@ pub fn make_room(list: &mut ClientList, request: &Request) -> Result<(), NoMemor
     list.reserve(ENTRIES_AHEAD)
 }
 
-/// Whether a Force wasn't voted on, and has to be asked again.
-fn has_to_wait(is_force: bool, reply: &NodeReply) -> bool {
-    is_force && !matches!(reply, NodeReply::Vote { .. })
+/// Whether it asks for a vote.
+fn is_force(request: &Request) -> bool
+    ensures { result ≡ is_force request.now }
+{
+    matches!(request, Request::Force { .. })
+}
+
+/// Whether a Force, where it was one, wasn't voted on, and has to be asked again.
+fn has_to_wait(force: bool, reply: &NodeReply) -> bool
+    ensures { result ≡ (force && not (is_vote reply.now)) }
+{
+    force && !matches!(reply, NodeReply::Vote { .. })
 }
 
 impl Desk {
@@ -55,6 +70,7 @@ impl Desk {
     pub fn new(alloc: Global, actor: ClientNo) -> Desk
         requires actor { actor.0 ≤ 20 }
         ensures list { (result.list.client ≡ actor) × (result.list.entries ≡ []) }
+        ensures idle { result.work ≡ None }
         ensures desk { (start : Start) → IsDesk start result }
     {
         Desk {
@@ -68,15 +84,19 @@ impl Desk {
     fn take_work(&mut self, alloc: Global, shared: Option<Tid>, nodes: u8) -> Result<(), NoMemory>
         requires id { MatchOption shared ⊤ IsTid }
         ensures list { self.new.list ≡ self.old.list }
+        ensures work { OnOk result ((es : List Entry) → shared ≡ last_shared (issues_of es)
+            → self.new.work ≡ work_of nodes self.old.work es) }
+        ensures failed { OnErr result (self.new ≡ self.old) }
         ensures desk { (start : Start) → nodes ≡ start_nodes start → IsDesk start self.old
             → IsDesk start self.new }
     {
         if self.work.is_some() {
             return Ok(());
         }
-        if let Some(tid) = shared {
-            self.work = Some(Recoverer::new(alloc, tid, nodes)?);
-        }
+        let Some(tid) = shared else {
+            return Ok(());
+        };
+        self.work = Some(Recoverer::new(alloc, tid, nodes)?);
         Ok(())
     }
 
@@ -133,6 +153,9 @@ impl Desk {
             (seen_of table.old.board) table.old.stations.items pass.old self.old.list)
             (turn_of (seen_of table.new.board) table.new.stations.items pass.new self.new.list) }
         ensures desk { IsDesk (start_of N.records) self.new }
+        ensures client { self.new.list.client ≡ self.old.list.client }
+        ensures asks { AsksIf self.old.list.client self.old.work (bench_of self.old)
+            (bench_of self.new) result }
     {
         let Some(mut work) = self.work.take() else {
             return false;
@@ -140,9 +163,9 @@ impl Desk {
         let RecovStep::Send { node, request } = work.next() else {
             return false;
         };
-        let is_force = matches!(request, Request::Force { .. });
+        let force = is_force(&request);
         let reply = self.send(alloc, table, pass, node, request);
-        let waits = has_to_wait(is_force, &reply);
+        let waits = has_to_wait(force, &reply);
         work.feed(reply);
         if let RecovStep::Ended { .. } = work.next() {
             return false;
@@ -170,6 +193,10 @@ impl Desk {
             (seen_of table.old.board) table.old.stations.items pass.old self.old.list)
             (turn_of (seen_of table.new.board) table.new.stations.items pass.new self.new.list) }
         ensures desk { IsDesk (start_of N.records) self.new }
+        ensures does { OnOk result ((es : List Entry) → shared ≡ last_shared (issues_of es)
+            → DoesRstep (length N.records) self.old.list.client es (bench_of self.old)
+            (bench_of self.new)) }
+        ensures failed { OnErr result (self.new ≡ self.old) }
     {
         self.take_work(alloc, shared, table.nodes())?;
         self.call(alloc, table, pass);
@@ -194,6 +221,9 @@ impl Desk {
             (seen_of table.old.board) table.old.stations.items pass.old self.old.list)
             (turn_of (seen_of table.new.board) table.new.stations.items pass.new self.new.list) }
         ensures desk { IsDesk (start_of N.records) self.new }
+        ensures does { OnOk result ((es : List Entry) → shared ≡ last_shared (issues_of es)
+            → DoesRecover (length N.records) self.old.list.client es (bench_of self.old)
+            (bench_of self.new) false) }
     {
         self.take_work(alloc, shared, table.nodes())?;
         for _ in 0..MANY {

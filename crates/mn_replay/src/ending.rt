@@ -1,17 +1,20 @@
 //! How a run ends: its nodes are handed back, and its lists are made one log.
 ghost use Rattle.std.specs.Prelude.{◌≡◌, ◌≤◌, ◌<◌, ◌+◌, ◌-◌, ◌++◌, ℕ, List, [], length, map};
-ghost use Rattle.std.specs.Prelude.{replicate, reverse, slice_get, Some, None, Err, IfErr, IfOk};
+ghost use Rattle.std.specs.Prelude.{replicate, reverse, slice_get, Some, None, Err, Ok, IfErr, IfOk, IsOk};
 ghost use Rattle.std.specs.Prelude.{OnOk, vec_len, vec_capacity};
 ghost use Rattle.mn_actors.specs.declared.actor.Actor.TheVariants.{Node as AtNode};
 ghost use Rattle.mn_actors.specs.Lists.{held, OwnsAll};
 ghost use Rattle.mn_actors.specs.Sight.{board_of, clients_of, id_of, nodes_of, view_of};
 ghost use Rattle.mn_base.specs.declared.ids.NodeNo.{NodeNo as Numbered};
 ghost use Rattle.mn_node.specs.State.{NodeState};
+ghost use Rattle.mn_world.specs.declared.entry.Entry.{Entry as Noted};
 ghost use Rattle.mn_world.specs.Protocol.{start_of};
+ghost use Rattle.mn_world.specs.Run.{entries_of};
 ghost use Rattle.mn_replay.specs.Causes.{IsCaused};
 ghost use Rattle.mn_replay.specs.Ended.{AllHaveMade, AreLists, AreMadeFromLast, HasRoomFor};
 ghost use Rattle.mn_replay.specs.Ended.{HoldsNodes, IsEnded, OwnsNodes, SameCallers};
 ghost use Rattle.mn_replay.specs.Failed.{FailsSo, IsRunOn};
+ghost use Rattle.mn_replay.specs.Logs.{HasLog};
 ghost use Rattle.mn_replay.specs.Plays.{IsAtRest, NamesGiven, play_of};
 ghost use Rattle.mn_replay.specs.Settled.{AreSettled};
 ghost use Rattle.mn_replay.specs.Trace.{IsTrace};
@@ -249,6 +252,8 @@ fn result_of<N: Named, D: Disk>(
         → NamesGiven D.state D.faults N.records N.faults N.honest given
         → IfErr result (λ failed. FailsSo D.state D.faults given failed.nodes.items failed.log
         failed.cause) }
+    ensures log { IfOk result (λ trace. merged ≡ Ok trace.log) }
+    ensures done { IfOk result (λ trace. IsOk played) }
 {
     runs_follow_protocol();
     records_stay_sound();
@@ -283,6 +288,10 @@ pub fn end<N: Named, D: Disk>(
         → NamesGiven D.state D.faults N.records N.faults N.honest given
         → IfErr result (λ failed. FailsSo D.state D.faults given failed.nodes.items failed.log
         failed.cause) }
+    ensures done { IfOk result (λ trace. IsOk played) }
+    ensures log { IfOk result (λ trace. (past : List Noted) → HasLog
+        (play_of (seen_of play.table.board) play.table.stations.items play.rest play.callers) past
+        → entries_of trace.log ≡ past) }
 {
     let Play {
         table,

@@ -1,16 +1,24 @@
 //! A run that is played on one thread, act after act.
-ghost use Rattle.std.specs.Prelude.{◌≡◌, ◌≤◌, ◌<◌, ◌^◌, [], length, IfErr, IfOk, MatchOption, OnOk};
-ghost use Rattle.std.specs.Prelude.{⊤};
+ghost use Rattle.std.specs.Prelude.{◌≡◌, ◌≤◌, ◌<◌, ◌^◌, List, [], length, IfErr, IfOk, MatchOption};
+ghost use Rattle.std.specs.Prelude.{None, OnOk, replicate, ⊤};
 ghost use Rattle.mn_base.specs.declared.ids.ClientNo.{ClientNo as ClientNumber};
 ghost use Rattle.mn_mini.specs.RecordGrammar.{IsTid};
 ghost use Rattle.mn_script.specs.Script.{IsAct};
+ghost use Rattle.mn_world.specs.Calls.{issues_of};
+ghost use Rattle.mn_world.specs.declared.entry.Entry.{Entry};
 ghost use Rattle.mn_world.specs.Protocol.{Start, run_number, start_nodes, start_of};
+ghost use Rattle.mn_replay.specs.Acts.{as_role};
 ghost use Rattle.mn_replay.specs.Begins.{AreNewClients, AreNewDesks};
 ghost use Rattle.mn_replay.specs.Causes.{IsCaused};
-ghost use Rattle.mn_replay.specs.Clients.{IsClient, IsOfRun};
+ghost use Rattle.mn_replay.specs.Clients.{IsClient, IsOfRun, last_shared, past_of};
 ghost use Rattle.mn_replay.specs.Desks.{IsDesk};
+ghost use Rattle.mn_replay.specs.Follows.{IsPlayed};
+ghost use Rattle.mn_replay.specs.Logs.{AreFreeIfSound, GoesAs, HasLog, IsFresh, Settles, works_of};
 ghost use Rattle.mn_replay.specs.Plays.{AreCallers, AreReady, HaveNumbers, IsOfSome, IsPlay};
 ghost use Rattle.mn_replay.specs.Plays.{StayReady, StaysPlay, list_by, play_of};
+ghost use Rattle.mn_replay.specs.Recoveries.{bench_of};
+ghost use Rattle.mn_replay.specs.Schedule.{DoesAct, DoesActs, DoesMove, DoesWork, HaltsNode, IsOfClient};
+ghost use Rattle.mn_replay.specs.Schedule.{RecoversFor, RestartsNode, acts_of, last_acts, role_of};
 ghost use Rattle.mn_replay.specs.Settled.{AreSettled};
 ghost use Rattle.mn_replay.specs.Turn.{GoesOn, IsTurn, seen_of, turn_of};
 
@@ -84,6 +92,7 @@ impl Callers {
             → IfOk result (AreReady start script.now) }
         ensures empty { (c : ClientNumber) → IfOk result (λ callers. list_by callers c ≡ []) }
         ensures numbers { IfOk result HaveNumbers }
+        ensures idle { IfOk result (λ callers. works_of callers ≡ replicate 4 None) }
         ensures few { IfOk result (λ callers. length callers.clients.items ≤ 16) }
         ensures desks { IfOk result (λ callers. length callers.desks.items ≡ 4) }
     {
@@ -137,6 +146,8 @@ fn make_move<N: Named, D: Disk>(
         (turn_of (seen_of table.new.board) table.new.stations.items pass.new caller.new.list) }
     ensures client { OnOk result (IsClient (start_of N.records) points.now caller.new) }
     ensures of_run { IsOfRun (start_of N.records) points.now caller.new }
+    ensures does { OnOk result (DoesMove what (as_role points.now caller.old.list.client ops.now)
+        (past_of caller.old) (past_of caller.new)) }
 {
     match what {
         Move::Step => caller.step(alloc, table, pass, points, ops),
@@ -165,6 +176,9 @@ fn work<N: Named, D: Disk>(
         (seen_of table.old.board) table.old.stations.items pass.old desk.old.list)
         (turn_of (seen_of table.new.board) table.new.stations.items pass.new desk.new.list) }
     ensures desk { IsDesk (start_of N.records) desk.new }
+    ensures does { OnOk result ((es : List Entry) → shared ≡ last_shared (issues_of es)
+        → DoesWork to_the_end (length N.records) desk.old.list.client es (bench_of desk.old)
+        (bench_of desk.new)) }
 {
     if to_the_end {
         desk.recover(alloc, table, pass, shared)
@@ -191,6 +205,11 @@ impl<N: Named, D: Disk> Play<N, D> {
             (play_of (seen_of self.new.table.board) self.new.table.stations.items self.new.rest
             self.new.callers) }
         ensures ready { OnOk result (AreReady (start_of N.records) script.now self.new.callers) }
+        ensures does { OnOk result (GoesAs
+            (IsOfClient client (DoesMove what (role_of script.now client)))
+            (play_of (seen_of self.old.table.board) self.old.table.stations.items self.old.rest
+            self.old.callers) (play_of (seen_of self.new.table.board) self.new.table.stations.items
+            self.new.rest self.new.callers)) }
     {
         let at = usize::from(client.0);
         let ops = script.clients()[at].ops.as_slice();
@@ -223,6 +242,11 @@ impl<N: Named, D: Disk> Play<N, D> {
             self.old.callers) (play_of (seen_of self.new.table.board) self.new.table.stations.items
             self.new.rest self.new.callers) }
         ensures ready { StayReady (start_of N.records) self.old.callers self.new.callers }
+        ensures does { OnOk result (GoesAs
+            (RecoversFor (length N.records) recoverer client to_the_end)
+            (play_of (seen_of self.old.table.board) self.old.table.stations.items self.old.rest
+            self.old.callers) (play_of (seen_of self.new.table.board) self.new.table.stations.items
+            self.new.rest self.new.callers)) }
     {
         let shared = self.callers.clients[usize::from(client.0)].shared();
         let at = recoverer - 1;
@@ -248,6 +272,11 @@ impl<N: Named, D: Disk> Play<N, D> {
             self.old.callers) (play_of (seen_of self.new.table.board) self.new.table.stations.items
             self.new.rest self.new.callers) }
         ensures ready { StayReady (start_of N.records) self.old.callers self.new.callers }
+        ensures does { OnOk result (GoesAs
+            (HaltsNode node)
+            (play_of (seen_of self.old.table.board) self.old.table.stations.items self.old.rest
+            self.old.callers) (play_of (seen_of self.new.table.board) self.new.table.stations.items
+            self.new.rest self.new.callers)) }
     {
         let mut pass = self
             .table
@@ -271,6 +300,10 @@ impl<N: Named, D: Disk> Play<N, D> {
             self.old.callers) (play_of (seen_of self.new.table.board) self.new.table.stations.items
             self.new.rest self.new.callers) }
         ensures ready { StayReady (start_of N.records) self.old.callers self.new.callers }
+        ensures does { GoesAs (RestartsNode node)
+            (play_of (seen_of self.old.table.board) self.old.table.stations.items self.old.rest
+            self.old.callers) (play_of (seen_of self.new.table.board) self.new.table.stations.items
+            self.new.rest self.new.callers) }
     {
         let mut pass = self
             .table
@@ -294,6 +327,11 @@ impl<N: Named, D: Disk> Play<N, D> {
             (play_of (seen_of self.new.table.board) self.new.table.stations.items self.new.rest
             self.new.callers) }
         ensures ready { OnOk result (AreReady (start_of N.records) script.now self.new.callers) }
+        ensures does { OnOk result (GoesAs
+            (DoesAct script.now act)
+            (play_of (seen_of self.old.table.board) self.old.table.stations.items self.old.rest
+            self.old.callers) (play_of (seen_of self.new.table.board) self.new.table.stations.items
+            self.new.rest self.new.callers)) }
     {
         match act {
             Act::Step { client } => self.client_turn(alloc, script, client, Move::Step),
@@ -324,6 +362,11 @@ impl<N: Named, D: Disk> Play<N, D> {
             (play_of (seen_of self.new.table.board) self.new.table.stations.items self.new.rest
             self.new.callers) }
         ensures ready { OnOk result (AreReady (start_of N.records) script.now self.new.callers) }
+        ensures does { OnOk result (GoesAs
+            (DoesActs script.now script.now.schedule)
+            (play_of (seen_of self.old.table.board) self.old.table.stations.items self.old.rest
+            self.old.callers) (play_of (seen_of self.new.table.board) self.new.table.stations.items
+            self.new.rest self.new.callers)) }
     {
         for act in script.schedule() {
             self.act(alloc, script, *act)?;
@@ -340,6 +383,11 @@ impl<N: Named, D: Disk> Play<N, D> {
         ensures play { IsPlay N.board (start_of N.records) script.now
             (play_of (seen_of self.new.table.board) self.new.table.stations.items self.new.rest
             self.new.callers) }
+        ensures does { OnOk result (GoesAs
+            (DoesActs script.now (last_acts script.now))
+            (play_of (seen_of self.old.table.board) self.old.table.stations.items self.old.rest
+            self.old.callers) (play_of (seen_of self.new.table.board) self.new.table.stations.items
+            self.new.rest self.new.callers)) }
     {
         let count = script.clients().len();
         for at in 0..count {
@@ -357,6 +405,11 @@ impl<N: Named, D: Disk> Play<N, D> {
         ensures play { IsPlay N.board (start_of N.records) script.now
             (play_of (seen_of self.new.table.board) self.new.table.stations.items self.new.rest
             self.new.callers) }
+        ensures does { OnOk result (GoesAs
+            (DoesActs script.now (acts_of script.now))
+            (play_of (seen_of self.old.table.board) self.old.table.stations.items self.old.rest
+            self.old.callers) (play_of (seen_of self.new.table.board) self.new.table.stations.items
+            self.new.rest self.new.callers)) }
     {
         self.do_schedule(alloc, script)?;
         self.finish(alloc, script)
@@ -372,8 +425,16 @@ impl<N: Named, D: Disk> Play<N, D> {
             self.old.callers) (play_of (seen_of self.new.table.board) self.new.table.stations.items
             self.new.rest self.new.callers) }
         ensures ready { StayReady (start_of N.records) self.old.callers self.new.callers }
+        ensures does { OnOk result (GoesAs
+            (Settles)
+            (play_of (seen_of self.old.table.board) self.old.table.stations.items self.old.rest
+            self.old.callers) (play_of (seen_of self.new.table.board) self.new.table.stations.items
+            self.new.rest self.new.callers)) }
         ensures settled { OnOk result
             (AreSettled (length N.records) self.new.table.stations.items) }
+        ensures free { OnOk result ((past : List Entry) → HasLog
+            (play_of (seen_of self.new.table.board) self.new.table.stations.items self.new.rest
+            self.new.callers) past → AreFreeIfSound (start_of N.records) past) }
         ensures caused { IfErr result
             (IsCaused D.faults N.faults N.honest self.new.table.stations.items) }
     {
@@ -386,6 +447,7 @@ impl<N: Named, D: Disk> Play<N, D> {
             .closer
             .settle(alloc, &mut self.table, &mut pass);
         self.table.board.join(&mut self.rest, pass);
+        self.table.made();
         done
     }
 
@@ -400,6 +462,12 @@ impl<N: Named, D: Disk> Play<N, D> {
             self.new.callers) }
         ensures settled { OnOk result
             (AreSettled (length N.records) self.new.table.stations.items) }
+        ensures follows { IsFresh
+            (play_of (seen_of self.old.table.board) self.old.table.stations.items self.old.rest
+            self.old.callers) → OnOk result ((past : List Entry) × HasLog
+            (play_of (seen_of self.new.table.board) self.new.table.stations.items self.new.rest
+            self.new.callers) past
+            × IsPlayed (AreFreeIfSound (start_of N.records)) script.now past) }
         ensures caused { IfErr result
             (IsCaused D.faults N.faults N.honest self.new.table.stations.items) }
     {

@@ -6,9 +6,11 @@ ghost use Rattle.mn_actors.specs.Lines.{IsActor};
 ghost use Rattle.mn_actors.specs.Lists.{held};
 ghost use Rattle.mn_actors.specs.Sight.{board_of, clients_of, id_of, nodes_of, view_of};
 ghost use Rattle.mn_world.specs.Protocol.{run_number, start_of};
+ghost use Rattle.mn_world.specs.Run.{entries_of};
 ghost use Rattle.mn_replay.specs.Ended.{HoldsNodes, OwnsNodes, SameCallers};
 ghost use Rattle.mn_replay.specs.Failed.{FailsSo};
 ghost use Rattle.mn_replay.specs.Begins.{AreBare, HoldsEmpty};
+ghost use Rattle.mn_replay.specs.Follows.{Follows};
 ghost use Rattle.mn_replay.specs.Plays.{NamesGiven};
 ghost use Rattle.mn_replay.specs.Trace.{IsTrace, MayBegin, start_on};
 ghost use Rattle.mn_replay.specs.Turn.{AreStations, callers_count};
@@ -22,7 +24,7 @@ use mn_cell::{Named, Refused, RunFailed, Station, Trace};
 use mn_io::Disk;
 use mn_node::Node;
 use mn_script::Script;
-use mn_world::CoreLaw;
+use mn_world::{CoreLaw, records_stay_sound, runs_follow_protocol};
 use std::alloc::Global;
 use std::marker::Brand;
 
@@ -91,9 +93,13 @@ fn play_on<N: Named, D: Disk>(
     requires run { run ≡ run_number (start_of N.records) }
     ensures trace { IfOk result (λ trace. IsTrace D.state D.faults nodes.items trace.nodes.items
         trace.log) }
+    ensures follows { IfOk result (λ trace. Follows (start_on nodes.items) script.now
+        (entries_of trace.log)) }
     ensures failed { IfErr result (λ failed. FailsSo D.state D.faults nodes.items
         failed.nodes.items failed.log failed.cause) }
 {
+    runs_follow_protocol();
+    records_stay_sound();
     let mut nodes = nodes;
     let mut rest = all;
     let Ok(callers) = Callers::new(alloc, script, run) else {
@@ -133,6 +139,8 @@ pub fn replay<D: Disk>(
     requires run { run ≡ run_number (start_on nodes.items) }
     ensures trace { IfOk result (λ trace. IsTrace D.state D.faults nodes.items trace.nodes.items
         trace.log) }
+    ensures follows { IfOk result (λ trace. Follows (start_on nodes.items) script.now
+        (entries_of trace.log)) }
     ensures failed { IfErr result (λ failed. FailsSo D.state D.faults nodes.items
         failed.nodes.items failed.log failed.cause) }
 {

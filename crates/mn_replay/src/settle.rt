@@ -1,5 +1,5 @@
 //! What the coordinator does that opens and closes a run.
-ghost use Rattle.std.specs.Prelude.{◌≡◌, ◌<◌, ◌++◌, false, IfErr, IfOk, OnErr, OnOk, None, Some};
+ghost use Rattle.std.specs.Prelude.{◌≡◌, ◌<◌, ◌++◌, false, IfErr, IfOk, OnOk, None, Some};
 ghost use Rattle.std.specs.Prelude.{Contains, length, map};
 ghost use Rattle.std.specs.List.{AllByRecursion};
 ghost use Rattle.mn_base.specs.declared.ids.NodeNo.{NodeNo as Numbered};
@@ -15,7 +15,7 @@ ghost use Rattle.mn_world.specs.Protocol.{base_at, start_of};
 ghost use Rattle.mn_world.specs.Run.{entries_of};
 ghost use Rattle.mn_replay.specs.Causes.{IsCaused, cause_of};
 ghost use Rattle.mn_replay.specs.Closing.{AllExtend, AreHeldIn, IsClosing, IsDone, IsDoneTo};
-ghost use Rattle.mn_replay.specs.Closing.{calls_left, failure_of};
+ghost use Rattle.mn_replay.specs.Closing.{ClosesOn, calls_left, failure_of};
 ghost use Rattle.mn_replay.specs.Desks.{IsOfRecovery, IsRecoveryCall, IsWork};
 ghost use Rattle.mn_replay.specs.Doings.{HasAnswered, IsAnswer, IsDownAs, OthersStay};
 ghost use Rattle.mn_replay.specs.Failed.{closer};
@@ -89,6 +89,8 @@ impl Closer {
         ensures goes_on { GoesOn (turn_of
             (seen_of table.old.board) table.old.stations.items pass.old self.old.list)
             (turn_of (seen_of table.new.board) table.new.stations.items pass.new self.new.list) }
+        ensures closes { OnOk result (ClosesOn (entries_of self.old.list.entries)
+            (entries_of self.new.list.entries)) }
         ensures others { OthersStay node table.old.stations.items table.new.stations.items }
         ensures up { OnOk result (IsDownAs false table.new.stations.items node) }
         ensures caused { IfErr result
@@ -114,6 +116,8 @@ impl Closer {
         ensures goes_on { GoesOn (turn_of
             (seen_of table.old.board) table.old.stations.items pass.old self.old.list)
             (turn_of (seen_of table.new.board) table.new.stations.items pass.new self.new.list) }
+        ensures closes { OnOk result (ClosesOn (entries_of self.old.list.entries)
+            (entries_of self.new.list.entries)) }
         ensures up { OnOk result (AllUp table.new.stations.items) }
         ensures caused { IfErr result
             (IsCaused D.faults N.faults N.honest table.new.stations.items) }
@@ -145,6 +149,8 @@ impl Closer {
         ensures goes_on { GoesOn (turn_of
             (seen_of table.old.board) table.old.stations.items pass.old self.old.list)
             (turn_of (seen_of table.new.board) table.new.stations.items pass.new self.new.list) }
+        ensures closes { OnOk result (ClosesOn (entries_of self.old.list.entries)
+            (entries_of self.new.list.entries)) }
         ensures answers { IfOk result IsAnswer }
         ensures fits { IfOk result (Fits request) }
         ensures said { IfOk result (λ reply.
@@ -182,6 +188,8 @@ impl Closer {
         ensures goes_on { GoesOn (turn_of
             (seen_of table.old.board) table.old.stations.items pass.old self.old.list)
             (turn_of (seen_of table.new.board) table.new.stations.items pass.new self.new.list) }
+        ensures closes { OnOk result (ClosesOn (entries_of self.old.list.entries)
+            (entries_of self.new.list.entries)) }
         ensures up { OnOk result (AllUp table.new.stations.items) }
         ensures listed { IfOk result
             (λ doubts. doubts ≡ doubts_of (held_parts (records_at table.new.stations.items node))) }
@@ -217,6 +225,8 @@ impl Closer {
         ensures goes_on { GoesOn (turn_of
             (seen_of table.old.board) table.old.stations.items pass.old self.old.list)
             (turn_of (seen_of table.new.board) table.new.stations.items pass.new self.new.list) }
+        ensures closes { OnOk result (ClosesOn (entries_of self.old.list.entries)
+            (entries_of self.new.list.entries)) }
         ensures up { OnOk result (AllUp table.new.stations.items) }
         ensures held { OnOk result (AreHeldIn tids.new.items
             (records_at table.new.stations.items node)) }
@@ -250,6 +260,8 @@ impl Closer {
         ensures goes_on { GoesOn (turn_of
             (seen_of table.old.board) table.old.stations.items pass.old self.old.list)
             (turn_of (seen_of table.new.board) table.new.stations.items pass.new self.new.list) }
+        ensures closes { OnOk result (ClosesOn (entries_of self.old.list.entries)
+            (entries_of self.new.list.entries)) }
         ensures up { OnOk result (AllUp table.new.stations.items) }
         ensures held { IfOk result (λ tids. (n : Numbered) → n.0 < length N.records
             → AreHeldIn tids.items (records_at table.new.stations.items n)) }
@@ -290,6 +302,8 @@ impl Closer {
         ensures goes_on { GoesOn (turn_of
             (seen_of table.old.board) table.old.stations.items pass.old self.old.list)
             (turn_of (seen_of table.new.board) table.new.stations.items pass.new self.new.list) }
+        ensures closes { OnOk result (ClosesOn (entries_of self.old.list.entries)
+            (entries_of self.new.list.entries)) }
         ensures tid { work.new.tid ≡ work.old.tid }
         ensures up { OnOk result (AllUp table.new.stations.items) }
         ensures work { OnOk result (IsWork (start_of N.records) self.new.list work.new) }
@@ -327,6 +341,8 @@ impl Closer {
         ensures goes_on { GoesOn (turn_of
             (seen_of table.old.board) table.old.stations.items pass.old self.old.list)
             (turn_of (seen_of table.new.board) table.new.stations.items pass.new self.new.list) }
+        ensures closes { OnOk result (ClosesOn (entries_of self.old.list.entries)
+            (entries_of self.new.list.entries)) }
         ensures up { OnOk result (AllUp table.new.stations.items) }
         ensures extends { OnOk result
             (AllExtend table.old.stations.items table.new.stations.items) }
@@ -361,6 +377,8 @@ impl Closer {
         ensures goes_on { GoesOn (turn_of
             (seen_of table.old.board) table.old.stations.items pass.old self.old.list)
             (turn_of (seen_of table.new.board) table.new.stations.items pass.new self.new.list) }
+        ensures closes { OnOk result (ClosesOn (entries_of self.old.list.entries)
+            (entries_of self.new.list.entries)) }
         ensures up { OnOk result (AllUp table.new.stations.items) }
         ensures extends { OnOk result
             (AllExtend table.old.stations.items table.new.stations.items) }
@@ -391,6 +409,8 @@ impl Closer {
         ensures goes_on { GoesOn (turn_of
             (seen_of table.old.board) table.old.stations.items pass.old self.old.list)
             (turn_of (seen_of table.new.board) table.new.stations.items pass.new self.new.list) }
+        ensures closes { OnOk result (ClosesOn (entries_of self.old.list.entries)
+            (entries_of self.new.list.entries)) }
         ensures list { IsOfRecovery (start_of N.records) self.new.list }
         ensures settled { OnOk result (AreSettled (length N.records) table.new.stations.items) }
         ensures caused { IfErr result

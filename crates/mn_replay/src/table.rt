@@ -1,17 +1,16 @@
 //! What the actors of a run share: its board, and the stations of its nodes.
-ghost use Rattle.std.specs.Prelude.{◌≡◌, ◌≢◌, ◌≤◌, ◌<◌, ◌+◌, ◌++◌, ◌∷◌, ◌^◌, [], Some, None, IfOk};
-ghost use Rattle.std.specs.Prelude.{IfErr, length, true, false};
-ghost use Rattle.std.specs.Prelude.{◌⊎◌, Bool, OnErr, OnOk, slice_get};
-ghost use Rattle.mn_base.specs.declared.ids.NodeNo.{NodeNo as Numbered};
-ghost use Rattle.mn_cell.specs.Calls.{IsUndamaged, KeepsStop, MaySend, entry_at, what_said};
+ghost use Rattle.std.specs.Prelude.{◌≡◌, ◌≢◌, ◌≤◌, ◌<◌, ◌+◌, None, IfErr, OnErr, OnOk};
+ghost use Rattle.std.specs.Prelude.{length, true, false};
+ghost use Rattle.mn_cell.specs.Calls.{KeepsStop, MaySend, entry_at, what_said};
 ghost use Rattle.mn_cell.specs.Promises.{IsOwedAt, decided_by};
 ghost use Rattle.mn_mini.specs.Sound.{Fits, IsSoundRequest};
-ghost use Rattle.mn_world.specs.declared.entry.What.TheVariants.{Stopped, Restarted};
 ghost use Rattle.mn_world.specs.Run.{IsLegalBy, entries_of};
 ghost use Rattle.mn_replay.specs.Turn.{AreStations, GoesOn, IsTurn, seen_of, turn_of};
 ghost use Rattle.mn_replay.specs.Steps.{Adds, Keeps, own_entry};
 ghost use Rattle.mn_replay.specs.Causes.{IsCaused, cause_of};
-ghost use Rattle.mn_replay.specs.Doings.{HasAnswered, IsAnswer, IsDownAs, OthersStay};
+ghost use Rattle.mn_replay.specs.Doings.{Halts, HasAnswered, IsAnswer, IsDownAs, OthersStay};
+ghost use Rattle.mn_replay.specs.Doings.{Restarts};
+ghost use Rattle.mn_replay.specs.Ended.{AllHaveMade};
 ghost use Rattle.mn_replay.specs.Failed.{closer};
 ghost use Rattle.mn_world.specs.Protocol.{base_at, start_of};
 ghost use Rattle.mn_cell.specs.declared.trace.RunCause.{RunCause};
@@ -122,11 +121,12 @@ impl<N: Named, D: Disk> Table<N, D> {
         ensures goes_on { GoesOn (turn_of
             (seen_of self.old.board) self.old.stations.items pass.old list.old)
             (turn_of (seen_of self.new.board) self.new.stations.items pass.new list.new) }
-        ensures halts { OnOk result (Keeps list.old list.new
-            ⊎ Adds (entry_at node list.old.client (Stopped None None)) list.old list.new) }
+        ensures halts { Halts node self.old.stations.items result list.old list.new }
         ensures none { OnErr result (Keeps list.old list.new) }
     {
+        // Whether the node is up shows by what its station has made.
         let station = &mut self.stations[usize::from(node.0)];
+        station.made();
         station.halt(&self.board, pass, list)?;
         Ok(())
     }
@@ -148,10 +148,9 @@ impl<N: Named, D: Disk> Table<N, D> {
         ensures goes_on { GoesOn (turn_of
             (seen_of self.old.board) self.old.stations.items pass.old list.old)
             (turn_of (seen_of self.new.board) self.new.stations.items pass.new list.new) }
-        ensures restarts { OnOk result
-            (Keeps list.old list.new ⊎ ((kept : Bool)
-            × Adds (entry_at node list.old.client (Restarted kept)) list.old list.new)) }
+        ensures restarts { Restarts node self.old.stations.items result list.old list.new }
         ensures none { OnErr result (Keeps list.old list.new) }
+        ensures was_down { OnErr result (IsDownAs true self.old.stations.items node) }
         ensures failed { IfErr result
             (λ e. IsCaused D.faults N.faults N.honest self.new.stations.items (cause_of node e)) }
         ensures others { OthersStay node self.old.stations.items self.new.stations.items }
@@ -165,6 +164,16 @@ impl<N: Named, D: Disk> Table<N, D> {
                 station.made();
                 Err(error)
             }
+        }
+    }
+
+    /// What each station knows of its node.
+    pub fn made(&self)
+        ensures { AllHaveMade D.state D.faults (start_of N.records) N.faults N.honest
+            self.now.stations.items }
+    {
+        for station in &self.stations {
+            station.made();
         }
     }
 

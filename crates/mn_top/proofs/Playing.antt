@@ -16,6 +16,7 @@ use Rattle.mn_node.specs.State.{NodeState}
 use Rattle.mn_node.proofs.Steps.{rose_later}
 use Rattle.mn_redo.specs.Redo.{StandsFor}
 use Rattle.mn_replay.specs.Failed.{FailsSo, HadOther, HasCause, IsRunOn, TellsRun}
+use Rattle.mn_replay.specs.Follows.{Follows}
 use Rattle.mn_replay.specs.Trace.{AreHandedBack, IsHandedBack, IsQuiet, IsTrace, StartsSound, start_on}
 use Rattle.mn_script.specs.Script.{Script}
 use Rattle.mn_world.specs.declared.entry.Entry.{Entry}
@@ -184,8 +185,8 @@ module _ {D : Type 0} (state : D → DiskState) (faults : D → ℕ) (given : Li
     failed_so log runs.NoMemory none (past, run) = inr (past, has_run log past run, inr none)
 
     -- a run that is done
-    told_so : (log : List (ℕ × Entry)) → IsTrace state faults nodes after log → (due : Due) → IsToldOf (start_of records) store script (entries_of log) due → ComesTo state faults (record { script = script; given = given; left = left; log = log }) due
-    told_so log trace (Report text) (report, audit, spelled) =
+    told_so : (log : List (ℕ × Entry)) → IsTrace state faults nodes after log → Follows (start_on nodes) script (entries_of log) → (due : Due) → IsToldOf (start_of records) store script (entries_of log) due → ComesTo state faults (record { script = script; given = given; left = left; log = log }) due
+    told_so log trace follows (Report text) (report, audit, spelled) =
         let so = same_run log (trace.run, trace.back) in
         let quiet = subst (λ (s : Start). StartsSound s → IsQuiet s (entries_of log)) start_same trace.quiet made.opened.sound in
         record {
@@ -195,23 +196,24 @@ module _ {D : Type 0} (state : D → DiskState) (faults : D → ℕ) (given : Li
           opened = made.opened;
           numbered_so = made.numbered_so;
           run = so.0;
+          follows = subst (λ (s : Start). Follows s script (entries_of log)) start_same follows;
           report = report;
           audit = audit;
           printed = spelled;
           quiet = quiet;
           disks = λ k old new was at. (left_at (entries_of log) so.1 k old new was at, up_at (entries_of log) so.1 quiet.0 k old new was at);
         }
-    told_so log trace NoMemory told = inr (log, has_run log log (trace.run, trace.back), inl refl)
-    told_so log trace (DiskFault n) told = absurd told
-    told_so log trace (Damaged n place rule) told = absurd told
-    told_so log trace Usage told = absurd told
-    told_so log trace (Refused row column) told = absurd told
-    told_so log trace ReadFault told = absurd told
-    told_so log trace (Disks told wanted) is_told = absurd is_told
-    told_so log trace Unbuilt told = absurd told
+    told_so log trace follows NoMemory told = inr (log, has_run log log (trace.run, trace.back), inl refl)
+    told_so log trace follows (DiskFault n) told = absurd told
+    told_so log trace follows (Damaged n place rule) told = absurd told
+    told_so log trace follows Usage told = absurd told
+    told_so log trace follows (Refused row column) told = absurd told
+    told_so log trace follows ReadFault told = absurd told
+    told_so log trace follows (Disks told wanted) is_told = absurd is_told
+    told_so log trace follows Unbuilt told = absurd told
 
-    pub played : (log : List (ℕ × Entry)) (due : Due) → IsTrace state faults nodes after log → IsToldOf (start_on nodes) store script (entries_of log) due → ComesTo state faults (record { script = script; given = given; left = left; log = log }) due
-    played log due trace told = told_so log trace due (subst (λ (s : Start). IsToldOf s store script (entries_of log) due) start_same told)
+    pub played : (log : List (ℕ × Entry)) (due : Due) → IsTrace state faults nodes after log → Follows (start_on nodes) script (entries_of log) → IsToldOf (start_on nodes) store script (entries_of log) due → ComesTo state faults (record { script = script; given = given; left = left; log = log }) due
+    played log due trace follows told = told_so log trace follows due (subst (λ (s : Start). IsToldOf s store script (entries_of log) due) start_same told)
 
     pub failed : (log : List (ℕ × Entry)) (cause : RunCause) → FailsSo state faults nodes after log cause → ComesTo state faults (record { script = script; given = given; left = left; log = log }) (due_of_failing cause)
     failed log cause fails = failed_so log cause fails.cause_is fails.told

@@ -11,6 +11,7 @@ use Rattle.mn_io.specs.Faults.{Rose}
 use Rattle.mn_mini.specs.declared.record.Record.{Record}
 use Rattle.mn_node.specs.Node.{StandsWithOrWithout, bodies_of}
 use Rattle.mn_redo.specs.Redo.{StandsFor}
+use Rattle.mn_replay.specs.Follows.{Follows}
 use Rattle.mn_replay.specs.Trace.{IsQuiet}
 use Rattle.mn_report.specs.declared.report.Report.{Report}
 use Rattle.mn_report.specs.Report.{report_text}
@@ -65,6 +66,8 @@ pub record IsReplayed {D : Type 0} (state : D → DiskState) (faults : D → ℕ
   pub numbered_so : HasNumber (start_of records)
   -- however proxies, nodes, crashes, restarts and recovery coordinators interleave
   pub run : IsLogOfRun (start_of records) log
+  -- as the script says
+  pub follows : Follows (start_of records) script (entries_of log)
   -- the operations that took effect or were replied to are, in commit order, one legal history, and
   -- printed answers are that history's
   pub report : Report

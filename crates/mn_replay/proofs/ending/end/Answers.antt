@@ -12,7 +12,8 @@ use Rattle.mn_world.specs.Protocol.{start_of}
 use Rattle.mn_replay.specs.Ended.{AreLists, HoldsNodes}
 use Rattle.mn_replay.specs.Plays.{list_by}
 use Rattle.mn_replay.specs.Turn.{callers_count}
-use Rattle.mn_replay.proofs.Merging.{ends, one_log, owns_all}
+use Rattle.mn_replay.proofs.Acting.{if_ok}
+use Rattle.mn_replay.proofs.Merging.{ends, log_merged, one_log, owns_all}
 use Rattle.mn_replay.proofs.ending.end.Goals as goal
 
 pub close-requires-clause-all : goal.close-requires-clause-all
@@ -54,3 +55,22 @@ result_of-requires g c =
     let one = one_log callers lists (view_of c.take_apart.new.all) holds owns (nodes_of board) (clients_of board) count rests.table.2 clients c.close.result listed c.close.ensures in
     ends g.D.Disk.state g.D.Disk.faults (start_of g.N.Named.records) g.N.Named.faults g.N.Named.honest stations callers c.take_apart.new.nodes.items lists clients rests.stations
     c.take_apart.ensures.nodes are c.take_apart.ensures.made listed rests.of_run c.args.played c.requires.settled c.requires.caused c.parts_make_run.ensures c.close.result one c.merge.result (c.merge.ensures c.close.result one)
+
+pub returns-clause-log : goal.returns-clause-log
+returns-clause-log g c =
+    let board = c.args.play.table.board in
+    let rests = c.requires.rests in
+    let callers = c.args.play.callers in
+    let stations : List (StationState g.row.D.Denot) = c.args.play.table.stations.items in
+    let lists : List (List (ℕ × Entry)) = c.from_vec.result in
+    let clients : List ClientState = c.from_vec-2.result in
+    let are : lists ≡ map (λ (s : StationState g.row.D.Denot). s.list) stations = c.from_vec.ensures ∙ c.take_apart.ensures.lists in
+    let holds = subst (λ (l : List (List (ℕ × Entry))). HoldsNodes (view_of c.take_apart.new.all) l) (sym c.from_vec.ensures) c.take_apart.ensures.holds in
+    let listed = subst (λ (l : List ClientState). AreLists callers l) (sym c.from_vec-2.ensures) c.take_lists.ensures in
+    let owns : (k : ClientNo) → k.0 < callers_count → held (view_of c.take_apart.new.all) (Client k) ≡ Some (list_by callers k) = λ k below. c.take_apart.ensures.callers k ∙ rests.owns k below in
+    let count : nodes_of board ≡ length lists = rests.table.1 ∙ sym (ap (λ (l : List (List (ℕ × Entry))). length l) are ∙ (length-map stations (λ (s : StationState g.row.D.Denot). s.list) ∙ rests.stations.count)) in
+    let one = one_log callers lists (view_of c.take_apart.new.all) holds owns (nodes_of board) (clients_of board) count rests.table.2 clients c.close.result listed c.close.ensures in
+    if_ok c.result_of.result (log_merged g.D.Disk.state g.D.Disk.faults (start_of g.N.Named.records) g.N.Named.faults g.N.Named.honest stations callers c.take_apart.new.nodes.items lists clients rests.stations
+    c.take_apart.ensures.nodes are c.take_apart.ensures.made listed rests.of_run c.args.played c.requires.settled c.requires.caused c.parts_make_run.ensures c.close.result one (λ t. t.log) c.result_of.result c.merge.result
+    (view_of c.args.play.rest).known (c.merge.ensures c.close.result one) c.result_of.ensures.log)
+    (λ t so past has. so past has.trail has.past_is)

@@ -1,7 +1,5 @@
-use Rattle.std.proofs.Common.{◌≡◌, ℕ, List, sym, ◌∙◌, subst, arith}
-use Rattle.std.specs.Prelude.{slice_get}
+use Rattle.std.proofs.Common.{List, sym, ◌∙◌, subst, arith}
 use Rattle.mn_script.specs.declared.elements.Point.{Point}
-use Rattle.mn_world.specs.Protocol.{Start}
 use Rattle.mn_replay.specs.declared.client.Client.{Client}
 use Rattle.mn_replay.specs.Begins.{AreNewClients, IsNewClient}
 use Rattle.mn_replay.specs.Clients.{IsClient}

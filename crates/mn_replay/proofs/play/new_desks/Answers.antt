@@ -1,4 +1,4 @@
-use Rattle.std.proofs.Common.{◌≡◌, ℕ, List, sym, ◌∙◌, subst, arith}
+use Rattle.std.proofs.Common.{List, sym, subst, arith}
 use Rattle.mn_replay.specs.declared.desk.Desk.{Desk}
 use Rattle.mn_replay.specs.Begins.{AreNewDesks, IsNewDesk}
 use Rattle.mn_replay.proofs.Beginning.{pushed}
@@ -11,6 +11,7 @@ loop-at-preserved c =
     let fresh : IsNewDesk c.loop-at.at made = record {
       number = c.new.ensures.list.0;
       empty = c.new.ensures.list.1;
+      idle = c.new.ensures.idle;
       is_desk = c.new.ensures.desk;
     } in
     record {

@@ -1,11 +1,17 @@
-use Rattle.std.proofs.Common.{◌≡◌, [], List, length, refl, sym, ap, ◌∙◌, subst}
+use Rattle.std.proofs.Common.{[], List, length, OnOk, refl, sym, ap, ◌∙◌, subst}
 use Rattle.mn_actors.specs.Sight.{clients_of, nodes_of, view_of}
+use Rattle.mn_mini.specs.declared.record.Record.{Record}
 use Rattle.mn_node.specs.State.{NodeState}
+use Rattle.mn_world.specs.declared.entry.Entry.{Entry}
 use Rattle.mn_world.specs.Protocol.{start_of}
 use Rattle.mn_replay.specs.Failed.{IsRunOn}
+use Rattle.mn_replay.specs.Follows.{IsPlayed}
+use Rattle.mn_replay.specs.Logs.{AreFreeIfSound, HasLog}
 use Rattle.mn_replay.specs.Plays.{play_of}
+use Rattle.mn_replay.specs.Trace.{IsTrace, start_on}
 use Rattle.mn_replay.specs.Turn.{callers_count, seen_of}
-use Rattle.mn_replay.proofs.Opening.{all_back, as_named, first_play, holds_empty, not_begun}
+use Rattle.mn_replay.proofs.Opening.{all_back, as_named, first_play, fresh_play, holds_empty, not_begun}
+use Rattle.mn_replay.proofs.Scheduled.{told_follows}
 use Rattle.mn_replay.proofs.replaying.play_on.Goals as goal
 
 pub returns-in_default-clause-failed : goal.returns-in_default-clause-failed
@@ -49,3 +55,18 @@ pub play-played-requires-clause-ready : goal.play-played-requires-clause-ready
 play-played-requires-clause-ready g c =
     let count = as_named g.D.Disk.state g.D.Disk.faults g.N.Named.records g.N.Named.faults g.N.Named.honest c.args.script.now.nodes c.args.nodes.items c.requires.named c.requires.nodes in
     c.in-Ok.ensures.ready (start_of g.N.Named.records) c.requires.run (sym count)
+
+pub returns-clause-follows : goal.returns-clause-follows
+returns-clause-follows g c =
+    let given = c.args.nodes.items in
+    let script = c.args.script.now in
+    let made = c.in-Ok-stations_of.ensures in
+    let callers = c.in-Ok.ensures in
+    let first = play_of (seen_of c.args.board) c.in-Ok-stations_of.stations.items c.stations_of.new.all c.in-Ok.callers in
+    let ended = c.play-played.new.self in
+    let last = play_of (seen_of ended.table.board) ended.table.stations.items ended.rest ended.callers in
+    let fresh = fresh_play first made.bare callers.empty callers.idle in
+    told_follows (start_on given) script (λ t. t.log) c.end.result c.play-played.result (λ past. HasLog last past)
+    (λ t. IsTrace g.D.Disk.state g.D.Disk.faults given t.nodes.items t.log)
+    c.runs_follow_protocol.ensures c.records_stay_sound.ensures (c.end.ensures.trace given c.requires.named) (λ t is. is.run.run) c.end.ensures.done c.end.ensures.log
+    (subst (λ (rs : List (List Record)). OnOk c.play-played.result ((past : List Entry) × HasLog last past × IsPlayed (AreFreeIfSound (start_of rs)) script past)) c.requires.named.records_are (c.play-played.ensures.follows fresh))

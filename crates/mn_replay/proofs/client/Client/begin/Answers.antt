@@ -1,7 +1,11 @@
-use Rattle.std.proofs.Common.{sym, ◌∙◌}
+use Rattle.std.proofs.Common.{◌+◌, sym, ◌∙◌}
+use Rattle.mn_world.specs.declared.entry.What.TheVariants.{Begin}
 use Rattle.mn_world.specs.Protocol.{start_of}
 use Rattle.mn_replay.proofs.Turns.{goes_further, goes_nowhere}
-use Rattle.mn_replay.proofs.ClientSteps.{on_error}
+use Rattle.mn_replay.specs.Clients.{past_of}
+use Rattle.mn_replay.specs.Steps.{own_entry}
+use Rattle.mn_replay.proofs.ClientActs.{begins_op}
+use Rattle.mn_replay.proofs.ClientSteps.{longer, on_error, on_ok}
 use Rattle.mn_replay.proofs.ClientCalls.{begin_allowed, begun_steps, unbegun_run}
 use Rattle.mn_replay.proofs.client.Client.begin.Goals as goal
 
@@ -25,3 +29,13 @@ returns-in_err-op-clause-goes_on g c = goes_nowhere _
 pub returns-in_err-add-clause-of_run : goal.returns-in_err-add-clause-of_run
 returns-in_err-add-clause-of_run g c =
     on_error c.from_residual-in_err-add.result _ (unbegun_run (start_of g.N.Named.records) c.args.points.now c.args.self.now c.add.new.self c.add.ensures.same c.in_err-add.ensures.none c.requires.client.run)
+
+pub returns-clause-begins : goal.returns-clause-begins
+returns-clause-begins g c =
+    let old = c.args.self.now in
+    let mid = c.add.new.self in
+    let new = c.go_on.new.self in
+    let adds = c.in_ok-add.ensures.added in
+    on_ok c.go_on.result _ _
+    (λ goes. begins_op old.list.client mid.list.client c.args.op.now c.in_ok-op.op old.begun (past_of old) (past_of mid) (past_of new) c.requires.client.run.begun c.in_ok-op.ensures adds.client
+    (longer (own_entry old.list.client (Begin (old.begun + 1) c.in_ok-op.op)) old.list mid.list adds) goes) c.go_on.ensures.own

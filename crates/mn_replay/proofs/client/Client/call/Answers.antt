@@ -2,7 +2,10 @@ use Rattle.std.proofs.Common.{subst, sym, ◌∙◌}
 use Rattle.mn_proxy.specs.State.{IsOut, ProxyState}
 use Rattle.mn_world.specs.Protocol.{start_of}
 use Rattle.mn_replay.specs.declared.client.Client.{Client}
+use Rattle.mn_replay.specs.Clients.{past_of}
 use Rattle.mn_replay.proofs.Turns.{goes_further, goes_nowhere}
+use Rattle.mn_replay.proofs.ClientActs.{calls_last, calls_none, calls_on}
+use Rattle.mn_replay.proofs.ClientSteps.{on_ok}
 use Rattle.mn_replay.proofs.ClientCalls.{dead_client, due_alive, fed_steps, lives_by, none_taken, waits}
 use Rattle.mn_replay.proofs.client.Client.call.Goals as goal
 
@@ -50,3 +53,19 @@ go_on-requires-clause-steps g c =
 
 pub returns-clause-goes_on : goal.returns-clause-goes_on
 returns-clause-goes_on g c = goes_further _ _ _ c.send-reply.ensures.goes_on c.go_on.ensures.goes_on
+
+pub returns-in_default-clause-calls : goal.returns-in_default-clause-calls
+returns-in_default-clause-calls g c = λ ops.
+    calls_none (start_of g.N.Named.records) c.args.points.now c.args.self.now c.requires.client ops (sym c.take.ensures.value ∙ c.in_default.is)
+
+pub returns-then-has_died-clause-calls : goal.returns-then-has_died-clause-calls
+returns-then-has_died-clause-calls g c = λ ops.
+    let send = c.send-reply.ensures in
+    calls_last (start_of g.N.Named.records) c.args.points.now c.args.self.now c.requires.client c.in-Some.field-0 (sym c.take.ensures.value ∙ c.in-Some.is) c.take.new.self c.send-reply.new.self c.send-reply.result send.run send.client send.answer send.none ops
+
+pub returns-clause-calls : goal.returns-clause-calls
+returns-clause-calls g c =
+    let send = c.send-reply.ensures in
+    on_ok c.go_on.result _ _
+    (calls_on (start_of g.N.Named.records) c.args.points.now c.args.self.now c.requires.client c.in-Some.field-0 (sym c.take.ensures.value ∙ c.in-Some.is) c.take.new.self c.send-reply.new.self c.send-reply.result send.run send.client send.answer send.none
+    (sym c.has_died.ensures ∙ c.if-has_died.false) (past_of c.go_on.new.self)) c.go_on.ensures.own

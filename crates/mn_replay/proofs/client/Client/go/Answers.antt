@@ -1,3 +1,8 @@
+use Rattle.std.proofs.Common.{◌≡◌, true, not, sym, ap, ◌∙◌}
+use Rattle.mn_world.specs.Protocol.{start_of}
+use Rattle.mn_replay.specs.Acts.{CallsOnce, CallsUntil, CallsWhile, as_role, is_at_work}
+use Rattle.mn_replay.specs.Clients.{past_of}
+use Rattle.mn_replay.proofs.ClientActs.{at_work, calls_more, has_work_as, of_same, works_not, works_so}
 use Rattle.mn_replay.proofs.Turns.{goes_further, goes_nowhere}
 use Rattle.mn_replay.proofs.client.Client.go.Goals as goal
 
@@ -20,7 +25,7 @@ pub returns-in_err-begin_if_idle-clause-of_run : goal.returns-in_err-begin_if_id
 returns-in_err-begin_if_idle-clause-of_run g c = c.in_err-begin_if_idle.ensures.of_run
 
 pub loop-init : goal.loop-init
-loop-init g c = record { turn = c.begin_if_idle.ensures.turn; goes_on = c.begin_if_idle.ensures.goes_on; client = c.in_ok-begin_if_idle.ensures.client }
+loop-init g c = record { turn = c.begin_if_idle.ensures.turn; goes_on = c.begin_if_idle.ensures.goes_on; client = c.in_ok-begin_if_idle.ensures.client; calls = CallsWhile.none }
 
 pub returns-then-not-is_at_work-clause-of_run : goal.returns-then-not-is_at_work-clause-of_run
 returns-then-not-is_at_work-clause-of_run g c = c.loop.invariant.client.run
@@ -32,7 +37,43 @@ pub returns-in_err-call-clause-of_run : goal.returns-in_err-call-clause-of_run
 returns-in_err-call-clause-of_run g c = c.in_err-call.ensures.of_run
 
 pub loop-preserved : goal.loop-preserved
-loop-preserved g c = record { turn = c.call.ensures.turn; goes_on = goes_further _ _ _ c.loop.invariant.goes_on c.call.ensures.goes_on; client = c.in_ok-call.ensures.client }
+loop-preserved g c =
+    let old = c.args.self.now in
+    let now = c.loop.self in
+    let new = c.call.new.self in
+    let points = c.args.points.now in
+    let ops = c.args.ops.now in
+    let role = as_role points old.list.client ops in
+    let same = c.loop.invariant.goes_on.client in
+    let works : is_at_work role (past_of now) ≡ true = of_same (λ r. is_at_work r (past_of now) ≡ true) points now.list.client old.list.client ops same
+    (at_work (start_of g.N.Named.records) points now c.loop.invariant.client ops ∙ (sym c.is_at_work.ensures ∙ c.if-not-is_at_work.false)) in
+    record {
+      turn = c.call.ensures.turn;
+      goes_on = goes_further _ _ _ c.loop.invariant.goes_on c.call.ensures.goes_on;
+      client = c.in_ok-call.ensures.client;
+      calls = calls_more role (λ now. not (is_at_work role now)) (past_of c.begin_if_idle.new.self) (past_of now) (past_of new) c.loop.invariant.calls (ap not works) works
+          (of_same (λ r. CallsOnce r (past_of now) (past_of new)) points now.list.client old.list.client ops same (c.in_ok-call.ensures.calls ops));
+    }
 
 pub returns-clause-of_run : goal.returns-clause-of_run
 returns-clause-of_run g c = c.loop.invariant.client.run
+
+pub returns-then-not-has_work-clause-does : goal.returns-then-not-has_work-clause-does
+returns-then-not-has_work-clause-does g c =
+    let old = c.args.self.now in
+    let role = as_role c.args.points.now old.list.client c.args.ops.now in
+    works_not role (CallsUntil role (λ now. not (is_at_work role now))) (past_of old) (has_work_as (start_of g.N.Named.records) c.args.points.now c.args.self.now c.requires.client c.args.ops.now c.has_work.result _ c.has_work.ensures.is c.if-not-has_work.true)
+
+pub returns-then-not-is_at_work-clause-does : goal.returns-then-not-is_at_work-clause-does
+returns-then-not-is_at_work-clause-does g c =
+    let old = c.args.self.now in
+    let mid = c.begin_if_idle.new.self in
+    let now = c.loop.self in
+    let points = c.args.points.now in
+    let ops = c.args.ops.now in
+    let role = as_role points old.list.client ops in
+    works_so role (CallsUntil role (λ now. not (is_at_work role now))) (past_of old) (past_of mid) (past_of now) (has_work_as (start_of g.N.Named.records) c.args.points.now c.args.self.now c.requires.client c.args.ops.now c.has_work.result _ c.has_work.ensures.is c.if-not-has_work.false) c.in_ok-begin_if_idle.ensures.under_way (
+      c.loop.invariant.calls,
+      of_same (λ r. not (is_at_work r (past_of now)) ≡ true) points now.list.client old.list.client ops c.loop.invariant.goes_on.client
+          (ap not (at_work (start_of g.N.Named.records) points now c.loop.invariant.client ops ∙ (sym c.is_at_work.ensures ∙ c.if-not-is_at_work.true))),
+    )

@@ -3,11 +3,12 @@ use Rattle.mn_world.specs.Protocol.{start_of}
 use Rattle.mn_replay.specs.declared.client.Went.{Went}
 use Rattle.mn_replay.specs.Going.{HasGone}
 use Rattle.mn_replay.proofs.Turns.{goes_further, goes_nowhere}
+use Rattle.mn_replay.proofs.ClientActs.{by_more, by_none}
 use Rattle.mn_replay.proofs.ClientSteps.{steps_list, steps_rest, still_steps}
 use Rattle.mn_replay.proofs.client.Client.go_on.Goals as goal
 
 pub loop-init : goal.loop-init
-loop-init g c = record { turn = c.requires.turn; goes_on = goes_nowhere _; steps = c.requires.steps }
+loop-init g c = record { turn = c.requires.turn; goes_on = goes_nowhere _; steps = c.requires.steps; own = by_none _ _ }
 
 pub own_step-requires-clause-list : goal.own_step-requires-clause-list
 own_step-requires-clause-list g c = steps_list (start_of g.N.Named.records) c.args.points.now c.loop.self c.loop.invariant.steps
@@ -32,4 +33,8 @@ loop-preserved g c =
       turn = c.own_step.ensures.turn;
       goes_on = goes_further _ _ _ c.loop.invariant.goes_on c.own_step.ensures.goes_on;
       steps = still_steps start c.args.points.now c.loop.self new c.loop.invariant.steps c.own_step.ensures.list c.own_step.ensures.points (subst (λ (w : Went). HasGone start new w) c.in-On.is c.in_ok-own_step.ensures.went);
+      own = by_more _ _ _ _ _ c.loop.invariant.goes_on.client c.loop.invariant.own c.in_ok-own_step.ensures.own;
     }
+
+pub returns-in-Rests-clause-own : goal.returns-in-Rests-clause-own
+returns-in-Rests-clause-own g c = by_more _ _ _ _ _ c.loop.invariant.goes_on.client c.loop.invariant.own c.in_ok-own_step.ensures.own

@@ -1,13 +1,15 @@
 use Rattle.std.proofs.Common.{length}
 use Rattle.mn_world.specs.Protocol.{start_of}
-use Rattle.mn_replay.specs.Clients.{IsAtSteps}
+use Rattle.mn_replay.specs.Acts.{GoesByItself}
+use Rattle.mn_replay.specs.Clients.{IsAtSteps, past_of}
 use Rattle.mn_replay.specs.Turn.{GoesOn, IsTurn, seen_of, turn_of}
 use Rattle.mn_replay.proofs.client.Client.go_on.Given as goal
 
--- its proxy is to be asked again
+-- its proxy is to be asked again, after steps of its own
 abbrev pub invariant-loop : goal.invariant-loop
 invariant-loop g l = record {
   turn : IsTurn g.N.Named.board (length g.N.Named.records) (turn_of (seen_of l.table.board) l.table.stations.items l.pass l.self.list);
   goes_on : GoesOn (turn_of (seen_of l.fn.table.board) l.fn.table.stations.items l.fn.pass l.fn.self.list) (turn_of (seen_of l.table.board) l.table.stations.items l.pass l.self.list);
   steps : IsAtSteps (start_of g.N.Named.records) l.points l.self;
+  own : GoesByItself l.fn.self.list.client (past_of l.fn.self) (past_of l.self);
 }

@@ -1,4 +1,4 @@
-use Rattle.std.proofs.Common.{None, ℕ, refl, ap, ◌∙◌}
+use Rattle.std.proofs.Common.{None, false, ℕ, refl, ap, ◌∙◌}
 use Rattle.mn_proxy.specs.State.{new_proxy}
 use Rattle.mn_world.specs.Protocol.{run_number}
 use Rattle.mn_replay.specs.declared.client.Client.{Client}
@@ -7,6 +7,6 @@ use Rattle.mn_replay.proofs.client.Client.new.Goals as goal
 
 pub returns-clause-client : goal.returns-clause-client
 returns-clause-client c = λ start run nodes.
-    let made : Client = record { list = c.new.result; proxy = c.in_ok-new.field-0; begun = 0; due = None; shared = None; met = c.in_ok-none_met.field-0 } in
-    first_client start c.args.points.now made c.args.client c.new.ensures refl refl refl c.in_ok-none_met.ensures
+    let made : Client = record { list = c.new.result; proxy = c.in_ok-new.field-0; begun = 0; due = None; shared = None; is_plan = false; met = c.in_ok-none_met.field-0 } in
+    first_client start c.args.points.now made c.args.client c.new.ensures refl refl refl refl c.in_ok-none_met.ensures
     (c.in_ok-new.ensures.starts ∙ (ap (λ (n : ℕ). new_proxy c.args.client n c.args.nodes) run ∙ ap (λ (n : ℕ). new_proxy c.args.client (run_number start) n) nodes)) c.in_ok-new.ensures.agrees

@@ -1,6 +1,7 @@
+use Rattle.std.proofs.Common.{refl}
 use Rattle.mn_world.specs.Protocol.{start_of}
 use Rattle.mn_replay.specs.Clients.{past_of}
-use Rattle.mn_replay.proofs.ClientSteps.{answered_rests, handed_out, want_makes}
+use Rattle.mn_replay.proofs.ClientSteps.{handed_out, want_makes}
 use Rattle.mn_replay.proofs.client.Client.own_step.Goals as goal
 
 pub take_step-requires-clause-step : goal.take_step-requires-clause-step
@@ -15,4 +16,4 @@ make-requires-clause-step g c =
     let old = c.args.self.now in
     let past = past_of old in
     let ready = c.requires.ready in
-    want_makes (start_of g.N.Named.records) old.list old.proxy c.next.new.self c.next.ensures.kept ready.0 old.begun ready.1 c.requires.list.begun (c.in-Err.ensures.want past ready.0.agrees) (λ new x. c.in-Err.ensures.left past new ready.0.agrees x)
+    (want_makes (start_of g.N.Named.records) old.list old.proxy c.next.new.self c.next.ensures.kept ready.0 old.begun ready.1 c.requires.list.begun (c.in-Err.ensures.want past ready.0.agrees) (λ new x. c.in-Err.ensures.left past new ready.0.agrees x), refl)

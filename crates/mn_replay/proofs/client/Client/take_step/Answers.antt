@@ -1,8 +1,9 @@
-use Rattle.std.proofs.Common.{subst}
+use Rattle.std.proofs.Common.{refl, subst}
 use Rattle.mn_proxy.specs.declared.step.ProxyStep.{ProxyStep}
 use Rattle.mn_world.specs.Protocol.{start_of}
 use Rattle.mn_replay.specs.Going.{MayTake}
 use Rattle.mn_replay.proofs.ClientSteps.{abandon_makes, answered_rests, call_due, done_makes, made_goes, made_on}
+use Rattle.mn_replay.proofs.ClientActs.{by_none}
 use Rattle.mn_replay.proofs.Turns.{goes_nowhere}
 use Rattle.mn_replay.proofs.client.Client.take_step.Goals as goal
 
@@ -19,7 +20,7 @@ pub make-requires-clause-step : goal.make-requires-clause-step
 make-requires-clause-step g c =
     let start = start_of g.N.Named.records in
     let old = c.args.self.now in
-    abandon_makes start old.list old.proxy c.in-Abandon.tid (subst (λ (s : ProxyStep). MayTake start old s) c.in-Abandon.is c.requires.step)
+    (abandon_makes start old.list old.proxy c.in-Abandon.tid (subst (λ (s : ProxyStep). MayTake start old s) c.in-Abandon.is c.requires.step), refl)
 
 pub returns-in_ok-make-in-Abandon-clause-went : goal.returns-in_ok-make-in-Abandon-clause-went
 returns-in_ok-make-in-Abandon-clause-went g c =
@@ -38,7 +39,7 @@ pub make-requires-in-Done-clause-step : goal.make-requires-in-Done-clause-step
 make-requires-in-Done-clause-step g c =
     let start = start_of g.N.Named.records in
     let old = c.args.self.now in
-    done_makes start old.list old.proxy c.in-Done.answer old.begun c.requires.list.begun (subst (λ (s : ProxyStep). MayTake start old s) c.in-Done.is c.requires.step)
+    (done_makes start old.list old.proxy c.in-Done.answer old.begun c.requires.list.begun (subst (λ (s : ProxyStep). MayTake start old s) c.in-Done.is c.requires.step), refl)
 
 pub returns-in_ok-make-in-Done-clause-went : goal.returns-in_ok-make-in-Done-clause-went
 returns-in_ok-make-in-Done-clause-went g c =
@@ -48,3 +49,6 @@ returns-in_ok-make-in-Done-clause-went g c =
 
 pub returns-in-Call-clause-goes_on : goal.returns-in-Call-clause-goes_on
 returns-in-Call-clause-goes_on g c = goes_nowhere _
+
+pub returns-in-Call-clause-own : goal.returns-in-Call-clause-own
+returns-in-Call-clause-own g c = by_none _ _

@@ -1,7 +1,9 @@
-use Rattle.std.proofs.Common.{ap}
+use Rattle.std.proofs.Common.{ℕ, true, false, ap, ◌∙◌, inr, length}
 use Rattle.mn_world.specs.Lists.{ClientState}
 use Rattle.mn_world.specs.Protocol.{start_of}
+use Rattle.mn_replay.specs.Recoveries.{bench_of, work_of}
 use Rattle.mn_replay.specs.Turn.{seen_of, turn_of}
+use Rattle.mn_replay.proofs.Recoveries.{asked_next, asked_none}
 use Rattle.mn_replay.proofs.Turns.{goes_further, goes_same, turn_same}
 use Rattle.mn_replay.proofs.desk.Desk.recover.Goals as goal
 
@@ -18,6 +20,8 @@ loop-init g c =
     record {
       turn = turn_same t _ _ c.requires.turn _ client entries;
       goes_on = goes_same t _ client entries;
+      does = λ es is. asked_none (length g.N.Named.records) c.args.self.now.list.client es c.args.self.now.list c.take_work.new.self.list c.args.self.now.work c.take_work.new.self.work c.take_work.ensures.list
+          (c.in_ok-take_work.ensures.work es is ∙ ap (λ (n : ℕ). work_of n c.args.self.now.work es) c.nodes.ensures.count);
       desk = c.take_work.ensures.desk (start_of g.N.Named.records) c.nodes.ensures.count c.requires.desk;
     }
 
@@ -28,5 +32,10 @@ pub loop-preserved : goal.loop-preserved
 loop-preserved g c = record {
   turn = c.call.ensures.turn;
   goes_on = goes_further _ _ _ c.loop.invariant.goes_on c.call.ensures.goes_on;
+  does = λ es is. inr (asked_next (length g.N.Named.records) c.args.self.now.list.client es (bench_of c.args.self.now) (bench_of c.loop.self) (bench_of c.call.new.self) c.loop.self.list.client c.call.result true (c.loop.invariant.does es is) c.loop.invariant.goes_on.client c.if-not-call.false c.call.ensures.asks);
   desk = c.call.ensures.desk;
 }
+
+pub returns-then-not-call-clause-does : goal.returns-then-not-call-clause-does
+returns-then-not-call-clause-does g c = λ es is.
+    asked_next (length g.N.Named.records) c.args.self.now.list.client es (bench_of c.args.self.now) (bench_of c.loop.self) (bench_of c.call.new.self) c.loop.self.list.client c.call.result false (c.loop.invariant.does es is) c.loop.invariant.goes_on.client c.if-not-call.true c.call.ensures.asks

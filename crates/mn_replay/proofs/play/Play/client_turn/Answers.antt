@@ -1,14 +1,18 @@
-use Rattle.std.proofs.Common.{◌∙◌, ℕ, List, refl, sym, ap, subst, arith}
-use Rattle.std.specs.Prelude.{slice_set}
+use Rattle.std.proofs.Common.{◌∙◌, ◌<◌, ℕ, List, length, refl, sym, ap, subst, arith}
+use Rattle.std.specs.Prelude.{slice_get, slice_set}
 use Rattle.std.specs.Vec.{with_item}
 use Rattle.mn_actors.specs.Sight.{board_of, view_of}
 use Rattle.mn_script.specs.declared.elements.Point.{Point}
+use Rattle.mn_script.specs.declared.elements.ScriptClient.{ScriptClient}
 use Rattle.mn_world.specs.Protocol.{start_of}
 use Rattle.mn_replay.specs.declared.play.Callers.{Callers}
-use Rattle.mn_replay.specs.Clients.{IsClient, IsOfRun}
+use Rattle.mn_replay.specs.Acts.{Role, as_role}
+use Rattle.mn_replay.specs.Clients.{IsClient, IsOfRun, past_of}
+use Rattle.mn_replay.specs.Logs.{GoesAs}
 use Rattle.mn_replay.specs.Plays.{AreReady, play_of}
 use Rattle.mn_replay.specs.Turn.{seen_of, turn_of}
-use Rattle.mn_replay.proofs.Acting.{client_begins, client_ends, met_at, ok_then}
+use Rattle.mn_replay.specs.Schedule.{DoesMove, IsOfClient, role_of}
+use Rattle.mn_replay.proofs.Acting.{client_begins, client_ends, client_goes, client_turn, met_at, ok_then, role_same}
 use Rattle.mn_replay.proofs.Replacing.{client_ready}
 use Rattle.mn_replay.proofs.play.Play.client_turn.Goals as goal
 
@@ -39,12 +43,44 @@ returns-clause-play g c =
     let state = play_of (seen_of p.table.board) p.table.stations.items p.rest p.callers in
     let table = c.make_move-done.new.table in
     let caller = c.make_move-done.new.caller in
-    client_ends g.N.Named.board start state c.requires.play.rests c.args.client.0 c.index_mut-caller.result.now there c.args.script.now c.requires.play
-    (play_of (seen_of table.board) table.stations.items c.join.new.into (record { clients = with_item p.callers.clients c.from-at.result caller; desks = p.callers.desks; closer = p.callers.closer }))
-    (view_of c.split-pass.new.from) (view_of c.split-pass.result) (board_of c.split-pass.result) (turn_of (seen_of table.board) table.stations.items c.make_move-done.new.pass caller.list) caller
-    c.split-pass.ensures.view c.make_move-done.ensures.turn c.make_move-done.ensures.goes_on c.join.ensures.view (c.join.ensures.board ∙ c.split-pass.ensures.board.0) refl refl refl
-    (ap (λ (k : ℕ). slice_set p.callers.clients.items k caller) c.from-at.ensures) refl refl
-    (subst (λ (points : List Point). IsOfRun start points caller) c.points-points.ensures.value c.make_move-done.ensures.of_run)
+    let turn = turn_of (seen_of table.board) table.stations.items c.make_move-done.new.pass caller.list in
+    let items = ap (λ (k : ℕ). slice_set p.callers.clients.items k caller) c.from-at.ensures in
+    let of_run = subst (λ (points : List Point). IsOfRun start points caller) c.points-points.ensures.value c.make_move-done.ensures.of_run in
+    let after = play_of (seen_of table.board) table.stations.items c.join.new.into (record { clients = with_item p.callers.clients c.from-at.result caller; desks = p.callers.desks; closer = p.callers.closer }) in
+    let of = client_turn g.N.Named.board start state c.requires.play.rests c.args.client.0 c.index_mut-caller.result.now there after
+    (view_of c.split-pass.new.from) (view_of c.split-pass.result) (board_of c.split-pass.result) turn caller
+    c.split-pass.ensures.view c.make_move-done.ensures.turn c.make_move-done.ensures.goes_on c.join.ensures.view (c.join.ensures.board ∙ c.split-pass.ensures.board.0) refl refl refl items refl refl of_run.of_run in
+    client_ends g.N.Named.board start state c.requires.play.rests c.args.client.0 c.index_mut-caller.result.now there c.args.script.now c.requires.play after
+    (view_of c.split-pass.new.from) (view_of c.split-pass.result) (board_of c.split-pass.result) turn caller of items refl refl of_run
+
+pub returns-clause-does : goal.returns-clause-does
+returns-clause-does g c =
+    let count = c.requires.play.callers.count in
+    let asked = c.requires.client in
+    let there = met_at c.args.self.now.callers.clients.items c.args.client.0 c.from-at.result c.index_mut-caller.result.now (omega arith) c.from-at.ensures c.index_mut-caller.ensures.value in
+    let p = c.args.self.now in
+    let start = start_of g.N.Named.records in
+    let state = play_of (seen_of p.table.board) p.table.stations.items p.rest p.callers in
+    let table = c.make_move-done.new.table in
+    let caller = c.make_move-done.new.caller in
+    let turn = turn_of (seen_of table.board) table.stations.items c.make_move-done.new.pass caller.list in
+    let items = ap (λ (k : ℕ). slice_set p.callers.clients.items k caller) c.from-at.ensures in
+    let of_run = subst (λ (points : List Point). IsOfRun start points caller) c.points-points.ensures.value c.make_move-done.ensures.of_run in
+    let after = play_of (seen_of table.board) table.stations.items c.join.new.into (record { clients = with_item p.callers.clients c.from-at.result caller; desks = p.callers.desks; closer = p.callers.closer }) in
+    let of = client_turn g.N.Named.board start state c.requires.play.rests c.args.client.0 c.index_mut-caller.result.now there after
+    (view_of c.split-pass.new.from) (view_of c.split-pass.result) (board_of c.split-pass.result) turn caller
+    c.split-pass.ensures.view c.make_move-done.ensures.turn c.make_move-done.ensures.goes_on c.join.ensures.view (c.join.ensures.board ∙ c.split-pass.ensures.board.0) refl refl refl items refl refl of_run.of_run in
+    let role = role_same c.args.script.now c.points-points.result.now c.args.client c.index_mut-caller.result.now.list.client c.as_slice-ops.result.now c.index-clients-at.result c.points-points.ensures.value
+    (c.requires.play.rests.numbers.clients c.args.client.0 c.index_mut-caller.result.now there)
+    (ap (λ (l : List ScriptClient). slice_get l c.args.client.0) (sym c.clients.ensures.value) ∙ met_at c.clients.result.now c.args.client.0 c.from-at.result c.index-clients-at.result
+    (subst (λ (l : List ScriptClient). c.args.client.0 < length l) (sym c.clients.ensures.value) c.requires.client) c.from-at.ensures c.index-clients-at.is)
+    (c.as_slice-ops.ensures ∙ ap (λ (k : ScriptClient). k.ops) (sym c.index-clients-at.is)) in
+    let does = DoesMove c.args.what (role_of c.args.script.now c.args.client) in
+    ok_then c.make_move-done.result (DoesMove c.args.what (as_role c.points-points.result.now c.index_mut-caller.result.now.list.client c.as_slice-ops.result.now) (past_of c.index_mut-caller.result.now) (past_of caller)) (GoesAs (IsOfClient c.args.client does) state after)
+    (λ so. client_goes g.N.Named.board start state c.requires.play.rests c.args.client.0 c.index_mut-caller.result.now there does after
+    (view_of c.split-pass.new.from) (view_of c.split-pass.result) (board_of c.split-pass.result) turn of refl
+    (subst (λ (a : Role). DoesMove c.args.what a (past_of c.index_mut-caller.result.now) (past_of caller)) role so))
+    c.make_move-done.ensures.does
 
 pub returns-clause-ready : goal.returns-clause-ready
 returns-clause-ready g c =

@@ -1,9 +1,10 @@
 use Rattle.std.proofs.Common.{refl, ◌∙◌}
 use Rattle.mn_actors.specs.Sight.{board_of, view_of}
 use Rattle.mn_world.specs.Protocol.{start_of}
+use Rattle.mn_replay.specs.Schedule.{RestartsNode}
 use Rattle.mn_replay.specs.Plays.{play_of}
 use Rattle.mn_replay.specs.Turn.{seen_of, turn_of}
-use Rattle.mn_replay.proofs.CloserTurns.{closer_begins, closer_ends, closer_owns, closer_recovery, restart_recovery}
+use Rattle.mn_replay.proofs.CloserTurns.{closer_begins, closer_ends, closer_goes, closer_owns, closer_turn, closer_recovery, restart_recovery, restarts_log}
 use Rattle.mn_replay.proofs.play.Play.restart.Goals as goal
 
 pub split-pass-requires-clause-owns : goal.split-pass-requires-clause-owns
@@ -21,8 +22,23 @@ returns-clause-play g c =
     let start = start_of g.N.Named.records in
     let state = play_of (seen_of p.table.board) p.table.stations.items p.rest p.callers in
     let table = c.restart-done.new.self in
-    closer_ends g.N.Named.board start state c.requires.play
-    (play_of (seen_of table.board) table.stations.items c.join.new.into (record { clients = p.callers.clients; desks = p.callers.desks; closer = record { list = c.restart-done.new.list } }))
-    (view_of c.split-pass.new.from) (view_of c.split-pass.result) (board_of c.split-pass.result) (turn_of (seen_of table.board) table.stations.items c.restart-done.new.pass c.restart-done.new.list)
-    c.split-pass.ensures.view c.restart-done.ensures.turn c.restart-done.ensures.goes_on c.join.ensures.view (c.join.ensures.board ∙ c.split-pass.ensures.board.0) refl refl refl refl refl
-    (restart_recovery start p.callers.closer.list c.restart-done.new.list c.args.node c.restart-done.result c.restart-done.ensures.restarts c.restart-done.ensures.none (closer_recovery g.N.Named.board start state c.requires.play))
+    let turn = turn_of (seen_of table.board) table.stations.items c.restart-done.new.pass c.restart-done.new.list in
+    let after = play_of (seen_of table.board) table.stations.items c.join.new.into (record { clients = p.callers.clients; desks = p.callers.desks; closer = record { list = c.restart-done.new.list } }) in
+    let recovery = restart_recovery start p.callers.closer.list c.restart-done.new.list c.args.node c.restart-done.result c.restart-done.ensures.restarts c.restart-done.ensures.none (closer_recovery g.N.Named.board start state c.requires.play) in
+    let of = closer_turn g.N.Named.board start state c.requires.play after (view_of c.split-pass.new.from) (view_of c.split-pass.result) (board_of c.split-pass.result) turn
+    c.split-pass.ensures.view c.restart-done.ensures.turn c.restart-done.ensures.goes_on c.join.ensures.view (c.join.ensures.board ∙ c.split-pass.ensures.board.0) refl refl refl refl refl recovery in
+    closer_ends g.N.Named.board start state c.requires.play after (view_of c.split-pass.new.from) (view_of c.split-pass.result) (board_of c.split-pass.result) turn of refl refl refl recovery
+
+pub returns-clause-does : goal.returns-clause-does
+returns-clause-does g c =
+    let p = c.args.self.now in
+    let start = start_of g.N.Named.records in
+    let state = play_of (seen_of p.table.board) p.table.stations.items p.rest p.callers in
+    let table = c.restart-done.new.self in
+    let turn = turn_of (seen_of table.board) table.stations.items c.restart-done.new.pass c.restart-done.new.list in
+    let after = play_of (seen_of table.board) table.stations.items c.join.new.into (record { clients = p.callers.clients; desks = p.callers.desks; closer = record { list = c.restart-done.new.list } }) in
+    let recovery = restart_recovery start p.callers.closer.list c.restart-done.new.list c.args.node c.restart-done.result c.restart-done.ensures.restarts c.restart-done.ensures.none (closer_recovery g.N.Named.board start state c.requires.play) in
+    let of = closer_turn g.N.Named.board start state c.requires.play after (view_of c.split-pass.new.from) (view_of c.split-pass.result) (board_of c.split-pass.result) turn
+    c.split-pass.ensures.view c.restart-done.ensures.turn c.restart-done.ensures.goes_on c.join.ensures.view (c.join.ensures.board ∙ c.split-pass.ensures.board.0) refl refl refl refl refl recovery in
+    closer_goes g.N.Named.board start state c.requires.play (RestartsNode c.args.node) after (view_of c.split-pass.new.from) (view_of c.split-pass.result) (board_of c.split-pass.result) turn of refl
+    (λ before later. restarts_log state after p.callers.closer.list c.restart-done.new.list before later c.args.node c.restart-done.result c.requires.play.1.rests.numbers.closer_is c.restart-done.ensures.restarts c.restart-done.ensures.none)

@@ -3,7 +3,7 @@ use Rattle.mn_world.specs.Protocol.{base_at, start_of}
 use Rattle.mn_replay.specs.Settled.{records_at}
 use Rattle.mn_replay.specs.Turn.{seen_of, turn_of}
 use Rattle.mn_replay.proofs.Advancing.{fed_on}
-use Rattle.mn_replay.proofs.Closing.{all_extend, closing_same}
+use Rattle.mn_replay.proofs.Closing.{all_extend, closes_further, closes_same, closing_same}
 use Rattle.mn_replay.proofs.Recovering.{sends_recovery, work_goes_on, work_same}
 use Rattle.mn_replay.proofs.Stations.{not_none}
 use Rattle.mn_replay.proofs.Turns.{goes_further, goes_same}
@@ -61,3 +61,6 @@ returns-clause-fewer g c =
     let ext = all_extend _ old new c.args.node c.args.request c.in_ok-reply.reply kind c.call.ensures.others said.answered in
     (fed_on _ c.args.work.now c.feed.new.self (base_at (start_of g.N.Named.records) c.args.node) (records_at old) (records_at new) ext c.args.node c.args.request c.in_ok-reply.reply said.answered.says said.answered.records said.fits
     c.requires.work.1 c.feed.ensures.fed c.requires.step c.requires.done).1
+
+pub returns-clause-closes : goal.returns-clause-closes
+returns-clause-closes g c = closes_further _ _ _ (closes_same c.args.self.now.list c.make_room.new.list c.make_room.ensures.entries) c.in_ok-reply.ensures.closes

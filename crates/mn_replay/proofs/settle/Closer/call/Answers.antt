@@ -1,7 +1,8 @@
 use Rattle.std.proofs.Common.{refl}
 use Rattle.mn_world.specs.Protocol.{start_of}
 use Rattle.mn_replay.specs.Turn.{seen_of, turn_of}
-use Rattle.mn_replay.proofs.Closing.{caused_by, closing_called, up_not_down}
+use Rattle.mn_replay.proofs.Closing.{caused_by, closes_called, closing_called, no_failure, up_not_down}
+use Rattle.mn_replay.proofs.Stations.{not_none}
 use Rattle.mn_replay.proofs.settle.Closer.call.Goals as goal
 
 pub returns-in-Some-clause-closing : goal.returns-in-Some-clause-closing
@@ -22,3 +23,8 @@ returns-in-Some-clause-caused g c =
     caused_by g.D.Disk.faults g.N.Named.faults g.N.Named.honest c.call-reply.new.self.stations.items c.args.node c.call-reply.result c.in-Some.cause c.in-Some.ensures
     (λ is. r.stopped is refl c.requires.closing.client)
     (λ is. up_not_down _ c.args.table.now.stations.items c.args.node c.requires.closing.turn.stations c.requires.node c.requires.up (r.was_down is))
+
+pub returns-in-None-clause-closes : goal.returns-in-None-clause-closes
+returns-in-None-clause-closes g c =
+    let answers = no_failure c.args.node c.call-reply.result c.in-None.ensures in
+    closes_called c.args.self.now.list c.call-reply.new.list c.args.node c.args.request c.call-reply.result answers (c.call-reply.ensures.said (not_none c.call-reply.result answers))

@@ -2,8 +2,9 @@ use Rattle.std.proofs.Common.{List, refl, sym, subst, arith}
 use Rattle.std.specs.List.{AllByRecursion}
 use Rattle.mn_base.specs.declared.ids.Tid.{Tid}
 use Rattle.mn_mini.specs.RecordGrammar.{IsTid}
+use Rattle.mn_world.specs.Run.{entries_of}
 use Rattle.mn_replay.specs.Settled.{records_at}
-use Rattle.mn_replay.proofs.Closing.{held_more, held_next, ids_kept}
+use Rattle.mn_replay.proofs.Closing.{closes_further, closes_nowhere, held_more, held_next, ids_kept}
 use Rattle.mn_replay.proofs.Turns.{goes_further, goes_nowhere}
 use Rattle.mn_replay.proofs.settle.Closer.held_ids.Goals as goal
 
@@ -11,6 +12,7 @@ pub loop-number-init : goal.loop-number-init
 loop-number-init g c = record {
   closing = c.requires.closing;
   goes_on = goes_nowhere _;
+  closes = closes_nowhere (entries_of c.args.self.now.list.entries);
   up = c.requires.up;
   ids = subst (λ (l : List Tid). AllByRecursion IsTid l) (sym c.new-tids.ensures.items) tt;
   held = λ k low. absurd (omega arith);
@@ -25,6 +27,7 @@ loop-number-preserved g c =
     record {
       closing = c.add_held.ensures.closing;
       goes_on = goes_further _ _ _ c.loop-number.invariant.goes_on c.add_held.ensures.goes_on;
+      closes = closes_further _ _ _ c.loop-number.invariant.closes r.closes;
       up = r.up;
       ids = r.ids;
       held = held_next c.loop-number.table.stations.items c.add_held.new.table.stations.items c.loop-number.tids.items c.add_held.new.tids.items c.loop-number.number c.loop-number.invariant.held r.more r.same r.held;

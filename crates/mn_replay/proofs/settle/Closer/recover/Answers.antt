@@ -1,7 +1,9 @@
 use Rattle.std.proofs.Common.{◌∙◌}
 use Rattle.mn_world.specs.Protocol.{start_of}
+use Rattle.mn_world.specs.Run.{entries_of}
 use Rattle.mn_replay.specs.Settled.{records_at}
 use Rattle.mn_replay.proofs.Advancing.{begins, over_done}
+use Rattle.mn_replay.proofs.Closing.{closes_further, closes_nowhere}
 use Rattle.mn_replay.proofs.Held.{extends_none, extends_twice}
 use Rattle.mn_replay.proofs.Turns.{goes_further, goes_nowhere}
 use Rattle.mn_replay.proofs.settle.Closer.recover.Goals as goal
@@ -19,6 +21,7 @@ loop-node-init g c =
     record {
       closing = c.requires.closing;
       goes_on = goes_nowhere _;
+      closes = closes_nowhere (entries_of old.entries);
       up = c.requires.up;
       extends = λ n. extends_none (records_at table n);
       tid = first.0;
@@ -35,6 +38,7 @@ loop-node-preserved g c =
     record {
       closing = c.advance.ensures.closing;
       goes_on = goes_further _ _ _ c.loop-node.invariant.goes_on c.advance.ensures.goes_on;
+      closes = closes_further _ _ _ c.loop-node.invariant.closes r.closes;
       up = r.up;
       extends = λ n. extends_twice (records_at first n) (records_at old n) (records_at new n) (c.loop-node.invariant.extends n) (r.extends n);
       tid = c.advance.ensures.tid ∙ c.loop-node.invariant.tid;

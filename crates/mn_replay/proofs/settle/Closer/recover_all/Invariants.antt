@@ -1,7 +1,8 @@
 use Rattle.std.proofs.Common.{◌≡◌, ◌<◌, ℕ, Some, length, slice_get}
 use Rattle.mn_base.specs.declared.ids.Tid.{Tid}
 use Rattle.mn_world.specs.Protocol.{start_of}
-use Rattle.mn_replay.specs.Closing.{AllExtend, IsClosing, IsDone}
+use Rattle.mn_world.specs.Run.{entries_of}
+use Rattle.mn_replay.specs.Closing.{AllExtend, ClosesOn, IsClosing, IsDone}
 use Rattle.mn_replay.specs.Settled.{AllUp, records_at}
 use Rattle.mn_replay.specs.Turn.{GoesOn, seen_of, turn_of}
 use Rattle.mn_replay.proofs.settle.Closer.recover_all.Given as goal
@@ -10,6 +11,7 @@ abbrev pub invariant-loop-tid : goal.invariant-loop-tid
 invariant-loop-tid g l = record {
   closing : IsClosing g.N.Named.board (start_of g.N.Named.records) (turn_of (seen_of l.table.board) l.table.stations.items l.pass l.self.list);
   goes_on : GoesOn (turn_of (seen_of l.fn.table.board) l.fn.table.stations.items l.fn.pass l.fn.self.list) (turn_of (seen_of l.table.board) l.table.stations.items l.pass l.self.list);
+  closes : ClosesOn (entries_of l.fn.self.list.entries) (entries_of l.self.list.entries);
   up : AllUp l.table.stations.items;
   extends : AllExtend l.fn.table.stations.items l.table.stations.items;
   done : (k : ℕ) (t : Tid) → k < l.tid-index → slice_get l.tids k ≡ Some t → IsDone (length g.N.Named.records) t (records_at l.table.stations.items);

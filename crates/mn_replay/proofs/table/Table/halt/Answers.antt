@@ -1,10 +1,13 @@
-use Rattle.std.proofs.Common.{◌≡◌, ◌++◌, ◌∷◌, [], None, Some, slice_get, ap, subst, inl, inr}
+use Rattle.std.proofs.Common.{◌≡◌, ◌++◌, ◌∷◌, [], None, Some, slice_get, ap, subst}
 use Rattle.mn_base.specs.declared.ids.NodeNo.{NodeNo}
 use Rattle.mn_actors.specs.Sight.{view_of}
 use Rattle.mn_cell.specs.Calls.{entry_at}
 use Rattle.mn_world.specs.declared.entry.What.TheVariants.{Stopped}
 use Rattle.mn_world.specs.Lists.{ClientState}
+use Rattle.mn_world.specs.Nodes.{is_down}
+use Rattle.mn_world.specs.Run.{entries_of}
 use Rattle.mn_replay.specs.Turn.{seen_of, turn_of}
+use Rattle.mn_replay.proofs.Doings.{by_halted, by_same, goes_by, in_both_ways, not_ok}
 use Rattle.mn_replay.proofs.Turns.{by_flag, goes_called, goes_still, is_among, its_number, read_there, turn_called}
 use Rattle.mn_replay.proofs.table.Table.halt.Goals as goal
 use Rattle.mn_replay.proofs.table.Table.halt.Goals.{After-index_mut-station}
@@ -41,11 +44,22 @@ returns-clause-goes_on g c =
 pub returns-clause-halts : goal.returns-clause-halts
 returns-clause-halts g c =
     let at = (goal.at.returns-clause-halts g c).After-index_mut-station in
-    by_flag c.in_ok-halt.field-0
-    (λ is. let ends = c.in_ok-halt.ensures.halted is in
-    inr (record {
+    let s = c.index_mut-station.result.now in
+    let r = c.in_ok-halt.ensures in
+    goes_by c.args.node c.args.self.now.stations.items c.from.result s (there g at) c.from.ensures
+    (by_same _ _ s.node.down (is_down (entries_of s.list)) c.made.ensures.down (by_halted s.node.down c.in_ok-halt.field-0 r.exactly
+    (λ is. let ends = r.halted is in
+    record {
       client = c.halt.ensures.client;
       place = ends.place;
       ends = subst (λ (n : NodeNo). c.halt.new.list.entries ≡ c.args.list.now.entries ++ (ends.place, entry_at n c.args.list.now.client (Stopped None None)) ∷ []) (number g at) ends.ends_client;
-    }))
-    (λ is. inl (record { client = c.halt.ensures.client; entries = ap (λ (l : ClientState). l.entries) (c.in_ok-halt.ensures.no_entry is).2 }))
+    })
+    (λ is. record { client = c.halt.ensures.client; entries = ap (λ (l : ClientState). l.entries) (r.no_entry is).2 })))
+
+pub returns-in_err-halt-clause-halts : goal.returns-in_err-halt-clause-halts
+returns-in_err-halt-clause-halts g c =
+    let at = (goal.at.returns-in_err-halt-clause-halts g c).After-index_mut-station in
+    let s = c.index_mut-station.result.now in
+    let r = c.from_residual.result in
+    let fails = c.from_residual.ensures.0 in
+    goes_by c.args.node c.args.self.now.stations.items c.from.result s (there g at) c.from.ensures (in_both_ways (is_down (entries_of s.list)) (not_ok r _ fails) (not_ok r _ fails))

@@ -1,4 +1,4 @@
-use Rattle.std.proofs.Common.{◌≡◌, ◌+◌, ◌++◌, ◌∷◌, [], Bool, Some, slice_get, sym, ap, ◌∙◌, subst, inl, inr}
+use Rattle.std.proofs.Common.{◌≡◌, ◌+◌, ◌++◌, ◌∷◌, [], Bool, Some, slice_get, sym, ap, ◌∙◌, subst}
 use Rattle.mn_base.specs.declared.ids.NodeNo.{NodeNo}
 use Rattle.mn_actors.specs.Sight.{view_of}
 use Rattle.mn_cell.specs.Calls.{EndsBoth, entry_at}
@@ -6,9 +6,11 @@ use Rattle.mn_cell.specs.Station.{RoseBy, unasked}
 use Rattle.mn_world.specs.declared.entry.What.TheVariants.{Restarted}
 use Rattle.mn_world.specs.Run.{entries_of}
 use Rattle.mn_world.specs.Lists.{ClientState}
+use Rattle.mn_world.specs.Nodes.{is_down}
 use Rattle.mn_world.specs.Protocol.{start_of}
 use Rattle.mn_replay.specs.Turn.{seen_of, turn_of}
-use Rattle.mn_replay.proofs.Stations.{caused, down_as, made_at, others_stay}
+use Rattle.mn_replay.proofs.Doings.{by_kept, by_same, goes_by, in_both_ways}
+use Rattle.mn_replay.proofs.Stations.{caused, down_as, made_at, others_stay, was_as}
 use Rattle.mn_replay.proofs.Turns.{by_option, goes_called, goes_still, is_among, its_number, read_there, turn_called}
 use Rattle.mn_replay.proofs.table.Table.restart.Goals as goal
 use Rattle.mn_replay.proofs.table.Table.restart.Goals.{After-index_mut-station}
@@ -50,9 +52,9 @@ returns-in-Ok-clause-restarts g c =
     let s = c.index_mut-station.result.now in
     let r = c.in-Ok.ensures in
     let ends = λ (kept : Bool). EndsBoth (view_of c.args.pass.now).known c.restart.new.self.known (view_of c.restart.new.pass).known (entry_at s.number c.args.list.now.client (Restarted kept)) s.list c.restart.new.self.list c.args.list.now.entries c.restart.new.list.entries in
-    by_option ends c.in-Ok._kept r.no_entry r.restarted
-    (λ same. inl (record { client = c.restart.ensures.client; entries = ap (λ (l : ClientState). l.entries) same.2 }))
-    (λ kept e. inr (
+    goes_by c.args.node c.args.self.now.stations.items c.from.result s (there g at) c.from.ensures
+    (by_same _ _ s.node.down (is_down (entries_of s.list)) c.made.ensures.down (by_kept ends s.node.down c.in-Ok._kept r.was_up r.was_down r.no_entry r.restarted
+    (λ kept e. (
       kept,
       record {
         client = c.restart.ensures.client;
@@ -60,6 +62,18 @@ returns-in-Ok-clause-restarts g c =
         ends = subst (λ (n : NodeNo). c.restart.new.list.entries ≡ c.args.list.now.entries ++ (e.place, entry_at n c.args.list.now.client (Restarted kept)) ∷ []) (number g at) e.ends_client;
       },
     ))
+    (λ same. record { client = c.restart.ensures.client; entries = ap (λ (l : ClientState). l.entries) same.2 })))
+
+pub returns-in-Err-clause-restarts : goal.returns-in-Err-clause-restarts
+returns-in-Err-clause-restarts g c =
+    let at = (goal.at.returns-in-Err-clause-restarts g c).After-index_mut-station in
+    let s = c.index_mut-station.result.now in
+    goes_by c.args.node c.args.self.now.stations.items c.from.result s (there g at) c.from.ensures (in_both_ways (is_down (entries_of s.list)) tt tt)
+
+pub returns-in-Err-clause-was_down : goal.returns-in-Err-clause-was_down
+returns-in-Err-clause-was_down g c =
+    let at = (goal.at.returns-in-Err-clause-was_down g c).After-index_mut-station in
+    was_as g.D.Disk.state g.D.Disk.faults (start_of g.N.Named.records) g.N.Named.faults g.N.Named.honest c.args.node c.args.self.now.stations.items c.from.result c.index_mut-station.result.now c.restart.new.self (there g at) c.from.ensures _ c.in-Err.ensures.failed.1
 
 pub returns-in-Ok-clause-others : goal.returns-in-Ok-clause-others
 returns-in-Ok-clause-others g c =

@@ -1,0 +1,212 @@
+-- How the log of a schedule goes on, act after act.
+use Rattle.std.proofs.Common.{◌≡◌, ◌⊎◌, ⊎_elim, MatchBool, ℕ, ◌-◌, Bool, true, false, Option, Some, None, List, [], ◌∷◌, ◌++◌, filter, replicate, reverse, Result, Ok, Err, IfOk, IsOk, OnOk, refl, sym, ap, ◌∙◌, subst, if◌then◌else◌}
+use Rattle.std.specs.Prelude.{slice_index_or, slice_set}
+use Rattle.std.specs.List.{AllByRecursion}
+use Rattle.std.proofs.lemmas.List.{append-nil, append_assoc, map-append, reverse-append, reverse-reverse}
+use Rattle.mn_base.specs.declared.ids.ClientNo.{ClientNo}
+use Rattle.mn_recov.specs.Recovery.{Recovery}
+use Rattle.mn_script.specs.declared.elements.Act.{Act}
+use Rattle.mn_script.specs.declared.elements.Act.TheVariants as acts
+use Rattle.mn_script.specs.Script.{Script}
+use Rattle.mn_world.specs.declared.entry.Entry.{Entry}
+use Rattle.mn_world.specs.Calls.{client_entries, is_at, is_by, node_entries}
+use Rattle.mn_world.specs.declared.entry.What.TheVariants.{Restarted, Stopped}
+use Rattle.mn_world.specs.Laws.{RecordsStaySound}
+use Rattle.mn_world.specs.Nodes.{is_down}
+use Rattle.mn_world.specs.OneHistory.{AreFree}
+use Rattle.mn_world.specs.Protocol.{FollowsProtocol, Start}
+use Rattle.mn_world.specs.Run.{IsRun, RunsFollowProtocol, entries_of}
+use Rattle.mn_cell.specs.Calls.{entry_at, numbered}
+use Rattle.mn_replay.specs.Failed.{closer}
+use Rattle.mn_replay.specs.Follows.{Follows, IsPlayed}
+use Rattle.mn_replay.specs.Logs.{AreFreeIfSound, GoesAs, HasLog, IsFresh, Settles, played_by, works_of}
+use Rattle.mn_replay.specs.Plays.{PlayState}
+use Rattle.mn_replay.specs.Recoveries.{Bench}
+use Rattle.mn_replay.specs.Schedule.{AreOfCloser, DoesAct, DoesActs, GoesOnBy, IsOfClient, IsOfRecoverer, Played, acts_of, played_from, recoverer, with_entry}
+use Rattle.mn_replay.specs.Trace.{StartsSound}
+use Rattle.mn_replay.specs.Turn.{past_in, trail_at, trail_by}
+
+-- The entries of a trail
+
+map_back : (l : List (ℕ × Entry)) → past_in (reverse l) ≡ reverse (past_in l)
+map_back [] = refl
+map_back (p ∷ l) =
+    ap past_in (reverse-append (p ∷ []) l)
+    ∙ (map-append (λ (q : ℕ × Entry). q.1) (reverse l) (p ∷ [])
+    ∙ (ap (λ (k : List Entry). k ++ p.1 ∷ []) (map_back l) ∙ sym (reverse-append (p.1 ∷ []) (past_in l))))
+
+pub entries_back : (l : List (ℕ × Entry)) → entries_of (reverse l) ≡ past_in l
+entries_back l = ap reverse (map_back l) ∙ reverse-reverse (past_in l)
+
+pub entries_both : (a b : List (ℕ × Entry)) → entries_of (a ++ b) ≡ entries_of b ++ entries_of a
+entries_both a b = ap reverse (map-append (λ (p : ℕ × Entry). p.1) a b) ∙ reverse-append (past_in a) (past_in b)
+
+filter_past : (f : Entry → Bool) (t : List (ℕ × Entry)) → past_in (filter (λ (p : ℕ × Entry). f p.1) t) ≡ filter f (past_in t)
+filter_past f [] = refl
+filter_past f (p ∷ t) = by (f p.1) (filter_past f t)
+  where
+    by : (b : Bool) → past_in (filter (λ (q : ℕ × Entry). f q.1) t) ≡ filter f (past_in t) → past_in (if b then p ∷ filter (λ (q : ℕ × Entry). f q.1) t else filter (λ (q : ℕ × Entry). f q.1) t) ≡ (if b then p.1 ∷ filter f (past_in t) else filter f (past_in t))
+    by true e = ap (λ (k : List Entry). p.1 ∷ k) e
+    by false e = e
+
+pub list_of_client : (c : ClientNo) (t : List (ℕ × Entry)) → entries_of (trail_by c t) ≡ client_entries c (past_in t)
+list_of_client c t = entries_back (filter (λ (p : ℕ × Entry). is_by c p.1) t) ∙ filter_past (is_by c) t
+
+pub list_of_node : (k : ℕ) (t : List (ℕ × Entry)) → entries_of (trail_at k t) ≡ node_entries (numbered k) (past_in t)
+list_of_node k t = entries_back (filter (λ (p : ℕ × Entry). is_at (numbered k) p.1) t) ∙ filter_past (is_at (numbered k)) t
+
+-- One act after another
+
+pub acts_both : (script : Script) (front back : List Act) (old now new : Played) → DoesActs script front old now → DoesActs script back now new → DoesActs script (front ++ back) old new
+acts_both script [] back old now new one other = subst (λ (p : Played). DoesActs script back p new) one other
+acts_both script (act ∷ front) back old now new one other = (one.0, one.1, acts_both script front back one.0 now new one.2 other)
+
+pub acts_more : (script : Script) (front : List Act) (act : Act) (old now new : Played) → DoesActs script front old now → DoesAct script act now new → DoesActs script (front ++ act ∷ []) old new
+acts_more script front act old now new one does = acts_both script front (act ∷ []) old now new one (new, does, refl)
+
+-- a play whose acts are done goes on
+pub acts_as : {D : Type 0} (does rest both : Played → Played → Type 0) (p q r : PlayState D) → ((old now new : Played) → does old now → rest now new → both old new)
+    → GoesAs does p q → GoesAs rest q r → GoesAs both p r
+acts_as does rest both p q r join one other past log =
+    let first = one past log in
+    let second = other first.0 first.1 in
+    (second.0, second.1, join (played_by p past) (played_by q first.0) (played_by r second.0) first.2 second.2)
+
+pub no_acts : {D : Type 0} (script : Script) (p : PlayState D) → GoesAs (DoesActs script []) p p
+no_acts script p past log = (past, log, refl)
+
+-- each act's log goes on from the one before
+pub record Grows (old new : List Entry) : Type 0 where
+  pub later : List Entry
+  pub is : new ≡ later ++ old
+
+grows_both : (old now new : List Entry) → Grows old now → Grows now new → Grows old new
+grows_both old now new one other = record {
+  later = other.later ++ one.later;
+  is = other.is ∙ (ap (λ (l : List Entry). other.later ++ l) one.is ∙ sym (append_assoc other.later one.later old));
+}
+
+act_grows : (script : Script) (act : Act) (old new : Played) → DoesAct script act old new → Grows old.past new.past
+act_grows script (acts.Step c) old new does = record { later = does.past.own; is = does.past.past_is }
+act_grows script (acts.Plan c) old new does = record { later = does.past.own; is = does.past.past_is }
+act_grows script (acts.Go c) old new does = record { later = does.past.own; is = does.past.past_is }
+act_grows script (acts.All c) old new does = record { later = does.past.own; is = does.past.past_is }
+act_grows script (acts.Rstep r c) old new does = record { later = does.past.own; is = does.past.past_is }
+act_grows script (acts.Recover r c) old new does = record { later = does.past.own; is = does.past.past_is }
+act_grows script (acts.Halt n) old new does = by (is_down (node_entries n old.past)) does
+  where
+    by : (b : Bool) → MatchBool b (new ≡ old) (new ≡ with_entry (entry_at n closer (Stopped None None)) old) → Grows old.past new.past
+    by true same = record { later = []; is = ap (λ (p : Played). p.past) same }
+    by false more = record { later = entry_at n closer (Stopped None None) ∷ []; is = ap (λ (p : Played). p.past) more }
+act_grows script (acts.Restart n) old new does = by (is_down (node_entries n old.past)) does
+  where
+    by : (b : Bool) → MatchBool b ((new ≡ old) ⊎ ((kept : Bool) × (new ≡ with_entry (entry_at n closer (Restarted kept)) old))) (new ≡ old) → Grows old.past new.past
+    by true so = ⊎_elim (λ same. record { later = []; is = ap (λ (p : Played). p.past) same })
+        (λ more. record { later = entry_at n closer (Restarted more.0) ∷ []; is = ap (λ (p : Played). p.past) more.1 }) so
+    by false same = record { later = []; is = ap (λ (p : Played). p.past) same }
+
+pub acts_grow : (script : Script) (todo : List Act) (old new : Played) → DoesActs script todo old new → Grows old.past new.past
+acts_grow script [] old new does = record { later = []; is = ap (λ (p : Played). p.past) does }
+acts_grow script (act ∷ todo) old new does = grows_both old.past does.0.past new.past (act_grows script act old does.0 does.1) (acts_grow script todo does.0 new does.2)
+
+-- opening, acts and closing make the whole
+pub played_whole : {D : Type 0} (start : Start) (script : Script) (p opened played closed : PlayState D) → IsFresh p → GoesAs Settles p opened → ((past : List Entry) → HasLog opened past → AreFreeIfSound start past)
+    → GoesAs (DoesActs script (acts_of script)) opened played → GoesAs Settles played closed → (past : List Entry) × HasLog closed past × IsPlayed (AreFreeIfSound start) script past
+played_whole start script p opened played closed fresh opens free acts closes =
+    let one = opens [] fresh.log in
+    let two = acts one.0 one.1 in
+    let three = closes two.0 two.1 in
+    let works : works_of opened.callers ≡ replicate 4 None = one.2.works ∙ fresh.idle in (
+      three.0,
+      three.1,
+      record {
+        opening = one.0;
+        opened = subst AreOfCloser (sym (one.2.past_is ∙ append-nil one.2.own)) one.2.of_closer;
+        opened_so = free one.0 one.1;
+        played = two.0;
+        works = works_of played.callers;
+        acts = subst (λ (ws : List (Option Recovery)). DoesActs script (acts_of script) (record { past = one.0; works = ws }) (played_by played two.0)) works two.2;
+        closing = three.2.own;
+        past_is = three.2.past_is;
+        closed = three.2.of_closer;
+      },
+    )
+
+-- what is so of the opening may be said otherwise, by the whole log
+pub played_so : (says tells : List Entry → Type 0) (script : Script) (past : List Entry) → IsPlayed says script past
+    → ((opening : List Entry) → Grows opening past → says opening → tells opening) → IsPlayed tells script past
+played_so says tells script past played turn = record {
+  opening = played.opening;
+  opened = played.opened;
+  opened_so = turn played.opening
+      (grows_both played.opening played.played past (acts_grow script (acts_of script) (played_from played.opening) (record { past = played.played; works = played.works }) played.acts)
+      (record { later = played.closing; is = played.past_is })) played.opened_so;
+  played = played.played;
+  works = played.works;
+  acts = played.acts;
+  closing = played.closing;
+  past_is = played.past_is;
+  closed = played.closed;
+}
+
+follows_part : (start : Start) (later past : List Entry) → FollowsProtocol start (later ++ past) → FollowsProtocol start past
+follows_part start [] past follows = follows
+follows_part start (e ∷ later) past follows = follows_part start later past follows.0
+
+-- the log of a run whose opening leaves nothing held, if its records fit together
+pub follows_script : (start : Start) (script : Script) (past : List Entry) → RunsFollowProtocol → RecordsStaySound → IsRun start past
+    → IsPlayed (AreFreeIfSound start) script past → Follows start script past
+follows_script start script past follow stay run played =
+    played_so (AreFreeIfSound start) (λ opening. StartsSound start → AreFree start opening) script past played
+    (λ opening grows free sound.
+    let whole : FollowsProtocol start (grows.later ++ opening) = subst (FollowsProtocol start) grows.is (follow start past run) in
+    let part : FollowsProtocol start opening = follows_part start grows.later opening whole in
+    free part (stay start opening sound part))
+
+-- where the run is done, its log follows the script
+pub told_follows : {X E F : Type 0} (start : Start) (script : Script) (log_in : X → List (ℕ × Entry)) (result : Result X F) (played : Result (Unit {0}) E) (Has : List Entry → Type 0) (Is : X → Type 0)
+    → RunsFollowProtocol → RecordsStaySound → IfOk result Is → ((t : X) → Is t → IsRun start (entries_of (log_in t)))
+    → IfOk result (λ t. IsOk played) → IfOk result (λ t. (past : List Entry) → Has past → entries_of (log_in t) ≡ past)
+    → OnOk played ((past : List Entry) × Has past × IsPlayed (AreFreeIfSound start) script past) → IfOk result (λ t. Follows start script (entries_of (log_in t)))
+told_follows start script log_in (Err e) played Has Is follow stay is run done log told = tt
+told_follows start script log_in (Ok t) (Err e) Has Is follow stay is run done log told = absurd cc
+told_follows start script log_in (Ok t) (Ok u) Has Is follow stay is run done log told =
+    let same : entries_of (log_in t) ≡ told.0 = log told.0 told.1 in
+    follows_script start script (entries_of (log_in t)) follow stay (run t is) (subst (IsPlayed (AreFreeIfSound start) script) (sym same) told.2)
+
+-- An act of one actor
+
+pub by_map : (c : ClientNo) (own : List (ℕ × Entry)) → AllByRecursion (λ (p : ℕ × Entry). p.1.client ≡ Some c) own → AllByRecursion (λ (e : Entry). e.client ≡ Some c) (past_in own)
+by_map c [] all = tt
+by_map c (p ∷ own) all = (all.0, by_map c own all.1)
+
+pub goes_by : (c : ClientNo) (own t : List (ℕ × Entry)) → AllByRecursion (λ (p : ℕ × Entry). p.1.client ≡ Some c) own → GoesOnBy c (past_in t) (past_in (own ++ t))
+goes_by c own t all = record { own = past_in own; past_is = map-append (λ (p : ℕ × Entry). p.1) own t; by = by_map c own all }
+
+abbrev pub played_at : List (ℕ × Entry) → List (Option Recovery) → Played
+played_at t works = record { past = past_in t; works = works }
+
+-- a client's own list before and after its act
+pub client_acts : (c : ClientNo) (does : List Entry → List Entry → Type 0) (own t old new : List (ℕ × Entry)) (works : List (Option Recovery))
+    → old ≡ trail_by c t → new ≡ trail_by c (own ++ t) → AllByRecursion (λ (p : ℕ × Entry). p.1.client ≡ Some c) own → does (entries_of old) (entries_of new)
+    → IsOfClient c does (played_at t works) (played_at (own ++ t) works)
+client_acts c does own t old new works was is all so = record {
+  past = goes_by c own t all;
+  so = subst (λ (l : List Entry). does l (client_entries c (past_in (own ++ t)))) (ap entries_of was ∙ list_of_client c t)
+      (subst (λ (l : List Entry). does (entries_of old) l) (ap entries_of is ∙ list_of_client c (own ++ t)) so);
+  works = refl;
+}
+
+-- and a recovery coordinator's, with its work
+pub recoverer_acts : (number : ℕ) (does : Bench → Bench → Type 0) (own t old new : List (ℕ × Entry)) (works : List (Option Recovery)) (work : Option Recovery)
+    → old ≡ trail_by (recoverer number) t → new ≡ trail_by (recoverer number) (own ++ t) → AllByRecursion (λ (p : ℕ × Entry). p.1.client ≡ Some (recoverer number)) own
+    → does (record { list = entries_of old; work = slice_index_or works (number - 1) None }) (record { list = entries_of new; work = work })
+    → IsOfRecoverer number does (played_at t works) (played_at (own ++ t) (slice_set works (number - 1) work))
+recoverer_acts number does own t old new works work was is all so = record {
+  past = goes_by (recoverer number) own t all;
+  work = work;
+  so = subst (λ (l : List Entry). does (record { list = l; work = slice_index_or works (number - 1) None }) (record { list = client_entries (recoverer number) (past_in (own ++ t)); work = work }))
+      (ap entries_of was ∙ list_of_client (recoverer number) t)
+      (subst (λ (l : List Entry). does (record { list = entries_of old; work = slice_index_or works (number - 1) None }) (record { list = l; work = work })) (ap entries_of is ∙ list_of_client (recoverer number) (own ++ t)) so);
+  works = refl;
+}
