@@ -242,8 +242,8 @@ module _ (start : Start) (points : List Point) (c : Client) (node : NodeNo) (req
     pub asked_client : m.list.client ≡ c.list.client
     asked_client = ap (λ (k : Client). k.list.client) same ∙ client
 
-    pub asked_stays : (m.proxy ≡ c.proxy) × (m.due ≡ c.due)
-    asked_stays = (ap (λ (k : Client). k.proxy) same, ap (λ (k : Client). k.due) same)
+    pub asked_stays : (m.proxy ≡ c.proxy) × (m.due ≡ c.due) × (m.begun ≡ c.begun)
+    asked_stays = (ap (λ (k : Client). k.proxy) same, ap (λ (k : Client). k.due) same, ap (λ (k : Client). k.begun) same)
 
 -- The reply is fed
 

@@ -168,8 +168,8 @@ module _ (start : Start) (old mid new : Client) (tid : Tid) (mini : Mini) (is_sh
   pub issued_points : KeepsPoints old new
   issued_points = as_same (KeepsPoints old) after new issued_is (made_points start old.list mid.list old.proxy (Issue tid mini) step adds old.met.items)
 
-  pub issued_stays : (new.proxy ≡ old.proxy) × (new.due ≡ old.due)
-  issued_stays = (ap (λ (k : Client). k.proxy) issued_is, ap (λ (k : Client). k.due) issued_is)
+  pub issued_stays : (new.proxy ≡ old.proxy) × (new.due ≡ old.due) × (new.begun ≡ old.begun)
+  issued_stays = (ap (λ (k : Client). k.proxy) issued_is, ap (λ (k : Client). k.due) issued_is, ap (λ (k : Client). k.begun) issued_is)
 
 -- The operation under way
 

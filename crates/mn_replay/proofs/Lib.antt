@@ -15,11 +15,13 @@ pub mod Recovering
 pub mod Recoveries
 pub mod Doings
 pub mod Held
+pub mod DeskEnds
 pub mod Closing
 pub mod Advancing
 pub mod MetPoints
 pub mod ClientSteps
 pub mod ClientCalls
+pub mod ClientEnds
 pub mod ClientActs
 pub mod OneTrail
 pub mod PlansDue

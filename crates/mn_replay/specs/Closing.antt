@@ -17,7 +17,7 @@ use Rattle.mn_mini.specs.declared.reply.NodeReply.TheVariants as Say
 use Rattle.mn_mini.specs.Node.{doubts_of, held_parts, is_held}
 use Rattle.mn_recov.specs.declared.stage.RecovStage.{RecovStage}
 use Rattle.mn_recov.specs.declared.stage.RecovStage.TheVariants.{Looking, Found}
-use Rattle.mn_recov.specs.Recovery.{participant}
+use Rattle.mn_recov.specs.Recovery.{Recovery, participant}
 use Rattle.mn_world.specs.declared.entry.Entry.{Entry}
 use Rattle.mn_world.specs.declared.entry.What.{What}
 use Rattle.mn_world.specs.declared.entry.What.TheVariants.{Called, Restarted}
@@ -111,6 +111,11 @@ abbrev pub calls_left : ℕ → RecovStage → ℕ
 calls_left nodes (Looking node) = (nodes - node) + 17
 calls_left nodes (Found participants voted verdict decided) =
     (length participants - voted) + (length participants - decided)
+
+-- of the recovery that a coordinator has, if it has one
+abbrev pub calls_of : Option Recovery → ℕ
+calls_of None = 0
+calls_of (Some r) = calls_left r.nodes r.stage
 
 -- Its list
 

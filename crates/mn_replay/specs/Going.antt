@@ -1,6 +1,6 @@
 -- How a client goes on by itself from one call to the next. Lists of entries stand newest first.
-use Rattle.std.specs.Prelude.{ℕ, ◌≡◌, Bool, true, ◌&&◌, List, [], ◌∷◌, Option, Some, None}
-use Rattle.std.specs.Prelude.{MatchOption, ⊤}
+use Rattle.std.specs.Prelude.{ℕ, ◌+◌, ◌-◌, ◌<◌, ◌≤◌, ◌≡◌, Bool, true, ◌&&◌}
+use Rattle.std.specs.Prelude.{List, [], ◌∷◌, Option, Some, None, MatchOption, ⊤}
 use Rattle.std.specs.List.{AllByRecursion}
 use Rattle.mn_base.specs.declared.ids.ClientNo.{ClientNo}
 use Rattle.mn_base.specs.declared.ids.NodeNo.{NodeNo}
@@ -11,6 +11,7 @@ use Rattle.mn_mini.specs.RecordGrammar.{IsTid}
 use Rattle.mn_mini.specs.declared.reply.NodeReply.{NodeReply}
 use Rattle.mn_mini.specs.declared.request.Request.{Request}
 use Rattle.mn_proxy.specs.Agrees.{Agrees, Enters, IsSoundStep, MayStep, Wants}
+use Rattle.mn_proxy.specs.Measure.{steps_left}
 use Rattle.mn_proxy.specs.State.{IsReady, ProxyState}
 use Rattle.mn_proxy.specs.declared.step.ProxyStep.{ProxyStep}
 use Rattle.mn_script.specs.declared.elements.Point.{Point}
@@ -135,3 +136,33 @@ pub record IsUnnoted (points : List Point) (c : Client) : Type 0 where
   pub own : AllByRecursion (λ e. e.client ≡ Some c.list.client) (past_of c)
   pub number : number_of before ≡ Some c.begun
   pub met : c.met.items ≡ points_met points before
+
+-- That it comes to an end
+
+-- the steps of its own and the calls that are left of its operation: none, where no call is due
+abbrev pub left_where : Option Call → ℕ → ℕ
+left_where None steps = 0
+left_where (Some call) steps = steps + 1
+
+-- a client's, by its proxy
+abbrev pub work_left : Client → ℕ
+work_left c = left_where c.due (steps_left c.proxy)
+
+-- how it has gone on: fewer steps than so many are left
+abbrev pub HasFewer : ℕ → Client → Went → Type 0
+HasFewer steps c On = steps_left c.proxy < steps
+HasFewer steps c Rests = work_left c ≤ steps
+
+-- one more operation is begun where no call was due
+abbrev pub BeginsIfIdle : Client → Client → Type 0
+BeginsIfIdle old new =
+    MatchOption old.due (new.begun ≡ old.begun + 1) (λ call. new.begun ≡ old.begun)
+
+-- an operation is under way where a call is due
+abbrev pub works_on : Option Call → ℕ
+works_on None = 0
+works_on (Some call) = 1
+
+-- the operations that are left, of so many: those that aren't begun, and the one under way
+abbrev pub ops_left : ℕ → Client → ℕ
+ops_left ops c = ops - c.begun + works_on c.due

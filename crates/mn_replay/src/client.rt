@@ -7,15 +7,17 @@ ghost use Rattle.mn_hist.specs.Points.{points_met};
 ghost use Rattle.mn_mini.specs.Mini.{participants_of};
 ghost use Rattle.mn_mini.specs.RecordGrammar.{IsTid};
 ghost use Rattle.mn_mini.specs.Sound.{Fits, IsDecide, IsSoundRequest};
-ghost use Rattle.mn_proxy.specs.State.{IsReady};
+ghost use Rattle.mn_proxy.specs.Measure.{Falls, steps_left};
+ghost use Rattle.mn_proxy.specs.State.{IsReady, ProxyState};
 ghost use Rattle.mn_world.specs.Clients.{is_read};
 ghost use Rattle.mn_world.specs.Protocol.{Start, run_number, start_nodes, start_of};
 ghost use Rattle.mn_replay.specs.Acts.{BeginsOp, CallsOnce, DoesAll, DoesGo, DoesPlan, DoesStep};
-ghost use Rattle.mn_replay.specs.Acts.{GoesByItself, IsUnderWay, as_role};
+ghost use Rattle.mn_replay.specs.Acts.{GoesByItself, IsUnderWay, as_role, has_work};
 ghost use Rattle.mn_replay.specs.Clients.{HasProxy, IsAtSteps, IsClient, IsDue, IsOfRun, past_of};
-ghost use Rattle.mn_replay.specs.Going.{HasAnswer, HasGone, HasList, IsSameBut, IsSameButRoom};
-ghost use Rattle.mn_replay.specs.Going.{IsUnnoted, KeepsPoints, MakesStep, MayAdd, MayTake};
-ghost use Rattle.mn_replay.specs.Going.{is_planned};
+ghost use Rattle.mn_replay.specs.Going.{BeginsIfIdle, HasAnswer, HasFewer, HasGone, HasList};
+ghost use Rattle.mn_replay.specs.Going.{IsSameBut, IsSameButRoom, IsUnnoted, KeepsPoints};
+ghost use Rattle.mn_replay.specs.Going.{MakesStep, MayAdd, MayTake};
+ghost use Rattle.mn_replay.specs.Going.{is_planned, ops_left, work_left};
 ghost use Rattle.mn_replay.specs.Points.{has_died};
 ghost use Rattle.mn_replay.specs.Steps.{Adds, Keeps, own_entry};
 ghost use Rattle.mn_replay.specs.Turn.{GoesOn, IsTurn, seen_of, turn_of};
@@ -35,9 +37,6 @@ use std::alloc::Global;
 
 /// The most steps that a client makes by itself between two calls.
 const OWN_STEPS: usize = 3;
-
-/// More calls than an operation makes.
-const MANY: u64 = u64::MAX;
 
 /// A call of a node.
 #[derive(Debug, Drop)]
@@ -292,7 +291,8 @@ impl Client {
         ensures list { HasList (start_of N.records) self.new }
         ensures proxy { OnOk result (HasProxy (start_of N.records) self.new) }
         ensures points { KeepsPoints self.old self.new }
-        ensures stays { (self.new.proxy ≡ self.old.proxy) × (self.new.due ≡ self.old.due) }
+        ensures stays { (self.new.proxy ≡ self.old.proxy) × (self.new.due ≡ self.old.due)
+            × (self.new.begun ≡ self.old.begun) }
         ensures own { OnOk result (GoesByItself self.old.list.client
             (past_of self.old) (past_of self.new)) }
     {
@@ -325,6 +325,9 @@ impl Client {
         ensures went { IfOk result (λ went. HasGone (start_of N.records) self.new went) }
         ensures own { OnOk result (GoesByItself self.old.list.client
             (past_of self.old) (past_of self.new)) }
+        ensures begun { self.new.begun ≡ self.old.begun }
+        ensures falls { (before : ProxyState) → Falls before self.old.proxy step
+            → IfOk result (HasFewer (steps_left before) self.new) }
     {
         match step {
             ProxyStep::Issue { tid, mini } => {
@@ -368,6 +371,8 @@ impl Client {
         ensures went { IfOk result (λ went. HasGone (start_of N.records) self.new went) }
         ensures own { OnOk result (GoesByItself self.old.list.client
             (past_of self.old) (past_of self.new)) }
+        ensures begun { self.new.begun ≡ self.old.begun }
+        ensures falls { IfOk result (HasFewer (steps_left self.old.proxy) self.new) }
     {
         match self.proxy.next(alloc) {
             Ok(step) => self.take_step(table, pass, step),
@@ -400,14 +405,15 @@ impl Client {
         ensures of_run { OnErr result (IsOfRun (start_of N.records) points.now self.new) }
         ensures own { OnOk result (GoesByItself self.old.list.client
             (past_of self.old) (past_of self.new)) }
+        ensures begun { self.new.begun ≡ self.old.begun }
+        ensures falls { OnOk result (work_left self.new ≤ steps_left self.old.proxy) }
     {
-        for _ in 0..MANY {
+        loop {
             match self.own_step(alloc, table, pass)? {
                 Went::Rests => return Ok(()),
                 Went::On => {}
             }
         }
-        Err(NoMemory)
     }
 
     /// Begins its next operation. NoMemory: there was no memory to begin it; the run ends.
@@ -434,6 +440,7 @@ impl Client {
         ensures of_run { OnErr result (IsOfRun (start_of N.records) points.now self.new) }
         ensures begins { OnOk result (BeginsOp self.old.list.client op.now
             (past_of self.old) (past_of self.new)) }
+        ensures begun { OnOk result (self.new.begun ≡ self.old.begun + 1) }
     {
         let asked = op.try_copy(alloc)?;
         let op = op.try_copy(alloc)?;
@@ -470,6 +477,7 @@ impl Client {
         ensures under_way { OnOk result (IsUnderWay
             (as_role points.now self.old.list.client ops.now)
             (past_of self.old) (past_of self.new)) }
+        ensures begun { OnOk result (BeginsIfIdle self.old self.new) }
     {
         if self.is_at_work() {
             return Ok(());
@@ -545,7 +553,8 @@ impl Client {
             → HasAnswer points.now node request result self.old self.new }
         ensures none { result ≡ NodeReply.NoMemory → past_of self.new ≡ past_of self.old }
         ensures client { self.new.list.client ≡ self.old.list.client }
-        ensures stays { (self.new.proxy ≡ self.old.proxy) × (self.new.due ≡ self.old.due) }
+        ensures stays { (self.new.proxy ≡ self.old.proxy) × (self.new.due ≡ self.old.due)
+            × (self.new.begun ≡ self.old.begun) }
     {
         let stop = stop_due(
             points,
@@ -587,7 +596,8 @@ impl Client {
             → HasAnswer points.now node request result self.old self.new }
         ensures none { result ≡ NodeReply.NoMemory → past_of self.new ≡ past_of self.old }
         ensures client { self.new.list.client ≡ self.old.list.client }
-        ensures stays { (self.new.proxy ≡ self.old.proxy) × (self.new.due ≡ self.old.due) }
+        ensures stays { (self.new.proxy ≡ self.old.proxy) × (self.new.due ≡ self.old.due)
+            × (self.new.begun ≡ self.old.begun) }
     {
         if !self.make_room(node, &request) {
             return NodeReply::NoMemory;
@@ -617,6 +627,9 @@ impl Client {
         ensures calls { OnOk result ((ops : List Op)
             → CallsOnce (as_role points.now self.old.list.client ops)
             (past_of self.old) (past_of self.new)) }
+        ensures begun { self.new.begun ≡ self.old.begun }
+        ensures falls { OnOk result (is_some self.old.due ≡ true
+            → work_left self.new < work_left self.old) }
     {
         let Some(Call { node, request }) = self.due.take() else {
             return Ok(());
@@ -693,13 +706,10 @@ impl Client {
             return Ok(());
         }
         self.begin_if_idle(alloc, table, pass, points, ops)?;
-        for _ in 0..MANY {
-            if self.is_planned() {
-                return Ok(());
-            }
+        while !self.is_planned() {
             self.call(alloc, table, pass, points)?;
         }
-        Err(NoMemory)
+        Ok(())
     }
 
     /// Calls until the operation is answered or the client has died.
@@ -725,18 +735,18 @@ impl Client {
         ensures does { OnOk result (DoesGo
             (as_role points.now self.old.list.client ops.now)
             (past_of self.old) (past_of self.new)) }
+        ensures falls { OnOk result (has_work
+            (as_role points.now self.old.list.client ops.now) (past_of self.old) ≡ true
+            → ops_left (length ops.now) self.new < ops_left (length ops.now) self.old) }
     {
         if !self.has_work(points, ops) {
             return Ok(());
         }
         self.begin_if_idle(alloc, table, pass, points, ops)?;
-        for _ in 0..MANY {
-            if !self.is_at_work() {
-                return Ok(());
-            }
+        while self.is_at_work() {
             self.call(alloc, table, pass, points)?;
         }
-        Err(NoMemory)
+        Ok(())
     }
 
     /// One operation after another, until none is left or the client has died.
@@ -763,12 +773,9 @@ impl Client {
             (as_role points.now self.old.list.client ops.now)
             (past_of self.old) (past_of self.new)) }
     {
-        for _ in 0..MANY {
-            if !self.has_work(points, ops) {
-                return Ok(());
-            }
+        while self.has_work(points, ops) {
             self.go(alloc, table, pass, points, ops)?;
         }
-        Err(NoMemory)
+        Ok(())
     }
 }

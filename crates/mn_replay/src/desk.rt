@@ -1,15 +1,16 @@
 //! A recovery coordinator of the script.
-ghost use Rattle.std.specs.Prelude.{◌≡◌, ◌≢◌, ◌≤◌, ◌<◌, ◌&&◌, [], false, length, List, not};
+ghost use Rattle.std.specs.Prelude.{◌≡◌, ◌≢◌, ◌≤◌, ◌<◌, ◌&&◌, [], false, true, length, List, not};
 ghost use Rattle.std.specs.Prelude.{MatchOption, None, OnErr, OnOk, ⊤};
 ghost use Rattle.mn_cell.specs.Calls.{entry_at, what_said};
 ghost use Rattle.mn_mini.specs.RecordGrammar.{IsTid};
-ghost use Rattle.mn_mini.specs.Sound.{IsSoundRequest};
+ghost use Rattle.mn_mini.specs.Sound.{Fits, IsSoundRequest};
 ghost use Rattle.mn_world.specs.declared.entry.Entry.{Entry};
 ghost use Rattle.mn_world.specs.Calls.{issues_of};
 ghost use Rattle.mn_world.specs.Clients.{Sends};
 ghost use Rattle.mn_world.specs.Protocol.{Start, start_nodes, start_of};
 ghost use Rattle.mn_world.specs.Run.{entries_of};
 ghost use Rattle.mn_replay.specs.Clients.{last_shared};
+ghost use Rattle.mn_replay.specs.Closing.{calls_of};
 ghost use Rattle.mn_replay.specs.Desks.{IsDesk, IsOfRecovery, IsRecoveryCall};
 ghost use Rattle.mn_replay.specs.Recoveries.{AsksIf, DoesRecover, DoesRstep, bench_of, is_force};
 ghost use Rattle.mn_replay.specs.Recoveries.{is_vote, work_of};
@@ -25,9 +26,6 @@ use mn_mini::{NodeReply, Request};
 use mn_recov::{RecovStep, Recoverer};
 use mn_world::{ClientList, CoreLaw};
 use std::alloc::Global;
-
-/// More calls than a recovery makes in an act.
-const MANY: u64 = u64::MAX;
 
 /// The most entries of a recovery from a vote on: that one, and a decision for each participant.
 const ENTRIES_AHEAD: usize = 9;
@@ -126,6 +124,7 @@ impl Desk {
             → Adds (entry_at node self.old.list.client (what_said request None result))
             self.old.list self.new.list }
         ensures none { result ≡ NodeReply.NoMemory → Keeps self.old.list self.new.list }
+        ensures fits { Fits request result }
         ensures work { self.new.work ≡ self.old.work }
     {
         // A list's actor is one that there may be.
@@ -156,6 +155,7 @@ impl Desk {
         ensures client { self.new.list.client ≡ self.old.list.client }
         ensures asks { AsksIf self.old.list.client self.old.work (bench_of self.old)
             (bench_of self.new) result }
+        ensures falls { result ≡ true → calls_of self.new.work < calls_of self.old.work }
     {
         let Some(mut work) = self.work.take() else {
             return false;
@@ -203,7 +203,8 @@ impl Desk {
         Ok(())
     }
 
-    /// Calls until its recovery ends, or has to wait at a Force.
+    /// Calls until its recovery ends, or has to wait at a Force. NoMemory: there was none to take
+    /// the id, and it made no call.
     pub fn recover<N: Named, D: Disk>(
         &mut self,
         alloc: Global,
@@ -224,13 +225,10 @@ impl Desk {
         ensures does { OnOk result ((es : List Entry) → shared ≡ last_shared (issues_of es)
             → DoesRecover (length N.records) self.old.list.client es (bench_of self.old)
             (bench_of self.new) false) }
+        ensures failed { OnErr result (self.new ≡ self.old) }
     {
         self.take_work(alloc, shared, table.nodes())?;
-        for _ in 0..MANY {
-            if !self.call(alloc, table, pass) {
-                return Ok(());
-            }
-        }
-        Err(NoMemory)
+        while self.call(alloc, table, pass) {}
+        Ok(())
     }
 }

@@ -5,6 +5,7 @@ use Rattle.mn_replay.proofs.Turns.{goes_further, goes_nowhere}
 use Rattle.mn_replay.specs.Clients.{past_of}
 use Rattle.mn_replay.specs.Steps.{own_entry}
 use Rattle.mn_replay.proofs.ClientActs.{begins_op}
+use Rattle.mn_replay.proofs.ClientEnds.{on_any}
 use Rattle.mn_replay.proofs.ClientSteps.{longer, on_error, on_ok}
 use Rattle.mn_replay.proofs.ClientCalls.{begin_allowed, begun_steps, unbegun_run}
 use Rattle.mn_replay.proofs.client.Client.begin.Goals as goal
@@ -39,3 +40,6 @@ returns-clause-begins g c =
     on_ok c.go_on.result _ _
     (λ goes. begins_op old.list.client mid.list.client c.args.op.now c.in_ok-op.op old.begun (past_of old) (past_of mid) (past_of new) c.requires.client.run.begun c.in_ok-op.ensures adds.client
     (longer (own_entry old.list.client (Begin (old.begun + 1) c.in_ok-op.op)) old.list mid.list adds) goes) c.go_on.ensures.own
+
+pub returns-clause-begun : goal.returns-clause-begun
+returns-clause-begun g c = on_any c.go_on.result _ c.go_on.ensures.begun

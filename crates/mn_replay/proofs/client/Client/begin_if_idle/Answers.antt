@@ -3,6 +3,7 @@ use Rattle.std.proofs.lemmas.Option.{slice_get_read}
 use Rattle.mn_world.specs.Protocol.{start_of}
 use Rattle.mn_replay.specs.Clients.{past_of}
 use Rattle.mn_replay.proofs.ClientActs.{begins_next, none_due, stays_under_way}
+use Rattle.mn_replay.proofs.ClientEnds.{begins_none, begins_one}
 use Rattle.mn_replay.proofs.ClientSteps.{on_ok}
 use Rattle.mn_replay.proofs.Turns.{goes_nowhere}
 use Rattle.mn_replay.proofs.client.Client.begin_if_idle.Goals as goal
@@ -22,3 +23,11 @@ returns-clause-under_way g c =
     on_ok c.begin.result _ _
     (begins_next (start_of g.N.Named.records) c.args.points.now old c.requires.client ops c.index-ops-self.result (past_of c.begin.new.self) none (c.requires.lives none)
     (slice_get_read ops (length ops) old.begun c.index-ops-self.result refl (c.requires.left none) c.index-ops-self.is)) c.begin.ensures.begins
+
+pub returns-then-is_at_work-clause-begun : goal.returns-then-is_at_work-clause-begun
+returns-then-is_at_work-clause-begun g c = begins_none c.args.self.now (sym c.is_at_work.ensures ∙ c.if-is_at_work.true)
+
+pub returns-clause-begun : goal.returns-clause-begun
+returns-clause-begun g c =
+    let old = c.args.self.now in
+    on_ok c.begin.result _ _ (begins_one old c.begin.new.self (none_due old.due (sym c.is_at_work.ensures ∙ c.if-is_at_work.false))) c.begin.ensures.begun

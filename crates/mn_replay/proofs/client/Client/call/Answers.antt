@@ -1,10 +1,13 @@
-use Rattle.std.proofs.Common.{subst, sym, ◌∙◌}
+use Rattle.std.proofs.Common.{◌≡◌, ◌≤◌, ◌<◌, None, is_some, subst, sym, ap, ◌∙◌}
+use Rattle.mn_proxy.specs.Measure.{steps_left}
 use Rattle.mn_proxy.specs.State.{IsOut, ProxyState}
 use Rattle.mn_world.specs.Protocol.{start_of}
 use Rattle.mn_replay.specs.declared.client.Client.{Client}
 use Rattle.mn_replay.specs.Clients.{past_of}
+use Rattle.mn_replay.specs.Going.{work_left}
 use Rattle.mn_replay.proofs.Turns.{goes_further, goes_nowhere}
 use Rattle.mn_replay.proofs.ClientActs.{calls_last, calls_none, calls_on}
+use Rattle.mn_replay.proofs.ClientEnds.{call_falls, idle_calls, no_more, none_rests}
 use Rattle.mn_replay.proofs.ClientSteps.{on_ok}
 use Rattle.mn_replay.proofs.ClientCalls.{dead_client, due_alive, fed_steps, lives_by, none_taken, waits}
 use Rattle.mn_replay.proofs.client.Client.call.Goals as goal
@@ -69,3 +72,25 @@ returns-clause-calls g c =
     on_ok c.go_on.result _ _
     (calls_on (start_of g.N.Named.records) c.args.points.now c.args.self.now c.requires.client c.in-Some.field-0 (sym c.take.ensures.value ∙ c.in-Some.is) c.take.new.self c.send-reply.new.self c.send-reply.result send.run send.client send.answer send.none
     (sym c.has_died.ensures ∙ c.if-has_died.false) (past_of c.go_on.new.self)) c.go_on.ensures.own
+
+pub returns-in_default-clause-falls : goal.returns-in_default-clause-falls
+returns-in_default-clause-falls g c = λ due. idle_calls c.args.self.now.due _ (sym c.take.ensures.value ∙ c.in_default.is) due
+
+pub returns-then-has_died-clause-falls : goal.returns-then-has_died-clause-falls
+returns-then-has_died-clause-falls g c = λ due.
+    let new = c.send-reply.new.self in
+    let old = c.args.self.now in
+    call_falls old new (none_rests new (steps_left old.proxy) (c.send-reply.ensures.stays.1 ∙ c.take.ensures.after)) due
+
+pub returns-clause-falls : goal.returns-clause-falls
+returns-clause-falls g c =
+    let old = c.args.self.now in
+    let new = c.go_on.new.self in
+    let fed : steps_left c.feed.new.self ≤ steps_left old.proxy = subst (λ (p : ProxyState). steps_left c.feed.new.self ≤ steps_left p) c.send-reply.ensures.stays.0 c.feed.ensures.falls in
+    on_ok c.go_on.result _ _ (λ less due. call_falls old new (no_more (work_left new) (steps_left c.feed.new.self) (steps_left old.proxy) less fed) due) c.go_on.ensures.falls
+
+pub returns-then-has_died-clause-begun : goal.returns-then-has_died-clause-begun
+returns-then-has_died-clause-begun g c = c.send-reply.ensures.stays.2
+
+pub returns-clause-begun : goal.returns-clause-begun
+returns-clause-begun g c = c.go_on.ensures.begun ∙ c.send-reply.ensures.stays.2

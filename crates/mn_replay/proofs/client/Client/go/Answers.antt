@@ -1,8 +1,10 @@
-use Rattle.std.proofs.Common.{◌≡◌, true, not, sym, ap, ◌∙◌}
+use Rattle.std.proofs.Common.{◌≡◌, length, true, not, refl, sym, ap, ◌∙◌}
 use Rattle.mn_world.specs.Protocol.{start_of}
-use Rattle.mn_replay.specs.Acts.{CallsOnce, CallsUntil, CallsWhile, as_role, is_at_work}
+use Rattle.mn_replay.specs.Acts.{CallsOnce, CallsUntil, CallsWhile, as_role, has_work, is_at_work}
 use Rattle.mn_replay.specs.Clients.{past_of}
-use Rattle.mn_replay.proofs.ClientActs.{at_work, calls_more, has_work_as, of_same, works_not, works_so}
+use Rattle.mn_base.proofs.Booleans.{clash}
+use Rattle.mn_replay.proofs.ClientActs.{at_work, calls_more, has_work_as, none_due, of_same, works_not, works_so}
+use Rattle.mn_replay.proofs.ClientEnds.{op_falls}
 use Rattle.mn_replay.proofs.Turns.{goes_further, goes_nowhere}
 use Rattle.mn_replay.proofs.client.Client.go.Goals as goal
 
@@ -24,39 +26,37 @@ begin_if_idle-requires-clause-lives g c = c.has_work.ensures.lives c.if-not-has_
 pub returns-in_err-begin_if_idle-clause-of_run : goal.returns-in_err-begin_if_idle-clause-of_run
 returns-in_err-begin_if_idle-clause-of_run g c = c.in_err-begin_if_idle.ensures.of_run
 
-pub loop-init : goal.loop-init
-loop-init g c = record { turn = c.begin_if_idle.ensures.turn; goes_on = c.begin_if_idle.ensures.goes_on; client = c.in_ok-begin_if_idle.ensures.client; calls = CallsWhile.none }
+pub loop-alloc-init : goal.loop-alloc-init
+loop-alloc-init g c = record { turn = c.begin_if_idle.ensures.turn; goes_on = c.begin_if_idle.ensures.goes_on; client = c.in_ok-begin_if_idle.ensures.client; calls = CallsWhile.none; begun = refl }
 
-pub returns-then-not-is_at_work-clause-of_run : goal.returns-then-not-is_at_work-clause-of_run
-returns-then-not-is_at_work-clause-of_run g c = c.loop.invariant.client.run
+pub returns-clause-of_run : goal.returns-clause-of_run
+returns-clause-of_run g c = c.loop-alloc.invariant.client.run
 
 pub returns-in_err-call-clause-goes_on : goal.returns-in_err-call-clause-goes_on
-returns-in_err-call-clause-goes_on g c = goes_further _ _ _ c.loop.invariant.goes_on c.call.ensures.goes_on
+returns-in_err-call-clause-goes_on g c = goes_further _ _ _ c.loop-alloc.invariant.goes_on c.call.ensures.goes_on
 
 pub returns-in_err-call-clause-of_run : goal.returns-in_err-call-clause-of_run
 returns-in_err-call-clause-of_run g c = c.in_err-call.ensures.of_run
 
-pub loop-preserved : goal.loop-preserved
-loop-preserved g c =
+pub loop-alloc-preserved : goal.loop-alloc-preserved
+loop-alloc-preserved g c =
     let old = c.args.self.now in
-    let now = c.loop.self in
+    let now = c.loop-alloc.self in
     let new = c.call.new.self in
     let points = c.args.points.now in
     let ops = c.args.ops.now in
     let role = as_role points old.list.client ops in
-    let same = c.loop.invariant.goes_on.client in
+    let same = c.loop-alloc.invariant.goes_on.client in
     let works : is_at_work role (past_of now) ≡ true = of_same (λ r. is_at_work r (past_of now) ≡ true) points now.list.client old.list.client ops same
-    (at_work (start_of g.N.Named.records) points now c.loop.invariant.client ops ∙ (sym c.is_at_work.ensures ∙ c.if-not-is_at_work.false)) in
+    (at_work (start_of g.N.Named.records) points now c.loop-alloc.invariant.client ops ∙ (sym c.is_at_work.ensures ∙ c.loop-alloc-test.true)) in
     record {
       turn = c.call.ensures.turn;
-      goes_on = goes_further _ _ _ c.loop.invariant.goes_on c.call.ensures.goes_on;
+      goes_on = goes_further _ _ _ c.loop-alloc.invariant.goes_on c.call.ensures.goes_on;
       client = c.in_ok-call.ensures.client;
-      calls = calls_more role (λ now. not (is_at_work role now)) (past_of c.begin_if_idle.new.self) (past_of now) (past_of new) c.loop.invariant.calls (ap not works) works
+      calls = calls_more role (λ now. not (is_at_work role now)) (past_of c.begin_if_idle.new.self) (past_of now) (past_of new) c.loop-alloc.invariant.calls (ap not works) works
           (of_same (λ r. CallsOnce r (past_of now) (past_of new)) points now.list.client old.list.client ops same (c.in_ok-call.ensures.calls ops));
+      begun = c.call.ensures.begun ∙ c.loop-alloc.invariant.begun;
     }
-
-pub returns-clause-of_run : goal.returns-clause-of_run
-returns-clause-of_run g c = c.loop.invariant.client.run
 
 pub returns-then-not-has_work-clause-does : goal.returns-then-not-has_work-clause-does
 returns-then-not-has_work-clause-does g c =
@@ -64,16 +64,31 @@ returns-then-not-has_work-clause-does g c =
     let role = as_role c.args.points.now old.list.client c.args.ops.now in
     works_not role (CallsUntil role (λ now. not (is_at_work role now))) (past_of old) (has_work_as (start_of g.N.Named.records) c.args.points.now c.args.self.now c.requires.client c.args.ops.now c.has_work.result _ c.has_work.ensures.is c.if-not-has_work.true)
 
-pub returns-then-not-is_at_work-clause-does : goal.returns-then-not-is_at_work-clause-does
-returns-then-not-is_at_work-clause-does g c =
+pub returns-clause-does : goal.returns-clause-does
+returns-clause-does g c =
     let old = c.args.self.now in
     let mid = c.begin_if_idle.new.self in
-    let now = c.loop.self in
+    let now = c.loop-alloc.self in
     let points = c.args.points.now in
     let ops = c.args.ops.now in
     let role = as_role points old.list.client ops in
     works_so role (CallsUntil role (λ now. not (is_at_work role now))) (past_of old) (past_of mid) (past_of now) (has_work_as (start_of g.N.Named.records) c.args.points.now c.args.self.now c.requires.client c.args.ops.now c.has_work.result _ c.has_work.ensures.is c.if-not-has_work.false) c.in_ok-begin_if_idle.ensures.under_way (
-      c.loop.invariant.calls,
-      of_same (λ r. not (is_at_work r (past_of now)) ≡ true) points now.list.client old.list.client ops c.loop.invariant.goes_on.client
-          (ap not (at_work (start_of g.N.Named.records) points now c.loop.invariant.client ops ∙ (sym c.is_at_work.ensures ∙ c.if-not-is_at_work.true))),
+      c.loop-alloc.invariant.calls,
+      of_same (λ r. not (is_at_work r (past_of now)) ≡ true) points now.list.client old.list.client ops c.loop-alloc.invariant.goes_on.client
+          (ap not (at_work (start_of g.N.Named.records) points now c.loop-alloc.invariant.client ops ∙ (sym c.is_at_work.ensures ∙ c.loop-alloc-test.false))),
     )
+
+pub loop-alloc-smaller : goal.loop-alloc-smaller
+loop-alloc-smaller g c = c.in_ok-call.ensures.falls (sym c.is_at_work.ensures ∙ c.loop-alloc-test.true)
+
+pub returns-then-not-has_work-clause-falls : goal.returns-then-not-has_work-clause-falls
+returns-then-not-has_work-clause-falls g c = λ has.
+    let old = c.args.self.now in
+    let role = as_role c.args.points.now old.list.client c.args.ops.now in
+    absurd (clash (has_work role (past_of old)) has (has_work_as (start_of g.N.Named.records) c.args.points.now old c.requires.client c.args.ops.now c.has_work.result _ c.has_work.ensures.is c.if-not-has_work.true))
+
+pub returns-clause-falls : goal.returns-clause-falls
+returns-clause-falls g c = λ has.
+    let now = c.loop-alloc.self in
+    op_falls (length c.args.ops.now) c.args.self.now c.begin_if_idle.new.self now (c.has_work.ensures.left c.if-not-has_work.false) c.in_ok-begin_if_idle.ensures.begun c.loop-alloc.invariant.begun
+    (none_due now.due (sym c.is_at_work.ensures ∙ c.loop-alloc-test.false))

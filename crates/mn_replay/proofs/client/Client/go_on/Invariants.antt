@@ -1,4 +1,5 @@
-use Rattle.std.proofs.Common.{length}
+use Rattle.std.proofs.Common.{length, ◌≤◌, ◌≡◌}
+use Rattle.mn_proxy.specs.Measure.{steps_left}
 use Rattle.mn_world.specs.Protocol.{start_of}
 use Rattle.mn_replay.specs.Acts.{GoesByItself}
 use Rattle.mn_replay.specs.Clients.{IsAtSteps, past_of}
@@ -12,4 +13,9 @@ invariant-loop g l = record {
   goes_on : GoesOn (turn_of (seen_of l.fn.table.board) l.fn.table.stations.items l.fn.pass l.fn.self.list) (turn_of (seen_of l.table.board) l.table.stations.items l.pass l.self.list);
   steps : IsAtSteps (start_of g.N.Named.records) l.points l.self;
   own : GoesByItself l.fn.self.list.client (past_of l.fn.self) (past_of l.self);
+  begun : l.self.begun ≡ l.fn.self.begun;
+  fewer : steps_left l.self.proxy ≤ steps_left l.fn.self.proxy;
 }
+
+abbrev pub decreases-loop : goal.decreases-loop
+decreases-loop g l = steps_left l.self.proxy

@@ -17,3 +17,6 @@ make-requires-clause-step g c =
     let past = past_of old in
     let ready = c.requires.ready in
     (want_makes (start_of g.N.Named.records) old.list old.proxy c.next.new.self c.next.ensures.kept ready.0 old.begun ready.1 c.requires.list.begun (c.in-Err.ensures.want past ready.0.agrees) (λ new x. c.in-Err.ensures.left past new ready.0.agrees x), refl)
+
+pub returns-in-Ok-clause-falls : goal.returns-in-Ok-clause-falls
+returns-in-Ok-clause-falls g c = c.take_step.ensures.falls c.args.self.now.proxy c.in-Ok.ensures.falls

@@ -19,7 +19,7 @@ returns-then-not-make_room g c =
       answer = λ not. absurd (not refl);
       none = λ is. room_past old new c.make_room.ensures;
       client = keeps.client;
-      stays = (ap (λ (k : Client). k.proxy) c.make_room.ensures, ap (λ (k : Client). k.due) c.make_room.ensures);
+      stays = (ap (λ (k : Client). k.proxy) c.make_room.ensures, ap (λ (k : Client). k.due) c.make_room.ensures, ap (λ (k : Client). k.begun) c.make_room.ensures);
     }
 
 pub ask-requires : goal.ask-requires
@@ -52,5 +52,5 @@ returns g c =
       answer = λ is. room_answer c.args.points.now c.args.node c.args.request c.ask.result old mid new same (ask.answer is);
       none = λ is. ask.none is ∙ room_past old mid same;
       client = ask.client ∙ keeps.client;
-      stays = (ask.stays.0 ∙ ap (λ (k : Client). k.proxy) same, ask.stays.1 ∙ ap (λ (k : Client). k.due) same);
+      stays = (ask.stays.0 ∙ ap (λ (k : Client). k.proxy) same, ask.stays.1 ∙ ap (λ (k : Client). k.due) same, ask.stays.2 ∙ ap (λ (k : Client). k.begun) same);
     }

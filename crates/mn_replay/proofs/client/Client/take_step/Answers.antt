@@ -1,7 +1,10 @@
-use Rattle.std.proofs.Common.{refl, subst}
+use Rattle.std.proofs.Common.{refl, subst, ap, ◌∙◌}
+use Rattle.mn_proxy.specs.Measure.{Falls, steps_left}
 use Rattle.mn_proxy.specs.declared.step.ProxyStep.{ProxyStep}
 use Rattle.mn_world.specs.Protocol.{start_of}
+use Rattle.mn_replay.specs.declared.client.Client.{Client}
 use Rattle.mn_replay.specs.Going.{MayTake}
+use Rattle.mn_replay.proofs.ClientEnds.{fewer_due, fewer_on, none_rests}
 use Rattle.mn_replay.proofs.ClientSteps.{abandon_makes, answered_rests, call_due, done_makes, made_goes, made_on}
 use Rattle.mn_replay.proofs.ClientActs.{by_none}
 use Rattle.mn_replay.proofs.Turns.{goes_nowhere}
@@ -52,3 +55,22 @@ returns-in-Call-clause-goes_on g c = goes_nowhere _
 
 pub returns-in-Call-clause-own : goal.returns-in-Call-clause-own
 returns-in-Call-clause-own g c = by_none _ _
+
+pub returns-in_ok-issue-in-Issue-clause-falls : goal.returns-in_ok-issue-in-Issue-clause-falls
+returns-in_ok-issue-in-Issue-clause-falls g c = λ before falls.
+    let old = c.args.self.now in
+    fewer_on old c.issue.new.self (steps_left before) c.issue.ensures.stays.0 (subst (λ (s : ProxyStep). Falls before old.proxy s) c.in-Issue.is falls)
+
+pub returns-in_ok-make-in-Abandon-clause-falls : goal.returns-in_ok-make-in-Abandon-clause-falls
+returns-in_ok-make-in-Abandon-clause-falls g c = λ before falls.
+    let old = c.args.self.now in
+    fewer_on old c.make.new.self (steps_left before) (ap (λ (k : Client). k.proxy) c.make.ensures.same) (subst (λ (s : ProxyStep). Falls before old.proxy s) c.in-Abandon.is falls)
+
+pub returns-in-Call-clause-falls : goal.returns-in-Call-clause-falls
+returns-in-Call-clause-falls g c = λ before falls.
+    let old = c.args.self.now in
+    fewer_due (steps_left old.proxy) (steps_left before) (subst (λ (s : ProxyStep). Falls before old.proxy s) c.in-Call.is falls)
+
+pub returns-in_ok-make-in-Done-clause-falls : goal.returns-in_ok-make-in-Done-clause-falls
+returns-in_ok-make-in-Done-clause-falls g c = λ before falls.
+    none_rests c.make-in-Done.new.self (steps_left before) (ap (λ (k : Client). k.due) c.make-in-Done.ensures.same ∙ c.requires.none_due)

@@ -3,6 +3,7 @@ use Rattle.std.specs.Prelude.{⊤}
 use Rattle.mn_recov.specs.Recovery.{Recovery}
 use Rattle.mn_replay.specs.Desks.{IsWork}
 use Rattle.mn_world.specs.Protocol.{start_of}
+use Rattle.mn_replay.proofs.DeskEnds.{call_falls}
 use Rattle.mn_replay.proofs.Recoveries.{asks_last, asks_more, entered_by}
 use Rattle.mn_replay.proofs.Recovering.{work_goes_on}
 use Rattle.mn_replay.proofs.Turns.{goes_nowhere}
@@ -44,3 +45,8 @@ returns-clause-asks g c =
     let last = c.in_default-next-2 in
     asks_more c.args.self.now.work c.in-Some.work c.feed.new.self n request reply old new.list c.in-Some.ensures.value c.in-Send.ensures.step (entered_by n request reply old new.list c.send-reply.ensures.said c.send-reply.ensures.none) c.feed.ensures.fed
     _ c.is_force-force.result c.has_to_wait-waits.result last.field-0 last.field-1 last.ensures.step refl c.is_force-force.ensures c.has_to_wait-waits.ensures
+
+pub returns-clause-falls : goal.returns-clause-falls
+returns-clause-falls g c = λ on.
+    call_falls c.args.self.now.work c.in-Some.work c.feed.new.self c.in-Send.node c.in-Send.request c.send-reply.result c.is_force-force.result c.has_to_wait-waits.result c.in-Some.ensures.value c.in-Send.ensures.step c.send-reply.ensures.fits c.feed.ensures.fed
+    c.is_force-force.ensures c.has_to_wait-waits.ensures on

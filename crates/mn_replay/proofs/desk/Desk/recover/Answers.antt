@@ -12,8 +12,8 @@ returns-in_err-take_work-clause-goes_on g c =
     let t = turn_of (seen_of c.args.table.now.board) c.args.table.now.stations.items c.args.pass.now c.args.self.now.list in
     goes_same t _ (ap (λ (l : ClientState). l.client) c.take_work.ensures.list) (ap (λ (l : ClientState). l.entries) c.take_work.ensures.list)
 
-pub loop-init : goal.loop-init
-loop-init g c =
+pub loop-alloc-init : goal.loop-alloc-init
+loop-alloc-init g c =
     let t = turn_of (seen_of c.args.table.now.board) c.args.table.now.stations.items c.args.pass.now c.args.self.now.list in
     let client = ap (λ (l : ClientState). l.client) c.take_work.ensures.list in
     let entries = ap (λ (l : ClientState). l.entries) c.take_work.ensures.list in
@@ -25,17 +25,20 @@ loop-init g c =
       desk = c.take_work.ensures.desk (start_of g.N.Named.records) c.nodes.ensures.count c.requires.desk;
     }
 
-pub returns-then-not-call-clause-goes_on : goal.returns-then-not-call-clause-goes_on
-returns-then-not-call-clause-goes_on g c = goes_further _ _ _ c.loop.invariant.goes_on c.call.ensures.goes_on
+pub returns-clause-goes_on : goal.returns-clause-goes_on
+returns-clause-goes_on g c = goes_further _ _ _ c.loop-alloc.invariant.goes_on c.call.ensures.goes_on
 
-pub loop-preserved : goal.loop-preserved
-loop-preserved g c = record {
+pub loop-alloc-preserved : goal.loop-alloc-preserved
+loop-alloc-preserved g c = record {
   turn = c.call.ensures.turn;
-  goes_on = goes_further _ _ _ c.loop.invariant.goes_on c.call.ensures.goes_on;
-  does = λ es is. inr (asked_next (length g.N.Named.records) c.args.self.now.list.client es (bench_of c.args.self.now) (bench_of c.loop.self) (bench_of c.call.new.self) c.loop.self.list.client c.call.result true (c.loop.invariant.does es is) c.loop.invariant.goes_on.client c.if-not-call.false c.call.ensures.asks);
+  goes_on = goes_further _ _ _ c.loop-alloc.invariant.goes_on c.call.ensures.goes_on;
+  does = λ es is. inr (asked_next (length g.N.Named.records) c.args.self.now.list.client es (bench_of c.args.self.now) (bench_of c.loop-alloc.self) (bench_of c.call.new.self) c.loop-alloc.self.list.client c.call.result true (c.loop-alloc.invariant.does es is) c.loop-alloc.invariant.goes_on.client c.loop-alloc-test.true c.call.ensures.asks);
   desk = c.call.ensures.desk;
 }
 
-pub returns-then-not-call-clause-does : goal.returns-then-not-call-clause-does
-returns-then-not-call-clause-does g c = λ es is.
-    asked_next (length g.N.Named.records) c.args.self.now.list.client es (bench_of c.args.self.now) (bench_of c.loop.self) (bench_of c.call.new.self) c.loop.self.list.client c.call.result false (c.loop.invariant.does es is) c.loop.invariant.goes_on.client c.if-not-call.true c.call.ensures.asks
+pub returns-clause-does : goal.returns-clause-does
+returns-clause-does g c = λ es is.
+    asked_next (length g.N.Named.records) c.args.self.now.list.client es (bench_of c.args.self.now) (bench_of c.loop-alloc.self) (bench_of c.call.new.self) c.loop-alloc.self.list.client c.call.result false (c.loop-alloc.invariant.does es is) c.loop-alloc.invariant.goes_on.client c.loop-alloc-test.false c.call.ensures.asks
+
+pub loop-alloc-smaller : goal.loop-alloc-smaller
+loop-alloc-smaller g c = c.call.ensures.falls c.loop-alloc-test.true
