@@ -1,7 +1,7 @@
 -- How an operation begins, and how its proxy issues a minitransaction, by its client's own list.
 use Rattle.std.proofs.Common.{◌≡◌, ◌⊎◌, inl, inr, ℕ, zero, suc, true, false, not, ◌||◌, ◌+◌, List, [], ◌∷◌, length}
 use Rattle.std.proofs.Common.{Option, Some, None, refl, subst, sym, ap, ◌∙◌}
-use Rattle.std.specs.Prelude.{IsSome, MatchOption, replicate}
+use Rattle.std.specs.Prelude.{IsSome, MatchOption}
 use Rattle.std.specs.List.{list_all, flat_map}
 use Rattle.mn_base.proofs.Booleans.{or_left, or_right}
 use Rattle.mn_base.specs.declared.ids.Tid.{Tid}
@@ -11,7 +11,7 @@ use Rattle.mn_base.specs.declared.reply.Reply.{Reply}
 use Rattle.mn_coord.specs.Coordination.{Coordination}
 use Rattle.mn_coord.specs.Legal.{Agrees as CoordAgrees, IsFresh}
 use Rattle.mn_mini.specs.declared.item.Item.TheVariants.{Read}
-use Rattle.mn_mini.specs.Mini.{IsSound, Mini, participants_of}
+use Rattle.mn_mini.specs.Mini.{IsSound, Mini}
 use Rattle.mn_page.specs.declared.entry.CatEntry.{CatEntry}
 use Rattle.mn_world.specs.declared.entry.Entry.{Entry}
 use Rattle.mn_world.specs.declared.entry.What.{What}
@@ -40,7 +40,7 @@ use Rattle.mn_proxy.specs.Issues.{are_closed, tid_of}
 use Rattle.mn_proxy.specs.Jobs.{ReadsShow, ScanShown}
 use Rattle.mn_proxy.specs.State.{ProxyState}
 use Rattle.mn_proxy.specs.Tries.{IsTrying}
-use Rattle.mn_proxy.specs.Turns.{ComparesFor, MayIssue, TurnAgrees, read_mini}
+use Rattle.mn_proxy.specs.Turns.{ComparesFor, MayIssue, TurnAgrees, new_coordination, read_mini}
 use Rattle.mn_proxy.specs.Walks.{IfLater}
 use Rattle.mn_proxy.specs.Works.{IsStartable, new_work}
 use Rattle.mn_proxy.proofs.Issues.{GoesOn, closed_are_settled, closed_follow, closed_none, closed_since, fresh_begun, fresh_next}
@@ -210,19 +210,6 @@ goes_issued es known w by.Count c seens none goes shown =
     subst (λ (n : ℕ). ReadGoesOn es known w by.Count n c.reads) (sym none) goes.is
 goes_issued es known w (by.Plan reply) c seens none goes shown =
     (goes.is, subst (λ (l : List Seen). IfLater w.failed (AreComparesShown l c.mini)) (sym goes.seens_are) shown)
-
--- a coordinator that has just begun
-abbrev pub new_coordination : Tid → Mini → Coordination
-new_coordination tid mini = record {
-  tid = tid;
-  mini = mini;
-  done = 0;
-  reads = replicate (length (participants_of mini)) [];
-  refused = None;
-  told = false;
-  decided = 0;
-  asked = false;
-}
 
 -- the id under which the next one is issued
 abbrev pub next_tid : ProxyState → Tid

@@ -12,10 +12,14 @@ pub mod Coordinating
 pub mod Descents
 pub mod Feeding
 pub mod GetsShow
+pub mod Getting
 pub mod Issues
 pub mod Issuing
+pub mod Keeping
+pub mod Kept
 pub mod Measure
 pub mod Opens
+pub mod Paths
 pub mod ReadsShow
 pub mod Retrying
 pub mod Scans

@@ -15,7 +15,7 @@ use Rattle.mn_base.specs.Ids.{node_numbers}
 use Rattle.mn_base.specs.declared.ids.NodeNo.{NodeNo}
 use Rattle.mn_proxy.specs.declared.proxy.TheConstants.{PEEKS}
 use Rattle.mn_mini.specs.declared.reply.NodeReply.{NodeReply}
-use Rattle.mn_proxy.specs.Measure.{Falls, GoesBelow, left_after, left_at, left_for, left_in, steps_left, left_by, left_of, unsent}
+use Rattle.mn_proxy.specs.Measure.{Falls, GoesBelow, left_after, left_at, left_for, left_in, steps_left, left_by, left_of}
 use Rattle.mn_base.specs.declared.ids.Tid.{Tid}
 use Rattle.mn_proxy.specs.declared.errand.Errand.{Errand}
 use Rattle.mn_proxy.specs.declared.errand.Errand.TheVariants as out
@@ -27,8 +27,7 @@ use Rattle.mn_proxy.specs.declared.step.ProxyStep.{ProxyStep}
 use Rattle.mn_proxy.specs.declared.step.ProxyStep.TheVariants as steps
 use Rattle.mn_proxy.specs.declared.work.Work.{Work}
 use Rattle.mn_proxy.specs.State.{IsOutIn, ProxyState}
-use Rattle.mn_proxy.specs.Turns.{IsFed, IsOutFor, with_known, with_work}
-use Rattle.mn_proxy.proofs.Issuing.{new_coordination}
+use Rattle.mn_proxy.specs.Turns.{IsFed, IsOutFor, new_coordination, with_known, with_work}
 use Rattle.mn_proxy.proofs.Opens.{with_serial}
 
 -- Serials and Peeks

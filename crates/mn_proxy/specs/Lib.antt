@@ -3,14 +3,17 @@ pub mod Among
 pub mod Answers
 pub mod Attempts
 pub mod Bodies
+pub mod Cached
 pub mod Catalogs
 pub mod Children
 pub mod Counts
 pub mod Descents
 pub mod Issues
 pub mod Jobs
+pub mod Kept
 pub mod Knows
 pub mod Measure
+pub mod Paths
 pub mod Places
 pub mod Refusals
 pub mod Scans

@@ -1,7 +1,7 @@
--- How many steps an operation may still take: each step of its proxy lowers the number, and no reply
--- raises it. Serials bound the minitransactions, and a count the Peeks between two of them.
-use Rattle.std.specs.Prelude.{ℕ, ◌+◌, ◌-◌, ◌*◌, ◌<◌, Bool, if◌then◌else◌, length, Option, Some, None}
-use Rattle.std.specs.Prelude.{⊤}
+-- How many steps an operation may still take: each step of its proxy lowers the number, and no
+-- reply raises it. Serials bound the minitransactions, and a count the Peeks between two of them.
+use Rattle.std.specs.Prelude.{ℕ, ◌+◌, ◌-◌, ◌*◌, ◌<◌, Bool, if◌then◌else◌, length, Option, Some}
+use Rattle.std.specs.Prelude.{None, ⊤}
 use Rattle.mn_coord.specs.Coordination.{Coordination, stage_in}
 use Rattle.mn_coord.specs.declared.stage.Stage.{Stage}
 use Rattle.mn_coord.specs.declared.stage.Stage.TheVariants as At
@@ -22,8 +22,8 @@ use Rattle.mn_proxy.specs.Turns.{with_work}
 abbrev pub unsent : Bool → ℕ → ℕ
 unsent asked steps = if asked then steps - 1 else steps
 
--- each participant that isn't done is asked, then all of them are told; or it is given up, and those
--- that are done are told
+-- each participant that isn't done is asked, then all of them are told; or it is given up, and
+-- those that are done are told
 abbrev pub left_at : ℕ → ℕ → ℕ → Bool → Stage → ℕ
 left_at participants done decided asked At.Ask =
     unsent asked (participants - done + (participants + 1))

@@ -22,6 +22,7 @@ ghost use Rattle.mn_proxy.specs.Attempts.{SameButFound};
 ghost use Rattle.mn_proxy.specs.Attempts.{IsNextStep, IsOnItsWay, KeepsVersion, MovesOn};
 ghost use Rattle.mn_proxy.specs.Attempts.{SameButCounts, StaysOnItsWay, TakesRead, WantsNext};
 ghost use Rattle.mn_proxy.specs.Attempts.{was_read};
+ghost use Rattle.mn_proxy.specs.Cached.{AreUsed, Puts, Walks, next_of, next_by, next_then};
 ghost use Rattle.mn_proxy.specs.Knows.{ArePages, KeepsKnown};
 
 use crate::causes::{LEVELS, fault_among};
@@ -168,6 +169,7 @@ impl Attempt {
         requires nodes { (1 ≤ known.old.nodes) × (known.old.nodes ≤ 8) }
         requires way { IsOnItsWay known.old steps.now self.old }
         ensures kept { KeepsKnown known.old known.new }
+        ensures cache { Walks later (next_of result) known.old.cache known.new.cache }
         ensures stays { KeepsVersion self.old self.new }
         ensures counts { self.new.counts ≡ self.old.counts }
         ensures way { IfOk result (StaysOnItsWay known.new steps.now self.new) }
@@ -197,6 +199,7 @@ impl Attempt {
         requires way { IsOnItsWay known.old steps.now self.old }
         requires more { self.old.done < length steps.now }
         ensures kept { KeepsKnown known.old known.new }
+        ensures cache { Walks later (next_then result) known.old.cache known.new.cache }
         ensures stays { KeepsVersion self.old self.new }
         ensures counts { self.new.counts ≡ self.old.counts }
         ensures later { later ≡ true → self.new.pages ≡ self.old.pages }
@@ -226,6 +229,7 @@ impl Attempt {
         requires way { IsOnItsWay known.old steps.now self.old }
         requires more { self.old.done < length steps.now }
         ensures kept { KeepsKnown known.old known.new }
+        ensures cache { Walks later (next_by result) known.old.cache known.new.cache }
         ensures stays { KeepsVersion self.old self.new }
         ensures counts { self.new.counts ≡ self.old.counts }
         ensures later { later ≡ true → self.new.pages ≡ self.old.pages }
@@ -265,6 +269,7 @@ impl Attempt {
         requires way { IsOnItsWay known.old steps.now self.old }
         requires asks { Asks steps.now self.old addr }
         ensures kept { KeepsKnown known.old known.new }
+        ensures cache { Walks later (next_by result) known.old.cache known.new.cache }
         ensures stays { KeepsVersion self.old self.new }
         ensures counts { self.new.counts ≡ self.old.counts }
         ensures later { later ≡ true → self.new.pages ≡ self.old.pages }
@@ -297,6 +302,7 @@ impl Attempt {
         requires asks { Asks steps.now self.old addr }
         requires node { addr.node.0 < known.old.nodes }
         ensures kept { KeepsKnown known.old known.new }
+        ensures cache { AreUsed known.old.cache known.new.cache }
         ensures stays { KeepsVersion self.old self.new }
         ensures counts { self.new.counts ≡ self.old.counts }
         ensures moved { IfOk result (MovesOn known.new false steps.now self.new) }
@@ -347,6 +353,7 @@ impl Attempt {
         requires asks { Asks steps.now self.old addr }
         requires node { addr.node.0 < known.old.nodes }
         ensures kept { KeepsKnown known.old known.new }
+        ensures cache { Puts addr bytes known.old.cache known.new.cache result }
         ensures stays { KeepsVersion self.old self.new }
         ensures counts { self.new.counts ≡ self.old.counts }
         ensures taken { IfOk result (TakesRead known.old later steps.now self.old addr bytes

@@ -3,6 +3,7 @@ ghost use Rattle.mn_base.specs.Tree.{has_version};
 ghost use Rattle.mn_page.specs.Grammar.{IsPage};
 ghost use Rattle.mn_page.specs.Space.{max_slots};
 ghost use Rattle.mn_alloc.specs.Plan.{next_slot};
+ghost use Rattle.mn_proxy.specs.Cached.{AreUsed, Puts, Walks, next_of, next_then};
 ghost use Rattle.mn_proxy.specs.Children.{CountsOn, DoesChild, HasRead, IsOnItsWay, IsPlanFor};
 ghost use Rattle.mn_proxy.specs.Children.{KeepsTry, MayPlan, RefusesChild, SameButCounts};
 ghost use Rattle.mn_proxy.specs.Children.{StaysOnItsWay, TakesRoot, TakesRootBytes, WantsEnd};
@@ -130,6 +131,7 @@ impl Child {
         bytes: &[u8],
     ) -> Result<Taken, NoMemory>
         ensures kept { KeepsKnown known.old known.new }
+        ensures cache { Puts self.old.root bytes.now known.old.cache known.new.cache result }
         ensures taken { IfOk result (TakesRootBytes known.old.catalog self.old bytes.now self.new) }
         ensures stays { KeepsTry self.old self.new }
     {
@@ -163,6 +165,7 @@ impl Child {
         requires nodes { (1 ≤ known.old.nodes) × (known.old.nodes ≤ 8) }
         requires way { IsOnItsWay known.old op.now self.old }
         ensures kept { KeepsKnown known.old known.new }
+        ensures cache { Walks later (next_of result) known.old.cache known.new.cache }
         ensures stays { KeepsTry self.old self.new }
         ensures way { IfOk result (StaysOnItsWay known.new op.now self.new) }
         ensures later { later ≡ true → self.new ≡ self.old }
@@ -203,6 +206,7 @@ impl Child {
         requires pages { ArePages known.old.cache }
         requires none { self.old.page ≡ None }
         ensures kept { KeepsKnown known.old known.new }
+        ensures cache { Walks later (next_then result) known.old.cache known.new.cache }
         ensures stays { KeepsTry self.old self.new }
         ensures later { later ≡ true → self.new ≡ self.old }
         ensures wants { IfOk result (WantsRoot known.old later self.old self.new) }
@@ -228,6 +232,7 @@ impl Child {
         requires none { self.old.page ≡ None }
         requires node { self.old.root.node.0 < known.old.nodes }
         ensures kept { KeepsKnown known.old known.new }
+        ensures cache { AreUsed known.old.cache known.new.cache }
         ensures stays { KeepsTry self.old self.new }
         ensures wants { IfOk result (WantsRoot known.old false self.old self.new) }
     {

@@ -1,12 +1,14 @@
-ghost use Rattle.std.specs.Prelude.{◌≡◌, ◌≤◌, false, true, IfOk, None};
+ghost use Rattle.std.specs.Prelude.{◌≡◌, ◌≢◌, ◌<◌, ◌≤◌, false, true, IfOk, OnErr, OnOk, None, Some};
 ghost use Rattle.std.specs.Option.{option_map};
 ghost use Rattle.mn_base.specs.Store.{value_at};
 ghost use Rattle.mn_page.specs.Grammar.{IsPage, height_of};
 ghost use Rattle.mn_page.specs.Holds.{pairs_in};
+ghost use Rattle.mn_proxy.specs.Cached.{AreUsed, Puts, Walks, with_inner};
 ghost use Rattle.mn_proxy.specs.Descents.{FailsOff, DescentGoesOn, TakesPageBy, WantsPage};
 ghost use Rattle.mn_proxy.specs.Descents.{goes_by_kept};
 ghost use Rattle.mn_proxy.specs.Descents.{gone_below, may_be_leaf, values_at, wanted};
 ghost use Rattle.mn_proxy.specs.Knows.{ArePages, KeepsKnown};
+ghost use Rattle.mn_proxy.specs.Paths.{LeadsTo, PathPasses};
 ghost use Rattle.mn_proxy.specs.Walks.{IsAbove};
 ghost use Rattle.mn_proxy.specs.declared.get.Passed.TheVariants as passed;
 
@@ -131,11 +133,47 @@ impl Descent {
     fn pass_kept(&mut self, known: &mut Known, key: &[u8]) -> Passed
         requires pages { ArePages known.old.cache }
         ensures kept { KeepsKnown known.old known.new }
+        ensures cache { AreUsed known.old.cache known.new.cache }
         ensures above { IsAbove self.old.above → IsAbove self.new.above }
         ensures version { self.new.version ≡ self.old.version }
         ensures stays { (result ≡ passed.On → ⊥) → self.new ≡ self.old }
+        ensures path { (leaf : Descent) → LeadsTo known.old key.now self.old leaf
+            → PathPasses known.new key.now self.old self.new leaf result }
     {
-        let (Some(kept), Some(page)) = (&known.catalog, known.cache.get(self.addr)) else {
+        // A leaf is never kept.
+        if self.is_below_lowest() {
+            return Passed::Missing;
+        }
+        self.pass_inner(known, key)
+    }
+
+    /// Whether a leaf has to stand where it needs a page.
+    fn is_below_lowest(&self) -> bool
+        ensures lowest { result ≡ true → self.now.above ≡ Some 1 }
+        ensures higher { result ≡ false → self.now.above ≢ Some 1 }
+    {
+        match self.above {
+            Some(above) => above == 1,
+            None => false,
+        }
+    }
+
+    /// Goes on at the inner page that it needs, if it is kept.
+    fn pass_inner(&mut self, known: &mut Known, key: &[u8]) -> Passed
+        requires pages { ArePages known.old.cache }
+        requires higher { self.old.above ≢ Some 1 }
+        ensures kept { KeepsKnown known.old known.new }
+        ensures cache { AreUsed known.old.cache known.new.cache }
+        ensures above { IsAbove self.old.above → IsAbove self.new.above }
+        ensures version { self.new.version ≡ self.old.version }
+        ensures stays { (result ≡ passed.On → ⊥) → self.new ≡ self.old }
+        ensures path { (leaf : Descent) → LeadsTo known.old key.now self.old leaf
+            → PathPasses known.new key.now self.old self.new leaf result }
+    {
+        let Some(kept) = &known.catalog else {
+            return Passed::Missing;
+        };
+        let Some(page) = known.cache.get(self.addr) else {
             return Passed::Missing;
         };
         let front = Front::of_page(page);
@@ -155,9 +193,12 @@ impl Descent {
         requires pages { ArePages known.old.cache }
         requires above { IsAbove self.old.above }
         ensures kept { KeepsKnown known.old known.new }
+        ensures cache { Walks later (Some result) known.old.cache known.new.cache }
         ensures above { IsAbove self.new.above }
         ensures version { self.new.version ≡ self.old.version }
         ensures wants { WantsPage known.old.nodes later self.new result }
+        ensures path { (leaf : Descent) → LeadsTo known.old key.now self.old leaf
+            → later ≡ false → (self.new ≡ leaf) × (result ≡ wanted false leaf) }
         ensures later { later ≡ true → self.new ≡ self.old }
         ensures fault { later ≡ true → FailsOff known.old.nodes self.old.addr result }
     {
@@ -171,6 +212,7 @@ impl Descent {
     /// What it wants next in a later try, which reads each page anew.
     fn reach_anew(&self, known: &mut Known) -> Next
         ensures kept { KeepsKnown known.old known.new }
+        ensures cache { Walks true (Some result) known.old.cache known.new.cache }
         ensures wants { WantsPage known.old.nodes true self.now result }
         ensures fault { FailsOff known.old.nodes self.now.addr result }
     {
@@ -188,19 +230,17 @@ impl Descent {
         requires pages { ArePages known.old.cache }
         requires above { IsAbove self.old.above }
         ensures kept { KeepsKnown known.old known.new }
+        ensures cache { AreUsed known.old.cache known.new.cache }
         ensures above { IsAbove self.new.above }
         ensures version { self.new.version ≡ self.old.version }
         ensures wants { WantsPage known.old.nodes false self.new result }
+        ensures path { (leaf : Descent) → LeadsTo known.old key.now self.old leaf
+            → (self.new ≡ leaf) × (result ≡ wanted false leaf) }
     {
         for _level in 0..LEVELS {
-            if !known.has_node(self.addr) {
-                return Next::Fails {
-                    cause: fault_at(self.addr, 0),
-                };
-            }
             match self.pass_kept(known, key) {
                 Passed::On => {}
-                Passed::Missing => return self.want(false),
+                Passed::Missing => return self.want_on(known),
                 Passed::Fault { seq } => {
                     return Next::Fails {
                         cause: fault_at(self.addr, seq),
@@ -209,6 +249,19 @@ impl Descent {
             }
         }
         Next::Fails { cause: None }
+    }
+
+    /// The page that it needs in a first try, if its address is on one of the nodes.
+    fn want_on(&self, known: &Known) -> Next
+        ensures wants { WantsPage known.now.nodes false self.now result }
+        ensures there { self.now.addr.node.0 < known.now.nodes → result ≡ wanted false self.now }
+    {
+        if !known.has_node(self.addr) {
+            return Next::Fails {
+                cause: fault_at(self.addr, 0),
+            };
+        }
+        self.want(false)
     }
 
     /// The page that it needs.
@@ -232,6 +285,7 @@ impl Descent {
         requires pages { ArePages known.old.cache }
         requires above { IsAbove self.old.above }
         ensures kept { KeepsKnown known.old known.new }
+        ensures cache { Puts self.old.addr bytes.now known.old.cache known.new.cache result }
         ensures above { IsAbove self.new.above }
         ensures version { self.new.version ≡ self.old.version }
         ensures taken { DescentGoesOn known.old.catalog self.old key.now bytes.now self.new result }
@@ -279,6 +333,9 @@ impl Descent {
         requires pages { ArePages known.old.cache }
         requires above { IsAbove self.old.above }
         ensures kept { KeepsKnown known.old known.new }
+        ensures put { OnOk result
+            (known.new.cache ≡ with_inner self.old.addr inner known.old.cache) }
+        ensures left { OnErr result (known.new.cache ≡ known.old.cache) }
         ensures above { IsAbove self.new.above }
         ensures version { self.new.version ≡ self.old.version }
         ensures taken { TakesPageBy known.old.catalog self.old key.now inner self.new result }

@@ -1,6 +1,7 @@
-ghost use Rattle.std.specs.Prelude.{◌≡◌, IfOk, IfSome, OnErr, nat_lt};
+ghost use Rattle.std.specs.Prelude.{◌≡◌, IfOk, IfSome, OnErr, OnOk, nat_lt};
 ghost use Rattle.std.specs.Option.{option_map};
 ghost use Rattle.mn_page.specs.Grammar.{IsPage};
+ghost use Rattle.mn_proxy.specs.Cached.{AreUsed, with_inner};
 ghost use Rattle.mn_proxy.specs.Catalogs.{found, refusal_by, root_by};
 ghost use Rattle.mn_proxy.specs.Knows.{ArePages, KeepsKnown, LearnsFrom, lacks_catalog};
 
@@ -73,6 +74,8 @@ impl Known {
     pub fn keep_inner(&mut self, alloc: Global, addr: Addr, page: &Page) -> Result<(), NoMemory>
         requires page { IsPage page.now }
         ensures kept { KeepsKnown self.old self.new }
+        ensures put { OnOk result (self.new.cache ≡ with_inner addr page.now self.old.cache) }
+        ensures left { OnErr result (self.new.cache ≡ self.old.cache) }
     {
         if is_leaf(page) {
             return Ok(());
@@ -86,6 +89,7 @@ impl Known {
     pub fn kept_page(&mut self, alloc: Global, addr: Addr) -> Result<Option<Page>, NoMemory>
         requires pages { ArePages self.old.cache }
         ensures kept { KeepsKnown self.old self.new }
+        ensures used { AreUsed self.old.cache self.new.cache }
         ensures page { IfOk result (λ page. IfSome page IsPage) }
     {
         match self.cache.get(addr) {

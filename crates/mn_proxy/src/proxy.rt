@@ -1,6 +1,9 @@
 ghost use Rattle.std.specs.Prelude.{◌≡◌, ◌≤◌, ◌<◌, ◌+◌, ◌∷◌, [], List, IfOk, OnErr, None, Some};
 ghost use Rattle.std.specs.Prelude.{true, false};
 ghost use Rattle.mn_base.specs.declared.ids.NodeNo.{NodeNo};
+ghost use Rattle.mn_base.specs.declared.op.Op.{Op};
+ghost use Rattle.mn_proxy.specs.declared.errand.Errand.{Errand};
+ghost use Rattle.mn_proxy.specs.declared.work.Work.{Work};
 ghost use Rattle.mn_coord.specs.Legal.{IsAnswered};
 ghost use Rattle.mn_mini.specs.Mini.{IsInSpace, IsSound};
 ghost use Rattle.mn_mini.specs.Sound.{Fits};
@@ -15,7 +18,21 @@ ghost use Rattle.mn_proxy.specs.Agrees.{ErrandAgrees};
 ghost use Rattle.mn_proxy.specs.Agrees.{HasOut, HasRead, IsAtRest, IsOwn, IsPlaceFor, IsSoundStep};
 ghost use Rattle.mn_proxy.specs.Agrees.{MayPeekFor, MayStep, MayWant, MiniAgrees, Wants};
 ghost use Rattle.mn_proxy.specs.Issues.{AreClosed};
+ghost use Rattle.mn_base.specs.declared.ids.Tid.{Tid};
+ghost use Rattle.mn_coord.specs.Coordination.{Coordination, step_of, fed as fed_by};
+ghost use Rattle.mn_coord.specs.declared.step.CoordStep.TheVariants.{Send};
+ghost use Rattle.mn_proxy.specs.declared.errand.Purpose.{Purpose};
+ghost use Rattle.mn_world.specs.Places.{catalog_place};
+ghost use Rattle.mn_proxy.specs.declared.errand.Purpose.TheVariants as purposes;
+ghost use Rattle.mn_proxy.specs.declared.get.Descent.{Descent};
+ghost use Rattle.mn_proxy.specs.Cached.{Walks, next_of};
+ghost use Rattle.mn_proxy.specs.Kept.{CacheGoes, CacheTurns, CatalogGoes, CatalogTurns, GoesWith};
+ghost use Rattle.mn_proxy.specs.Kept.{Calls, Issues, PutsRead, Reads, StepCalls, read_by};
+ghost use Rattle.mn_proxy.specs.Kept.{read_for, read_when};
 ghost use Rattle.mn_proxy.specs.Knows.{ArePages, KeepsKnown};
+ghost use Rattle.mn_proxy.specs.Paths.{HasCurrentPath, HasLeaf, ReadsLeaf, StepReadsLeaf};
+ghost use Rattle.mn_proxy.specs.Paths.{WantsLeaf, shown_by};
+ghost use Rattle.mn_proxy.specs.Walks.{is_later};
 ghost use Rattle.mn_proxy.specs.Measure.{Falls, GoesBelow, left_after, left_of, steps_left};
 ghost use Rattle.mn_proxy.specs.Places.{place_of};
 ghost use Rattle.mn_proxy.specs.State.{IsIdle, IsOut, IsOutIn, IsReady, begun, new_proxy};
@@ -24,7 +41,8 @@ ghost use Rattle.mn_proxy.specs.Turns.{CameOf, FailsSo, HasFailed, IsCommitted, 
 ghost use Rattle.mn_proxy.specs.Turns.{IsRefused, IsSoundTurn, IsSoundWork, KeepsSelf, Leaves};
 ghost use Rattle.mn_proxy.specs.Turns.{MayIssue, MayRetry, OwesNoDecide, TurnAgrees, WaitsFor};
 ghost use Rattle.mn_proxy.specs.Turns.{read_alone, read_mini, with_known, with_work};
-ghost use Rattle.mn_proxy.specs.Works.{IsJobOf, IsStartable, KeepsOp, WantsNext, retried_job};
+ghost use Rattle.mn_proxy.specs.Works.{IsJobOf, IsStartable, KeepsOp, WantsNext, new_work};
+ghost use Rattle.mn_proxy.specs.Works.{retried_job};
 
 use crate::causes::refusal;
 use crate::errand::{Errand, Purpose};
@@ -269,6 +287,27 @@ impl Proxy {
 
         // Each step lowers the number of steps that are left, which `feed` never raises.
         ensures falls { IfOk result (Falls self.old self.new) }
+
+        // What is kept stays, but for what was read, for want of room, and for a later try.
+        ensures cache { CacheGoes self.old self.new result }
+        ensures catalog { IfOk result (CatalogGoes self.old self.new) }
+
+        // The calls of a minitransaction are those of its coordinator.
+        ensures calls { (work : Work) (tid : Tid) (c : Coordination) (purpose : Purpose)
+            (node : NodeNo) (request : Request)
+            → (self.old.work ≡ Some (work, errands.Mini tid c purpose))
+            → step_of c ≡ Send node request → IfOk result
+            (StepCalls self.old self.new work tid c purpose node request) }
+
+        // A lone Get with a current path reads its leaf alone, and is done with it.
+        ensures path { (op : Op) (leaf : Descent)
+            → (self.old.work ≡ Some (new_work op, errands.Nothing))
+            → HasCurrentPath self.old.known op leaf
+            → IfOk result (StepReadsLeaf self.old.known.nodes op leaf self.new) }
+        ensures leaf { (work : Work) (errand : Errand) → (self.old.work ≡ Some (work, errand))
+            → (leaf : HasLeaf self.old.known work (read_by errand))
+            → IfOk result (λ step. step ≡ ProxyStep.Done
+            (shown_by self.old.known work (read_by errand) leaf)) }
     {
         let Some((work, errand)) = self.work.take() else {
             return Err(NoMemory);
@@ -297,6 +336,20 @@ impl Proxy {
         ensures kept { KeepsSelf self.old self.new × (self.new.work ≡ None) }
         ensures falls { IfOk result
             (GoesBelow (steps_left (with_work self.old work errand)) self.new) }
+        ensures cache { CacheTurns (read_by errand) (is_later work.failed)
+            self.old.known.cache self.new.known.cache result }
+        ensures catalog { IfOk result
+            (CatalogTurns (read_by errand) self.old.known.catalog self.new.known.catalog) }
+        ensures calls { (tid : Tid) (c : Coordination) (purpose : Purpose) (node : NodeNo)
+            (request : Request) → errand ≡ errands.Mini tid c purpose
+            → step_of c ≡ Send node request
+            → Calls self.old self.new work tid c purpose node request result }
+        ensures path { (op : Op) (leaf : Descent) → (work ≡ new_work op)
+            → errand ≡ errands.Nothing → HasCurrentPath self.old.known op leaf
+            → IfOk result (ReadsLeaf self.old.known.nodes op leaf) }
+        ensures leaf { (leaf : HasLeaf self.old.known work (read_by errand))
+            → IfOk result (λ t. t ≡ turns.Ends
+            (shown_by self.old.known work (read_by errand) leaf)) }
     {
         match errand {
             Errand::Nothing => self.advance(alloc, work),
@@ -341,6 +394,16 @@ impl Proxy {
             → OnErr result (IsOwn es self.new) }
         ensures kept { KeepsSelf self.old self.new × (self.new.work ≡ None) }
         ensures falls { IfOk result (GoesBelow (left_after self.old) self.new) }
+        ensures cache { CacheTurns (read_by (errands.Peeked place reply purpose))
+            (is_later work.failed)
+            self.old.known.cache self.new.known.cache result }
+        ensures catalog { IfOk result
+            (CatalogTurns (read_by (errands.Peeked place reply purpose))
+            self.old.known.catalog self.new.known.catalog) }
+        ensures leaf { (leaf : HasLeaf self.old.known work
+            (read_by (errands.Peeked place reply purpose)))
+            → IfOk result (λ t. t ≡ turns.Ends
+            (shown_by self.old.known work (read_by (errands.Peeked place reply purpose)) leaf)) }
     {
         match reply {
             NodeReply::Peeked { bytes } => self.take(alloc, work, purpose, bytes),
@@ -376,6 +439,20 @@ impl Proxy {
         ensures kept { KeepsSelf self.old self.new × (self.new.work ≡ None) }
         ensures falls { IfOk result
             (GoesBelow (left_after self.old + left_of coordinator) self.new) }
+        ensures calls { (node : NodeNo) (request : Request)
+            → step_of coordinator ≡ Send node request
+            → Calls self.old self.new work tid coordinator purpose node request result }
+        ensures cache { CacheTurns
+            (read_when (step_of coordinator) coordinator.reads purpose) (is_later work.failed)
+            self.old.known.cache self.new.known.cache result }
+        ensures catalog { IfOk result
+            (CatalogTurns (read_when (step_of coordinator) coordinator.reads purpose)
+            self.old.known.catalog self.new.known.catalog) }
+        ensures leaf { (leaf : HasLeaf self.old.known work
+            (read_when (step_of coordinator) coordinator.reads purpose))
+            → IfOk result (λ t. t ≡ turns.Ends
+            (shown_by self.old.known work
+            (read_when (step_of coordinator) coordinator.reads purpose) leaf)) }
     {
         let mut coordinator = coordinator;
         let step = match coordinator.next() {
@@ -422,6 +499,14 @@ impl Proxy {
             → OnErr result (IsOwn es self.new) }
         ensures kept { KeepsSelf self.old self.new × (self.new.work ≡ None) }
         ensures falls { IfOk result (GoesBelow (left_after self.old) self.new) }
+        ensures cache { CacheTurns (read_for purpose outcome.reads.items) (is_later work.failed)
+            self.old.known.cache self.new.known.cache result }
+        ensures catalog { IfOk result
+            (CatalogTurns (read_for purpose outcome.reads.items)
+            self.old.known.catalog self.new.known.catalog) }
+        ensures leaf { (leaf : HasLeaf self.old.known work (read_for purpose outcome.reads.items))
+            → IfOk result (λ t. t ≡ turns.Ends
+            (shown_by self.old.known work (read_for purpose outcome.reads.items) leaf)) }
     {
         match purpose {
             Purpose::Plan { reply } => Ok(ends(Answer::Replied { reply })),
@@ -451,6 +536,9 @@ impl Proxy {
         ensures left { (es : List Entry) → IsOwn es self.old → OnErr result (IsOwn es self.new) }
         ensures kept { KeepsSelf self.old self.new × (self.new.work ≡ None) }
         ensures falls { IfOk result (GoesBelow (left_after self.old) self.new) }
+        ensures cache { self.new.known.cache ≡ self.old.known.cache }
+        ensures catalog { IfOk result
+            (CatalogTurns None self.old.known.catalog self.new.known.catalog) }
     {
         match failure_of(alloc, tid, node, outcome)? {
             Failure::Down => Ok(ends(Answer::Down { node })),
@@ -478,6 +566,14 @@ impl Proxy {
             → HasRead es self.old.known work purpose bytes → OnErr result (IsOwn es self.new) }
         ensures kept { KeepsSelf self.old self.new × (self.new.work ≡ None) }
         ensures falls { IfOk result (GoesBelow (left_after self.old) self.new) }
+        ensures cache { CacheTurns (Some (purpose, bytes)) (is_later work.failed)
+            self.old.known.cache self.new.known.cache result }
+        ensures catalog { IfOk result
+            (CatalogTurns (Some (purpose, bytes))
+            self.old.known.catalog self.new.known.catalog) }
+        ensures leaf { (leaf : HasLeaf self.old.known work (Some (purpose, bytes)))
+            → IfOk result (λ t. t ≡ turns.Ends
+            (shown_by self.old.known work (Some (purpose, bytes)) leaf)) }
     {
         let mut work = work;
         match taken_for(alloc, &mut work, &mut self.known, purpose, bytes)? {
@@ -499,6 +595,10 @@ impl Proxy {
         ensures kept { KeepsKnown self.old.known self.new.known }
         ensures op { KeepsOp work.old work.new }
         ensures wants { IfOk result (WantsNext self.new.known work.old work.new) }
+        ensures cache { Walks (is_later work.old.failed) (next_of result)
+            self.old.known.cache self.new.known.cache }
+        ensures path { (op : Op) (leaf : Descent) → (work.old ≡ new_work op)
+            → HasCurrentPath self.old.known op leaf → IfOk result (WantsLeaf leaf work.new) }
         ensures few { self.new.known.nodes ≤ 8 }
     {
         self.has_nodes();
@@ -516,6 +616,13 @@ impl Proxy {
         ensures left { (es : List Entry) → IsOwn es self.old → OnErr result (IsOwn es self.new) }
         ensures kept { KeepsSelf self.old self.new × (self.new.work ≡ None) }
         ensures falls { IfOk result (GoesBelow (left_after self.old) self.new) }
+        ensures cache { CacheTurns None (is_later work.failed)
+            self.old.known.cache self.new.known.cache result }
+        ensures catalog { IfOk result
+            (CatalogTurns None self.old.known.catalog self.new.known.catalog) }
+        ensures path { (op : Op) (leaf : Descent) → (work ≡ new_work op)
+            → HasCurrentPath self.old.known op leaf
+            → IfOk result (ReadsLeaf self.old.known.nodes op leaf) }
     {
         causes_are_shown();
         let mut work = work;
@@ -554,6 +661,9 @@ impl Proxy {
         ensures left { (es : List Entry) → IsOwn es self.old → OnErr result (IsOwn es self.new) }
         ensures kept { KeepsSelf self.old self.new × (self.new.work ≡ None) }
         ensures falls { IfOk result (GoesBelow (left_after self.old) self.new) }
+        ensures known { self.new.known ≡ self.old.known }
+        ensures reads { IfOk result
+            (Issues work purposes.Catalog (read_mini self.old.known.nodes catalog_place)) }
     {
         self.has_nodes();
         self.read(alloc, work, Place::of_catalog(), false, Purpose::Catalog)
@@ -580,6 +690,9 @@ impl Proxy {
         ensures left { (es : List Entry) → IsOwn es self.old → OnErr result (IsOwn es self.new) }
         ensures kept { KeepsSelf self.old self.new × (self.new.work ≡ None) }
         ensures falls { IfOk result (GoesBelow (left_after self.old) self.new) }
+        ensures known { self.new.known ≡ self.old.known }
+        ensures reads { IfOk result
+            (Reads peek work purpose (read_mini self.old.known.nodes (place_of place))) }
     {
         if !self.may_peek(peek) {
             let mini = read_of(alloc, self.known.nodes, place)?;
@@ -610,6 +723,8 @@ impl Proxy {
         ensures left { (es : List Entry) → IsOwn es self.old → OnErr result (IsOwn es self.new) }
         ensures kept { KeepsSelf self.old self.new × (self.new.work ≡ None) }
         ensures falls { IfOk result (GoesBelow (left_after self.old) self.new) }
+        ensures known { self.new.known ≡ self.old.known }
+        ensures reads { IfOk result (GoesWith work) }
     {
         if !is_in_space(&place) {
             return Err(NoMemory);
@@ -644,6 +759,8 @@ impl Proxy {
         ensures left { (es : List Entry) → IsOwn es self.old → OnErr result (IsOwn es self.new) }
         ensures kept { KeepsSelf self.old self.new × (self.new.work ≡ None) }
         ensures falls { IfOk result (GoesBelow (left_after self.old) self.new) }
+        ensures known { self.new.known ≡ self.old.known }
+        ensures issues { IfOk result (Issues work purpose mini) }
     {
         is_sound(&mini);
         if self.issued == u32::MAX {
@@ -677,6 +794,9 @@ impl Proxy {
         ensures left { (es : List Entry) → IsOwn es self.old → OnErr result (IsOwn es self.new) }
         ensures kept { KeepsSelf self.old self.new × (self.new.work ≡ None) }
         ensures falls { IfOk result (GoesBelow (left_after self.old) self.new) }
+        ensures cache { self.new.known.cache ≡ self.old.known.cache }
+        ensures catalog { IfOk result
+            (CatalogTurns None self.old.known.catalog self.new.known.catalog) }
     {
         match cause {
             None if work.is_later() => Err(NoMemory),
@@ -696,6 +816,9 @@ impl Proxy {
         ensures left { (es : List Entry) → IsOwn es self.old → OnErr result (IsOwn es self.new) }
         ensures kept { KeepsSelf self.old self.new × (self.new.work ≡ None) }
         ensures falls { IfOk result (GoesBelow (left_after self.old) self.new) }
+        ensures cache { self.new.known.cache ≡ self.old.known.cache }
+        ensures catalog { IfOk result
+            (CatalogTurns None self.old.known.catalog self.new.known.catalog) }
     {
         let mut work = work;
         work.retry();
@@ -716,6 +839,10 @@ impl Proxy {
             → OwesNoDecide self.old → Agrees es self.new }
         ensures kept { KeepsSelf self.old self.new }
         ensures falls { steps_left self.new ≤ steps_left self.old }
+        ensures known { self.new.known ≡ self.old.known }
+        ensures fed { (work : Work) (tid : Tid) (c : Coordination) (purpose : Purpose)
+            → (self.old.work ≡ Some (work, errands.Mini tid c purpose))
+            → self.new.work ≡ Some (work, errands.Mini tid (fed_by c reply) purpose) }
     {
         let Some((work, errand)) = self.work.take() else {
             return;
@@ -737,6 +864,7 @@ fn taken_for(
     ensures pages { ArePages known.new.cache }
     ensures leaves { Leaves known.old known.new purpose bytes }
     ensures came { IfOk result (CameOf known.old known.new work.old work.new purpose bytes) }
+    ensures cache { PutsRead (Some (purpose, bytes)) known.old.cache known.new.cache result }
 {
     match purpose {
         Purpose::Catalog => work.take_catalog(alloc, known, bytes.as_slice()),

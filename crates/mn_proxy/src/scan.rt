@@ -1,6 +1,7 @@
 ghost use Rattle.std.specs.Prelude.{◌≡◌, false, true, IfOk, OnOk};
 ghost use Rattle.mn_page.specs.Grammar.{IsPage};
 ghost use Rattle.mn_scan.specs.Scan.{IsNeeded};
+ghost use Rattle.mn_proxy.specs.Cached.{AreUsed, Puts, Walks, next_then};
 ghost use Rattle.mn_proxy.specs.Knows.{ArePages, KeepsKnown};
 ghost use Rattle.mn_proxy.specs.Scans.{FailsOffNodes, IsUnmoved, StaysBefore, ScanGoesOn};
 ghost use Rattle.mn_proxy.specs.Scans.{TakesPage};
@@ -90,6 +91,7 @@ fn pass_kept(
     requires needed { IsNeeded scan.old addr }
     requires above { IsAbove scan.old.above }
     ensures kept { KeepsKnown known.old known.new }
+    ensures cache { AreUsed known.old.cache known.new.cache }
     ensures above { IsAbove scan.new.above }
     ensures alike { OnOk result (WalksAlike scan.old scan.new) }
     ensures missing { IfOk result (IsUnmoved scan.old scan.new) }
@@ -106,6 +108,7 @@ fn pass_kept(
 /// has ended.
 fn reach_anew(scan: &ScanRun, known: &mut Known) -> Option<Next>
     ensures kept { KeepsKnown known.old known.new }
+    ensures cache { Walks true result known.old.cache known.new.cache }
     ensures wants { WantsNext known.old.nodes true scan.now result }
     ensures fault { FailsOffNodes known.old.nodes scan.now.needed result }
 {
@@ -132,6 +135,7 @@ fn reach_kept(
     requires pages { ArePages known.old.cache }
     requires above { IsAbove scan.old.above }
     ensures kept { KeepsKnown known.old known.new }
+    ensures cache { AreUsed known.old.cache known.new.cache }
     ensures above { IsAbove scan.new.above }
     ensures alike { OnOk result (WalksAlike scan.old scan.new) }
     ensures wants { IfOk result (WantsNext known.old.nodes false scan.new) }
@@ -166,6 +170,7 @@ pub fn advance(
     requires pages { ArePages known.old.cache }
     requires above { IsAbove scan.old.above }
     ensures kept { KeepsKnown known.old known.new }
+    ensures cache { Walks later (next_then result) known.old.cache known.new.cache }
     ensures above { IsAbove scan.new.above }
     ensures alike { OnOk result (WalksAlike scan.old scan.new) }
     ensures wants { IfOk result (WantsNext known.old.nodes later scan.new) }
@@ -191,6 +196,7 @@ pub fn take_page(
     requires needed { IsNeeded scan.old addr }
     requires above { IsAbove scan.old.above }
     ensures kept { KeepsKnown known.old known.new }
+    ensures cache { Puts addr bytes.now known.old.cache known.new.cache result }
     ensures above { IsAbove scan.new.above }
     ensures taken { IfOk result (ScanGoesOn known.old name.now scan.old addr bytes.now scan.new) }
     ensures stays { IfOk result (StaysBefore scan.old scan.new) }

@@ -1,4 +1,4 @@
-ghost use Rattle.std.specs.Prelude.{◌≡◌, ◌≢◌, ◌<◌, ◌≤◌, None, Some, IfOk, length};
+ghost use Rattle.std.specs.Prelude.{◌≡◌, ◌≢◌, ◌<◌, ◌≤◌, ℕ, List, None, Some, IfOk, length};
 ghost use Rattle.std.specs.Option.{option_map};
 ghost use Rattle.mn_base.specs.declared.answer.Answer.TheVariants as answer;
 ghost use Rattle.mn_base.specs.declared.reply.Reply.TheVariants.{Pairs};
@@ -6,7 +6,11 @@ ghost use Rattle.mn_proxy.specs.declared.next.Next.TheVariants as next;
 ghost use Rattle.mn_proxy.specs.declared.next.Taken.TheVariants as taken;
 ghost use Rattle.mn_proxy.specs.declared.work.Job.TheVariants as at;
 ghost use Rattle.mn_proxy.specs.declared.work.Started.TheVariants as started;
+ghost use Rattle.mn_proxy.specs.declared.get.Descent.{Descent};
+ghost use Rattle.mn_base.specs.declared.op.Op.{Op};
+ghost use Rattle.mn_proxy.specs.Cached.{Puts, Walks, next_of};
 ghost use Rattle.mn_proxy.specs.Knows.{ArePages, KeepsKnown, LearnsOrKeeps};
+ghost use Rattle.mn_proxy.specs.Paths.{GetsAt, HasCurrentPath, LeadsTo, WantsLeaf};
 ghost use Rattle.mn_proxy.specs.Walks.{is_later};
 ghost use Rattle.mn_proxy.specs.Works.{AsksCount, AsksPage, BeginsJob, GoesOnBy, IsJobIfOn};
 ghost use Rattle.mn_proxy.specs.Works.{IsJobOf, IsScan, IsStartable, KeepsOp, MayStart, StartsBy};
@@ -138,8 +142,12 @@ impl Work {
         requires nodes { (1 ≤ known.old.nodes) × (known.old.nodes ≤ 8) }
         requires job { IsJobOf known.old self.old }
         ensures kept { KeepsKnown known.old known.new }
+        ensures cache { Walks (is_later self.old.failed) (next_of result)
+            known.old.cache known.new.cache }
         ensures op { KeepsOp self.old self.new }
         ensures wants { IfOk result (WantsNext known.new self.old self.new) }
+        ensures path { (op : Op) (leaf : Descent) → self.old ≡ new_work op
+            → HasCurrentPath known.old op leaf → IfOk result (WantsLeaf leaf self.new) }
     {
         if self.lacks_catalog(known) {
             return Ok(Next::Catalog);
@@ -250,8 +258,13 @@ impl Work {
         requires job { IsJobOf known.old self.old }
         requires started { self.old.job ≢ at.Start }
         ensures kept { KeepsKnown known.old known.new }
+        ensures cache { Walks (is_later self.old.failed) (next_of result)
+            known.old.cache known.new.cache }
         ensures op { KeepsOp self.old self.new }
         ensures wants { IfOk result (GoesOnBy known.new self.old self.new) }
+        ensures path { (key : List ℕ) (d leaf : Descent) → self.old.failed ≡ 0
+            → GetsAt self.old key d → LeadsTo known.old key d leaf
+            → IfOk result (WantsLeaf leaf self.new) }
     {
         let later = self.is_later();
         match (&mut self.job, &self.op) {
@@ -339,6 +352,7 @@ impl Work {
         requires job { IsJobOf known.old self.old }
         requires asks { AsksPage known.old self.old addr }
         ensures kept { KeepsKnown known.old known.new }
+        ensures cache { Puts addr bytes known.old.cache known.new.cache result }
         ensures op { KeepsOp self.old self.new }
         ensures taken { IfOk result (TakesPageBytes known.old addr bytes self.old self.new) }
     {

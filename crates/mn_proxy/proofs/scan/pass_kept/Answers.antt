@@ -4,6 +4,7 @@ use Rattle.mn_page.specs.Grammar.{IsPage, height_of}
 use Rattle.mn_page.specs.declared.page.Page.{Page}
 use Rattle.mn_proxy.specs.Knows.{ArePages}
 use Rattle.mn_proxy.proofs.Cached.{found, used}
+use Rattle.mn_proxy.proofs.Keeping.{one_used}
 use Rattle.mn_proxy.proofs.Scans.{not_missing, stays_alike}
 use Rattle.mn_proxy.proofs.scan.pass_kept.Goals as goal
 
@@ -33,3 +34,12 @@ returns-clause-alike c =
 
 pub returns-clause-missing : goal.returns-clause-missing
 returns-clause-missing c e = absurd (not_missing c.in_ok-taken.taken (sym c.passage_of.ensures ∙ e))
+
+pub returns-in_err-page-in-Some-clause-cache : goal.returns-in_err-page-in-Some-clause-cache
+returns-in_err-page-in-Some-clause-cache c = one_used c.args.addr c.args.known.now.cache _ c.get.follows.holds-at-none
+
+pub returns-in_err-taken-clause-cache : goal.returns-in_err-taken-clause-cache
+returns-in_err-taken-clause-cache c = one_used c.args.addr c.args.known.now.cache _ c.get.follows.holds-at-none
+
+pub returns-clause-cache : goal.returns-clause-cache
+returns-clause-cache c = one_used c.args.addr c.args.known.now.cache _ c.get.follows.holds-at-none

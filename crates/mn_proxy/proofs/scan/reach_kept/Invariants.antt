@@ -1,3 +1,4 @@
+use Rattle.mn_proxy.specs.Cached.{AreUsed}
 use Rattle.mn_proxy.specs.Knows.{KeepsKnown}
 use Rattle.mn_proxy.specs.Scans.{WalksAlike}
 use Rattle.mn_proxy.specs.Walks.{IsAbove}
@@ -5,4 +6,5 @@ use Rattle.mn_proxy.proofs.scan.reach_kept.Given as goal
 
 abbrev pub invariant-loop-level : goal.invariant-loop-level
 invariant-loop-level l =
-    KeepsKnown l.fn.known l.known × IsAbove l.scan.above × WalksAlike l.fn.scan l.scan
+    KeepsKnown l.fn.known l.known × AreUsed l.fn.known.cache l.known.cache
+    × IsAbove l.scan.above × WalksAlike l.fn.scan l.scan

@@ -1,10 +1,13 @@
-use Rattle.std.proofs.Common.{◌∙◌, inr, refl, sym, ap, subst}
+use Rattle.std.proofs.Common.{◌∙◌, Bool, Some, false, inr, refl, sym, ap, subst}
 use Rattle.std.proofs.lemmas.Bool.{ltb-false}
 use Rattle.mn_base.specs.Store.{step_key}
 use Rattle.mn_proxy.specs.Attempts.{MovesOn}
+use Rattle.mn_proxy.specs.declared.next.Next.TheVariants as next_is
+use Rattle.mn_proxy.specs.Cached.{Walks}
 use Rattle.mn_proxy.specs.Knows.{ArePages}
 use Rattle.mn_proxy.proofs.Attempts.{at_index, stuck_moves}
 use Rattle.mn_proxy.proofs.Cached.{without}
+use Rattle.mn_proxy.proofs.Keeping.{drops, stays, uses}
 use Rattle.mn_proxy.proofs.attempt.Attempt.reach.Goals as goal
 
 pub returns-then-not-has_node-clause-moved : goal.returns-then-not-has_node-clause-moved
@@ -19,3 +22,15 @@ returns-then-not-has_node-clause-moved c =
 pub returns-clause-kept : goal.returns-clause-kept
 returns-clause-kept c =
     (refl, refl, λ are. subst ArePages (sym c.drop_page.ensures.pages) (without c.args.addr c.args.known.now.cache are))
+
+pub returns-then-not-has_node-clause-cache : goal.returns-then-not-has_node-clause-cache
+returns-then-not-has_node-clause-cache c = stays c.args.later _ c.args.known.now.cache c.args.known.now.cache refl
+
+pub returns-then-not-later-clause-cache : goal.returns-then-not-later-clause-cache
+returns-then-not-later-clause-cache c = uses c.args.later _ c.args.known.now.cache c.reach_kept.new.known.cache c.reach_kept.ensures.cache
+
+pub returns-clause-cache : goal.returns-clause-cache
+returns-clause-cache c =
+    let next = Some (next_is.Page c.args.addr false) in
+    subst (λ (b : Bool). Walks b next c.args.known.now.cache c.drop_page.new.self) (sym c.if-not-later.false)
+    (drops next c.args.known.now.cache c.drop_page.new.self c.drop_page.ensures.pages)

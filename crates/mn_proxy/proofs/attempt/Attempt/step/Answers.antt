@@ -3,6 +3,7 @@ use Rattle.std.proofs.lemmas.Option.{slice_get_read}
 use Rattle.mn_tree.specs.State.{AsksFor}
 use Rattle.mn_proxy.specs.Attempts.{MovesOn}
 use Rattle.mn_proxy.proofs.Attempts.{asks_for, bad_on, changed_or_same, found_on, has_unmet, needs_on, on_its_way, stuck_at, stuck_moves, unmet_on}
+use Rattle.mn_proxy.proofs.Keeping.{stays}
 use Rattle.mn_proxy.proofs.attempt.Attempt.step.Goals as goal
 
 pub reach-requires-clause-way : goal.reach-requires-clause-way
@@ -57,3 +58,24 @@ returns-in-Changed-clause-moved c =
     (λ entries way.
     changed_or_same c.args.known.now.nodes entries c.args.steps.now c.args.self.now _ way (refl, refl) step next c.in_ok-addr.ensures.state refl refl c.moves_take_steps.ensures c.in_ok-addr.field-0 (sym c.in_ok-addr.ensures.answer) c.in-Changed.is refl refl)
     c.requires.way
+
+pub returns-in_err-addr-clause-cache : goal.returns-in_err-addr-clause-cache
+returns-in_err-addr-clause-cache c = stays c.args.later _ c.args.known.now.cache c.args.known.now.cache refl
+
+pub returns-in_err-push-in-Found-clause-cache : goal.returns-in_err-push-in-Found-clause-cache
+returns-in_err-push-in-Found-clause-cache c = stays c.args.later _ c.args.known.now.cache c.args.known.now.cache refl
+
+pub returns-in_err-end_unmet-in-Unmet-clause-cache : goal.returns-in_err-end_unmet-in-Unmet-clause-cache
+returns-in_err-end_unmet-in-Unmet-clause-cache c = stays c.args.later _ c.args.known.now.cache c.args.known.now.cache refl
+
+pub returns-in-BadPath-clause-cache : goal.returns-in-BadPath-clause-cache
+returns-in-BadPath-clause-cache c = stays c.args.later _ c.args.known.now.cache c.args.known.now.cache refl
+
+pub returns-in_ok-push-in-Found-clause-cache : goal.returns-in_ok-push-in-Found-clause-cache
+returns-in_ok-push-in-Found-clause-cache c = stays c.args.later _ c.args.known.now.cache c.args.known.now.cache refl
+
+pub returns-in-Changed-clause-cache : goal.returns-in-Changed-clause-cache
+returns-in-Changed-clause-cache c = stays c.args.later _ c.args.known.now.cache c.args.known.now.cache refl
+
+pub returns-in_ok-end_unmet-in-Unmet-clause-cache : goal.returns-in_ok-end_unmet-in-Unmet-clause-cache
+returns-in_ok-end_unmet-in-Unmet-clause-cache c = stays c.args.later _ c.args.known.now.cache c.args.known.now.cache refl

@@ -6,6 +6,7 @@ use Rattle.mn_proxy.specs.Children.{WantsRoot}
 use Rattle.mn_proxy.specs.Knows.{ArePages}
 use Rattle.mn_proxy.proofs.Cached.{found, used}
 use Rattle.mn_proxy.proofs.Children.{takes_kept}
+use Rattle.mn_proxy.proofs.Keeping.{one_used}
 use Rattle.mn_proxy.proofs.child.Child.reach_kept.Goals as goal
 
 pub returns-in_err-page-in-Some-clause-kept : goal.returns-in_err-page-in-Some-clause-kept
@@ -29,3 +30,9 @@ returns-clause-wants c =
     (found c.args.self.now.root c.args.known.now.cache c.in-Some.page.now c.requires.pages (sym c.get.ensures.found ∙ ap option_copied c.in-Some.is)).0 in
     subst (λ (next : Option Next). WantsRoot c.args.known.now false c.args.self.now c.keep-taken.new.self next) (sym c.failing.ensures)
     (takes_kept c.args.known.now c.args.self.now c.keep-taken.new.self c.in_ok-page-in-Some.page c.keep-taken.result is c.requires.node c.keep-taken.ensures.taken)
+
+pub returns-in_err-page-in-Some-clause-cache : goal.returns-in_err-page-in-Some-clause-cache
+returns-in_err-page-in-Some-clause-cache c = one_used c.args.self.now.root c.args.known.now.cache _ c.get.follows.holds-at-none
+
+pub returns-clause-cache : goal.returns-clause-cache
+returns-clause-cache c = one_used c.args.self.now.root c.args.known.now.cache _ c.get.follows.holds-at-none

@@ -1,8 +1,19 @@
+-- None of the cached pages has left, and the walk leads on to the same leaf.
 use Rattle.std.proofs.Common.{◌≡◌}
+use Rattle.mn_proxy.specs.declared.get.Descent.{Descent}
+use Rattle.mn_proxy.specs.Cached.{AreUsed}
 use Rattle.mn_proxy.specs.Knows.{KeepsKnown}
+use Rattle.mn_proxy.specs.Paths.{LeadsTo}
 use Rattle.mn_proxy.specs.Walks.{IsAbove}
+use Rattle.mn_proxy.proofs.Paths.{HasGone}
 use Rattle.mn_proxy.proofs.get.Descent.reach_kept.Given as goal
 
 abbrev pub invariant-loop-level : goal.invariant-loop-level
-invariant-loop-level l =
-    KeepsKnown l.fn.known l.known × IsAbove l.self.above × (l.self.version ≡ l.fn.self.version)
+invariant-loop-level l = record {
+  kept : KeepsKnown l.fn.known l.known;
+  cache : AreUsed l.fn.known.cache l.known.cache;
+  above : IsAbove l.self.above;
+  version : l.self.version ≡ l.fn.self.version;
+  path : (leaf : Descent) → LeadsTo l.fn.known l.fn.key l.fn.self leaf
+      → LeadsTo l.known l.fn.key l.self leaf × HasGone l._level l.self.above;
+}

@@ -3,6 +3,7 @@ use Rattle.std.specs.Option.{option_copied}
 use Rattle.mn_page.specs.Grammar.{IsPage}
 use Rattle.mn_proxy.specs.Knows.{ArePages}
 use Rattle.mn_proxy.proofs.Cached.{found, used}
+use Rattle.mn_proxy.proofs.Keeping.{one_used}
 use Rattle.mn_proxy.proofs.known.Known.kept_page.Goals as goal
 
 pub returns-in_err-try_copy-in-Some-clause-kept : goal.returns-in_err-try_copy-in-Some-clause-kept
@@ -17,3 +18,9 @@ pub returns-in_ok-try_copy-in-Some-clause-page : goal.returns-in_ok-try_copy-in-
 returns-in_ok-try_copy-in-Some-clause-page c =
     subst IsPage (sym c.in_ok-try_copy-in-Some.ensures)
     (found c.args.addr c.args.self.now.cache c.in-Some.page.now c.requires.pages (sym c.get.ensures.found ∙ ap option_copied c.in-Some.is)).0
+
+pub returns-in_err-try_copy-in-Some-clause-used : goal.returns-in_err-try_copy-in-Some-clause-used
+returns-in_err-try_copy-in-Some-clause-used c = one_used c.args.addr c.args.self.now.cache _ c.get.follows.holds-at-none
+
+pub returns-in_ok-try_copy-in-Some-clause-used : goal.returns-in_ok-try_copy-in-Some-clause-used
+returns-in_ok-try_copy-in-Some-clause-used c = one_used c.args.addr c.args.self.now.cache _ c.get.follows.holds-at-none

@@ -11,6 +11,18 @@ use Rattle.mn_proxy.proofs.Wanting.{answers_self, has_failed, kept_idle, kept_se
 use Rattle.mn_proxy.proofs.Works.{catalog_asked, count_asked, page_asked, plan_asked, retry_after_wants, starts_right}
 use Rattle.mn_proxy.specs.Measure.{GoesBelow, left_after}
 use Rattle.mn_proxy.proofs.Measure.{known_goes}
+use Rattle.std.proofs.Common.{None, Some, refl, ◌∙◌}
+use Rattle.mn_base.specs.declared.error.NoMemory.{NoMemory}
+use Rattle.mn_proxy.specs.declared.known.Known.{Known}
+use Rattle.mn_proxy.specs.declared.proxy.Turn.{Turn}
+use Rattle.mn_proxy.specs.declared.work.Work.{Work}
+use Rattle.mn_proxy.specs.Cached.{Walks}
+use Rattle.mn_proxy.specs.Paths.{ReadsLeaf}
+use Rattle.mn_proxy.specs.Walks.{is_later}
+use Rattle.mn_proxy.proofs.Getting.{reads_leaf}
+use Rattle.mn_proxy.proofs.Keeping.{walks_none}
+use Rattle.mn_proxy.proofs.Kept.{catalog_stays, catalog_then, no_page_turns, page_turns, used_turns}
+use Rattle.mn_proxy.proofs.Taking.{none_made}
 use Rattle.mn_proxy.proofs.proxy.Proxy.advance.Goals as goal
 
 any_err : {T E : Type 0} (r : Result T E) (A : Type 0) → A → OnErr r A
@@ -187,3 +199,120 @@ returns-in-Fails-clause-falls c =
 
 pub returns-in-Answers-clause-falls : goal.returns-in-Answers-clause-falls
 returns-in-Answers-clause-falls c = subst (GoesBelow (left_after c.args.self.now) c.want.new.self) (sym c.ends.ensures) tt
+
+-- What is kept
+
+pub returns-in_err-want-clause-cache : goal.returns-in_err-want-clause-cache
+returns-in_err-want-clause-cache c =
+    used_turns (is_later c.args.work.failed) c.args.self.now.known.cache c.want.new.self.known.cache c.from_residual.result
+    (walks_none (is_later c.args.work.failed) c.args.self.now.known.cache c.want.new.self.known.cache c.in_err-want.ensures.cache)
+
+pub returns-in_err-want-clause-catalog : goal.returns-in_err-want-clause-catalog
+returns-in_err-want-clause-catalog c =
+    catalog_stays c.args.self.now.known.catalog c.want.new.self.known.catalog c.from_residual.result c.want.ensures.kept.1
+
+pub returns-in-Catalog-clause-cache : goal.returns-in-Catalog-clause-cache
+returns-in-Catalog-clause-cache c =
+    no_page_turns (is_later c.args.work.failed) _ c.args.self.now.known.cache c.want.new.self.known.cache c.read_catalog.new.self.known.cache c.read_catalog.result (λ pages. refl)
+    (subst (λ (n : Next). Walks (is_later c.args.work.failed) (Some n) c.args.self.now.known.cache c.want.new.self.known.cache) c.in-Catalog.is c.in_ok-want.ensures.cache)
+    (ap (λ (k : Known). k.cache) c.read_catalog.ensures.known)
+
+pub returns-in-Count-clause-cache : goal.returns-in-Count-clause-cache
+returns-in-Count-clause-cache c =
+    no_page_turns (is_later c.args.work.failed) _ c.args.self.now.known.cache c.want.new.self.known.cache c.read-in-Count.new.self.known.cache c.read-in-Count.result (λ pages. refl)
+    (subst (λ (n : Next). Walks (is_later c.args.work.failed) (Some n) c.args.self.now.known.cache c.want.new.self.known.cache) c.in-Count.is c.in_ok-want.ensures.cache)
+    (ap (λ (k : Known). k.cache) c.read-in-Count.ensures.known)
+
+pub returns-in-Plan-clause-cache : goal.returns-in-Plan-clause-cache
+returns-in-Plan-clause-cache c =
+    no_page_turns (is_later c.args.work.failed) _ c.args.self.now.known.cache c.want.new.self.known.cache c.issue.new.self.known.cache c.issue.result (λ pages. refl)
+    (subst (λ (n : Next). Walks (is_later c.args.work.failed) (Some n) c.args.self.now.known.cache c.want.new.self.known.cache) c.in-Plan.is c.in_ok-want.ensures.cache)
+    (ap (λ (k : Known). k.cache) c.issue.ensures.known)
+
+pub returns-in-Fails-clause-cache : goal.returns-in-Fails-clause-cache
+returns-in-Fails-clause-cache c =
+    no_page_turns (is_later c.args.work.failed) _ c.args.self.now.known.cache c.want.new.self.known.cache c.fail.new.self.known.cache c.fail.result (λ pages. refl)
+    (subst (λ (n : Next). Walks (is_later c.args.work.failed) (Some n) c.args.self.now.known.cache c.want.new.self.known.cache) c.in-Fails.is c.in_ok-want.ensures.cache)
+    (c.fail.ensures.cache)
+
+pub returns-in-Page-clause-cache : goal.returns-in-Page-clause-cache
+returns-in-Page-clause-cache c =
+    page_turns (is_later c.args.work.failed) c.in-Page.addr c.in-Page.peek c.args.self.now.known.cache c.want.new.self.known.cache c.read.new.self.known.cache c.want.new.work _ c.read.result
+    (subst (λ (n : Next). Walks (is_later c.args.work.failed) (Some n) c.args.self.now.known.cache c.want.new.self.known.cache) c.in-Page.is c.in_ok-want.ensures.cache)
+    (ap (λ (k : Known). k.cache) c.read.ensures.known) (ap is_later c.want.ensures.op.1) c.read.ensures.reads
+
+pub returns-in-Answers-clause-cache : goal.returns-in-Answers-clause-cache
+returns-in-Answers-clause-cache c =
+    no_page_turns (is_later c.args.work.failed) _ c.args.self.now.known.cache c.want.new.self.known.cache c.want.new.self.known.cache (Ok c.ends.result) (λ pages. refl)
+    (subst (λ (n : Next). Walks (is_later c.args.work.failed) (Some n) c.args.self.now.known.cache c.want.new.self.known.cache) c.in-Answers.is c.in_ok-want.ensures.cache) refl
+
+pub returns-in-Catalog-clause-catalog : goal.returns-in-Catalog-clause-catalog
+returns-in-Catalog-clause-catalog c =
+    catalog_stays c.args.self.now.known.catalog c.read_catalog.new.self.known.catalog c.read_catalog.result
+    (ap (λ (k : Known). k.catalog) c.read_catalog.ensures.known ∙ c.want.ensures.kept.1)
+
+pub returns-in-Page-clause-catalog : goal.returns-in-Page-clause-catalog
+returns-in-Page-clause-catalog c =
+    catalog_stays c.args.self.now.known.catalog c.read.new.self.known.catalog c.read.result
+    (ap (λ (k : Known). k.catalog) c.read.ensures.known ∙ c.want.ensures.kept.1)
+
+pub returns-in-Count-clause-catalog : goal.returns-in-Count-clause-catalog
+returns-in-Count-clause-catalog c =
+    catalog_stays c.args.self.now.known.catalog c.read-in-Count.new.self.known.catalog c.read-in-Count.result
+    (ap (λ (k : Known). k.catalog) c.read-in-Count.ensures.known ∙ c.want.ensures.kept.1)
+
+pub returns-in-Plan-clause-catalog : goal.returns-in-Plan-clause-catalog
+returns-in-Plan-clause-catalog c =
+    catalog_stays c.args.self.now.known.catalog c.issue.new.self.known.catalog c.issue.result
+    (ap (λ (k : Known). k.catalog) c.issue.ensures.known ∙ c.want.ensures.kept.1)
+
+pub returns-in-Fails-clause-catalog : goal.returns-in-Fails-clause-catalog
+returns-in-Fails-clause-catalog c =
+    catalog_then None c.args.self.now.known.catalog c.want.new.self.known.catalog c.fail.new.self.known.catalog c.fail.result c.want.ensures.kept.1 c.fail.ensures.catalog
+
+pub returns-in-Answers-clause-catalog : goal.returns-in-Answers-clause-catalog
+returns-in-Answers-clause-catalog c =
+    let result : Result Turn NoMemory = Ok c.ends.result in
+    catalog_stays c.args.self.now.known.catalog c.want.new.self.known.catalog result c.want.ensures.kept.1
+
+-- A leaf alone
+
+pub returns-in_err-want-clause-path : goal.returns-in_err-want-clause-path
+returns-in_err-want-clause-path c = λ op leaf new path.
+    none_made c.from_residual.result (ReadsLeaf c.args.self.now.known.nodes op leaf) c.from_residual.ensures.0
+
+pub returns-in-Catalog-clause-path : goal.returns-in-Catalog-clause-path
+returns-in-Catalog-clause-path c = λ op leaf new path.
+    let wants = c.in_ok-want.ensures.path op leaf new path in
+    let both = sym wants.next_is ∙ c.in-Catalog.is in
+    absurd cc
+
+pub returns-in-Count-clause-path : goal.returns-in-Count-clause-path
+returns-in-Count-clause-path c = λ op leaf new path.
+    let wants = c.in_ok-want.ensures.path op leaf new path in
+    let both = sym wants.next_is ∙ c.in-Count.is in
+    absurd cc
+
+pub returns-in-Plan-clause-path : goal.returns-in-Plan-clause-path
+returns-in-Plan-clause-path c = λ op leaf new path.
+    let wants = c.in_ok-want.ensures.path op leaf new path in
+    let both = sym wants.next_is ∙ c.in-Plan.is in
+    absurd cc
+
+pub returns-in-Fails-clause-path : goal.returns-in-Fails-clause-path
+returns-in-Fails-clause-path c = λ op leaf new path.
+    let wants = c.in_ok-want.ensures.path op leaf new path in
+    let both = sym wants.next_is ∙ c.in-Fails.is in
+    absurd cc
+
+pub returns-in-Answers-clause-path : goal.returns-in-Answers-clause-path
+returns-in-Answers-clause-path c = λ op leaf new path.
+    let wants = c.in_ok-want.ensures.path op leaf new path in
+    let both = sym wants.next_is ∙ c.in-Answers.is in
+    absurd cc
+
+pub returns-in-Page-clause-path : goal.returns-in-Page-clause-path
+returns-in-Page-clause-path c = λ op leaf new path.
+    let wants = c.in_ok-want.ensures.path op leaf new path in
+    reads_leaf c.read.result c.args.self.now.known.nodes c.want.new.self.known.nodes op leaf c.want.new.work c.in-Page.addr c.in-Page.peek (place_of c.of_page-place.result)
+    (c.want.ensures.op.0 ∙ ap (λ (w : Work). w.op) new) wants.job_is (sym c.in-Page.is ∙ wants.next_is) c.of_page-place.ensures c.want.ensures.kept.0 c.read.ensures.reads

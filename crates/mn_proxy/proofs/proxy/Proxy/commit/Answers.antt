@@ -3,6 +3,13 @@ use Rattle.mn_proxy.specs.Agrees.{MayWant}
 use Rattle.mn_proxy.specs.Measure.{GoesBelow, left_after}
 use Rattle.mn_proxy.specs.Turns.{IsCommitted, IsSoundTurn, TurnAgrees}
 use Rattle.mn_proxy.proofs.Coordinating.{committed_read, done_read, on_err, plan_answered, read_may_want}
+use Rattle.std.proofs.Common.{Err, Ok, Result, Some, ap}
+use Rattle.mn_base.specs.declared.error.NoMemory.{NoMemory}
+use Rattle.mn_proxy.specs.declared.errand.Purpose.{Purpose}
+use Rattle.mn_proxy.specs.declared.proxy.Turn.{Turn}
+use Rattle.mn_proxy.specs.Kept.{read_for}
+use Rattle.mn_proxy.specs.Walks.{is_later}
+use Rattle.mn_proxy.proofs.Kept.{cache_as, catalog_as, catalog_stays, leaf_as, read_none, read_some, unread_cache, unread_catalog, unread_leaf}
 use Rattle.mn_proxy.proofs.proxy.Proxy.commit.Goals as goal
 
 pub take-requires : goal.take-requires
@@ -24,6 +31,23 @@ pub returns-in-Plan-clause-falls : goal.returns-in-Plan-clause-falls
 returns-in-Plan-clause-falls c =
     subst (GoesBelow (left_after c.args.self.now) c.args.self.now) (sym c.ends.ensures) tt
 
+pub returns-in-Plan-clause-cache : goal.returns-in-Plan-clause-cache
+returns-in-Plan-clause-cache c =
+    unread_cache (read_for c.args.purpose c.args.outcome.reads.items) (is_later c.args.work.failed) c.args.self.now.known.cache c.args.self.now.known.cache (Ok c.ends.result)
+    (ap (λ (p : Purpose). read_for p c.args.outcome.reads.items) c.in-Plan.is) refl
+
+pub returns-in-Plan-clause-catalog : goal.returns-in-Plan-clause-catalog
+returns-in-Plan-clause-catalog c =
+    let result : Result Turn NoMemory = Ok c.ends.result in
+    unread_catalog (read_for c.args.purpose c.args.outcome.reads.items) c.args.self.now.known.catalog c.args.self.now.known.catalog result
+    (ap (λ (p : Purpose). read_for p c.args.outcome.reads.items) c.in-Plan.is)
+    (catalog_stays c.args.self.now.known.catalog c.args.self.now.known.catalog result refl)
+
+pub returns-in-Plan-clause-leaf : goal.returns-in-Plan-clause-leaf
+returns-in-Plan-clause-leaf c = λ leaf.
+    absurd (unread_leaf c.args.self.now.known c.args.work (read_for c.args.purpose c.args.outcome.reads.items)
+    (ap (λ (p : Purpose). read_for p c.args.outcome.reads.items) c.in-Plan.is) leaf)
+
 pub returns-in-Some : goal.returns-in-Some
 returns-in-Some c = record {
   sound = c.take.ensures.sound;
@@ -38,6 +62,14 @@ returns-in-Some c = record {
       c.take.ensures.left es own (done_read es c.args.self.now.known c.args.work c.args.outcome.reads.items c.args.purpose c.in-Some.bytes d (sym c.only_read.ensures ∙ c.in-Some.is));
   kept = c.take.ensures.kept;
   falls = c.take.ensures.falls;
+  cache = cache_as (read_for c.args.purpose c.args.outcome.reads.items) (Some (c.args.purpose, c.in-Some.bytes)) (is_later c.args.work.failed)
+      c.args.self.now.known.cache c.take.new.self.known.cache c.take.result
+      (read_some c.args.purpose c.args.outcome.reads.items c.in-Some.bytes c.in_default.not-Plan (sym c.only_read.ensures ∙ c.in-Some.is)) c.take.ensures.cache;
+  catalog = catalog_as (read_for c.args.purpose c.args.outcome.reads.items) (Some (c.args.purpose, c.in-Some.bytes))
+      c.args.self.now.known.catalog c.take.new.self.known.catalog c.take.result
+      (read_some c.args.purpose c.args.outcome.reads.items c.in-Some.bytes c.in_default.not-Plan (sym c.only_read.ensures ∙ c.in-Some.is)) c.take.ensures.catalog;
+  leaf = leaf_as c.args.self.now.known c.args.work (read_for c.args.purpose c.args.outcome.reads.items) (Some (c.args.purpose, c.in-Some.bytes)) c.take.result
+      (read_some c.args.purpose c.args.outcome.reads.items c.in-Some.bytes c.in_default.not-Plan (sym c.only_read.ensures ∙ c.in-Some.is)) c.take.ensures.leaf;
 }
 
 pub returns-in-None : goal.returns-in-None
@@ -49,4 +81,8 @@ returns-in-None c = record {
   left = λ es own is. own;
   kept = ((refl, refl, refl), c.requires.idle);
   falls = tt;
+  cache = unread_cache (read_for c.args.purpose c.args.outcome.reads.items) (is_later c.args.work.failed) c.args.self.now.known.cache c.args.self.now.known.cache (Err _)
+      (read_none c.args.purpose c.args.outcome.reads.items (sym c.only_read.ensures ∙ c.in-None.is)) refl;
+  catalog = tt;
+  leaf = λ leaf. tt;
 }

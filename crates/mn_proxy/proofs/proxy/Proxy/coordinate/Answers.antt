@@ -13,6 +13,19 @@ use Rattle.mn_proxy.proofs.Answered.{may_want}
 use Rattle.mn_proxy.proofs.Coordinating.{abandons_soundly, fails_over, mini_abandons, mini_commits, mini_doubts, mini_fails, mini_sends, on_err, sends_soundly, waits_startable}
 use Rattle.mn_proxy.specs.Measure.{GoesBelow, left_after, left_of}
 use Rattle.mn_proxy.proofs.Measure.{abandon_falls, coordinates_below, mini_goes, send_falls}
+use Rattle.std.proofs.Common.{None, Ok, Result}
+use Rattle.mn_base.specs.declared.error.NoMemory.{NoMemory}
+use Rattle.mn_coord.specs.Coordination.{step_of}
+use Rattle.mn_coord.specs.declared.step.CoordStep.{CoordStep}
+use Rattle.mn_coord.specs.declared.step.CoordStep.TheVariants.{Committed, Doubt, Failed}
+use Rattle.mn_proxy.specs.declared.errand.Purpose.{Purpose}
+use Rattle.mn_proxy.specs.declared.proxy.Turn.{Turn}
+use Rattle.mn_proxy.specs.Kept.{read_for, read_when}
+use Rattle.mn_proxy.specs.Walks.{is_later}
+use Rattle.mn_proxy.proofs.Kept.{cache_as, catalog_as, catalog_stays, leaf_as, unread_cache, unread_catalog, unread_leaf}
+use Rattle.mn_base.specs.declared.ids.NodeNo.{NodeNo}
+use Rattle.mn_mini.specs.declared.request.Request.{Request}
+use Rattle.mn_proxy.specs.declared.step.ProxyStep.TheVariants as steps
 use Rattle.mn_proxy.proofs.proxy.Proxy.coordinate.Goals as goal
 use Rattle.mn_proxy.proofs.proxy.Proxy.coordinate.Goals.{in-Send, in-Abandon}
 
@@ -165,3 +178,117 @@ returns-clause-falls c =
           abandon_falls c.args.coordinator c.next.new.self (sym c.next.ensures.step ∙ w.in-Abandon.is)
           (c.next.ensures.after ∙ ap (after_step c.args.coordinator) w.in-Abandon.is)
     ]))
+
+-- What is kept
+
+-- what is read of a minitransaction, by what it wants next
+read_as : (c : Coordination) (purpose : Purpose) (step : CoordStep) → step_of c ≡ step
+    → read_when (step_of c) c.reads purpose ≡ read_when step c.reads purpose
+read_as c purpose step is = ap (λ (s : CoordStep). read_when s c.reads purpose) is
+
+pub returns-in-Committed-clause-cache : goal.returns-in-Committed-clause-cache
+returns-in-Committed-clause-cache c =
+    cache_as (read_when (step_of c.args.coordinator) c.args.coordinator.reads c.args.purpose) (read_for c.args.purpose c.into_outcome.result.reads.items) (is_later c.args.work.failed) c.args.self.now.known.cache c.commit.new.self.known.cache c.commit.result
+    (read_as c.args.coordinator c.args.purpose Committed (sym c.next.ensures.step ∙ c.in-Committed.is)
+    ∙ ap (read_for c.args.purpose) (sym (c.into_outcome.ensures.reads ∙ ap (λ (x : Coordination). x.reads) (c.next.ensures.after ∙ ap (after_step c.args.coordinator) c.in-Committed.is))))
+    c.commit.ensures.cache
+
+pub returns-in-Committed-clause-catalog : goal.returns-in-Committed-clause-catalog
+returns-in-Committed-clause-catalog c =
+    catalog_as (read_when (step_of c.args.coordinator) c.args.coordinator.reads c.args.purpose) (read_for c.args.purpose c.into_outcome.result.reads.items) c.args.self.now.known.catalog c.commit.new.self.known.catalog c.commit.result
+    (read_as c.args.coordinator c.args.purpose Committed (sym c.next.ensures.step ∙ c.in-Committed.is)
+    ∙ ap (read_for c.args.purpose) (sym (c.into_outcome.ensures.reads ∙ ap (λ (x : Coordination). x.reads) (c.next.ensures.after ∙ ap (after_step c.args.coordinator) c.in-Committed.is))))
+    c.commit.ensures.catalog
+
+pub returns-in-Committed-clause-leaf : goal.returns-in-Committed-clause-leaf
+returns-in-Committed-clause-leaf c =
+    leaf_as c.args.self.now.known c.args.work (read_when (step_of c.args.coordinator) c.args.coordinator.reads c.args.purpose) (read_for c.args.purpose c.into_outcome.result.reads.items) c.commit.result
+    (read_as c.args.coordinator c.args.purpose Committed (sym c.next.ensures.step ∙ c.in-Committed.is)
+    ∙ ap (read_for c.args.purpose) (sym (c.into_outcome.ensures.reads ∙ ap (λ (x : Coordination). x.reads) (c.next.ensures.after ∙ ap (after_step c.args.coordinator) c.in-Committed.is))))
+    c.commit.ensures.leaf
+
+pub returns-in-Failed-clause-cache : goal.returns-in-Failed-clause-cache
+returns-in-Failed-clause-cache c =
+    unread_cache (read_when (step_of c.args.coordinator) c.args.coordinator.reads c.args.purpose) (is_later c.args.work.failed) c.args.self.now.known.cache c.refuse.new.self.known.cache c.refuse.result
+    (read_as c.args.coordinator c.args.purpose (Failed c.in-Failed.node) (sym c.next.ensures.step ∙ c.in-Failed.is)) c.refuse.ensures.cache
+
+pub returns-in-Failed-clause-catalog : goal.returns-in-Failed-clause-catalog
+returns-in-Failed-clause-catalog c =
+    unread_catalog (read_when (step_of c.args.coordinator) c.args.coordinator.reads c.args.purpose) c.args.self.now.known.catalog c.refuse.new.self.known.catalog c.refuse.result
+    (read_as c.args.coordinator c.args.purpose (Failed c.in-Failed.node) (sym c.next.ensures.step ∙ c.in-Failed.is)) c.refuse.ensures.catalog
+
+pub returns-in-Failed-clause-leaf : goal.returns-in-Failed-clause-leaf
+returns-in-Failed-clause-leaf c = λ leaf.
+    absurd (unread_leaf c.args.self.now.known c.args.work (read_when (step_of c.args.coordinator) c.args.coordinator.reads c.args.purpose)
+    (read_as c.args.coordinator c.args.purpose (Failed c.in-Failed.node) (sym c.next.ensures.step ∙ c.in-Failed.is)) leaf)
+
+pub returns-in-Doubt-clause-cache : goal.returns-in-Doubt-clause-cache
+returns-in-Doubt-clause-cache c =
+    unread_cache (read_when (step_of c.args.coordinator) c.args.coordinator.reads c.args.purpose) (is_later c.args.work.failed) c.args.self.now.known.cache c.args.self.now.known.cache (Ok c.ends.result)
+    (read_as c.args.coordinator c.args.purpose (Doubt c.in-Doubt.node) (sym c.next.ensures.step ∙ c.in-Doubt.is)) refl
+
+pub returns-in-Doubt-clause-catalog : goal.returns-in-Doubt-clause-catalog
+returns-in-Doubt-clause-catalog c =
+    let result : Result Turn NoMemory = Ok c.ends.result in
+    unread_catalog (read_when (step_of c.args.coordinator) c.args.coordinator.reads c.args.purpose) c.args.self.now.known.catalog c.args.self.now.known.catalog result
+    (read_as c.args.coordinator c.args.purpose (Doubt c.in-Doubt.node) (sym c.next.ensures.step ∙ c.in-Doubt.is))
+    (catalog_stays c.args.self.now.known.catalog c.args.self.now.known.catalog result refl)
+
+pub returns-in-Doubt-clause-leaf : goal.returns-in-Doubt-clause-leaf
+returns-in-Doubt-clause-leaf c = λ leaf.
+    absurd (unread_leaf c.args.self.now.known c.args.work (read_when (step_of c.args.coordinator) c.args.coordinator.reads c.args.purpose)
+    (read_as c.args.coordinator c.args.purpose (Doubt c.in-Doubt.node) (sym c.next.ensures.step ∙ c.in-Doubt.is)) leaf)
+
+unread : (c : goal.After-goes) → (read_when (step_of c.args.coordinator) c.args.coordinator.reads c.args.purpose) ≡ None
+unread c =
+    elim c.match-next.branch [
+      | in-Send w ↦ read_as c.args.coordinator c.args.purpose (Send w.in-Send.node w.in-Send.request) (sym c.next.ensures.step ∙ w.in-Send.is)
+      | in-Abandon w ↦ read_as c.args.coordinator c.args.purpose Abandon (sym c.next.ensures.step ∙ w.in-Abandon.is)
+    ]
+
+pub returns-clause-cache : goal.returns-clause-cache
+returns-clause-cache c =
+    unread_cache (read_when (step_of c.args.coordinator) c.args.coordinator.reads c.args.purpose) (is_later c.args.work.failed) c.args.self.now.known.cache c.args.self.now.known.cache (Ok c.goes.result) (unread c) refl
+
+pub returns-clause-catalog : goal.returns-clause-catalog
+returns-clause-catalog c =
+    let result : Result Turn NoMemory = Ok c.goes.result in
+    unread_catalog (read_when (step_of c.args.coordinator) c.args.coordinator.reads c.args.purpose) c.args.self.now.known.catalog c.args.self.now.known.catalog result (unread c)
+    (catalog_stays c.args.self.now.known.catalog c.args.self.now.known.catalog result refl)
+
+pub returns-clause-leaf : goal.returns-clause-leaf
+returns-clause-leaf c = λ leaf. absurd (unread_leaf c.args.self.now.known c.args.work (read_when (step_of c.args.coordinator) c.args.coordinator.reads c.args.purpose) (unread c) leaf)
+
+-- Calls
+
+pub returns-in-Committed-clause-calls : goal.returns-in-Committed-clause-calls
+returns-in-Committed-clause-calls c = λ node request is.
+    let both = sym is ∙ (sym c.next.ensures.step ∙ c.in-Committed.is) in absurd cc
+
+pub returns-in-Failed-clause-calls : goal.returns-in-Failed-clause-calls
+returns-in-Failed-clause-calls c = λ node request is.
+    let both = sym is ∙ (sym c.next.ensures.step ∙ c.in-Failed.is) in absurd cc
+
+pub returns-in-Doubt-clause-calls : goal.returns-in-Doubt-clause-calls
+returns-in-Doubt-clause-calls c = λ node request is.
+    let both = sym is ∙ (sym c.next.ensures.step ∙ c.in-Doubt.is) in absurd cc
+
+pub returns-clause-calls : goal.returns-clause-calls
+returns-clause-calls c = λ node request is.
+    let tid = c.args.tid in (
+      refl,
+      c.goes.ensures ∙ (elim c.match-next.branch [
+        | in-Send w ↦
+            let both : Send w.in-Send.node w.in-Send.request ≡ Send node request = sym w.in-Send.is ∙ (c.next.ensures.step ∙ is) in
+            let nodes : w.in-Send.node ≡ node = cc in
+            let requests : w.in-Send.request ≡ request = cc in
+            let after : c.next.new.self ≡ after_step c.args.coordinator (Send node request) =
+            c.next.ensures.after ∙ ap (after_step c.args.coordinator) (c.next.ensures.step ∙ is) in
+            ap (λ (s : ProxyStep). turns.Goes s c.args.work (out.Mini tid c.next.new.self c.args.purpose)) w.step-is
+            ∙ (ap (λ (n : NodeNo). turns.Goes (steps.Call n w.in-Send.request) c.args.work (out.Mini tid c.next.new.self c.args.purpose)) nodes
+            ∙ (ap (λ (r : Request). turns.Goes (steps.Call node r) c.args.work (out.Mini tid c.next.new.self c.args.purpose)) requests
+            ∙ ap (λ (x : Coordination). turns.Goes (steps.Call node request) c.args.work (out.Mini tid x c.args.purpose)) after))
+        | in-Abandon w ↦
+            let both : Abandon ≡ Send node request = sym w.in-Abandon.is ∙ (c.next.ensures.step ∙ is) in absurd cc
+      ]),
+    )

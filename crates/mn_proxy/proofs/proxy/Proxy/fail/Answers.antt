@@ -1,7 +1,8 @@
 -- A first try may fail with no cause; the eighth ends the operation by its own.
-use Rattle.std.proofs.Common.{subst, sym, ◌∙◌}
+use Rattle.std.proofs.Common.{None, refl, subst, sym, ◌∙◌}
 use Rattle.mn_proxy.specs.Turns.{HasFailed, TurnAgrees}
 use Rattle.mn_proxy.proofs.Retrying.{gives_up_turn, retries_by, retries_first}
+use Rattle.mn_proxy.specs.Kept.{CatalogTurns}
 use Rattle.mn_proxy.proofs.proxy.Proxy.fail.Goals as goal
 use Rattle.mn_proxy.proofs.proxy.Proxy.fail.Goals.{in_default-via-in-None+else-is_later, in_default-via-in-Some+else-work-ge-TRIES}
 
@@ -23,3 +24,7 @@ returns-in_default-clause-turns c = λ es own failed.
           (retries_by es c.args.self.now.known c.args.work w.in-Some.cause
           (subst (HasFailed es c.args.self.now.known c.args.work) w.in-Some.is failed))
     ]
+
+pub returns-in-Some-clause-catalog : goal.returns-in-Some-clause-catalog
+returns-in-Some-clause-catalog c =
+    subst (CatalogTurns None c.args.self.now.known.catalog c.args.self.now.known.catalog) (sym c.ends.ensures) refl

@@ -6,6 +6,13 @@ use Rattle.mn_proxy.specs.contracts.proxy.Proxy.{the_view}
 use Rattle.mn_proxy.specs.Turns.{OwesNoDecide, with_work}
 use Rattle.mn_proxy.proofs.Feeding.{fed_in, fed_work, feed_agrees, feed_unanswered, sound_of}
 use Rattle.mn_proxy.proofs.Measure.{feed_falls}
+use Rattle.std.proofs.Common.{Some, ap}
+use Rattle.mn_coord.specs.Coordination.{Coordination}
+use Rattle.mn_proxy.specs.declared.errand.Errand.{Errand}
+use Rattle.mn_proxy.specs.declared.errand.Errand.TheVariants as out
+use Rattle.mn_proxy.specs.declared.work.Work.{Work}
+use Rattle.mn_proxy.specs.Turns.{IsFed}
+use Rattle.mn_proxy.proofs.Getting.{under_as}
 use Rattle.mn_proxy.proofs.proxy.Proxy.feed.Goals as goal
 
 pub invariant_of-self-2 : goal.invariant_of-self-2
@@ -54,3 +61,16 @@ returns-clause-falls c =
     subst (λ (q : ProxyState). steps_left (with_work (the_view c.self.inside) c.in-Some.work c.fed.result) ≤ steps_left q) c.self.view_is
     (feed_falls (the_view c.self.inside) c.in-Some.work c.in-Some.errand c.fed.result c.args.reply
     (sym c.take.ensures.value ∙ c.in-Some.is) (subst IsOut (sym c.self.view_is) c.requires.out) c.fed.ensures)
+
+-- What is on its way
+
+pub returns-clause-known : goal.returns-clause-known
+returns-clause-known c = ap (λ (p : ProxyState). p.known) c.self.view_is
+
+pub returns-clause-fed : goal.returns-clause-fed
+returns-clause-fed c = λ work tid x purpose under.
+    let begun = under_as (the_view c.self.inside) c.args.self.now c.self.view_is c.in-Some.work c.in-Some.errand (sym c.take.ensures.value ∙ c.in-Some.is) work (out.Mini tid x purpose) under in
+    let d = subst (λ (e : Errand). IsFed e c.args.reply c.fed.result) begun.1 c.fed.ensures in
+    ap (λ (w : Work). Some (w, c.fed.result)) begun.0
+    ∙ (ap (λ (e : Errand). Some (work, e)) d.1
+    ∙ ap (λ (y : Coordination). Some (work, out.Mini tid y purpose)) d.2.fed_is)

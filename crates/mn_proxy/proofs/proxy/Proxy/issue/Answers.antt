@@ -3,7 +3,6 @@ use Rattle.std.proofs.Common.{sym, ◌<◌, arith}
 use Rattle.mn_proxy.specs.contracts.proxy.Proxy.{the_view}
 use Rattle.mn_proxy.proofs.Issuing.{issues_turn}
 use Rattle.mn_proxy.proofs.Measure.{issue_goes}
-use Rattle.mn_proxy.specs.declared.step.ProxyStep.TheVariants as steps
 use Rattle.mn_proxy.proofs.proxy.Proxy.issue.Goals as goal
 
 pub returns-clause-turns : goal.returns-clause-turns

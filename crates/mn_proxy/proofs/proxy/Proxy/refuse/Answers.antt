@@ -1,6 +1,7 @@
-use Rattle.std.proofs.Common.{subst, sym}
+use Rattle.std.proofs.Common.{None, refl, subst, sym}
 use Rattle.mn_proxy.specs.Turns.{TurnAgrees}
 use Rattle.mn_proxy.proofs.Coordinating.{down_answered, refused_so_down, refused_so_failed}
+use Rattle.mn_proxy.specs.Kept.{CatalogTurns}
 use Rattle.mn_proxy.proofs.proxy.Proxy.refuse.Goals as goal
 
 pub returns-in-Down-clause-turns : goal.returns-in-Down-clause-turns
@@ -13,3 +14,7 @@ pub returns-in-Refused-clause-turns : goal.returns-in-Refused-clause-turns
 returns-in-Refused-clause-turns c = λ es own refused.
     c.fail.ensures.turns es own
     (refused_so_failed es c.args.self.now.known c.args.work c.args.tid c.args.outcome.mini c.args.node c.args.outcome.reply c.in_ok-failure_of.field-0 c.in-Refused.cause c.in-Refused.is c.in_ok-failure_of.ensures refused)
+
+pub returns-in-Down-clause-catalog : goal.returns-in-Down-clause-catalog
+returns-in-Down-clause-catalog c =
+    subst (CatalogTurns None c.args.self.now.known.catalog c.args.self.now.known.catalog) (sym c.ends.ensures) refl

@@ -2,6 +2,12 @@
 use Rattle.mn_proxy.specs.contracts.proxy.Proxy.{the_view}
 use Rattle.mn_proxy.proofs.Retrying.{own_forgotten_as, retried_as}
 use Rattle.mn_proxy.proofs.Measure.{same_goes}
+use Rattle.std.proofs.Common.{ap, ◌∙◌}
+use Rattle.mn_proxy.specs.declared.known.Known.{Known}
+use Rattle.mn_proxy.specs.declared.work.Work.{Work}
+use Rattle.mn_proxy.specs.State.{ProxyState}
+use Rattle.mn_proxy.specs.Walks.{is_later}
+use Rattle.mn_proxy.proofs.Kept.{catalog_gone, later_now}
 use Rattle.mn_proxy.proofs.proxy.Proxy.retry.Goals as goal
 
 pub returns-clause-turns : goal.returns-clause-turns
@@ -18,3 +24,13 @@ returns-clause-left c = λ es own.
 pub returns-clause-falls : goal.returns-clause-falls
 returns-clause-falls c =
     same_goes c.args.self.now (the_view c.self.inside) c.read_catalog.new.self c.read_catalog.result c.self.view_is c.read_catalog.ensures.falls
+
+pub returns-clause-cache : goal.returns-clause-cache
+returns-clause-cache c =
+    ap (λ (k : Known). k.cache) c.read_catalog.ensures.known ∙ ap (λ (p : ProxyState). p.known.cache) c.self.view_is
+
+pub returns-clause-catalog : goal.returns-clause-catalog
+returns-clause-catalog c =
+    catalog_gone c.args.self.now.known.catalog c.read_catalog.new.self.known.catalog c.retry.new.self _ c.read_catalog.result
+    (ap (λ (k : Known). k.catalog) c.read_catalog.ensures.known)
+    (ap (λ (w : Work). is_later w.failed) c.retry.ensures ∙ later_now c.args.work.failed) c.read_catalog.ensures.reads

@@ -8,6 +8,18 @@ use Rattle.mn_proxy.specs.contracts.proxy.Proxy.{the_view}
 use Rattle.mn_proxy.proofs.Taking.{few_as, job_as, kept_as, none_left, none_made, own_left_as, replies_as, sound_left, startable_as, tells_as}
 use Rattle.mn_proxy.specs.Measure.{GoesBelow, left_after}
 use Rattle.mn_proxy.proofs.Measure.{same_goes}
+use Rattle.std.proofs.Common.{Some, Ok, Result}
+use Rattle.mn_base.specs.declared.answer.Answer.TheVariants as answers
+use Rattle.mn_base.specs.declared.error.NoMemory.{NoMemory}
+use Rattle.mn_base.specs.declared.reply.Reply.{Reply}
+use Rattle.mn_proxy.specs.declared.proxy.Turn.{Turn}
+use Rattle.mn_proxy.specs.declared.proxy.Turn.TheVariants as turns
+use Rattle.mn_proxy.specs.Descents.{values_at}
+use Rattle.mn_proxy.specs.Kept.{CatalogTurns}
+use Rattle.mn_proxy.specs.Paths.{shown_by}
+use Rattle.mn_proxy.specs.Walks.{is_later}
+use Rattle.mn_proxy.proofs.Getting.{leaf_next}
+use Rattle.mn_proxy.proofs.Kept.{cache_last, cache_left, cache_then, came_op, catalog_next, catalog_stays, never_later}
 use Rattle.mn_proxy.proofs.proxy.Proxy.take.Goals as goal
 use Rattle.mn_proxy.proofs.proxy.Proxy.take.Goals.{in-Transaction-2, in-Child-2, in-Scan-2, in-Start-2}
 
@@ -204,3 +216,85 @@ returns-in-Fails-clause-falls c =
 
 pub returns-in-Replies-clause-falls : goal.returns-in-Replies-clause-falls
 returns-in-Replies-clause-falls c = subst (GoesBelow (left_after c.args.self.now) c.match-work-5.self) (sym c.ends.ensures) tt
+
+-- What is kept
+
+pub returns-in_err-taken_for-clause-cache : goal.returns-in_err-taken_for-clause-cache
+returns-in_err-taken_for-clause-cache c =
+    cache_left (the_view c.self.inside) c.args.self.now c.self.view_is (Some (c.args.purpose, c.args.bytes)) (is_later c.args.work.failed) c.taken_for.new.known.cache c.taken_for.result c.from_residual.result
+    c.from_residual.ensures.0 c.taken_for.ensures.cache
+
+pub returns-in_err-taken_for-clause-catalog : goal.returns-in_err-taken_for-clause-catalog
+returns-in_err-taken_for-clause-catalog c =
+    none_made c.from_residual.result (CatalogTurns (Some (c.args.purpose, c.args.bytes)) c.args.self.now.known.catalog c.taken_for.new.known.catalog) c.from_residual.ensures.0
+
+pub returns-in_err-taken_for-clause-leaf : goal.returns-in_err-taken_for-clause-leaf
+returns-in_err-taken_for-clause-leaf c = λ leaf.
+    none_made c.from_residual.result (λ t. t ≡ turns.Ends (shown_by c.args.self.now.known c.args.work (Some (c.args.purpose, c.args.bytes)) leaf)) c.from_residual.ensures.0
+
+pub returns-in-GoesOn-clause-cache : goal.returns-in-GoesOn-clause-cache
+returns-in-GoesOn-clause-cache c =
+    cache_then (the_view c.self.inside) c.args.self.now c.self.view_is (Some (c.args.purpose, c.args.bytes)) (is_later c.args.work.failed) (is_later c.taken_for.new.work.failed) c.taken_for.new.known.cache c.advance.new.self.known.cache
+    c.in_ok-taken_for.field-0 c.advance.result c.in_ok-taken_for.ensures.cache (λ late. sym (ap is_later (came_op (the_view c.self.inside).known c.taken_for.new.known c.args.work c.taken_for.new.work c.args.purpose c.args.bytes c.in_ok-taken_for.field-0 c.in_ok-taken_for.ensures.came)) ∙ late) c.advance.ensures.cache
+
+pub returns-in-Leaf-clause-cache : goal.returns-in-Leaf-clause-cache
+returns-in-Leaf-clause-cache c =
+    cache_then (the_view c.self.inside) c.args.self.now c.self.view_is (Some (c.args.purpose, c.args.bytes)) (is_later c.args.work.failed) (is_later 0) c.taken_for.new.known.cache c.advance-in-Leaf.new.self.known.cache
+    c.in_ok-taken_for.field-0 c.advance-in-Leaf.result c.in_ok-taken_for.ensures.cache (λ late. absurd (never_later late)) c.advance-in-Leaf.ensures.cache
+
+pub returns-in-GoesOn-clause-catalog : goal.returns-in-GoesOn-clause-catalog
+returns-in-GoesOn-clause-catalog c =
+    catalog_next (the_view c.self.inside) c.args.self.now c.self.view_is c.args.work c.taken_for.new.work c.args.purpose c.args.bytes c.in_ok-taken_for.field-0 c.taken_for.new.known
+    c.advance.new.self.known.catalog c.advance.result c.in_ok-taken_for.ensures.came c.advance.ensures.catalog
+
+pub returns-in-GoesOn-clause-leaf : goal.returns-in-GoesOn-clause-leaf
+returns-in-GoesOn-clause-leaf c = λ leaf.
+    let replies = leaf_next (the_view c.self.inside) c.args.self.now c.self.view_is c.args.work c.taken_for.new.work c.args.purpose c.args.bytes c.in_ok-taken_for.field-0 c.taken_for.new.known c.in_ok-taken_for.ensures.came leaf in
+    let both = sym c.in-GoesOn.is ∙ replies in
+    absurd cc
+
+pub returns-in-Leaf-clause-catalog : goal.returns-in-Leaf-clause-catalog
+returns-in-Leaf-clause-catalog c =
+    catalog_next (the_view c.self.inside) c.args.self.now c.self.view_is c.args.work c.taken_for.new.work c.args.purpose c.args.bytes c.in_ok-taken_for.field-0 c.taken_for.new.known
+    c.advance-in-Leaf.new.self.known.catalog c.advance-in-Leaf.result c.in_ok-taken_for.ensures.came c.advance-in-Leaf.ensures.catalog
+
+pub returns-in-Leaf-clause-leaf : goal.returns-in-Leaf-clause-leaf
+returns-in-Leaf-clause-leaf c = λ leaf.
+    let replies = leaf_next (the_view c.self.inside) c.args.self.now c.self.view_is c.args.work c.taken_for.new.work c.args.purpose c.args.bytes c.in_ok-taken_for.field-0 c.taken_for.new.known c.in_ok-taken_for.ensures.came leaf in
+    let both = sym c.in-Leaf.is ∙ replies in
+    absurd cc
+
+pub returns-in-Fails-clause-catalog : goal.returns-in-Fails-clause-catalog
+returns-in-Fails-clause-catalog c =
+    catalog_next (the_view c.self.inside) c.args.self.now c.self.view_is c.args.work c.taken_for.new.work c.args.purpose c.args.bytes c.in_ok-taken_for.field-0 c.taken_for.new.known
+    c.fail.new.self.known.catalog c.fail.result c.in_ok-taken_for.ensures.came c.fail.ensures.catalog
+
+pub returns-in-Fails-clause-leaf : goal.returns-in-Fails-clause-leaf
+returns-in-Fails-clause-leaf c = λ leaf.
+    let replies = leaf_next (the_view c.self.inside) c.args.self.now c.self.view_is c.args.work c.taken_for.new.work c.args.purpose c.args.bytes c.in_ok-taken_for.field-0 c.taken_for.new.known c.in_ok-taken_for.ensures.came leaf in
+    let both = sym c.in-Fails.is ∙ replies in
+    absurd cc
+
+pub returns-in-Fails-clause-cache : goal.returns-in-Fails-clause-cache
+returns-in-Fails-clause-cache c =
+    cache_last (the_view c.self.inside) c.args.self.now c.self.view_is (Some (c.args.purpose, c.args.bytes)) (is_later c.args.work.failed) c.taken_for.new.known.cache c.fail.new.self.known.cache
+    c.in_ok-taken_for.field-0 c.fail.result c.in_ok-taken_for.ensures.cache c.fail.ensures.cache
+
+pub returns-in-Replies-clause-cache : goal.returns-in-Replies-clause-cache
+returns-in-Replies-clause-cache c =
+    cache_last (the_view c.self.inside) c.args.self.now c.self.view_is (Some (c.args.purpose, c.args.bytes)) (is_later c.args.work.failed) c.taken_for.new.known.cache c.match-work-5.self.known.cache
+    c.in_ok-taken_for.field-0 (Ok c.ends.result) c.in_ok-taken_for.ensures.cache (ap (λ (p : ProxyState). p.known.cache) (state_after c))
+
+pub returns-in-Replies-clause-catalog : goal.returns-in-Replies-clause-catalog
+returns-in-Replies-clause-catalog c =
+    let result : Result Turn NoMemory = Ok c.ends.result in
+    catalog_next (the_view c.self.inside) c.args.self.now c.self.view_is c.args.work c.taken_for.new.work c.args.purpose c.args.bytes c.in_ok-taken_for.field-0 c.taken_for.new.known
+    c.match-work-5.self.known.catalog result c.in_ok-taken_for.ensures.came
+    (catalog_stays c.taken_for.new.known.catalog c.match-work-5.self.known.catalog result (ap (λ (p : ProxyState). p.known.catalog) (state_after c)))
+
+pub returns-in-Replies-clause-leaf : goal.returns-in-Replies-clause-leaf
+returns-in-Replies-clause-leaf c = λ leaf.
+    let replies = leaf_next (the_view c.self.inside) c.args.self.now c.self.view_is c.args.work c.taken_for.new.work c.args.purpose c.args.bytes c.in_ok-taken_for.field-0 c.taken_for.new.known c.in_ok-taken_for.ensures.came leaf in
+    let both : Taken.Replies c.in-Replies.reply ≡ Taken.Replies (values_at leaf.page leaf.key) = sym c.in-Replies.is ∙ replies in
+    let same : c.in-Replies.reply ≡ values_at leaf.page leaf.key = cc in
+    c.ends.ensures ∙ ap (λ (r : Reply). turns.Ends (answers.Replied r)) same

@@ -6,6 +6,16 @@ use Rattle.std.specs.Prelude.{IfOk}
 use Rattle.mn_proxy.specs.Measure.{GoesBelow, steps_left}
 use Rattle.mn_proxy.specs.Turns.{with_work}
 use Rattle.mn_proxy.proofs.Measure.{errand_goes}
+use Rattle.std.proofs.Common.{None, ap, refl, ◌∙◌}
+use Rattle.mn_proxy.specs.Kept.{read_by}
+use Rattle.mn_proxy.specs.Walks.{is_later}
+use Rattle.mn_proxy.proofs.Kept.{cache_as, catalog_as, leaf_as, unread_cache, unread_leaf}
+use Rattle.std.proofs.Common.{◌≡◌}
+use Rattle.mn_base.specs.declared.ids.Tid.{Tid}
+use Rattle.mn_coord.specs.Coordination.{Coordination, step_of}
+use Rattle.mn_proxy.specs.declared.errand.Errand.TheVariants as out
+use Rattle.mn_proxy.specs.declared.errand.Purpose.{Purpose}
+use Rattle.mn_proxy.specs.Kept.{Calls}
 use Rattle.mn_proxy.proofs.proxy.Proxy.turn.Goals as goal
 
 pub returns-in-Nothing-clause-want : goal.returns-in-Nothing-clause-want
@@ -26,3 +36,87 @@ pub returns-in-Mini-clause-falls : goal.returns-in-Mini-clause-falls
 returns-in-Mini-clause-falls c =
     subst (λ (e : Errand). IfOk c.coordinate.result (GoesBelow (steps_left (with_work c.args.self.now c.args.work e)) c.coordinate.new.self))
     (sym c.in-Mini.is) c.coordinate.ensures.falls
+
+-- What is kept
+
+pub returns-in-Nothing-clause-cache : goal.returns-in-Nothing-clause-cache
+returns-in-Nothing-clause-cache c =
+    cache_as (read_by c.args.errand) None (is_later c.args.work.failed) c.args.self.now.known.cache c.advance.new.self.known.cache c.advance.result
+    (ap read_by c.in-Nothing.is) c.advance.ensures.cache
+
+pub returns-in-Nothing-clause-catalog : goal.returns-in-Nothing-clause-catalog
+returns-in-Nothing-clause-catalog c =
+    catalog_as (read_by c.args.errand) None c.args.self.now.known.catalog c.advance.new.self.known.catalog c.advance.result
+    (ap read_by c.in-Nothing.is) c.advance.ensures.catalog
+
+pub returns-in-Nothing-clause-path : goal.returns-in-Nothing-clause-path
+returns-in-Nothing-clause-path c = λ op leaf new nothing path. c.advance.ensures.path op leaf new path
+
+pub returns-in-Nothing-clause-leaf : goal.returns-in-Nothing-clause-leaf
+returns-in-Nothing-clause-leaf c = λ leaf.
+    absurd (unread_leaf c.args.self.now.known c.args.work (read_by c.args.errand) (ap read_by c.in-Nothing.is) leaf)
+
+pub returns-in-Peek-clause-cache : goal.returns-in-Peek-clause-cache
+returns-in-Peek-clause-cache c =
+    unread_cache (read_by c.args.errand) (is_later c.args.work.failed) c.args.self.now.known.cache c.args.self.now.known.cache _ (ap read_by c.in-Peek.is) refl
+
+pub returns-in-Peeked-clause-cache : goal.returns-in-Peeked-clause-cache
+returns-in-Peeked-clause-cache c =
+    cache_as (read_by c.args.errand) _ (is_later c.args.work.failed) c.args.self.now.known.cache c.take_peeked.new.self.known.cache c.take_peeked.result
+    (ap read_by c.in-Peeked.is) c.take_peeked.ensures.cache
+
+pub returns-in-Peeked-clause-catalog : goal.returns-in-Peeked-clause-catalog
+returns-in-Peeked-clause-catalog c =
+    catalog_as (read_by c.args.errand) _ c.args.self.now.known.catalog c.take_peeked.new.self.known.catalog c.take_peeked.result
+    (ap read_by c.in-Peeked.is) c.take_peeked.ensures.catalog
+
+pub returns-in-Peeked-clause-path : goal.returns-in-Peeked-clause-path
+returns-in-Peeked-clause-path c = λ op leaf new nothing path.
+    let both = sym nothing ∙ c.in-Peeked.is in absurd cc
+
+pub returns-in-Peeked-clause-leaf : goal.returns-in-Peeked-clause-leaf
+returns-in-Peeked-clause-leaf c =
+    leaf_as c.args.self.now.known c.args.work (read_by c.args.errand) _ c.take_peeked.result (ap read_by c.in-Peeked.is) c.take_peeked.ensures.leaf
+
+pub returns-in-Mini-clause-cache : goal.returns-in-Mini-clause-cache
+returns-in-Mini-clause-cache c =
+    cache_as (read_by c.args.errand) _ (is_later c.args.work.failed) c.args.self.now.known.cache c.coordinate.new.self.known.cache c.coordinate.result
+    (ap read_by c.in-Mini.is) c.coordinate.ensures.cache
+
+pub returns-in-Mini-clause-catalog : goal.returns-in-Mini-clause-catalog
+returns-in-Mini-clause-catalog c =
+    catalog_as (read_by c.args.errand) _ c.args.self.now.known.catalog c.coordinate.new.self.known.catalog c.coordinate.result
+    (ap read_by c.in-Mini.is) c.coordinate.ensures.catalog
+
+pub returns-in-Mini-clause-path : goal.returns-in-Mini-clause-path
+returns-in-Mini-clause-path c = λ op leaf new nothing path.
+    let both = sym nothing ∙ c.in-Mini.is in absurd cc
+
+pub returns-in-Mini-clause-leaf : goal.returns-in-Mini-clause-leaf
+returns-in-Mini-clause-leaf c =
+    leaf_as c.args.self.now.known c.args.work (read_by c.args.errand) _ c.coordinate.result (ap read_by c.in-Mini.is) c.coordinate.ensures.leaf
+
+-- Calls
+
+pub returns-in-Nothing-clause-calls : goal.returns-in-Nothing-clause-calls
+returns-in-Nothing-clause-calls c = λ tid x purpose node request mini is.
+    let both = sym mini ∙ c.in-Nothing.is in absurd cc
+
+pub returns-in-Peek-clause-calls : goal.returns-in-Peek-clause-calls
+returns-in-Peek-clause-calls c = λ tid x purpose node request mini is.
+    let both = sym mini ∙ c.in-Peek.is in absurd cc
+
+pub returns-in-Peeked-clause-calls : goal.returns-in-Peeked-clause-calls
+returns-in-Peeked-clause-calls c = λ tid x purpose node request mini is.
+    let both = sym mini ∙ c.in-Peeked.is in absurd cc
+
+pub returns-in-Mini-clause-calls : goal.returns-in-Mini-clause-calls
+returns-in-Mini-clause-calls c = λ tid x purpose node request mini is.
+    let both : out.Mini c.in-Mini.tid c.in-Mini.coordinator c.in-Mini.purpose ≡ out.Mini tid x purpose = sym c.in-Mini.is ∙ mini in
+    let tids : c.in-Mini.tid ≡ tid = cc in
+    let coordinators : c.in-Mini.coordinator ≡ x = cc in
+    let purposes : c.in-Mini.purpose ≡ purpose = cc in
+    let calls = c.coordinate.ensures.calls node request (ap step_of coordinators ∙ is) in
+    subst (λ (t : Tid). Calls c.args.self.now c.coordinate.new.self c.args.work t x purpose node request c.coordinate.result) tids
+    (subst (λ (d : Coordination). Calls c.args.self.now c.coordinate.new.self c.args.work c.in-Mini.tid d purpose node request c.coordinate.result) coordinators
+    (subst (λ (p : Purpose). Calls c.args.self.now c.coordinate.new.self c.args.work c.in-Mini.tid c.in-Mini.coordinator p node request c.coordinate.result) purposes calls))

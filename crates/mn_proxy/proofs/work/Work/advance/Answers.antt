@@ -1,6 +1,11 @@
-use Rattle.std.proofs.Common.{◌∙◌, sym}
+use Rattle.std.proofs.Common.{◌≡◌, ◌∙◌, ap, false, refl, subst, sym, true}
 use Rattle.std.proofs.lemmas.Result.{IfOk-weaker}
-use Rattle.mn_proxy.specs.Works.{GoesOnBy}
+use Rattle.mn_proxy.specs.declared.work.Work.{Work}
+use Rattle.mn_proxy.specs.Paths.{GetsAt, at_root}
+use Rattle.mn_proxy.specs.Walks.{is_later}
+use Rattle.mn_proxy.specs.Works.{GoesOnBy, lacks_catalog}
+use Rattle.mn_proxy.proofs.Getting.{begins_there, has_catalog}
+use Rattle.mn_proxy.proofs.Keeping.{stays}
 use Rattle.mn_proxy.proofs.Works.{wants_begun, wants_on}
 use Rattle.mn_proxy.proofs.work.Work.advance.Goals as goal
 use Rattle.mn_proxy.proofs.work.Work.advance.Goals.{in-Start+in_ok-begin, in_default}
@@ -21,4 +26,28 @@ returns-clause-wants c =
           IfOk-weaker c.go_on.result (GoesOnBy new from after) _
           (λ next goes. wants_on known new before after next c.go_on.ensures.kept from w.in_default.not-Start (sym c.lacks_catalog.ensures ∙ c.if-lacks_catalog.false) w.self-is goes)
           c.go_on.ensures.wants
+    ]
+
+pub returns-then-lacks_catalog-clause-cache : goal.returns-then-lacks_catalog-clause-cache
+returns-then-lacks_catalog-clause-cache c = stays (is_later c.args.self.now.failed) _ c.args.known.now.cache c.args.known.now.cache refl
+
+pub returns-then-lacks_catalog-clause-path : goal.returns-then-lacks_catalog-clause-path
+returns-then-lacks_catalog-clause-path c = λ op leaf new path.
+    let lacks = ap (λ (w : Work). lacks_catalog c.args.known.now.catalog w) new in
+    let both : true ≡ false = sym c.if-lacks_catalog.true ∙ (c.lacks_catalog.ensures ∙ (lacks ∙ has_catalog c.args.known.now op leaf path)) in
+    absurd cc
+
+pub returns-in_err-begin-clause-cache : goal.returns-in_err-begin-clause-cache
+returns-in_err-begin-clause-cache c = stays (is_later c.args.self.now.failed) _ c.args.known.now.cache c.args.known.now.cache refl
+
+pub returns-clause-path : goal.returns-clause-path
+returns-clause-path c = λ op leaf new path.
+    elim c.match-self.branch [
+      | in-Start+in_ok-begin w ↦
+          let starts = begins_there c.args.known.now op leaf c.args.self.now w.begin.new.self new path w.in_ok-begin.ensures.starts w.in_ok-begin.ensures.op in
+          let is = sym w.self-is in
+          c.go_on.ensures.path path.key (at_root path.version path.root) leaf
+          (subst (λ (x : Work). x.failed ≡ 0) is starts.1)
+          (subst (λ (x : Work). GetsAt x path.key (at_root path.version path.root)) is starts.0) path.leads
+      | in_default w ↦ absurd (w.in_default.not-Start (ap (λ (x : Work). x.job) new))
     ]

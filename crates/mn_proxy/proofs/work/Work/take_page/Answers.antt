@@ -19,9 +19,11 @@ use Rattle.mn_proxy.specs.declared.known.Known.{Known}
 use Rattle.mn_proxy.specs.declared.next.Taken.{Taken}
 use Rattle.mn_proxy.specs.declared.work.Job.{Job}
 use Rattle.mn_proxy.specs.declared.work.Job.TheVariants as at
+use Rattle.mn_scan.specs.Scan.{ScanState}
+use Rattle.mn_proxy.specs.Scans.{ScanGoesOn, StaysBefore}
 use Rattle.mn_proxy.specs.Descents.{DescentGoesOn, DescentTakes}
 use Rattle.mn_proxy.specs.Walks.{IsAbove}
-use Rattle.mn_proxy.specs.Works.{AsksPageFor, ChildTakes, GetTakes, IsJobIn, JobTakes, lone_key}
+use Rattle.mn_proxy.specs.Works.{AsksPageFor, ChildTakes, GetTakes, IsJobIn, JobTakes, ScanTakes, lone_key}
 use Rattle.mn_proxy.proofs.work.Work.take_page.Goals as goal
 
 takes_by : (o : Option (List CatEntry)) (d : Descent) (key bytes : List ℕ) (e : Descent) (taken : Taken)
@@ -143,3 +145,29 @@ returns-in-Child-default-clause-taken c =
           (subst (λ (a : Addr). a.node.0 < known.nodes) (sym asks.0) asks.2) asks.1 takes),
     ))
     (subst (λ (b : List ℕ). IfOk c.take_page-in-Child-default.result (TakesRootBytes known.catalog child b after)) c.as_slice-in-Child-default.ensures c.take_page-in-Child-default.ensures.taken)
+
+-- a scan goes on, or stands before the same leaf
+
+scan_takes : (known : Known) (name : List ℕ) (addr : Addr) (bytes : List ℕ) (s t : ScanState) (result : Result Taken NoMemory)
+    → IsAbove t.above → IfOk result (ScanGoesOn known name s addr bytes t) → IfOk result (StaysBefore s t)
+    → IfOk result (ScanTakes known name addr bytes s t)
+scan_takes known name addr bytes s t (Ok taken) above goes stays = record { above = above; takes = goes; stays = stays }
+scan_takes known name addr bytes s t (Err error) above goes stays = tt
+
+of_scan : (known : Known) (later : Bool) (addr : Addr) (bytes : List ℕ) (op : Op) (job : Job) (name : List ℕ) (low high : Option (List ℕ))
+    (limit : ℕ) (s t : ScanState) (taken : Taken) → op ≡ Scan name low high limit → job ≡ at.Scan s
+    → ScanTakes known name addr bytes s t taken → JobTakes known later addr bytes op job (at.Scan t) taken
+of_scan known later addr bytes op job name low high limit s t taken is from takes =
+    subst (λ (o : Op). JobTakes known later addr bytes o job (at.Scan t) taken) (sym is)
+    (subst (λ (j : Job). JobTakes known later addr bytes (Scan name low high limit) j (at.Scan t) taken) (sym from) takes)
+
+pub returns-in-Scan-Scan-clause-taken : goal.returns-in-Scan-Scan-clause-taken
+returns-in-Scan-Scan-clause-taken c =
+    let scan = c.in-Scan-Scan.scan in
+    let after = c.take_page-in-Scan-Scan.new.scan in
+    let name = c.in-Scan-Scan.version in
+    IfOk-weaker c.take_page-in-Scan-Scan.result (ScanTakes c.args.known.now name c.args.addr c.args.bytes scan after) _
+    (λ taken takes. (refl, of_scan c.args.known.now _ c.args.addr c.args.bytes c.args.self.now.op c.args.self.now.job name _ _ _ scan after taken c.in-Scan-Scan.is-1 c.in-Scan-Scan.is-0 takes))
+    (scan_takes c.args.known.now name c.args.addr c.args.bytes scan after c.take_page-in-Scan-Scan.result c.take_page-in-Scan-Scan.ensures.above
+    (subst (λ (b : List ℕ). IfOk c.take_page-in-Scan-Scan.result (ScanGoesOn c.args.known.now name scan c.args.addr b after)) c.as_slice-in-Scan-Scan.ensures c.take_page-in-Scan-Scan.ensures.taken)
+    c.take_page-in-Scan-Scan.ensures.stays)
