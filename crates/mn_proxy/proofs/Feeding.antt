@@ -405,7 +405,7 @@ one_read (bytes ∷ []) start size fits = record { bytes = bytes; reads_are = re
 one_read (bytes ∷ (other ∷ reads)) start size fits = absurd (fits.1)
 
 -- the reads of one participant
-only_reads : (all : List (List (List ℕ))) (reads : List (List ℕ)) → length all ≡ 1
+pub only_reads : (all : List (List (List ℕ))) (reads : List (List ℕ)) → length all ≡ 1
     → slice_set all 0 reads ≡ reads ∷ []
 only_reads [] reads e = absurd (omega arith)
 only_reads (first ∷ []) reads e = refl

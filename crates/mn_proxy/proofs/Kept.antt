@@ -33,7 +33,7 @@ use Rattle.mn_proxy.specs.Paths.{HasLeaf, shown_by}
 use Rattle.mn_proxy.specs.State.{ProxyState}
 use Rattle.mn_proxy.specs.Turns.{CameOf, read_alone}
 use Rattle.mn_proxy.specs.Walks.{is_later}
-use Rattle.mn_proxy.proofs.Keeping.{none_used}
+use Rattle.mn_proxy.proofs.Cached.{none_used}
 use Rattle.mn_proxy.proofs.Taking.{came_keeps}
 
 -- The cache

@@ -15,7 +15,6 @@ pub mod GetsShow
 pub mod Getting
 pub mod Issues
 pub mod Issuing
-pub mod Keeping
 pub mod Kept
 pub mod Measure
 pub mod Opens

@@ -1,8 +1,8 @@
 -- What the steps of a proxy make of the pages that it has cached, and of the catalog that it keeps.
 -- An inner page that was read is put in, some are used, and in a later try the page that it reads
 -- next may leave; all else stays, as far as the cache has room.
-use Rattle.std.specs.Prelude.{ℕ, ◌≡◌, ◌⊎◌, Bool, true, false, nat_eq, List, [], ◌∷◌, Option}
-use Rattle.std.specs.Prelude.{Some, None}
+use Rattle.std.specs.Prelude.{ℕ, ◌≡◌, ◌⊎◌, Bool, true, false, nat_eq, List, [], ◌∷◌, Option, Some}
+use Rattle.std.specs.Prelude.{None}
 use Rattle.std.specs.Prelude.{if◌then◌else◌, Result, Ok, Err}
 use Rattle.mn_base.specs.declared.ids.Addr.{Addr}
 use Rattle.mn_base.specs.declared.error.NoMemory.{NoMemory}

@@ -1,7 +1,8 @@
 -- How many steps an operation may still take: each step of its proxy lowers the number, and no
 -- reply raises it. Serials bound the minitransactions, and a count the Peeks between two of them.
 use Rattle.std.specs.Prelude.{ℕ, ◌+◌, ◌-◌, ◌*◌, ◌<◌, Bool, if◌then◌else◌, length, Option, Some}
-use Rattle.std.specs.Prelude.{None, ⊤}
+use Rattle.std.specs.Prelude.{None}
+use Rattle.std.specs.Prelude.{⊤}
 use Rattle.mn_coord.specs.Coordination.{Coordination, stage_in}
 use Rattle.mn_coord.specs.declared.stage.Stage.{Stage}
 use Rattle.mn_coord.specs.declared.stage.Stage.TheVariants as At

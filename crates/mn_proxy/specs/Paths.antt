@@ -1,17 +1,25 @@
 -- A lone Get whose path is current: its proxy has cached all inner pages down to its leaf.
 use Rattle.std.specs.Prelude.{ℕ, ◌≡◌, ◌+◌, ◌<◌, ◌≤◌, ◌⊎◌, true, false, List, [], ◌∷◌, Option}
-use Rattle.std.specs.Prelude.{Some, None, MatchOption, ⊤}
+use Rattle.std.specs.Prelude.{Some, None, MatchOption, ⊤, Result, IfOk}
 use Rattle.mn_base.specs.declared.answer.Answer.{Answer}
 use Rattle.mn_base.specs.declared.answer.Answer.TheVariants as answers
+use Rattle.mn_base.specs.declared.error.NoMemory.{NoMemory}
 use Rattle.mn_base.specs.declared.ids.Addr.{Addr}
 use Rattle.mn_base.specs.declared.ids.VersionNo.{VersionNo}
 use Rattle.mn_base.specs.declared.op.Op.{Op}
 use Rattle.mn_base.specs.declared.op.Op.TheVariants.{Tx}
 use Rattle.mn_base.specs.declared.op.Step.TheVariants.{Get}
+use Rattle.mn_base.specs.declared.ids.Tid.{Tid}
 use Rattle.mn_cache.specs.Pages.{page_at}
+use Rattle.mn_coord.specs.Coordination.{Coordination, after_step, fed, step_of}
+use Rattle.mn_coord.specs.declared.step.CoordStep.TheVariants.{Committed, Send}
+use Rattle.mn_mini.specs.declared.part.PartItem.TheVariants as Bare
+use Rattle.mn_mini.specs.declared.reply.NodeReply.TheVariants as Say
+use Rattle.mn_mini.specs.declared.request.Request.{Request}
+use Rattle.mn_mini.specs.declared.request.Request.TheVariants as Ask
 use Rattle.mn_page.specs.declared.page.Page.{Page}
 use Rattle.mn_page.specs.Grammar.{SpellsPage, height_of}
-use Rattle.mn_world.specs.Places.{page_place}
+use Rattle.mn_world.specs.Places.{Place, page_place}
 use Rattle.mn_page.specs.declared.entry.CatEntry.{CatEntry}
 use Rattle.mn_path.specs.Walk.{front_of, max_height}
 use Rattle.mn_proxy.specs.declared.errand.Errand.{Errand}
@@ -25,12 +33,13 @@ use Rattle.mn_proxy.specs.declared.next.Next.{Next}
 use Rattle.mn_proxy.specs.declared.proxy.Turn.{Turn}
 use Rattle.mn_proxy.specs.declared.proxy.Turn.TheVariants as turns
 use Rattle.mn_proxy.specs.declared.step.ProxyStep.{ProxyStep}
+use Rattle.mn_proxy.specs.declared.step.ProxyStep.TheVariants as steps
 use Rattle.mn_proxy.specs.declared.work.Job.TheVariants as at
 use Rattle.mn_proxy.specs.declared.work.Work.{Work}
 use Rattle.mn_proxy.specs.Descents.{gone_below, is_on_way, values_at}
-use Rattle.mn_proxy.specs.Kept.{Issues}
+use Rattle.mn_proxy.specs.Kept.{Issues, read_by}
 use Rattle.mn_proxy.specs.State.{ProxyState}
-use Rattle.mn_proxy.specs.Turns.{read_mini}
+use Rattle.mn_proxy.specs.Turns.{new_coordination, read_mini}
 use Rattle.mn_proxy.specs.Walks.{Admits}
 
 -- from where it stands the walk for the key goes down these pages to the leaf: each is cached,
@@ -84,7 +93,7 @@ pub record WantsLeaf (leaf : Descent) (after : Work) (next : Next) : Type 0 wher
 
 -- What it reads
 
--- it has read its leaf, which serves its version and covers its key
+-- it has read its leaf, which serves its version, covers its key, and stands where a leaf may
 pub record HasLeaf (known : Known) (w : Work) (read : Option (Purpose × List ℕ)) : Type 0 where
   pub key : List ℕ
   pub d : Descent
@@ -103,6 +112,19 @@ abbrev pub shown_by : (known : Known) (w : Work) (read : Option (Purpose × List
     → HasLeaf known w read → Answer
 shown_by known w read leaf = answers.Replied (values_at leaf.page leaf.key)
 
+-- so it is answered
+abbrev pub LeafTurns : Known → Work → Option (Purpose × List ℕ) → Result Turn NoMemory → Type 0
+LeafTurns known w read result =
+    (leaf : HasLeaf known w read)
+    → IfOk result (λ turn. turn ≡ turns.Ends (shown_by known w read leaf))
+
+-- the same as a step, by what is on its way
+abbrev pub LeafGoes : ProxyState → Result ProxyStep NoMemory → Type 0
+LeafGoes p result =
+    (w : Work) (errand : Errand) → p.work ≡ Some (w, errand)
+    → (leaf : HasLeaf p.known w (read_by errand))
+    → IfOk result (λ step. step ≡ steps.Done (shown_by p.known w (read_by errand) leaf))
+
 -- it issues the read of its leaf alone
 pub record ReadsLeaf (nodes : ℕ) (op : Op) (leaf : Descent) (turn : Turn) : Type 0 where
   pub w : Work
@@ -115,6 +137,28 @@ abbrev pub StepReadsLeaf : ℕ → Op → Descent → ProxyState → ProxyStep �
 StepReadsLeaf nodes op leaf after step =
     (w : Work) × (errand : Errand) × (after.work ≡ Some (w, errand))
     × ReadsLeaf nodes op leaf (turns.Goes step w errand)
+
+-- the Exec of a place
+abbrev pub read_request : Tid → Place → Request
+read_request tid place = Ask.Exec tid (Bare.Read place.start place.length ∷ [])
+
+-- once it was called, and these bytes were the answer
+abbrev pub with_bytes : Tid → Place → Coordination → List ℕ → Coordination
+with_bytes tid place c bytes =
+    fed (after_step c (Send place.node (read_request tid place))) (Say.Done (bytes ∷ []))
+
+-- the coordinator calls the place's node with one Exec, and once that is Done it is committed, with
+-- the bytes as read
+pub record IsOneCall (tid : Tid) (place : Place) (c : Coordination) : Type 0 where
+  pub calls : step_of c ≡ Send place.node (read_request tid place)
+  pub commits : (bytes : List ℕ) → step_of (with_bytes tid place c bytes) ≡ Committed
+  pub reads : (bytes : List ℕ) → (with_bytes tid place c bytes).reads ≡ (bytes ∷ []) ∷ []
+
+-- so does each minitransaction that reads a place
+abbrev pub ReadsTakeOneCall : Type 0
+ReadsTakeOneCall =
+    (nodes : ℕ) (place : Place) (tid : Tid) → place.node.0 < nodes
+    → IsOneCall tid place (new_coordination tid (read_mini nodes place))
 
 -- Inside
 

@@ -12,6 +12,7 @@ mod errand;
 mod get;
 mod grammar;
 mod known;
+mod laws;
 mod next;
 mod place;
 mod proxy;
@@ -20,5 +21,6 @@ mod seen;
 mod step;
 mod work;
 
+pub use laws::reads_take_one_call;
 pub use proxy::Proxy;
 pub use step::ProxyStep;

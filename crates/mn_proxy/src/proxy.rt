@@ -30,8 +30,8 @@ ghost use Rattle.mn_proxy.specs.Kept.{CacheGoes, CacheTurns, CatalogGoes, Catalo
 ghost use Rattle.mn_proxy.specs.Kept.{Calls, Issues, PutsRead, Reads, StepCalls, read_by};
 ghost use Rattle.mn_proxy.specs.Kept.{read_for, read_when};
 ghost use Rattle.mn_proxy.specs.Knows.{ArePages, KeepsKnown};
-ghost use Rattle.mn_proxy.specs.Paths.{HasCurrentPath, HasLeaf, ReadsLeaf, StepReadsLeaf};
-ghost use Rattle.mn_proxy.specs.Paths.{WantsLeaf, shown_by};
+ghost use Rattle.mn_proxy.specs.Paths.{HasCurrentPath, LeafGoes, LeafTurns, ReadsLeaf};
+ghost use Rattle.mn_proxy.specs.Paths.{StepReadsLeaf, WantsLeaf};
 ghost use Rattle.mn_proxy.specs.Walks.{is_later};
 ghost use Rattle.mn_proxy.specs.Measure.{Falls, GoesBelow, left_after, left_of, steps_left};
 ghost use Rattle.mn_proxy.specs.Places.{place_of};
@@ -304,10 +304,7 @@ impl Proxy {
             → (self.old.work ≡ Some (new_work op, errands.Nothing))
             → HasCurrentPath self.old.known op leaf
             → IfOk result (StepReadsLeaf self.old.known.nodes op leaf self.new) }
-        ensures leaf { (work : Work) (errand : Errand) → (self.old.work ≡ Some (work, errand))
-            → (leaf : HasLeaf self.old.known work (read_by errand))
-            → IfOk result (λ step. step ≡ ProxyStep.Done
-            (shown_by self.old.known work (read_by errand) leaf)) }
+        ensures leaf { LeafGoes self.old result }
     {
         let Some((work, errand)) = self.work.take() else {
             return Err(NoMemory);
@@ -347,9 +344,7 @@ impl Proxy {
         ensures path { (op : Op) (leaf : Descent) → (work ≡ new_work op)
             → errand ≡ errands.Nothing → HasCurrentPath self.old.known op leaf
             → IfOk result (ReadsLeaf self.old.known.nodes op leaf) }
-        ensures leaf { (leaf : HasLeaf self.old.known work (read_by errand))
-            → IfOk result (λ t. t ≡ turns.Ends
-            (shown_by self.old.known work (read_by errand) leaf)) }
+        ensures leaf { LeafTurns self.old.known work (read_by errand) result }
     {
         match errand {
             Errand::Nothing => self.advance(alloc, work),
@@ -394,16 +389,14 @@ impl Proxy {
             → OnErr result (IsOwn es self.new) }
         ensures kept { KeepsSelf self.old self.new × (self.new.work ≡ None) }
         ensures falls { IfOk result (GoesBelow (left_after self.old) self.new) }
-        ensures cache { CacheTurns (read_by (errands.Peeked place reply purpose))
-            (is_later work.failed)
+        ensures cache { CacheTurns
+            (read_by (errands.Peeked place reply purpose)) (is_later work.failed)
             self.old.known.cache self.new.known.cache result }
         ensures catalog { IfOk result
             (CatalogTurns (read_by (errands.Peeked place reply purpose))
             self.old.known.catalog self.new.known.catalog) }
-        ensures leaf { (leaf : HasLeaf self.old.known work
-            (read_by (errands.Peeked place reply purpose)))
-            → IfOk result (λ t. t ≡ turns.Ends
-            (shown_by self.old.known work (read_by (errands.Peeked place reply purpose)) leaf)) }
+        ensures leaf { LeafTurns self.old.known work
+            (read_by (errands.Peeked place reply purpose)) result }
     {
         match reply {
             NodeReply::Peeked { bytes } => self.take(alloc, work, purpose, bytes),
@@ -448,11 +441,8 @@ impl Proxy {
         ensures catalog { IfOk result
             (CatalogTurns (read_when (step_of coordinator) coordinator.reads purpose)
             self.old.known.catalog self.new.known.catalog) }
-        ensures leaf { (leaf : HasLeaf self.old.known work
-            (read_when (step_of coordinator) coordinator.reads purpose))
-            → IfOk result (λ t. t ≡ turns.Ends
-            (shown_by self.old.known work
-            (read_when (step_of coordinator) coordinator.reads purpose) leaf)) }
+        ensures leaf { LeafTurns self.old.known work
+            (read_when (step_of coordinator) coordinator.reads purpose) result }
     {
         let mut coordinator = coordinator;
         let step = match coordinator.next() {
@@ -504,9 +494,7 @@ impl Proxy {
         ensures catalog { IfOk result
             (CatalogTurns (read_for purpose outcome.reads.items)
             self.old.known.catalog self.new.known.catalog) }
-        ensures leaf { (leaf : HasLeaf self.old.known work (read_for purpose outcome.reads.items))
-            → IfOk result (λ t. t ≡ turns.Ends
-            (shown_by self.old.known work (read_for purpose outcome.reads.items) leaf)) }
+        ensures leaf { LeafTurns self.old.known work (read_for purpose outcome.reads.items) result }
     {
         match purpose {
             Purpose::Plan { reply } => Ok(ends(Answer::Replied { reply })),
@@ -571,9 +559,7 @@ impl Proxy {
         ensures catalog { IfOk result
             (CatalogTurns (Some (purpose, bytes))
             self.old.known.catalog self.new.known.catalog) }
-        ensures leaf { (leaf : HasLeaf self.old.known work (Some (purpose, bytes)))
-            → IfOk result (λ t. t ≡ turns.Ends
-            (shown_by self.old.known work (Some (purpose, bytes)) leaf)) }
+        ensures leaf { LeafTurns self.old.known work (Some (purpose, bytes)) result }
     {
         let mut work = work;
         match taken_for(alloc, &mut work, &mut self.known, purpose, bytes)? {

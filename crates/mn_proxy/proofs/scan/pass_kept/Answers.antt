@@ -3,8 +3,7 @@ use Rattle.std.specs.Option.{option_copied}
 use Rattle.mn_page.specs.Grammar.{IsPage, height_of}
 use Rattle.mn_page.specs.declared.page.Page.{Page}
 use Rattle.mn_proxy.specs.Knows.{ArePages}
-use Rattle.mn_proxy.proofs.Cached.{found, used}
-use Rattle.mn_proxy.proofs.Keeping.{one_used}
+use Rattle.mn_proxy.proofs.Cached.{found, one_used, used}
 use Rattle.mn_proxy.proofs.Scans.{not_missing, stays_alike}
 use Rattle.mn_proxy.proofs.scan.pass_kept.Goals as goal
 

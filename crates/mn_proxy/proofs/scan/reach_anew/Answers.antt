@@ -1,7 +1,6 @@
 use Rattle.std.proofs.Common.{true, refl, subst, sym}
 use Rattle.mn_proxy.specs.Knows.{ArePages}
-use Rattle.mn_proxy.proofs.Cached.{without}
-use Rattle.mn_proxy.proofs.Keeping.{drops, stays}
+use Rattle.mn_proxy.proofs.Cached.{drops, stays, without}
 use Rattle.mn_proxy.proofs.scan.reach_anew.Goals as goal
 
 pub returns-clause-kept : goal.returns-clause-kept

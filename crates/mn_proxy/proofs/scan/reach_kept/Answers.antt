@@ -1,6 +1,6 @@
 -- None of the cached pages has left.
 use Rattle.std.proofs.Common.{rules}
-use Rattle.mn_proxy.proofs.Keeping.{then_used}
+use Rattle.mn_proxy.proofs.Cached.{then_used}
 use Rattle.mn_proxy.proofs.scan.reach_kept.Goals as goal
 
 pub returns-in_err-pass_kept-clause-cache : goal.returns-in_err-pass_kept-clause-cache

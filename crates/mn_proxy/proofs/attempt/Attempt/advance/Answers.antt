@@ -2,7 +2,7 @@
 use Rattle.std.proofs.Common.{Option, rules, subst}
 use Rattle.mn_proxy.specs.declared.next.Next.{Next}
 use Rattle.mn_proxy.specs.Cached.{Walks}
-use Rattle.mn_proxy.proofs.Keeping.{then_used, uses, walks_none, walks_on}
+use Rattle.mn_proxy.proofs.Cached.{then_used, uses, walks_none, walks_on}
 use Rattle.mn_proxy.proofs.attempt.Attempt.advance.Goals as goal
 
 pub returns-in_err-next-clause-cache : goal.returns-in_err-next-clause-cache

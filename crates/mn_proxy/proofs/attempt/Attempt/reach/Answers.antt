@@ -6,8 +6,7 @@ use Rattle.mn_proxy.specs.declared.next.Next.TheVariants as next_is
 use Rattle.mn_proxy.specs.Cached.{Walks}
 use Rattle.mn_proxy.specs.Knows.{ArePages}
 use Rattle.mn_proxy.proofs.Attempts.{at_index, stuck_moves}
-use Rattle.mn_proxy.proofs.Cached.{without}
-use Rattle.mn_proxy.proofs.Keeping.{drops, stays, uses}
+use Rattle.mn_proxy.proofs.Cached.{drops, stays, uses, without}
 use Rattle.mn_proxy.proofs.attempt.Attempt.reach.Goals as goal
 
 pub returns-then-not-has_node-clause-moved : goal.returns-then-not-has_node-clause-moved

@@ -2,7 +2,7 @@
 use Rattle.std.proofs.Common.{Ok, rules, subst}
 use Rattle.mn_proxy.specs.declared.attempt.Moved.{Moved}
 use Rattle.mn_proxy.specs.Cached.{Walks, next_by}
-use Rattle.mn_proxy.proofs.Keeping.{then_used, uses, walks_none, walks_on}
+use Rattle.mn_proxy.proofs.Cached.{then_used, uses, walks_none, walks_on}
 use Rattle.mn_proxy.proofs.attempt.Attempt.run_step.Goals as goal
 
 pub returns-in_err-step-clause-cache : goal.returns-in_err-step-clause-cache

@@ -3,7 +3,7 @@ use Rattle.std.proofs.lemmas.Option.{slice_get_read}
 use Rattle.mn_tree.specs.State.{AsksFor}
 use Rattle.mn_proxy.specs.Attempts.{MovesOn}
 use Rattle.mn_proxy.proofs.Attempts.{asks_for, bad_on, changed_or_same, found_on, has_unmet, needs_on, on_its_way, stuck_at, stuck_moves, unmet_on}
-use Rattle.mn_proxy.proofs.Keeping.{stays}
+use Rattle.mn_proxy.proofs.Cached.{stays}
 use Rattle.mn_proxy.proofs.attempt.Attempt.step.Goals as goal
 
 pub reach-requires-clause-way : goal.reach-requires-clause-way

@@ -3,7 +3,7 @@ use Rattle.std.proofs.lemmas.Result.{IfOk-weaker}
 use Rattle.mn_proxy.specs.declared.next.Next.{Next}
 use Rattle.mn_proxy.specs.Children.{WantsRoot}
 use Rattle.mn_proxy.proofs.Children.{unless, way_on}
-use Rattle.mn_proxy.proofs.Keeping.{stays}
+use Rattle.mn_proxy.proofs.Cached.{stays}
 use Rattle.mn_proxy.proofs.child.Child.advance.Goals as goal
 
 pub go_on-requires-in-None-clause-way : goal.go_on-requires-in-None-clause-way

@@ -1,7 +1,6 @@
 use Rattle.std.proofs.Common.{refl, subst, sym}
 use Rattle.mn_proxy.specs.Knows.{ArePages}
-use Rattle.mn_proxy.proofs.Cached.{without}
-use Rattle.mn_proxy.proofs.Keeping.{stays}
+use Rattle.mn_proxy.proofs.Cached.{stays, without}
 use Rattle.mn_proxy.proofs.child.Child.reach.Goals as goal
 
 pub returns-clause-kept : goal.returns-clause-kept

@@ -4,9 +4,8 @@ use Rattle.mn_page.specs.Grammar.{IsPage}
 use Rattle.mn_proxy.specs.declared.next.Next.{Next}
 use Rattle.mn_proxy.specs.Children.{WantsRoot}
 use Rattle.mn_proxy.specs.Knows.{ArePages}
-use Rattle.mn_proxy.proofs.Cached.{found, used}
+use Rattle.mn_proxy.proofs.Cached.{found, one_used, used}
 use Rattle.mn_proxy.proofs.Children.{takes_kept}
-use Rattle.mn_proxy.proofs.Keeping.{one_used}
 use Rattle.mn_proxy.proofs.child.Child.reach_kept.Goals as goal
 
 pub returns-in_err-page-in-Some-clause-kept : goal.returns-in_err-page-in-Some-clause-kept

@@ -6,9 +6,8 @@ use Rattle.mn_proxy.specs.Descents.{gone_below}
 use Rattle.mn_proxy.specs.Knows.{ArePages}
 use Rattle.mn_proxy.specs.Paths.{IsLower, LeadsTo}
 use Rattle.mn_proxy.specs.Walks.{IsAbove}
-use Rattle.mn_proxy.proofs.Cached.{found, used}
+use Rattle.mn_proxy.proofs.Cached.{found, one_used, used}
 use Rattle.mn_proxy.proofs.Descents.{gone_above, gone_version}
-use Rattle.mn_proxy.proofs.Keeping.{one_used}
 use Rattle.mn_proxy.proofs.Paths.{leads_still, none_leaf, on_way_as, some_leads}
 use Rattle.mn_proxy.proofs.get.Descent.pass_inner.Goals as goal
 

@@ -1,4 +1,4 @@
-use Rattle.mn_proxy.proofs.Keeping.{none_used}
+use Rattle.mn_proxy.proofs.Cached.{none_used}
 use Rattle.mn_proxy.proofs.Paths.{low_leaf}
 use Rattle.mn_proxy.proofs.get.Descent.pass_kept.Goals as goal
 

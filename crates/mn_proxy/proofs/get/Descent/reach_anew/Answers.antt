@@ -2,8 +2,7 @@ use Rattle.std.proofs.Common.{refl, ◌∙◌, true, Some, ap, subst, sym}
 use Rattle.mn_proxy.specs.Knows.{ArePages}
 use Rattle.mn_proxy.specs.declared.next.Next.{Next}
 use Rattle.mn_proxy.specs.Cached.{without_next}
-use Rattle.mn_proxy.proofs.Cached.{without}
-use Rattle.mn_proxy.proofs.Keeping.{drops, stays}
+use Rattle.mn_proxy.proofs.Cached.{drops, stays, without}
 use Rattle.mn_proxy.proofs.get.Descent.reach_anew.Goals as goal
 
 pub returns-clause-kept : goal.returns-clause-kept

@@ -2,7 +2,7 @@ use Rattle.std.proofs.Common.{◌≡◌, ◌<◌, ℕ, ap, arith, false, refl, s
 use Rattle.mn_proxy.specs.declared.get.Descent.{Descent}
 use Rattle.mn_proxy.specs.Descents.{wanted}
 use Rattle.mn_proxy.specs.Paths.{PathPasses}
-use Rattle.mn_proxy.proofs.Keeping.{none_used, then_used}
+use Rattle.mn_proxy.proofs.Cached.{none_used, then_used}
 use Rattle.mn_proxy.proofs.Paths.{HasGone, all_gone, gone_none, gone_on}
 use Rattle.mn_proxy.proofs.get.Descent.reach_kept.Goals as goal
 

@@ -2,7 +2,7 @@ use Rattle.std.proofs.Common.{Option, ℕ, ◌≤◌, subst, sym}
 use Rattle.std.specs.Prelude.{MatchOption}
 use Rattle.mn_page.specs.Grammar.{IsFree, IsPage, SpellsPage}
 use Rattle.mn_page.specs.declared.page.Page.{Page}
-use Rattle.mn_proxy.proofs.Keeping.{leaf_put}
+use Rattle.mn_proxy.proofs.Cached.{leaf_put}
 use Rattle.mn_proxy.proofs.get.Descent.take_page.Goals as goal
 
 pub take_inner-requires-clause-page : goal.take_inner-requires-clause-page

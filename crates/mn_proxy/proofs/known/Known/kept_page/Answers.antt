@@ -2,8 +2,7 @@ use Rattle.std.proofs.Common.{◌∙◌, ap, refl, subst, sym}
 use Rattle.std.specs.Option.{option_copied}
 use Rattle.mn_page.specs.Grammar.{IsPage}
 use Rattle.mn_proxy.specs.Knows.{ArePages}
-use Rattle.mn_proxy.proofs.Cached.{found, used}
-use Rattle.mn_proxy.proofs.Keeping.{one_used}
+use Rattle.mn_proxy.proofs.Cached.{found, one_used, used}
 use Rattle.mn_proxy.proofs.known.Known.kept_page.Goals as goal
 
 pub returns-in_err-try_copy-in-Some-clause-kept : goal.returns-in_err-try_copy-in-Some-clause-kept

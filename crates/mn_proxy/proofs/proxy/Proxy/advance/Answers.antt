@@ -20,7 +20,7 @@ use Rattle.mn_proxy.specs.Cached.{Walks}
 use Rattle.mn_proxy.specs.Paths.{ReadsLeaf}
 use Rattle.mn_proxy.specs.Walks.{is_later}
 use Rattle.mn_proxy.proofs.Getting.{reads_leaf}
-use Rattle.mn_proxy.proofs.Keeping.{walks_none}
+use Rattle.mn_proxy.proofs.Cached.{walks_none}
 use Rattle.mn_proxy.proofs.Kept.{catalog_stays, catalog_then, no_page_turns, page_turns, used_turns}
 use Rattle.mn_proxy.proofs.Taking.{none_made}
 use Rattle.mn_proxy.proofs.proxy.Proxy.advance.Goals as goal

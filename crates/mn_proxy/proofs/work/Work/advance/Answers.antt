@@ -5,7 +5,7 @@ use Rattle.mn_proxy.specs.Paths.{GetsAt, at_root}
 use Rattle.mn_proxy.specs.Walks.{is_later}
 use Rattle.mn_proxy.specs.Works.{GoesOnBy, lacks_catalog}
 use Rattle.mn_proxy.proofs.Getting.{begins_there, has_catalog}
-use Rattle.mn_proxy.proofs.Keeping.{stays}
+use Rattle.mn_proxy.proofs.Cached.{stays}
 use Rattle.mn_proxy.proofs.Works.{wants_begun, wants_on}
 use Rattle.mn_proxy.proofs.work.Work.advance.Goals as goal
 use Rattle.mn_proxy.proofs.work.Work.advance.Goals.{in-Start+in_ok-begin, in_default}
