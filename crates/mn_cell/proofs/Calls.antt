@@ -10,7 +10,7 @@ use Rattle.mn_actors.specs.Lines.{Line, line, same_actor}
 use Rattle.mn_actors.specs.Lists.{held, grow, or_else, or_empty, Owns, HasRoom, MayAppend, IsJoined, IsAppended, IsSameLists, IsSplit}
 use Rattle.mn_actors.specs.Look.{IsOfLog}
 use Rattle.mn_actors.specs.Rule.{list_of}
-use Rattle.mn_cell.specs.Passes.{AreOfOneLog, IsLonger, OwnsJust}
+use Rattle.mn_cell.specs.Passes.{AreOfOneLog, ListHasGrown, OwnsJust}
 
 module _ {E : Type 0} (n : NodeNo) (c : ClientNo) (own v j : View E) (owns : OwnsJust own (Node n)) (owns' : OwnsJust v (Client c)) (join : IsJoined v own j) where
   node_joined : held j (Node n) ≡ held own (Node n)
@@ -45,7 +45,7 @@ module _ {E : Type 0} (n : NodeNo) (c : ClientNo) (own v j : View E) (owns : Own
     part_node : held part (Node n) ≡ grow (held own (Node n)) (p, e)
     part_node = split.given.0 ∙ node_grown p e w app
 
-    pub node_longer : IsLonger own (Node n) (p, e) part
+    pub node_longer : ListHasGrown own (Node n) (p, e) part
     node_longer = (part_node, (owns_grown p e w app part (Node n) (held own (Node n)) owns.0 part_node, λ b not. (split.others b not).1), split.known.1 ∙ app.known)
 
     rest_client : held rest (Client c) ≡ grow (held v (Client c)) (p, e)
@@ -62,7 +62,7 @@ module _ {E : Type 0} (n : NodeNo) (c : ClientNo) (own v j : View E) (owns : Own
         (cases_eq k.0 n.0)
     nothing_else (Client k) not = (split.others (Client k) refl).0 ∙ (app.others (Client k) not ∙ none_joined (Client k) (owns'.1 (Client k) not) (owns.1 (Client k) refl))
 
-    pub client_longer : IsLonger v (Client c) (p, e) rest
+    pub client_longer : ListHasGrown v (Client c) (p, e) rest
     client_longer = (rest_client, (owns_grown p e w app rest (Client c) (held v (Client c)) owns'.0 rest_client, nothing_else), split.known.0 ∙ app.known)
 
 -- Two passes are joined, looked at and split again: they are as before, and their lists are of one

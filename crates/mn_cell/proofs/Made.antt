@@ -18,11 +18,11 @@ use Rattle.mn_mini.specs.Mini.{has_write}
 use Rattle.mn_mini.specs.Flat.{Mismatched, part_mismatch_from}
 use Rattle.mn_mini.specs.Node.{Response, Clash, answer, after_compares, after_locks, clash_of, has_forced, has_voted, held_parts, space_of, with_added}
 use Rattle.mn_page.specs.Base.{base_of}
-use Rattle.mn_node.specs.Node.{StopsAt, added_to, bodies_of}
+use Rattle.mn_node.specs.Node.{StopLeaves, added_to, bodies_of}
 use Rattle.mn_mini.specs.RecordGrammar.{record_bytes}
 use Rattle.mn_redo.specs.Redo.{StandsFor}
-use Rattle.mn_node.specs.State.{Answers, DiskGoesOn, NodeState, StandsForRecords, response_to}
-use Rattle.mn_node.specs.Restart.{FailsRestart, Restarts}
+use Rattle.mn_node.specs.State.{Answers, NodeKeepsDisk, NodeState, StandsForRecords, response_to}
+use Rattle.mn_node.specs.Restart.{FailsRestart, RestartLeaves}
 use Rattle.mn_node.specs.declared.restart.RestartError.{RestartError}
 use Rattle.mn_node.specs.declared.restart.RestartError.TheVariants.{Fault, Damaged, NoMemory}
 use Rattle.mn_node.proofs.Found.{size_of}
@@ -34,8 +34,8 @@ use Rattle.mn_world.specs.declared.entry.What.TheVariants.{Begin, Issue, Called,
 use Rattle.mn_world.specs.Nodes.{NodeAllows, added_by, is_down, node_records, stopped_request}
 use Rattle.mn_world.specs.Protocol.{Start, base_at, start_nodes, start_records, start_of}
 use Rattle.mn_world.proofs.Bytes.Bases.{base_there}
-use Rattle.mn_cell.specs.Calls.{AddsNone, IsLarge, IsUndamaged, KeepsStop, entry_at, what_said}
-use Rattle.mn_cell.specs.Station.{HasMade, IsFirst, IsKeptAs, KeepsAs, KeepsAsAsked, RoseBy, StandsAs, StopsAsItAdds, asked_or, last_asked, unasked, unasked_in}
+use Rattle.mn_cell.specs.Calls.{AddsNoRecord, IsLarge, IsUndamaged, ObeysStop, entry_at, what_said}
+use Rattle.mn_cell.specs.Station.{HasMadeEntries, IsNodeAtStart, IsRecordKeptAsAsked, StepKeepsRecordAsAsked, RestartsKeepRecordsAsAsked, RoseBy, DiskStandsAsAsked, StopsWhereItWouldAdd, asked_or, last_asked, unasked, unasked_in}
 
 -- The base space of a node
 
@@ -82,14 +82,14 @@ one_fault by before old new rose more = omega (arith, rose, more)
 
 -- What a stop asked for
 
-kept_on : (A B : Type 0) → (A → B) → (asked : Option StopAt) (kept : Bool) → IsKeptAs A asked kept → IsKeptAs B asked kept
+kept_on : (A B : Type 0) → (A → B) → (asked : Option StopAt) (kept : Bool) → IsRecordKeptAsAsked A asked kept → IsRecordKeptAsAsked B asked kept
 kept_on A B f None kept is = tt
 kept_on A B f (Some Before) kept is = is
 kept_on A B f (Some Half) kept is = is
 kept_on A B f (Some After) kept (inl a) = inl (f a)
 kept_on A B f (Some After) kept (inr is) = inr is
 
-keeps_on : (A B : Type 0) → (A → B) → (what : What) (asked : Option StopAt) → KeepsAs A what asked → KeepsAs B what asked
+keeps_on : (A B : Type 0) → (A → B) → (what : What) (asked : Option StopAt) → StepKeepsRecordAsAsked A what asked → StepKeepsRecordAsAsked B what asked
 keeps_on A B f (Restarted kept) asked is = kept_on A B f asked kept is
 keeps_on A B f (Called request reply) asked is = tt
 keeps_on A B f (Stopped request stop) asked is = tt
@@ -98,7 +98,7 @@ keeps_on A B f (Issue tid mini) asked is = tt
 keeps_on A B f (Abandoned tid) asked is = tt
 keeps_on A B f (Answered n answer) asked is = tt
 
-pub all_keep_on : (A B : Type 0) → (A → B) → (es : List Entry) → KeepsAsAsked A es → KeepsAsAsked B es
+pub all_keep_on : (A B : Type 0) → (A → B) → (es : List Entry) → RestartsKeepRecordsAsAsked A es → RestartsKeepRecordsAsAsked B es
 all_keep_on A B f [] are = tt
 all_keep_on A B f (e ∷ es) are = (keeps_on A B f e.what (last_asked es) are.0, all_keep_on A B f es are.1)
 
@@ -114,7 +114,7 @@ same_stands disk node node' nodes nodes' records records' same same' is stands =
 
 module _ {D : Type 0} (state : D → DiskState) (faults : D → ℕ) (start : Start) (number : NodeNo) (before : ℕ) (honest : Type 0) where
   -- a node that starts has made nothing
-  pub made_first : (n : NodeState D) → IsFirst state faults start number before honest n → HasMade state faults start number before honest [] n
+  pub made_first : (n : NodeState D) → IsNodeAtStart state faults start number before honest n → HasMadeEntries state faults start number before honest [] n
   made_first n first = record {
     node = first.node;
     nodes = first.nodes;
@@ -131,7 +131,7 @@ module _ {D : Type 0} (state : D → DiskState) (faults : D → ℕ) (start : St
     left = λ down. tt;
   }
 
-  module _ (es : List Entry) (old new : NodeState D) (made : HasMade state faults start number before honest es old) (goes : DiskGoesOn state faults old new) (base_same : base_at start number ≡ base_of (start_nodes start) number.0) where
+  module _ (es : List Entry) (old new : NodeState D) (made : HasMadeEntries state faults start number before honest es old) (goes : NodeKeepsDisk state faults old new) (base_same : base_at start number ≡ base_of (start_nodes start) number.0) where
     responds : (request : Request) → response_to old request ≡ answer (base_at start number) (node_records (base_at start number) (start_records start number) es) request
     responds request =
         ap (λ (m : ℕ × ℕ). answer (base_of m.0 m.1) (reverse old.records) request) (λ i. (made.nodes i, made.node i))
@@ -147,12 +147,12 @@ module _ {D : Type 0} (state : D → DiskState) (faults : D → ℕ) (start : St
     risen : HadRisen → HasRisen
     risen rose = rose_later before (faults old.disk) (faults new.disk) rose goes.later
 
-    still_kept : (state new.disk).honest → KeepsAsAsked HasRisen es
+    still_kept : (state new.disk).honest → RestartsKeepRecordsAsAsked HasRisen es
     still_kept h = all_keep_on HadRisen HasRisen risen es (made.kept (goes.no_better h))
 
     -- what the stop left is still there
     pub left_on : ((records : List Record) → StandsForRecords (state old.disk) old.node old.nodes records → StandsForRecords (state new.disk) old.node old.nodes records) → new.records ≡ old.records → new.pending ≡ old.pending
-        → (asked : Option StopAt) → StandsAs state HadRisen old asked → StandsAs state HasRisen new asked
+        → (asked : Option StopAt) → DiskStandsAsAsked state HadRisen old asked → DiskStandsAsAsked state HasRisen new asked
     left_on keeps records pending None stands = tt
     left_on keeps records pending (Some Before) stands = same_stands (state new.disk) old.node new.node old.nodes new.nodes old.records new.records goes.node goes.nodes records (keeps old.records stands)
     left_on keeps records pending (Some Half) stands = same_stands (state new.disk) old.node new.node old.nodes new.nodes old.records new.records goes.node goes.nodes records (keeps old.records stands)
@@ -162,7 +162,7 @@ module _ {D : Type 0} (state : D → DiskState) (faults : D → ℕ) (start : St
         inr (r, pending ∙ there.1, same_stands (state new.disk) old.node new.node old.nodes new.nodes (old.records ++ r ∷ []) (new.records ++ r ∷ []) goes.node goes.nodes (ap (λ (l : List Record). l ++ r ∷ []) records) (keeps (old.records ++ r ∷ []) there.2))
 
     -- a node that goes on as it was
-    pub made_still : new.records ≡ old.records → new.down ≡ old.down → (new.down ≡ true → new.pending ≡ old.pending) → (new.down ≡ true → StandsAs state HasRisen new (last_asked es)) → HasMade state faults start number before honest es new
+    pub made_still : new.records ≡ old.records → new.down ≡ old.down → (new.down ≡ true → new.pending ≡ old.pending) → (new.down ≡ true → DiskStandsAsAsked state HasRisen new (last_asked es)) → HasMadeEntries state faults start number before honest es new
     made_still records down pending left = record {
       node = goes.node ∙ made.node;
       nodes = goes.nodes ∙ made.nodes;
@@ -181,11 +181,11 @@ module _ {D : Type 0} (state : D → DiskState) (faults : D → ℕ) (start : St
 
     -- an entry that leaves the node's disk and numbers
     entered : (c : ClientNo) (what : What) → NodeAllows (base_at start number) (start_records start number) es what
-        → StopsAsItAdds (base_at start number) (node_records (base_at start number) (start_records start number) es) what
+        → StopsWhereItWouldAdd (base_at start number) (node_records (base_at start number) (start_records start number) es) what
         → reverse new.records ≡ node_records (base_at start number) (start_records start number) (entry_at number c what ∷ es) → new.down ≡ is_down (entry_at number c what ∷ es)
         → (new.down ≡ true → new.pending ≡ added_by (base_at start number) (node_records (base_at start number) (start_records start number) (entry_at number c what ∷ es)) (stopped_request (entry_at number c what ∷ es)))
-        → RoseBy (unasked es + unasked_in what) before (faults new.disk) → ((state new.disk).honest → KeepsAs HasRisen what (last_asked es)) → (new.down ≡ true → StandsAs state HasRisen new (asked_or what (last_asked es)))
-        → HasMade state faults start number before honest (entry_at number c what ∷ es) new
+        → RoseBy (unasked es + unasked_in what) before (faults new.disk) → ((state new.disk).honest → StepKeepsRecordAsAsked HasRisen what (last_asked es)) → (new.down ≡ true → DiskStandsAsAsked state HasRisen new (asked_or what (last_asked es)))
+        → HasMadeEntries state faults start number before honest (entry_at number c what ∷ es) new
     entered c what allowed stops records down pending counted kept left = record {
       node = goes.node ∙ made.node;
       nodes = goes.nodes ∙ made.nodes;
@@ -203,7 +203,7 @@ module _ {D : Type 0} (state : D → DiskState) (faults : D → ℕ) (start : St
     }
 
     -- a node that is up has no stop
-    none_left : (asked : Option StopAt) → new.down ≡ false → new.down ≡ true → StandsAs state HasRisen new asked
+    none_left : (asked : Option StopAt) → new.down ≡ false → new.down ≡ true → DiskStandsAsAsked state HasRisen new asked
     none_left asked up is = let no : true ≡ false = sym is ∙ up in absurd (cc)
 
     no_more : RoseBy (unasked es + 0) before (faults new.disk)
@@ -211,7 +211,7 @@ module _ {D : Type 0} (state : D → DiskState) (faults : D → ℕ) (start : St
 
     -- an answer
     answered : (c : ClientNo) (request : Request) (reply : NodeReply) → old.down ≡ false → new.down ≡ false → (response_to old request).reply ≡ reply → new.records ≡ added_to old.records (response_to old request).added
-        → HasMade state faults start number before honest (entry_at number c (Called request reply) ∷ es) new
+        → HasMadeEntries state faults start number before honest (entry_at number c (Called request reply) ∷ es) new
     answered c request reply up still_up says records =
         let up' : is_down es ≡ false = sym made.down ∙ up in
         let r = responds request in
@@ -228,7 +228,7 @@ module _ {D : Type 0} (state : D → DiskState) (faults : D → ℕ) (start : St
         (none_left (last_asked es) still_up)
 
     -- a call that is answered Down
-    answered_down : (c : ClientNo) (request : Request) → old.down ≡ true → new ≡ old → HasMade state faults start number before honest (entry_at number c (Called request Say.Down) ∷ es) new
+    answered_down : (c : ClientNo) (request : Request) → old.down ≡ true → new ≡ old → HasMadeEntries state faults start number before honest (entry_at number c (Called request Say.Down) ∷ es) new
     answered_down c request down same =
         let down' : is_down es ≡ true = sym made.down ∙ down in
         entered c (Called request Say.Down)
@@ -239,15 +239,15 @@ module _ {D : Type 0} (state : D → DiskState) (faults : D → ℕ) (start : St
         (λ is. rw down' (ap (λ (n : NodeState D). n.pending) same ∙ made.pending down))
         no_more
         (λ h. tt)
-        (λ is. subst (λ (n : NodeState D). StandsAs state (Rose before (faults n.disk)) n (last_asked es)) (sym same) (made.left down))
+        (λ is. subst (λ (n : NodeState D). DiskStandsAsAsked state (Rose before (faults n.disk)) n (last_asked es)) (sym same) (made.left down))
 
-    stop_count : {fo fn : D} (node nodes : ℕ) (records : List (List ℕ)) (body : List ℕ) (request : Request) (stop : Option StopAt) → fo ≡ old.disk → fn ≡ new.disk → StopsAt state faults fo fn node nodes records body stop
+    stop_count : {fo fn : D} (node nodes : ℕ) (records : List (List ℕ)) (body : List ℕ) (request : Request) (stop : Option StopAt) → fo ≡ old.disk → fn ≡ new.disk → StopLeaves state faults fo fn node nodes records body stop
         → RoseBy (unasked es + unasked_in (Stopped (Some request) stop)) before (faults new.disk)
     stop_count node nodes records body request None o n at = one_fault (unasked es) before (faults old.disk) (faults new.disk) made.counted (subst (λ (p : D × D). Rose (faults p.0) (faults p.1)) (λ i. (o i, n i)) at)
     stop_count node nodes records body request (Some at) o n stops = no_more
 
     -- what a stop that was asked for leaves
-    stop_left : (r : Record) (stop : Option StopAt) → new.records ≡ old.records → new.pending ≡ Some r → StopsAt state faults old.disk new.disk old.node old.nodes (bodies_of old.records) (record_bytes r) stop → StandsAs state HasRisen new stop
+    stop_left : (r : Record) (stop : Option StopAt) → new.records ≡ old.records → new.pending ≡ Some r → StopLeaves state faults old.disk new.disk old.node old.nodes (bodies_of old.records) (record_bytes r) stop → DiskStandsAsAsked state HasRisen new stop
     stop_left r None records pending at = tt
     stop_left r (Some Before) records pending at = same_stands (state new.disk) old.node new.node old.nodes new.nodes old.records new.records goes.node goes.nodes records (λ h. (at (goes.no_better h)).0)
     stop_left r (Some Half) records pending at = same_stands (state new.disk) old.node new.node old.nodes new.nodes old.records new.records goes.node goes.nodes records (λ h. at.0 (goes.no_better h))
@@ -261,7 +261,7 @@ module _ {D : Type 0} (state : D → DiskState) (faults : D → ℕ) (start : St
         )
 
     -- a stop inside a request
-    stopped_inside : (c : ClientNo) (request : Request) (stop : Option StopAt) → Answers state faults old request stop Say.Stopped new → HasMade state faults start number before honest (entry_at number c (Stopped (Some request) stop) ∷ es) new
+    stopped_inside : (c : ClientNo) (request : Request) (stop : Option StopAt) → Answers state faults old request stop Say.Stopped new → HasMadeEntries state faults start number before honest (entry_at number c (Stopped (Some request) stop) ∷ es) new
     stopped_inside c request stop told =
         let up' : is_down es ≡ false = sym made.down ∙ told.0 in
         let records = ap (λ (l : List Record). reverse l) told.2 ∙ made.records in
@@ -276,7 +276,7 @@ module _ {D : Type 0} (state : D → DiskState) (faults : D → ℕ) (start : St
 
     -- a call that isn't answered for want of memory
     pub made_called : (c : ClientNo) (request : Request) (stop : Option StopAt) (reply : NodeReply) → Answers state faults old request stop reply new → reply ≢ Say.NoMemory
-        → HasMade state faults start number before honest (entry_at number c (what_said request stop reply) ∷ es) new
+        → HasMadeEntries state faults start number before honest (entry_at number c (what_said request stop reply) ∷ es) new
     made_called c request stop Say.NoMemory told ne = absurd (ne refl)
     made_called c request stop Say.Stopped told ne = stopped_inside c request stop told
     made_called c request stop Say.Down told ne = answered_down c request told.0 told.1
@@ -290,19 +290,19 @@ module _ {D : Type 0} (state : D → DiskState) (faults : D → ℕ) (start : St
     made_called c request stop (Say.Peeked bytes) told ne = answered c request (Say.Peeked bytes) told.0 told.1 told.2 told.3
 
     -- it was up and is, with the same records
-    abbrev IsStill : Type 0
-    IsStill = (new.records ≡ old.records) × (new.down ≡ old.down) × (new.down ≡ false)
+    abbrev IsUpAsBefore : Type 0
+    IsUpAsBefore = (new.records ≡ old.records) × (new.down ≡ old.down) × (new.down ≡ false)
 
-    up_still : old.down ≡ false → new.down ≡ false → new.records ≡ old.records → IsStill
+    up_still : old.down ≡ false → new.down ≡ false → new.records ≡ old.records → IsUpAsBefore
     up_still up up' records = (records, up' ∙ sym up, up')
 
-    large_still : (request : Request) (reply : NodeReply) → IsLarge reply → old.down ≡ false → new.down ≡ false → (response_to old request).reply ≡ reply → new.records ≡ added_to old.records (response_to old request).added → IsStill
+    large_still : (request : Request) (reply : NodeReply) → IsLarge reply → old.down ≡ false → new.down ≡ false → (response_to old request).reply ≡ reply → new.records ≡ added_to old.records (response_to old request).added → IsUpAsBefore
     large_still request reply large up up' says records =
         let none = large_none (base_of old.nodes old.node) (reverse old.records) request (subst IsLarge (sym says) large) in
         up_still up up' (records ∙ ap (λ (a : Option Record). added_to old.records a) none)
 
     -- a call that finds no memory leaves the node as it was
-    unchanged : (request : Request) (stop : Option StopAt) (reply : NodeReply) → Answers state faults old request stop reply new → (reply ≡ Say.NoMemory) ⊎ IsLarge reply → IsStill
+    unchanged : (request : Request) (stop : Option StopAt) (reply : NodeReply) → Answers state faults old request stop reply new → (reply ≡ Say.NoMemory) ⊎ IsLarge reply → IsUpAsBefore
     unchanged request stop Say.NoMemory told why = up_still told.0 told.1 told.2
     unchanged request stop (Say.BadCompare item found) told why = large_still request (Say.BadCompare item found) tt told.0 told.1 told.2 told.3
     unchanged request stop (Say.Listed doubts) told why = large_still request (Say.Listed doubts) tt told.0 told.1 told.2 told.3
@@ -322,28 +322,28 @@ module _ {D : Type 0} (state : D → DiskState) (faults : D → ℕ) (start : St
     unchanged request stop Say.Decided told (inl is) = absurd (cc)
     unchanged request stop Say.Decided told (inr is) = absurd is
 
-    pub made_unchanged : (request : Request) (stop : Option StopAt) (reply : NodeReply) → Answers state faults old request stop reply new → (reply ≡ Say.NoMemory) ⊎ IsLarge reply → HasMade state faults start number before honest es new
+    pub made_unchanged : (request : Request) (stop : Option StopAt) (reply : NodeReply) → Answers state faults old request stop reply new → (reply ≡ Say.NoMemory) ⊎ IsLarge reply → HasMadeEntries state faults start number before honest es new
     made_unchanged request stop reply told why =
         let still = unchanged request stop reply told why in
         made_still still.0 still.1 (λ is. let no : true ≡ false = sym is ∙ still.2 in absurd (cc)) (none_left (last_asked es) still.2)
 
     -- a restart that failed leaves it down
     pub made_failed : old.down ≡ true → new.down ≡ true → new.records ≡ old.records → new.pending ≡ old.pending
-        → ((records : List Record) → StandsForRecords (state old.disk) old.node old.nodes records → StandsForRecords (state new.disk) old.node old.nodes records) → HasMade state faults start number before honest es new
+        → ((records : List Record) → StandsForRecords (state old.disk) old.node old.nodes records → StandsForRecords (state new.disk) old.node old.nodes records) → HasMadeEntries state faults start number before honest es new
     made_failed down down' records pending keeps = made_still records (down' ∙ sym down) (λ is. pending) (λ is. left_on keeps records pending (last_asked es) (made.left down))
 
     -- a stop between two calls
-    pub made_halted : (c : ClientNo) → old.down ≡ false → new.down ≡ true → new.records ≡ old.records → new.pending ≡ None → HasMade state faults start number before honest (entry_at number c (Stopped None None) ∷ es) new
+    pub made_halted : (c : ClientNo) → old.down ≡ false → new.down ≡ true → new.records ≡ old.records → new.pending ≡ None → HasMadeEntries state faults start number before honest (entry_at number c (Stopped None None) ∷ es) new
     made_halted c up down records pending =
         let up' : is_down es ≡ false = sym made.down ∙ up in
         entered c (Stopped None None) up' tt (ap (λ (l : List Record). reverse l) records ∙ made.records) down (λ is. pending) no_more (λ h. tt) (λ is. tt)
 
     -- the records that come back are those that each image stood for
-    abbrev Finds : Type 0
-    Finds = (state old.disk).honest → (records : List Record) → StandsForRecords (state old.disk) old.node old.nodes records → bodies_of new.records ≡ bodies_of records
+    abbrev FindsRecords : Type 0
+    FindsRecords = (state old.disk).honest → (records : List Record) → StandsForRecords (state old.disk) old.node old.nodes records → bodies_of new.records ≡ bodies_of records
 
     -- a restart keeps what the stop asked for
-    restart_keeps : (asked : Option StopAt) (kept : Bool) (pending : Option Record) → Restarts old.records pending new.records kept → Finds → (state old.disk).honest → StandsAs state HadRisen old asked → IsKeptAs HasRisen asked kept
+    restart_keeps : (asked : Option StopAt) (kept : Bool) (pending : Option Record) → RestartLeaves old.records pending new.records kept → FindsRecords → (state old.disk).honest → DiskStandsAsAsked state HadRisen old asked → IsRecordKeptAsAsked HasRisen asked kept
     restart_keeps None kept pending restarts finds h stands = tt
     restart_keeps (Some Before) false pending restarts finds h stands = refl
     restart_keeps (Some Before) true None restarts finds h stands = absurd restarts
@@ -356,7 +356,7 @@ module _ {D : Type 0} (state : D → DiskState) (faults : D → ℕ) (start : St
     restart_keeps (Some After) false pending restarts finds h (inr there) = absurd (not_longer old.records there.0 (sym (finds h (old.records ++ there.0 ∷ []) there.2) ∙ ap bodies_of restarts))
 
     restarted : (c : ClientNo) (kept : Bool) (pending : Option Record) → old.down ≡ true → new.down ≡ false → added_by (base_at start number) (node_records (base_at start number) (start_records start number) es) (stopped_request es) ≡ pending
-        → Restarts old.records pending new.records kept → ((state new.disk).honest → IsKeptAs HasRisen (last_asked es) kept) → HasMade state faults start number before honest (entry_at number c (Restarted kept) ∷ es) new
+        → RestartLeaves old.records pending new.records kept → ((state new.disk).honest → IsRecordKeptAsAsked HasRisen (last_asked es) kept) → HasMadeEntries state faults start number before honest (entry_at number c (Restarted kept) ∷ es) new
     restarted c false pending down up is restarts keeps =
         entered c (Restarted false) (sym made.down ∙ down) tt (ap (λ (l : List Record). reverse l) restarts ∙ made.records) up (λ now. let no : true ≡ false = sym now ∙ up in absurd (cc)) no_more keeps (none_left (last_asked es) up)
     restarted c true None down up is restarts keeps = absurd restarts
@@ -365,7 +365,7 @@ module _ {D : Type 0} (state : D → DiskState) (faults : D → ℕ) (start : St
         entered c (Restarted true) (sym made.down ∙ down, rw is refl) tt (rw is records) up (λ now. let no : true ≡ false = sym now ∙ up in absurd (cc)) no_more keeps (none_left (last_asked es) up)
 
     -- a restart
-    pub made_restarted : (c : ClientNo) (kept : Bool) → old.down ≡ true → new.down ≡ false → Restarts old.records old.pending new.records kept → Finds → HasMade state faults start number before honest (entry_at number c (Restarted kept) ∷ es) new
+    pub made_restarted : (c : ClientNo) (kept : Bool) → old.down ≡ true → new.down ≡ false → RestartLeaves old.records old.pending new.records kept → FindsRecords → HasMadeEntries state faults start number before honest (entry_at number c (Restarted kept) ∷ es) new
     made_restarted c kept down up restarts finds =
         restarted c kept old.pending down up (sym (made.pending down)) restarts (λ h. restart_keeps (last_asked es) kept old.pending restarts finds (goes.no_better h) (made.left down))
 
@@ -390,7 +390,7 @@ done_write : (w : Bool) (space : List ℕ) (part : List PartItem) (r : Record) (
 done_write true space part r clash reads says none = absurd (done_locks space part r clash reads says none)
 done_write false space part r clash reads says none = refl
 
-done_none : (base : List ℕ) (records : List Record) (request : Request) (reads : List (List ℕ)) → (answer base records request).reply ≡ Say.Done reads → (answer base records request).added ≡ None → AddsNone request
+done_none : (base : List ℕ) (records : List Record) (request : Request) (reads : List (List ℕ)) → (answer base records request).reply ≡ Say.Done reads → (answer base records request).added ≡ None → AddsNoRecord request
 done_none base records (Ask.Prepare tid participants part) reads says none = done_if (has_forced records tid) _ reads (done_locks (space_of base records) part _ (clash_of (held_parts records) tid part) reads) says none
 done_none base records (Ask.Exec tid part) reads says none = done_write (has_write part) (space_of base records) part _ (clash_of (held_parts records) tid part) reads says none
 done_none base records (Ask.Decide tid verdict) reads says none = tt
@@ -399,7 +399,7 @@ done_none base records Ask.List reads says none = tt
 done_none base records (Ask.Peek start size) reads says none = tt
 
 -- a stop that was asked for is kept
-pub keeps_stop : {D : Type 0} (state : D → DiskState) (faults : D → ℕ) (old new : NodeState D) (request : Request) (stop : Option StopAt) (reply : NodeReply) → Answers state faults old request stop reply new → KeepsStop stop request reply
+pub keeps_stop : {D : Type 0} (state : D → DiskState) (faults : D → ℕ) (old new : NodeState D) (request : Request) (stop : Option StopAt) (reply : NodeReply) → Answers state faults old request stop reply new → ObeysStop stop request reply
 keeps_stop state faults old new request None reply told = tt
 keeps_stop state faults old new request (Some at) (Say.Done reads) told = done_none (base_of old.nodes old.node) (reverse old.records) request reads told.2 told.4
 keeps_stop state faults old new request (Some at) Say.NoMemory told = tt

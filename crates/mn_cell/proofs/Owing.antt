@@ -17,7 +17,7 @@ use Rattle.mn_world.specs.declared.entry.What.{What}
 use Rattle.mn_world.specs.declared.entry.What.TheVariants.{Begin, Issue, Called, Stopped, Restarted, Abandoned, Answered}
 use Rattle.mn_world.specs.Run.{entries_of}
 use Rattle.mn_cell.specs.declared.node_list.Owed.{Owed}
-use Rattle.mn_cell.specs.Promises.{is_owed_to, owes, without, is_owed, owed_after, is_id, voted_in, decided_in, voted_by, decided_by, OwesTo}
+use Rattle.mn_cell.specs.Promises.{is_owed_to, owes, owed_without, is_owed, owed_after, is_id, voted_in, decided_in, voted_by, decided_by, OwesTo}
 
 -- the newest entry of a list that grew
 pub newest_entry : (l : List (ℕ × Entry)) (p : ℕ) (e : Entry) → entries_of (l ++ (p, e) ∷ []) ≡ e ∷ entries_of l
@@ -29,17 +29,17 @@ kept_no_longer : (b : Bool) (o : Owed) (os ps : List Owed) → length ps ≤ len
 kept_no_longer true o os ps le = omega (arith, le)
 kept_no_longer false o os ps le = omega (arith, le)
 
-no_longer : (tid : Tid) (c : ClientNo) (os : List Owed) → length (without tid c os) ≤ length os
+no_longer : (tid : Tid) (c : ClientNo) (os : List Owed) → length (owed_without tid c os) ≤ length os
 no_longer tid c [] = omega arith
-no_longer tid c (o ∷ os) = kept_no_longer (is_owed_to tid c o) o os (without tid c os) (no_longer tid c os)
+no_longer tid c (o ∷ os) = kept_no_longer (is_owed_to tid c o) o os (owed_without tid c os) (no_longer tid c os)
 
 kept_shorter : (b w : Bool) (o : Owed) (os ps : List Owed) → (b || w) ≡ true → length ps ≤ length os → (w ≡ true → length ps < length os) → length (if not b then o ∷ ps else ps) < length (o ∷ os)
 kept_shorter true w o os ps is le lt = omega (arith, le)
 kept_shorter false w o os ps is le lt = omega (arith, lt is)
 
-shorter : (tid : Tid) (c : ClientNo) (os : List Owed) → owes tid c os ≡ true → length (without tid c os) < length os
+shorter : (tid : Tid) (c : ClientNo) (os : List Owed) → owes tid c os ≡ true → length (owed_without tid c os) < length os
 shorter tid c [] is = absurd (cc)
-shorter tid c (o ∷ os) is = kept_shorter (is_owed_to tid c o) (owes tid c os) o os (without tid c os) is (no_longer tid c os) (shorter tid c os)
+shorter tid c (o ∷ os) is = kept_shorter (is_owed_to tid c o) (owes tid c os) o os (owed_without tid c os) is (no_longer tid c os) (shorter tid c os)
 
 pub one_more : (c : Option ClientNo) (decided voted : Option Tid) (os : List Owed) → length (owed_after c decided voted os) ≤ length os + 1
 one_more None decided voted os = omega arith
@@ -82,9 +82,9 @@ kept_stays p w o os ps other is rest = by (p o) w refl refl other is
     by false true b v other is = rest is
     by false false b v other is = rw b (rest is)
 
-stays : (tid t : Tid) (c d : ClientNo) (os : List Owed) → ((o : Owed) → is_owed_to tid c o ≡ true → is_owed_to t d o ≡ false) → owes tid c os ≡ true → owes tid c (without t d os) ≡ true
+stays : (tid t : Tid) (c d : ClientNo) (os : List Owed) → ((o : Owed) → is_owed_to tid c o ≡ true → is_owed_to t d o ≡ false) → owes tid c os ≡ true → owes tid c (owed_without t d os) ≡ true
 stays tid t c d [] other is = is
-stays tid t c d (o ∷ os) other is = kept_stays (is_owed_to tid c) (is_owed_to t d o) o os (without t d os) (other o) is (stays tid t c d os other)
+stays tid t c d (o ∷ os) other is = kept_stays (is_owed_to tid c) (is_owed_to t d o) o os (owed_without t d os) (other o) is (stays tid t c d os other)
 
 by_fields : (o : Owed) (tid t : Tid) (c d : ClientNo) → (tid_same t tid && client_same c d) ≡ false → is_owed_to tid c o ≡ true → is_owed_to t d o ≡ false
 by_fields o tid t c d differ is = grind (arith, nat_tests, differ, is)
@@ -122,10 +122,10 @@ after_step (Some d) None (Some t) none before tid c os owed is =
 after_step (Some d) None None none before tid c os owed is = owed (left_over (client_same c d) before false is).0
 
 -- each decision that is owed is there
-abbrev pub Covers : List Entry → List Owed → Type 0
-Covers es os = (tid : Tid) (c : ClientNo) → is_owed tid c es ≡ true → owes tid c os ≡ true
+abbrev pub OwedAreListed : List Entry → List Owed → Type 0
+OwedAreListed es os = (tid : Tid) (c : ClientNo) → is_owed tid c es ≡ true → owes tid c os ≡ true
 
-pub covers : (e : Entry) (es : List Entry) (os : List Owed) → Covers es os → Covers (e ∷ es) (owed_after e.client (decided_in e.what) (voted_in e.what) os)
+pub covers : (e : Entry) (es : List Entry) (os : List Owed) → OwedAreListed es os → OwedAreListed (e ∷ es) (owed_after e.client (decided_in e.what) (voted_in e.what) os)
 covers e es os owed tid c is = after_step e.client (decided_in e.what) (voted_in e.what) (apart e.what) (is_owed tid c es) tid c os (owed tid c) is
 
 -- the room after one entry more

@@ -22,7 +22,7 @@ use Rattle.mn_world.specs.Protocol.{AllowedAt, AllowedBy, IsNodeStep, IsOfRun, S
 use Rattle.mn_world.specs.Run.{HasNode, IsCallersStep, IsLegalStep, IsRun, Means, entries_of}
 use Rattle.mn_world.proofs.Reading.Same.{client_same-refl}
 use Rattle.mn_cell.specs.Calls.{IsLegalLine}
-use Rattle.mn_cell.specs.Runs.{AreParts, IsIssueOf, PartsMakeRun, placed_from}
+use Rattle.mn_cell.specs.Runs.{ArePartsOfRun, IsIssueOf, PartsMakeRun, placed_from}
 
 -- Lists
 
@@ -144,7 +144,7 @@ none_issued start (Answered number answer) step = tt
 
 -- The run
 
-module _ (start : Start) (nodes clients clock : ℕ) (owned : Actor → Option (List (ℕ × Entry))) (one : IsOneLog IsLegalLine nodes clients owned clock) (parts : AreParts start nodes clients owned) where
+module _ (start : Start) (nodes clients clock : ℕ) (owned : Actor → Option (List (ℕ × Entry))) (one : IsOneLog IsLegalLine nodes clients owned clock) (parts : ArePartsOfRun start nodes clients owned) where
   -- a line of the log, with what stood before it
   module _ (front rest : List (Line Entry)) (x : Line Entry) (is : one.log ≡ front ++ x ∷ rest) (named : AllByRecursion NamesActors front) where
     there : slice_get one.log (length front) ≡ Some x

@@ -62,15 +62,15 @@ pub record EndsBoth (known node_knows client_knows : ℕ) (e : Entry)
   pub ends_client : client' ≡ client ++ (place, e) ∷ []
 
 -- it adds no record where it is done
-abbrev pub AddsNone : Request → Type 0
-AddsNone (Ask.Prepare tid participants part) = ⊥
-AddsNone (Ask.Exec tid part) = has_write part ≡ false
-AddsNone request = ⊤
+abbrev pub AddsNoRecord : Request → Type 0
+AddsNoRecord (Ask.Prepare tid participants part) = ⊥
+AddsNoRecord (Ask.Exec tid part) = has_write part ≡ false
+AddsNoRecord request = ⊤
 
 -- where a stop was asked for, a request that adds a record isn't done
-abbrev pub KeepsStop : Option StopAt → Request → NodeReply → Type 0
-KeepsStop (Some at) request (Say.Done reads) = AddsNone request
-KeepsStop stop request reply = ⊤
+abbrev pub ObeysStop : Option StopAt → Request → NodeReply → Type 0
+ObeysStop (Some at) request (Say.Done reads) = AddsNoRecord request
+ObeysStop stop request reply = ⊤
 
 -- no damage: the disk has the node's records
 abbrev pub IsUndamaged : RestartError → Type 0

@@ -15,12 +15,12 @@ module _ {E : Type 0} where
   OwnsJust v a = Owns v a × ((b : Actor) → same_actor b a ≡ false → held v b ≡ None)
 
   -- the actor's list has this entry more, with its place, which is known
-  abbrev pub IsLonger : View E → Actor → ℕ × E → View E → Type 0
-  IsLonger v a e w = (held w a ≡ grow (held v a) e) × OwnsJust w a × (w.known ≡ e.0 + 1)
+  abbrev pub ListHasGrown : View E → Actor → ℕ × E → View E → Type 0
+  ListHasGrown v a e w = (held w a ≡ grow (held v a) e) × OwnsJust w a × (w.known ≡ e.0 + 1)
 
   -- it knows the same place and owns the same lists
-  abbrev pub IsSame : View E → View E → Type 0
-  IsSame v w = (w.known ≡ v.known) × IsSameLists v w
+  abbrev pub IsSameView : View E → View E → Type 0
+  IsSameView v w = (w.known ≡ v.known) × IsSameLists v w
 
   -- the lists of a node and of a client are those of one log, each of whose lines was legal when it
   -- was added

@@ -116,15 +116,15 @@ IsOwed (Some c) (Some tid) es = is_owed tid c es ≡ true
 
 -- there is room for a step: for it and the decision that it may owe, or it is itself a decision
 -- that is owed
-abbrev pub HasPlace : NodeListState → Option ClientNo → Option Tid → Type 0
-HasPlace s c decided = ((2 ≤ s.spare) × (0 < s.spare_owed)) ⊎ OwesTo c decided s.owed
+abbrev pub HasRoomForStep : NodeListState → Option ClientNo → Option Tid → Type 0
+HasRoomForStep s c decided = ((2 ≤ s.spare) × (0 < s.spare_owed)) ⊎ OwesTo c decided s.owed
 
-abbrev pub without : Tid → ClientNo → List Owed → List Owed
-without tid c os = filter (λ o. not (is_owed_to tid c o)) os
+abbrev pub owed_without : Tid → ClientNo → List Owed → List Owed
+owed_without tid c os = filter (λ o. not (is_owed_to tid c o)) os
 
 -- what is owed after a step of a client that decides the one id or is a vote of the other
 abbrev pub owed_after : Option ClientNo → Option Tid → Option Tid → List Owed → List Owed
 owed_after None decided voted os = os
-owed_after (Some c) (Some tid) voted os = without tid c os
+owed_after (Some c) (Some tid) voted os = owed_without tid c os
 owed_after (Some c) None (Some tid) os = os ++ record { tid = tid; client = c } ∷ []
 owed_after (Some c) None None os = os

@@ -19,7 +19,8 @@ IsIssueOf start e = IsOfRun start e.what
 
 -- the lists are those of a run's nodes and clients: there is one for each node of the start, each
 -- of whose entries its records allow; and each client issued under the run's number, for its nodes
-pub record AreParts (start : Start) (nodes clients : ℕ) (owned : Actor → Option (List (ℕ × Entry)))
+pub record ArePartsOfRun (start : Start) (nodes clients : ℕ)
+    (owned : Actor → Option (List (ℕ × Entry)))
     : Type 0 where
   pub all : nodes ≡ start_nodes start
   pub allowed : (n : NodeNo) (list : List (ℕ × Entry)) → n.0 < nodes → owned (Node n) ≡ Some list
@@ -37,4 +38,4 @@ abbrev pub PartsMakeRun : Type 0
 PartsMakeRun =
     (start : Start) (nodes clients clock : ℕ) (owned : Actor → Option (List (ℕ × Entry)))
     (one : IsOneLog IsLegalLine nodes clients owned clock)
-    → AreParts start nodes clients owned → IsLogOfRun start (placed_from 0 one.log)
+    → ArePartsOfRun start nodes clients owned → IsLogOfRun start (placed_from 0 one.log)

@@ -41,7 +41,7 @@ no_board =
 -- What a run starts from
 
 -- a node as it is when a run starts: up, with these records
-pub record IsFirst {D : Type 0} (state : D → DiskState) (faults : D → ℕ) (start : Start)
+pub record IsNodeAtStart {D : Type 0} (state : D → DiskState) (faults : D → ℕ) (start : Start)
     (number : NodeNo) (before : ℕ) (honest : Type 0) (n : NodeState D) : Type 0 where
   pub node : n.node ≡ number.0
   pub nodes : n.nodes ≡ start_nodes start
@@ -67,19 +67,20 @@ abbrev pub HasCaller : Entry → Type 0
 HasCaller e = IsSome e.client
 
 -- by these records the request, if there is one, adds one
-abbrev pub AddsIf : List ℕ → List Record → Option Request → Type 0
-AddsIf base records None = ⊤
-AddsIf base records (Some request) = IsSome (answer base records request).added
+abbrev pub WouldAddRecord : List ℕ → List Record → Option Request → Type 0
+WouldAddRecord base records None = ⊤
+WouldAddRecord base records (Some request) = IsSome (answer base records request).added
 
-abbrev pub StopsAsItAdds : List ℕ → List Record → What → Type 0
-StopsAsItAdds base records (Stopped request asked) = AddsIf base records request
-StopsAsItAdds base records what = ⊤
+abbrev pub StopsWhereItWouldAdd : List ℕ → List Record → What → Type 0
+StopsWhereItWouldAdd base records (Stopped request asked) = WouldAddRecord base records request
+StopsWhereItWouldAdd base records what = ⊤
 
 -- each stop inside a request is inside one that would have added a record
-abbrev pub AllStopAsTheyAdd : List ℕ → List Record → List Entry → Type 0
-AllStopAsTheyAdd base start [] = ⊤
-AllStopAsTheyAdd base start (e ∷ es) =
-    StopsAsItAdds base (node_records base start es) e.what × AllStopAsTheyAdd base start es
+abbrev pub AllStopWhereTheyWouldAdd : List ℕ → List Record → List Entry → Type 0
+AllStopWhereTheyWouldAdd base start [] = ⊤
+AllStopWhereTheyWouldAdd base start (e ∷ es) =
+    StopsWhereItWouldAdd base (node_records base start es) e.what
+    × AllStopWhereTheyWouldAdd base start es
 
 -- a count has risen by so much since, or it stands at its last value
 abbrev pub RoseBy : ℕ → ℕ → ℕ → Type 0
@@ -98,27 +99,31 @@ last_asked (e ∷ es) = asked_or e.what (last_asked es)
 
 -- a restart kept the stopped request's record as the stop asked: never where that was before the
 -- log or at half of the record, and behind it always, unless the count of faults has risen
-abbrev pub IsKeptAs : Type 0 → Option StopAt → Bool → Type 0
-IsKeptAs rose None kept = ⊤
-IsKeptAs rose (Some Before) kept = kept ≡ false
-IsKeptAs rose (Some Half) kept = kept ≡ false
-IsKeptAs rose (Some After) kept = rose ⊎ (kept ≡ true)
+abbrev pub IsRecordKeptAsAsked : Type 0 → Option StopAt → Bool → Type 0
+IsRecordKeptAsAsked rose None kept = ⊤
+IsRecordKeptAsAsked rose (Some Before) kept = kept ≡ false
+IsRecordKeptAsAsked rose (Some Half) kept = kept ≡ false
+IsRecordKeptAsAsked rose (Some After) kept = rose ⊎ (kept ≡ true)
 
-abbrev pub KeepsAs : Type 0 → What → Option StopAt → Type 0
-KeepsAs rose (Restarted kept) asked = IsKeptAs rose asked kept
-KeepsAs rose what asked = ⊤
+abbrev pub StepKeepsRecordAsAsked : Type 0 → What → Option StopAt → Type 0
+StepKeepsRecordAsAsked rose (Restarted kept) asked = IsRecordKeptAsAsked rose asked kept
+StepKeepsRecordAsAsked rose what asked = ⊤
 
 -- each restart did
-abbrev pub KeepsAsAsked : Type 0 → List Entry → Type 0
-KeepsAsAsked rose [] = ⊤
-KeepsAsAsked rose (e ∷ es) = KeepsAs rose e.what (last_asked es) × KeepsAsAsked rose es
+abbrev pub RestartsKeepRecordsAsAsked : Type 0 → List Entry → Type 0
+RestartsKeepRecordsAsAsked rose [] = ⊤
+RestartsKeepRecordsAsAsked rose (e ∷ es) =
+    StepKeepsRecordAsAsked rose e.what (last_asked es) × RestartsKeepRecordsAsAsked rose es
 
 -- what a stop that was asked for has left on an honest disk, for the next restart to find
-abbrev pub StandsAs : {D : Type 0} → (D → DiskState) → Type 0 → NodeState D → Option StopAt → Type 0
-StandsAs state rose n None = ⊤
-StandsAs state rose n (Some Before) = StandsForRecords (state n.disk) n.node n.nodes n.records
-StandsAs state rose n (Some Half) = StandsForRecords (state n.disk) n.node n.nodes n.records
-StandsAs state rose n (Some After) =
+abbrev pub DiskStandsAsAsked : {D : Type 0} → (D → DiskState) → Type 0 → NodeState D → Option StopAt
+    → Type 0
+DiskStandsAsAsked state rose n None = ⊤
+DiskStandsAsAsked state rose n (Some Before) =
+    StandsForRecords (state n.disk) n.node n.nodes n.records
+DiskStandsAsAsked state rose n (Some Half) =
+    StandsForRecords (state n.disk) n.node n.nodes n.records
+DiskStandsAsAsked state rose n (Some After) =
     rose ⊎ ((r : Record) × (n.pending ≡ Some r)
     × StandsForRecords (state n.disk) n.node n.nodes (n.records ++ r ∷ []))
 
@@ -127,7 +132,7 @@ StandsAs state rose n (Some After) =
 -- inside a request, that would have added a record. It stopped unasked in requests at most as often
 -- as its disk's count of faults has risen. A disk that was honest is, and then each restart kept
 -- what the stop before it had asked for; while the node is down, the disk says so of the next one.
-pub record HasMade {D : Type 0} (state : D → DiskState) (faults : D → ℕ) (start : Start)
+pub record HasMadeEntries {D : Type 0} (state : D → DiskState) (faults : D → ℕ) (start : Start)
     (number : NodeNo) (before : ℕ) (honest : Type 0) (es : List Entry) (n : NodeState D)
     : Type 0 where
   pub node : n.node ≡ number.0
@@ -135,7 +140,7 @@ pub record HasMade {D : Type 0} (state : D → DiskState) (faults : D → ℕ) (
   pub among : number.0 < start_nodes start
   pub allowed : NodeListAllowed start number es
   pub called : AllByRecursion HasCaller es
-  pub stops : AllStopAsTheyAdd (base_at start number) (start_records start number) es
+  pub stops : AllStopWhereTheyWouldAdd (base_at start number) (start_records start number) es
   pub records : reverse n.records
       ≡ node_records (base_at start number) (start_records start number) es
   pub down : n.down ≡ is_down es
@@ -144,8 +149,8 @@ pub record HasMade {D : Type 0} (state : D → DiskState) (faults : D → ℕ) (
       (node_records (base_at start number) (start_records start number) es) (stopped_request es)
   pub counted : RoseBy (unasked es) before (faults n.disk)
   pub as_honest : honest → (state n.disk).honest
-  pub kept : (state n.disk).honest → KeepsAsAsked (Rose before (faults n.disk)) es
-  pub left : n.down ≡ true → StandsAs state (Rose before (faults n.disk)) n (last_asked es)
+  pub kept : (state n.disk).honest → RestartsKeepRecordsAsAsked (Rose before (faults n.disk)) es
+  pub left : n.down ≡ true → DiskStandsAsAsked state (Rose before (faults n.disk)) n (last_asked es)
 
 -- Stations
 

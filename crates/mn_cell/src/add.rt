@@ -4,7 +4,7 @@ ghost use Rattle.mn_actors.specs.declared.actor.Actor.TheVariants.{Node, Client}
 ghost use Rattle.mn_actors.specs.Lines.{line};
 ghost use Rattle.mn_actors.specs.Lists.{HasRoom, held, or_empty};
 ghost use Rattle.mn_actors.specs.Sight.{board_of, id_of, view_of};
-ghost use Rattle.mn_cell.specs.Passes.{AreOfOneLog, IsLonger, IsSame, OwnsJust};
+ghost use Rattle.mn_cell.specs.Passes.{AreOfOneLog, ListHasGrown, IsSameView, OwnsJust};
 
 use mn_actors::{Actor, Board, Law, Pass};
 use mn_base::{ClientNo, NodeNo};
@@ -28,8 +28,8 @@ pub fn add<L: Law>(
         (line (Some node) (Some client) entry.now) }
     ensures board { (board_of result.0 ≡ board_of own) × (board_of pass.new ≡ board_of own) }
     ensures place { (view_of pass.old).known ≤ result.1 }
-    ensures node { IsLonger (view_of own) (Node node) (result.1, entry.now) (view_of result.0) }
-    ensures client { IsLonger (view_of pass.old) (Client client) (result.1, entry.now)
+    ensures node { ListHasGrown (view_of own) (Node node) (result.1, entry.now) (view_of result.0) }
+    ensures client { ListHasGrown (view_of pass.old) (Client client) (result.1, entry.now)
         (view_of pass.new) }
 {
     board.join(pass, own);
@@ -52,8 +52,8 @@ pub fn compare<L: Law>(
     ensures board { (board_of result ≡ board_of own) × (board_of pass.new ≡ board_of own) }
     ensures node { (held (view_of result) (Node node) ≡ held (view_of own) (Node node))
         × OwnsJust (view_of result) (Node node) }
-    ensures node_same { IsSame (view_of own) (view_of result) }
-    ensures client { IsSame (view_of pass.old) (view_of pass.new)
+    ensures node_same { IsSameView (view_of own) (view_of result) }
+    ensures client { IsSameView (view_of pass.old) (view_of pass.new)
         × OwnsJust (view_of pass.new) (Client client) }
     ensures one_log { AreOfOneLog L.legal node client (or_empty (held (view_of own) (Node node)))
         (or_empty (held (view_of pass.old) (Client client))) }

@@ -9,11 +9,11 @@ ghost use Rattle.mn_actors.specs.Lists.{held};
 ghost use Rattle.mn_actors.specs.Sight.{board_of, id_of, view_of};
 ghost use Rattle.mn_world.specs.declared.entry.What.TheVariants.{Stopped, Restarted};
 ghost use Rattle.mn_world.specs.Run.{entries_of};
-ghost use Rattle.mn_cell.specs.Calls.{EndsList, IsUndamaged, KeepsStop, MaySend, entry_at};
+ghost use Rattle.mn_cell.specs.Calls.{EndsList, IsUndamaged, ObeysStop, MaySend, entry_at};
 ghost use Rattle.mn_cell.specs.Calls.{numbered, what_said};
-ghost use Rattle.mn_cell.specs.Passes.{IsSame, OwnsJust};
+ghost use Rattle.mn_cell.specs.Passes.{IsSameView, OwnsJust};
 ghost use Rattle.mn_cell.specs.Promises.{IsOwedAt, decided_by};
-ghost use Rattle.mn_cell.specs.Station.{HasMade, IsFirst};
+ghost use Rattle.mn_cell.specs.Station.{HasMadeEntries, IsNodeAtStart};
 ghost use Rattle.mn_world.specs.Protocol.{start_of};
 
 use crate::named::Named;
@@ -58,7 +58,7 @@ impl<N: Named, D: Disk, const NODE: u8> Cell<N, D, NODE> {
         node: Node<D>,
         pass: Pass<CoreLaw>,
     ) -> Result<Cell<N, D, NODE>, Refused<D>>
-        requires node { IsFirst D.state D.faults (start_of N.records) (numbered NODE)
+        requires node { IsNodeAtStart D.state D.faults (start_of N.records) (numbered NODE)
             (N.faults NODE) (N.honest NODE) node }
         requires board { board_of pass ≡ N.board }
         requires owns { OwnsJust (view_of pass) (node_at NODE) }
@@ -106,12 +106,12 @@ impl<N: Named, D: Disk, const NODE: u8> Cell<N, D, NODE> {
             (entry_at (numbered NODE) list.old.client (what_said request stop result))
             list.old.entries list.new.entries }
         ensures pass_before { result ≡ Reply.NoMemory
-            → IsSame (view_of pass.old) (view_of pass.new) }
+            → IsSameView (view_of pass.old) (view_of pass.new) }
         ensures list_before { result ≡ Reply.NoMemory → list.new.entries ≡ list.old.entries }
         ensures room { list.old.room ≤ list.new.room + 1 }
         ensures owed { IsOwedAt (numbered NODE) (decided_by request) (entries_of list.old.entries)
             → 0 < list.old.room → result ≢ Reply.NoMemory }
-        ensures stop { KeepsStop stop request result }
+        ensures stop { ObeysStop stop request result }
     {
         let mut guard = self.lock.lock(rt);
         guard.station.call(alloc, board, pass, list, request, stop)
@@ -185,7 +185,8 @@ impl<N: Named, D: Disk, const NODE: u8> Cell<N, D, NODE> {
 
     /// The node, its list and its pass.
     pub fn into_parts(self) -> (Node<D>, EntryList, Pass<CoreLaw>)
-        ensures made { HasMade D.state D.faults (start_of N.records) (numbered NODE) (N.faults NODE)
+        ensures made { HasMadeEntries D.state D.faults (start_of N.records) (numbered NODE)
+            (N.faults NODE)
             (N.honest NODE) (entries_of result.1) result.0 }
         ensures board { board_of result.2 ≡ N.board }
         ensures owns { OwnsJust (view_of result.2) (node_at NODE) }

@@ -8,9 +8,9 @@ ghost use Rattle.mn_actors.specs.Lists.{held};
 ghost use Rattle.mn_actors.specs.Sight.{board_of, id_of, view_of};
 ghost use Rattle.mn_world.specs.declared.entry.What.TheVariants.{Stopped, Restarted};
 ghost use Rattle.mn_world.specs.Run.{entries_of};
-ghost use Rattle.mn_cell.specs.Calls.{EndsList, IsUndamaged, KeepsStop, MaySend, entry_at};
+ghost use Rattle.mn_cell.specs.Calls.{EndsList, IsUndamaged, ObeysStop, MaySend, entry_at};
 ghost use Rattle.mn_cell.specs.Calls.{what_said};
-ghost use Rattle.mn_cell.specs.Passes.{IsSame, OwnsJust};
+ghost use Rattle.mn_cell.specs.Passes.{IsSameView, OwnsJust};
 ghost use Rattle.mn_cell.specs.Promises.{IsOwedAt, decided_by};
 
 use crate::cell::Cell;
@@ -68,12 +68,12 @@ impl<N: Named, D: Disk> Cells<N, D> {
             (entry_at node list.old.client (what_said request stop result)) list.old.entries
             list.new.entries }
         ensures pass_before { result ≡ Reply.NoMemory
-            → IsSame (view_of pass.old) (view_of pass.new) }
+            → IsSameView (view_of pass.old) (view_of pass.new) }
         ensures list_before { result ≡ Reply.NoMemory → list.new.entries ≡ list.old.entries }
         ensures room { list.old.room ≤ list.new.room + 1 }
         ensures owed { IsOwedAt node (decided_by request) (entries_of list.old.entries)
             → 0 < list.old.room → result ≢ Reply.NoMemory }
-        ensures stop { KeepsStop stop request result }
+        ensures stop { ObeysStop stop request result }
     {
         match node.0 {
             0 => match &self.c0 {

@@ -2,8 +2,9 @@
 ghost use Rattle.std.specs.Prelude.{◌≡◌, ◌≤◌, ◌<◌, ◌+◌, ◌^◌, ◌⊎◌, ◌++◌, ◌∷◌, [], length, Some};
 ghost use Rattle.std.specs.Prelude.{true, false, IfOk, OnOk, OnErr, vec_len, vec_capacity};
 ghost use Rattle.mn_world.specs.Run.{entries_of};
-ghost use Rattle.mn_cell.specs.Promises.{HasPlace, IsOwed, OwesTo, decided_by, decided_in};
-ghost use Rattle.mn_cell.specs.Promises.{is_owed_to, owed_after, owes, voted_by, voted_in, without};
+ghost use Rattle.mn_cell.specs.Promises.{HasRoomForStep, IsOwed, OwesTo, decided_by, decided_in};
+ghost use Rattle.mn_cell.specs.Promises.{is_owed_to, owed_after, owes, voted_by, voted_in};
+ghost use Rattle.mn_cell.specs.Promises.{owed_without};
 
 use mn_base::{ClientNo, NoMemory, Tid};
 use mn_mini::{NodeReply, Request};
@@ -84,7 +85,7 @@ fn is_owed(all: &[Owed], decided: Option<Tid>, client: ClientNo) -> bool
 
 /// Leaves out a decision.
 fn forget(all: &mut Vec<Owed>, tid: Tid, client: ClientNo)
-    ensures left { all.new.items ≡ without tid client all.old.items }
+    ensures left { all.new.items ≡ owed_without tid client all.old.items }
     ensures room { vec_capacity all.old ≤ vec_capacity all.new }
 {
     all.retain(|owed| !is_same(owed, tid, client));
@@ -183,7 +184,7 @@ impl NodeList {
     /// step may owe. NoMemory: there is none, or the list would be longer than a log may be. It
     /// never comes for a decision that is owed. The entries are as before.
     pub fn make_place(&mut self, client: ClientNo, decided: Option<Tid>) -> Result<(), NoMemory>
-        ensures place { OnOk result (HasPlace self.new (Some client) decided) }
+        ensures place { OnOk result (HasRoomForStep self.new (Some client) decided) }
         ensures owed { OnErr result (IsOwed (Some client) decided (entries_of self.old.entries)
             → ⊥) }
         ensures entries { self.new.entries ≡ self.old.entries }
@@ -205,7 +206,7 @@ impl NodeList {
 
     /// Puts an entry at the end. It takes no memory.
     pub fn push(&mut self, place: u64, entry: Entry)
-        requires place { HasPlace self.old entry.client (decided_in entry.what) }
+        requires place { HasRoomForStep self.old entry.client (decided_in entry.what) }
         ensures { self.new.entries ≡ self.old.entries ++ (place, entry) ∷ [] }
     {
         note(&mut self.owed, entry.client, &entry.what);

@@ -5,7 +5,7 @@ ghost use Rattle.mn_actors.specs.Lists.{held};
 ghost use Rattle.mn_actors.specs.Sight.{board_of, view_of};
 ghost use Rattle.mn_world.specs.Run.{entries_of};
 ghost use Rattle.mn_cell.specs.Passes.{OwnsJust};
-ghost use Rattle.mn_cell.specs.Station.{HasMade, IsFirst};
+ghost use Rattle.mn_cell.specs.Station.{HasMadeEntries, IsNodeAtStart};
 ghost use Rattle.mn_world.specs.Protocol.{start_of};
 
 use crate::named::Named;
@@ -37,7 +37,7 @@ pub struct Station<N: Named, D: Disk> {
 impl<N: Named, D: Disk> Model for Station<N, D> {
     ghost use Rattle.mn_world.specs.Protocol.{start_of};
     ghost use Rattle.mn_world.specs.Run.{entries_of};
-    ghost use Rattle.mn_cell.specs.Station.{HasMade, IsPassOf, StationState, known_by};
+    ghost use Rattle.mn_cell.specs.Station.{HasMadeEntries, IsPassOf, StationState, known_by};
 
     ghost Value = { StationState D };
 
@@ -49,7 +49,7 @@ impl<N: Named, D: Disk> Model for Station<N, D> {
     } };
 
     ghost invariant = { λ s. IsPassOf N.board s.number s.list.entries s.pass
-        × HasMade D.state D.faults (start_of N.records) s.number (N.faults s.number.0)
+        × HasMadeEntries D.state D.faults (start_of N.records) s.number (N.faults s.number.0)
         (N.honest s.number.0) (entries_of s.list.entries) s.node };
 }
 
@@ -69,7 +69,8 @@ impl<N: Named, D: Disk> Station<N, D> {
         number: NodeNo,
         pass: Pass<CoreLaw>,
     ) -> Result<Station<N, D>, Refused<D>>
-        requires node { IsFirst D.state D.faults (start_of N.records) number (N.faults number.0)
+        requires node { IsNodeAtStart D.state D.faults (start_of N.records) number
+            (N.faults number.0)
             (N.honest number.0) node }
         requires board { board_of pass ≡ N.board }
         requires owns { OwnsJust (view_of pass) (AtNode number) }
@@ -92,7 +93,7 @@ impl<N: Named, D: Disk> Station<N, D> {
 
     /// Tells what the node and its entries come to, whenever no call is under way.
     pub fn made(&self)
-        ensures { HasMade D.state D.faults (start_of N.records) self.now.number
+        ensures { HasMadeEntries D.state D.faults (start_of N.records) self.now.number
             (N.faults self.now.number.0) (N.honest self.now.number.0) (entries_of self.now.list)
             self.now.node }
     {
@@ -103,7 +104,7 @@ impl<N: Named, D: Disk> Station<N, D> {
     pub fn into_parts(self) -> (Node<D>, EntryList, Pass<CoreLaw>)
         ensures node { result.0 ≡ self.node }
         ensures list { result.1 ≡ self.list }
-        ensures made { HasMade D.state D.faults (start_of N.records) self.number
+        ensures made { HasMadeEntries D.state D.faults (start_of N.records) self.number
             (N.faults self.number.0) (N.honest self.number.0) (entries_of self.list) self.node }
         ensures board { board_of result.2 ≡ N.board }
         ensures owns { OwnsJust (view_of result.2) (AtNode self.number) }

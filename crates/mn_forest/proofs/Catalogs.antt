@@ -15,7 +15,7 @@ use Rattle.mn_base.proofs.Lists.{last_at}
 use Rattle.mn_base.proofs.Booleans.{both_parts, clash}
 use Rattle.mn_world.proofs.Plans.Compares.{element_at}
 use Rattle.mn_forest.specs.Rules.{EntryFits, entries_of, entry_of, parent_fits, is_named, is_child_of}
-use Rattle.mn_forest.proofs.Lists.{pushed_at, place_in, read_at}
+use Rattle.mn_flat.proofs.Lists.{pushed_at, place_in, read_at}
 use Rattle.mn_forest.proofs.Partition.{head_at}
 use Rattle.mn_forest.proofs.Refusing.{entries_few}
 

@@ -8,7 +8,7 @@ use Rattle.mn_page.specs.declared.page.Child.{Child}
 use Rattle.mn_page.specs.Grammar.{height_of, count_in}
 use Rattle.mn_page.specs.Forest.{ChildRange, ranges_from, body_children, children_of}
 use Rattle.mn_page.specs.Reading.{addrs_in, keys_in}
-use Rattle.mn_forest.proofs.Lists.{place_in, read_at, at_place}
+use Rattle.mn_flat.proofs.Lists.{place_in, read_at, at_place}
 
 -- Addresses
 

@@ -276,8 +276,8 @@ shows_store entries at t valid = record {
   heads = heads_shown at entries;
   ascending = Rattle.mn_page.proofs.Grid.all_by_place (λ x. IsTrue (is_ascending x.pairs)) (store_shown at entries) (λ v version is.
       let e = version_at at entries v version is in
-      subst (λ (x : StoreVersion). IsTrue (is_ascending x.pairs)) (sym e.2) (version_ascends entries at t valid v (Rattle.mn_forest.proofs.Lists.place_in entries v e.0 e.1) e.0 e.1));
+      subst (λ (x : StoreVersion). IsTrue (is_ascending x.pairs)) (sym e.2) (version_ascends entries at t valid v (Rattle.mn_flat.proofs.Lists.place_in entries v e.0 e.1) e.0 e.1));
   leaves = λ v version addr p is there level serves.
       let e = version_at at entries v version is in
-      subst (λ (x : StoreVersion). filter (λ pair. page_covers pair.key p) x.pairs ≡ pairs_in p.body) (sym e.2) (version_leaves entries at t valid v (Rattle.mn_forest.proofs.Lists.place_in entries v e.0 e.1) e.0 e.1 addr p there level serves);
+      subst (λ (x : StoreVersion). filter (λ pair. page_covers pair.key p) x.pairs ≡ pairs_in p.body) (sym e.2) (version_leaves entries at t valid v (Rattle.mn_flat.proofs.Lists.place_in entries v e.0 e.1) e.0 e.1 addr p there level serves);
 }

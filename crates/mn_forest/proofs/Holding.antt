@@ -23,7 +23,7 @@ use Rattle.mn_world.proofs.Plans.SplitRoot.{count_read}
 use Rattle.mn_world.proofs.Plans.Laying.{laid_is}
 use Rattle.mn_world.proofs.Plans.Compares.{element_at}
 use Rattle.mn_forest.specs.Rules.{Says, ReadsAs, space_at, count_at, entry_place, slot_place, StandsAt, entries_of, entry_of, zeros, HasHeader, IsCount, HasEntry, HasEntryAt, HasRootAt, IsRootAt, HasPage, IsChildAt, HasChildren, IsReached, IsNamedAt, IsRootOf, OfHeader, OfCount, OfEntry, OfRoot, OfPage, OfChildren, OfReach, AllPass}
-use Rattle.mn_forest.proofs.Lists.{place_in}
+use Rattle.mn_flat.proofs.Lists.{place_in}
 use Rattle.mn_forest.proofs.Noting.{stands_on_node}
 use Rattle.mn_forest.proofs.Assembled.{whole}
 use Rattle.mn_forest.proofs.Partition.{reached}

@@ -1,11 +1,4 @@
-pub mod Tables
-pub mod HeldParts
-pub mod Lists
-pub mod Telling
 pub mod BaseStore
-pub mod Placing
-pub mod Fitting
-pub mod Opening
 pub mod Zeros
 pub mod Fronts
 pub mod Testing

@@ -21,7 +21,7 @@ use Rattle.mn_world.proofs.Plans.Spaces.{space_bytes, catalog_bytes, get_in-inde
 use Rattle.mn_world.proofs.Plans.Laying.{laid_is}
 use Rattle.mn_world.proofs.Plans.Compares.{element_at}
 use Rattle.mn_forest.specs.Rules.{Says, ReadsAs, space_at, count_at, entry_place, StandsAt, entries_of, zeros, HasHeader, IsCount, HasEntry, EntryFits, IsReadable, IsRootAt, IsChildAt, IsReached, OfHeader, OfCount, OfEntry, OfRoot, OfPage, OfChildren, OfReach, AllPass}
-use Rattle.mn_forest.proofs.Lists.{place_in, read_at, pushed_at}
+use Rattle.mn_flat.proofs.Lists.{place_in, read_at, pushed_at}
 use Rattle.mn_forest.proofs.Fronts.{one_page}
 use Rattle.mn_forest.proofs.Noting.{stands_on_node, space_length_at}
 use Rattle.mn_forest.proofs.Assembled.{step, pieces, no_pieces, whole, nothing_behind, by_places}

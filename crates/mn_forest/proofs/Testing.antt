@@ -6,7 +6,7 @@ use Rattle.mn_base.proofs.Naturals.{below_or}
 use Rattle.mn_page.specs.Grammar.{IsUnused}
 use Rattle.mn_forest.specs.declared.error.ForestError.{ForestError}
 use Rattle.mn_forest.specs.declared.error.ForestError.TheVariants.{Broken}
-use Rattle.mn_forest.specs.Votes.{numbered}
+use Rattle.mn_flat.specs.Votes.{numbered}
 use Rattle.mn_forest.specs.Rules.{Test, OfHeader, OfCount, OfEntry, OfRoot, OfPage, OfChildren, OfReach, IsTest, Passes, Precedes, start_at, rule_of, entry_place, HasEntryAt, HasRootAt}
 use Rattle.mn_forest.specs.Progress.{HasFront, HasEntriesTo, HasSlotsTo, PassesAll, SaysFailed}
 

@@ -1,8 +1,5 @@
 pub mod Base
-pub mod Known
-pub mod Votes
 pub mod Refusal
-pub mod Told
 pub mod Rules
 pub mod Trees
 pub mod Progress

@@ -11,7 +11,7 @@ ghost use Rattle.mn_forest.specs.Rules.{Says, AllPass, HasEntryAt, HasRootAt, en
 ghost use Rattle.mn_forest.specs.Progress.{HasFront, HasEntriesTo, HasSlot, HasSlotsTo, PassesAll};
 ghost use Rattle.mn_forest.specs.Progress.{SaysFailed};
 ghost use Rattle.mn_forest.specs.Trees.{AreVersions, AreNames};
-ghost use Rattle.mn_forest.specs.Votes.{numbered};
+ghost use Rattle.mn_flat.specs.Votes.{numbered};
 
 use crate::front::{catalog_in, has_count, has_entry, has_header, has_root, is_unused};
 use crate::pages::{Names, Versions, has_children, has_page, is_reached};

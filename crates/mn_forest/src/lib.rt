@@ -1,21 +1,14 @@
-//! What the disks of all memory nodes say: the memory that their records make, and the store that a
-//! memory holds.
+//! The store that the memory of all nodes holds, or the first rule that fails of it.
 #![tactic(auto)]
 
 mod base;
 mod error;
-mod flat;
 mod forest;
 mod front;
-mod held;
-mod known;
 mod pages;
 mod place;
 mod shown;
-mod votes;
-mod write;
 
 pub use base::base_spaces;
-pub use error::{ForestError, Rule, VoteError};
-pub use flat::flat_of;
+pub use error::{ForestError, Rule};
 pub use forest::check;

@@ -163,7 +163,7 @@ fn shows_the_tree(rt: HostRuntime) -> Result<(), Fail> {
     let spaces = changed(alloc, &tree_with(at(0, 0, b"M")))?;
     assert!(rt; may_be_checked(&spaces));
     let mut store = check(alloc, &spaces)?;
-    assert_eq!(rt; store.listing(alloc)?.as_slice().len(), 1);
+    assert!(rt; store.listing(alloc)?.as_slice().len() == 1);
     assert!(rt; has_value(alloc, &mut store, b"k1", Some(b"v".as_slice()))?);
     assert!(rt; has_value(alloc, &mut store, b"k5", None)?);
     assert!(rt; has_value(alloc, &mut store, b"k9", Some(b"w".as_slice()))?);
@@ -177,7 +177,7 @@ fn shows_the_base_of_one_and_of_eight_nodes(rt: HostRuntime) -> Result<(), Fail>
         let spaces = base_spaces(alloc, nodes)?;
         assert!(rt; may_be_checked(&spaces));
         let mut store = check(alloc, &spaces)?;
-        assert_eq!(rt; store.listing(alloc)?.as_slice().len(), 1);
+        assert!(rt; store.listing(alloc)?.as_slice().len() == 1);
         assert!(rt; has_value(alloc, &mut store, b"k1", None)?);
     }
     Ok(())
@@ -205,7 +205,7 @@ fn names_the_front_at_fault(rt: HostRuntime) -> Result<(), Fail> {
         (at(1, 4_159, &[1]), broken(1, 4_096, Rule::Entry)),
     ];
     for (change, expected) in cases {
-        assert_eq!(rt; found(alloc, &[change])?, expected);
+        assert!(rt; found(alloc, &[change])? == expected);
     }
     Ok(())
 }
@@ -219,20 +219,20 @@ fn names_the_entry_at_fault(rt: HostRuntime) -> Result<(), Fail> {
     // `main` was copied for version 1.
     let copied = at(0, SLOT_0 + 19, &[2]);
     let made = found(alloc, &[frozen, two, leaf, copied, at(0, 128, NEXT)])?;
-    assert_eq!(rt; made, None);
+    assert!(rt; made == None);
     let twice = found(alloc, &[frozen, two, leaf, copied, at(0, 128, MAIN_AGAIN)])?;
-    assert_eq!(rt; twice, broken(0, 128, Rule::Entry));
+    assert!(rt; twice == broken(0, 128, Rule::Entry));
     let behind = found(alloc, &[frozen, two, leaf, copied, at(0, 192, NEXT)])?;
-    assert_eq!(rt; behind, broken(0, 192, Rule::Entry));
+    assert!(rt; behind == broken(0, 192, Rule::Entry));
     let thawed = found(alloc, &[two, leaf, copied, at(0, 128, NEXT)])?;
-    assert_eq!(rt; thawed, broken(0, 64, Rule::Entry));
+    assert!(rt; thawed == broken(0, 64, Rule::Entry));
     let uncopied = found(alloc, &[frozen, two, leaf, at(0, 128, NEXT)])?;
-    assert_eq!(rt; uncopied, broken(0, SLOT_0 as u32, Rule::Reach));
+    assert!(rt; uncopied == broken(0, SLOT_0 as u32, Rule::Reach));
     let elsewhere = found(
         alloc,
         &[frozen, two, at(0, SLOT_1, LEAF), copied, at(0, 128, NEXT)],
     )?;
-    assert_eq!(rt; elsewhere, broken(0, 128, Rule::Root));
+    assert!(rt; elsewhere == broken(0, 128, Rule::Root));
     Ok(())
 }
 
@@ -242,14 +242,14 @@ fn names_the_page_at_fault(rt: HostRuntime) -> Result<(), Fail> {
     // A slot below the count without a page, one from there on that is not free, a version that is
     // not there.
     let missing = found(alloc, &[at(0, 23, &[2])])?;
-    assert_eq!(rt; missing, broken(0, SLOT_1 as u32, Rule::Page));
+    assert!(rt; missing == broken(0, SLOT_1 as u32, Rule::Page));
     let behind = found(alloc, &[at(0, SLOT_1, LEAF)])?;
-    assert_eq!(rt; behind, broken(0, SLOT_1 as u32, Rule::Page));
+    assert!(rt; behind == broken(0, SLOT_1 as u32, Rule::Page));
     let version = found(alloc, &[at(0, 23, &[2]), at(0, SLOT_1, NEXT_LEAF)])?;
-    assert_eq!(rt; version, broken(0, SLOT_1 as u32, Rule::Page));
+    assert!(rt; version == broken(0, SLOT_1 as u32, Rule::Page));
     // A page that nothing names.
     let unnamed = found(alloc, &[at(0, 23, &[2]), at(0, SLOT_1, LEAF)])?;
-    assert_eq!(rt; unnamed, broken(0, SLOT_1 as u32, Rule::Reach));
+    assert!(rt; unnamed == broken(0, SLOT_1 as u32, Rule::Reach));
     Ok(())
 }
 
@@ -265,10 +265,7 @@ fn names_the_child_at_fault(rt: HostRuntime) -> Result<(), Fail> {
         at(1, 23, &[0]),
     ];
     for change in cases {
-        assert_eq!(rt;
-            found(alloc, &tree_with(change))?,
-            broken(0, SLOT_0 as u32, Rule::Child)
-        );
+        assert!(rt; found(alloc, &tree_with(change))? == broken(0, SLOT_0 as u32, Rule::Child));
     }
     Ok(())
 }

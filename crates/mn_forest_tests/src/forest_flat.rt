@@ -1,6 +1,7 @@
 //! The memory of two nodes, and the records at which there is none.
 use mn_base::{Bytes, ClientNo, NodeNo, Nodes, Tid};
-use mn_forest::{VoteError, base_spaces, flat_of};
+use mn_flat::{VoteError, flat_of};
+use mn_forest::base_spaces;
 use mn_mini::{Part, PartItem, Record, Records, Spaces};
 use std::alloc::Global;
 use std::test::Fail;
@@ -107,13 +108,13 @@ fn the_base_memory_is_that_of_the_format(rt: HostRuntime) -> Result<(), Fail> {
         0, 0, 0, 0, 0, 0, 0, 1, 1, 0xff, 0, 0, 0, 4, 0x6d, 0x61, 0x69, 0x6e,
     ];
     for (i, byte) in entry.iter().enumerate() {
-        assert_eq!(rt; byte_at(&spaces, 0, 64 + i), Some(*byte));
-        assert_eq!(rt; byte_at(&spaces, 1, 64 + i), Some(0));
+        assert!(rt; byte_at(&spaces, 0, 64 + i) == Some(*byte));
+        assert!(rt; byte_at(&spaces, 1, 64 + i) == Some(0));
     }
     let header = [0x4d, 0x49, 0x4e, 0x55, 0x45, 0x54, 1, 2];
     for (i, byte) in header.iter().enumerate() {
-        assert_eq!(rt; byte_at(&spaces, 0, i), Some(*byte));
-        assert_eq!(rt; byte_at(&spaces, 1, i), Some(*byte));
+        assert!(rt; byte_at(&spaces, 0, i) == Some(*byte));
+        assert!(rt; byte_at(&spaces, 1, i) == Some(*byte));
     }
     // The node's number, the count's last byte, the leaf's sequence number and kind, and the last
     // byte.
@@ -126,10 +127,10 @@ fn the_base_memory_is_that_of_the_format(rt: HostRuntime) -> Result<(), Fail> {
         (4_214_783, 0, 0),
     ];
     for (at, zero, one) in cases {
-        assert_eq!(rt; byte_at(&spaces, 0, at), Some(zero));
-        assert_eq!(rt; byte_at(&spaces, 1, at), Some(one));
+        assert!(rt; byte_at(&spaces, 0, at) == Some(zero));
+        assert!(rt; byte_at(&spaces, 1, at) == Some(one));
     }
-    assert_eq!(rt; byte_at(&spaces, 1, 4_214_784), None);
+    assert!(rt; byte_at(&spaces, 1, 4_214_784) == None);
     Ok(())
 }
 
@@ -166,7 +167,7 @@ fn names_a_record_out_of_place(rt: HostRuntime) -> Result<(), Fail> {
     let alloc = rt.alloc();
     // A decision of an id that is not held, or that is held no more.
     let found = memory_of(alloc, none(alloc), one(alloc, decided(1, false))?).err();
-    assert_eq!(rt; found, unvoted(1, 0));
+    assert!(rt; found == unvoted(1, 0));
     // A yes without the vote of the other participant.
     let found = memory_of(
         alloc,
@@ -174,7 +175,7 @@ fn names_a_record_out_of_place(rt: HostRuntime) -> Result<(), Fail> {
         none(alloc),
     )
     .err();
-    assert_eq!(rt; found, unvoted(0, 1));
+    assert!(rt; found == unvoted(0, 1));
     // A second vote for the id, and a vote after it was forced.
     let found = memory_of(
         alloc,
@@ -182,7 +183,7 @@ fn names_a_record_out_of_place(rt: HostRuntime) -> Result<(), Fail> {
         none(alloc),
     )
     .err();
-    assert_eq!(rt; found, unvoted(0, 1));
+    assert!(rt; found == unvoted(0, 1));
     let found = memory_of(
         alloc,
         two(
@@ -193,7 +194,7 @@ fn names_a_record_out_of_place(rt: HostRuntime) -> Result<(), Fail> {
         none(alloc),
     )
     .err();
-    assert_eq!(rt; found, unvoted(0, 1));
+    assert!(rt; found == unvoted(0, 1));
     // A part that conflicts with a held one.
     let found = memory_of(
         alloc,
@@ -201,7 +202,7 @@ fn names_a_record_out_of_place(rt: HostRuntime) -> Result<(), Fail> {
         none(alloc),
     )
     .err();
-    assert_eq!(rt; found, unvoted(0, 1));
+    assert!(rt; found == unvoted(0, 1));
     Ok(())
 }
 
@@ -215,12 +216,12 @@ fn names_the_least_of_records_that_do_not_fit(rt: HostRuntime) -> Result<(), Fai
         one(alloc, voted(alloc, 1, 1, 1)?)?,
     )
     .err();
-    assert_eq!(rt; found, unvoted(0, 0));
+    assert!(rt; found == unvoted(0, 0));
     // A participant that is no node, and a vote that leaves out its own node.
     let found = memory_of(alloc, none(alloc), one(alloc, voted(alloc, 1, 1, 8)?)?).err();
-    assert_eq!(rt; found, unvoted(1, 0));
+    assert!(rt; found == unvoted(1, 0));
     let found = memory_of(alloc, none(alloc), one(alloc, voted(alloc, 1, 0, 0)?)?).err();
-    assert_eq!(rt; found, unvoted(1, 0));
+    assert!(rt; found == unvoted(1, 0));
     // An execution on two nodes.
     let found = memory_of(
         alloc,
@@ -228,7 +229,7 @@ fn names_the_least_of_records_that_do_not_fit(rt: HostRuntime) -> Result<(), Fai
         one(alloc, executed(alloc, 1)?)?,
     )
     .err();
-    assert_eq!(rt; found, unvoted(0, 0));
+    assert!(rt; found == unvoted(0, 0));
     Ok(())
 }
 
@@ -242,7 +243,7 @@ fn names_an_id_that_is_decided_both_ways(rt: HostRuntime) -> Result<(), Fail> {
         two(alloc, voted(alloc, 1, 0, 1)?, decided(1, false))?,
     )
     .err();
-    assert_eq!(rt; found, both(1, 1));
+    assert!(rt; found == both(1, 1));
     // The first decision is named, be it a yes.
     let found = memory_of(
         alloc,
@@ -250,7 +251,7 @@ fn names_an_id_that_is_decided_both_ways(rt: HostRuntime) -> Result<(), Fail> {
         two(alloc, voted(alloc, 1, 0, 1)?, decided(1, false))?,
     )
     .err();
-    assert_eq!(rt; found, both(0, 1));
+    assert!(rt; found == both(0, 1));
     // A decision that is not held is out of place before all.
     let found = memory_of(
         alloc,
@@ -258,6 +259,6 @@ fn names_an_id_that_is_decided_both_ways(rt: HostRuntime) -> Result<(), Fail> {
         two(alloc, voted(alloc, 1, 0, 1)?, decided(1, true))?,
     )
     .err();
-    assert_eq!(rt; found, unvoted(0, 0));
+    assert!(rt; found == unvoted(0, 0));
     Ok(())
 }

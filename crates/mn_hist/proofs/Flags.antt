@@ -11,8 +11,8 @@ use Rattle.mn_world.specs.declared.entry.Entry.{Entry}
 use Rattle.mn_world.specs.Calls.{Begun, is_by, client_entries, under_way}
 use Rattle.mn_world.proofs.Reading.Same.{client_same-true}
 use Rattle.mn_hist.specs.declared.points.Step.{Step}
-use Rattle.mn_hist.specs.Points.{asked_in, client_of, stops_same, fits, fits_after, votes_with, with_met, points_met}
-use Rattle.mn_hist.specs.Watching.{Meets, number_of, step_fits}
+use Rattle.mn_hist.specs.Points.{asked_in, client_of, stops_same, point_fits, point_fits_after, votes_with, with_met, points_met}
+use Rattle.mn_hist.specs.Watching.{StepMeetsPoint, number_of, step_fits}
 use Rattle.mn_hist.proofs.Loops.{drop_here}
 
 -- Passing points
@@ -27,8 +27,8 @@ with_here fit p ps true bs e f = absurd cc
 with_here fit p ps false bs e f = ap (λ t. if t then true ∷ bs else false ∷ with_met fit ps bs) f
 
 -- the points before this place were met or do not fit
-abbrev pub Passed : (Point → Bool) → List Point → List Bool → ℕ → Type 0
-Passed fit points flags i = with_met fit points flags ≡ take i flags ++ with_met fit (drop i points) (drop i flags)
+abbrev pub NoneFitsBefore : (Point → Bool) → List Point → List Bool → ℕ → Type 0
+NoneFitsBefore fit points flags i = with_met fit points flags ≡ take i flags ++ with_met fit (drop i points) (drop i flags)
 
 take_last : {X : Type 0} (xs : List X) (i : ℕ) (x : X) → i < length xs → x ≡ slice_index_or xs i x → take (suc i) xs ≡ take i xs ++ x ∷ []
 take_last [] i x lt is = absurd (omega (arith, lt))
@@ -44,7 +44,7 @@ plus_one : (i : ℕ) → suc i ≡ i + 1
 plus_one i = omega arith
 
 pub passed_more : (fit : Point → Bool) (points : List Point) (flags : List Bool) (i : ℕ) (p : Point) (b : Bool) → i < length points → p ≡ slice_index_or points i p → i < length flags → b ≡ slice_index_or flags i b
-    → (b ≡ true) ⊎ (fit p ≡ false) → Passed fit points flags i → Passed fit points flags (i + 1)
+    → (b ≡ true) ⊎ (fit p ≡ false) → NoneFitsBefore fit points flags i → NoneFitsBefore fit points flags (i + 1)
 passed_more fit points flags i p b lp ip lf is other passed =
     passed
     ∙ (ap (λ l. take i flags ++ with_met fit l (drop i flags)) (drop_here points i p lp ip)
@@ -55,7 +55,7 @@ passed_more fit points flags i p b lp ip lf is other passed =
     ∙ ap (λ n. take n flags ++ with_met fit (drop n points) (drop n flags)) (plus_one i))))))
 
 pub meets_here : (fit : Point → Bool) (points : List Point) (flags : List Bool) (i : ℕ) (p : Point) (b : Bool) → i < length points → p ≡ slice_index_or points i p → i < length flags → b ≡ slice_index_or flags i b
-    → b ≡ false → fit p ≡ true → Passed fit points flags i → Meets fit points flags (Some i)
+    → b ≡ false → fit p ≡ true → NoneFitsBefore fit points flags i → StepMeetsPoint fit points flags (Some i)
 meets_here fit points flags i p b lp ip lf is unmet fitting passed = (
   lf,
   passed
@@ -66,36 +66,36 @@ meets_here fit points flags i p b lp ip lf is unmet fitting passed = (
 )
 
 -- some element stands there
-record Stands {X : Type 0} (xs : List X) (i : ℕ) : Type 0 where
+record IsElementAt {X : Type 0} (xs : List X) (i : ℕ) : Type 0 where
   pub it : X
   pub is : it ≡ slice_index_or xs i it
 
-stands_at : {X : Type 0} (xs : List X) (i : ℕ) → i < length xs → Stands xs i
+stands_at : {X : Type 0} (xs : List X) (i : ℕ) → i < length xs → IsElementAt xs i
 stands_at [] i lt = absurd (omega (arith, lt))
 stands_at (x ∷ xs) zero lt = record { it = x; is = refl }
 stands_at (x ∷ xs) (suc i) lt = let s = stands_at xs i (omega (arith, lt)) in record { it = s.it; is = s.is }
 
 -- the point at this place as it is read, with its flag
 pub meets_at : (fit : Point → Bool) (points : List Point) (flags : List Bool) (i : ℕ) (p : Point) → length flags ≡ length points → i < length points → slice_index_or flags i false ≡ false → fit (slice_index_or points i p) ≡ true
-    → Passed fit points flags i → Meets fit points flags (Some i)
+    → NoneFitsBefore fit points flags i → StepMeetsPoint fit points flags (Some i)
 meets_at fit points flags i p long lt unmet fitting passed =
     let low : i < length flags = omega (arith, long, lt) in
     meets_here fit points flags i (slice_index_or points i p) (slice_index_or flags i false) lt (get_or_default points i p (slice_index_or points i p) lt) low (get_or_default flags i false (slice_index_or flags i false) low) unmet fitting passed
 
 pub passed_unfit : (fit : Point → Bool) (points : List Point) (flags : List Bool) (i : ℕ) (p : Point) → length flags ≡ length points → i < length points → fit (slice_index_or points i p) ≡ false
-    → Passed fit points flags i → Passed fit points flags (i + 1)
+    → NoneFitsBefore fit points flags i → NoneFitsBefore fit points flags (i + 1)
 passed_unfit fit points flags i p long lt unfit passed =
     let low : i < length flags = omega (arith, long, lt) in
     passed_more fit points flags i (slice_index_or points i p) (slice_index_or flags i false) lt (get_or_default points i p (slice_index_or points i p) lt) low (get_or_default flags i false (slice_index_or flags i false) low) (inr unfit) passed
 
 pub passed_met : (fit : Point → Bool) (points : List Point) (flags : List Bool) (i : ℕ) → length flags ≡ length points → i < length points → slice_index_or flags i false ≡ true
-    → Passed fit points flags i → Passed fit points flags (i + 1)
+    → NoneFitsBefore fit points flags i → NoneFitsBefore fit points flags (i + 1)
 passed_met fit points flags i long lt met passed =
     let low : i < length flags = omega (arith, long, lt) in
     let s = stands_at points i lt in
     passed_more fit points flags i s.it (slice_index_or flags i false) lt s.is low (get_or_default flags i false (slice_index_or flags i false) low) (inl met) passed
 
-pub meets_none : (fit : Point → Bool) (points : List Point) (flags : List Bool) (i : ℕ) → length points ≤ i → length flags ≤ i → Passed fit points flags i → Meets fit points flags None
+pub meets_none : (fit : Point → Bool) (points : List Point) (flags : List Bool) (i : ℕ) → length points ≤ i → length flags ≤ i → NoneFitsBefore fit points flags i → StepMeetsPoint fit points flags None
 meets_none fit points flags i lp lf passed =
     passed ∙ (ap (λ l. take i flags ++ with_met fit l (drop i flags)) (drop_all points i lp) ∙ parts flags i)
   where
@@ -170,24 +170,24 @@ by_client d c e here there is same =
     ] refl
 
 pub step_is : (past : List Entry) (e : Entry) (c : ClientNo) (s : Step) → e.client ≡ Some c → s.client ≡ c → s.number ≡ number_of (client_entries c past) → s.node ≡ e.node
-    → s.votes ≡ votes_with (client_entries c past) e.what → s.asked ≡ asked_in e.what → (p : Point) → step_fits s p ≡ fits past e p
+    → s.votes ≡ votes_with (client_entries c past) e.what → s.asked ≡ asked_in e.what → (p : Point) → step_fits s p ≡ point_fits past e p
 step_is past e c s by client number node votes asked (Kill d n k) =
     ap (λ (x : ClientNo). client_same d x && (option_map_or (λ m. nat_eq m n) s.number false && option_map_or (nat_eq k) s.votes false)) client
-    ∙ by_client d c e (option_map_or (λ m. nat_eq m n) s.number false && option_map_or (nat_eq k) s.votes false) (λ x. fits_after (client_entries x past) e (Kill d n k)) by
+    ∙ by_client d c e (option_map_or (λ m. nat_eq m n) s.number false && option_map_or (nat_eq k) s.votes false) (λ x. point_fits_after (client_entries x past) e (Kill d n k)) by
     (ap (λ (o : Option ℕ). option_map_or (λ m. nat_eq m n) o false && option_map_or (nat_eq k) s.votes false) number
     ∙ (ap (λ (o : Option ℕ). option_map_or (λ m. nat_eq m n) (number_of (client_entries c past)) false && option_map_or (nat_eq k) o false) votes
     ∙ ap (λ b. b && option_map_or (nat_eq k) (votes_with (client_entries c past) e.what) false) (in_number n (under_way (client_entries c past)))))
 step_is past e c s by client number node votes asked (Stop m d n at) =
     ap (λ (x : ClientNo). client_same d x && (option_map_or (λ j. nat_eq j n) s.number false && (option_map_or (node_same m) s.node false && option_map_or (stops_same at) s.asked false))) client
-    ∙ by_client d c e (option_map_or (λ j. nat_eq j n) s.number false && (option_map_or (node_same m) s.node false && option_map_or (stops_same at) s.asked false)) (λ x. fits_after (client_entries x past) e (Stop m d n at)) by
+    ∙ by_client d c e (option_map_or (λ j. nat_eq j n) s.number false && (option_map_or (node_same m) s.node false && option_map_or (stops_same at) s.asked false)) (λ x. point_fits_after (client_entries x past) e (Stop m d n at)) by
     (ap (λ (o : Option ℕ). option_map_or (λ j. nat_eq j n) o false && (option_map_or (node_same m) s.node false && option_map_or (stops_same at) s.asked false)) number
     ∙ (ap (λ o. option_map_or (λ j. nat_eq j n) (number_of (client_entries c past)) false && (option_map_or (node_same m) o false && option_map_or (stops_same at) s.asked false)) node
     ∙ (ap (λ o. option_map_or (λ j. nat_eq j n) (number_of (client_entries c past)) false && (option_map_or (node_same m) e.node false && option_map_or (stops_same at) o false)) asked
     ∙ ap (λ b. b && (option_map_or (node_same m) e.node false && option_map_or (stops_same at) (asked_in e.what) false)) (in_number n (under_way (client_entries c past))))))
 
 -- an entry of no client meets none
-pub of_no_client : (past : List Entry) (e : Entry) → e.client ≡ None → (p : Point) → fits past e p ≡ false
-of_no_client past e none p = ap (λ (o : Option ClientNo). option_map_or (client_same (client_of p)) o false && fits_after (client_entries (client_of p) past) e p) none
+pub of_no_client : (past : List Entry) (e : Entry) → e.client ≡ None → (p : Point) → point_fits past e p ≡ false
+of_no_client past e none p = ap (λ (o : Option ClientNo). option_map_or (client_same (client_of p)) o false && point_fits_after (client_entries (client_of p) past) e p) none
 
 -- Before the first entry
 
@@ -204,7 +204,7 @@ as_many points [] = maps points
     maps : (points : List Point) → length (map (λ (p : Point). false) points) ≡ length points
     maps [] = refl
     maps (p ∷ ps) = ap suc (maps ps)
-as_many points (e ∷ past) = with_long (fits past e) points (points_met points past) ∙ as_many points past
+as_many points (e ∷ past) = with_long (point_fits past e) points (points_met points past) ∙ as_many points past
   where
     with_long : (f : Point → Bool) (points : List Point) (flags : List Bool) → length (with_met f points flags) ≡ length flags
     with_long f [] flags = refl

@@ -35,8 +35,8 @@ use Rattle.mn_world.specs.declared.flat.IdKey.{IdKey}
 use Rattle.mn_world.proofs.Reading.Same.{client_same-refl, client_same-true}
 use Rattle.mn_world.proofs.Meaning.Effects.{with_named}
 use Rattle.mn_hist.specs.declared.history.OpKey.{OpKey}
-use Rattle.mn_hist.specs.History.{Act, CallerState, Planner, act_at, act_of, acts_from, acts_in, begun_by, done_by, done_from, idle, planner_after, planner_kept, planner_of, placed_last, state_after, state_of}
-use Rattle.mn_hist.specs.History.{AreCallers, Fills, Knows, Named, Puts, Commits, StandsInSet, TakesEntry}
+use Rattle.mn_hist.specs.History.{Act, CallerState, Planner, placed_act, act_of, acts_from, acts_in, begun_by, done_by, done_from, idle, planner_after, planner_kept, planner_of, placed_last, state_after, caller_state}
+use Rattle.mn_hist.specs.History.{AreCallerStates, SlotsHoldHistory, KnowsPlanners, IsIssuedUnderId, AnswerIsInHistory, CommitIsInHistory, StandsInSet, EntryIsInHistory}
 use Rattle.mn_hist.proofs.Loops.{drop_here}
 use Rattle.mn_hist.proofs.Noted.{begun_is}
 
@@ -47,38 +47,38 @@ idle_at zero i lt = absurd (omega (arith, lt))
 idle_at (suc n) zero lt = refl
 idle_at (suc n) (suc i) lt = idle_at n i (omega (arith, lt))
 
-pub all_idle : (callers : List CallerState) → callers ≡ replicate 256 idle → AreCallers callers []
+pub all_idle : (callers : List CallerState) → callers ≡ replicate 256 idle → AreCallerStates callers []
 all_idle callers is = λ c few. ap (λ (l : List CallerState). slice_get l c.0) is ∙ idle_at 256 c.0 few
 
 -- an entry of no client
-pub of_none : (callers : List CallerState) (past : List Entry) (e : Entry) → e.client ≡ None → AreCallers callers past → AreCallers callers (e ∷ past)
-of_none callers past e none are = λ c few. are c few ∙ ap Some (sym (ap (λ (o : Option ClientNo). if option_map_or (client_same c) o false then state_after (length past) e.what (seen_at e) (state_of c past) else state_of c past) none))
+pub of_none : (callers : List CallerState) (past : List Entry) (e : Entry) → e.client ≡ None → AreCallerStates callers past → AreCallerStates callers (e ∷ past)
+of_none callers past e none are = λ c few. are c few ∙ ap Some (sym (ap (λ (o : Option ClientNo). if option_map_or (client_same c) o false then state_after (length past) e.what (seen_at e) (caller_state c past) else caller_state c past) none))
 
 -- an entry of this client
-state_here : (past : List Entry) (e : Entry) (c : ClientNo) → e.client ≡ Some c → state_of c (e ∷ past) ≡ state_after (length past) e.what (seen_at e) (state_of c past)
+state_here : (past : List Entry) (e : Entry) (c : ClientNo) → e.client ≡ Some c → caller_state c (e ∷ past) ≡ state_after (length past) e.what (seen_at e) (caller_state c past)
 state_here past e c is =
-    ap (λ (o : Option ClientNo). if option_map_or (client_same c) o false then state_after (length past) e.what (seen_at e) (state_of c past) else state_of c past) is
-    ∙ ap (λ b. if b then state_after (length past) e.what (seen_at e) (state_of c past) else state_of c past) (client_same-refl c)
+    ap (λ (o : Option ClientNo). if option_map_or (client_same c) o false then state_after (length past) e.what (seen_at e) (caller_state c past) else caller_state c past) is
+    ∙ ap (λ b. if b then state_after (length past) e.what (seen_at e) (caller_state c past) else caller_state c past) (client_same-refl c)
 
-state_beside : (past : List Entry) (e : Entry) (c d : ClientNo) → e.client ≡ Some c → client_same d c ≡ false → state_of d (e ∷ past) ≡ state_of d past
+state_beside : (past : List Entry) (e : Entry) (c d : ClientNo) → e.client ≡ Some c → client_same d c ≡ false → caller_state d (e ∷ past) ≡ caller_state d past
 state_beside past e c d is other =
-    ap (λ (o : Option ClientNo). if option_map_or (client_same d) o false then state_after (length past) e.what (seen_at e) (state_of d past) else state_of d past) is
-    ∙ ap (λ b. if b then state_after (length past) e.what (seen_at e) (state_of d past) else state_of d past) other
+    ap (λ (o : Option ClientNo). if option_map_or (client_same d) o false then state_after (length past) e.what (seen_at e) (caller_state d past) else caller_state d past) is
+    ∙ ap (λ b. if b then state_after (length past) e.what (seen_at e) (caller_state d past) else caller_state d past) other
 
 pub of_client : (callers : List CallerState) (past : List Entry) (e : Entry) (c : ClientNo) (new : CallerState) → c.0 < 256 → e.client ≡ Some c
-    → (slice_get callers c.0 ≡ Some (state_of c past) → new ≡ state_after (length past) e.what (seen_at e) (state_of c past))
-    → AreCallers callers past → AreCallers (slice_set callers c.0 new) (e ∷ past)
+    → (slice_get callers c.0 ≡ Some (caller_state c past) → new ≡ state_after (length past) e.what (seen_at e) (caller_state c past))
+    → AreCallerStates callers past → AreCallerStates (slice_set callers c.0 new) (e ∷ past)
 of_client callers past e c new few is step are = λ d few'.
-    elim (client_same d c) as (λ b. client_same d c ≡ b → slice_get (slice_set callers c.0 new) d.0 ≡ Some (state_of d (e ∷ past))) [
-      | true ↦ λ same. subst (λ (x : ClientNo). slice_get (slice_set callers c.0 new) x.0 ≡ Some (state_of x (e ∷ past))) (sym (client_same-true d c same))
-          (set_at callers c.0 (state_of c past) new (are c few) ∙ ap Some (step (are c few) ∙ sym (state_here past e c is)))
+    elim (client_same d c) as (λ b. client_same d c ≡ b → slice_get (slice_set callers c.0 new) d.0 ≡ Some (caller_state d (e ∷ past))) [
+      | true ↦ λ same. subst (λ (x : ClientNo). slice_get (slice_set callers c.0 new) x.0 ≡ Some (caller_state x (e ∷ past))) (sym (client_same-true d c same))
+          (set_at callers c.0 (caller_state c past) new (are c few) ∙ ap Some (step (are c few) ∙ sym (state_here past e c is)))
       | false ↦ λ other. get-set_other callers c.0 d.0 new (λ eq. clash (client_same d c) (subst (λ (n : ℕ). nat_eq n c.0 ≡ true) eq (client_same-refl c)) other)
           ∙ (are d few' ∙ ap Some (sym (state_beside past e c d is other)))
     ] refl
 
 -- Issues
 
-pub no_issue : {S : Type 0} (plans : HashMap IdKey Planner S) (past : List Entry) (e : Entry) → issue_in e.what ≡ [] → Knows plans past → Knows plans (e ∷ past)
+pub no_issue : {S : Type 0} (plans : HashMap IdKey Planner S) (past : List Entry) (e : Entry) → issue_in e.what ≡ [] → KnowsPlanners plans past → KnowsPlanners plans (e ∷ past)
 no_issue plans past e none knows = λ tid. knows tid ∙ by e.what none tid
   where
     by : (what : What) → issue_in what ≡ [] → (tid : Tid) → planner_of tid past ≡ planner_after tid e.client what past (planner_of tid past)
@@ -92,7 +92,7 @@ no_issue plans past e none knows = λ tid. knows tid ∙ by e.what none tid
 
 pub one_issue : {S : Type 0} (old new : HashMap IdKey Planner S) (past : List Entry) (e : Entry) (t : Tid) (mini : Mini) (planner : Planner) → e.what ≡ Issue t mini
     → planner ≡ record { client = e.client; begun = begun_by e.client past }
-    → ((q : Tid) → planner_kept new q ≡ (if tid_same t q then Some planner else planner_kept old q)) → Knows old past → Knows new (e ∷ past)
+    → ((q : Tid) → planner_kept new q ≡ (if tid_same t q then Some planner else planner_kept old q)) → KnowsPlanners old past → KnowsPlanners new (e ∷ past)
 one_issue old new past e t mini planner is who more knows = λ q.
     more q
     ∙ (ap (λ (o : Option Planner). if tid_same t q then Some planner else o) (knows q)
@@ -100,7 +100,7 @@ one_issue old new past e t mini planner is who more knows = λ q.
     ∙ sym (ap (λ (w : What). planner_after q e.client w past (planner_of q past)) is)))
 
 -- the operation of the client is the one that is told
-pub begun_there : (past : List Entry) (c : ClientNo) → (state_of c past).begun ≡ begun_by (Some c) past
+pub begun_there : (past : List Entry) (c : ClientNo) → (caller_state c past).begun ≡ begun_by (Some c) past
 begun_there past c = begun_is c past
 
 -- Slots
@@ -124,17 +124,17 @@ acts_more k a (Some b ∷ slots) = ap (λ (l : List (ℕ × Act)). (k, b) ∷ l)
     further : (k n : ℕ) → k + 1 + n ≡ k + suc n
     further k n = omega arith
 
-map_last : (p : Placed) (placed : List Placed) → map act_at (placed ++ p ∷ []) ≡ map act_at placed ++ act_at p ∷ []
+map_last : (p : Placed) (placed : List Placed) → map placed_act (placed ++ p ∷ []) ≡ map placed_act placed ++ placed_act p ∷ []
 map_last p [] = refl
-map_last p (q ∷ qs) = ap (λ (l : List (ℕ × Act)). act_at q ∷ l) (map_last p qs)
+map_last p (q ∷ qs) = ap (λ (l : List (ℕ × Act)). placed_act q ∷ l) (map_last p qs)
 
 -- what is committed here comes last
-fills_last : (n : ℕ) (slots : List (Option Act)) (placed : List Placed) (found : Option Act) (reply : Reply) → Fills slots placed → length slots ≡ n → Fills (slots ++ found ∷ []) (placed_last n found reply placed)
+fills_last : (n : ℕ) (slots : List (Option Act)) (placed : List Placed) (found : Option Act) (reply : Reply) → SlotsHoldHistory slots placed → length slots ≡ n → SlotsHoldHistory (slots ++ found ∷ []) (placed_last n found reply placed)
 fills_last n slots placed None reply fills long = acts_last 0 slots ∙ fills
 fills_last n slots placed (Some a) reply fills long =
     acts_more 0 a slots
     ∙ (ap (λ (l : List (ℕ × Act)). l ++ (0 + length slots, a) ∷ []) fills
-    ∙ (ap (λ (k : ℕ). map act_at placed ++ (k, a) ∷ []) (from_zero (length slots) ∙ long)
+    ∙ (ap (λ (k : ℕ). map placed_act placed ++ (k, a) ∷ []) (from_zero (length slots) ∙ long)
     ∙ sym (map_last (record { place = n; past = record { client = a.client; number = a.number; op = a.op; reply = reply } }) placed)))
   where
     from_zero : (n : ℕ) → 0 + n ≡ n
@@ -143,8 +143,8 @@ fills_last n slots placed (Some a) reply fills long =
 -- What an entry puts into the history
 
 -- that answers nothing
-pub takes_none : {S : Type 0} (past : List Entry) (e : Entry) (placed : List Placed) (standing : HashSet OpKey S) (slots : List (Option Act)) → StepPuts past e.client e.what placed placed → StandsInSet standing placed → Fills slots placed
-    → TakesEntry past e None placed standing slots slots None
+pub takes_none : {S : Type 0} (past : List Entry) (e : Entry) (placed : List Placed) (standing : HashSet OpKey S) (slots : List (Option Act)) → StepPuts past e.client e.what placed placed → StandsInSet standing placed → SlotsHoldHistory slots placed
+    → EntryIsInHistory past e None placed standing slots slots None
 takes_none past e placed standing slots puts st fills = record { next = placed; puts = puts; stands = st; fills = λ l. acts_last 0 slots ∙ fills; long = refl }
 
 pub quiet_puts : (past : List Entry) (by : Option ClientNo) (what : What) (placed : List Placed) → ((c : ClientNo) (number : ℕ) (answer : Answer) → by ≡ Some c → what ≡ Answered number answer → ⊥) → StepPuts past by what placed placed
@@ -159,7 +159,7 @@ quiet_puts past (Some c) (Abandoned t) placed none = refl
 
 -- that answers
 pub takes_answer : {S : Type 0} (past : List Entry) (e : Entry) (c : ClientNo) (number : ℕ) (answer : Answer) (placed : List Placed) (standing : HashSet OpKey S) (old new : List (Option Act)) → e.client ≡ Some c → e.what ≡ Answered number answer
-    → Puts past c answer placed standing old new → TakesEntry past e None placed standing old new None
+    → AnswerIsInHistory past c answer placed standing old new → EntryIsInHistory past e None placed standing old new None
 takes_answer past e c number answer placed standing old new by is p = record {
   next = p.next;
   puts = subst (λ (o : Option ClientNo). StepPuts past o e.what placed p.next) (sym by) (subst (λ (w : What). StepPuts past (Some c) w placed p.next) (sym is) p.puts);
@@ -169,8 +169,8 @@ takes_answer past e c number answer placed standing old new by is p = record {
 }
 
 -- that commits
-pub takes_commit : {S : Type 0} (past : List Entry) (e : Entry) (m : CommittedMini) (placed : List Placed) (standing : HashSet OpKey S) (slots : List (Option Act)) (found : Option Act) → Fills slots placed
-    → Commits past m placed standing found → TakesEntry past e (Some (issued_of m)) placed standing slots slots found
+pub takes_commit : {S : Type 0} (past : List Entry) (e : Entry) (m : CommittedMini) (placed : List Placed) (standing : HashSet OpKey S) (slots : List (Option Act)) (found : Option Act) → SlotsHoldHistory slots placed
+    → CommitIsInHistory past m placed standing found → EntryIsInHistory past e (Some (issued_of m)) placed standing slots slots found
 takes_commit past e m placed standing slots found fills p = record {
   next = placed_last (length past) found p.reply placed;
   puts = p.puts e;
@@ -179,10 +179,10 @@ takes_commit past e m placed standing slots found fills p = record {
   long = refl;
 }
 
-pub named_here : (past : List Entry) (e : Entry) (m : CommittedMini) → Some (issued_of m) ≡ committed_by past e → Named past m
+pub named_here : (past : List Entry) (e : Entry) (m : CommittedMini) → Some (issued_of m) ≡ committed_by past e → IsIssuedUnderId past m
 named_here past e m is = at e.node (sym is)
   where
-    at : (node : Option NodeNo) → committed_at past node e.what ≡ Some (issued_of m) → Named past m
+    at : (node : Option NodeNo) → committed_at past node e.what ≡ Some (issued_of m) → IsIssuedUnderId past m
     at None h = absurd cc
     at (Some n) h = with_named past n (effect_of (node_entries n past) e.what) (issued_of m) h
 
@@ -204,12 +204,12 @@ acts_of_slots k [] = refl
 acts_of_slots k (None ∷ slots) = acts_of_slots (k + 1) slots
 acts_of_slots k (Some a ∷ slots) = ap (λ (l : List Act). a ∷ l) (acts_of_slots (k + 1) slots)
 
-acts_of_placed : (placed : List Placed) → map (λ (x : ℕ × Act). x.1) (map act_at placed) ≡ map act_of (pasts_of placed)
+acts_of_placed : (placed : List Placed) → map (λ (x : ℕ × Act). x.1) (map placed_act placed) ≡ map act_of (pasts_of placed)
 acts_of_placed [] = refl
 acts_of_placed (p ∷ placed) = ap (λ (l : List Act). act_of p.past ∷ l) (acts_of_placed placed)
 
 -- the operations of the slots are the history, with the store's replies
-pub told_whole : (store : Store) (slots : List (Option Act)) (placed : List Placed) → Fills slots placed → IsLegal store (pasts_of placed) → done_from store (acts_in slots) ≡ pasts_of placed
+pub told_whole : (store : Store) (slots : List (Option Act)) (placed : List Placed) → SlotsHoldHistory slots placed → IsLegal store (pasts_of placed) → done_from store (acts_in slots) ≡ pasts_of placed
 told_whole store slots placed fills legal =
     ap (done_from store) (acts_of_slots 0 slots ∙ (ap (map (λ (x : ℕ × Act). x.1)) fills ∙ acts_of_placed placed)) ∙ replies_same store (pasts_of placed) legal
 

@@ -20,7 +20,7 @@ use Rattle.mn_world.specs.declared.entry.Entry.{Entry}
 use Rattle.mn_world.specs.Places.{page_place}
 use Rattle.mn_world.specs.Shown.{Seen, LeafShows, ReadShows}
 use Rattle.mn_world.proofs.Examples.Entries.{page_is_no_catalog}
-use Rattle.mn_hist.specs.Shown.{Decides, is_of_catalog, HasCatalog, IsUnshown, TellsShown, CatalogTells, lone_key, found_at, LeafGives, LeafTells, IsServedBy}
+use Rattle.mn_hist.specs.Shown.{TestDecides, is_of_catalog, HasCatalog, IsUnshown, TellsShown, CatalogBytesShow, lone_key, found_at, LeafBytesShow, TellsLeafBytesShow, IsServedByCatalog}
 use Rattle.mn_hist.proofs.Places.{catalog_read, no_catalog_read}
 
 pub if_ok : {P Q : Bool → Type 0} (r : Result Bool NoMemory) → IfOk r P → ((b : Bool) → P b → Q b) → IfOk r Q
@@ -42,7 +42,7 @@ leaf_place es seen (Branch name child) reply shown = absurd shown
 leaf_place es seen (Scan name low high limit) reply shown = absurd shown
 leaf_place es seen Versions reply shown = absurd shown
 
-pub catalog_tells : (catalog : Option (List ℕ)) (seen : Seen) (op : Op) (reply : Reply) → is_of_catalog seen ≡ true → (b : Bool) → Decides b (CatalogTells seen.bytes op reply) → TellsShown b catalog seen op reply
+pub catalog_tells : (catalog : Option (List ℕ)) (seen : Seen) (op : Op) (reply : Reply) → is_of_catalog seen ≡ true → (b : Bool) → TestDecides b (CatalogBytesShow seen.bytes op reply) → TellsShown b catalog seen op reply
 catalog_tells catalog seen op reply is true (entries, spelled, replies) = λ es has. inr (entries, (catalog_read seen is, spelled.0.0, recursion_from_All IsEntry entries spelled.0.1, spelled.1), replies)
 catalog_tells catalog seen op reply is false none = λ es shows. by es shows
   where
@@ -85,7 +85,7 @@ lone_steps (Put k value ∷ steps) key e = absurd cc
 lone_steps (Del k ∷ steps) key e = absurd cc
 lone_steps (Check k want ∷ steps) key e = absurd cc
 
-shows_leaf : (catalog : Option (List ℕ)) (seen : Seen) (name key : List ℕ) (reply : Reply) (addr : Addr) (page : Page) (es : List Entry) → seen.place ≡ page_place addr → LeafGives seen.bytes key reply page → IsServedBy catalog name page → HasCatalog es catalog
+shows_leaf : (catalog : Option (List ℕ)) (seen : Seen) (name key : List ℕ) (reply : Reply) (addr : Addr) (page : Page) (es : List Entry) → seen.place ≡ page_place addr → LeafBytesShow seen.bytes key reply page → IsServedByCatalog catalog name page → HasCatalog es catalog
     → LeafShows es seen (Tx name (Get key ∷ [])) reply
 shows_leaf None seen name key reply addr page es at gives served has = absurd served
 shows_leaf (Some bytes) seen name key reply addr page es at gives (entries, spelled, v, named, serves) (catalog, there, is, same) =
@@ -102,7 +102,7 @@ shows_leaf (Some bytes) seen name key reply addr page es at gives (entries, spel
     )
 
 lone_tells : (catalog : Option (List ℕ)) (seen : Seen) (name key : List ℕ) (reply : Reply) → (addr : Addr) × (seen.place ≡ page_place addr) → is_of_catalog seen ≡ false
-    → (b : Bool) → LeafTells b catalog seen.bytes name key reply → TellsShown b catalog seen (Tx name (Get key ∷ [])) reply
+    → (b : Bool) → TellsLeafBytesShow b catalog seen.bytes name key reply → TellsShown b catalog seen (Tx name (Get key ∷ [])) reply
 lone_tells catalog seen name key reply at other true (page, gives, served) = λ es has. inl (shows_leaf catalog seen name key reply at.0 page es at.1 gives served has)
 lone_tells catalog seen name key reply at other false none = λ es shows. by es shows
   where
@@ -113,6 +113,6 @@ lone_tells catalog seen name key reply at other false none = λ es shows. by es 
 
 pub leaf_tells : (catalog : Option (List ℕ)) (seen : Seen) (op : Op) (name : List ℕ) (steps : List Step) (key : List ℕ) (reply : Reply) → op ≡ Tx name steps → Some key ≡ lone_key steps
     → (addr : Addr) × (seen.place ≡ page_place addr) → is_of_catalog seen ≡ false
-    → (b : Bool) → LeafTells b catalog seen.bytes name key reply → TellsShown b catalog seen op reply
+    → (b : Bool) → TellsLeafBytesShow b catalog seen.bytes name key reply → TellsShown b catalog seen op reply
 leaf_tells catalog seen op name steps key reply is lone at other b tells =
     subst (λ (o : Op). TellsShown b catalog seen o reply) (sym (is ∙ ap (Tx name) (lone_steps steps key (sym lone)))) (lone_tells catalog seen name key reply at other b tells)

@@ -11,7 +11,7 @@ use Rattle.mn_report.specs.declared.lines.DoubtLine.{DoubtLine}
 use Rattle.mn_report.specs.declared.lines.LineAnswer.{LineAnswer}
 use Rattle.mn_report.specs.declared.lines.VersionLine.{VersionLine}
 use Rattle.mn_script.specs.declared.elements.ScriptClient.{ScriptClient}
-use Rattle.mn_hist.specs.Audit.{answer_line, answers_from, doubt_at, doubts_from, numbers_of, told_with, version_told, versions_told}
+use Rattle.mn_hist.specs.Audit.{answer_line_at, answers_from, doubt_at, doubts_from, op_numbers, told_with, version_told, versions_told}
 use Rattle.mn_hist.proofs.Joining.{take_whole}
 use Rattle.mn_hist.proofs.Loops.{drop_here, map_map, map_more}
 
@@ -69,19 +69,19 @@ drop_next xs i x lt is = drop_here xs i x lt is ∙ ap (λ (n : ℕ). x ∷ drop
     plus i = omega arith
 
 pub answers_more : (said : ClientNo → ℕ → LineAnswer) (clients : List ScriptClient) (i : ℕ) (client : ScriptClient) (old new : List AnswerLine) → i < length clients → client ≡ slice_index_or clients i client
-    → new ≡ old ++ map (answer_line said (record { 0 = i }) client) (numbers_of client) → old ++ answers_from said i (drop i clients) ≡ answers_from said 0 clients
+    → new ≡ old ++ map (answer_line_at said (record { 0 = i }) client) (op_numbers client) → old ++ answers_from said i (drop i clients) ≡ answers_from said 0 clients
     → new ++ answers_from said (i + 1) (drop (i + 1) clients) ≡ answers_from said 0 clients
 answers_more said clients i client old new lt is push before =
     ap (λ l. l ++ answers_from said (i + 1) (drop (i + 1) clients)) push
-    ∙ (append_assoc old (map (answer_line said (record { 0 = i }) client) (numbers_of client)) (answers_from said (i + 1) (drop (i + 1) clients))
+    ∙ (append_assoc old (map (answer_line_at said (record { 0 = i }) client) (op_numbers client)) (answers_from said (i + 1) (drop (i + 1) clients))
     ∙ (sym (ap (λ l. old ++ answers_from said i l) (drop_next clients i client lt is)) ∙ before))
 
 pub doubts_more : (said : ClientNo → ℕ → LineAnswer) (committed : ClientNo → ℕ → Bool) (clients : List ScriptClient) (i : ℕ) (client : ScriptClient) (old new : List DoubtLine) → i < length clients → client ≡ slice_index_or clients i client
-    → new ≡ old ++ flat_map (doubt_at said committed (record { 0 = i }) client) (numbers_of client) → old ++ doubts_from said committed i (drop i clients) ≡ doubts_from said committed 0 clients
+    → new ≡ old ++ flat_map (doubt_at said committed (record { 0 = i }) client) (op_numbers client) → old ++ doubts_from said committed i (drop i clients) ≡ doubts_from said committed 0 clients
     → new ++ doubts_from said committed (i + 1) (drop (i + 1) clients) ≡ doubts_from said committed 0 clients
 doubts_more said committed clients i client old new lt is push before =
     ap (λ l. l ++ doubts_from said committed (i + 1) (drop (i + 1) clients)) push
-    ∙ (append_assoc old (flat_map (doubt_at said committed (record { 0 = i }) client) (numbers_of client)) (doubts_from said committed (i + 1) (drop (i + 1) clients))
+    ∙ (append_assoc old (flat_map (doubt_at said committed (record { 0 = i }) client) (op_numbers client)) (doubts_from said committed (i + 1) (drop (i + 1) clients))
     ∙ (sym (ap (λ l. old ++ doubts_from said committed i l) (drop_next clients i client lt is)) ∙ before))
 
 -- After all clients

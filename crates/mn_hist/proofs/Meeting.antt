@@ -24,8 +24,8 @@ use Rattle.mn_world.specs.Protocol.{Start, start_nodes}
 use Rattle.mn_world.specs.Run.{IsLogOfRun, entries_of}
 use Rattle.mn_cell.specs.Calls.{EndsList, IsLegalLine, MaySend, entry_at, what_said}
 use Rattle.mn_cell.specs.Passes.{OwnsJust}
-use Rattle.mn_cell.specs.Runs.{AreParts, IsIssueOf, PartsMakeRun, placed_from}
-use Rattle.mn_hist.specs.Merging.{AreOneLog, list_of}
+use Rattle.mn_cell.specs.Runs.{ArePartsOfRun, IsIssueOf, PartsMakeRun, placed_from}
+use Rattle.mn_hist.specs.Merging.{AreOneLog, actor_list}
 
 -- Peeks
 
@@ -176,7 +176,7 @@ either (suc (suc k)) P lt p q = absurd (omega (arith, lt))
 pub parts_of_two : (start : Start) (owned : Actor → Option (List (ℕ × Entry))) (l0 l1 m0 m1 : List (ℕ × Entry)) → 2 ≡ start_nodes start
     → owned (node_at 0) ≡ Some l0 → owned (node_at 1) ≡ Some l1 → owned (client_at 0) ≡ Some m0 → owned (client_at 1) ≡ Some m1
     → NodeListAllowed start (record { 0 = 0 }) (entries_of l0) → NodeListAllowed start (record { 0 = 1 }) (entries_of l1)
-    → AllByRecursion (IsIssueOf start) (entries_of m0) → AllByRecursion (IsIssueOf start) (entries_of m1) → AreParts start 2 2 owned
+    → AllByRecursion (IsIssueOf start) (entries_of m0) → AllByRecursion (IsIssueOf start) (entries_of m1) → ArePartsOfRun start 2 2 owned
 parts_of_two start owned l0 l1 m0 m1 two n0 n1 c0 c1 a0 a1 i0 i1 = record {
   all = two;
   allowed = λ n list on is.
@@ -189,7 +189,7 @@ parts_of_two start owned l0 l1 m0 m1 two n0 n1 c0 c1 a0 a1 i0 i1 = record {
       (λ e. subst (λ (l : List (ℕ × Entry)). AllByRecursion (IsIssueOf start) (entries_of l)) (same_Some _ _ (sym c1 ∙ e)) i1) is;
 }
 
-pub same_parts : (start : Start) (owned owned' : Actor → Option (List (ℕ × Entry))) → ((a : Actor) → IsActor 2 2 a → owned' a ≡ owned a) → AreParts start 2 2 owned → AreParts start 2 2 owned'
+pub same_parts : (start : Start) (owned owned' : Actor → Option (List (ℕ × Entry))) → ((a : Actor) → IsActor 2 2 a → owned' a ≡ owned a) → ArePartsOfRun start 2 2 owned → ArePartsOfRun start 2 2 owned'
 same_parts start owned owned' same parts = record {
   all = parts.all;
   allowed = λ n list on is. parts.allowed n list on (sym (same (Node n) on) ∙ is);
@@ -198,23 +198,23 @@ same_parts start owned owned' same parts = record {
 
 module _ (ln0 ln1 : List (ℕ × Entry)) (k0 k1 : ClientState) (owned : Actor → Option (List (ℕ × Entry))) (n0 : owned (node_at 0) ≡ Some ln0) (n1 : owned (node_at 1) ≡ Some ln1) (c0 : owned (client_at 0) ≡ Some k0.entries)
     (c1 : owned (client_at 1) ≡ Some k1.entries) where
-  as_listed : (a : Actor) → IsActor 2 2 a → list_of (ln0 ∷ ln1 ∷ []) (k0 ∷ k1 ∷ []) a ≡ owned a
-  as_listed (Node k) on = either k.0 (λ (n : ℕ). list_of (ln0 ∷ ln1 ∷ []) (k0 ∷ k1 ∷ []) (node_at n) ≡ owned (node_at n)) on (sym n0) (sym n1)
-  as_listed (Client k) on = either k.0 (λ (n : ℕ). list_of (ln0 ∷ ln1 ∷ []) (k0 ∷ k1 ∷ []) (client_at n) ≡ owned (client_at n)) on (sym c0) (sym c1)
+  as_listed : (a : Actor) → IsActor 2 2 a → actor_list (ln0 ∷ ln1 ∷ []) (k0 ∷ k1 ∷ []) a ≡ owned a
+  as_listed (Node k) on = either k.0 (λ (n : ℕ). actor_list (ln0 ∷ ln1 ∷ []) (k0 ∷ k1 ∷ []) (node_at n) ≡ owned (node_at n)) on (sym n0) (sym n1)
+  as_listed (Client k) on = either k.0 (λ (n : ℕ). actor_list (ln0 ∷ ln1 ∷ []) (k0 ∷ k1 ∷ []) (client_at n) ≡ owned (client_at n)) on (sym c0) (sym c1)
 
   pub one_log : (ns : List (List (ℕ × Entry))) (cs : List ClientState) (nodes clients clock : ℕ) → ns ≡ ln0 ∷ ln1 ∷ [] → cs ≡ k0 ∷ k1 ∷ [] → nodes ≡ 2 → clients ≡ 2 → IsOneLog IsLegalLine nodes clients owned clock → AreOneLog ns cs clock
   one_log ns cs nodes clients clock nodes_are clients_are two two' one =
       let here = subst (λ (n : ℕ × ℕ). IsOneLog IsLegalLine n.0 n.1 owned clock) (λ i. (two i, two' i)) one in
-      subst (λ (l : List (List (ℕ × Entry)) × List ClientState). AreOneLog l.0 l.1 clock) (λ i. (sym nodes_are i, sym clients_are i)) (one_of clock owned (list_of (ln0 ∷ ln1 ∷ []) (k0 ∷ k1 ∷ [])) as_listed here)
+      subst (λ (l : List (List (ℕ × Entry)) × List ClientState). AreOneLog l.0 l.1 clock) (λ i. (sym nodes_are i, sym clients_are i)) (one_of clock owned (actor_list (ln0 ∷ ln1 ∷ []) (k0 ∷ k1 ∷ [])) as_listed here)
 
-  pub listed_parts : (start : Start) (ns : List (List (ℕ × Entry))) (cs : List ClientState) → ns ≡ ln0 ∷ ln1 ∷ [] → cs ≡ k0 ∷ k1 ∷ [] → AreParts start 2 2 owned → AreParts start (length ns) (length cs) (list_of ns cs)
+  pub listed_parts : (start : Start) (ns : List (List (ℕ × Entry))) (cs : List ClientState) → ns ≡ ln0 ∷ ln1 ∷ [] → cs ≡ k0 ∷ k1 ∷ [] → ArePartsOfRun start 2 2 owned → ArePartsOfRun start (length ns) (length cs) (actor_list ns cs)
   listed_parts start ns cs nodes_are clients_are parts =
-      subst (λ (l : List (List (ℕ × Entry)) × List ClientState). AreParts start (length l.0) (length l.1) (list_of l.0 l.1)) (λ i. (sym nodes_are i, sym clients_are i))
-      (same_parts start owned (list_of (ln0 ∷ ln1 ∷ []) (k0 ∷ k1 ∷ [])) as_listed parts)
+      subst (λ (l : List (List (ℕ × Entry)) × List ClientState). ArePartsOfRun start (length l.0) (length l.1) (actor_list l.0 l.1)) (λ i. (sym nodes_are i, sym clients_are i))
+      (same_parts start owned (actor_list (ln0 ∷ ln1 ∷ []) (k0 ∷ k1 ∷ [])) as_listed parts)
 
   -- so the log that is put together is a run
   pub ended_run : (start : Start) (ns : List (List (ℕ × Entry))) (cs : List ClientState) (nodes clients clock : ℕ) (log : List (ℕ × Entry)) → ns ≡ ln0 ∷ ln1 ∷ [] → cs ≡ k0 ∷ k1 ∷ [] → nodes ≡ 2 → clients ≡ 2
-      → PartsMakeRun → ((clock : ℕ) (one : AreOneLog ns cs clock) → log ≡ placed_from 0 one.log) → IsOneLog IsLegalLine nodes clients owned clock → AreParts start 2 2 owned → IsLogOfRun start log
+      → PartsMakeRun → ((clock : ℕ) (one : AreOneLog ns cs clock) → log ≡ placed_from 0 one.log) → IsOneLog IsLegalLine nodes clients owned clock → ArePartsOfRun start 2 2 owned → IsLogOfRun start log
   ended_run start ns cs nodes clients clock log nodes_are clients_are two two' law merged one parts =
       let all = one_log ns cs nodes clients clock nodes_are clients_are two two' one in
-      subst (IsLogOfRun start) (sym (merged clock all)) (law start (length ns) (length cs) clock (list_of ns cs) all (listed_parts start ns cs nodes_are clients_are parts))
+      subst (IsLogOfRun start) (sym (merged clock all)) (law start (length ns) (length cs) clock (actor_list ns cs) all (listed_parts start ns cs nodes_are clients_are parts))

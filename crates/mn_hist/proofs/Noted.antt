@@ -18,7 +18,7 @@ use Rattle.mn_world.proofs.Bytes.Seen.{nothing}
 use Rattle.mn_world.proofs.Meaning.Tell.{one_read, only}
 use Rattle.mn_world.proofs.Reading.Sees.{seen_in-cons}
 use Rattle.mn_hist.proofs.Places.{catalog_read, no_catalog_read}
-use Rattle.mn_hist.specs.History.{Note, CallerState, with_seen, state_after, state_of, IsLastNote, IsFirstNote, IsNotedPlace}
+use Rattle.mn_hist.specs.History.{Note, CallerState, with_seen, state_after, caller_state, IsLastNote, IsFirstNote, IsNotedPlace}
 use Rattle.mn_hist.specs.Shown.{is_of_catalog, HasCatalog, IsShownBy, IsUnshown}
 
 -- The operation under way
@@ -36,11 +36,11 @@ begun_step n (Stopped request asked) seens s = with_begun n seens s
 begun_step n (Restarted kept) seens s = with_begun n seens s
 begun_step n (Abandoned tid) seens s = with_begun n seens s
 
-pub begun_is : (c : ClientNo) (past : List Entry) → (state_of c past).begun ≡ under_way (client_entries c past)
+pub begun_is : (c : ClientNo) (past : List Entry) → (caller_state c past).begun ≡ under_way (client_entries c past)
 begun_is c [] = refl
 begun_is c (e ∷ past) =
-    elim (is_by c e) as (λ b. (if b then state_after (length past) e.what (seen_at e) (state_of c past) else state_of c past).begun ≡ under_way (if b then e ∷ client_entries c past else client_entries c past)) [
-      | true ↦ begun_step (length past) e.what (seen_at e) (state_of c past) ∙ ap (under_way_after e.what) (begun_is c past)
+    elim (is_by c e) as (λ b. (if b then state_after (length past) e.what (seen_at e) (caller_state c past) else caller_state c past).begun ≡ under_way (if b then e ∷ client_entries c past else client_entries c past)) [
+      | true ↦ begun_step (length past) e.what (seen_at e) (caller_state c past) ∙ ap (under_way_after e.what) (begun_is c past)
       | false ↦ begun_is c past
     ]
 
@@ -67,13 +67,13 @@ catalog_step e es n (Stopped request asked) seens s there has = with_catalog e e
 catalog_step e es n (Restarted kept) seens s there has = with_catalog e es n seens s there has
 catalog_step e es n (Abandoned tid) seens s there has = with_catalog e es n seens s there has
 
-pub catalog_has : (c : ClientNo) (past : List Entry) → HasCatalog (client_entries c past) (state_of c past).catalog
+pub catalog_has : (c : ClientNo) (past : List Entry) → HasCatalog (client_entries c past) (caller_state c past).catalog
 catalog_has c [] = tt
 catalog_has c (e ∷ past) =
-    elim (is_by c e) as (λ b. HasCatalog (if b then e ∷ client_entries c past else client_entries c past) (if b then state_after (length past) e.what (seen_at e) (state_of c past) else state_of c past).catalog) [
-      | true ↦ catalog_step e (client_entries c past) (length past) e.what (seen_at e) (state_of c past)
+    elim (is_by c e) as (λ b. HasCatalog (if b then e ∷ client_entries c past else client_entries c past) (if b then state_after (length past) e.what (seen_at e) (caller_state c past) else caller_state c past).catalog) [
+      | true ↦ catalog_step e (client_entries c past) (length past) e.what (seen_at e) (caller_state c past)
           (λ x has. subst (λ (l : List Seen). Contains l x) (sym (seen_in-cons e (client_entries c past))) (Contains-append_left (seen_at e) (seen_in (client_entries c past)) x has))
-          (has_older e (client_entries c past) (state_of c past).catalog (catalog_has c past))
+          (has_older e (client_entries c past) (caller_state c past).catalog (catalog_has c past))
       | false ↦ catalog_has c past
     ]
 
@@ -85,32 +85,32 @@ no_split (x ∷ newer) note older e = cc
 
 last_quiet : (c : ClientNo) (op : Op) (reply : Reply) (past : List Entry) (e : Entry) (place : ℕ)
     → is_by c e ≡ true → begun_in e.what ≡ []
-    → (IsLastNote (state_of c past).notes op reply place → LastShown c op reply past place)
+    → (IsLastNote (caller_state c past).notes op reply place → LastShown c op reply past place)
     → (seen_at e ≡ []) ⊎ ((seen : Seen) × (seen_at e ≡ seen ∷ []))
-    → IsLastNote (with_seen (length past) (seen_at e) (state_of c past)).notes op reply place
+    → IsLastNote (with_seen (length past) (seen_at e) (caller_state c past)).notes op reply place
     → LastShown c op reply (e ∷ past) place
 last_quiet c op reply past e place by none rest (inl empty) l =
     inr (
       λ h. nothing h.1.0 (subst (λ (x : List Seen). Contains x h.1.0) empty h.1.1),
       inr none,
-      rest (subst (λ (x : List Seen). IsLastNote (with_seen (length past) x (state_of c past)).notes op reply place) empty l),
+      rest (subst (λ (x : List Seen). IsLastNote (with_seen (length past) x (caller_state c past)).notes op reply place) empty l),
     )
 last_quiet c op reply past e place by none rest (inr (x, is)) l =
-    at (subst (λ (y : List Seen). IsLastNote (with_seen (length past) y (state_of c past)).notes op reply place) is l)
+    at (subst (λ (y : List Seen). IsLastNote (with_seen (length past) y (caller_state c past)).notes op reply place) is l)
   where
     here : Note
-    here = record { place = length past; seen = x; catalog = (state_of c past).catalog }
+    here = record { place = length past; seen = x; catalog = (caller_state c past).catalog }
 
-    first : (newer older : List Note) (note : Note) → here ∷ (state_of c past).notes ≡ newer ++ note ∷ older → place ≡ note.place
+    first : (newer older : List Note) (note : Note) → here ∷ (caller_state c past).notes ≡ newer ++ note ∷ older → place ≡ note.place
         → IsShownBy note.catalog note.seen op reply → AllByRecursion (λ (n : Note). IsUnshown n.seen op reply) newer
         → LastShown c op reply (e ∷ past) place
     first [] older note split is_place shown unseen =
         let same : note ≡ here = cc in
-        let shows : IsShownBy (state_of c past).catalog x op reply = subst (λ (n : Note). IsShownBy n.catalog n.seen op reply) same shown in
+        let shows : IsShownBy (caller_state c past).catalog x op reply = subst (λ (n : Note). IsShownBy n.catalog n.seen op reply) same shown in
         inl ((by, (x, subst (λ (y : List Seen). Contains y x) (sym is) (0, omega arith, refl), shows (client_entries c past) (catalog_has c past))), is_place ∙ ap (λ (n : Note). n.place) same)
     first (y ∷ newer) older note split is_place shown unseen =
         let same : y ≡ here = cc in
-        let tail : (state_of c past).notes ≡ newer ++ note ∷ older = cc in
+        let tail : (caller_state c past).notes ≡ newer ++ note ∷ older = cc in
         let unshown : IsUnshown x op reply = subst (λ (n : Note). IsUnshown n.seen op reply) same unseen.0 in
         inr (
           λ h. unshown (client_entries c past) (subst (λ (z : Seen). ReadShows (client_entries c past) z op reply) (sym (only x h.1.0 (subst (λ (y : List Seen). Contains y h.1.0) is h.1.1))) h.1.2),
@@ -118,13 +118,13 @@ last_quiet c op reply past e place by none rest (inr (x, is)) l =
           rest (record { newer = newer; note = note; older = older; split = tail; is_place = is_place; shown = shown; none = unseen.1 }),
         )
 
-    at : IsLastNote (here ∷ (state_of c past).notes) op reply place → LastShown c op reply (e ∷ past) place
+    at : IsLastNote (here ∷ (caller_state c past).notes) op reply place → LastShown c op reply (e ∷ past) place
     at l = first l.newer l.older l.note l.split l.is_place l.shown l.none
 
 last_step : (c : ClientNo) (op : Op) (reply : Reply) (past : List Entry) (e : Entry) (place : ℕ)
     → is_by c e ≡ true → (what : What) → e.what ≡ what
-    → (IsLastNote (state_of c past).notes op reply place → LastShown c op reply past place)
-    → IsLastNote (state_after (length past) what (seen_at e) (state_of c past)).notes op reply place
+    → (IsLastNote (caller_state c past).notes op reply place → LastShown c op reply past place)
+    → IsLastNote (state_after (length past) what (seen_at e) (caller_state c past)).notes op reply place
     → LastShown c op reply (e ∷ past) place
 last_step c op reply past e place by (Begin number op') is rest l = absurd (no_split l.newer l.note l.older l.split)
 last_step c op reply past e place by (Answered number answer) is rest l = absurd (no_split l.newer l.note l.older l.split)
@@ -134,10 +134,10 @@ last_step c op reply past e place by (Stopped request asked) is rest l = last_qu
 last_step c op reply past e place by (Restarted kept) is rest l = last_quiet c op reply past e place by (ap begun_in is) rest (one_read e) l
 last_step c op reply past e place by (Abandoned tid) is rest l = last_quiet c op reply past e place by (ap begun_in is) rest (one_read e) l
 
-pub last_note : (c : ClientNo) (op : Op) (reply : Reply) (past : List Entry) (place : ℕ) → IsLastNote (state_of c past).notes op reply place → LastShown c op reply past place
+pub last_note : (c : ClientNo) (op : Op) (reply : Reply) (past : List Entry) (place : ℕ) → IsLastNote (caller_state c past).notes op reply place → LastShown c op reply past place
 last_note c op reply [] place l = absurd (no_split l.newer l.note l.older l.split)
 last_note c op reply (e ∷ past) place l =
-    elim (is_by c e) as (λ b. is_by c e ≡ b → IsLastNote (if b then state_after (length past) e.what (seen_at e) (state_of c past) else state_of c past).notes op reply place → LastShown c op reply (e ∷ past) place) [
+    elim (is_by c e) as (λ b. is_by c e ≡ b → IsLastNote (if b then state_after (length past) e.what (seen_at e) (caller_state c past) else caller_state c past).notes op reply place → LastShown c op reply (e ∷ past) place) [
       | true ↦ λ by l. last_step c op reply past e place by e.what refl (last_note c op reply past place) l
       | false ↦ λ by l. inr (λ h. clash (is_by c e) h.0 by, inl by, last_note c op reply past place l)
     ] refl l
@@ -171,11 +171,11 @@ seens_step e es n (Stopped request asked) s same = seens_quiet e (since_begin es
 seens_step e es n (Restarted kept) s same = seens_quiet e (since_begin es) n s same (one_read e)
 seens_step e es n (Abandoned tid) s same = seens_quiet e (since_begin es) n s same (one_read e)
 
-notes_seens : (c : ClientNo) (past : List Entry) → map (λ (x : Note). x.seen) (state_of c past).notes ≡ seen_in (since_begin (client_entries c past))
+notes_seens : (c : ClientNo) (past : List Entry) → map (λ (x : Note). x.seen) (caller_state c past).notes ≡ seen_in (since_begin (client_entries c past))
 notes_seens c [] = refl
 notes_seens c (e ∷ past) =
-    elim (is_by c e) as (λ b. map (λ (x : Note). x.seen) (if b then state_after (length past) e.what (seen_at e) (state_of c past) else state_of c past).notes ≡ seen_in (since_begin (if b then e ∷ client_entries c past else client_entries c past))) [
-      | true ↦ seens_step e (client_entries c past) (length past) e.what (state_of c past) (notes_seens c past)
+    elim (is_by c e) as (λ b. map (λ (x : Note). x.seen) (if b then state_after (length past) e.what (seen_at e) (caller_state c past) else caller_state c past).notes ≡ seen_in (since_begin (if b then e ∷ client_entries c past else client_entries c past))) [
+      | true ↦ seens_step e (client_entries c past) (length past) e.what (caller_state c past) (notes_seens c past)
       | false ↦ notes_seens c past
     ]
 
@@ -185,9 +185,9 @@ none_read (n ∷ notes) none = (no_catalog_read n.seen none.0, none_read notes n
 
 first_quiet : (c : ClientNo) (past : List Entry) (e : Entry) (place : ℕ) → is_by c e ≡ true
     → since_begin (e ∷ client_entries c past) ≡ e ∷ since_begin (client_entries c past)
-    → (IsFirstNote (state_of c past).notes place → FirstCatalogAt c past place)
+    → (IsFirstNote (caller_state c past).notes place → FirstCatalogAt c past place)
     → (seen_at e ≡ []) ⊎ ((seen : Seen) × (seen_at e ≡ seen ∷ []))
-    → IsFirstNote (with_seen (length past) (seen_at e) (state_of c past)).notes place
+    → IsFirstNote (with_seen (length past) (seen_at e) (caller_state c past)).notes place
     → FirstCatalogAt c (e ∷ past) place
 first_quiet c past e place by since rest one l = by_read one l
   where
@@ -204,12 +204,12 @@ first_quiet c past e place by since rest one l = by_read one l
     }
 
     first : (x : Seen) → seen_at e ≡ x ∷ [] → (newer older : List Note) (note : Note)
-        → record { place = length past; seen = x; catalog = (state_of c past).catalog } ∷ (state_of c past).notes ≡ newer ++ note ∷ older
+        → record { place = length past; seen = x; catalog = (caller_state c past).catalog } ∷ (caller_state c past).notes ≡ newer ++ note ∷ older
         → place ≡ note.place → is_of_catalog note.seen ≡ true → AllByRecursion (λ (n : Note). is_of_catalog n.seen ≡ false) older
         → FirstCatalogAt c (e ∷ past) place
     first x is [] older note split is_place catalog none =
-        let same : note ≡ record { place = length past; seen = x; catalog = (state_of c past).catalog } = cc in
-        let tail : older ≡ (state_of c past).notes = cc in
+        let same : note ≡ record { place = length past; seen = x; catalog = (caller_state c past).catalog } = cc in
+        let tail : older ≡ (caller_state c past).notes = cc in
         record {
           entry = e;
           later = [];
@@ -218,25 +218,25 @@ first_quiet c past e place by since rest one l = by_read one l
           here = (by, (x, subst (λ (y : List Seen). Contains y x) (sym is) (0, omega arith, refl), catalog_read x (sym (ap (λ (n : Note). is_of_catalog n.seen) same) ∙ catalog)));
           is_place = is_place ∙ ap (λ (n : Note). n.place) same;
           since = ap since_begin (keep c e past by) ∙ since;
-          first = subst NoCatalog (notes_seens c past) (none_read (state_of c past).notes (subst (AllByRecursion (λ (n : Note). is_of_catalog n.seen ≡ false)) tail none));
+          first = subst NoCatalog (notes_seens c past) (none_read (caller_state c past).notes (subst (AllByRecursion (λ (n : Note). is_of_catalog n.seen ≡ false)) tail none));
         }
     first x is (y ∷ newer) older note split is_place catalog none =
-        let tail : (state_of c past).notes ≡ newer ++ note ∷ older = cc in
+        let tail : (caller_state c past).notes ≡ newer ++ note ∷ older = cc in
         further (rest (record { newer = newer; note = note; older = older; split = tail; is_place = is_place; catalog = catalog; none = none }))
 
-    at : (x : Seen) → seen_at e ≡ x ∷ [] → IsFirstNote (record { place = length past; seen = x; catalog = (state_of c past).catalog } ∷ (state_of c past).notes) place → FirstCatalogAt c (e ∷ past) place
+    at : (x : Seen) → seen_at e ≡ x ∷ [] → IsFirstNote (record { place = length past; seen = x; catalog = (caller_state c past).catalog } ∷ (caller_state c past).notes) place → FirstCatalogAt c (e ∷ past) place
     at x is l = first x is l.newer l.older l.note l.split l.is_place l.catalog l.none
 
     by_read : (seen_at e ≡ []) ⊎ ((seen : Seen) × (seen_at e ≡ seen ∷ []))
-        → IsFirstNote (with_seen (length past) (seen_at e) (state_of c past)).notes place
+        → IsFirstNote (with_seen (length past) (seen_at e) (caller_state c past)).notes place
         → FirstCatalogAt c (e ∷ past) place
-    by_read (inl empty) l = further (rest (subst (λ (x : List Seen). IsFirstNote (with_seen (length past) x (state_of c past)).notes place) empty l))
-    by_read (inr (x, is)) l = at x is (subst (λ (y : List Seen). IsFirstNote (with_seen (length past) y (state_of c past)).notes place) is l)
+    by_read (inl empty) l = further (rest (subst (λ (x : List Seen). IsFirstNote (with_seen (length past) x (caller_state c past)).notes place) empty l))
+    by_read (inr (x, is)) l = at x is (subst (λ (y : List Seen). IsFirstNote (with_seen (length past) y (caller_state c past)).notes place) is l)
 
 first_step : (c : ClientNo) (past : List Entry) (e : Entry) (place : ℕ) → is_by c e ≡ true
     → (what : What) → e.what ≡ what
-    → (IsFirstNote (state_of c past).notes place → FirstCatalogAt c past place)
-    → IsFirstNote (state_after (length past) what (seen_at e) (state_of c past)).notes place
+    → (IsFirstNote (caller_state c past).notes place → FirstCatalogAt c past place)
+    → IsFirstNote (state_after (length past) what (seen_at e) (caller_state c past)).notes place
     → FirstCatalogAt c (e ∷ past) place
 first_step c past e place by (Begin number op) is rest l = absurd (none l.newer l.split)
   where
@@ -252,10 +252,10 @@ first_step c past e place by (Stopped request asked) is rest l = first_quiet c p
 first_step c past e place by (Restarted kept) is rest l = first_quiet c past e place by (ap (λ (w : What). since_begin_after w e (since_begin (client_entries c past))) is) rest (one_read e) l
 first_step c past e place by (Abandoned tid) is rest l = first_quiet c past e place by (ap (λ (w : What). since_begin_after w e (since_begin (client_entries c past))) is) rest (one_read e) l
 
-pub first_note : (c : ClientNo) (past : List Entry) (place : ℕ) → IsFirstNote (state_of c past).notes place → FirstCatalogAt c past place
+pub first_note : (c : ClientNo) (past : List Entry) (place : ℕ) → IsFirstNote (caller_state c past).notes place → FirstCatalogAt c past place
 first_note c [] place l = absurd (no_split l.newer l.note l.older l.split)
 first_note c (e ∷ past) place l =
-    elim (is_by c e) as (λ b. is_by c e ≡ b → IsFirstNote (if b then state_after (length past) e.what (seen_at e) (state_of c past) else state_of c past).notes place → FirstCatalogAt c (e ∷ past) place) [
+    elim (is_by c e) as (λ b. is_by c e ≡ b → IsFirstNote (if b then state_after (length past) e.what (seen_at e) (caller_state c past) else caller_state c past).notes place → FirstCatalogAt c (e ∷ past) place) [
       | true ↦ λ by l. first_step c past e place by e.what refl (first_note c past place) l
       | false ↦ λ by l.
           let r = first_note c past place l in
@@ -273,7 +273,7 @@ first_note c (e ∷ past) place l =
 
 -- Where a reply that no plan gives has its place
 
-pub noted_place : (c : ClientNo) (past : List Entry) (op : Op) (reply : Reply) (place : ℕ) → IsNotedPlace (state_of c past).notes op reply place → ReadPlace c past op reply place
+pub noted_place : (c : ClientNo) (past : List Entry) (op : Op) (reply : Reply) (place : ℕ) → IsNotedPlace (caller_state c past).notes op reply place → ReadPlace c past op reply place
 noted_place c past (Scan version low high limit) (Say.Pairs pairs) place at = first_note c past place at
 noted_place c past (Scan version low high limit) (Say.Values found) place at = last_note c (Scan version low high limit) (Say.Values found) past place at
 noted_place c past (Scan version low high limit) (Say.Unmet step found) place at = last_note c (Scan version low high limit) (Say.Unmet step found) past place at

@@ -8,11 +8,11 @@ use Rattle.mn_base.proofs.Booleans.{both_parts, clash}
 use Rattle.mn_page.proofs.FrontFields.{is_at}
 use Rattle.mn_world.specs.Places.{Place, page_place}
 use Rattle.mn_world.specs.Shown.{Seen, IsCatalogRead}
-use Rattle.mn_hist.specs.Shown.{Decides, is_of_catalog}
+use Rattle.mn_hist.specs.Shown.{TestDecides, is_of_catalog}
 
-decides_eq : (x y : ℕ) (T : Type 0) → (x ≡ y → T) → (T → x ≡ y) → Decides (nat_eq x y) T
+decides_eq : (x y : ℕ) (T : Type 0) → (x ≡ y → T) → (T → x ≡ y) → TestDecides (nat_eq x y) T
 decides_eq x y T to from =
-    elim (nat_eq x y) as (λ b. nat_eq x y ≡ b → Decides b T) [
+    elim (nat_eq x y) as (λ b. nat_eq x y ≡ b → TestDecides b T) [
       | true ↦ λ e. to (is_at x y e)
       | false ↦ λ e t. clash (nat_eq x y) (eq-eqb x y (from t)) e
     ] refl
@@ -26,7 +26,7 @@ there start slot le e = omega arith
 rest_of : (start slot : ℕ) → 20480 + 1024 * slot ≡ start → start - 20480 ≡ 1024 * slot
 rest_of start slot e = omega arith
 
-pub slot_test : (start : ℕ) → 20480 ≤ start → Decides (nat_eq (1024 * ((start - 20480) / 1024)) (start - 20480)) ((slot : ℕ) × (20480 + 1024 * slot ≡ start))
+pub slot_test : (start : ℕ) → 20480 ≤ start → TestDecides (nat_eq (1024 * ((start - 20480) / 1024)) (start - 20480)) ((slot : ℕ) × (20480 + 1024 * slot ≡ start))
 slot_test start le =
     decides_eq (1024 * ((start - 20480) / 1024)) (start - 20480) ((slot : ℕ) × (20480 + 1024 * slot ≡ start))
     (λ e. ((start - 20480) / 1024, there start ((start - 20480) / 1024) le e))
@@ -34,8 +34,8 @@ slot_test start le =
     ap (λ n. 1024 * (n / 1024)) r ∙ (ap (λ n. 1024 * n) (mul-div_cancel_left s.0 {n = 1024} (omega arith)) ∙ sym r))
 
 -- the range of a page
-pub page_test : (node : NodeNo) (start long : ℕ) → long ≡ 1024 → (b : Bool) → Decides b ((slot : ℕ) × (20480 + 1024 * slot ≡ start))
-    → Decides b ((addr : Addr) × (◌≡◌ {A = Place} (record { node = node; start = start; length = long }) (page_place addr)))
+pub page_test : (node : NodeNo) (start long : ℕ) → long ≡ 1024 → (b : Bool) → TestDecides b ((slot : ℕ) × (20480 + 1024 * slot ≡ start))
+    → TestDecides b ((addr : Addr) × (◌≡◌ {A = Place} (record { node = node; start = start; length = long }) (page_place addr)))
 page_test node start long is true (slot, e) = (record { node = node; slot = slot }, λ i. record { node = node; start = sym e i; length = is i })
 page_test node start long is false none = λ at. none (at.0.slot, ap (λ (p : Place). p.start) (sym at.1))
 

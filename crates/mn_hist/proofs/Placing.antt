@@ -36,17 +36,17 @@ put_last_list (m ∷ ls) l slots = ap (λ (s : List (Option Entry)). put_list m 
 -- What the slots hold
 
 -- each slot that is filled has the entry of its line
-abbrev pub Under : List (Line Entry) → List (Option Entry) → Type 0
-Under log [] = Unit {0}
-Under [] (s ∷ slots) = ⊥
-Under (x ∷ log) (None ∷ slots) = Under log slots
-Under (x ∷ log) (Some e ∷ slots) = (e ≡ x.entry) × Under log slots
+abbrev pub SlotsAreOfLog : List (Line Entry) → List (Option Entry) → Type 0
+SlotsAreOfLog log [] = Unit {0}
+SlotsAreOfLog [] (s ∷ slots) = ⊥
+SlotsAreOfLog (x ∷ log) (None ∷ slots) = SlotsAreOfLog log slots
+SlotsAreOfLog (x ∷ log) (Some e ∷ slots) = (e ≡ x.entry) × SlotsAreOfLog log slots
 
 -- the line of this place has this entry
 abbrev pub IsLineAt : List (Line Entry) → ℕ → Entry → Type 0
 IsLineAt log p e = (x : Line Entry) × (slice_get log p ≡ Some x) × (e ≡ x.entry)
 
-put_under : (log : List (Line Entry)) (p : ℕ) (e : Entry) (slots : List (Option Entry)) → IsLineAt log p e → Under log slots → Under log (put_at p e slots)
+put_under : (log : List (Line Entry)) (p : ℕ) (e : Entry) (slots : List (Option Entry)) → IsLineAt log p e → SlotsAreOfLog log slots → SlotsAreOfLog log (put_at p e slots)
 put_under [] p e slots is under = let no = is.1 in absurd (cc)
 put_under (x ∷ log) zero e [] is under = (is.2 ∙ ap (λ (y : Line Entry). y.entry) (sym (same_Some _ _ is.1)), under)
 put_under (x ∷ log) zero e (None ∷ slots) is under = (is.2 ∙ ap (λ (y : Line Entry). y.entry) (sym (same_Some _ _ is.1)), under)
@@ -60,7 +60,7 @@ abbrev pub AreLines : List (Line Entry) → List (ℕ × Entry) → Type 0
 AreLines log [] = Unit {0}
 AreLines log (x ∷ l) = IsLineAt log x.0 x.1 × AreLines log l
 
-list_under : (log : List (Line Entry)) (l : List (ℕ × Entry)) (slots : List (Option Entry)) → AreLines log l → Under log slots → Under log (put_list l slots)
+list_under : (log : List (Line Entry)) (l : List (ℕ × Entry)) (slots : List (Option Entry)) → AreLines log l → SlotsAreOfLog log slots → SlotsAreOfLog log (put_list l slots)
 list_under log [] slots are under = under
 list_under log (x ∷ l) slots are under = put_under log x.0 x.1 (put_list l slots) are.0 (list_under log l slots are.1 under)
 
@@ -68,7 +68,7 @@ abbrev pub AreListsOf : List (Line Entry) → List (List (ℕ × Entry)) → Typ
 AreListsOf log [] = Unit {0}
 AreListsOf log (l ∷ ls) = AreLines log l × AreListsOf log ls
 
-lists_under : (log : List (Line Entry)) (ls : List (List (ℕ × Entry))) (slots : List (Option Entry)) → AreListsOf log ls → Under log slots → Under log (put_lists ls slots)
+lists_under : (log : List (Line Entry)) (ls : List (List (ℕ × Entry))) (slots : List (Option Entry)) → AreListsOf log ls → SlotsAreOfLog log slots → SlotsAreOfLog log (put_lists ls slots)
 lists_under log [] slots are under = under
 lists_under log (l ∷ ls) slots are under = list_under log l (put_lists ls slots) are.0 (lists_under log ls slots are.1 under)
 
@@ -103,18 +103,18 @@ lists_keep q [] slots is = is
 lists_keep q (l ∷ ls) slots is = list_keeps q l (put_lists ls slots) (lists_keep q ls slots is)
 
 -- an entry of this place is in the list
-abbrev pub HasPlace : ℕ → List (ℕ × Entry) → Type 0
-HasPlace q [] = ⊥
-HasPlace q (x ∷ l) = (x.0 ≡ q) ⊎ HasPlace q l
+abbrev pub ListHasPlace : ℕ → List (ℕ × Entry) → Type 0
+ListHasPlace q [] = ⊥
+ListHasPlace q (x ∷ l) = (x.0 ≡ q) ⊎ ListHasPlace q l
 
-list_fills : (q : ℕ) (l : List (ℕ × Entry)) (slots : List (Option Entry)) → HasPlace q l → is_full q (put_list l slots) ≡ true
+list_fills : (q : ℕ) (l : List (ℕ × Entry)) (slots : List (Option Entry)) → ListHasPlace q l → is_full q (put_list l slots) ≡ true
 list_fills q [] slots has = absurd has
 list_fills q (x ∷ l) slots (inl is) = subst (λ (p : ℕ). is_full p (put_at x.0 x.1 (put_list l slots)) ≡ true) is (put_full x.0 x.1 (put_list l slots))
 list_fills q (x ∷ l) slots (inr has) = put_keeps q x.0 x.1 (put_list l slots) (list_fills q l slots has)
 
-lists_fill : (q : ℕ) (ls : List (List (ℕ × Entry))) (slots : List (Option Entry)) (i : ℕ) (l : List (ℕ × Entry)) → slice_get ls i ≡ Some l → HasPlace q l → is_full q (put_lists ls slots) ≡ true
+lists_fill : (q : ℕ) (ls : List (List (ℕ × Entry))) (slots : List (Option Entry)) (i : ℕ) (l : List (ℕ × Entry)) → slice_get ls i ≡ Some l → ListHasPlace q l → is_full q (put_lists ls slots) ≡ true
 lists_fill q [] slots i l is has = absurd (cc)
-lists_fill q (m ∷ ls) slots zero l is has = list_fills q m (put_lists ls slots) (subst (HasPlace q) (sym (same_Some _ _ is)) has)
+lists_fill q (m ∷ ls) slots zero l is has = list_fills q m (put_lists ls slots) (subst (ListHasPlace q) (sym (same_Some _ _ is)) has)
 lists_fill q (m ∷ ls) slots (suc i) l is has = list_keeps q m (put_lists ls slots) (lists_fill q ls slots i l is has)
 
 -- The lists of a log
@@ -138,11 +138,11 @@ entries_lines a front (x ∷ rest) =
     let are = subst (λ (t : List (Line Entry) × ℕ). AreLines t.0 (entries_from t.1 a rest)) (λ i. (append_next front rest x i, next i)) (entries_lines a (front ++ x ∷ []) rest) in
     with_line (stands_in a x) (front ++ x ∷ rest) (length front, x.entry) (entries_from (length front + 1) a rest) (x, get_middle front rest x, refl) are
 
-still_has : (b : Bool) (q : ℕ) (x : ℕ × Entry) (l : List (ℕ × Entry)) → HasPlace q l → HasPlace q (if b then x ∷ l else l)
+still_has : (b : Bool) (q : ℕ) (x : ℕ × Entry) (l : List (ℕ × Entry)) → ListHasPlace q l → ListHasPlace q (if b then x ∷ l else l)
 still_has true q x l has = inr has
 still_has false q x l has = has
 
-has_entry : (a : Actor) (k : ℕ) (log : List (Line Entry)) (i : ℕ) (x : Line Entry) → slice_get log i ≡ Some x → stands_in a x ≡ true → HasPlace (k + i) (entries_from k a log)
+has_entry : (a : Actor) (k : ℕ) (log : List (Line Entry)) (i : ℕ) (x : Line Entry) → slice_get log i ≡ Some x → stands_in a x ≡ true → ListHasPlace (k + i) (entries_from k a log)
 has_entry a k [] i x is stands = absurd (cc)
 has_entry a k (y ∷ log) zero x is stands =
     let here : stands_in a y ≡ true = ap (λ (z : Line Entry). stands_in a z) (same_Some _ _ is) ∙ stands in
@@ -150,7 +150,7 @@ has_entry a k (y ∷ log) zero x is stands =
     rw here (inl place)
 has_entry a k (y ∷ log) (suc i) x is stands =
     let place : k + 1 + i ≡ k + suc i = omega arith in
-    still_has (stands_in a y) (k + suc i) (k, y.entry) (entries_from (k + 1) a log) (subst (λ (q : ℕ). HasPlace q (entries_from (k + 1) a log)) place (has_entry a (k + 1) log i x is stands))
+    still_has (stands_in a y) (k + suc i) (k, y.entry) (entries_from (k + 1) a log) (subst (λ (q : ℕ). ListHasPlace q (entries_from (k + 1) a log)) place (has_entry a (k + 1) log i x is stands))
 
 lists_are : (log : List (Line Entry)) (ls : List (List (ℕ × Entry))) (actor : ℕ → Actor) → ((i : ℕ) → i < length ls → slice_get ls i ≡ Some (entries_from 0 (actor i) log)) → AreListsOf log ls
 lists_are log [] actor each = tt
@@ -159,7 +159,7 @@ lists_are log (l ∷ ls) actor each =
 
 -- All slots filled with the entries of the lines
 
-whole : (p : ℕ) (log : List (Line Entry)) (slots : List (Option Entry)) → Under log slots → ((q : ℕ) → q < length log → is_full q slots ≡ true) → filled_from p slots ≡ placed_from p log
+whole : (p : ℕ) (log : List (Line Entry)) (slots : List (Option Entry)) → SlotsAreOfLog log slots → ((q : ℕ) → q < length log → is_full q slots ≡ true) → filled_from p slots ≡ placed_from p log
 whole p [] [] under full = refl
 whole p [] (s ∷ slots) under full = absurd under
 whole p (x ∷ log) [] under full = let no = full 0 (omega arith) in absurd (cc)
@@ -181,16 +181,16 @@ module _ (nodes : List (List (ℕ × Entry))) (clients : List ClientState) (cloc
   client_lists : AreListsOf one.log (map (λ (l : ClientState). l.entries) clients)
   client_lists = lists_are one.log (map (λ (l : ClientState). l.entries) clients) (λ c. Client (record { 0 = c })) (λ c lt. one.lists (Client (record { 0 = c })) (omega (arith, lt, as_many clients)))
 
-  all_under : Under one.log (put_lists (map (λ (l : ClientState). l.entries) clients) (put_lists nodes []))
+  all_under : SlotsAreOfLog one.log (put_lists (map (λ (l : ClientState). l.entries) clients) (put_lists nodes []))
   all_under = lists_under one.log (map (λ (l : ClientState). l.entries) clients) (put_lists nodes []) client_lists (lists_under one.log nodes [] node_lists tt)
 
   full_by : (a : Actor) (q : ℕ) (x : Line Entry) → slice_get one.log q ≡ Some x → stands_in a x ≡ true → IsActor (length nodes) (length clients) a → is_full q (put_lists (map (λ (l : ClientState). l.entries) clients) (put_lists nodes [])) ≡ true
   full_by (Node n) q x is stands on = lists_keep q (map (λ (l : ClientState). l.entries) clients) (put_lists nodes [])
-      (lists_fill q nodes [] n.0 (entries_from 0 (Node n) one.log) (one.lists (Node n) on) (subst (λ (p : ℕ). HasPlace p (entries_from 0 (Node n) one.log)) (zero_more q) (has_entry (Node n) 0 one.log q x is stands)))
+      (lists_fill q nodes [] n.0 (entries_from 0 (Node n) one.log) (one.lists (Node n) on) (subst (λ (p : ℕ). ListHasPlace p (entries_from 0 (Node n) one.log)) (zero_more q) (has_entry (Node n) 0 one.log q x is stands)))
     where
       zero_more : (q : ℕ) → 0 + q ≡ q
       zero_more q = omega arith
-  full_by (Client c) q x is stands on = lists_fill q (map (λ (l : ClientState). l.entries) clients) (put_lists nodes []) c.0 (entries_from 0 (Client c) one.log) (one.lists (Client c) on) (subst (λ (p : ℕ). HasPlace p (entries_from 0 (Client c) one.log)) (zero_more q) (has_entry (Client c) 0 one.log q x is stands))
+  full_by (Client c) q x is stands on = lists_fill q (map (λ (l : ClientState). l.entries) clients) (put_lists nodes []) c.0 (entries_from 0 (Client c) one.log) (one.lists (Client c) on) (subst (λ (p : ℕ). ListHasPlace p (entries_from 0 (Client c) one.log)) (zero_more q) (has_entry (Client c) 0 one.log q x is stands))
     where
       zero_more : (q : ℕ) → 0 + q ≡ q
       zero_more q = omega arith

@@ -14,7 +14,7 @@ use Rattle.mn_world.specs.declared.entry.Entry.{Entry}
 use Rattle.mn_world.specs.Calls.{Begun, client_entries, under_way}
 use Rattle.mn_world.specs.History.{Placed, placed_in, has_past, AnswerPuts}
 use Rattle.mn_hist.specs.declared.history.OpKey.{OpKey}
-use Rattle.mn_hist.specs.History.{Act, act_at, acts_from, state_of, IsNotedPlace, IsPutInto, StandsInSet, Fills, Puts, stands}
+use Rattle.mn_hist.specs.History.{Act, placed_act, acts_from, caller_state, IsNotedPlace, IsPutInto, StandsInSet, SlotsHoldHistory, AnswerIsInHistory, stands}
 use Rattle.mn_hist.proofs.Noted.{begun_is, noted_place}
 use Rattle.mn_hist.proofs.Planning.{or_swap}
 
@@ -51,19 +51,19 @@ put_act k (suc p) a (Some b ∷ slots) is =
     further : (k p : ℕ) → k + 1 + p ≡ k + suc p
     further k p = omega arith
 
-acts_in : (p : Placed) (placed : List Placed) → map act_at (placed_in p placed) ≡ insert_act (act_at p) (map act_at placed)
+acts_in : (p : Placed) (placed : List Placed) → map placed_act (placed_in p placed) ≡ insert_act (placed_act p) (map placed_act placed)
 acts_in p [] = refl
 acts_in p (q ∷ qs) = by (nat_lt p.place q.place) (acts_in p qs)
   where
-    by : (b : Bool) → map act_at (placed_in p qs) ≡ insert_act (act_at p) (map act_at qs) → map act_at (if b then p ∷ q ∷ qs else q ∷ placed_in p qs) ≡ (if b then act_at p ∷ act_at q ∷ map act_at qs else act_at q ∷ insert_act (act_at p) (map act_at qs))
+    by : (b : Bool) → map placed_act (placed_in p qs) ≡ insert_act (placed_act p) (map placed_act qs) → map placed_act (if b then p ∷ q ∷ qs else q ∷ placed_in p qs) ≡ (if b then placed_act p ∷ placed_act q ∷ map placed_act qs else placed_act q ∷ insert_act (placed_act p) (map placed_act qs))
     by true rest = refl
-    by false rest = ap (λ l. act_at q ∷ l) rest
+    by false rest = ap (λ l. placed_act q ∷ l) rest
 
-pub filled_more : (slots new : List (Option Act)) (placed : List Placed) (p : Placed) (a : Act) → Fills slots placed → IsPutInto slots p.place a new → act_at p ≡ (p.place, a) → Fills new (placed_in p placed)
+pub filled_more : (slots new : List (Option Act)) (placed : List Placed) (p : Placed) (a : Act) → SlotsHoldHistory slots placed → IsPutInto slots p.place a new → placed_act p ≡ (p.place, a) → SlotsHoldHistory new (placed_in p placed)
 filled_more slots new placed p a fills put is =
     ap (acts_from 0) put.1
     ∙ (put_act 0 p.place a slots put.0 ∙ ap (λ n. insert_act (n, a) (acts_from 0 slots)) (from_zero p.place)
-    ∙ (ap (λ l. insert_act (p.place, a) l) fills ∙ (ap (λ x. insert_act x (map act_at placed)) (sym is) ∙ sym (acts_in p placed))))
+    ∙ (ap (λ l. insert_act (p.place, a) l) fills ∙ (ap (λ x. insert_act x (map placed_act placed)) (sym is) ∙ sym (acts_in p placed))))
   where
     from_zero : (n : ℕ) → 0 + n ≡ n
     from_zero n = omega arith
@@ -82,27 +82,27 @@ past_more c n p (q ∷ qs) = by (nat_lt p.place q.place) (past_more c n p qs)
 -- An answer
 
 -- that puts nothing there
-pub puts_none : {S : Type 0} (past : List Entry) (c : ClientNo) (answer : Answer) (placed : List Placed) (standing : HashSet OpKey S) (slots : List (Option Act)) → AnswerPuts past c (under_way (client_entries c past)) answer placed placed → StandsInSet standing placed → Fills slots placed → Puts past c answer placed standing slots slots
+pub puts_none : {S : Type 0} (past : List Entry) (c : ClientNo) (answer : Answer) (placed : List Placed) (standing : HashSet OpKey S) (slots : List (Option Act)) → AnswerPuts past c (under_way (client_entries c past)) answer placed placed → StandsInSet standing placed → SlotsHoldHistory slots placed → AnswerIsInHistory past c answer placed standing slots slots
 puts_none past c answer placed standing slots puts st fills = record { next = placed; puts = puts; stands = st; fills = fills; long = refl }
 
 not_under_way : (past : List Entry) (c : ClientNo) (answer : Answer) (placed : List Placed) (o : Option Begun) → o ≡ None → AnswerPuts past c o answer placed placed
 not_under_way past c answer placed None e = refl
 not_under_way past c answer placed (Some b) e = absurd cc
 
-pub idle_puts : (past : List Entry) (c : ClientNo) (answer : Answer) (placed : List Placed) → (state_of c past).begun ≡ None → AnswerPuts past c (under_way (client_entries c past)) answer placed placed
+pub idle_puts : (past : List Entry) (c : ClientNo) (answer : Answer) (placed : List Placed) → (caller_state c past).begun ≡ None → AnswerPuts past c (under_way (client_entries c past)) answer placed placed
 idle_puts past c answer placed idle = not_under_way past c answer placed (under_way (client_entries c past)) (sym (begun_is c past) ∙ idle)
 
 standing_puts : (past : List Entry) (c : ClientNo) (begun : Begun) (reply : Reply) (placed : List Placed) (b : Bool) → has_past c begun.number placed ≡ b → b ≡ true → AnswerPuts past c (Some begun) (Replied reply) placed placed
 standing_puts past c begun reply placed b is true' = subst (λ t. MatchBool t (placed ≡ placed) ((place : ℕ) × Rattle.mn_world.specs.History.ReadPlace c past begun.op reply place × (placed ≡ placed_in (record { place = place; past = record { client = c; number = begun.number; op = begun.op; reply = reply } }) placed))) (sym (is ∙ true')) refl
 
-pub stands_already : (past : List Entry) (c : ClientNo) (begun : Begun) (reply : Reply) (placed : List Placed) → (state_of c past).begun ≡ Some begun → has_past c begun.number placed ≡ true → AnswerPuts past c (under_way (client_entries c past)) (Replied reply) placed placed
+pub stands_already : (past : List Entry) (c : ClientNo) (begun : Begun) (reply : Reply) (placed : List Placed) → (caller_state c past).begun ≡ Some begun → has_past c begun.number placed ≡ true → AnswerPuts past c (under_way (client_entries c past)) (Replied reply) placed placed
 stands_already past c begun reply placed is has = subst (λ o. AnswerPuts past c o (Replied reply) placed placed) (sym is ∙ begun_is c past) (standing_puts past c begun reply placed (has_past c begun.number placed) refl has)
 
 pub puts_read : {S : Type 0} (past : List Entry) (c : ClientNo) (begun : Begun) (reply : Reply) (placed : List Placed) (old standing : HashSet OpKey S) (slots new : List (Option Act)) (place : ℕ)
-    → (state_of c past).begun ≡ Some begun → has_past c begun.number placed ≡ false → IsNotedPlace (state_of c past).notes begun.op reply place
-    → StandsInSet old placed → Fills slots placed → IsPutInto slots place (record { client = c; number = begun.number; op = begun.op }) new → length new ≡ length slots
+    → (caller_state c past).begun ≡ Some begun → has_past c begun.number placed ≡ false → IsNotedPlace (caller_state c past).notes begun.op reply place
+    → StandsInSet old placed → SlotsHoldHistory slots placed → IsPutInto slots place (record { client = c; number = begun.number; op = begun.op }) new → length new ≡ length slots
     → ((d : ClientNo) (n : ℕ) → stands standing d n ≡ ((client_same c d && nat_eq begun.number n) || stands old d n))
-    → Puts past c (Replied reply) placed standing slots new
+    → AnswerIsInHistory past c (Replied reply) placed standing slots new
 puts_read past c begun reply placed old standing slots new place is none at st fills put long more =
     let p : Placed = record { place = place; past = record { client = c; number = begun.number; op = begun.op; reply = reply } } in
     record {

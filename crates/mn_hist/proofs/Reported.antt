@@ -28,7 +28,7 @@ use Rattle.mn_world.specs.History.{Placed, pasts_of, has_past}
 use Rattle.mn_world.specs.Protocol.{Start}
 use Rattle.mn_world.specs.Meaning.{OpenedRun, StandsAt, AnswersOp}
 use Rattle.mn_world.proofs.Reading.Same.{client_same-true}
-use Rattle.mn_hist.specs.Audit.{answer_line, answers_from, doubts_from, numbers_of, ranked_as, report_of, said_after, said_by, said_in, versions_told}
+use Rattle.mn_hist.specs.Audit.{answer_line_at, answers_from, doubts_from, op_numbers, ranked_as, report_of, said_after, said_by, said_in, versions_told}
 use Rattle.mn_hist.specs.Points.{points_met}
 use Rattle.mn_hist.proofs.Moved.{moved_is_move}
 
@@ -49,8 +49,8 @@ answer_tells start store past place e c number Gives.NoMemory h stands answers =
 -- What is said of an operation
 
 -- each answer that these entries give can be told
-abbrev AllTell : List Entry → Type 0
-AllTell es = AllByRecursion (λ e. (number : ℕ) (answer : Answer) → e.what ≡ Answered number answer → CanTell answer) es
+abbrev AnswersCanBeTold : List Entry → Type 0
+AnswersCanBeTold es = AllByRecursion (λ e. (number : ℕ) (answer : Answer) → e.what ≡ Answered number answer → CanTell answer) es
 
 after_tells : (number : ℕ) (what : What) (before : LineAnswer) → ((n : ℕ) (answer : Answer) → what ≡ Answered n answer → CanTell answer) → CanTellLine before → CanTellLine (said_after number what before)
 after_tells number (Begin n op) before answers can = elim (nat_eq n number) as (λ b. CanTellLine (if b then Died else before)) [ true ↦ tt | false ↦ can ]
@@ -62,7 +62,7 @@ after_tells number (Stopped request asked) before answers can = can
 after_tells number (Restarted kept) before answers can = can
 after_tells number (Abandoned tid) before answers can = can
 
-said_tells : (number : ℕ) (es : List Entry) → AllTell es → CanTellLine (said_in number es)
+said_tells : (number : ℕ) (es : List Entry) → AnswersCanBeTold es → CanTellLine (said_in number es)
 said_tells number [] all = tt
 said_tells number (e ∷ es) all = after_tells number e.what (said_in number es) all.0 (said_tells number es all.1)
 
@@ -70,11 +70,11 @@ by_client : (c : ClientNo) (o : Option ClientNo) → option_map_or (client_same 
 by_client c None by = absurd cc
 by_client c (Some d) by = ap Some (sym (client_same-true c d by))
 
-own_tell : (start : Start) (store : Store) (whole : List Entry) (c : ClientNo) (later past : List Entry) → OpenedRun start store whole → whole ≡ later ++ past → AllTell (client_entries c past)
+own_tell : (start : Start) (store : Store) (whole : List Entry) (c : ClientNo) (later past : List Entry) → OpenedRun start store whole → whole ≡ later ++ past → AnswersCanBeTold (client_entries c past)
 own_tell start store whole c later [] h split = tt
 own_tell start store whole c later (e ∷ past) h split =
     let rest = own_tell start store whole c (later ++ e ∷ []) past h (split ∙ sym (append_assoc later (e ∷ []) past)) in
-    elim (is_by c e) as (λ b. is_by c e ≡ b → AllTell (if b then e ∷ client_entries c past else client_entries c past)) [
+    elim (is_by c e) as (λ b. is_by c e ≡ b → AnswersCanBeTold (if b then e ∷ client_entries c past else client_entries c past)) [
       | true ↦ λ by. (λ number answer is. answer_tells start store whole (length past) e c number answer h (later, past, split, refl) (by_client c e.client by, is), rest)
       | false ↦ λ other. rest
     ] refl
@@ -87,9 +87,9 @@ all_tell start store past h c number = said_tells number (client_entries c past)
 pub lines_tell : (said : ClientNo → ℕ → LineAnswer) → ((c : ClientNo) (number : ℕ) → CanTellLine (said c number)) → (k : ℕ) (clients : List ScriptClient) → AllByRecursion (λ (a : AnswerLine). CanTellLine a.answer) (answers_from said k clients)
 lines_tell said can k [] = tt
 lines_tell said can k (client ∷ clients) =
-    all_append (λ (a : AnswerLine). CanTellLine a.answer) (map (answer_line said (record { 0 = k }) client) (numbers_of client)) (answers_from said (k + 1) clients) (lines (numbers_of client)) (lines_tell said can (k + 1) clients)
+    all_append (λ (a : AnswerLine). CanTellLine a.answer) (map (answer_line_at said (record { 0 = k }) client) (op_numbers client)) (answers_from said (k + 1) clients) (lines (op_numbers client)) (lines_tell said can (k + 1) clients)
   where
-    lines : (ns : List ℕ) → AllByRecursion (λ (a : AnswerLine). CanTellLine a.answer) (map (answer_line said (record { 0 = k }) client) ns)
+    lines : (ns : List ℕ) → AllByRecursion (λ (a : AnswerLine). CanTellLine a.answer) (map (answer_line_at said (record { 0 = k }) client) ns)
     lines [] = tt
     lines (n ∷ ns) = (can (record { 0 = k }) n, lines ns)
 

@@ -19,8 +19,8 @@ use Rattle.mn_script.specs.declared.elements.Point.{Point}
 use Rattle.mn_hist.specs.declared.points.Step.{Step}
 use Rattle.mn_hist.specs.declared.points.TryKey.{TryKey}
 use Rattle.mn_hist.specs.declared.points.Watch.{Watch}
-use Rattle.mn_hist.specs.Points.{is_vote_for, points_met, voted_id, votes_for, votes_with, with_met, fits}
-use Rattle.mn_hist.specs.Watching.{AreNumbers, CountsVotes, Watches, number_after, number_of, step_fits, votes_kept}
+use Rattle.mn_hist.specs.Points.{is_vote_for, points_met, voted_id, votes_for, votes_with, with_met, point_fits}
+use Rattle.mn_hist.specs.Watching.{AreNumbersUnderWay, CountsVotes, TellsPointsMet, number_after, number_of, step_fits, votes_kept}
 use Rattle.mn_hist.proofs.Flags.{of_no_client, with_none, with_same}
 
 -- Lists of a client
@@ -62,14 +62,14 @@ set_one xs f g c new few are here beside d few' =
           ∙ (are d few' ∙ ap Some (beside d other))
     ] refl
 
-pub numbers_more : (numbers : List (Option ℕ)) (past : List Entry) (e : Entry) (c : ClientNo) (n : Option ℕ) → c.0 < 256 → e.client ≡ Some c → AreNumbers numbers past
-    → n ≡ number_of (client_entries c past) → AreNumbers (slice_set numbers c.0 (number_after e.what n)) (e ∷ past)
+pub numbers_more : (numbers : List (Option ℕ)) (past : List Entry) (e : Entry) (c : ClientNo) (n : Option ℕ) → c.0 < 256 → e.client ≡ Some c → AreNumbersUnderWay numbers past
+    → n ≡ number_of (client_entries c past) → AreNumbersUnderWay (slice_set numbers c.0 (number_after e.what n)) (e ∷ past)
 numbers_more numbers past e c n few is are same =
     set_one numbers (λ d. number_of (client_entries d past)) (λ d. number_of (client_entries d (e ∷ past))) c (number_after e.what n) few are
     (ap (number_after e.what) same ∙ (sym (number_step e.what (under_way (client_entries c past))) ∙ sym (ap number_of (entries_with e past c (by_it e c is)))))
     (λ d other. sym (ap number_of (entries_without e past d (by_another e c d is other))))
 
-pub numbers_kept : (numbers : List (Option ℕ)) (past : List Entry) (e : Entry) → e.client ≡ None → AreNumbers numbers past → AreNumbers numbers (e ∷ past)
+pub numbers_kept : (numbers : List (Option ℕ)) (past : List Entry) (e : Entry) → e.client ≡ None → AreNumbersUnderWay numbers past → AreNumbersUnderWay numbers (e ∷ past)
 numbers_kept numbers past e none are = λ d few. are d few ∙ ap Some (sym (ap number_of (entries_without e past d (by_none e d none))))
 
 -- a list of one thing has it everywhere
@@ -143,17 +143,17 @@ votes_same votes past e none counts = λ d t. counts d t ∙ sym (ap (votes_for 
 -- All of it
 
 pub watched_more : (old new : Watch) (points : List Point) (past : List Entry) (e : Entry) (c : ClientNo) (s : Step) → e.client ≡ Some c
-    → ((p : Point) → step_fits s p ≡ fits past e p) → new.met.items ≡ with_met (step_fits s) points old.met.items
-    → AreNumbers new.numbers.items (e ∷ past) → CountsVotes new.votes (e ∷ past) → Watches old points past → Watches new points (e ∷ past)
+    → ((p : Point) → step_fits s p ≡ point_fits past e p) → new.met.items ≡ with_met (step_fits s) points old.met.items
+    → AreNumbersUnderWay new.numbers.items (e ∷ past) → CountsVotes new.votes (e ∷ past) → TellsPointsMet old points past → TellsPointsMet new points (e ∷ past)
 watched_more old new points past e c s is step met numbers votes watches = record {
-  met = met ∙ (ap (with_met (step_fits s) points) watches.met ∙ with_same (step_fits s) (fits past e) step points (points_met points past));
+  met = met ∙ (ap (with_met (step_fits s) points) watches.met ∙ with_same (step_fits s) (point_fits past e) step points (points_met points past));
   numbers = numbers;
   votes = votes;
 }
 
-pub watched_none : (watch : Watch) (points : List Point) (past : List Entry) (e : Entry) → e.client ≡ None → Watches watch points past → Watches watch points (e ∷ past)
+pub watched_none : (watch : Watch) (points : List Point) (past : List Entry) (e : Entry) → e.client ≡ None → TellsPointsMet watch points past → TellsPointsMet watch points (e ∷ past)
 watched_none watch points past e none watches = record {
-  met = watches.met ∙ sym (with_none (fits past e) (of_no_client past e none) points (points_met points past));
+  met = watches.met ∙ sym (with_none (point_fits past e) (of_no_client past e none) points (points_met points past));
   numbers = numbers_kept watch.numbers.items past e none watches.numbers;
   votes = votes_same watch.votes past e none watches.votes;
 }

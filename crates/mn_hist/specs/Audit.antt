@@ -49,41 +49,42 @@ abbrev pub said_by : List Entry → ClientNo → ℕ → LineAnswer
 said_by past c number = said_in number (client_entries c past)
 
 -- the numbers of a client's operations
-abbrev pub numbers_of : ScriptClient → List ℕ
-numbers_of client = range_with_len 1 (length client.ops)
+abbrev pub op_numbers : ScriptClient → List ℕ
+op_numbers client = range_with_len 1 (length client.ops)
 
-abbrev pub answer_line : (ClientNo → ℕ → LineAnswer) → ClientNo → ScriptClient → ℕ → AnswerLine
-answer_line said c client number =
+abbrev pub answer_line_at : (ClientNo → ℕ → LineAnswer) → ClientNo → ScriptClient → ℕ → AnswerLine
+answer_line_at said c client number =
     record { client = client.name; number = number; answer = said c number }
 
 -- the lines of the clients from this number on, each with its operations in order
 abbrev pub answers_from : (ClientNo → ℕ → LineAnswer) → ℕ → List ScriptClient → List AnswerLine
 answers_from said k [] = []
 answers_from said k (client ∷ clients) =
-    map (answer_line said (record { 0 = k }) client) (numbers_of client)
+    map (answer_line_at said (record { 0 = k }) client) (op_numbers client)
     ++ answers_from said (k + 1) clients
 
 -- The history
 
-abbrev pub name_of : List ScriptClient → ClientNo → List ℕ
-name_of clients c = option_map_or (λ client. client.name) (slice_get clients c.0) []
+abbrev pub client_name : List ScriptClient → ClientNo → List ℕ
+client_name clients c = option_map_or (λ client. client.name) (slice_get clients c.0) []
 
 abbrev pub ranked_as : List ScriptClient → Past → Ranked
-ranked_as clients p = record { client = name_of clients p.client; number = p.number }
+ranked_as clients p = record { client = client_name clients p.client; number = p.number }
 
 -- Doubts
 
 -- its client didn't learn whether the operation took effect
-abbrev pub is_doubtful : LineAnswer → Bool
-is_doubtful (Told (InDoubt tid n)) = true
-is_doubtful (Told answer) = false
-is_doubtful Died = true
-is_doubtful Never = false
+abbrev pub is_said_in_doubt : LineAnswer → Bool
+is_said_in_doubt (Told (InDoubt tid n)) = true
+is_said_in_doubt (Told answer) = false
+is_said_in_doubt Died = true
+is_said_in_doubt Never = false
 
 -- the line of an operation, if it is in doubt
 abbrev pub doubt_lines : LineAnswer → List ℕ → ℕ → Bool → List DoubtLine
 doubt_lines said name number committed =
-    if is_doubtful said then record { client = name; number = number; committed = committed } ∷ []
+    if is_said_in_doubt said then record { client = name; number = number; committed = committed }
+    ∷ []
     else []
 
 abbrev pub doubt_at : (ClientNo → ℕ → LineAnswer) → (ClientNo → ℕ → Bool) → ClientNo
@@ -96,7 +97,7 @@ abbrev pub doubts_from : (ClientNo → ℕ → LineAnswer) → (ClientNo → ℕ
     → List ScriptClient → List DoubtLine
 doubts_from said committed k [] = []
 doubts_from said committed k (client ∷ clients) =
-    flat_map (doubt_at said committed (record { 0 = k }) client) (numbers_of client)
+    flat_map (doubt_at said committed (record { 0 = k }) client) (op_numbers client)
     ++ doubts_from said committed (k + 1) clients
 
 -- Versions

@@ -10,7 +10,7 @@ use Rattle.mn_hist.specs.declared.history.Ending.{Ending}
 use Rattle.mn_hist.specs.History.{StandsInSet}
 
 -- it is told by the history of these entries, from this store on
-pub record EndsIn (ending : Ending) (from : Start) (store : Store) (past : List Entry)
+pub record IsEndingOf (ending : Ending) (from : Start) (store : Store) (past : List Entry)
     (placed : List Placed) : Type 0 where
   pub is : IsHistory past placed
   pub one : IsOneHistory from store past placed

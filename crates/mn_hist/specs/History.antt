@@ -74,11 +74,11 @@ state_after place (Answered number answer) seens s = record {
 }
 state_after place what seens s = with_seen place seens s
 
-abbrev pub state_of : ClientNo → List Entry → CallerState
-state_of c [] = idle
-state_of c (e ∷ past) =
-    if is_by c e then state_after (length past) e.what (seen_at e) (state_of c past)
-    else state_of c past
+abbrev pub caller_state : ClientNo → List Entry → CallerState
+caller_state c [] = idle
+caller_state c (e ∷ past) =
+    if is_by c e then state_after (length past) e.what (seen_at e) (caller_state c past)
+    else caller_state c past
 
 -- the place is that of the last of these reads that shows the reply
 pub record IsLastNote (notes : List Note) (op : Op) (reply : Reply) (place : ℕ) : Type 0 where
@@ -144,8 +144,8 @@ acts_from k [] = []
 acts_from k (None ∷ slots) = acts_from (k + 1) slots
 acts_from k (Some a ∷ slots) = (k, a) ∷ acts_from (k + 1) slots
 
-abbrev pub act_at : Placed → ℕ × Act
-act_at p = (p.place, act_of p.past)
+abbrev pub placed_act : Placed → ℕ × Act
+placed_act p = (p.place, act_of p.past)
 
 -- Keeping
 
@@ -179,25 +179,25 @@ StandsInSet standing placed =
     (c : ClientNo) (number : ℕ) → stands standing c number ≡ has_past c number placed
 
 -- the slots hold them
-abbrev pub Fills : List (Option Act) → List Placed → Type 0
-Fills slots placed = acts_from 0 slots ≡ map act_at placed
+abbrev pub SlotsHoldHistory : List (Option Act) → List Placed → Type 0
+SlotsHoldHistory slots placed = acts_from 0 slots ≡ map placed_act placed
 
 -- what the answer to a client's operation puts into the history stands there
-pub record Puts {S : Type 0} (past : List Entry) (c : ClientNo) (answer : Answer)
+pub record AnswerIsInHistory {S : Type 0} (past : List Entry) (c : ClientNo) (answer : Answer)
     (placed : List Placed) (standing : HashSet OpKey S) (old new : List (Option Act)) : Type 0 where
   pub next : List Placed
   pub puts : AnswerPuts past c (under_way (client_entries c past)) answer placed next
   pub stands : StandsInSet standing next
-  pub fills : Fills new next
+  pub fills : SlotsHoldHistory new next
   pub long : length new ≡ length old
 
 -- what is kept of plans is who issued the last plan of each id
-abbrev pub Knows : {S : Type 0} → HashMap IdKey Planner S → List Entry → Type 0
-Knows plans past = (tid : Tid) → planner_kept plans tid ≡ planner_of tid past
+abbrev pub KnowsPlanners : {S : Type 0} → HashMap IdKey Planner S → List Entry → Type 0
+KnowsPlanners plans past = (tid : Tid) → planner_kept plans tid ≡ planner_of tid past
 
 -- it was issued under its id
-abbrev pub Named : List Entry → CommittedMini → Type 0
-Named past m = issue_named m.tid (issues_of past) ≡ Some m.mini.now
+abbrev pub IsIssuedUnderId : List Entry → CommittedMini → Type 0
+IsIssuedUnderId past m = issue_named m.tid (issues_of past) ≡ Some m.mini.now
 
 -- the history with the operation of a commit at its end
 abbrev pub placed_last : ℕ → Option Act → Reply → List Placed → List Placed
@@ -209,7 +209,8 @@ placed_last place (Some a) reply placed =
     } ∷ []
 
 -- what a committed minitransaction puts into the history stands there
-pub record Commits {S : Type 0} (past : List Entry) (m : CommittedMini) (placed : List Placed)
+pub record CommitIsInHistory {S : Type 0} (past : List Entry) (m : CommittedMini)
+    (placed : List Placed)
     (standing : HashSet OpKey S) (found : Option Act) : Type 0 where
   pub reply : Reply
   pub puts : (e : Entry) → EntryPuts past e (Some (issued_of m)) placed
@@ -217,20 +218,20 @@ pub record Commits {S : Type 0} (past : List Entry) (m : CommittedMini) (placed 
   pub stands : StandsInSet standing (placed_last (length past) found reply placed)
 
 -- of each client it is told what the entries so far tell of it
-abbrev pub AreCallers : List CallerState → List Entry → Type 0
-AreCallers callers past =
-    (c : ClientNo) → c.0 < 256 → slice_get callers c.0 ≡ Some (state_of c past)
+abbrev pub AreCallerStates : List CallerState → List Entry → Type 0
+AreCallerStates callers past =
+    (c : ClientNo) → c.0 < 256 → slice_get callers c.0 ≡ Some (caller_state c past)
 
 -- The history so far
 
 -- what an entry that commits this puts into the history stands there, with its own place last
-pub record TakesEntry {S : Type 0} (past : List Entry) (e : Entry) (committed : Option Issued)
+pub record EntryIsInHistory {S : Type 0} (past : List Entry) (e : Entry) (committed : Option Issued)
     (placed : List Placed) (standing : HashSet OpKey S) (old new : List (Option Act))
     (found : Option Act) : Type 0 where
   pub next : List Placed
   pub puts : EntryPuts past e committed placed next
   pub stands : StandsInSet standing next
-  pub fills : length old ≡ length past → Fills (new ++ found ∷ []) next
+  pub fills : length old ≡ length past → SlotsHoldHistory (new ++ found ∷ []) next
   pub long : length new ≡ length old
 
 -- Replies

@@ -9,14 +9,15 @@ use Rattle.mn_world.specs.Lists.{ClientState}
 use Rattle.mn_cell.specs.Calls.{IsLegalLine}
 
 -- the list of an actor, if there is such an actor
-abbrev pub list_of : List (List (ℕ × Entry)) → List ClientState → Actor → Option (List (ℕ × Entry))
-list_of nodes clients (Node n) = slice_get nodes n.0
-list_of nodes clients (Client c) = slice_get (map (λ l. l.entries) clients) c.0
+abbrev pub actor_list : List (List (ℕ × Entry)) → List ClientState → Actor
+    → Option (List (ℕ × Entry))
+actor_list nodes clients (Node n) = slice_get nodes n.0
+actor_list nodes clients (Client c) = slice_get (map (λ l. l.entries) clients) c.0
 
 -- the lists are one log of so many lines, each legal when it was added
 abbrev pub AreOneLog : List (List (ℕ × Entry)) → List ClientState → ℕ → Type 0
 AreOneLog nodes clients clock =
-    IsOneLog IsLegalLine (length nodes) (length clients) (list_of nodes clients) clock
+    IsOneLog IsLegalLine (length nodes) (length clients) (actor_list nodes clients) clock
 
 -- How it is put together: each entry into the slot of its place
 

@@ -64,14 +64,15 @@ client_of (Stop node client number at) = client
 
 -- the point fits a step of its client, which had this list before: in its operation the client has
 -- so many yes votes for one id, or the node stopped as the point says
-abbrev pub fits_after : List Entry → Entry → Point → Bool
-fits_after es e (Kill client number votes) =
+abbrev pub point_fits_after : List Entry → Entry → Point → Bool
+point_fits_after es e (Kill client number votes) =
     is_in number es && option_map_or (nat_eq votes) (votes_with es e.what) false
-fits_after es e (Stop node client number at) =
+point_fits_after es e (Stop node client number at) =
     is_in number es && (is_at node e && option_map_or (stops_same at) (asked_in e.what) false)
 
-abbrev pub fits : List Entry → Entry → Point → Bool
-fits past e p = is_by (client_of p) e && fits_after (client_entries (client_of p) past) e p
+abbrev pub point_fits : List Entry → Entry → Point → Bool
+point_fits past e p =
+    is_by (client_of p) e && point_fits_after (client_entries (client_of p) past) e p
 
 -- Which points were met
 
@@ -86,4 +87,4 @@ with_met fit (p ∷ ps) (false ∷ flags) =
 -- whether each point was met, in order of number
 abbrev pub points_met : List Point → List Entry → List Bool
 points_met points [] = map (λ p. false) points
-points_met points (e ∷ past) = with_met (fits past e) points (points_met points past)
+points_met points (e ∷ past) = with_met (point_fits past e) points (points_met points past)

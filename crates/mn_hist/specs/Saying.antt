@@ -21,5 +21,6 @@ abbrev pub said_kept : {S : Type 0} → HashMap OpKey LineAnswer S → ClientNo 
 said_kept said c number = unwrap_or (get ops_same said (op_key c number)) Never
 
 -- it is what these entries say
-abbrev pub Says : {S : Type 0} → HashMap OpKey LineAnswer S → List Entry → Type 0
-Says said past = (c : ClientNo) (number : ℕ) → said_kept said c number ≡ said_by past c number
+abbrev pub TellsAnswers : {S : Type 0} → HashMap OpKey LineAnswer S → List Entry → Type 0
+TellsAnswers said past =
+    (c : ClientNo) (number : ℕ) → said_kept said c number ≡ said_by past c number

@@ -25,17 +25,17 @@ use Rattle.mn_world.specs.Shown.{Seen, seen_in, IsCatalogRead, CatalogReplies, R
 use Rattle.mn_hist.specs.declared.shown.Read.{Read}
 
 -- the read as a client's list shows it
-abbrev pub seen_of : Read → Seen
-seen_of r =
+abbrev pub as_seen : Read → Seen
+as_seen r =
     record {
       place = record { node = r.node; start = r.start; length = r.length };
       bytes = r.bytes.now;
     }
 
 -- a test decides a statement
-abbrev pub Decides : Bool → Type 0 → Type 0
-Decides true T = T
-Decides false T = T → ⊥
+abbrev pub TestDecides : Bool → Type 0 → Type 0
+TestDecides true T = T
+TestDecides false T = T → ⊥
 
 -- it is a read of the catalog's place
 abbrev pub is_of_catalog : Seen → Bool
@@ -65,8 +65,8 @@ TellsShown false catalog seen op reply = IsUnshown seen op reply
 -- Catalogs
 
 -- the bytes spell a catalog that shows the reply
-abbrev pub CatalogTells : List ℕ → Op → Reply → Type 0
-CatalogTells bytes op reply =
+abbrev pub CatalogBytesShow : List ℕ → Op → Reply → Type 0
+CatalogBytesShow bytes op reply =
     (entries : List CatEntry) × SpellsCatalog bytes entries
     × CatalogReplies (heads_in entries) op reply
 
@@ -90,24 +90,25 @@ abbrev pub leaf_value : Page → List ℕ → Option (Option (List ℕ))
 leaf_value page key = found_at (page_covers key page) page.body key
 
 -- the catalog that these bytes spell says that the page serves the version of this name
-abbrev pub ServesBy : List ℕ → List ℕ → Page → Type 0
-ServesBy bytes name page =
+abbrev pub CatalogServes : List ℕ → List ℕ → Page → Type 0
+CatalogServes bytes name page =
     (entries : List CatEntry) × SpellsCatalog bytes entries × (v : ℕ)
     × (number_named (heads_in entries) name ≡ Some v) × (page_serves entries v page ≡ true)
 
-abbrev pub IsServedBy : Option (List ℕ) → List ℕ → Page → Type 0
-IsServedBy None name page = ⊥
-IsServedBy (Some bytes) name page = ServesBy bytes name page
+abbrev pub IsServedByCatalog : Option (List ℕ) → List ℕ → Page → Type 0
+IsServedByCatalog None name page = ⊥
+IsServedByCatalog (Some bytes) name page = CatalogServes bytes name page
 
 -- the bytes spell a leaf that shows the reply to a lone Get of the key
-pub record LeafGives (bytes key : List ℕ) (reply : Reply) (page : Page) : Type 0 where
+pub record LeafBytesShow (bytes key : List ℕ) (reply : Reply) (page : Page) : Type 0 where
   pub spelled : SpellsPage bytes page
   pub value : Option (List ℕ)
   pub found : leaf_value page key ≡ Some value
   pub is : reply ≡ Say.Values (value ∷ [])
 
 -- whether they do, where a leaf that does serves the version of this name by the catalog
-abbrev pub LeafTells : Bool → Option (List ℕ) → List ℕ → List ℕ → List ℕ → Reply → Type 0
-LeafTells true catalog bytes name key reply =
-    (page : Page) × LeafGives bytes key reply page × IsServedBy catalog name page
-LeafTells false catalog bytes name key reply = (page : Page) → LeafGives bytes key reply page → ⊥
+abbrev pub TellsLeafBytesShow : Bool → Option (List ℕ) → List ℕ → List ℕ → List ℕ → Reply → Type 0
+TellsLeafBytesShow true catalog bytes name key reply =
+    (page : Page) × LeafBytesShow bytes key reply page × IsServedByCatalog catalog name page
+TellsLeafBytesShow false catalog bytes name key reply =
+    (page : Page) → LeafBytesShow bytes key reply page → ⊥

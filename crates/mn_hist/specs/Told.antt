@@ -4,20 +4,20 @@ use Rattle.mn_world.specs.declared.entry.Entry.{Entry}
 use Rattle.mn_world.specs.CommitReader.{HasRead}
 use Rattle.mn_world.specs.History.{Placed, IsHistory}
 use Rattle.mn_hist.specs.declared.history.HistoryReader.{HistoryReader}
-use Rattle.mn_hist.specs.History.{AreCallers, Knows, StandsInSet, Fills}
+use Rattle.mn_hist.specs.History.{AreCallerStates, KnowsPlanners, StandsInSet, SlotsHoldHistory}
 
 -- these entries are what the reader has read
-pub record IsReading (reader : HistoryReader) (past : List Entry) : Type 0 where
+pub record ReaderHasRead (reader : HistoryReader) (past : List Entry) : Type 0 where
   pub commits : HasRead reader.commits past
   pub long : length reader.callers.items ≡ 256
 
 -- and this is their history
-pub record HasTold (reader : HistoryReader) (past : List Entry) (placed : List Placed)
+pub record ReaderHasTold (reader : HistoryReader) (past : List Entry) (placed : List Placed)
     : Type 0 where
-  pub reading : IsReading reader past
-  pub callers : AreCallers reader.callers.items past
-  pub plans : Knows reader.plans past
+  pub reading : ReaderHasRead reader past
+  pub callers : AreCallerStates reader.callers.items past
+  pub plans : KnowsPlanners reader.plans past
   pub stands : StandsInSet reader.standing placed
-  pub fills : Fills reader.slots.items placed
+  pub fills : SlotsHoldHistory reader.slots.items placed
   pub places : length reader.slots.items ≡ length past
   pub history : IsHistory past placed

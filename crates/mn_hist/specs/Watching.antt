@@ -34,9 +34,9 @@ step_fits s (Stop node client number at) =
     && option_map_or (stops_same at) s.asked false))
 
 -- what the step makes of the flags: it meets the point at this place, or none
-abbrev pub Meets : (Point → Bool) → List Point → List Bool → Option ℕ → Type 0
-Meets fit points flags None = with_met fit points flags ≡ flags
-Meets fit points flags (Some at) =
+abbrev pub StepMeetsPoint : (Point → Bool) → List Point → List Bool → Option ℕ → Type 0
+StepMeetsPoint fit points flags None = with_met fit points flags ≡ flags
+StepMeetsPoint fit points flags (Some at) =
     (at < length flags) × (with_met fit points flags ≡ slice_set flags at true)
 
 -- the number of the operation under way
@@ -59,8 +59,8 @@ abbrev pub votes_kept : {S : Type 0} → HashMap TryKey ℕ S → ClientNo → T
 votes_kept votes c tid = unwrap_or (get tries_same votes (try_key c tid)) 0
 
 -- of each client the number of its operation under way
-abbrev pub AreNumbers : List (Option ℕ) → List Entry → Type 0
-AreNumbers numbers past = (c : ClientNo) → c.0 < 256
+abbrev pub AreNumbersUnderWay : List (Option ℕ) → List Entry → Type 0
+AreNumbersUnderWay numbers past = (c : ClientNo) → c.0 < 256
     → slice_get numbers c.0 ≡ Some (number_of (client_entries c past))
 
 -- its yes votes for each id
@@ -69,12 +69,12 @@ CountsVotes votes past = (c : ClientNo) (tid : Tid)
     → votes_kept votes c tid ≡ votes_for tid (client_entries c past)
 
 -- it watches these points
-pub record IsWatch (watch : Watch) (points : List Point) : Type 0 where
+pub record IsWatchOf (watch : Watch) (points : List Point) : Type 0 where
   pub long : length watch.numbers.items ≡ 256
   pub flags : length watch.met.items ≡ length points
 
 -- and tells which of them these entries met
-pub record Watches (watch : Watch) (points : List Point) (past : List Entry) : Type 0 where
+pub record TellsPointsMet (watch : Watch) (points : List Point) (past : List Entry) : Type 0 where
   pub met : watch.met.items ≡ points_met points past
-  pub numbers : AreNumbers watch.numbers.items past
+  pub numbers : AreNumbersUnderWay watch.numbers.items past
   pub votes : CountsVotes watch.votes past

@@ -5,10 +5,11 @@ ghost use Rattle.mn_base.specs.Ids.{client_same};
 ghost use Rattle.mn_base.specs.declared.ids.ClientNo.{ClientNo as Who};
 ghost use Rattle.mn_world.specs.declared.entry.Entry.{Entry as Step};
 ghost use Rattle.mn_world.specs.Run.{entries_of};
-ghost use Rattle.mn_hist.specs.Audit.{answer_line, answers_from, numbers_of, is_doubtful, doubt_at};
+ghost use Rattle.mn_hist.specs.Audit.{answer_line_at, answers_from, op_numbers, is_said_in_doubt};
+ghost use Rattle.mn_hist.specs.Audit.{doubt_at};
 ghost use Rattle.mn_hist.specs.Audit.{doubt_lines, doubts_from};
 ghost use Rattle.mn_hist.specs.History.{stands};
-ghost use Rattle.mn_hist.specs.Saying.{said_kept, Says};
+ghost use Rattle.mn_hist.specs.Saying.{said_kept, TellsAnswers};
 
 use crate::history::{OpKey, is_standing, op_key};
 use mn_base::{Answer, ClientNo, Name, NoMemory, TryCopy};
@@ -52,8 +53,8 @@ fn note_said<'a>(
 
 /// Notes what the entry says of an operation of its client.
 fn note_entry<'a>(said: &mut HashMap<OpKey, Said<'a>>, entry: &'a Entry) -> Result<(), NoMemory>
-    ensures { OnOk result ((past : List Step) → Says said.old past
-        → Says said.new (entry.now ∷ past)) }
+    ensures { OnOk result ((past : List Step) → TellsAnswers said.old past
+        → TellsAnswers said.new (entry.now ∷ past)) }
 {
     match (entry.client, &entry.what) {
         (Some(client), What::Begin { number, .. }) => {
@@ -72,7 +73,7 @@ pub fn said_in<'a>(
     alloc: Global,
     log: &'a [(u64, Entry)],
 ) -> Result<HashMap<OpKey, Said<'a>>, NoMemory>
-    ensures { IfOk result (λ said. Says said (entries_of log.now)) }
+    ensures { IfOk result (λ said. TellsAnswers said (entries_of log.now)) }
 {
     let mut said = HashMap::new(alloc);
     for (_, entry) in log {
@@ -102,8 +103,8 @@ fn line_answer(
 }
 
 /// Whether the client of the operation didn't learn whether it took effect.
-fn is_doubtful(said: &HashMap<OpKey, Said<'_>>, client: ClientNo, number: u32) -> bool
-    ensures { result ≡ is_doubtful (said_kept said.now client number) }
+fn is_said_in_doubt(said: &HashMap<OpKey, Said<'_>>, client: ClientNo, number: u32) -> bool
+    ensures { result ≡ is_said_in_doubt (said_kept said.now client number) }
 {
     let Some(one) = said.get(&op_key(client, number)) else {
         return false;
@@ -115,7 +116,7 @@ fn is_doubtful(said: &HashMap<OpKey, Said<'_>>, client: ClientNo, number: u32) -
 }
 
 /// The line of an operation.
-fn answer_line(
+fn answer_line_at(
     alloc: Global,
     said: &HashMap<OpKey, Said<'_>>,
     number_of_client: ClientNo,
@@ -123,7 +124,7 @@ fn answer_line(
     number: u32,
 ) -> Result<AnswerLine, NoMemory>
     ensures { IfOk result (λ line. line
-        ≡ answer_line (said_kept said.now) number_of_client client.now number) }
+        ≡ answer_line_at (said_kept said.now) number_of_client client.now number) }
 {
     Ok(AnswerLine {
         client: client.name.try_copy(alloc)?,
@@ -151,13 +152,13 @@ fn push_answers(
     client: &ScriptClient,
 ) -> Result<(), NoMemory>
     ensures { OnOk result (lines.new.items
-        ≡ lines.old.items ++ map (answer_line (said_kept said.now) number_of_client client.now)
-        (numbers_of client.now)) }
+        ≡ lines.old.items ++ map (answer_line_at (said_kept said.now) number_of_client client.now)
+        (op_numbers client.now)) }
 {
     let count = op_count(client)?;
     for before in 0..count {
         let number = before + 1;
-        lines.push(answer_line(alloc, said, number_of_client, client, number)?)?;
+        lines.push(answer_line_at(alloc, said, number_of_client, client, number)?)?;
     }
     Ok(())
 }
@@ -203,7 +204,7 @@ fn push_doubt(
         (said_kept said.now number_of_client number) name.now number
         (stands committed.now number_of_client number)) }
 {
-    if !is_doubtful(said, number_of_client, number) {
+    if !is_said_in_doubt(said, number_of_client, number) {
         return Ok(());
     }
     lines.push(DoubtLine {
@@ -226,7 +227,7 @@ fn push_doubts(
     ensures { OnOk result (lines.new.items
         ≡ lines.old.items ++ flat_map
         (doubt_at (said_kept said.now) (stands committed.now) number_of_client client.now)
-        (numbers_of client.now)) }
+        (op_numbers client.now)) }
 {
     let count = op_count(client)?;
     for before in 0..count {

@@ -4,7 +4,7 @@ ghost use Rattle.mn_report.specs.Report.{CanReport};
 ghost use Rattle.mn_world.specs.Meaning.{OpenedRun};
 ghost use Rattle.mn_world.specs.Protocol.{Start};
 ghost use Rattle.mn_world.specs.Run.{entries_of};
-ghost use Rattle.mn_hist.specs.Audit.{name_of, ranked_as, IsAudit};
+ghost use Rattle.mn_hist.specs.Audit.{client_name, ranked_as, IsAudit};
 
 use crate::answers::{answers_of, doubts_of, said_in};
 use crate::history::ending_of;
@@ -18,8 +18,8 @@ use mn_world::Log;
 use std::alloc::Global;
 
 /// The name of a client. NoMemory: there was no memory for it, or the script has no such client.
-fn name_of(alloc: Global, clients: &[ScriptClient], client: ClientNo) -> Result<Name, NoMemory>
-    ensures { IfOk result (λ name. name ≡ name_of clients.now client) }
+fn client_name(alloc: Global, clients: &[ScriptClient], client: ClientNo) -> Result<Name, NoMemory>
+    ensures { IfOk result (λ name. name ≡ client_name clients.now client) }
 {
     match clients.get(usize::from(client.0)) {
         Some(client) => client.name.try_copy(alloc),
@@ -34,7 +34,7 @@ fn ranks_of(alloc: Global, clients: &[ScriptClient], history: &[Past]) -> Result
     let mut ranks = Vec::new(alloc);
     for past in history {
         ranks.push(Ranked {
-            client: name_of(alloc, clients, past.client)?,
+            client: client_name(alloc, clients, past.client)?,
             number: past.number,
         })?;
     }

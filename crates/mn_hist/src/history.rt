@@ -12,15 +12,17 @@ ghost use Rattle.mn_world.specs.Shown.{seen_at};
 ghost use Rattle.mn_hist.specs.History.{CallerState, idle, with_seen, state_after};
 ghost use Rattle.mn_world.specs.History.{Placed};
 ghost use Rattle.mn_world.specs.declared.entry.Entry.{Entry as Step};
-ghost use Rattle.mn_hist.specs.History.{IsLastNote, IsFirstNote, IsNotedPlace, StandsInSet, Fills};
-ghost use Rattle.mn_hist.specs.History.{Puts};
-ghost use Rattle.mn_hist.specs.History.{Knows, Named, Commits, AreCallers};
+ghost use Rattle.mn_hist.specs.History.{IsLastNote, IsFirstNote, IsNotedPlace, StandsInSet};
+ghost use Rattle.mn_hist.specs.History.{SlotsHoldHistory};
+ghost use Rattle.mn_hist.specs.History.{AnswerIsInHistory};
+ghost use Rattle.mn_hist.specs.History.{KnowsPlanners, IsIssuedUnderId, CommitIsInHistory};
+ghost use Rattle.mn_hist.specs.History.{AreCallerStates};
 ghost use Rattle.mn_world.specs.Protocol.{Start};
 ghost use Rattle.mn_world.specs.Run.{IsRun};
 ghost use Rattle.mn_hist.specs.History.{planner_kept, planner_for, op_key, stands, IsPutInto};
-ghost use Rattle.mn_hist.specs.History.{TakesEntry, done_by, done_from, acts_in};
-ghost use Rattle.mn_hist.specs.Told.{IsReading, HasTold};
-ghost use Rattle.mn_hist.specs.Ending.{EndsIn};
+ghost use Rattle.mn_hist.specs.History.{EntryIsInHistory, done_by, done_from, acts_in};
+ghost use Rattle.mn_hist.specs.Told.{ReaderHasRead, ReaderHasTold};
+ghost use Rattle.mn_hist.specs.Ending.{IsEndingOf};
 ghost use Rattle.mn_base.specs.History.{store_after};
 ghost use Rattle.mn_base.specs.Store.{applied};
 ghost use Rattle.mn_world.specs.CommitReader.{issued_of};
@@ -53,13 +55,13 @@ struct Noted<'a> {
 impl<'a> Model for Noted<'a> {
     ghost use Rattle.std.specs.Option.{option_map};
     ghost use Rattle.mn_hist.specs.History.{Note};
-    ghost use Rattle.mn_hist.specs.Shown.{seen_of};
+    ghost use Rattle.mn_hist.specs.Shown.{as_seen};
 
     ghost Value = { Note };
 
     ghost view = { λ n. record {
       place = n.place;
-      seen = seen_of n.read;
+      seen = as_seen n.read;
       catalog = option_map (λ c. c.now) n.catalog;
     } };
 }
@@ -352,9 +354,11 @@ fn take_answer<'a>(
     answer: &Answer,
 ) -> Result<(), NoMemory>
     requires { length callers.now ≡ 256 }
-    ensures { OnOk result ((past : List Step) (placed : List Placed) → AreCallers callers.now past
-        → StandsInSet standing.old placed → Fills slots.old.items placed
-        → Puts past client answer.now placed standing.new slots.old.items slots.new.items) }
+    ensures { OnOk result ((past : List Step) (placed : List Placed)
+        → AreCallerStates callers.now past
+        → StandsInSet standing.old placed → SlotsHoldHistory slots.old.items placed
+        → AnswerIsInHistory past client answer.now placed standing.new slots.old.items
+        slots.new.items) }
 {
     let Answer::Replied { reply } = answer else {
         return Ok(());
@@ -384,9 +388,9 @@ fn take_commit<'a>(
     committed: CommittedMini<'a>,
 ) -> Result<Option<Act<'a>>, NoMemory>
     ensures { IfOk result (λ found. (start : Start) (past : List Step) (placed : List Placed)
-        → IsRun start past → Knows plans.now past → Named past committed.entry
+        → IsRun start past → KnowsPlanners plans.now past → IsIssuedUnderId past committed.entry
         → StandsInSet standing.old placed
-        → Commits past committed.entry placed standing.new found) }
+        → CommitIsInHistory past committed.entry placed standing.new found) }
 {
     if is_read(committed.mini) {
         return Ok(None);
@@ -403,8 +407,9 @@ fn note_issue<'a>(
     entry: &Entry,
 ) -> Result<(), NoMemory>
     requires { length callers.now ≡ 256 }
-    ensures { OnOk result ((past : List Step) → AreCallers callers.now past → Knows plans.old past
-        → Knows plans.new (entry.now ∷ past)) }
+    ensures { OnOk result ((past : List Step) → AreCallerStates callers.now past
+        → KnowsPlanners plans.old past
+        → KnowsPlanners plans.new (entry.now ∷ past)) }
 {
     let What::Issue { tid, .. } = &entry.what else {
         return Ok(());
@@ -430,8 +435,8 @@ fn note_own<'a>(
     requires { length callers.old ≡ 256 }
     ensures long { length callers.new ≡ 256 }
     ensures tells { OnOk result ((past : List Step) → place ≡ length past
-        → entry.now.client ≡ Some client → AreCallers callers.old past
-        → AreCallers callers.new (entry.now ∷ past)) }
+        → entry.now.client ≡ Some client → AreCallerStates callers.old past
+        → AreCallerStates callers.new (entry.now ∷ past)) }
 {
     callers[usize::from(client.0)].take(place, entry)
 }
@@ -441,7 +446,7 @@ fn note_step<'a>(callers: &mut [Caller<'a>], place: usize, entry: &'a Entry) -> 
     requires { length callers.old ≡ 256 }
     ensures long { length callers.new ≡ 256 }
     ensures tells { OnOk result ((past : List Step) → place ≡ length past
-        → AreCallers callers.old past → AreCallers callers.new (entry.now ∷ past)) }
+        → AreCallerStates callers.old past → AreCallerStates callers.new (entry.now ∷ past)) }
 {
     match entry.client {
         Some(client) => note_own(callers, client, place, entry),
@@ -473,9 +478,11 @@ fn take_step<'a>(
     entry: &Entry,
 ) -> Result<(), NoMemory>
     requires { length callers.now ≡ 256 }
-    ensures { OnOk result ((past : List Step) (placed : List Placed) → AreCallers callers.now past
-        → StandsInSet standing.old placed → Fills slots.old.items placed
-        → TakesEntry past entry.now None placed standing.new slots.old.items slots.new.items None) }
+    ensures { OnOk result ((past : List Step) (placed : List Placed)
+        → AreCallerStates callers.now past
+        → StandsInSet standing.old placed → SlotsHoldHistory slots.old.items placed
+        → EntryIsInHistory past entry.now None placed standing.new slots.old.items slots.new.items
+        None) }
 {
     let (Some(client), What::Answered { answer, .. }) = (entry.client, &entry.what) else {
         return Ok(());
@@ -497,10 +504,10 @@ fn take_entry<'a>(
 ) -> Result<Option<Act<'a>>, NoMemory>
     requires { length callers.now ≡ 256 }
     ensures { IfOk result (λ found. (start : Start) (past : List Step) (placed : List Placed)
-        → IsRun start past → AreCallers callers.now past → Knows plans.now past
+        → IsRun start past → AreCallerStates callers.now past → KnowsPlanners plans.now past
         → option_map issued_of committed.entry ≡ committed_by past entry.now
-        → StandsInSet standing.old placed → Fills slots.old.items placed
-        → TakesEntry past entry.now (committed_by past entry.now) placed standing.new
+        → StandsInSet standing.old placed → SlotsHoldHistory slots.old.items placed
+        → EntryIsInHistory past entry.now (committed_by past entry.now) placed standing.new
         slots.old.items slots.new.items found) }
 {
     match committed {
@@ -529,7 +536,7 @@ struct HistoryReader<'a> {
 impl<'a> HistoryReader<'a> {
     /// No entry has come. NoMemory: there was no memory for it.
     fn new(alloc: Global) -> Result<HistoryReader<'a>, NoMemory>
-        ensures { IfOk result (λ reader. HasTold reader [] []) }
+        ensures { IfOk result (λ reader. ReaderHasTold reader [] []) }
     {
         Ok(HistoryReader {
             commits: CommitReader::new(alloc)?,
@@ -543,12 +550,12 @@ impl<'a> HistoryReader<'a> {
     /// Takes the next entry. NoMemory: there was no memory for it, or no read tells the place of
     /// what was answered.
     fn follow(&mut self, alloc: Global, entry: &'a Entry) -> Result<(), NoMemory>
-        requires { (past : List Step) × IsReading self.old past }
-        ensures reads { (past : List Step) → IsReading self.old past
-            → OnOk result (IsReading self.new (entry.now ∷ past)) }
+        requires { (past : List Step) × ReaderHasRead self.old past }
+        ensures reads { (past : List Step) → ReaderHasRead self.old past
+            → OnOk result (ReaderHasRead self.new (entry.now ∷ past)) }
         ensures tells { OnOk result ((start : Start) (past : List Step) (placed : List Placed)
-            → IsRun start past → HasTold self.old past placed → (next : List Placed)
-            × HasTold self.new (entry.now ∷ past) next) }
+            → IsRun start past → ReaderHasTold self.old past placed → (next : List Placed)
+            × ReaderHasTold self.new (entry.now ∷ past) next) }
     {
         let committed = self.commits.follow(entry)?;
         let act = take_entry(
@@ -605,7 +612,7 @@ fn all_done(
 /// What the entries of a log tell of the history.
 fn read_log<'a>(alloc: Global, log: &'a [(u64, Entry)]) -> Result<HistoryReader<'a>, NoMemory>
     ensures { IfOk result (λ reader. (start : Start) → IsRun start (entries_of log.now)
-        → (placed : List Placed) × HasTold reader (entries_of log.now) placed) }
+        → (placed : List Placed) × ReaderHasTold reader (entries_of log.now) placed) }
 {
     let mut reader = HistoryReader::new(alloc)?;
     for (_, entry) in log {
@@ -626,7 +633,7 @@ pub struct Ending {
 pub fn ending_of(alloc: Global, start: &Store, log: &Log) -> Result<Ending, NoMemory>
     ensures { (from : Start) → OpenedRun from start.now (entries_of log.now)
         → IfOk result (λ ending. (placed : List Placed)
-        × EndsIn ending from start.now (entries_of log.now) placed) }
+        × IsEndingOf ending from start.now (entries_of log.now) placed) }
 {
     runs_are_one_history();
     let reader = read_log(alloc, log.as_slice())?;

@@ -8,8 +8,9 @@ ghost use Rattle.mn_base.specs.declared.ids.Tid.{Tid as Id};
 ghost use Rattle.mn_world.specs.declared.entry.Entry.{Entry as Past};
 ghost use Rattle.mn_world.specs.Run.{entries_of};
 ghost use Rattle.mn_hist.specs.Points.{voted_id, may_stop, asked_in, with_met, points_met};
-ghost use Rattle.mn_hist.specs.Watching.{step_fits, Meets, number_after, try_key, votes_kept};
-ghost use Rattle.mn_hist.specs.Watching.{IsWatch, Watches};
+ghost use Rattle.mn_hist.specs.Watching.{step_fits, StepMeetsPoint, number_after, try_key};
+ghost use Rattle.mn_hist.specs.Watching.{votes_kept};
+ghost use Rattle.mn_hist.specs.Watching.{IsWatchOf, TellsPointsMet};
 
 use mn_base::{ClientNo, NoMemory, NodeNo, StopAt, Tid};
 use mn_mini::{NodeReply, Request};
@@ -122,7 +123,7 @@ fn fits(point: &Point, step: &Step) -> bool
 /// The place of the first point that fits the step and that was not met before.
 fn first_fit(points: &[Point], met: &[bool], step: &Step) -> Option<usize>
     requires { length met.now ≡ length points.now }
-    ensures { Meets (step_fits step.now) points.now met.now result }
+    ensures { StepMeetsPoint (step_fits step.now) points.now met.now result }
 {
     for (at, point) in points.iter().enumerate() {
         if !met[at] && fits(point, step) {
@@ -232,8 +233,8 @@ struct Watch {
 impl Watch {
     /// No entry has come. NoMemory: there was no memory for it.
     fn new(alloc: Global, points: &[Point]) -> Result<Watch, NoMemory>
-        ensures is { IfOk result (λ watch. IsWatch watch points.now) }
-        ensures watches { IfOk result (λ watch. Watches watch points.now []) }
+        ensures is { IfOk result (λ watch. IsWatchOf watch points.now) }
+        ensures watches { IfOk result (λ watch. TellsPointsMet watch points.now []) }
     {
         Ok(Watch {
             numbers: no_numbers(alloc)?,
@@ -249,11 +250,12 @@ impl Watch {
         client: ClientNo,
         entry: &Entry,
     ) -> Result<(), NoMemory>
-        requires { IsWatch self.old points.now }
-        ensures is { OnOk result (IsWatch self.new points.now) }
+        requires { IsWatchOf self.old points.now }
+        ensures is { OnOk result (IsWatchOf self.new points.now) }
         ensures watches { OnOk result
-            ((past : List Past) → entry.now.client ≡ Some client → Watches self.old points.now past
-            → Watches self.new points.now (entry.now ∷ past)) }
+            ((past : List Past) → entry.now.client ≡ Some client
+            → TellsPointsMet self.old points.now past
+            → TellsPointsMet self.new points.now (entry.now ∷ past)) }
     {
         let number = self.numbers[usize::from(client.0)];
         let votes = count_vote(&mut self.votes, client, voted_id(&entry.what))?;
@@ -271,11 +273,11 @@ impl Watch {
 
     /// Takes the next entry. NoMemory: there was no memory for it.
     fn note(&mut self, points: &[Point], entry: &Entry) -> Result<(), NoMemory>
-        requires { IsWatch self.old points.now }
-        ensures is { OnOk result (IsWatch self.new points.now) }
+        requires { IsWatchOf self.old points.now }
+        ensures is { OnOk result (IsWatchOf self.new points.now) }
         ensures watches { OnOk result
-            ((past : List Past) → Watches self.old points.now past
-            → Watches self.new points.now (entry.now ∷ past)) }
+            ((past : List Past) → TellsPointsMet self.old points.now past
+            → TellsPointsMet self.new points.now (entry.now ∷ past)) }
     {
         match entry.client {
             Some(client) => self.note_own(points, client, entry),

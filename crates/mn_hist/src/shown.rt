@@ -13,8 +13,9 @@ ghost use Rattle.mn_page.specs.declared.entry.CatEntry.{CatEntry as Head};
 ghost use Rattle.mn_page.specs.declared.page.Page.{Page as Leaf};
 ghost use Rattle.mn_world.specs.Places.{page_place};
 ghost use Rattle.mn_world.specs.Shown.{seen_by, seen_at, CatalogReplies};
-ghost use Rattle.mn_hist.specs.Shown.{seen_of, Decides, is_of_catalog, TellsShown, CatalogTells};
-ghost use Rattle.mn_hist.specs.Shown.{LeafTells, lone_key, leaf_value, IsServedBy};
+ghost use Rattle.mn_hist.specs.Shown.{as_seen, TestDecides, is_of_catalog, TellsShown};
+ghost use Rattle.mn_hist.specs.Shown.{CatalogBytesShow};
+ghost use Rattle.mn_hist.specs.Shown.{TellsLeafBytesShow, lone_key, leaf_value, IsServedByCatalog};
 
 use mn_base::{Key, Name, NoMemory, NodeNo, Op, Reply, Step, Steps, Value, Version};
 use mn_catalog::{CatError, Catalog};
@@ -49,7 +50,7 @@ pub struct Read<'a> {
 
 /// Whether a slot begins there.
 fn is_slot(start: u32) -> bool
-    ensures { Decides result ((slot : ℕ) × (20480 + 1024 * slot ≡ start)) }
+    ensures { TestDecides result ((slot : ℕ) × (20480 + 1024 * slot ≡ start)) }
 {
     if start < SLOTS_START {
         return false;
@@ -60,7 +61,7 @@ fn is_slot(start: u32) -> bool
 
 /// The read that a call brings: one of one read item that was done.
 fn read_by<'a>(node: NodeNo, request: &Request, reply: &'a NodeReply) -> Option<Read<'a>>
-    ensures { option_to_list (option_map seen_of result) ≡ seen_by node request.now reply.now }
+    ensures { option_to_list (option_map as_seen result) ≡ seen_by node request.now reply.now }
 {
     let (Request::Exec { part, .. }, NodeReply::Done { reads }) = (request, reply) else {
         return None;
@@ -79,7 +80,7 @@ fn read_by<'a>(node: NodeNo, request: &Request, reply: &'a NodeReply) -> Option<
 impl<'a> Read<'a> {
     /// The read that an entry brings, if it does.
     pub fn of(entry: &'a Entry) -> Option<Read<'a>>
-        ensures { option_to_list (option_map seen_of result) ≡ seen_at entry.now }
+        ensures { option_to_list (option_map as_seen result) ≡ seen_at entry.now }
     {
         match (entry.node, &entry.what) {
             (Some(node), What::Called { request, reply }) => read_by(node, request, reply),
@@ -89,14 +90,15 @@ impl<'a> Read<'a> {
 
     /// Whether it is a read of the catalog.
     pub fn is_catalog(&self) -> bool
-        ensures { result ≡ is_of_catalog (seen_of self.now) }
+        ensures { result ≡ is_of_catalog (as_seen self.now) }
     {
         self.node == CATALOG_NODE && self.start == CATALOG_START && self.length == CATALOG
     }
 
     /// Whether it is a read of a page.
     fn is_page(&self) -> bool
-        ensures { Decides result ((addr : Place) × ((seen_of self.now).place ≡ page_place addr)) }
+        ensures { TestDecides result
+            ((addr : Place) × ((as_seen self.now).place ≡ page_place addr)) }
     {
         self.length == SLOT && is_slot(self.start)
     }
@@ -118,7 +120,7 @@ fn catalog_in(alloc: Global, bytes: &[u8]) -> Result<Option<Catalog>, NoMemory>
 
 /// Whether the reply is this refusing one. None where that one doesn't refuse.
 fn is_refusal(refusal: &Reply, reply: &Reply) -> Option<bool>
-    ensures { MatchOption result ⊤ (λ same. Decides same (refusal.now ≡ reply.now)) }
+    ensures { MatchOption result ⊤ (λ same. TestDecides same (refusal.now ≡ reply.now)) }
 {
     match (refusal, reply) {
         (Reply::NoVersion, Reply::NoVersion) => Some(true),
@@ -184,7 +186,7 @@ fn are_listed(entries: &[CatEntry], versions: &[Version]) -> bool
 
 /// Whether these entries show the reply.
 fn entries_show(catalog: &Catalog, op: &Op, reply: &Reply) -> Result<bool, NoMemory>
-    ensures { IfOk result (λ b. Decides b
+    ensures { IfOk result (λ b. TestDecides b
         (CatalogReplies (heads_in catalog.now) op.now reply.now)) }
 {
     if let Op::Versions = op {
@@ -204,7 +206,7 @@ fn entries_show(catalog: &Catalog, op: &Op, reply: &Reply) -> Result<bool, NoMem
 
 /// Whether the catalog that the bytes spell shows the reply.
 fn catalog_shows(alloc: Global, bytes: &[u8], op: &Op, reply: &Reply) -> Result<bool, NoMemory>
-    ensures { IfOk result (λ b. Decides b (CatalogTells bytes.now op.now reply.now)) }
+    ensures { IfOk result (λ b. TestDecides b (CatalogBytesShow bytes.now op.now reply.now)) }
 {
     match catalog_in(alloc, bytes)? {
         Some(catalog) => entries_show(&catalog, op, reply),
@@ -234,7 +236,8 @@ fn expect_served(
     name: &Name,
     page: &Page,
 ) -> Result<(), NoMemory>
-    ensures { OnOk result (IsServedBy (option_map (λ c. c.now) catalog.entry) name.now page.now) }
+    ensures { OnOk result (IsServedByCatalog
+        (option_map (λ c. c.now) catalog.entry) name.now page.now) }
 {
     let Some(bytes) = catalog else {
         return Err(NoMemory);
@@ -283,7 +286,7 @@ fn value_in<'a>(page: &'a Page, key: &Key) -> Option<Option<&'a Value>>
 
 /// Whether the two are one value, or neither is there.
 fn is_same_value(found: &Option<Value>, value: Option<&Value>) -> bool
-    ensures { Decides result (found.now ≡ option_map (λ v. v.now) value.entry) }
+    ensures { TestDecides result (found.now ≡ option_map (λ v. v.now) value.entry) }
 {
     match (found, value) {
         (Some(found), Some(value)) => found.as_slice() == value.as_slice(),
@@ -294,7 +297,8 @@ fn is_same_value(found: &Option<Value>, value: Option<&Value>) -> bool
 
 /// Whether the reply is that of a lone Get which finds this.
 fn is_found(reply: &Reply, value: Option<&Value>) -> bool
-    ensures { Decides result (reply.now ≡ Say.Values (option_map (λ v. v.now) value.entry ∷ [])) }
+    ensures { TestDecides result (reply.now
+        ≡ Say.Values (option_map (λ v. v.now) value.entry ∷ [])) }
 {
     let Reply::Values { found } = reply else {
         return false;
@@ -328,7 +332,7 @@ fn leaf_shows(
     key: &Key,
     reply: &Reply,
 ) -> Result<bool, NoMemory>
-    ensures { IfOk result (λ b. LeafTells b
+    ensures { IfOk result (λ b. TellsLeafBytesShow b
         (option_map (λ c. c.now) catalog.entry) bytes.now version.now key.now reply.now) }
 {
     let Some(page) = page_in(alloc, bytes)? else {
@@ -356,7 +360,7 @@ pub fn shows(
     reply: &Reply,
 ) -> Result<bool, NoMemory>
     ensures { IfOk result (λ b. TellsShown b (option_map (λ c. c.now) catalog.entry)
-        (seen_of read.now) op.now reply.now) }
+        (as_seen read.now) op.now reply.now) }
 {
     if read.is_catalog() {
         return catalog_shows(alloc, read.bytes, op, reply);

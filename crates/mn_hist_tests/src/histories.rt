@@ -218,12 +218,9 @@ fn a_doubtful_commit_stands_at_its_restart_with_the_reply_of_the_store(
     let alloc = rt.alloc();
     let start = Store::new(alloc)?;
     let history = history_of(alloc, &start, &worked(alloc, true)?)?;
-    assert_eq!(rt; clients(alloc, &history)?.as_slice(), [2, 1, 0].as_slice());
+    assert!(rt; clients(alloc, &history)?.as_slice() == [2, 1, 0].as_slice());
     // It saw what client 1 had put.
-    assert_eq!(rt;
-        history.as_slice().last().and_then(found),
-        Some(b"b".as_slice())
-    );
+    assert!(rt; history.as_slice().last().and_then(found) == Some(b"b".as_slice()));
     Ok(())
 }
 
@@ -232,7 +229,7 @@ fn a_vote_that_was_not_kept_leaves_no_operation(rt: HostRuntime) -> Result<(), F
     let alloc = rt.alloc();
     let start = Store::new(alloc)?;
     let history = history_of(alloc, &start, &worked(alloc, false)?)?;
-    assert_eq!(rt; clients(alloc, &history)?.as_slice(), [2, 1].as_slice());
+    assert!(rt; clients(alloc, &history)?.as_slice() == [2, 1].as_slice());
     Ok(())
 }
 
@@ -269,15 +266,15 @@ fn a_report_tells_what_became_of_a_doubt_and_which_points_were_met(
 ) -> Result<(), Fail> {
     let alloc = rt.alloc();
     let report = reported(alloc, true)?;
-    assert_eq!(rt; is_committed(&report), Some(true));
+    assert!(rt; is_committed(&report) == Some(true));
     // The second stop point fits as well, and the first one works.
-    assert_eq!(rt; report.points.as_slice(), [false, true, false].as_slice());
-    assert_eq!(rt; report.history.as_slice().len(), 3);
-    assert_eq!(rt; report.answers.as_slice().len(), 4);
+    assert!(rt; report.points.as_slice() == [false, true, false].as_slice());
+    assert!(rt; report.history.as_slice().len() == 3);
+    assert!(rt; report.answers.as_slice().len() == 4);
     assert!(rt; matches!(report.answers.as_slice()[2].answer, LineAnswer::Never));
     let report = reported(alloc, false)?;
-    assert_eq!(rt; is_committed(&report), Some(false));
+    assert!(rt; is_committed(&report) == Some(false));
     // It stopped elsewhere than the points say.
-    assert_eq!(rt; report.points.as_slice(), [false, false, false].as_slice());
+    assert!(rt; report.points.as_slice() == [false, false, false].as_slice());
     Ok(())
 }

@@ -7,13 +7,13 @@ ghost use Rattle.mn_actors.specs.declared.actor.Actor.TheVariants.{Client};
 ghost use Rattle.mn_actors.specs.Lines.{IsActor, client_at, node_at};
 ghost use Rattle.mn_actors.specs.Lists.{held, OwnsAll};
 ghost use Rattle.mn_actors.specs.Sight.{board_of, clients_of, id_of, nodes_of, view_of};
-ghost use Rattle.mn_node.specs.State.{MayStart};
+ghost use Rattle.mn_node.specs.State.{HoldsPartsApart};
 ghost use Rattle.mn_world.specs.Protocol.{Start, start_of};
 ghost use Rattle.mn_world.specs.Run.{IsLogOfRun, entries_of};
 ghost use Rattle.mn_cell.specs.Calls.{numbered};
 ghost use Rattle.mn_cell.specs.Passes.{OwnsJust};
-ghost use Rattle.mn_cell.specs.Runs.{AreParts, IsIssueOf};
-ghost use Rattle.mn_cell.specs.Station.{IsFirst};
+ghost use Rattle.mn_cell.specs.Runs.{ArePartsOfRun, IsIssueOf};
+ghost use Rattle.mn_cell.specs.Station.{IsNodeAtStart};
 
 use mn_actors::{Actor, Board, Pass};
 use mn_base::{ClientNo, NodeNo};
@@ -213,7 +213,7 @@ fn finish(
         × (held (view_of all) (node_at 1) ≡ Some nodes.1) }
     requires clients { (held (view_of all) (client_at 0) ≡ Some clients.0.entries)
         × (held (view_of all) (client_at 1) ≡ Some clients.1.entries) }
-    ensures run { (start : Start) → AreParts start 2 2 (held (view_of all))
+    ensures run { (start : Start) → ArePartsOfRun start 2 2 (held (view_of all))
         → IfSome result (λ ended. IsLogOfRun start ended.1) }
 {
     parts_make_run();
@@ -260,9 +260,9 @@ fn meet<N: Named + Send + Sync, D: Disk + Send, T: Threads + Wait + Sync>(
     requires size { (nodes_of board ≡ 2) × (clients_of board ≡ 2) }
     requires owns { (a : Who) → IsActor 2 2 a → held (view_of pass) a ≡ Some [] }
     requires others { (a : Who) → ¬ IsActor 2 2 a → held (view_of pass) a ≡ None }
-    requires first { IsFirst D.state D.faults (start_of N.records) (numbered 0) (N.faults 0)
+    requires first { IsNodeAtStart D.state D.faults (start_of N.records) (numbered 0) (N.faults 0)
         (N.honest 0) first }
-    requires second { IsFirst D.state D.faults (start_of N.records) (numbered 1) (N.faults 1)
+    requires second { IsNodeAtStart D.state D.faults (start_of N.records) (numbered 1) (N.faults 1)
         (N.honest 1) second }
     ensures run { IfSome result.0 (λ ended. IsLogOfRun (start_of N.records) ended.1) }
 {
@@ -339,7 +339,7 @@ fn start(rt: &impl Abort, alloc: Global, number: u8) -> Result<Node<MemoryDisk>,
 // The log of a node of this number, of two, on a disk without a byte.
 fn empty_log(rt: &impl Abort, alloc: Global, number: u8) -> Result<Redo<MemoryDisk>, Fail>
     ensures going { IfOk result (λ redo. redo.phase ≢ Closing) }
-    ensures bodies { IfOk result (λ redo. MayStart redo.bodies) }
+    ensures bodies { IfOk result (λ redo. HoldsPartsApart redo.bodies) }
     ensures node { IfOk result (λ redo. redo.node ≡ number) }
     ensures nodes { IfOk result (λ redo. redo.nodes ≡ 2) }
 {

@@ -42,78 +42,99 @@ fn crash_in_cut(alloc: Global, fails: &[u64], choice: u64) -> Result<MemoryDisk,
     disk.crash(alloc, choice)
 }
 
+/// Each call of the list by itself may fail, or none does.
+const FAILS: [&[u64]; 2] = [&[], &[0]];
+
+/// Whether a crash in a write at this place leaves these bytes, whether or not its call failed.
+fn write_leaves(alloc: Global, at: u64, choice: u64, left: &[u8]) -> Result<bool, NoMemory>
+    requires { at ≤ 6 }
+{
+    for fails in FAILS {
+        if crash_in_write(alloc, at, fails, choice)?.content() != left {
+            return Ok(false);
+        }
+    }
+    Ok(true)
+}
+
 #[test]
 fn a_crash_leaves_nothing_all_or_either_half_of_an_unsynced_write(
     rt: HostRuntime,
 ) -> Result<(), Fail> {
-    let alloc = rt.alloc();
-    let none: [u64; 0] = [];
-    for fails in [none.as_slice(), [0].as_slice()] {
-        for (choice, over, behind) in [
-            (0, b"abcdef".as_slice(), b"abcdef".as_slice()),
-            (1, b"abcdWXYZ".as_slice(), b"abcdefWXYZ".as_slice()),
-            (2, b"abcdWX".as_slice(), b"abcdefWX".as_slice()),
-            (3, b"abcdefYZ".as_slice(), b"abcdef\0\0YZ".as_slice()),
-        ] {
-            assert_eq!(rt; crash_in_write(alloc, 4, fails, choice)?.content(), over);
-            assert_eq!(rt; crash_in_write(alloc, 6, fails, choice)?.content(), behind);
-        }
+    for (choice, over, behind) in [
+        (0, b"abcdef".as_slice(), b"abcdef".as_slice()),
+        (1, b"abcdWXYZ".as_slice(), b"abcdefWXYZ".as_slice()),
+        (2, b"abcdWX".as_slice(), b"abcdefWX".as_slice()),
+        (3, b"abcdefYZ".as_slice(), b"abcdef\0\0YZ".as_slice()),
+    ] {
+        assert!(rt; write_leaves(rt.alloc(), 4, choice, over)?);
+        assert!(rt; write_leaves(rt.alloc(), 6, choice, behind)?);
     }
     Ok(())
+}
+
+/// Whether a crash in a cut leaves these bytes, whether or not its call failed.
+fn cut_leaves(alloc: Global, choice: u64, left: &[u8]) -> Result<bool, NoMemory> {
+    for fails in FAILS {
+        if crash_in_cut(alloc, fails, choice)?.content() != left {
+            return Ok(false);
+        }
+    }
+    Ok(true)
 }
 
 #[test]
 fn a_crash_leaves_some_length_between_of_an_unsynced_cut(rt: HostRuntime) -> Result<(), Fail> {
-    let alloc = rt.alloc();
-    let none: [u64; 0] = [];
-    for fails in [none.as_slice(), [0].as_slice()] {
-        assert_eq!(rt;
-            crash_in_cut(alloc, fails, 0)?.content(),
-            b"abcdef".as_slice()
-        );
-        assert_eq!(rt; crash_in_cut(alloc, fails, 1)?.content(), b"ab".as_slice());
-        assert_eq!(rt;
-            crash_in_cut(alloc, fails, 2)?.content(),
-            b"abcd".as_slice()
-        );
-        assert_eq!(rt;
-            crash_in_cut(alloc, fails, 3)?.content(),
-            b"abcd".as_slice()
-        );
+    for (choice, left) in [
+        (0, b"abcdef".as_slice()),
+        (1, b"ab".as_slice()),
+        (2, b"abcd".as_slice()),
+        (3, b"abcd".as_slice()),
+    ] {
+        assert!(rt; cut_leaves(rt.alloc(), choice, left)?);
     }
     Ok(())
 }
 
+/// A disk with one change that was synced and two that weren't, or nothing if a call failed.
+fn changed_thrice(alloc: Global) -> Result<Option<MemoryDisk>, NoMemory> {
+    let mut disk = make_disk(alloc, &[])?;
+    let first = disk.write_at(0, b"X").is_ok() && disk.sync().is_ok();
+    if !first || disk.write_at(1, b"Y").is_err() || disk.write_at(2, b"Z").is_err() {
+        return Ok(None);
+    }
+    Ok(Some(disk))
+}
+
+/// Whether a crash leaves these bytes of it.
+fn changes_leave(alloc: Global, choice: u64, left: &[u8]) -> Result<bool, NoMemory> {
+    match changed_thrice(alloc)? {
+        Some(disk) => Ok(disk.crash(alloc, choice)?.content() == left),
+        None => Ok(false),
+    }
+}
+
 #[test]
 fn each_change_has_its_own_outcome_and_a_synced_one_stands(rt: HostRuntime) -> Result<(), Fail> {
-    let alloc = rt.alloc();
     for (choice, left) in [
         (0, b"Xbcdef".as_slice()),
         (1, b"XYcdef".as_slice()),
         (4, b"XbZdef".as_slice()),
         (5, b"XYZdef".as_slice()),
     ] {
-        let mut disk = make_disk(alloc, &[])?;
-        assert_eq!(rt; disk.write_at(0, b"X"), Ok(()));
-        assert_eq!(rt; disk.sync(), Ok(()));
-        assert_eq!(rt; disk.write_at(1, b"Y"), Ok(()));
-        assert_eq!(rt; disk.write_at(2, b"Z"), Ok(()));
-        assert_eq!(rt; disk.crash(alloc, choice)?.content(), left);
+        assert!(rt; changes_leave(rt.alloc(), choice, left)?);
     }
     Ok(())
 }
 
 #[test]
 fn a_disk_fails_at_the_calls_of_its_list(rt: HostRuntime) -> Result<(), Fail> {
-    let alloc = rt.alloc();
-    let mut disk = make_disk(alloc, &[1, 3])?;
+    let mut disk = make_disk(rt.alloc(), &[1, 3])?;
     let mut into = [0; 4];
-    assert_eq!(rt; disk.length(), Ok(6));
-    assert_eq!(rt; disk.read(3, &mut into), Err(Failed));
-    assert_eq!(rt; disk.read(3, &mut into), Ok(3));
-    assert_eq!(rt; into, *b"def\0");
-    assert_eq!(rt; disk.sync(), Err(Failed));
-    assert_eq!(rt; disk.sync(), Ok(()));
-    assert_eq!(rt; disk.faults(), 2);
+    assert!(rt; disk.length() == Ok(6));
+    assert!(rt; disk.read(3, &mut into) == Err(Failed));
+    assert!(rt; disk.read(3, &mut into) == Ok(3) && into == *b"def\0");
+    assert!(rt; disk.sync() == Err(Failed));
+    assert!(rt; disk.sync() == Ok(()) && disk.faults() == 2);
     Ok(())
 }

@@ -1,5 +1,5 @@
 -- What a record adds to what a node keeps in memory.
-use Rattle.std.proofs.Common.{◌≡◌, ◌≤◌, ◌+◌, ℕ, suc, Bool, true, false, not, ◌||◌, List, [], ◌∷◌, ◌++◌, length, map, reverse, Some, refl, ap, sym, ◌∙◌, subst, arith, append-nil, if◌then◌else◌}
+use Rattle.std.proofs.Common.{◌≡◌, ℕ, Bool, true, false, not, ◌||◌, List, [], ◌∷◌, ◌++◌, length, map, reverse, refl, ap, sym, ◌∙◌, subst, append-nil, if◌then◌else◌}
 use Rattle.std.specs.List.{AllByRecursion}
 use Rattle.std.proofs.lemmas.List.{reverse-append}
 use Rattle.mn_base.specs.Ids.{tid_same}
@@ -12,14 +12,14 @@ use Rattle.mn_mini.specs.declared.record.Record.{Record}
 use Rattle.mn_mini.specs.declared.record.Record.TheVariants.{Voted, Executed, Decided, Forced}
 use Rattle.mn_mini.specs.Flat.{space_after_part}
 use Rattle.mn_mini.specs.Mini.{space_size}
-use Rattle.mn_mini.specs.Node.{HeldPart, held_parts, held_part_of, without_tid, has_forced, space_of, with_held}
+use Rattle.mn_mini.specs.Node.{HeldPart, held_parts, without_tid, has_forced, space_of, with_held}
 use Rattle.mn_mini.specs.RecordGrammar.{IsRecord}
 use Rattle.mn_locks.specs.declared.hold.Hold.{Hold}
 use Rattle.mn_locks.specs.Locks.{hold_of, holds_of, without}
 use Rattle.mn_node.specs.declared.held.Vote.{Vote}
-use Rattle.mn_node.specs.Held.{others}
+use Rattle.mn_node.specs.Held.{votes_of_others}
 use Rattle.mn_node.specs.Part.{shared_of, alone_of, part_holds, holds_by}
-use Rattle.mn_node.specs.Memory.{IsBuilt, is_among}
+use Rattle.mn_node.specs.Memory.{IsMadeByRecords, is_among}
 use Rattle.mn_node.proofs.Ties.{holds_by-cons}
 use Rattle.mn_node.proofs.Votes.{held_voted, held_same, held_decided, newest}
 
@@ -72,7 +72,7 @@ holds_without tid (h ∷ hs) =
 -- What each record adds
 
 pub built_voted : (base : List ℕ) (records : List Record) (space : List ℕ) (holds : List Hold) (forced : List Tid) (held : List Vote) (tid : Tid) (ps : List NodeNo) (part : List PartItem) (place : ℕ) → place ≡ length records
-    → IsBuilt base records space holds forced held → IsRecord (Voted tid ps part) → IsBuilt base (records ++ Voted tid ps part ∷ []) space (holds ++ holds_of tid (shared_of part) (alone_of part)) forced (held ++ record { tid = tid; place = place } ∷ [])
+    → IsMadeByRecords base records space holds forced held → IsRecord (Voted tid ps part) → IsMadeByRecords base (records ++ Voted tid ps part ∷ []) space (holds ++ holds_of tid (shared_of part) (alone_of part)) forced (held ++ record { tid = tid; place = place } ∷ [])
 built_voted base records space holds forced held tid ps part place at b is =
     let turned = newest records (Voted tid ps part) in
     let h : HeldPart = record { tid = tid; participants = ps; part = part } in
@@ -86,7 +86,7 @@ built_voted base records space holds forced held tid ps part place at b is =
     }
 
 pub built_executed : (base : List ℕ) (records : List Record) (space new : List ℕ) (holds : List Hold) (forced : List Tid) (held : List Vote) (tid : Tid) (part : List PartItem)
-    → IsBuilt base records space holds forced held → IsRecord (Executed tid part) → new ≡ space_after_part space part → length new ≡ space_size → IsBuilt base (records ++ Executed tid part ∷ []) new holds forced held
+    → IsMadeByRecords base records space holds forced held → IsRecord (Executed tid part) → new ≡ space_after_part space part → length new ≡ space_size → IsMadeByRecords base (records ++ Executed tid part ∷ []) new holds forced held
 built_executed base records space new holds forced held tid part b is e size =
     let turned = newest records (Executed tid part) in
     record {
@@ -114,7 +114,7 @@ among-append (u ∷ tids) t tid = ap (λ (b : Bool). tid_same u tid || b) (among
     past false b c = refl
 
 pub built_forced : (base : List ℕ) (records : List Record) (space : List ℕ) (holds : List Hold) (forced : List Tid) (held : List Vote) (tid : Tid)
-    → IsBuilt base records space holds forced held → IsRecord (Forced tid) → IsBuilt base (records ++ Forced tid ∷ []) space holds (forced ++ tid ∷ []) held
+    → IsMadeByRecords base records space holds forced held → IsRecord (Forced tid) → IsMadeByRecords base (records ++ Forced tid ∷ []) space holds (forced ++ tid ∷ []) held
 built_forced base records space holds forced held tid b is =
     let turned = newest records (Forced tid) in
     record {
@@ -127,9 +127,9 @@ built_forced base records space holds forced held tid b is =
     }
 
 pub built_decided : (base : List ℕ) (records : List Record) (space new : List ℕ) (holds : List Hold) (forced : List Tid) (held : List Vote) (tid : Tid) (verdict : Bool)
-    → IsBuilt base records space holds forced held → IsRecord (Decided tid verdict)
+    → IsMadeByRecords base records space holds forced held → IsRecord (Decided tid verdict)
     → new ≡ (if verdict then with_held (λ t. tid_same t tid) space (held_parts (reverse records)) else space) → length new ≡ space_size
-    → IsBuilt base (records ++ Decided tid verdict ∷ []) new (without tid holds) forced (others tid held)
+    → IsMadeByRecords base (records ++ Decided tid verdict ∷ []) new (without tid holds) forced (votes_of_others tid held)
 built_decided base records space new holds forced held tid verdict b is e size =
     let turned = newest records (Decided tid verdict) in
     record {

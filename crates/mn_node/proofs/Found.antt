@@ -8,10 +8,10 @@ use Rattle.mn_node.specs.Node.{bodies_of, added_to}
 use Rattle.mn_node.specs.declared.restart.RestartError.{RestartError}
 use Rattle.mn_node.specs.declared.restart.RestartError.TheVariants.{Fault, Damaged, NoMemory}
 use Rattle.std.specs.Prelude.{◌⊎◌}
-use Rattle.mn_node.specs.Restart.{AreAbsent, Compares, Differs, IsBadBody, IsDamage, IsFirstOther, IsFound, IsFront, HasLeft, IsOther, IsOtherAt, IsUnread, record_at}
+use Rattle.mn_node.specs.Restart.{AreAbsent, TellsOtherRecords, TellsDifferenceAt, IsBadBody, DamageNames, IsFirstDifference, IsSpelledAt, BeginsWithRecords, AreBodiesWithPending, AreOtherBodies, DiffersFirstAt, record_at}
 
 -- the first bodies are those of the first records
-pub record IsFrontOf (n : ℕ) (bodies : List (List ℕ)) (records : List Record) : Type 0 where
+pub record BeginAlike (n : ℕ) (bodies : List (List ℕ)) (records : List Record) : Type 0 where
   pub within : n ≤ length bodies
   pub first : take n bodies ≡ bodies_of (take n records)
 
@@ -19,8 +19,8 @@ pub size_of : (records : List Record) → length (bodies_of records) ≡ length 
 size_of [] = refl
 size_of (r ∷ records) = ap suc (size_of records)
 
-pub one_front : (n : ℕ) (bodies : List (List ℕ)) (records : List Record) (r : Record) → IsFrontOf n bodies records → n < length bodies → n < length records → r ≡ get_or records n r → get_or bodies n [] ≡ record_bytes r
-    → IsFrontOf (n + 1) bodies records
+pub one_front : (n : ℕ) (bodies : List (List ℕ)) (records : List Record) (r : Record) → BeginAlike n bodies records → n < length bodies → n < length records → r ≡ get_or records n r → get_or bodies n [] ≡ record_bytes r
+    → BeginAlike (n + 1) bodies records
 one_front n bodies records r front less few is same = record {
   within = omega (arith, less);
   first =
@@ -28,14 +28,14 @@ one_front n bodies records r front less few is same = record {
       ∙ sym (map-append record_bytes (take n records) (r ∷ [])) ∙ sym (ap bodies_of (take_more records n r few ∙ ap (λ (x : Record). take n records ++ x ∷ []) (sym is)));
 }
 
-pub whole_front : (n : ℕ) (bodies : List (List ℕ)) (records : List Record) → IsFrontOf n bodies records → length records ≤ n → n ≤ length records → IsFront bodies records
+pub whole_front : (n : ℕ) (bodies : List (List ℕ)) (records : List Record) → BeginAlike n bodies records → length records ≤ n → n ≤ length records → BeginsWithRecords bodies records
 whole_front n bodies records front most least =
     let same : n ≡ length records = omega (arith, most, least) in record {
       no_fewer = omega (arith, front.within, least, most);
       first = ap (λ (k : ℕ). take k bodies) (sym same) ∙ front.first ∙ ap bodies_of (take_all n records most);
     }
 
-body_at : (bodies : List (List ℕ)) (records : List Record) (n : ℕ) (r : Record) → IsFront bodies records → n < length records → get_or bodies n [] ≡ record_bytes (get_or records n r)
+body_at : (bodies : List (List ℕ)) (records : List Record) (n : ℕ) (r : Record) → BeginsWithRecords bodies records → n < length records → get_or bodies n [] ≡ record_bytes (get_or records n r)
 body_at bodies records n r front less = get_first bodies (length records) n (omega (arith, less)) ∙ ap (λ (l : List (List ℕ)). get_or l n []) front.first ∙ of records n r less
   where
     get_first : (bodies : List (List ℕ)) (k n : ℕ) → n < k → get_or bodies n [] ≡ get_or (take k bodies) n []
@@ -51,11 +51,11 @@ body_at bodies records n r front less = get_first bodies (length records) n (ome
     of (x ∷ records) (suc n) r less = of records n r (omega (arith, less))
 
 -- a record that the log has not
-pub other_at : (bodies : List (List ℕ)) (records : List Record) (n : ℕ) (r : Record) → n < length records → r ≡ get_or records n r → get_or bodies n [] ≢ record_bytes r → IsFront bodies records → ⊥
+pub other_at : (bodies : List (List ℕ)) (records : List Record) (n : ℕ) (r : Record) → n < length records → r ≡ get_or records n r → get_or bodies n [] ≢ record_bytes r → BeginsWithRecords bodies records → ⊥
 other_at bodies records n r less is other front = other (body_at bodies records n r front less ∙ sym (ap record_bytes is))
 
 -- a log that is listed begins with the records
-pub listed_front : (bodies : List (List ℕ)) (records : List Record) → bodies ≡ bodies_of records → IsFront bodies records
+pub listed_front : (bodies : List (List ℕ)) (records : List Record) → bodies ≡ bodies_of records → BeginsWithRecords bodies records
 listed_front bodies records e = record {
   no_fewer = omega (arith, ap (λ (l : List (List ℕ)). length l) e, size_of records);
   first = ap (λ (l : List (List ℕ)). take (length records) l) e ∙ take_all (length records) (bodies_of records) (omega (arith, size_of records));
@@ -67,7 +67,7 @@ take_before [] ys (suc n) e = absurd cc
 take_before (x ∷ xs) ys zero e = absurd cc
 take_before {X = X} (x ∷ xs) ys (suc n) e = ap (λ (l : List X). x ∷ l) (take_before xs ys n (omega (arith, e)))
 
-pub left_front : (bodies : List (List ℕ)) (records : List Record) (pending : Option Record) → HasLeft bodies records pending → IsFront bodies records
+pub left_front : (bodies : List (List ℕ)) (records : List Record) (pending : Option Record) → AreBodiesWithPending bodies records pending → BeginsWithRecords bodies records
 left_front bodies records None e = absurd e
 left_front bodies records (Some r) e =
     let split : bodies ≡ bodies_of records ++ record_bytes r ∷ [] = e ∙ map-append record_bytes records (r ∷ []) in record {
@@ -75,7 +75,7 @@ left_front bodies records (Some r) e =
       first = ap (λ (l : List (List ℕ)). take (length records) l) split ∙ take_before (bodies_of records) (record_bytes r ∷ []) (length records) (size_of records);
     }
 
-pub other_front : (bodies : List (List ℕ)) (records : List Record) (pending : Option Record) → (IsFront bodies records → ⊥) → IsOther bodies records pending
+pub other_front : (bodies : List (List ℕ)) (records : List Record) (pending : Option Record) → (BeginsWithRecords bodies records → ⊥) → AreOtherBodies bodies records pending
 other_front bodies records pending never = (λ e. never (listed_front bodies records e), λ e. never (left_front bodies records pending e))
 
 -- with more bodies than records the records alone are not the log's
@@ -149,27 +149,27 @@ pub unsome : (r q : Record) → Some r ≡ Some q → r ≡ q
 unsome r q e = cc
 
 -- the record that a body spells is not one with other bytes
-other_record : (bodies : List (List ℕ)) (at : ℕ) (found : Option Record) (r : Record) → IsFound bodies at found → (at < length bodies → get_or bodies at [] ≢ record_bytes r) → found ≢ Some r
+other_record : (bodies : List (List ℕ)) (at : ℕ) (found : Option Record) (r : Record) → IsSpelledAt bodies at found → (at < length bodies → get_or bodies at [] ≢ record_bytes r) → found ≢ Some r
 other_record bodies at None r is other e = cc
 other_record bodies at (Some q) r is other e = other is.0 (is.1.spelled ∙ ap record_bytes (unsome q r e))
 
 -- a body is there
-some_record : (bodies : List (List ℕ)) (at : ℕ) (found : Option Record) → IsFound bodies at found → at < length bodies → found ≢ None
+some_record : (bodies : List (List ℕ)) (at : ℕ) (found : Option Record) → IsSpelledAt bodies at found → at < length bodies → found ≢ None
 some_record bodies at None is less e = let none : ⊥ = omega (arith, is, less) in none
 some_record bodies at (Some q) is less e = cc
 
 damage : {bodies : List (List ℕ)} {records : List Record} {pending : Option Record} {at : ℕ} (place : ℕ) (named found kept : Option Record)
-    → (AreAbsent named found × IsBadBody bodies place) ⊎ ((place ≡ at) × (named ≡ kept) × IsFound bodies at found)
-    → (IsFound bodies at found → IsFirstOther bodies records pending at kept found) → IsDamage bodies records pending place named found
+    → (AreAbsent named found × IsBadBody bodies place) ⊎ ((place ≡ at) × (named ≡ kept) × IsSpelledAt bodies at found)
+    → (IsSpelledAt bodies at found → IsFirstDifference bodies records pending at kept found) → DamageNames bodies records pending place named found
 damage place named found kept (inl none) first = inl none
 damage {bodies = bodies} {records = records} {pending = pending} place named found kept (inr told) first =
-    inr (subst (λ (k : Option Record). IsFirstOther bodies records pending place k found) (sym told.1) (subst (λ (n : ℕ). IsFirstOther bodies records pending n kept found) (sym told.0) (first told.2)))
+    inr (subst (λ (k : Option Record). IsFirstDifference bodies records pending place k found) (sym told.1) (subst (λ (n : ℕ). IsFirstDifference bodies records pending n kept found) (sym told.0) (first told.2)))
 
-pub front_otherwise : (bodies : List (List ℕ)) (records : List Record) (at : ℕ) (r : Record) → at < length records → r ≡ get_or records at r → IsOtherAt bodies records at → IsFront bodies records → ⊥
+pub front_otherwise : (bodies : List (List ℕ)) (records : List Record) (at : ℕ) (r : Record) → at < length records → r ≡ get_or records at r → DiffersFirstAt bodies records at → BeginsWithRecords bodies records → ⊥
 front_otherwise bodies records at r less is other front = other.other (omega (arith, less, front.no_fewer)) r is (body_at bodies records at r front less ∙ sym (ap record_bytes is))
 
-pub differs_front : (bodies : List (List ℕ)) (records : List Record) (pending : Option Record) (at : ℕ) (r : Record) (e : RestartError) → at < length records → IsOtherAt bodies records at → r ≡ get_or records at r
-    → Differs bodies at (Some r) e → Compares bodies records pending e
+pub differs_front : (bodies : List (List ℕ)) (records : List Record) (pending : Option Record) (at : ℕ) (r : Record) (e : RestartError) → at < length records → DiffersFirstAt bodies records at → r ≡ get_or records at r
+    → TellsDifferenceAt bodies at (Some r) e → TellsOtherRecords bodies records pending e
 differs_front bodies records pending at r Fault less other is told = absurd told
 differs_front bodies records pending at r NoMemory less other is told = tt
 differs_front bodies records pending at r (Damaged place named found) less other is told =
@@ -184,8 +184,8 @@ differs_front bodies records pending at r (Damaged place named found) less other
     )
 
 -- behind the records
-pub differs_behind : (bodies : List (List ℕ)) (records : List Record) (pending : Option Record) (e : RestartError) → IsFront bodies records → length records < length bodies
-    → IsOther bodies records pending → ((r : Record) → pending ≡ Some r → get_or bodies (length records) [] ≢ record_bytes r) → Differs bodies (length records) None e → Compares bodies records pending e
+pub differs_behind : (bodies : List (List ℕ)) (records : List Record) (pending : Option Record) (e : RestartError) → BeginsWithRecords bodies records → length records < length bodies
+    → AreOtherBodies bodies records pending → ((r : Record) → pending ≡ Some r → get_or bodies (length records) [] ≢ record_bytes r) → TellsDifferenceAt bodies (length records) None e → TellsOtherRecords bodies records pending e
 differs_behind bodies records pending Fault front more never other told = absurd told
 differs_behind bodies records pending NoMemory front more never other told = tt
 differs_behind bodies records pending (Damaged place named found) front more never other told = (
@@ -198,13 +198,13 @@ differs_behind bodies records pending (Damaged place named found) front more nev
   }),
 )
   where
-    behind : (p : Option Record) → ((r : Record) → p ≡ Some r → get_or bodies (length records) [] ≢ record_bytes r) → IsFound bodies (length records) found → found ≢ record_at (added_to records p) (length records)
+    behind : (p : Option Record) → ((r : Record) → p ≡ Some r → get_or bodies (length records) [] ≢ record_bytes r) → IsSpelledAt bodies (length records) found → found ≢ record_at (added_to records p) (length records)
     behind None other f e = some_record bodies (length records) found f more (e ∙ record_past records (length records) (omega arith))
     behind (Some r) other f e = other_record bodies (length records) found r f (λ there. other r refl) (e ∙ last_at records r)
 
 -- behind the records and the one more
-pub differs_past : (bodies : List (List ℕ)) (records : List Record) (r : Record) (e : RestartError) → IsFront bodies records → length records + 1 < length bodies
-    → get_or bodies (length records) [] ≡ record_bytes r → Differs bodies (length records + 1) None e → Compares bodies records (Some r) e
+pub differs_past : (bodies : List (List ℕ)) (records : List Record) (r : Record) (e : RestartError) → BeginsWithRecords bodies records → length records + 1 < length bodies
+    → get_or bodies (length records) [] ≡ record_bytes r → TellsDifferenceAt bodies (length records + 1) None e → TellsOtherRecords bodies records (Some r) e
 differs_past bodies records r Fault front more same told = absurd told
 differs_past bodies records r NoMemory front more same told = tt
 differs_past bodies records r (Damaged place named found) front more same told =

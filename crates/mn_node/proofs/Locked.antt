@@ -1,5 +1,5 @@
 -- The parts of held votes, locked one after the other.
-use Rattle.std.proofs.Common.{◌≡◌, ◌<◌, ◌+◌, ℕ, zero, suc, Bool, true, false, not, ◌&&◌, List, [], ◌∷◌, ◌++◌, reverse, take, drop, Option, Some, None, refl, ap, sym, ◌∙◌, subst, arith, if◌then◌else◌}
+use Rattle.std.proofs.Common.{◌≡◌, ◌+◌, ℕ, Bool, true, false, not, ◌&&◌, List, [], ◌∷◌, ◌++◌, reverse, take, drop, Option, Some, None, refl, ap, sym, ◌∙◌, subst, if◌then◌else◌}
 use Rattle.std.specs.List.{AllByRecursion}
 use Rattle.std.proofs.lemmas.List.{reverse-append, reverse-reverse, take-append-drop}
 use Rattle.mn_base.specs.Ids.{tid_same}
@@ -19,7 +19,7 @@ use Rattle.mn_node.specs.declared.held.Vote.{Vote}
 use Rattle.mn_node.specs.Held.{IsVoteFor}
 use Rattle.mn_node.specs.Part.{shared_of, alone_of, part_holds, holds_by, as_clash}
 use Rattle.mn_node.proofs.Ties.{holds_by-cons, tie}
-use Rattle.mn_node.proofs.Votes.{first_held, part_sound}
+use Rattle.mn_node.proofs.Votes.{first_held_parts, part_sound}
 
 -- A part that stands apart from others is free of them
 
@@ -64,7 +64,7 @@ not_told None e = refl
 not_told (Some held) e = absurd cc
 
 -- the parts of the first votes stand apart too
-apart_first : (records : List Record) (n : ℕ) → PartsAreApart (held_parts (reverse records)) → PartsAreApart (first_held records n)
+apart_first : (records : List Record) (n : ℕ) → PartsAreApart (held_parts (reverse records)) → PartsAreApart (first_held_parts records n)
 apart_first records n apart =
     let hs = reverse (held_parts (reverse records)) in
     let order : held_parts (reverse records) ≡ reverse (drop n hs) ++ reverse (take n hs) =
@@ -77,16 +77,16 @@ free_part hs h apart is =
     not_told (held_of (holds_by hs) h.tid (shared_of h.part) (alone_of h.part)) (tie hs h.tid 1 h.part is.order ∙ clash)
 
 -- the next vote's part is free to lock
-pub next_free : (records : List Record) (n : ℕ) (v : Vote) (holds : List Hold) (next : (h : HeldPart) × IsVoteFor records v h × (first_held records (n + 1) ≡ h ∷ first_held records n))
-    → AllByRecursion IsRecord records → PartsAreApart (held_parts (reverse records)) → holds ≡ holds_by (first_held records n)
+pub next_free : (records : List Record) (n : ℕ) (v : Vote) (holds : List Hold) (next : (h : HeldPart) × IsVoteFor records v h × (first_held_parts records (n + 1) ≡ h ∷ first_held_parts records n))
+    → AllByRecursion IsRecord records → PartsAreApart (held_parts (reverse records)) → holds ≡ holds_by (first_held_parts records n)
     → (h : HeldPart) × IsVoteFor records v h × (held_of holds h.tid (shared_of h.part) (alone_of h.part) ≡ None)
 next_free records n v holds next sound apart e =
     let h = next.0 in
     let both = subst PartsAreApart next.2 (apart_first records (n + 1) apart) in
-    (h, next.1, ap (λ (l : List Hold). held_of l h.tid (shared_of h.part) (alone_of h.part)) e ∙ free_part (first_held records n) h both (part_sound records v h sound next.1))
+    (h, next.1, ap (λ (l : List Hold). held_of l h.tid (shared_of h.part) (alone_of h.part)) e ∙ free_part (first_held_parts records n) h both (part_sound records v h sound next.1))
 
-pub next_locked : (records : List Record) (n : ℕ) (v : Vote) (old new : List Hold) (next : (h : HeldPart) × IsVoteFor records v h × (first_held records (n + 1) ≡ h ∷ first_held records n))
-    → ((h : HeldPart) → IsVoteFor records v h → new ≡ old ++ part_holds h) → old ≡ holds_by (first_held records n) → new ≡ holds_by (first_held records (n + 1))
+pub next_locked : (records : List Record) (n : ℕ) (v : Vote) (old new : List Hold) (next : (h : HeldPart) × IsVoteFor records v h × (first_held_parts records (n + 1) ≡ h ∷ first_held_parts records n))
+    → ((h : HeldPart) → IsVoteFor records v h → new ≡ old ++ part_holds h) → old ≡ holds_by (first_held_parts records n) → new ≡ holds_by (first_held_parts records (n + 1))
 next_locked records n v old new next told before =
     let h = next.0 in
-    told h next.1 ∙ ap (λ (l : List Hold). l ++ part_holds h) before ∙ sym (holds_by-cons h (first_held records n)) ∙ sym (ap (λ (l : List HeldPart). holds_by l) next.2)
+    told h next.1 ∙ ap (λ (l : List Hold). l ++ part_holds h) before ∙ sym (holds_by-cons h (first_held_parts records n)) ∙ sym (ap (λ (l : List HeldPart). holds_by l) next.2)

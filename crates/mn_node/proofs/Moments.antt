@@ -3,16 +3,16 @@ use Rattle.std.proofs.Common.{◌≡◌, ◌++◌, ◌∷◌, [], ◌∙◌, inl
 use Rattle.mn_io.specs.DiskModel.{DiskState, IsDisk, LeavesOnly, NoneNew, DiskStays, WritesNothing}
 use Rattle.mn_io.proofs.Moments.{LeavesOnly-trans, LeavesOnly-weaker}
 use Rattle.mn_redo.specs.Grammar.{IsBeforeOrAfter, Stands}
-use Rattle.mn_redo.specs.Redo.{RedoState, StandsFor}
+use Rattle.mn_redo.specs.Redo.{RedoState}
 use Rattle.mn_mini.specs.declared.record.Record.{Record}
 use Rattle.mn_mini.specs.RecordGrammar.{record_bytes}
 use Rattle.mn_node.specs.declared.memory.Memory.{Memory}
 use Rattle.mn_mini.specs.declared.request.Request.{Request}
 use Rattle.mn_mini.specs.Node.{Response}
-use Rattle.mn_node.specs.Node.{LogContinues, IsUp, IsWithOrWithout, LeavesAt, DiskRestsAt, StandsWithOrWithout, bodies_of, node_answer}
-use Rattle.mn_node.specs.Restart.{IsListed}
+use Rattle.mn_node.specs.Node.{LogKeepsDisk, IsNodeUp, IsWithOrWithout, CrashLeavesOnly, DiskStaysIfHonest, StandsWithOrWithout, bodies_of, node_answer}
+use Rattle.mn_node.specs.Restart.{AreBodiesWithOrWithout}
 use Rattle.mn_node.specs.State.{response_to}
-use Rattle.mn_node.proofs.Replies.{same_answer, seen, up_stands}
+use Rattle.mn_node.proofs.Replies.{same_answer, node_seen, up_stands}
 use Rattle.mn_node.proofs.Steps.{one_body_more}
 
 pub only_rests : (old new : DiskState) (P : List ℕ → Type 0) → IsDisk old → ((c : List ℕ) → old.images c → P c) → DiskStays old new → LeavesOnly old new P
@@ -30,20 +30,20 @@ only_same old P is_disk all = record {
   before = λ t c le left. inl left;
 }
 
-pub at_weaker : {D : Type 0} (state : D → DiskState) (old new : D) (P Q : List ℕ → Type 0) → ((c : List ℕ) → P c → Q c) → LeavesAt state old new P → LeavesAt state old new Q
-at_weaker state old new P Q f (inl same) = inl same
-at_weaker state old new P Q f (inr told) = inr (λ h. LeavesOnly-weaker (state old) (state new) P Q f (told h))
+pub crash_leaves_weaker : {D : Type 0} (state : D → DiskState) (old new : D) (P Q : List ℕ → Type 0) → ((c : List ℕ) → P c → Q c) → CrashLeavesOnly state old new P → CrashLeavesOnly state old new Q
+crash_leaves_weaker state old new P Q f (inl same) = inl same
+crash_leaves_weaker state old new P Q f (inr told) = inr (λ h. LeavesOnly-weaker (state old) (state new) P Q f (told h))
 
-pub at_rests : {D : Type 0} (state : D → DiskState) (old new : D) (P : List ℕ → Type 0) → ((state old).honest → IsDisk (state old)) → ((state old).honest → (c : List ℕ) → (state old).images c → P c) → DiskRestsAt state old new → LeavesAt state old new P
-at_rests state old new P is_disk all (inl same) = inl same
-at_rests state old new P is_disk all (inr stays) = inr (λ h. only_rests (state old) (state new) P (is_disk h) (all h) (stays h))
+pub crash_leaves_at_rest : {D : Type 0} (state : D → DiskState) (old new : D) (P : List ℕ → Type 0) → ((state old).honest → IsDisk (state old)) → ((state old).honest → (c : List ℕ) → (state old).images c → P c) → DiskStaysIfHonest state old new → CrashLeavesOnly state old new P
+crash_leaves_at_rest state old new P is_disk all (inl same) = inl same
+crash_leaves_at_rest state old new P is_disk all (inr stays) = inr (λ h. only_rests (state old) (state new) P (is_disk h) (all h) (stays h))
 
-pub at_then : {D : Type 0} (state : D → DiskState) (old mid new : D) (P : List ℕ → Type 0) → ((state old).honest → (state mid).honest) → LeavesAt state old mid P → LeavesAt state mid new P → LeavesAt state old new P
-at_then state old mid new P goes (inl e) second = subst (λ (d : _). LeavesAt state d new P) e second
+pub at_then : {D : Type 0} (state : D → DiskState) (old mid new : D) (P : List ℕ → Type 0) → ((state old).honest → (state mid).honest) → CrashLeavesOnly state old mid P → CrashLeavesOnly state mid new P → CrashLeavesOnly state old new P
+at_then state old mid new P goes (inl e) second = subst (λ (d : _). CrashLeavesOnly state d new P) e second
 at_then state old mid new P goes (inr first) (inl e) = inr (λ h. subst (λ (d : _). LeavesOnly (state old) (state d) P) (sym e) (first h))
 at_then state old mid new P goes (inr first) (inr second) = inr (λ h. LeavesOnly-trans (state old) (state mid) (state new) P (first h) (second (goes h)))
 
-pub up_images : {D : Type 0} (state : D → DiskState) (redo : RedoState D) (m : Memory) (added : Option Record) → IsUp state redo m → (state redo.disk).honest → (c : List ℕ) → (state redo.disk).images c → IsWithOrWithout redo.node redo.nodes m.records.items added c
+pub up_images : {D : Type 0} (state : D → DiskState) (redo : RedoState D) (m : Memory) (added : Option Record) → IsNodeUp state redo m → (state redo.disk).honest → (c : List ℕ) → (state redo.disk).images c → IsWithOrWithout redo.node redo.nodes m.records.items added c
 up_images state redo m added up h c image = inl (up_stands state redo m up h c image)
 
 pub with_record : (node nodes : ℕ) (bodies : List (List ℕ)) (body : List ℕ) (records : List Record) (r : Record) → bodies ≡ bodies_of records → body ≡ record_bytes r → (c : List ℕ) → IsBeforeOrAfter node nodes bodies body c
@@ -66,24 +66,24 @@ moved node node2 nodes nodes2 records records2 added e f g c told =
     subst (λ (l : List Record). IsWithOrWithout node2 nodes2 l added c) g with_nodes
 
 -- a record is put into the log, after room was made
-pub kept_moments : {D : Type 0} (state : D → DiskState) (faults : D → ℕ) (old mid : RedoState D) (new : D) (m middle : Memory) (r : Record) (body : List ℕ) → ((state old.disk).honest → IsDisk (state old.disk)) → IsUp state old m → IsUp state mid middle
-    → LogContinues state faults old mid → middle.records.items ≡ m.records.items → body ≡ record_bytes r → DiskRestsAt state old.disk mid.disk → LeavesAt state mid.disk new (IsBeforeOrAfter mid.node mid.nodes mid.bodies body)
-    → LeavesAt state old.disk new (IsWithOrWithout old.node old.nodes m.records.items (Some r))
-kept_moments state faults old mid new m middle r body is_disk up still goes same spelled rests put =
+pub logging_moments : {D : Type 0} (state : D → DiskState) (faults : D → ℕ) (old mid : RedoState D) (new : D) (m middle : Memory) (r : Record) (body : List ℕ) → ((state old.disk).honest → IsDisk (state old.disk)) → IsNodeUp state old m → IsNodeUp state mid middle
+    → LogKeepsDisk state faults old mid → middle.records.items ≡ m.records.items → body ≡ record_bytes r → DiskStaysIfHonest state old.disk mid.disk → CrashLeavesOnly state mid.disk new (IsBeforeOrAfter mid.node mid.nodes mid.bodies body)
+    → CrashLeavesOnly state old.disk new (IsWithOrWithout old.node old.nodes m.records.items (Some r))
+logging_moments state faults old mid new m middle r body is_disk up still goes same spelled rests put =
     let P = IsWithOrWithout old.node old.nodes m.records.items (Some r) in
-    let first = at_rests state old.disk mid.disk P is_disk (up_images state old m (Some r) up) rests in
-    let second = at_weaker state mid.disk new (IsBeforeOrAfter mid.node mid.nodes mid.bodies body) P
+    let first = crash_leaves_at_rest state old.disk mid.disk P is_disk (up_images state old m (Some r) up) rests in
+    let second = crash_leaves_weaker state mid.disk new (IsBeforeOrAfter mid.node mid.nodes mid.bodies body) P
     (λ c told. moved mid.node old.node mid.nodes old.nodes middle.records.items m.records.items (Some r) goes.node goes.nodes same c (with_record mid.node mid.nodes mid.bodies body middle.records.items r still.bodies spelled c told)) put in
     at_then state old.disk mid.disk new P goes.honest first second
 
-pub at_only : {D : Type 0} (state : D → DiskState) (old new : D) (P : List ℕ → Type 0) → (state old).honest → IsDisk (state old) → ((c : List ℕ) → (state old).images c → P c) → LeavesAt state old new P → LeavesOnly (state old) (state new) P
+pub at_only : {D : Type 0} (state : D → DiskState) (old new : D) (P : List ℕ → Type 0) → (state old).honest → IsDisk (state old) → ((c : List ℕ) → (state old).images c → P c) → CrashLeavesOnly state old new P → LeavesOnly (state old) (state new) P
 at_only state old new P h is_disk all (inl e) = subst (λ (d : _). LeavesOnly (state old) (state d) P) (sym e) (only_same (state old) P is_disk all)
 at_only state old new P h is_disk all (inr told) = told h
 
 -- a request to a node that is up
-pub request_moments : {D : Type 0} (state : D → DiskState) (redo new : RedoState D) (m : Memory) (down : Bool) (pending : Option Record) (request : Request) → IsUp state redo m → m.node ≡ redo.node → m.nodes ≡ redo.nodes
-    → ((state redo.disk).honest → IsDisk (state redo.disk)) → LeavesAt state redo.disk new.disk (IsWithOrWithout redo.node redo.nodes m.records.items (node_answer m request).added)
-    → (state redo.disk).honest → LeavesOnly (state redo.disk) (state new.disk) (IsWithOrWithout redo.node redo.nodes m.records.items (response_to (seen redo m down pending) request).added)
+pub request_moments : {D : Type 0} (state : D → DiskState) (redo new : RedoState D) (m : Memory) (down : Bool) (pending : Option Record) (request : Request) → IsNodeUp state redo m → m.node ≡ redo.node → m.nodes ≡ redo.nodes
+    → ((state redo.disk).honest → IsDisk (state redo.disk)) → CrashLeavesOnly state redo.disk new.disk (IsWithOrWithout redo.node redo.nodes m.records.items (node_answer m request).added)
+    → (state redo.disk).honest → LeavesOnly (state redo.disk) (state new.disk) (IsWithOrWithout redo.node redo.nodes m.records.items (response_to (node_seen redo m down pending) request).added)
 request_moments state redo new m down pending request up e f is_disk told h =
     let same = same_answer redo m down pending request e f in
     subst (λ (r : Response). LeavesOnly (state redo.disk) (state new.disk) (IsWithOrWithout redo.node redo.nodes m.records.items r.added)) same
@@ -91,7 +91,7 @@ request_moments state redo new m down pending request up e f is_disk told h =
 
 -- Starts and restarts
 
-pub listed_stands : (node nodes : ℕ) (bodies : List (List ℕ)) (records : List Record) (pending : Option Record) (there : Bool) → IsListed bodies records pending there → (c : List ℕ) → Stands node nodes c bodies → IsWithOrWithout node nodes records pending c
+pub listed_stands : (node nodes : ℕ) (bodies : List (List ℕ)) (records : List Record) (pending : Option Record) (there : Bool) → AreBodiesWithOrWithout bodies records pending there → (c : List ℕ) → Stands node nodes c bodies → IsWithOrWithout node nodes records pending c
 listed_stands node nodes bodies records pending false e c told = inl (subst (λ (l : List (List ℕ)). Stands node nodes c l) e told)
 listed_stands node nodes bodies records None true e c told = absurd e
 listed_stands node nodes bodies records (Some r) true e c told = inr (subst (λ (l : List (List ℕ)). Stands node nodes c l) e told)
@@ -100,7 +100,7 @@ pub reopened : {D : Type 0} (state : D → DiskState) (old : RedoState D) (mid :
     → LeavesOnly (state old.disk) (state mid) (IsWithOrWithout old.node old.nodes records pending)
 reopened state old mid records pending stands told = LeavesOnly-weaker (state old.disk) (state mid) (state old.disk).images (IsWithOrWithout old.node old.nodes records pending) stands told
 
-pub woken : {D : Type 0} (state : D → DiskState) (old mid : RedoState D) (new : D) (records : List Record) (pending : Option Record) (there : Bool) → mid.node ≡ old.node → mid.nodes ≡ old.nodes → IsListed mid.bodies records pending there
+pub woken : {D : Type 0} (state : D → DiskState) (old mid : RedoState D) (new : D) (records : List Record) (pending : Option Record) (there : Bool) → mid.node ≡ old.node → mid.nodes ≡ old.nodes → AreBodiesWithOrWithout mid.bodies records pending there
     → StandsWithOrWithout (state old.disk) old.node old.nodes records pending → LeavesOnly (state old.disk) (state mid.disk) (state old.disk).images → LeavesOnly (state mid.disk) (state new) (λ c. Stands mid.node mid.nodes c mid.bodies)
     → LeavesOnly (state old.disk) (state new) (IsWithOrWithout old.node old.nodes records pending)
 woken state old mid new records pending there e f listed stands first second =

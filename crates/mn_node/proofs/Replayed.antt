@@ -1,13 +1,11 @@
 -- What records make of the space and of the forced ids, one after the other.
-use Rattle.std.proofs.Common.{◌≡◌, ◌<◌, ◌+◌, ◌++◌, ℕ, zero, suc, Bool, true, false, List, [], ◌∷◌, length, reverse, take, get_or, ap, sym, ◌∙◌, arith, if◌then◌else◌}
-use Rattle.std.specs.List.{AllByRecursion}
+use Rattle.std.proofs.Common.{◌≡◌, ◌<◌, ◌+◌, ℕ, Bool, true, false, List, [], ◌∷◌, length, reverse, take, get_or, ap, sym, ◌∙◌, if◌then◌else◌}
 use Rattle.std.proofs.lemmas.List.{take_more, reverse-append}
 use Rattle.mn_base.specs.Ids.{tid_same}
 use Rattle.mn_base.specs.declared.ids.Tid.{Tid}
 use Rattle.mn_mini.specs.declared.record.Record.{Record}
 use Rattle.mn_mini.specs.declared.record.Record.TheVariants.{Decided}
 use Rattle.mn_mini.specs.Node.{held_parts, space_of, with_held}
-use Rattle.mn_mini.specs.RecordGrammar.{IsRecord}
 
 pub space_decided : (base : List ℕ) (rs : List Record) (space new : List ℕ) (tid : Tid) (verdict : Bool)
     → new ≡ (if verdict then with_held (λ t. tid_same t tid) space (held_parts rs) else space) → space ≡ space_of base rs → new ≡ space_of base (Decided tid verdict ∷ rs)

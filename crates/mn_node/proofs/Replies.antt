@@ -1,12 +1,10 @@
 -- What a node's calls say to their callers.
-use Rattle.std.proofs.Common.{◌≡◌, ◌<◌, ◌+◌, ℕ, Bool, false, List, [], ◌∷◌, ◌++◌, length, take, get_or, reverse, Option, refl, ap, sym, ◌∙◌, subst}
+use Rattle.std.proofs.Common.{◌≡◌, ◌<◌, ◌+◌, ℕ, Bool, false, List, [], ◌∷◌, ◌++◌, length, take, get_or, reverse, Option, ap, sym, ◌∙◌, subst}
 use Rattle.std.proofs.lemmas.List.{take_more, map-append}
 use Rattle.mn_base.specs.declared.gate.StopAt.{StopAt}
 use Rattle.mn_base.proofs.Lists.{all_append}
 use Rattle.mn_io.specs.DiskModel.{DiskState}
 use Rattle.mn_redo.specs.Redo.{RedoState, StandsFor}
-use Rattle.mn_redo.specs.declared.redo.Phase.{Phase}
-use Rattle.mn_redo.specs.declared.redo.Phase.TheVariants.{Fresh, Started, Closing}
 use Rattle.mn_mini.specs.declared.record.Record.{Record}
 use Rattle.mn_mini.specs.declared.request.Request.{Request}
 use Rattle.mn_mini.specs.declared.reply.NodeReply.{NodeReply}
@@ -15,42 +13,42 @@ use Rattle.mn_mini.specs.Node.{Response, answer}
 use Rattle.mn_mini.specs.RecordGrammar.{IsRecord, Spells, record_bytes}
 use Rattle.mn_node.specs.declared.memory.Memory.{Memory}
 use Rattle.mn_page.specs.Base.{base_of}
-use Rattle.mn_node.specs.Node.{IsUp, IsUnasked, Replies, bodies_of, added_to, node_answer}
+use Rattle.mn_node.specs.Node.{IsNodeUp, NoStopIsDue, Replies, bodies_of, added_to, node_answer}
 use Rattle.mn_node.specs.State.{NodeState, Answers, AreRecords, StandsForRecords, response_to}
 
-abbrev pub seen : {D : Type 0} → RedoState D → Memory → Bool → Option Record → NodeState D
-seen redo m down pending = record { disk = redo.disk; node = redo.node; nodes = redo.nodes; records = m.records.items; down = down; pending = pending }
+abbrev pub node_seen : {D : Type 0} → RedoState D → Memory → Bool → Option Record → NodeState D
+node_seen redo m down pending = record { disk = redo.disk; node = redo.node; nodes = redo.nodes; records = m.records.items; down = down; pending = pending }
 
-pub up_stands : {D : Type 0} (state : D → DiskState) (redo : RedoState D) (m : Memory) → IsUp state redo m → StandsForRecords (state redo.disk) redo.node redo.nodes m.records.items
+pub up_stands : {D : Type 0} (state : D → DiskState) (redo : RedoState D) (m : Memory) → IsNodeUp state redo m → StandsForRecords (state redo.disk) redo.node redo.nodes m.records.items
 up_stands state redo m up = λ h. subst (λ (l : List (List ℕ)). StandsFor (state redo.disk) redo.node redo.nodes l) up.bodies (up.stands h)
 
 pub same_answer : {D : Type 0} (redo : RedoState D) (m : Memory) (down : Bool) (pending : Option Record) (request : Request) → m.node ≡ redo.node → m.nodes ≡ redo.nodes
-    → node_answer m request ≡ response_to (seen redo m down pending) request
+    → node_answer m request ≡ response_to (node_seen redo m down pending) request
 same_answer redo m down pending request e f =
     ap (λ (n : ℕ). answer (base_of m.nodes n) (reverse m.records.items) request) e ∙ ap (λ (n : ℕ). answer (base_of n redo.node) (reverse m.records.items) request) f
 
 -- a reply that is the answer
-abbrev Whole : {D : Type 0} → (D → DiskState) → NodeState D → Request → Option StopAt → NodeReply → NodeState D → Type 0
-Whole state old request stop reply new =
+abbrev IsWholeAnswer : {D : Type 0} → (D → DiskState) → NodeState D → Request → Option StopAt → NodeReply → NodeState D → Type 0
+IsWholeAnswer state old request stop reply new =
     (old.down ≡ false) × (new.down ≡ false) × ((response_to old request).reply ≡ reply) × (new.records ≡ added_to old.records (response_to old request).added)
-    × IsUnasked stop (response_to old request).added × StandsForRecords (state new.disk) new.node new.nodes new.records
+    × NoStopIsDue stop (response_to old request).added × StandsForRecords (state new.disk) new.node new.nodes new.records
 
 whole : {D : Type 0} (state : D → DiskState) (redo new : RedoState D) (m after : Memory) (down : Bool) (pending : Option Record) (request : Request) (stop : Option StopAt) (reply : NodeReply)
     → down ≡ false → m.node ≡ redo.node → m.nodes ≡ redo.nodes
-    → IsUp state new after × ((node_answer m request).reply ≡ reply) × (after.records.items ≡ added_to m.records.items (node_answer m request).added) × IsUnasked stop (node_answer m request).added
-    → Whole state (seen redo m down pending) request stop reply (seen new after down pending)
+    → IsNodeUp state new after × ((node_answer m request).reply ≡ reply) × (after.records.items ≡ added_to m.records.items (node_answer m request).added) × NoStopIsDue stop (node_answer m request).added
+    → IsWholeAnswer state (node_seen redo m down pending) request stop reply (node_seen new after down pending)
 whole state redo new m after down pending request stop reply up e f told =
     let same = same_answer redo m down pending request e f in (
       up,
       up,
       sym (ap (λ (r : Response). r.reply) same) ∙ told.1,
       told.2 ∙ ap (λ (r : Response). added_to m.records.items r.added) same,
-      subst (λ (r : Response). IsUnasked stop r.added) same told.3,
+      subst (λ (r : Response). NoStopIsDue stop r.added) same told.3,
       up_stands state new after told.0,
     )
 
 pub replied : {D : Type 0} (state : D → DiskState) (faults : D → ℕ) (redo new : RedoState D) (m after : Memory) (down : Bool) (pending : Option Record) (request : Request) (stop : Option StopAt) (reply : NodeReply)
-    → down ≡ false → m.node ≡ redo.node → m.nodes ≡ redo.nodes → Replies state m request stop reply new after → Answers state faults (seen redo m down pending) request stop reply (seen new after down pending)
+    → down ≡ false → m.node ≡ redo.node → m.nodes ≡ redo.nodes → Replies state m request stop reply new after → Answers state faults (node_seen redo m down pending) request stop reply (node_seen new after down pending)
 replied state faults redo new m after down pending request stop Say.NoMemory up e f told = (up, up, told.1, up_stands state new after told.0)
 replied state faults redo new m after down pending request stop Say.Stopped up e f told = absurd told
 replied state faults redo new m after down pending request stop Say.Down up e f told = absurd told

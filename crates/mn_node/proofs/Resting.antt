@@ -1,9 +1,7 @@
 -- A disk of which nothing has changed but its room.
-use Rattle.std.proofs.Common.{◌≡◌, ◌≢◌, inl, inr, ⊎_elim, refl, ◌∙◌, subst, arith}
+use Rattle.std.proofs.Common.{inl, inr, ⊎_elim, refl, ◌∙◌, subst, arith}
 use Rattle.mn_io.specs.DiskModel.{DiskState, IsDisk, DiskStays}
-use Rattle.mn_redo.specs.declared.redo.Phase.{Phase}
-use Rattle.mn_redo.specs.declared.redo.Phase.TheVariants.{Fresh, Started, Closing}
-use Rattle.mn_node.specs.Node.{DiskRestsAt}
+use Rattle.mn_node.specs.Node.{DiskStaysIfHonest}
 
 -- a disk that no call touched
 pub stays_same : (disk : DiskState) → disk.honest → DiskStays disk disk
@@ -30,7 +28,7 @@ stays_then old mid new is_disk first second = record {
 
 -- after a disk that rested, one that stays
 pub rests_then : {D : Type 0} (state : D → DiskState) (old mid new : D) → ((state old).honest → IsDisk (state old)) → ((state old).honest → (state mid).honest)
-    → DiskRestsAt state old mid → ((state mid).honest → DiskStays (state mid) (state new)) → (state old).honest → DiskStays (state old) (state new)
+    → DiskStaysIfHonest state old mid → ((state mid).honest → DiskStays (state mid) (state new)) → (state old).honest → DiskStays (state old) (state new)
 rests_then state old mid new is_disk goes (inl same) stays h = subst (λ (d : _). DiskStays (state d) (state new)) same (stays (goes h))
 rests_then state old mid new is_disk goes (inr rests) stays h =
     stays_then (state old) (state mid) (state new) (is_disk h) (rests h) (stays (goes h))

@@ -1,20 +1,19 @@
 -- A node that is up, after a record was added.
-use Rattle.std.proofs.Common.{vec_len, ◌≡◌, ◌≤◌, ◌+◌, ◌*◌, ℕ, Bool, true, false, List, [], ◌∷◌, ◌++◌, Option, Some, None, Result, Ok, Err, OnOk, OnErr, MatchOption, inl, inr, refl, ap, sym, ◌∙◌, subst, arith}
-use Rattle.std.specs.Prelude.{is_some, ◌⊎◌}
+use Rattle.std.proofs.Common.{vec_len, ◌≡◌, ◌≤◌, ◌+◌, ◌*◌, ℕ, Bool, true, false, List, [], ◌∷◌, ◌++◌, Option, Some, None, Result, Ok, Err, OnOk, OnErr, inl, inr, refl, ap, sym, ◌∙◌, subst, arith}
+use Rattle.std.specs.Prelude.{◌⊎◌}
 use Rattle.std.specs.Result.{is_err}
 use Rattle.std.proofs.lemmas.Bool.{false≢true}
-use Rattle.mn_io.specs.Faults.{HasCause, Rose}
+use Rattle.mn_io.specs.Faults.{Rose}
 use Rattle.mn_redo.specs.Grammar.{IsBeforeOrAfter}
-use Rattle.mn_mini.specs.declared.part.PartItem.{PartItem}
 use Rattle.mn_base.specs.declared.ids.Tid.{Tid}
 use Rattle.std.specs.Prelude.{if◌then◌else◌}
 use Rattle.mn_mini.specs.declared.record.Record.TheVariants.{Forced}
 use Rattle.mn_mini.specs.declared.request.Request.TheVariants as Ask
 use Rattle.mn_mini.specs.declared.reply.NodeReply.TheVariants as Say
-use Rattle.mn_mini.specs.Node.{HeldPart, Response, only_reply, answer, has_voted, has_forced}
+use Rattle.mn_mini.specs.Node.{Response, only_reply, answer, has_voted, has_forced}
 use Rattle.mn_base.specs.declared.gate.StopAt.{StopAt}
 use Rattle.mn_base.specs.declared.gate.StopAt.TheVariants.{Before, Half, After}
-use Rattle.mn_node.specs.Node.{StandsWithOrWithout, StopsAt, HasStopped, LogContinues, IsUnasked, IsLogged, IsPut, DiskRestsAt, added_to}
+use Rattle.mn_node.specs.Node.{StandsWithOrWithout, StopLeaves, HasStopped, LogKeepsDisk, NoStopIsDue, IsLogged, HasOneBodyMore, DiskStaysIfHonest, added_to}
 use Rattle.mn_node.proofs.Resting.{rests_then}
 use Rattle.std.proofs.lemmas.List.{map-append}
 use Rattle.mn_io.specs.DiskModel.{DiskState, IsDisk}
@@ -25,17 +24,17 @@ use Rattle.mn_mini.specs.declared.record.Record.{Record}
 use Rattle.mn_mini.specs.RecordGrammar.{record_bytes}
 use Rattle.mn_node.specs.declared.memory.Memory.{Memory}
 use Rattle.mn_node.specs.Memory.{IsMemory, HasDecisionRoom}
-use Rattle.mn_node.specs.Node.{IsUp, bodies_of}
+use Rattle.mn_node.specs.Node.{IsNodeUp, bodies_of}
 
 pub one_body_more : (records : List Record) (r : Record) → bodies_of records ++ record_bytes r ∷ [] ≡ bodies_of (records ++ r ∷ [])
 one_body_more records r = sym (map-append record_bytes records (r ∷ []))
 
 pub up_added : {D : Type 0} (state : D → DiskState) (old new : RedoState D) (before after : Memory) (r : Record)
-    → IsUp state old before → new.phase ≡ Started → new.bodies ≡ old.bodies ++ record_bytes r ∷ [] → new.node ≡ old.node → new.nodes ≡ old.nodes
+    → IsNodeUp state old before → new.phase ≡ Started → new.bodies ≡ old.bodies ++ record_bytes r ∷ [] → new.node ≡ old.node → new.nodes ≡ old.nodes
     → ((state old.disk).honest → StandsFor (state new.disk) old.node old.nodes (old.bodies ++ record_bytes r ∷ []))
     → ((state new.disk).honest → (state old.disk).honest)
     → IsMemory after → HasDecisionRoom after → after.records.items ≡ before.records.items ++ r ∷ []
-    → vec_len after.held ≤ new.spare_bodies → 11 * vec_len after.held ≤ new.spare_bytes → IsUp state new after
+    → vec_len after.held ≤ new.spare_bodies → 11 * vec_len after.held ≤ new.spare_bytes → IsNodeUp state new after
 up_added state old new before after r up started bodies node nodes stands better memory room records spare_bodies spare_bytes = record {
   memory = memory;
   room = room;
@@ -51,9 +50,9 @@ up_added state old new before after r up started bodies node nodes stands better
 }
 
 -- a log that has one more body stands for its bodies
-pub put_stands : {D : Type 0} (state : D → DiskState) (old new : RedoState D) (body : List ℕ) → IsPut state old new body → new.node ≡ old.node → new.nodes ≡ old.nodes → ((state new.disk).honest → (state old.disk).honest)
+pub appended_stands : {D : Type 0} (state : D → DiskState) (old new : RedoState D) (body : List ℕ) → HasOneBodyMore state old new body → new.node ≡ old.node → new.nodes ≡ old.nodes → ((state new.disk).honest → (state old.disk).honest)
     → (state new.disk).honest → StandsFor (state new.disk) new.node new.nodes new.bodies
-put_stands state old new body put node nodes better h c image =
+appended_stands state old new body put node nodes better h c image =
     let told : Stands old.node old.nodes c (old.bodies ++ body ∷ []) = put.stands (better h) c image in
     let with_node = subst (λ (n : ℕ). Stands n old.nodes c (old.bodies ++ body ∷ [])) (sym node) told in
     let with_nodes = subst (λ (n : ℕ). Stands new.node n c (old.bodies ++ body ∷ [])) (sym nodes) with_node in
@@ -97,24 +96,24 @@ pub ok_both : {T E : Type 0} (r : Result T E) (P Q R : Type 0) → (P → Q → 
 ok_both (Ok x) P Q R f p q = f p q
 ok_both (Err x) P Q R f p q = tt
 
-pub unasked : (stop : Option StopAt) (added : Option Record) → stop ≡ None → IsUnasked stop added
-unasked stop added e = subst (λ (o : Option StopAt). IsUnasked o added) (sym e) tt
+pub unasked : (stop : Option StopAt) (added : Option Record) → stop ≡ None → NoStopIsDue stop added
+unasked stop added e = subst (λ (o : Option StopAt). NoStopIsDue o added) (sym e) tt
 
 pub stops_here : {D : Type 0} (state : D → DiskState) (faults : D → ℕ) (old new : RedoState D) (records : List Record) (r : Record) (body : List ℕ) (stop : Option StopAt)
     → old.bodies ≡ bodies_of records → body ≡ record_bytes r
     → ((state old.disk).honest → (c : List ℕ) → (state new.disk).images c → IsBeforeOrAfter old.node old.nodes old.bodies body c)
-    → StopsAt state faults old.disk new.disk old.node old.nodes old.bodies body stop → HasStopped state faults old.disk new.disk old.node old.nodes records r stop
+    → StopLeaves state faults old.disk new.disk old.node old.nodes old.bodies body stop → HasStopped state faults old.disk new.disk old.node old.nodes records r stop
 stops_here state faults old new records r body stop bodies spelled images told = record {
   stands = λ h. stopped state old new records r (Some r) body bodies spelled refl (images h);
   at =
-      let with_bodies = subst (λ (l : List (List ℕ)). StopsAt state faults old.disk new.disk old.node old.nodes l body stop) bodies told in
-      subst (λ (b : List ℕ). StopsAt state faults old.disk new.disk old.node old.nodes (bodies_of records) b stop) spelled with_bodies;
+      let with_bodies = subst (λ (l : List (List ℕ)). StopLeaves state faults old.disk new.disk old.node old.nodes l body stop) bodies told in
+      subst (λ (b : List ℕ). StopLeaves state faults old.disk new.disk old.node old.nodes (bodies_of records) b stop) spelled with_bodies;
 }
 
 -- the same, since an earlier time
 stops_since : {D : Type 0} (state : D → DiskState) (faults : D → ℕ) (old mid new : D) (node nodes : ℕ) (bodies : List (List ℕ)) (body : List ℕ) (stop : Option StopAt)
-    → faults old ≤ faults mid → ((state old).honest → (state mid).honest) → ((state old).honest → IsDisk (state old)) → DiskRestsAt state old mid
-    → StopsAt state faults mid new node nodes bodies body stop → StopsAt state faults old new node nodes bodies body stop
+    → faults old ≤ faults mid → ((state old).honest → (state mid).honest) → ((state old).honest → IsDisk (state old)) → DiskStaysIfHonest state old mid
+    → StopLeaves state faults mid new node nodes bodies body stop → StopLeaves state faults old new node nodes bodies body stop
 stops_since state faults old mid new node nodes bodies body None later honest is_disk rests told = rose_later (faults old) (faults mid) (faults new) later told
 stops_since state faults old mid new node nodes bodies body (Some Before) later honest is_disk rests told =
     λ h. ((told (honest h)).0, rests_then state old mid new is_disk honest rests (λ g. (told g).1) h)
@@ -127,20 +126,20 @@ stops_since state faults old mid new node nodes bodies body (Some After) later h
 stops_since state faults old mid new node nodes bodies body (Some After) later honest is_disk rests (inr told) = inr (λ h. told (honest h))
 
 pub stops_earlier : {D : Type 0} (state : D → DiskState) (faults : D → ℕ) (old mid : RedoState D) (new : D) (records before : List Record) (r : Record) (stop : Option StopAt)
-    → LogContinues state faults old mid → ((state old.disk).honest → IsDisk (state old.disk)) → DiskRestsAt state old.disk mid.disk → records ≡ before
+    → LogKeepsDisk state faults old mid → ((state old.disk).honest → IsDisk (state old.disk)) → DiskStaysIfHonest state old.disk mid.disk → records ≡ before
     → HasStopped state faults mid.disk new mid.node mid.nodes records r stop → HasStopped state faults old.disk new old.node old.nodes before r stop
 stops_earlier state faults old mid new records before r stop goes is_disk rests same told = record {
   stands = λ h. same_stands (state new) mid.node old.node mid.nodes old.nodes records before (Some r) goes.node goes.nodes same (told.stands (goes.honest h));
   at =
       let since = stops_since state faults old.disk mid.disk new mid.node mid.nodes (bodies_of records) (record_bytes r) stop goes.later goes.honest is_disk rests told.at in
-      let with_node = subst (λ (n : ℕ). StopsAt state faults old.disk new n mid.nodes (bodies_of records) (record_bytes r) stop) goes.node since in
-      let with_nodes = subst (λ (n : ℕ). StopsAt state faults old.disk new old.node n (bodies_of records) (record_bytes r) stop) goes.nodes with_node in
-      subst (λ (l : List Record). StopsAt state faults old.disk new old.node old.nodes (bodies_of l) (record_bytes r) stop) same with_nodes;
+      let with_node = subst (λ (n : ℕ). StopLeaves state faults old.disk new n mid.nodes (bodies_of records) (record_bytes r) stop) goes.node since in
+      let with_nodes = subst (λ (n : ℕ). StopLeaves state faults old.disk new old.node n (bodies_of records) (record_bytes r) stop) goes.nodes with_node in
+      subst (λ (l : List Record). StopLeaves state faults old.disk new old.node old.nodes (bodies_of l) (record_bytes r) stop) same with_nodes;
 }
 
 -- a logged record that the memory then takes leaves the node up
 pub up_logged : {D : Type 0} (state : D → DiskState) (redo : RedoState D) (m after : Memory) (r : Record) (count : ℕ) → IsLogged state redo m r count → IsMemory after → HasDecisionRoom after
-    → after.records.items ≡ m.records.items ++ r ∷ [] → vec_len after.held ≤ vec_len m.held + 1 → IsUp state redo after
+    → after.records.items ≡ m.records.items ++ r ∷ [] → vec_len after.held ≤ vec_len m.held + 1 → IsNodeUp state redo after
 up_logged state redo m after r count logged memory room records held = record {
   memory = memory;
   room = room;

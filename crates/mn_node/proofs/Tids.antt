@@ -1,9 +1,7 @@
 -- Ids: sameness is equality, and their order is total.
-use Rattle.std.proofs.Common.{◌≡◌, true, false, ◌&&◌, arith}
-use Rattle.std.specs.Prelude.{nat_eq}
-use Rattle.std.proofs.lemmas.Bool.{and_parts, eqb-true}
+use Rattle.std.proofs.Common.{◌≡◌, true, false, arith}
 use Rattle.std.proofs.lemmas.Bool.Decides.{nat_tests}
-use Rattle.mn_base.specs.Ids.{tid_same, tid_lt, client_same}
+use Rattle.mn_base.specs.Ids.{tid_same, tid_lt}
 use Rattle.mn_base.specs.declared.ids.Tid.{Tid}
 use Rattle.mn_mini.proofs.RecordGrammar.{same_tid}
 

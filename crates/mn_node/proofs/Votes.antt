@@ -1,5 +1,5 @@
 -- The votes whose parts are held, as a node keeps them.
-use Rattle.std.proofs.Common.{◌≡◌, ◌<◌, ◌≤◌, ◌+◌, ℕ, zero, suc, Bool, true, false, not, ◌||◌, List, [], ◌∷◌, ◌++◌, length, reverse, take, drop, get_or, slice_get, Option, Some, None, is_some, refl, ap, sym, ◌∙◌, subst, arith, append-nil, if◌then◌else◌}
+use Rattle.std.proofs.Common.{◌≡◌, ◌<◌, ◌≤◌, ◌+◌, ℕ, zero, suc, Bool, true, false, not, ◌||◌, List, [], ◌∷◌, ◌++◌, length, reverse, take, get_or, slice_get, Some, is_some, refl, ap, sym, ◌∙◌, subst, arith, append-nil, if◌then◌else◌}
 use Rattle.std.specs.List.{AllByRecursion, AllZip, list_any}
 use Rattle.std.proofs.lemmas.Option.{get_or_from_slice_get, slice_get_within}
 use Rattle.std.proofs.lemmas.Slice.Zip.{AllZip-long}
@@ -7,18 +7,17 @@ use Rattle.std.proofs.lemmas.List.{take_more, take_all, reverse-append, reverse-
 use Rattle.mn_base.specs.Ids.{tid_same}
 use Rattle.mn_base.specs.declared.ids.NodeNo.{NodeNo}
 use Rattle.mn_base.specs.declared.ids.Tid.{Tid}
-use Rattle.mn_base.proofs.Booleans.{or_split}
 use Rattle.mn_base.proofs.Lists.{any_turned, before_last, last_at}
 use Rattle.mn_mini.specs.declared.doubt.Doubt.{Doubt}
 use Rattle.mn_mini.specs.declared.part.PartItem.{PartItem}
 use Rattle.mn_mini.specs.declared.record.Record.{Record}
-use Rattle.mn_mini.specs.declared.record.Record.TheVariants.{Voted, Executed, Decided, Forced}
+use Rattle.mn_mini.specs.declared.record.Record.TheVariants.{Voted, Decided}
 use Rattle.mn_mini.specs.Flat.{space_after_part}
 use Rattle.mn_mini.specs.Node.{HeldPart, doubts_of, held_parts, held_part_of, is_held, with_doubt, with_held, without_tid}
 use Rattle.mn_mini.specs.RecordGrammar.{IsRecord, IsPart}
 use Rattle.mn_page.proofs.Grid.{all_at_place}
 use Rattle.mn_node.specs.declared.held.Vote.{Vote}
-use Rattle.mn_node.specs.Held.{AreHeld, IsVote, IsVoteFor, others}
+use Rattle.mn_node.specs.Held.{AreHeldVotes, IsVote, IsVoteFor, votes_of_others}
 
 -- One record more
 
@@ -55,14 +54,14 @@ without-reverse t (h ∷ hs) =
     of true ih = append-nil (without_tid t (reverse hs)) ∙ ih
     of false ih = ap (λ (l : List HeldPart). l ++ h ∷ []) ih ∙ sym (reverse-append (h ∷ []) (without_tid t hs))
 
-others_left : (records : List Record) (tid : Tid) (vs : List Vote) (hs : List HeldPart) → AllZip (IsVoteFor records) vs hs → AllZip (IsVoteFor records) (others tid vs) (without_tid tid hs)
+others_left : (records : List Record) (tid : Tid) (vs : List Vote) (hs : List HeldPart) → AllZip (IsVoteFor records) vs hs → AllZip (IsVoteFor records) (votes_of_others tid vs) (without_tid tid hs)
 others_left records tid [] [] z = tt
 others_left records tid [] (h ∷ hs) z = absurd z
 others_left records tid (v ∷ vs) [] z = absurd z
 others_left records tid (v ∷ vs) (h ∷ hs) z = of (tid_same v.tid tid) (tid_same h.tid tid) (ap (λ (t : Tid). tid_same t tid) z.0.tid) (others_left records tid vs hs z.1)
   where
-    of : (a b : Bool) → a ≡ b → AllZip (IsVoteFor records) (others tid vs) (without_tid tid hs)
-        → AllZip (IsVoteFor records) (if not a then v ∷ others tid vs else others tid vs) (if b then without_tid tid hs else h ∷ without_tid tid hs)
+    of : (a b : Bool) → a ≡ b → AllZip (IsVoteFor records) (votes_of_others tid vs) (without_tid tid hs)
+        → AllZip (IsVoteFor records) (if not a then v ∷ votes_of_others tid vs else votes_of_others tid vs) (if b then without_tid tid hs else h ∷ without_tid tid hs)
     of true true e ih = ih
     of true false e ih = absurd cc
     of false true e ih = absurd cc
@@ -71,7 +70,7 @@ others_left records tid (v ∷ vs) (h ∷ hs) z = of (tid_same v.tid tid) (tid_s
 pub newest : (records : List Record) (r : Record) → reverse (records ++ r ∷ []) ≡ r ∷ reverse records
 newest records r = reverse-append records (r ∷ [])
 
-pub held_voted : (records : List Record) (vs : List Vote) (tid : Tid) (ps : List NodeNo) (part : List PartItem) (place : ℕ) → place ≡ length records → AreHeld records vs → AreHeld (records ++ Voted tid ps part ∷ []) (vs ++ record { tid = tid; place = place } ∷ [])
+pub held_voted : (records : List Record) (vs : List Vote) (tid : Tid) (ps : List NodeNo) (part : List PartItem) (place : ℕ) → place ≡ length records → AreHeldVotes records vs → AreHeldVotes (records ++ Voted tid ps part ∷ []) (vs ++ record { tid = tid; place = place } ∷ [])
 held_voted records vs tid ps part place at are =
     let h : HeldPart = record { tid = tid; participants = ps; part = part } in
     let v : Vote = record { tid = tid; place = place } in
@@ -82,18 +81,18 @@ held_voted records vs tid ps part place at are =
     (one_more (records ++ r ∷ []) vs old v h (votes_more records (r ∷ []) vs old are) (record { tid = refl; record_is = ap (λ (n : ℕ). slice_get (records ++ r ∷ []) n) at ∙ last_at records r }))
 
 -- a record that changes nothing of what is held
-pub held_same : (records : List Record) (vs : List Vote) (r : Record) → held_parts (r ∷ reverse records) ≡ held_parts (reverse records) → AreHeld records vs → AreHeld (records ++ r ∷ []) vs
+pub held_same : (records : List Record) (vs : List Vote) (r : Record) → held_parts (r ∷ reverse records) ≡ held_parts (reverse records) → AreHeldVotes records vs → AreHeldVotes (records ++ r ∷ []) vs
 held_same records vs r same are =
     let old = reverse (held_parts (reverse records)) in
     let parts : reverse (held_parts (reverse (records ++ r ∷ []))) ≡ old = ap (λ (l : List Record). reverse (held_parts l)) (newest records r) ∙ ap (λ (l : List HeldPart). reverse l) same in
     subst (λ (l : List HeldPart). AllZip (IsVoteFor (records ++ r ∷ [])) vs l) (sym parts) (votes_more records (r ∷ []) vs old are)
 
-pub held_decided : (records : List Record) (vs : List Vote) (tid : Tid) (verdict : Bool) → AreHeld records vs → AreHeld (records ++ Decided tid verdict ∷ []) (others tid vs)
+pub held_decided : (records : List Record) (vs : List Vote) (tid : Tid) (verdict : Bool) → AreHeldVotes records vs → AreHeldVotes (records ++ Decided tid verdict ∷ []) (votes_of_others tid vs)
 held_decided records vs tid verdict are =
     let r : Record = Decided tid verdict in
     let old = reverse (held_parts (reverse records)) in
     let parts : reverse (held_parts (reverse (records ++ r ∷ []))) ≡ without_tid tid old = ap (λ (l : List Record). reverse (held_parts l)) (newest records r) ∙ sym (without-reverse tid (held_parts (reverse records))) in
-    subst (λ (l : List HeldPart). AllZip (IsVoteFor (records ++ r ∷ [])) (others tid vs) l) (sym parts)
+    subst (λ (l : List HeldPart). AllZip (IsVoteFor (records ++ r ∷ [])) (votes_of_others tid vs) l) (sym parts)
     (others_left (records ++ r ∷ []) tid vs old (votes_more records (r ∷ []) vs old are))
 
 -- Votes of an id
@@ -113,34 +112,34 @@ any_zip records tid (v ∷ vs) [] z = absurd z
 any_zip records tid (v ∷ vs) (h ∷ hs) z =
     ap (λ (t : Tid). tid_same t tid || list_any (λ (w : Vote). tid_same w.tid tid) vs) z.0.tid ∙ ap (λ (b : Bool). tid_same h.tid tid || b) (any_zip records tid vs hs z.1)
 
-pub any_held : (records : List Record) (vs : List Vote) (tid : Tid) → AreHeld records vs → list_any (λ v. tid_same v.tid tid) vs ≡ is_held (reverse records) tid
+pub any_held : (records : List Record) (vs : List Vote) (tid : Tid) → AreHeldVotes records vs → list_any (λ v. tid_same v.tid tid) vs ≡ is_held (reverse records) tid
 any_held records vs tid are =
     let hs = held_parts (reverse records) in
     any_zip records tid vs (reverse hs) are ∙ any_turned (λ (h : HeldPart). tid_same h.tid tid) hs ∙ found_any tid hs
 
-no_more : (tid : Tid) (vs : List Vote) → length (others tid vs) ≤ length vs
+no_more : (tid : Tid) (vs : List Vote) → length (votes_of_others tid vs) ≤ length vs
 no_more tid [] = omega arith
 no_more tid (v ∷ vs) = of (tid_same v.tid tid) (no_more tid vs)
   where
-    of : (b : Bool) → length (others tid vs) ≤ length vs → length (if not b then v ∷ others tid vs else others tid vs) ≤ suc (length vs)
+    of : (b : Bool) → length (votes_of_others tid vs) ≤ length vs → length (if not b then v ∷ votes_of_others tid vs else votes_of_others tid vs) ≤ suc (length vs)
     of true ih = omega arith
     of false ih = omega arith
 
 -- of an id that has a vote fewer are left
-pub fewer : (tid : Tid) (vs : List Vote) → list_any (λ v. tid_same v.tid tid) vs ≡ true → length (others tid vs) + 1 ≤ length vs
+pub fewer : (tid : Tid) (vs : List Vote) → list_any (λ v. tid_same v.tid tid) vs ≡ true → length (votes_of_others tid vs) + 1 ≤ length vs
 fewer tid [] some = absurd cc
 fewer tid (v ∷ vs) some = of (tid_same v.tid tid) (fewer tid vs) some
   where
-    of : (b : Bool) → (list_any (λ w. tid_same w.tid tid) vs ≡ true → length (others tid vs) + 1 ≤ length vs) → (b || list_any (λ w. tid_same w.tid tid) vs) ≡ true
-        → length (if not b then v ∷ others tid vs else others tid vs) + 1 ≤ suc (length vs)
+    of : (b : Bool) → (list_any (λ w. tid_same w.tid tid) vs ≡ true → length (votes_of_others tid vs) + 1 ≤ length vs) → (b || list_any (λ w. tid_same w.tid tid) vs) ≡ true
+        → length (if not b then v ∷ votes_of_others tid vs else votes_of_others tid vs) + 1 ≤ suc (length vs)
     of true ih some = let most = no_more tid vs in omega (arith, most)
     of false ih some = let less = ih some in omega (arith, less)
 
 -- The first votes, one after the other
 
 -- the parts of the first so many votes, the newest first
-abbrev pub first_held : List Record → ℕ → List HeldPart
-first_held records n = reverse (take n (reverse (held_parts (reverse records))))
+abbrev pub first_held_parts : List Record → ℕ → List HeldPart
+first_held_parts records n = reverse (take n (reverse (held_parts (reverse records))))
 
 zip_at : (records : List Record) (vs : List Vote) (hs : List HeldPart) (n : ℕ) (d : Vote) → AllZip (IsVoteFor records) vs hs → n < length vs → (h : HeldPart) × IsVoteFor records (get_or vs n d) h × (n < length hs) × (get_or hs n h ≡ h)
 zip_at records [] hs n d z less = absurd (omega (arith, less))
@@ -148,7 +147,7 @@ zip_at records (v ∷ vs) [] n d z less = absurd z
 zip_at records (v ∷ vs) (h ∷ hs) zero d z less = (h, z.0, omega arith, refl)
 zip_at records (v ∷ vs) (h ∷ hs) (suc n) d z less = let rest = zip_at records vs hs n d z.1 (omega (arith, less)) in (rest.0, rest.1, omega (arith, rest.2), rest.3)
 
-pub next_held : (records : List Record) (vs : List Vote) (n : ℕ) (d : Vote) → AreHeld records vs → n < length vs → (h : HeldPart) × IsVoteFor records (get_or vs n d) h × (first_held records (n + 1) ≡ h ∷ first_held records n)
+pub next_held : (records : List Record) (vs : List Vote) (n : ℕ) (d : Vote) → AreHeldVotes records vs → n < length vs → (h : HeldPart) × IsVoteFor records (get_or vs n d) h × (first_held_parts records (n + 1) ≡ h ∷ first_held_parts records n)
 next_held records vs n d are less =
     let hs = reverse (held_parts (reverse records)) in
     let at = zip_at records vs hs n d are less in (
@@ -157,10 +156,10 @@ next_held records vs n d are less =
       ap (λ (l : List HeldPart). reverse l) (take_more hs n at.0 at.2) ∙ reverse-append (take n hs) (get_or hs n at.0 ∷ []) ∙ ap (λ (h : HeldPart). h ∷ reverse (take n hs)) at.3,
     )
 
-pub is_vote : (records : List Record) (vs : List Vote) (n : ℕ) (d : Vote) → AreHeld records vs → n < length vs → IsVote records (get_or vs n d)
+pub is_vote : (records : List Record) (vs : List Vote) (n : ℕ) (d : Vote) → AreHeldVotes records vs → n < length vs → IsVote records (get_or vs n d)
 is_vote records vs n d are less = let next = next_held records vs n d are less in (next.0, next.1)
 
-pub all_held : (records : List Record) (vs : List Vote) (n : ℕ) → AreHeld records vs → length vs ≤ n → first_held records n ≡ held_parts (reverse records)
+pub all_held : (records : List Record) (vs : List Vote) (n : ℕ) → AreHeldVotes records vs → length vs ≤ n → first_held_parts records n ≡ held_parts (reverse records)
 all_held records vs n are most =
     let hs = reverse (held_parts (reverse records)) in
     let same = AllZip-long (IsVoteFor records) vs hs are in
@@ -182,9 +181,9 @@ vote_read records v h r is e = e ∙ get_or_from_slice_get records v.place (Vote
 
 -- What they write and list
 
-pub next_written : (records : List Record) (n : ℕ) (v : Vote) (tid : Tid) (base old new : List ℕ) (next : (h : HeldPart) × IsVoteFor records v h × (first_held records (n + 1) ≡ h ∷ first_held records n))
-    → ((h : HeldPart) → IsVoteFor records v h → new ≡ (if tid_same h.tid tid then space_after_part old h.part else old)) → old ≡ with_held (λ t. tid_same t tid) base (first_held records n)
-    → new ≡ with_held (λ t. tid_same t tid) base (first_held records (n + 1))
+pub next_written : (records : List Record) (n : ℕ) (v : Vote) (tid : Tid) (base old new : List ℕ) (next : (h : HeldPart) × IsVoteFor records v h × (first_held_parts records (n + 1) ≡ h ∷ first_held_parts records n))
+    → ((h : HeldPart) → IsVoteFor records v h → new ≡ (if tid_same h.tid tid then space_after_part old h.part else old)) → old ≡ with_held (λ t. tid_same t tid) base (first_held_parts records n)
+    → new ≡ with_held (λ t. tid_same t tid) base (first_held_parts records (n + 1))
 next_written records n v tid base old new next told before =
     let h = next.0 in
     told h next.1 ∙ ap (λ (l : List ℕ). if tid_same h.tid tid then space_after_part l h.part else l) before ∙ sym (ap (λ (l : List HeldPart). with_held (λ t. tid_same t tid) base l) next.2)
@@ -193,9 +192,9 @@ pub made_doubt : (records : List Record) (v : Vote) (h : HeldPart) (ps : List No
 made_doubt records v h ps is told =
     ap (λ (t : Tid). let made : Doubt = record { tid = t; participants = ps } in made) is.tid ∙ ap (λ (l : List NodeNo). let made : Doubt = record { tid = h.tid; participants = l } in made) told
 
-pub next_listed : (records : List Record) (n : ℕ) (v : Vote) (d : Doubt) (old new : List Doubt) (next : (h : HeldPart) × IsVoteFor records v h × (first_held records (n + 1) ≡ h ∷ first_held records n))
-    → ((h : HeldPart) → IsVoteFor records v h → d ≡ record { tid = h.tid; participants = h.participants }) → new ≡ with_doubt d old → old ≡ doubts_of (first_held records n)
-    → new ≡ doubts_of (first_held records (n + 1))
+pub next_listed : (records : List Record) (n : ℕ) (v : Vote) (d : Doubt) (old new : List Doubt) (next : (h : HeldPart) × IsVoteFor records v h × (first_held_parts records (n + 1) ≡ h ∷ first_held_parts records n))
+    → ((h : HeldPart) → IsVoteFor records v h → d ≡ record { tid = h.tid; participants = h.participants }) → new ≡ with_doubt d old → old ≡ doubts_of (first_held_parts records n)
+    → new ≡ doubts_of (first_held_parts records (n + 1))
 next_listed records n v d old new next told e before =
     let h = next.0 in
     e ∙ ap (λ (x : Doubt). with_doubt x old) (told h next.1) ∙ ap (λ (l : List Doubt). with_doubt (record { tid = h.tid; participants = h.participants }) l) before ∙ sym (ap (λ (l : List HeldPart). doubts_of l) next.2)

@@ -18,9 +18,10 @@ abbrev pub IsVote : List Record → Vote → Type 0
 IsVote records vote = (h : HeldPart) × IsVoteFor records vote h
 
 -- these are the votes for the parts that the records hold, the oldest first
-abbrev pub AreHeld : List Record → List Vote → Type 0
-AreHeld records votes = AllZip (IsVoteFor records) votes (reverse (held_parts (reverse records)))
+abbrev pub AreHeldVotes : List Record → List Vote → Type 0
+AreHeldVotes records votes =
+    AllZip (IsVoteFor records) votes (reverse (held_parts (reverse records)))
 
 -- the votes of other ids
-abbrev pub others : Tid → List Vote → List Vote
-others tid votes = filter (λ vote. not (tid_same vote.tid tid)) votes
+abbrev pub votes_of_others : Tid → List Vote → List Vote
+votes_of_others tid votes = filter (λ vote. not (tid_same vote.tid tid)) votes

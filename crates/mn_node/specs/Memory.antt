@@ -17,7 +17,7 @@ use Rattle.mn_node.specs.declared.memory.Memory.{Memory}
 use Rattle.mn_node.specs.declared.memory.Tested.{Tested}
 use Rattle.mn_node.specs.declared.memory.Tested.TheVariants as Result
 use Rattle.mn_node.specs.declared.held.Vote.{Vote}
-use Rattle.mn_node.specs.Held.{AreHeld}
+use Rattle.mn_node.specs.Held.{AreHeldVotes}
 use Rattle.mn_node.specs.Part.{holds_by}
 
 -- the id is among these
@@ -25,18 +25,20 @@ abbrev pub is_among : List Tid → Tid → Bool
 is_among tids tid = list_any (λ t. tid_same t tid) tids
 
 -- what is kept beside the records, which stand oldest first, is what they make of the base space
-pub record IsBuilt (base : List ℕ) (records : List Record) (space : List ℕ) (holds : List Hold)
+pub record IsMadeByRecords (base : List ℕ) (records : List Record) (space : List ℕ)
+    (holds : List Hold)
     (forced : List Tid) (held : List Vote) : Type 0 where
   pub space_is : space ≡ space_of base (reverse records)
   pub size : length space ≡ space_size
   pub holds_are : holds ≡ holds_by (held_parts (reverse records))
   pub forced_are : (tid : Tid) → is_among forced tid ≡ has_forced (reverse records) tid
-  pub held_are : AreHeld records held
+  pub held_are : AreHeldVotes records held
   pub sound : AllByRecursion IsRecord records
 
 abbrev pub IsMemory : Memory → Type 0
 IsMemory m =
-    IsBuilt (base_of m.nodes m.node) m.records.items m.space.items m.locks.holds m.forced.items
+    IsMadeByRecords (base_of m.nodes m.node) m.records.items m.space.items m.locks.holds
+    m.forced.items
     m.held.items
 
 -- the room for a decision of each held part

@@ -15,10 +15,10 @@ use Rattle.mn_mini.specs.RecordGrammar.{record_bytes}
 use Rattle.mn_node.specs.declared.memory.Memory.{Memory}
 use Rattle.mn_base.specs.declared.gate.StopAt.{StopAt}
 use Rattle.mn_base.specs.declared.gate.StopAt.TheVariants.{Before, Half, After}
-use Rattle.mn_node.specs.declared.step.Kept.{Kept}
-use Rattle.mn_node.specs.declared.step.Kept.TheVariants.{NoRoom, Stopped, Logged}
-use Rattle.mn_node.specs.declared.step.Served.{Served}
-use Rattle.mn_node.specs.declared.step.Served.TheVariants as Serve
+use Rattle.mn_node.specs.declared.logging.Logging.{Logging}
+use Rattle.mn_node.specs.declared.logging.Logging.TheVariants.{NoRoom, Stopped, Logged}
+use Rattle.mn_node.specs.declared.requests.Served.{Served}
+use Rattle.mn_node.specs.declared.requests.Served.TheVariants as Serve
 use Rattle.mn_page.specs.Base.{base_of}
 use Rattle.mn_node.specs.Memory.{IsMemory, HasDecisionRoom}
 
@@ -28,7 +28,7 @@ bodies_of records = map record_bytes records
 
 -- a node that is up: its log is its records, an honest disk stands for them, and there is room for
 -- a decision of each held part
-pub record IsUp {D : Type 0} (state : D → DiskState) (redo : RedoState D) (m : Memory)
+pub record IsNodeUp {D : Type 0} (state : D → DiskState) (redo : RedoState D) (m : Memory)
     : Type 0 where
   pub memory : IsMemory m
   pub room : HasDecisionRoom m
@@ -40,7 +40,8 @@ pub record IsUp {D : Type 0} (state : D → DiskState) (redo : RedoState D) (m :
       → StandsFor (state redo.disk) redo.node redo.nodes redo.bodies
 
 -- room for one record more, of so many bytes, and so many ranges
-pub record HasMore {D : Type 0} (redo : RedoState D) (m : Memory) (size count : ℕ) : Type 0 where
+pub record HasRoomForRecord {D : Type 0} (redo : RedoState D) (m : Memory) (size count : ℕ)
+    : Type 0 where
   pub held : vec_len m.held < 2 ^ 32 - 2
   pub size_fits : size < 2 ^ 32
   pub bodies : vec_len m.held + 2 ≤ redo.spare_bodies
@@ -51,7 +52,7 @@ pub record HasMore {D : Type 0} (redo : RedoState D) (m : Memory) (size count : 
   pub ranges : count ≤ m.locks.spare
 
 -- the log is on the same disk, and its node is the same
-pub record LogContinues {D : Type 0} (state : D → DiskState) (faults : D → ℕ)
+pub record LogKeepsDisk {D : Type 0} (state : D → DiskState) (faults : D → ℕ)
     (old new : RedoState D) : Type 0 where
   pub node : new.node ≡ old.node
   pub nodes : new.nodes ≡ old.nodes
@@ -62,8 +63,8 @@ pub record LogContinues {D : Type 0} (state : D → DiskState) (faults : D → �
   pub header : ((state old.disk).honest → HasHeader (state old.disk)) → (state new.disk).honest
       → HasHeader (state new.disk)
 
-abbrev pub SameNode : Memory → Memory → Type 0
-SameNode old new = (new.node ≡ old.node) × (new.nodes ≡ old.nodes)
+abbrev pub KeepsNodeNumbers : Memory → Memory → Type 0
+KeepsNodeNumbers old new = (new.node ≡ old.node) × (new.nodes ≡ old.nodes)
 
 abbrev pub added_to : List Record → Option Record → List Record
 added_to records None = records
@@ -87,15 +88,18 @@ IsWithOrWithout node nodes records added c =
 
 -- what a crash at any moment of a call leaves: the disk wasn't touched, or it leaves only bytes
 -- that have P, where the disk is honest
-abbrev pub LeavesAt : {D : Type 0} → (D → DiskState) → D → D → (List ℕ → Type 0) → Type 0
-LeavesAt state old new P = (new ≡ old) ⊎ ((state old).honest → LeavesOnly (state old) (state new) P)
+abbrev pub CrashLeavesOnly : {D : Type 0} → (D → DiskState) → D → D → (List ℕ → Type 0) → Type 0
+CrashLeavesOnly state old new P =
+    (new ≡ old) ⊎ ((state old).honest → LeavesOnly (state old) (state new) P)
 
 -- the disk wasn't touched, or nothing of it has changed but its room, where it is honest
-abbrev pub DiskRestsAt : {D : Type 0} → (D → DiskState) → D → D → Type 0
-DiskRestsAt state old new = (new ≡ old) ⊎ ((state old).honest → DiskStays (state old) (state new))
+abbrev pub DiskStaysIfHonest : {D : Type 0} → (D → DiskState) → D → D → Type 0
+DiskStaysIfHonest state old new =
+    (new ≡ old) ⊎ ((state old).honest → DiskStays (state old) (state new))
 
 -- the body's record stands behind its closed gate, and is stable
-pub record IsHalf (disk : DiskState) (node nodes : ℕ) (bodies : List (List ℕ)) (body : List ℕ)
+pub record IsHalfWritten (disk : DiskState) (node nodes : ℕ) (bodies : List (List ℕ))
+    (body : List ℕ)
     : Type 0 where
   pub staged : IsStaged (header node nodes) bodies body disk.content
   pub stable : IsStable disk
@@ -104,21 +108,22 @@ pub record IsHalf (disk : DiskState) (node nodes : ℕ) (bodies : List (List ℕ
 -- Of an honest disk: a stop before the log leaves it as it was; one at half of the record leaves
 -- the list from before, and, unless the disk failed, the record behind its closed gate; one after
 -- the record leaves, unless the disk failed, the list with the record.
-abbrev pub StopsAt : {D : Type 0} → (D → DiskState) → (D → ℕ) → D → D → ℕ → ℕ → List (List ℕ)
+abbrev pub StopLeaves : {D : Type 0} → (D → DiskState) → (D → ℕ) → D → D → ℕ → ℕ → List (List ℕ)
     → List ℕ → Option StopAt → Type 0
-StopsAt state faults old new node nodes bodies body None = Rose (faults old) (faults new)
-StopsAt state faults old new node nodes bodies body (Some Before) =
+StopLeaves state faults old new node nodes bodies body None = Rose (faults old) (faults new)
+StopLeaves state faults old new node nodes bodies body (Some Before) =
     (state old).honest → StandsFor (state new) node nodes bodies × DiskStays (state old) (state new)
-StopsAt state faults old new node nodes bodies body (Some Half) =
+StopLeaves state faults old new node nodes bodies body (Some Half) =
     ((state old).honest → StandsFor (state new) node nodes bodies)
     × (Rose (faults old) (faults new)
-    ⊎ ((state old).honest → IsHalf (state new) node nodes bodies body))
-StopsAt state faults old new node nodes bodies body (Some After) =
+    ⊎ ((state old).honest → IsHalfWritten (state new) node nodes bodies body))
+StopLeaves state faults old new node nodes bodies body (Some After) =
     Rose (faults old) (faults new)
     ⊎ ((state old).honest → StandsFor (state new) node nodes (bodies ++ body ∷ []))
 
 -- the log has one body more, stable on an honest disk
-pub record IsPut {D : Type 0} (state : D → DiskState) (old new : RedoState D) (body : List ℕ)
+pub record HasOneBodyMore {D : Type 0} (state : D → DiskState) (old new : RedoState D)
+    (body : List ℕ)
     : Type 0 where
   pub started : new.phase ≡ Started
   pub bodies : new.bodies ≡ old.bodies ++ body ∷ []
@@ -132,25 +137,25 @@ pub record IsPut {D : Type 0} (state : D → DiskState) (old new : RedoState D) 
 pub record HasStopped {D : Type 0} (state : D → DiskState) (faults : D → ℕ) (old new : D)
     (node nodes : ℕ) (records : List Record) (r : Record) (stop : Option StopAt) : Type 0 where
   pub stands : (state old).honest → StandsWithOrWithout (state new) node nodes records (Some r)
-  pub at : StopsAt state faults old new node nodes (bodies_of records) (record_bytes r) stop
+  pub at : StopLeaves state faults old new node nodes (bodies_of records) (record_bytes r) stop
 
 -- no stop was asked for, or there is nothing to stop at
-abbrev pub IsUnasked : Option StopAt → Option Record → Type 0
-IsUnasked None added = ⊤
-IsUnasked (Some stop) added = added ≡ None
+abbrev pub NoStopIsDue : Option StopAt → Option Record → Type 0
+NoStopIsDue None added = ⊤
+NoStopIsDue (Some stop) added = added ≡ None
 
 -- what a reply says of a node that is up: nothing has changed for want of memory; else the reply is
 -- the answer, and its record is added
 abbrev pub Replies : {D : Type 0} → (D → DiskState) → Memory → Request → Option StopAt → NodeReply
     → RedoState D → Memory → Type 0
 Replies state m request stop Say.NoMemory new after =
-    IsUp state new after × (after.records.items ≡ m.records.items)
+    IsNodeUp state new after × (after.records.items ≡ m.records.items)
 Replies state m request stop Say.Stopped new after = ⊥
 Replies state m request stop Say.Down new after = ⊥
 Replies state m request stop reply new after =
-    IsUp state new after × ((node_answer m request).reply ≡ reply)
+    IsNodeUp state new after × ((node_answer m request).reply ≡ reply)
     × (after.records.items ≡ added_to m.records.items (node_answer m request).added)
-    × IsUnasked stop (node_answer m request).added
+    × NoStopIsDue stop (node_answer m request).added
 
 -- what a request does to a node that is up: it replies, or it stops, and then its record may stand
 -- on the disk or not
@@ -180,13 +185,14 @@ pub record IsLogged {D : Type 0} (state : D → DiskState) (redo : RedoState D) 
       → StandsFor (state redo.disk) redo.node redo.nodes redo.bodies
 
 -- what the attempt to log a record leaves
-abbrev pub IsKept : {D : Type 0} → (D → DiskState) → (D → ℕ) → RedoState D → Memory → Record → ℕ
-    → Option StopAt → Kept → RedoState D → Memory → Type 0
-IsKept state faults redo m r count stop NoRoom new after =
-    IsUp state new after × (after.records.items ≡ m.records.items)
-IsKept state faults redo m r count stop Stopped new after =
+abbrev pub LoggingLeaves : {D : Type 0} → (D → DiskState) → (D → ℕ) → RedoState D → Memory → Record
+    → ℕ
+    → Option StopAt → Logging → RedoState D → Memory → Type 0
+LoggingLeaves state faults redo m r count stop NoRoom new after =
+    IsNodeUp state new after × (after.records.items ≡ m.records.items)
+LoggingLeaves state faults redo m r count stop Stopped new after =
     (after.records.items ≡ m.records.items)
     × HasStopped state faults redo.disk new.disk redo.node redo.nodes m.records.items r stop
-IsKept state faults redo m r count stop Logged new after =
+LoggingLeaves state faults redo m r count stop Logged new after =
     IsLogged state new after r count × (after.records.items ≡ m.records.items)
     × (vec_len after.held ≡ vec_len m.held) × (stop ≡ None)

@@ -19,31 +19,32 @@ error_of (Cause.Damaged at) = Damaged at None None
 error_of Cause.NoMemory = NoMemory
 
 -- the first bodies are those of the records
-pub record IsFront (bodies : List (List ℕ)) (records : List Record) : Type 0 where
+pub record BeginsWithRecords (bodies : List (List ℕ)) (records : List Record) : Type 0 where
   pub no_fewer : length records ≤ length bodies
   pub first : take (length records) bodies ≡ bodies_of records
 
 -- this many bodies are those of the first records, and the one behind them is not that of the next
 -- record
-pub record IsOtherAt (bodies : List (List ℕ)) (records : List Record) (at : ℕ) : Type 0 where
+pub record DiffersFirstAt (bodies : List (List ℕ)) (records : List Record) (at : ℕ) : Type 0 where
   pub within : at ≤ length bodies
   pub first : take at bodies ≡ bodies_of (take at records)
   pub other : at < length bodies → (r : Record) → r ≡ get_or records at r
       → get_or bodies at [] ≢ record_bytes r
 
 -- the bodies are those of the records and the one that may be behind them
-abbrev pub HasLeft : List (List ℕ) → List Record → Option Record → Type 0
-HasLeft bodies records None = ⊥
-HasLeft bodies records (Some r) = bodies ≡ bodies_of (records ++ r ∷ [])
+abbrev pub AreBodiesWithPending : List (List ℕ) → List Record → Option Record → Type 0
+AreBodiesWithPending bodies records None = ⊥
+AreBodiesWithPending bodies records (Some r) = bodies ≡ bodies_of (records ++ r ∷ [])
 
 -- the bodies are those of the records, with the one that may be behind them or without it
-abbrev pub IsListed : List (List ℕ) → List Record → Option Record → Bool → Type 0
-IsListed bodies records pending false = bodies ≡ bodies_of records
-IsListed bodies records pending true = HasLeft bodies records pending
+abbrev pub AreBodiesWithOrWithout : List (List ℕ) → List Record → Option Record → Bool → Type 0
+AreBodiesWithOrWithout bodies records pending false = bodies ≡ bodies_of records
+AreBodiesWithOrWithout bodies records pending true = AreBodiesWithPending bodies records pending
 
 -- they are neither
-abbrev pub IsOther : List (List ℕ) → List Record → Option Record → Type 0
-IsOther bodies records pending = (bodies ≢ bodies_of records) × (HasLeft bodies records pending → ⊥)
+abbrev pub AreOtherBodies : List (List ℕ) → List Record → Option Record → Type 0
+AreOtherBodies bodies records pending =
+    (bodies ≢ bodies_of records) × (AreBodiesWithPending bodies records pending → ⊥)
 
 -- the record of this number, if there is one
 abbrev pub record_at : List Record → ℕ → Option Record
@@ -52,16 +53,17 @@ record_at (r ∷ records) zero = Some r
 record_at (r ∷ records) (suc n) = record_at records n
 
 -- the record that the body of this number spells, or there is no such body
-abbrev pub IsFound : List (List ℕ) → ℕ → Option Record → Type 0
-IsFound bodies at None = length bodies ≤ at
-IsFound bodies at (Some r) = (at < length bodies) × Spells (get_or bodies at []) r
+abbrev pub IsSpelledAt : List (List ℕ) → ℕ → Option Record → Type 0
+IsSpelledAt bodies at None = length bodies ≤ at
+IsSpelledAt bodies at (Some r) = (at < length bodies) × Spells (get_or bodies at []) r
 
 -- record `at` of the bodies is the first that is not the one of the records with the pending one
 -- behind them: `kept` is the record of that number, and `found` the one that its body spells
-pub record IsFirstOther (bodies : List (List ℕ)) (records : List Record) (pending : Option Record)
+pub record IsFirstDifference (bodies : List (List ℕ)) (records : List Record)
+    (pending : Option Record)
     (at : ℕ) (kept found : Option Record) : Type 0 where
   pub kept_is : kept ≡ record_at records at
-  pub found_is : IsFound bodies at found
+  pub found_is : IsSpelledAt bodies at found
   pub before : take at bodies ≡ bodies_of (take at (added_to records pending))
   pub differs : found ≢ record_at (added_to records pending) at
 
@@ -78,32 +80,33 @@ pub record IsBadBody (bodies : List (List ℕ)) (place : ℕ) : Type 0 where
 
 -- what damage names: the first record that differs; or the place of the gate of a body that is no
 -- record, and no record
-abbrev pub IsDamage : List (List ℕ) → List Record → Option Record → ℕ → Option Record
+abbrev pub DamageNames : List (List ℕ) → List Record → Option Record → ℕ → Option Record
     → Option Record → Type 0
-IsDamage bodies records pending at kept found =
-    (AreAbsent kept found × IsBadBody bodies at) ⊎ IsFirstOther bodies records pending at kept found
+DamageNames bodies records pending at kept found =
+    (AreAbsent kept found × IsBadBody bodies at)
+    ⊎ IsFirstDifference bodies records pending at kept found
 
 -- a body that spells no record, which is told by its place alone
-abbrev pub IsUnread : List (List ℕ) → RestartError → Type 0
-IsUnread bodies Fault = ⊥
-IsUnread bodies (Damaged place kept found) = AreAbsent kept found × IsBadBody bodies place
-IsUnread bodies NoMemory = ⊤
+abbrev pub TellsBadBody : List (List ℕ) → RestartError → Type 0
+TellsBadBody bodies Fault = ⊥
+TellsBadBody bodies (Damaged place kept found) = AreAbsent kept found × IsBadBody bodies place
+TellsBadBody bodies NoMemory = ⊤
 
 -- what the damage at a number names: it, the node's record and the disk's; or the place of a body,
 -- and no record
-abbrev pub Differs : List (List ℕ) → ℕ → Option Record → RestartError → Type 0
-Differs bodies at kept Fault = ⊥
-Differs bodies at kept (Damaged place named found) =
+abbrev pub TellsDifferenceAt : List (List ℕ) → ℕ → Option Record → RestartError → Type 0
+TellsDifferenceAt bodies at kept Fault = ⊥
+TellsDifferenceAt bodies at kept (Damaged place named found) =
     (AreAbsent named found × IsBadBody bodies place)
-    ⊎ ((place ≡ at) × (named ≡ kept) × IsFound bodies at found)
-Differs bodies at kept NoMemory = ⊤
+    ⊎ ((place ≡ at) × (named ≡ kept) × IsSpelledAt bodies at found)
+TellsDifferenceAt bodies at kept NoMemory = ⊤
 
 -- what a comparison with a log says
-abbrev pub Compares : List (List ℕ) → List Record → Option Record → RestartError → Type 0
-Compares bodies records pending Fault = ⊥
-Compares bodies records pending (Damaged at kept found) =
-    IsOther bodies records pending × IsDamage bodies records pending at kept found
-Compares bodies records pending NoMemory = ⊤
+abbrev pub TellsOtherRecords : List (List ℕ) → List Record → Option Record → RestartError → Type 0
+TellsOtherRecords bodies records pending Fault = ⊥
+TellsOtherRecords bodies records pending (Damaged at kept found) =
+    AreOtherBodies bodies records pending × DamageNames bodies records pending at kept found
+TellsOtherRecords bodies records pending NoMemory = ⊤
 
 -- a place where bytes are no log: 0 for a disk that reads as fresh, or that of the damage of some
 -- bytes that the disk gave
@@ -112,20 +115,20 @@ IsNoLog at =
     (at ≡ 0) ⊎ ((node : ℕ) × (nodes : ℕ) × (content : List ℕ) × IsDamaged node nodes content at)
 
 -- no damage; and a fault only where the count rose
-abbrev pub IsCause : {D : Type 0} → (D → ℕ) → D → D → RestartError → Type 0
-IsCause faults old new Fault = Rose (faults old) (faults new)
-IsCause faults old new (Damaged at kept found) = ⊥
-IsCause faults old new NoMemory = ⊤
+abbrev pub FailsWithoutDamage : {D : Type 0} → (D → ℕ) → D → D → RestartError → Type 0
+FailsWithoutDamage faults old new Fault = Rose (faults old) (faults new)
+FailsWithoutDamage faults old new (Damaged at kept found) = ⊥
+FailsWithoutDamage faults old new NoMemory = ⊤
 
 -- the records have the pending one behind them
-abbrev pub IsWithLeft : List Record → Option Record → List Record → Type 0
-IsWithLeft records None new = ⊥
-IsWithLeft records (Some r) new = new ≡ records ++ r ∷ []
+abbrev pub AddsPending : List Record → Option Record → List Record → Type 0
+AddsPending records None new = ⊥
+AddsPending records (Some r) new = new ≡ records ++ r ∷ []
 
 -- the records after a restart, by its answer: those from before, or those and the pending one
-abbrev pub Restarts : List Record → Option Record → List Record → Bool → Type 0
-Restarts records pending new false = new ≡ records
-Restarts records pending new true = IsWithLeft records pending new
+abbrev pub RestartLeaves : List Record → Option Record → List Record → Bool → Type 0
+RestartLeaves records pending new false = new ≡ records
+RestartLeaves records pending new true = AddsPending records pending new
 
 -- why a restart failed: a fault only where the count rose; damage never where the disk is honest,
 -- and it names the first record in which the bodies that the disk gave differ from the node's
@@ -135,5 +138,5 @@ abbrev pub FailsRestart : {D : Type 0} → (D → DiskState) → (D → ℕ) →
 FailsRestart state faults old new records pending Fault = Rose (faults old) (faults new)
 FailsRestart state faults old new records pending (Damaged at kept found) =
     ((state old).honest → ⊥) × ((AreAbsent kept found × IsNoLog at)
-    ⊎ ((bodies : List (List ℕ)) × IsDamage bodies records pending at kept found))
+    ⊎ ((bodies : List (List ℕ)) × DamageNames bodies records pending at kept found))
 FailsRestart state faults old new records pending NoMemory = ⊤

@@ -15,7 +15,7 @@ use Rattle.mn_mini.specs.Node.{Response, answer, held_parts}
 use Rattle.mn_mini.specs.RecordGrammar.{IsRecord, SpellsNone}
 use Rattle.mn_node.specs.declared.memory.Memory.{Memory}
 use Rattle.mn_page.specs.Base.{base_of}
-use Rattle.mn_node.specs.Node.{IsUp, IsUnasked, HasStopped, StandsWithOrWithout, bodies_of}
+use Rattle.mn_node.specs.Node.{IsNodeUp, NoStopIsDue, HasStopped, StandsWithOrWithout, bodies_of}
 use Rattle.mn_node.specs.Node.{added_to}
 
 -- its disk, its number and that of all nodes, its records, the oldest first, and whether it is
@@ -33,7 +33,7 @@ pub record NodeState (D : Type 0) : Type 0 where
 -- pending one
 pub record IsNode {D : Type 0} (state : D → DiskState) (redo : RedoState D) (m : Memory)
     (down : Bool) (pending : Option Record) : Type 0 where
-  pub up : down ≡ false → IsUp state redo m
+  pub up : down ≡ false → IsNodeUp state redo m
   pub settled : down ≡ false → pending ≡ None
   pub sound : AllByRecursion IsRecord (added_to m.records.items pending)
   pub apart : PartsAreApart (held_parts (reverse m.records.items))
@@ -55,7 +55,8 @@ abbrev pub response_to : {D : Type 0} → NodeState D → Request → Response
 response_to n request = answer (base_of n.nodes n.node) (reverse n.records) request
 
 -- what a call leaves of a node's disk and its numbers
-pub record DiskGoesOn {D : Type 0} (state : D → DiskState) (faults : D → ℕ) (old new : NodeState D)
+pub record NodeKeepsDisk {D : Type 0} (state : D → DiskState) (faults : D → ℕ)
+    (old new : NodeState D)
     : Type 0 where
   pub node : new.node ≡ old.node
   pub nodes : new.nodes ≡ old.nodes
@@ -80,13 +81,13 @@ Answers state faults old request stop Say.Down new = (old.down ≡ true) × (new
 Answers state faults old request stop reply new =
     (old.down ≡ false) × (new.down ≡ false) × ((response_to old request).reply ≡ reply)
     × (new.records ≡ added_to old.records (response_to old request).added)
-    × IsUnasked stop (response_to old request).added
+    × NoStopIsDue stop (response_to old request).added
     × StandsForRecords (state new.disk) new.node new.nodes new.records
 
 -- what is asked of a log before its node is started: if its bodies are records, no two parts of
 -- different ids that they hold conflict
-abbrev pub MayStart : List (List ℕ) → Type 0
-MayStart bodies =
+abbrev pub HoldsPartsApart : List (List ℕ) → Type 0
+HoldsPartsApart bodies =
     (records : List Record) → AllByRecursion IsRecord records → bodies ≡ bodies_of records
     → PartsAreApart (held_parts (reverse records))
 
@@ -96,7 +97,7 @@ pub record AreRecords (bodies : List (List ℕ)) (records : List Record) : Type 
   pub sound : AllByRecursion IsRecord records
 
 -- the first body that spells no record is the one whose gate is at this place
-pub record IsFirstBad (bodies : List (List ℕ)) (at : ℕ) : Type 0 where
+pub record IsFirstBadBody (bodies : List (List ℕ)) (at : ℕ) : Type 0 where
   pub number : ℕ
   pub within : number < length bodies
   pub before : List Record

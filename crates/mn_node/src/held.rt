@@ -2,7 +2,7 @@ ghost use Rattle.std.specs.Prelude.{◌≡◌, Bool, List, reverse};
 ghost use Rattle.std.specs.List.{list_any};
 ghost use Rattle.mn_base.specs.Ids.{tid_same};
 ghost use Rattle.mn_mini.specs.Node.{HeldPart, has_voted};
-ghost use Rattle.mn_node.specs.Held.{IsVote, IsVoteFor, others};
+ghost use Rattle.mn_node.specs.Held.{IsVote, IsVoteFor, votes_of_others};
 
 use mn_base::{Nodes, Tid};
 use mn_mini::{PartItem, Record};
@@ -51,7 +51,7 @@ pub fn has_vote_for(held: &[Vote], tid: Tid) -> bool
 
 /// Leaves out the votes for an id. It takes no memory.
 pub fn forget(held: &mut Vec<Vote>, tid: Tid)
-    ensures { held.new.items ≡ others tid held.old.items }
+    ensures { held.new.items ≡ votes_of_others tid held.old.items }
 {
     held.retain(|vote| !is_same(vote.tid, tid));
 }

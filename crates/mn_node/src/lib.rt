@@ -2,15 +2,17 @@
 //! answers (Sinfonia, SOSP 2007).
 #![tactic(auto)]
 
+mod bodies;
 mod held;
 mod list;
+mod logging;
 mod memory;
 mod node;
 mod part;
 mod replay;
+mod requests;
 mod restart;
 mod start;
-mod step;
 
 pub use node::{Node, StartFailed};
 pub use replay::space_after;

@@ -1,7 +1,7 @@
 ghost use Rattle.std.specs.Prelude.{◌≡◌, reverse, IfOk, OnOk};
 ghost use Rattle.mn_base.specs.Ids.{tid_lt};
 ghost use Rattle.mn_mini.specs.Node.{HeldPart, held_parts, doubts_of, with_doubt};
-ghost use Rattle.mn_node.specs.Held.{AreHeld, IsVote, IsVoteFor};
+ghost use Rattle.mn_node.specs.Held.{AreHeldVotes, IsVote, IsVoteFor};
 
 use crate::held::{Vote, participants_of};
 use mn_base::{NoMemory, Tid, TryCopy};
@@ -48,7 +48,7 @@ fn doubt_of(alloc: Global, records: &[Record], vote: &Vote) -> Result<Doubt, NoM
 
 /// The ids that are held by these votes, in order, with their participants.
 pub fn doubts(alloc: Global, records: &[Record], held: &[Vote]) -> Result<Doubts, NoMemory>
-    requires held { AreHeld records.now held.now }
+    requires held { AreHeldVotes records.now held.now }
     ensures { IfOk result (λ doubts. doubts ≡ doubts_of (held_parts (reverse records.now))) }
 {
     let mut doubts = Vec::new(alloc);

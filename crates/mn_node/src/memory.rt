@@ -10,7 +10,7 @@ ghost use Rattle.mn_mini.specs.Node.{HeldPart, held_parts, held_part_of, has_vot
 ghost use Rattle.mn_mini.specs.Node.{clash_of, is_held, with_held};
 ghost use Rattle.mn_mini.specs.RecordGrammar.{IsPart, IsRecord};
 ghost use Rattle.mn_node.specs.Part.{shared_of, alone_of};
-ghost use Rattle.mn_node.specs.Held.{AreHeld, IsVote, IsVoteFor};
+ghost use Rattle.mn_node.specs.Held.{AreHeldVotes, IsVote, IsVoteFor};
 ghost use Rattle.mn_node.specs.Memory.{IsMemory, HasDecisionRoom, IsTested, is_among};
 
 use crate::held::{Vote, forget, has_vote_for, is_same, part_of};
@@ -115,7 +115,7 @@ fn write_vote(records: &[Record], vote: &Vote, space: &mut [u8], tid: Tid)
 pub fn write_decided(records: &[Record], held: &[Vote], space: &mut [u8], tid: Tid, yes: bool)
     requires size { length space.old ≡ space_size }
     requires sound { AllByRecursion IsRecord records.now }
-    requires held { AreHeld records.now held.now }
+    requires held { AreHeldVotes records.now held.now }
     ensures { space.new ≡ (if yes
         then with_held (λ t. tid_same t tid) space.old (held_parts (reverse records.now))
         else space.old) }

@@ -11,15 +11,16 @@ ghost use Rattle.mn_mini.specs.RecordGrammar.{IsRecord};
 ghost use Rattle.mn_mini.specs.Sound.{Fits, IsDecide, IsSoundRequest};
 ghost use Rattle.mn_io.specs.DiskModel.{LeavesOnly, NoneNew, DiskStays, WritesNothing};
 ghost use Rattle.mn_node.specs.Node.{IsWithOrWithout, StandsWithOrWithout, bodies_of};
-ghost use Rattle.mn_node.specs.Restart.{FailsRestart, Restarts};
-ghost use Rattle.mn_node.specs.State.{Answers, DiskGoesOn, IsFirstBad, IsStarted, MayStart};
+ghost use Rattle.mn_node.specs.Restart.{FailsRestart, RestartLeaves};
+ghost use Rattle.mn_node.specs.State.{Answers, NodeKeepsDisk, IsFirstBadBody, IsStarted};
+ghost use Rattle.mn_node.specs.State.{HoldsPartsApart};
 ghost use Rattle.mn_node.specs.State.{StandsForRecords, response_to};
 ghost use Rattle.mn_node.specs.declared.start.StartCause.TheVariants as causes;
 
 use crate::memory::Memory;
+use crate::requests::{Served, answer};
 use crate::restart::{RestartError, back};
 use crate::start::{StartCause, ready};
-use crate::step::{Served, serve};
 use mn_base::StopAt;
 use mn_io::Disk;
 use mn_mini::{NodeReply, Record, Request, answers_fit, held_parts_apart};
@@ -79,13 +80,13 @@ impl<D: Disk> Node<D> {
         requires nodes { 0 < redo.nodes }
 
         // As far as its bodies are records, no two parts of different ids that they hold conflict.
-        requires apart { MayStart redo.bodies }
+        requires apart { HoldsPartsApart redo.bodies }
         ensures started { IfOk result (IsStarted D.state redo) }
         ensures fault { IfErr result
             (λ failed. failed.cause ≡ causes.Fault
             → Rose (D.faults redo.disk) (D.faults failed.disk)) }
         ensures damaged { (at : ℕ) → IfErr result
-            (λ failed. failed.cause ≡ causes.Damaged at → IsFirstBad redo.bodies at) }
+            (λ failed. failed.cause ≡ causes.Damaged at → IsFirstBadBody redo.bodies at) }
         ensures stands_err { IfErr result
             (λ failed. (D.state failed.disk).honest
             → StandsFor (D.state failed.disk) redo.node redo.nodes redo.bodies) }
@@ -161,14 +162,14 @@ impl<D: Disk> Node<D> {
             → LeavesOnly (D.state self.old.disk) (D.state self.new.disk)
             (IsWithOrWithout self.old.node self.old.nodes self.old.records
             (response_to self.old request.now).added) }
-        ensures goes_on { DiskGoesOn D.state D.faults self.old self.new }
+        ensures goes_on { NodeKeepsDisk D.state D.faults self.old self.new }
     {
         held_parts_apart();
         answers_fit();
         if self.is_down {
             return NodeReply::Down;
         }
-        match serve(alloc, &mut self.redo, &mut self.memory, request, stop) {
+        match answer(alloc, &mut self.redo, &mut self.memory, request, stop) {
             Served::Replied { reply } => reply,
             Served::Stopped { left } => {
                 self.is_down = true;
@@ -207,7 +208,7 @@ impl<D: Disk> Node<D> {
         requires down { self.old.down ≡ true }
         ensures up { OnOk result (self.new.down ≡ false) }
         ensures records { IfOk result
-            (Restarts self.old.records self.old.pending self.new.records) }
+            (RestartLeaves self.old.records self.old.pending self.new.records) }
         ensures stands { OnOk result
             (StandsForRecords (D.state self.new.disk) self.new.node self.new.nodes
             self.new.records) }
@@ -238,7 +239,7 @@ impl<D: Disk> Node<D> {
         ensures cause { IfErr result
             (FailsRestart D.state D.faults self.old.disk self.new.disk self.old.records
             self.old.pending) }
-        ensures goes_on { DiskGoesOn D.state D.faults self.old self.new }
+        ensures goes_on { NodeKeepsDisk D.state D.faults self.old self.new }
     {
         one_list();
         match back(alloc, &mut self.redo, &mut self.memory, &self.pending) {

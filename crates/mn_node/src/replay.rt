@@ -7,9 +7,9 @@ ghost use Rattle.mn_mini.specs.Laws.{PartsAreApart};
 ghost use Rattle.mn_mini.specs.Mini.{space_size};
 ghost use Rattle.mn_mini.specs.Node.{HeldPart, has_forced, held_parts, space_of};
 ghost use Rattle.mn_mini.specs.RecordGrammar.{IsPart, IsRecord};
-ghost use Rattle.mn_node.specs.Held.{AreHeld, IsVoteFor};
+ghost use Rattle.mn_node.specs.Held.{AreHeldVotes, IsVoteFor};
 ghost use Rattle.mn_page.specs.Base.{base_of};
-ghost use Rattle.mn_node.specs.Memory.{HasDecisionRoom, IsBuilt, IsMemory, is_among};
+ghost use Rattle.mn_node.specs.Memory.{HasDecisionRoom, IsMadeByRecords, IsMemory, is_among};
 ghost use Rattle.mn_node.specs.Part.{alone_of, holds_by, part_holds, shared_of};
 
 use crate::held::{Vote, forget, part_of};
@@ -32,10 +32,10 @@ fn apply(
     requires size { length space.old ≡ space_size }
     requires sound { AllByRecursion IsRecord before.now }
     requires next { IsRecord next.now }
-    requires held { AreHeld before.now held.old.items }
+    requires held { AreHeldVotes before.now held.old.items }
     ensures space { OnOk result ((base : List ℕ) → space.old ≡ space_of base (reverse before.now)
         → space.new ≡ space_of base (next.now ∷ reverse before.now)) }
-    ensures held { OnOk result (AreHeld (before.now ++ next.now ∷ []) held.new.items) }
+    ensures held { OnOk result (AreHeldVotes (before.now ++ next.now ∷ []) held.new.items) }
 {
     match next {
         Record::Voted { tid, .. } => {
@@ -62,7 +62,7 @@ fn write_all(alloc: Global, records: &[Record], space: &mut [u8]) -> Result<Vec<
     requires size { length space.old ≡ space_size }
     requires sound { AllByRecursion IsRecord records.now }
     ensures space { OnOk result (space.new ≡ space_of space.old (reverse records.now)) }
-    ensures held { IfOk result (λ held. AreHeld records.now held.items) }
+    ensures held { IfOk result (λ held. AreHeldVotes records.now held.items) }
 {
     let mut held = Vec::new(alloc);
     for number in 0..records.len() {
@@ -139,7 +139,7 @@ fn lock_held(
     locks: &mut LockTable,
 ) -> Result<(), NoMemory>
     requires sound { AllByRecursion IsRecord records.now }
-    requires held { AreHeld records.now held.now }
+    requires held { AreHeldVotes records.now held.now }
     requires apart { PartsAreApart (held_parts (reverse records.now)) }
     requires none { locks.old.holds ≡ [] }
     ensures { OnOk result (locks.new.holds ≡ holds_by (held_parts (reverse records.now))) }
@@ -165,7 +165,8 @@ fn made_of(alloc: Global, node: u8, nodes: u8, records: &[Record]) -> Result<Mad
     requires sound { AllByRecursion IsRecord records.now }
     requires apart { PartsAreApart (held_parts (reverse records.now)) }
     ensures { IfOk result (λ made.
-        IsBuilt (base_of nodes node) records.now made.space.items made.locks.holds made.forced.items
+        IsMadeByRecords (base_of nodes node) records.now made.space.items made.locks.holds
+        made.forced.items
         made.held.items) }
 {
     let mut space = base_space(alloc, node, nodes)?;

@@ -11,10 +11,12 @@ ghost use Rattle.mn_mini.specs.Node.{held_parts};
 ghost use Rattle.mn_mini.specs.RecordGrammar.{IsRecord, record_bytes};
 ghost use Rattle.mn_mini.specs.declared.record.Record.{Record};
 ghost use Rattle.mn_node.specs.declared.restart.RestartError.TheVariants as errors;
-ghost use Rattle.mn_node.specs.Node.{LogContinues, IsUp, IsWithOrWithout, SameNode};
+ghost use Rattle.mn_node.specs.Node.{LogKeepsDisk, IsNodeUp, IsWithOrWithout, KeepsNodeNumbers};
 ghost use Rattle.mn_node.specs.Node.{StandsWithOrWithout, added_to, bodies_of};
-ghost use Rattle.mn_node.specs.Restart.{Compares, Differs, FailsRestart, HasLeft, IsCause, IsFound};
-ghost use Rattle.mn_node.specs.Restart.{IsFront, IsListed, IsOtherAt, IsUnread, Restarts};
+ghost use Rattle.mn_node.specs.Restart.{TellsOtherRecords, TellsDifferenceAt, FailsRestart};
+ghost use Rattle.mn_node.specs.Restart.{AreBodiesWithPending, FailsWithoutDamage, IsSpelledAt};
+ghost use Rattle.mn_node.specs.Restart.{BeginsWithRecords, AreBodiesWithOrWithout, DiffersFirstAt};
+ghost use Rattle.mn_node.specs.Restart.{TellsBadBody, RestartLeaves};
 
 use crate::memory::Memory;
 use crate::start::{StartCause, start_log};
@@ -117,8 +119,8 @@ fn first_difference<D: Disk>(
     requires going { redo.now.phase ≢ Closing }
     requires sound { AllByRecursion IsRecord records.now }
     ensures { IfOk result (λ found.
-        MatchOption found (IsFront redo.now.bodies records.now)
-        (λ at. (at < length records.now) × IsOtherAt redo.now.bodies records.now at)) }
+        MatchOption found (BeginsWithRecords redo.now.bodies records.now)
+        (λ at. (at < length records.now) × DiffersFirstAt redo.now.bodies records.now at)) }
 {
     let count = redo.count() as usize;
     for number in 0..records.len() {
@@ -139,8 +141,8 @@ fn found_at<D: Disk>(
     at: usize,
 ) -> Result<Option<Record>, RestartError>
     requires going { redo.now.phase ≢ Closing }
-    ensures found { IfOk result (IsFound redo.now.bodies at) }
-    ensures unread { IfErr result (IsUnread redo.now.bodies) }
+    ensures found { IfOk result (IsSpelledAt redo.now.bodies at) }
+    ensures unread { IfErr result (TellsBadBody redo.now.bodies) }
 {
     if at >= redo.count() as usize {
         return Ok(None);
@@ -159,7 +161,7 @@ fn found_at<D: Disk>(
 /// What a log says that differs at this number from the node's record, if it has one.
 fn differs<D: Disk>(alloc: Global, redo: &Redo<D>, at: usize, kept: Option<Record>) -> RestartError
     requires going { redo.now.phase ≢ Closing }
-    ensures { Differs redo.now.bodies at kept result }
+    ensures { TellsDifferenceAt redo.now.bodies at kept result }
 {
     match found_at(alloc, redo, at) {
         Ok(found) => RestartError::Damaged {
@@ -181,11 +183,11 @@ fn compare_rest<D: Disk>(
 ) -> Result<bool, RestartError>
     requires going { redo.now.phase ≢ Closing }
     requires sound { AllByRecursion IsRecord (added_to records.now pending.now) }
-    requires front { IsFront redo.now.bodies records.now }
+    requires front { BeginsWithRecords redo.now.bodies records.now }
     requires more { length records.now < length redo.now.bodies }
     ensures more { IfOk result (λ there. there ≡ true) }
-    ensures listed { OnOk result (HasLeft redo.now.bodies records.now pending.now) }
-    ensures differs { IfErr result (Compares redo.now.bodies records.now pending.now) }
+    ensures listed { OnOk result (AreBodiesWithPending redo.now.bodies records.now pending.now) }
+    ensures differs { IfErr result (TellsOtherRecords redo.now.bodies records.now pending.now) }
 {
     let total = redo.count();
     let count = records.len();
@@ -211,8 +213,8 @@ fn compare<D: Disk>(
 ) -> Result<bool, RestartError>
     requires going { redo.now.phase ≢ Closing }
     requires sound { AllByRecursion IsRecord (added_to records.now pending.now) }
-    ensures listed { IfOk result (IsListed redo.now.bodies records.now pending.now) }
-    ensures differs { IfErr result (Compares redo.now.bodies records.now pending.now) }
+    ensures listed { IfOk result (AreBodiesWithOrWithout redo.now.bodies records.now pending.now) }
+    ensures differs { IfErr result (TellsOtherRecords redo.now.bodies records.now pending.now) }
 {
     if let Some(at) = first_difference(alloc, redo, records)? {
         let kept = records[at].try_copy(alloc)?;
@@ -234,7 +236,7 @@ fn wake<D: Disk>(alloc: Global, redo: &mut Redo<D>, memory: &mut Memory) -> Resu
     requires apart { PartsAreApart (held_parts (reverse memory.old.records.items)) }
     requires stands { (D.state redo.old.disk).honest
         → StandsFor (D.state redo.old.disk) redo.old.node redo.old.nodes redo.old.bodies }
-    ensures up { OnOk result (IsUp D.state redo.new memory.new) }
+    ensures up { OnOk result (IsNodeUp D.state redo.new memory.new) }
     ensures records { memory.new.records.items ≡ memory.old.records.items }
     ensures stands { (D.state redo.new.disk).honest
         → StandsFor (D.state redo.new.disk) redo.old.node redo.old.nodes redo.old.bodies }
@@ -243,9 +245,9 @@ fn wake<D: Disk>(alloc: Global, redo: &mut Redo<D>, memory: &mut Memory) -> Resu
         (λ c. Stands redo.old.node redo.old.nodes c redo.old.bodies) }
     ensures rests { redo.old.phase ≡ Started → (D.state redo.old.disk).honest
         → DiskStays (D.state redo.old.disk) (D.state redo.new.disk) }
-    ensures continues { LogContinues D.state D.faults redo.old redo.new }
-    ensures same { SameNode memory.old memory.new }
-    ensures cause { IfErr result (IsCause D.faults redo.old.disk redo.new.disk) }
+    ensures continues { LogKeepsDisk D.state D.faults redo.old redo.new }
+    ensures same { KeepsNodeNumbers memory.old memory.new }
+    ensures cause { IfErr result (FailsWithoutDamage D.faults redo.old.disk redo.new.disk) }
 {
     memory.rebuild(alloc)?;
     match start_log(redo, memory.held.len()) {
@@ -270,7 +272,7 @@ fn wake_with<D: Disk>(
         (held_parts (reverse (memory.old.records.items ++ left.now ∷ []))) }
     requires stands { (D.state redo.old.disk).honest
         → StandsFor (D.state redo.old.disk) redo.old.node redo.old.nodes redo.old.bodies }
-    ensures up { OnOk result (IsUp D.state redo.new memory.new) }
+    ensures up { OnOk result (IsNodeUp D.state redo.new memory.new) }
     ensures records { OnOk result
         (memory.new.records.items ≡ memory.old.records.items ++ left.now ∷ []) }
     ensures before { OnErr result (memory.new.records.items ≡ memory.old.records.items) }
@@ -281,9 +283,9 @@ fn wake_with<D: Disk>(
         (λ c. Stands redo.old.node redo.old.nodes c redo.old.bodies) }
     ensures rests { redo.old.phase ≡ Started → (D.state redo.old.disk).honest
         → DiskStays (D.state redo.old.disk) (D.state redo.new.disk) }
-    ensures continues { LogContinues D.state D.faults redo.old redo.new }
-    ensures same { SameNode memory.old memory.new }
-    ensures cause { IfErr result (IsCause D.faults redo.old.disk redo.new.disk) }
+    ensures continues { LogKeepsDisk D.state D.faults redo.old redo.new }
+    ensures same { KeepsNodeNumbers memory.old memory.new }
+    ensures cause { IfErr result (FailsWithoutDamage D.faults redo.old.disk redo.new.disk) }
 {
     let copy = left.try_copy(alloc)?;
     memory.records.push(copy)?;
@@ -307,16 +309,17 @@ fn wake_found<D: Disk>(
 ) -> Result<(), RestartError>
     requires going { redo.old.phase ≢ Closing }
     requires nodes { 0 < memory.old.nodes }
-    requires listed { IsListed redo.old.bodies memory.old.records.items pending.now there }
+    requires listed { AreBodiesWithOrWithout redo.old.bodies memory.old.records.items pending.now
+        there }
     requires sound { AllByRecursion IsRecord (added_to memory.old.records.items pending.now) }
     requires apart { PartsAreApart (held_parts (reverse memory.old.records.items)) }
     requires apart_left { PartsAreApart
         (held_parts (reverse (added_to memory.old.records.items pending.now))) }
     requires stands { (D.state redo.old.disk).honest
         → StandsFor (D.state redo.old.disk) redo.old.node redo.old.nodes redo.old.bodies }
-    ensures up { OnOk result (IsUp D.state redo.new memory.new) }
+    ensures up { OnOk result (IsNodeUp D.state redo.new memory.new) }
     ensures records { OnOk result
-        (Restarts memory.old.records.items pending.now memory.new.records.items there) }
+        (RestartLeaves memory.old.records.items pending.now memory.new.records.items there) }
     ensures before { OnErr result (memory.new.records.items ≡ memory.old.records.items) }
     ensures stands { (D.state redo.new.disk).honest
         → StandsFor (D.state redo.new.disk) redo.old.node redo.old.nodes redo.old.bodies }
@@ -325,9 +328,9 @@ fn wake_found<D: Disk>(
         (λ c. Stands redo.old.node redo.old.nodes c redo.old.bodies) }
     ensures rests { redo.old.phase ≡ Started → (D.state redo.old.disk).honest
         → DiskStays (D.state redo.old.disk) (D.state redo.new.disk) }
-    ensures continues { LogContinues D.state D.faults redo.old redo.new }
-    ensures same { SameNode memory.old memory.new }
-    ensures cause { IfErr result (IsCause D.faults redo.old.disk redo.new.disk) }
+    ensures continues { LogKeepsDisk D.state D.faults redo.old redo.new }
+    ensures same { KeepsNodeNumbers memory.old memory.new }
+    ensures cause { IfErr result (FailsWithoutDamage D.faults redo.old.disk redo.new.disk) }
 {
     match pending {
         None => wake(alloc, redo, memory),
@@ -358,9 +361,9 @@ pub fn back<D: Disk>(
         → StandsWithOrWithout (D.state redo.old.disk) redo.old.node redo.old.nodes
         memory.old.records.items pending.now }
     requires header { (D.state redo.old.disk).honest → HasHeader (D.state redo.old.disk) }
-    ensures up { OnOk result (IsUp D.state redo.new memory.new) }
+    ensures up { OnOk result (IsNodeUp D.state redo.new memory.new) }
     ensures records { IfOk result
-        (Restarts memory.old.records.items pending.now memory.new.records.items) }
+        (RestartLeaves memory.old.records.items pending.now memory.new.records.items) }
     ensures before { OnErr result (memory.new.records.items ≡ memory.old.records.items) }
     ensures stands { (D.state redo.new.disk).honest
         → StandsWithOrWithout (D.state redo.new.disk) redo.old.node redo.old.nodes
@@ -375,8 +378,8 @@ pub fn back<D: Disk>(
     ensures keeps { (D.state redo.old.disk).honest → (bodies : List (List ℕ))
         → StandsFor (D.state redo.old.disk) redo.old.node redo.old.nodes bodies
         → StandsFor (D.state redo.new.disk) redo.old.node redo.old.nodes bodies }
-    ensures continues { LogContinues D.state D.faults redo.old redo.new }
-    ensures same { SameNode memory.old memory.new }
+    ensures continues { LogKeepsDisk D.state D.faults redo.old redo.new }
+    ensures same { KeepsNodeNumbers memory.old memory.new }
     ensures cause { IfErr result (FailsRestart D.state D.faults redo.old.disk redo.new.disk
         memory.old.records.items pending.now) }
 {

@@ -5,8 +5,8 @@ ghost use Rattle.mn_redo.specs.Grammar.{Stands};
 ghost use Rattle.mn_redo.specs.Redo.{HasHeader, StandsFor};
 ghost use Rattle.mn_redo.specs.declared.redo.Phase.TheVariants.{Started, Closing};
 ghost use Rattle.mn_node.specs.declared.start.StartCause.TheVariants as causes;
-ghost use Rattle.mn_node.specs.Node.{LogContinues, IsUp};
-ghost use Rattle.mn_node.specs.State.{AreRecords, IsFirstBad, MayStart};
+ghost use Rattle.mn_node.specs.Node.{LogKeepsDisk, IsNodeUp};
+ghost use Rattle.mn_node.specs.State.{AreRecords, IsFirstBadBody, HoldsPartsApart};
 
 use crate::memory::Memory;
 use crate::replay::memory_of;
@@ -64,7 +64,7 @@ pub fn records_of<D: Disk>(alloc: Global, redo: &Redo<D>) -> Result<Vec<Record>,
     requires going { redo.now.phase ≢ Closing }
     ensures records { IfOk result (λ records. AreRecords redo.now.bodies records.items) }
     ensures damaged { (at : ℕ) → IsErrOf result (causes.Damaged at)
-        → IsFirstBad redo.now.bodies at }
+        → IsFirstBadBody redo.now.bodies at }
     ensures no_fault { IsErrOf result causes.Fault → ⊥ }
 {
     let mut records = Vec::new(alloc);
@@ -105,7 +105,7 @@ pub fn start_log<D: Disk>(redo: &mut Redo<D>, held: usize) -> Result<(), StartCa
         → StandsFor (D.state redo.new.disk) redo.old.node redo.old.nodes redo.old.bodies }
     ensures rests { redo.old.phase ≡ Started → (D.state redo.old.disk).honest
         → DiskStays (D.state redo.old.disk) (D.state redo.new.disk) }
-    ensures continues { LogContinues D.state D.faults redo.old redo.new }
+    ensures continues { LogKeepsDisk D.state D.faults redo.old redo.new }
     ensures fault { IsErrOf result causes.Fault
         → Rose (D.faults redo.old.disk) (D.faults redo.new.disk) }
     ensures not_damaged { (at : ℕ) → IsErrOf result (causes.Damaged at) → ⊥ }
@@ -124,8 +124,8 @@ pub fn start_log<D: Disk>(redo: &mut Redo<D>, held: usize) -> Result<(), StartCa
 pub fn ready<D: Disk>(alloc: Global, redo: &mut Redo<D>) -> Result<Memory, StartCause>
     requires going { redo.old.phase ≢ Closing }
     requires nodes { 0 < redo.old.nodes }
-    requires apart { MayStart redo.old.bodies }
-    ensures up { IfOk result (λ memory. IsUp D.state redo.new memory) }
+    requires apart { HoldsPartsApart redo.old.bodies }
+    ensures up { IfOk result (λ memory. IsNodeUp D.state redo.new memory) }
     ensures header { OnOk result ((D.state redo.new.disk).honest
         → HasHeader (D.state redo.new.disk)) }
     ensures records { IfOk result (λ memory. AreRecords redo.old.bodies memory.records.items) }
@@ -140,11 +140,11 @@ pub fn ready<D: Disk>(alloc: Global, redo: &mut Redo<D>) -> Result<Memory, Start
         (λ c. Stands redo.old.node redo.old.nodes c redo.old.bodies) }
     ensures rests { redo.old.phase ≡ Started → (D.state redo.old.disk).honest
         → DiskStays (D.state redo.old.disk) (D.state redo.new.disk) }
-    ensures continues { LogContinues D.state D.faults redo.old redo.new }
+    ensures continues { LogKeepsDisk D.state D.faults redo.old redo.new }
     ensures fault { IsErrOf result causes.Fault
         → Rose (D.faults redo.old.disk) (D.faults redo.new.disk) }
     ensures damaged { (at : ℕ) → IsErrOf result (causes.Damaged at)
-        → IsFirstBad redo.old.bodies at }
+        → IsFirstBadBody redo.old.bodies at }
 {
     let records = records_of(alloc, redo)?;
     let memory = memory_of(alloc, redo.node(), redo.nodes(), records)?;

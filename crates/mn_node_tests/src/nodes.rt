@@ -4,7 +4,7 @@ ghost use Rattle.mn_mini.specs.Mini.{IsInSpace, space_size};
 ghost use Rattle.mn_mini.specs.RecordGrammar.{IsPart, IsPartItem, IsTid};
 ghost use Rattle.mn_redo.specs.declared.redo.Phase.TheVariants.{Closing};
 ghost use Rattle.mn_mini.specs.Sound.{IsSoundRequest};
-ghost use Rattle.mn_node.specs.State.{MayStart};
+ghost use Rattle.mn_node.specs.State.{HoldsPartsApart};
 
 use mn_base::{Bytes, ClientNo, NodeNo, Nodes, StopAt, Tid};
 use mn_io::{Bytes as DiskBytes, Calls};
@@ -19,7 +19,7 @@ use std::test::Fail;
 /// The log of node 1 of two, on a disk without a byte whose calls in the list fail.
 fn empty_log(rt: &impl Abort, alloc: Global, fails: &[u64]) -> Result<Redo<MemoryDisk>, Fail>
     ensures going { IfOk result (λ redo. redo.phase ≢ Closing) }
-    ensures bodies { IfOk result (λ redo. MayStart redo.bodies) }
+    ensures bodies { IfOk result (λ redo. HoldsPartsApart redo.bodies) }
     ensures nodes { IfOk result (λ redo. redo.nodes ≡ 2) }
 {
     let fails = Calls::from_vec(fails.to_vec(alloc)?);
@@ -137,7 +137,7 @@ fn says(
 {
     let reply = node.handle(alloc, request, stop);
     let said = format!(in alloc; "{reply:?}")?;
-    assert_eq!(rt; said.as_str(), wanted);
+    assert!(rt; said.as_str() == wanted);
     Ok(())
 }
 
@@ -179,7 +179,7 @@ fn a_node_answers_by_its_records(rt: HostRuntime) -> Result<(), Fail> {
         None,
         "Done { reads: Reads { reads: [Bytes { bytes: [0, 0, 0, 0, 0, 0, 0, 0] }] } }",
     )?;
-    assert_eq!(rt; node.records().len(), 1);
+    assert!(rt; node.records().len() == 1);
     says(
         &rt,
         alloc,
@@ -237,7 +237,7 @@ fn a_node_answers_by_its_records(rt: HostRuntime) -> Result<(), Fail> {
         None,
         "BadCompare { item: 0, found: Bytes { bytes: [97] } }",
     )?;
-    assert_eq!(rt; node.records().len(), 3);
+    assert!(rt; node.records().len() == 3);
     Ok(())
 }
 
@@ -339,9 +339,9 @@ fn decides(rt: &impl Abort, alloc: Global, fails: u64, there: bool) -> Result<()
     };
     says(rt, alloc, &mut node, &decide, None, "Stopped")?;
     says(rt, alloc, &mut node, &decide, None, "Down")?;
-    assert_eq!(rt; restarts(rt, alloc, &mut node), there);
+    assert!(rt; restarts(rt, alloc, &mut node) == there);
     says(rt, alloc, &mut node, &decide, None, "Decided")?;
-    assert_eq!(rt; node.records().len(), 2);
+    assert!(rt; node.records().len() == 2);
     Ok(())
 }
 
@@ -381,24 +381,24 @@ fn left(
 fn a_stop_leaves_the_record_or_not(rt: HostRuntime) -> Result<(), Fail> {
     let alloc = rt.alloc();
     let never = 100;
-    assert_eq!(rt; left(&rt, alloc, never, Some(StopAt::Before), 0)?, 0);
-    assert_eq!(rt; left(&rt, alloc, never, Some(StopAt::Before), 1)?, 0);
-    assert_eq!(rt; left(&rt, alloc, never, Some(StopAt::Half), 0)?, 0);
-    assert_eq!(rt; left(&rt, alloc, never, Some(StopAt::Half), 1)?, 0);
-    assert_eq!(rt; left(&rt, alloc, never, Some(StopAt::After), 0)?, 1);
-    assert_eq!(rt; left(&rt, alloc, never, Some(StopAt::After), 1)?, 1);
+    assert!(rt; left(&rt, alloc, never, Some(StopAt::Before), 0)? == 0);
+    assert!(rt; left(&rt, alloc, never, Some(StopAt::Before), 1)? == 0);
+    assert!(rt; left(&rt, alloc, never, Some(StopAt::Half), 0)? == 0);
+    assert!(rt; left(&rt, alloc, never, Some(StopAt::Half), 1)? == 0);
+    assert!(rt; left(&rt, alloc, never, Some(StopAt::After), 0)? == 1);
+    assert!(rt; left(&rt, alloc, never, Some(StopAt::After), 1)? == 1);
     Ok(())
 }
 
 #[test]
 fn a_crash_behind_a_failed_sync_leaves_the_record_or_not(rt: HostRuntime) -> Result<(), Fail> {
     let alloc = rt.alloc();
-    assert_eq!(rt; left(&rt, alloc, 12, None, 0)?, 0);
-    assert_eq!(rt; left(&rt, alloc, 12, None, 1)?, 0);
-    assert_eq!(rt; left(&rt, alloc, 12, None, 2)?, 0);
-    assert_eq!(rt; left(&rt, alloc, 12, None, 3)?, 0);
-    assert_eq!(rt; left(&rt, alloc, 14, None, 0)?, 0);
-    assert_eq!(rt; left(&rt, alloc, 14, None, 1)?, 1);
+    assert!(rt; left(&rt, alloc, 12, None, 0)? == 0);
+    assert!(rt; left(&rt, alloc, 12, None, 1)? == 0);
+    assert!(rt; left(&rt, alloc, 12, None, 2)? == 0);
+    assert!(rt; left(&rt, alloc, 12, None, 3)? == 0);
+    assert!(rt; left(&rt, alloc, 14, None, 0)? == 0);
+    assert!(rt; left(&rt, alloc, 14, None, 1)? == 1);
     Ok(())
 }
 

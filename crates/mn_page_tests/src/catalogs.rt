@@ -21,14 +21,14 @@ fn main_at(place: u8) -> [u8; 4_096] {
 #[test]
 fn the_base_catalog_has_main(rt: HostRuntime) -> Result<(), Fail> {
     let catalog = Catalog::read(rt.alloc(), &main_at(0))?;
-    assert_eq!(rt; catalog.entries().len(), 1);
+    assert!(rt; catalog.entries().len() == 1);
     let main = Name::new(rt.alloc(), b"main")?;
-    assert_eq!(rt; catalog.find(&main), Some(VersionNo(0)));
+    assert!(rt; catalog.find(&main) == Some(VersionNo(0)));
     let other = Name::new(rt.alloc(), b"other")?;
-    assert_eq!(rt; catalog.find(&other), None);
+    assert!(rt; catalog.find(&other) == None);
 
     let behind = Catalog::read(rt.alloc(), &main_at(1)).err();
-    assert_eq!(rt; behind, Some(CatError::BadCatalog { entry: 1 }));
+    assert!(rt; behind == Some(CatError::BadCatalog { entry: 1 }));
     Ok(())
 }
 
@@ -113,8 +113,8 @@ fn a_catalog_takes_64_versions(rt: HostRuntime) -> Result<(), Fail> {
         )
     );
     let catalog = Catalog::read(alloc, &bytes)?;
-    assert_eq!(rt; catalog.entries().len(), 64);
-    assert_eq!(rt; catalog.entries()[0].seq, 2);
-    assert_eq!(rt; catalog.entries()[63].parent, Some(VersionNo(0)));
+    assert!(rt; catalog.entries().len() == 64);
+    assert!(rt; catalog.entries()[0].seq == 2);
+    assert!(rt; catalog.entries()[63].parent == Some(VersionNo(0)));
     Ok(())
 }

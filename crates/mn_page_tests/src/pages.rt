@@ -71,11 +71,11 @@ fn names_the_first_byte_at_fault(rt: HostRuntime) -> Result<(), PageError> {
     ];
     for (at, byte, fault) in cases {
         let found = changed(at, byte);
-        assert_eq!(rt; found, Some(fault));
+        assert!(rt; found == Some(fault));
     }
-    assert_eq!(rt; place(&slot(&[])), None);
-    assert_eq!(rt; place(&[0; 1_023]), Some(7));
-    assert_eq!(rt; place(&ROOT), Some(32));
+    assert!(rt; place(&slot(&[])) == None);
+    assert!(rt; place(&[0; 1_023]) == Some(7));
+    assert!(rt; place(&ROOT) == Some(32));
     Ok(())
 }
 
@@ -85,18 +85,18 @@ fn names_the_first_byte_at_which_no_key_fits(rt: HostRuntime) -> Result<(), Page
     let two = [
         0, 0, 0, 0, 0, 0, 0, 1, 1, 0, 0, 0, 0, 0, 0, 0, 0, 0, 0, 0, 1, b'a', 1, 2, b'a', 0, 2,
     ];
-    assert_eq!(rt; place(&slot(&two)), Some(26));
+    assert!(rt; place(&slot(&two)) == Some(26));
     // `k2`, then `k1`.
     let descends = [
         0, 0, 0, 0, 0, 0, 0, 1, 1, 0, 0, 0, 0, 0, 0, 0, 0, 0, 0, 0, 0, 0, 2, 2, b'k', b'2', 0, 2,
         b'k', b'1', 0,
     ];
-    assert_eq!(rt; place(&slot(&descends)), Some(29));
+    assert!(rt; place(&slot(&descends)) == Some(29));
     // Low fence `b`, high fence `a`.
     let crossed = [
         0, 0, 0, 0, 0, 0, 0, 1, 1, 0, 0, 0, 0, 0, 0, 0, 0, 0, 0, 0, 1, b'b', 1, 1, b'a', 0,
     ];
-    assert_eq!(rt; place(&slot(&crossed)), Some(24));
+    assert!(rt; place(&slot(&crossed)) == Some(24));
     Ok(())
 }
 
@@ -117,6 +117,6 @@ fn reads_and_writes_an_entry(rt: HostRuntime) -> Result<(), PageError> {
 
     bytes[15] = b'A';
     let refused = CatEntry::read(rt.alloc(), &bytes).err();
-    assert_eq!(rt; refused, Some(PageError::BadPage { at: 15 }));
+    assert!(rt; refused == Some(PageError::BadPage { at: 15 }));
     Ok(())
 }

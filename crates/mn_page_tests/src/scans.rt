@@ -163,43 +163,43 @@ fn pages_on_no_path_are_refused(rt: HostRuntime) -> Result<(), Fail> {
     let bad = |slot| Some(ScanError::BadPath { addr: at(slot) });
     let mut scan = scan_of(alloc, 0, b"k6", b"", 10)?;
     // Made for another version; too high; beside the key.
-    assert_eq!(rt; fed(&mut scan, root(alloc, 1, 1)?), bad(0));
-    assert_eq!(rt; fed(&mut scan, root(alloc, 0, 15)?), bad(0));
-    assert_eq!(rt; fed(&mut scan, leaf(alloc, 0, b"k7", b"", &[])?), bad(0));
-    assert_eq!(rt; fed(&mut scan, leaf(alloc, 0, b"", b"k6", &[])?), bad(0));
+    assert!(rt; fed(&mut scan, root(alloc, 1, 1)?) == bad(0));
+    assert!(rt; fed(&mut scan, root(alloc, 0, 15)?) == bad(0));
+    assert!(rt; fed(&mut scan, leaf(alloc, 0, b"k7", b"", &[])?) == bad(0));
+    assert!(rt; fed(&mut scan, leaf(alloc, 0, b"", b"k6", &[])?) == bad(0));
     // Not one height below; after that it begins at the root again.
-    assert_eq!(rt; fed(&mut scan, root(alloc, 0, 2)?), None);
-    assert_eq!(rt;
-        scan.next(),
-        ScanStep::Need {
-            addr: at(2),
-            leaf: false
-        }
+    assert!(rt; fed(&mut scan, root(alloc, 0, 2)?) == None);
+    assert!(rt;
+        scan.next()
+            == ScanStep::Need {
+                addr: at(2),
+                leaf: false
+            }
     );
-    assert_eq!(rt; fed(&mut scan, page_at(alloc, 0, 2)?), bad(2));
-    assert_eq!(rt;
-        scan.next(),
-        ScanStep::Need {
-            addr: at(0),
-            leaf: true
-        }
+    assert!(rt; fed(&mut scan, page_at(alloc, 0, 2)?) == bad(2));
+    assert!(rt;
+        scan.next()
+            == ScanStep::Need {
+                addr: at(0),
+                leaf: true
+            }
     );
 
     // The first leaf covers the lower bound; each other begins where the one before it ended.
-    assert_eq!(rt; fed(&mut scan, root(alloc, 0, 1)?), None);
-    assert_eq!(rt;
-        scan.next(),
-        ScanStep::Need {
-            addr: at(2),
-            leaf: true
-        }
+    assert!(rt; fed(&mut scan, root(alloc, 0, 1)?) == None);
+    assert!(rt;
+        scan.next()
+            == ScanStep::Need {
+                addr: at(2),
+                leaf: true
+            }
     );
-    assert_eq!(rt; fed(&mut scan, page_at(alloc, 0, 2)?), None);
-    assert_eq!(rt; scan.key(), b"k7".as_slice());
+    assert!(rt; fed(&mut scan, page_at(alloc, 0, 2)?) == None);
+    assert!(rt; scan.key() == b"k7".as_slice());
     let wide = leaf(alloc, 0, b"k6", b"", &[b"k6"])?;
-    assert_eq!(rt; fed(&mut scan, wide), Some(ScanError::NoMemory));
-    assert_eq!(rt; scan.key(), b"k7".as_slice());
-    assert_eq!(rt; fed(&mut scan, page_at(alloc, 0, 3)?), None);
-    assert_eq!(rt; scan.next(), ScanStep::Ended);
+    assert!(rt; fed(&mut scan, wide) == Some(ScanError::NoMemory));
+    assert!(rt; scan.key() == b"k7".as_slice());
+    assert!(rt; fed(&mut scan, page_at(alloc, 0, 3)?) == None);
+    assert!(rt; scan.next() == ScanStep::Ended);
     Ok(())
 }

@@ -38,8 +38,8 @@ use Rattle.mn_proxy.specs.declared.errand.Errand.TheVariants as out
 use Rattle.mn_proxy.specs.declared.errand.Purpose.{Purpose}
 use Rattle.mn_proxy.specs.declared.errand.Purpose.TheVariants as by
 use Rattle.mn_proxy.specs.declared.known.Known.{Known}
-use Rattle.mn_proxy.specs.declared.proxy.Failure.{Failure}
-use Rattle.mn_proxy.specs.declared.proxy.Failure.TheVariants as fails
+use Rattle.mn_proxy.specs.declared.proxy.retrying.Failure.{Failure}
+use Rattle.mn_proxy.specs.declared.proxy.retrying.Failure.TheVariants as fails
 use Rattle.mn_proxy.specs.declared.proxy.Turn.TheVariants as turns
 use Rattle.mn_proxy.specs.declared.step.ProxyStep.TheVariants as steps
 use Rattle.mn_proxy.specs.declared.work.Job.{Job}

@@ -27,8 +27,8 @@ use Rattle.mn_proxy.specs.declared.errand.Purpose.{Purpose}
 use Rattle.mn_proxy.specs.declared.errand.Purpose.TheVariants as by
 use Rattle.mn_proxy.specs.declared.known.Known.{Known}
 use Rattle.mn_proxy.specs.declared.next.Taken.{Taken}
-use Rattle.mn_proxy.specs.declared.proxy.Failure.{Failure}
-use Rattle.mn_proxy.specs.declared.proxy.Failure.TheVariants as fails
+use Rattle.mn_proxy.specs.declared.proxy.retrying.Failure.{Failure}
+use Rattle.mn_proxy.specs.declared.proxy.retrying.Failure.TheVariants as fails
 use Rattle.mn_proxy.specs.declared.proxy.Proxy.TheInside.{Inside}
 use Rattle.mn_proxy.specs.declared.proxy.Turn.{Turn}
 use Rattle.mn_proxy.specs.declared.proxy.Turn.TheVariants as turns

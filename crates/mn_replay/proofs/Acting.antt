@@ -31,7 +31,7 @@ use Rattle.mn_replay.specs.Plays.{IsAtRest, IsPlay, PlayState, StaysPlay, caller
 use Rattle.mn_replay.specs.Logs.{GoesAs, HasLog, played_by, works_of}
 use Rattle.mn_replay.specs.Recoveries.{Bench, bench_of}
 use Rattle.mn_replay.specs.Schedule.{IsOfClient, IsOfRecoverer, recoverer, role_of}
-use Rattle.mn_replay.specs.Turn.{GoesOn, IsTurn, Turn, callers_count, past_in, trail_by}
+use Rattle.mn_replay.specs.Turn.{ExtendsLog, IsTurn, Turn, callers_count, past_in, trail_by}
 use Rattle.mn_replay.proofs.Resting.{IsAfter, IsTurnOf, Replaces, turn_after, turn_begins, turn_ends}
 use Rattle.mn_replay.proofs.Scheduled.{client_acts, list_of_client as list_of_client_in, recoverer_acts}
 use Rattle.mn_replay.proofs.Replacing.{client_among, client_replaced, desk_among, desk_replaced, list_of}
@@ -110,7 +110,7 @@ module _ {D : Type 0} (board : TableId) (start : Start) (p : PlayState D) (rests
 
     pub client_turn : (q : PlayState D) (w u : View Entry) (at : TableId) (t : Turn D) (c' : Client)
         → IsSplit p.view (Calls (caller_at k)) w u → IsTurn board (start_nodes start) t
-        → GoesOn (record { table = p.table; stations = p.stations; board = at; view = u; list = c.list }) t
+        → ExtendsLog (record { table = p.table; stations = p.stations; board = at; view = u; list = c.list }) t
         → IsJoined w t.view q.view → q.rest ≡ p.rest → q.table ≡ t.table → q.stations ≡ t.stations → t.list ≡ c'.list
         → q.callers.clients.items ≡ slice_set p.callers.clients.items k c' → q.callers.desks.items ≡ p.callers.desks.items → q.callers.closer.list ≡ p.callers.closer.list
         → AllByRecursion (IsIssueOf start) (entries_of c'.list.entries) → IsTurnOf board start p q (caller_at k) w u q.view at c.list t
@@ -172,7 +172,7 @@ module _ {D : Type 0} (board : TableId) (start : Start) (p : PlayState D) (rests
 
     pub desk_turn : (q : PlayState D) (w u : View Entry) (at : TableId) (t : Turn D) (d' : Desk)
         → IsSplit p.view (Calls (caller_at (17 + k))) w u → IsTurn board (start_nodes start) t
-        → GoesOn (record { table = p.table; stations = p.stations; board = at; view = u; list = d.list }) t
+        → ExtendsLog (record { table = p.table; stations = p.stations; board = at; view = u; list = d.list }) t
         → IsJoined w t.view q.view → q.rest ≡ p.rest → q.table ≡ t.table → q.stations ≡ t.stations → t.list ≡ d'.list
         → q.callers.desks.items ≡ slice_set p.callers.desks.items k d' → q.callers.clients.items ≡ p.callers.clients.items → q.callers.closer.list ≡ p.callers.closer.list
         → IsDesk start d' → IsTurnOf board start p q (caller_at (17 + k)) w u q.view at d.list t

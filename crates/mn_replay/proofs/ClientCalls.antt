@@ -9,7 +9,7 @@ use Rattle.mn_base.specs.declared.ids.NodeNo.{NodeNo}
 use Rattle.mn_base.specs.declared.ids.Tid.{Tid}
 use Rattle.mn_base.specs.declared.op.Op.{Op}
 use Rattle.mn_base.proofs.Booleans.{clash}
-use Rattle.mn_cell.specs.Calls.{KeepsStop, MaySend, entry_at, what_said}
+use Rattle.mn_cell.specs.Calls.{ObeysStop, MaySend, entry_at, what_said}
 use Rattle.mn_cell.specs.Runs.{IsIssueOf}
 use Rattle.mn_coord.specs.Coordination.{Coordination, step_at, stage_in}
 use Rattle.mn_coord.specs.Legal.{IsAnswered}
@@ -43,10 +43,10 @@ use Rattle.mn_proxy.specs.State.{begun as begun_with}
 use Rattle.mn_proxy.specs.Turns.{KeepsSelf, OwesNoneIn}
 use Rattle.mn_replay.specs.declared.client.Call.{Call}
 use Rattle.mn_replay.specs.declared.client.Client.{Client}
-use Rattle.mn_replay.specs.Clients.{HasProxy, IsAlive, IsAtSteps, IsClient, IsDue, IsListOfRun, IsOfRun, KeepsIssues, is_dead, past_of}
+use Rattle.mn_replay.specs.Clients.{HasProxy, IsAlive, IsAtSteps, IsClient, MayCallNext, IsListOfRun, IsOfRun, KeepsIssues, is_dead, past_of}
 use Rattle.mn_replay.specs.Going.{HasAnswer, IsSameBut, IsSameButRoom, IsUnnoted, MayAdd}
 use Rattle.mn_replay.specs.Points.{AsksAs, has_died, is_kill_of, is_some_met, is_stop_at, stop_among, stop_due}
-use Rattle.mn_replay.specs.Steps.{Adds, Keeps, own_entry}
+use Rattle.mn_replay.specs.Steps.{Adds, KeepsList, own_entry}
 use Rattle.mn_replay.proofs.ClientSteps.{as_same, last_number_of, longer, out_works, ready_last, same_issues, same_list, with_entry}
 use Rattle.mn_replay.proofs.MetPoints.{last_entry, own_meets_none}
 
@@ -84,7 +84,7 @@ of_said P request stop stopped called Say.Down = called Say.Down
 -- The call
 
 -- the client's list allows it, whatever the reply is
-pub may_send : (start : Start) (c : Client) (node : NodeNo) (request : Request) (stop : Option StopAt) → c.list.client.0 ≤ 20 → IsDue start c (record { node = node; request = request }) → MaySend node c.list.client c.list.entries request stop
+pub may_send : (start : Start) (c : Client) (node : NodeNo) (request : Request) (stop : Option StopAt) → c.list.client.0 ≤ 20 → MayCallNext start c (record { node = node; request = request }) → MaySend node c.list.client c.list.entries request stop
 may_send start c node request stop known due reply = record {
   actor = known;
   node = tt;
@@ -95,9 +95,9 @@ answered : (node : NodeNo) (client : ClientNo) (request : Request) (stop : Optio
 answered node client request stop reply =
     of_said (λ what said. IsAnswered (entry_at node client what) node request said) request stop refl (λ said. refl) reply
 
-asks_so : (due : Option StopAt) (request : Request) (reply : NodeReply) → KeepsStop due request reply → AsksAs due (what_said request due reply)
+asks_so : (due : Option StopAt) (request : Request) (reply : NodeReply) → ObeysStop due request reply → AsksAs due (what_said request due reply)
 asks_so due request reply keeps =
-    of_said (λ what said. KeepsStop due request said → AsksAs due what) request due (λ k. refl) (λ said k. k) reply keeps
+    of_said (λ what said. ObeysStop due request said → AsksAs due what) request due (λ k. refl) (λ said k. k) reply keeps
 
 begins_none : (request : Request) (stop : Option StopAt) (reply : NodeReply) → begun_in (what_said request stop reply) ≡ []
 begins_none request stop reply = of_said (λ what said. begun_in what ≡ []) request stop refl (λ said. refl) reply
@@ -151,7 +151,7 @@ module _ (start : Start) (points : List Point) (c : Client) (node : NodeNo) (req
     issues = with_entry (λ d es. KeepsIssues es c.shared c.is_plan) e c.list l adds (same_issues e (past_of c) c.shared c.is_plan (no_issue request stop reply) run.issues);
   }
 
-  pub said_answer : (after : Client) → after.list ≡ l → stop ≡ stop_due points c.list.client node request (past_of c) → KeepsStop stop request reply → HasAnswer points node request reply c after
+  pub said_answer : (after : Client) → after.list ≡ l → stop ≡ stop_due points c.list.client node request (past_of c) → ObeysStop stop request reply → HasAnswer points node request reply c after
   said_answer after list due keeps = record {
     entry = e;
     longer = ap (λ (k : ClientState). entries_of k.entries) list ∙ longer e c.list l adds;
@@ -168,7 +168,7 @@ own_before c d list list' e some same client own =
 
 -- Nothing more in the list
 
-pub same_run : (start : Start) (points : List Point) (old new : ClientState) (flags flags' : List Bool) (begun : ℕ) (id : Option Tid) (plan : Bool) → Keeps old new → flags' ≡ points_met points (entries_of new.entries)
+pub same_run : (start : Start) (points : List Point) (old new : ClientState) (flags flags' : List Bool) (begun : ℕ) (id : Option Tid) (plan : Bool) → KeepsList old new → flags' ≡ points_met points (entries_of new.entries)
     → IsListOfRun start points old flags begun id plan → IsListOfRun start points new flags' begun id plan
 same_run start points old new flags flags' begun id plan keeps met run = record {
   own = same_list (λ d es. AllByRecursion (λ x. x.client ≡ Some d) es) old new keeps.client keeps.entries run.own;
@@ -179,13 +179,13 @@ same_run start points old new flags flags' begun id plan keeps met run = record 
   issues = same_list (λ d es. KeepsIssues es id plan) old new keeps.client keeps.entries run.issues;
 }
 
-pub kept_run : (start : Start) (points : List Point) (old new : ClientState) (flags : List Bool) (begun : ℕ) (id : Option Tid) (plan : Bool) → Keeps old new → IsListOfRun start points old flags begun id plan → IsListOfRun start points new flags begun id plan
+pub kept_run : (start : Start) (points : List Point) (old new : ClientState) (flags : List Bool) (begun : ℕ) (id : Option Tid) (plan : Bool) → KeepsList old new → IsListOfRun start points old flags begun id plan → IsListOfRun start points new flags begun id plan
 kept_run start points old new flags begun id plan keeps run =
     same_run start points old new flags flags begun id plan keeps (run.met ∙ sym (ap (λ (l : List (ℕ × Entry)). points_met points (entries_of l)) keeps.entries)) run
 
 -- the list has other room
 
-pub room_keeps : (old new : Client) → IsSameButRoom old new → Keeps old.list new.list
+pub room_keeps : (old new : Client) → IsSameButRoom old new → KeepsList old.list new.list
 room_keeps old new same = record { client = ap (λ (k : Client). k.list.client) same; entries = ap (λ (k : Client). k.list.entries) same }
 
 pub room_run : (start : Start) (points : List Point) (old new : Client) → IsSameButRoom old new → IsOfRun start points old → IsOfRun start points new
@@ -197,9 +197,9 @@ pub room_proxy : (start : Start) (old new : Client) → IsSameButRoom old new �
 room_proxy start old new same has =
     as_same (HasProxy start) (record old { list = record old.list { room = new.list.room } }) new same (record { agrees = has.agrees; client = has.client; run = has.run; nodes = has.nodes })
 
-pub room_due : (start : Start) (old new : Client) (call : Call) → IsSameButRoom old new → IsDue start old call → IsDue start new call
+pub room_due : (start : Start) (old new : Client) (call : Call) → IsSameButRoom old new → MayCallNext start old call → MayCallNext start new call
 room_due start old new call same due =
-    as_same (λ (k : Client). IsDue start k call) (record old { list = record old.list { room = new.list.room } }) new same (record { out = due.out; allowed = due.allowed; among = due.among; sound = due.sound })
+    as_same (λ (k : Client). MayCallNext start k call) (record old { list = record old.list { room = new.list.room } }) new same (record { out = due.out; allowed = due.allowed; among = due.among; sound = due.sound })
 
 pub room_past : (old new : Client) → IsSameButRoom old new → past_of new ≡ past_of old
 room_past old new same = ap (λ (k : Client). past_of k) same
@@ -230,7 +230,7 @@ module _ (start : Start) (points : List Point) (c : Client) (node : NodeNo) (req
       | inr is ↦ said_run start points c node request stop reply l run (said is) m.met.items met
     ])
 
-    pub asked_answer : stop ≡ stop_due points c.list.client node request (past_of c) → KeepsStop stop request reply → reply ≢ Say.NoMemory → HasAnswer points node request reply c m
+    pub asked_answer : stop ≡ stop_due points c.list.client node request (past_of c) → ObeysStop stop request reply → reply ≢ Say.NoMemory → HasAnswer points node request reply c m
     asked_answer due keeps is = said_answer start points c node request stop reply l run (said is) m (ap (λ (k : Client). k.list) same) due keeps
 
     pub asked_none : reply ≡ Say.NoMemory → past_of m ≡ past_of c
@@ -272,7 +272,7 @@ pub record Feeds (old : ProxyState) (reply : NodeReply) (new : ProxyState) : Typ
   pub kept : KeepsSelf old new
 
 module _ (start : Start) (points : List Point) (c after : Client) (p : ProxyState) (node : NodeNo) (request : Request) (reply : NodeReply) (proxy : HasProxy start c)
-    (due : IsDue start c (record { node = node; request = request })) (same : after.proxy ≡ c.proxy) (client : after.list.client ≡ c.list.client) (fits : Fits request reply)
+    (due : MayCallNext start c (record { node = node; request = request })) (same : after.proxy ≡ c.proxy) (client : after.list.client ≡ c.list.client) (fits : Fits request reply)
     (said : reply ≢ Say.NoMemory → HasAnswer points node request reply c after) (none : reply ≡ Say.NoMemory → past_of after ≡ past_of c) (sent : reply ≡ Say.NoMemory → IsDecide request → ⊥)
     (feeds : Feeds after.proxy reply p) where
   feeds' : Feeds c.proxy reply p
@@ -302,7 +302,7 @@ module _ (start : Start) (points : List Point) (c after : Client) (p : ProxyStat
 -- What is so of a client
 
 -- a call is due: it lives, and may make the call
-pub due_alive : (start : Start) (points : List Point) (c : Client) (call : Call) → IsClient start points c → c.due ≡ Some call → (is_dead points c → ⊥) × HasProxy start c × IsDue start c call
+pub due_alive : (start : Start) (points : List Point) (c : Client) (call : Call) → IsClient start points c → c.due ≡ Some call → (is_dead points c → ⊥) × HasProxy start c × MayCallNext start c call
 due_alive start points c call is due =
     let lives : is_dead points c → ⊥ = λ dead. none_due (is.dead dead) in
     let alive = is.alive lives in
@@ -311,15 +311,15 @@ due_alive start points c call is due =
     none_due : c.due ≡ None → ⊥
     none_due none = cc
 
-    at : (o : Option Call) → o ≡ Some call → MatchOption o (IsIdle c.proxy) (IsDue start c) → IsDue start c call
+    at : (o : Option Call) → o ≡ Some call → MatchOption o (IsIdle c.proxy) (MayCallNext start c) → MayCallNext start c call
     at None e m = absurd cc
-    at (Some other) e m = let same : other ≡ call = cc in subst (IsDue start c) same m
+    at (Some other) e m = let same : other ≡ call = cc in subst (MayCallNext start c) same m
 
 -- none is due, and it lives: no operation is under way
 pub idle_alive : (start : Start) (points : List Point) (c : Client) → IsClient start points c → c.due ≡ None → (is_dead points c → ⊥) → HasProxy start c × IsIdle c.proxy
 idle_alive start points c is due lives = let alive = is.alive lives in (alive.proxy, at c.due due alive.due)
   where
-    at : (o : Option Call) → o ≡ None → MatchOption o (IsIdle c.proxy) (IsDue start c) → IsIdle c.proxy
+    at : (o : Option Call) → o ≡ None → MatchOption o (IsIdle c.proxy) (MayCallNext start c) → IsIdle c.proxy
     at None e m = m
     at (Some other) e m = absurd cc
 
@@ -330,7 +330,7 @@ none_taken start points c left is none none' = record {
   dead = λ dead. none';
   alive = λ lives. let alive = is.alive lives in record {
     proxy = alive.proxy;
-    due = subst (λ (o : Option Call). MatchOption o (IsIdle c.proxy) (IsDue start c)) (none ∙ sym none') alive.due;
+    due = subst (λ (o : Option Call). MatchOption o (IsIdle c.proxy) (MayCallNext start c)) (none ∙ sym none') alive.due;
   };
 }
 
@@ -414,7 +414,7 @@ begun_steps start points old mid op copy p is none lives same equal adds begins 
     (begin_steps start points old op mid.list p is.run not_dead none alive.0 alive.1 adds' (subst (λ (q : ProxyState). Begins q op p) (ap (λ (k : Client). k.proxy) same) begins))
 
 -- it failed to begin one
-pub unbegun_run : (start : Start) (points : List Point) (old new : Client) → IsSameBut old new → Keeps old.list new.list → IsOfRun start points old → IsOfRun start points new
+pub unbegun_run : (start : Start) (points : List Point) (old new : Client) → IsSameBut old new → KeepsList old.list new.list → IsOfRun start points old → IsOfRun start points new
 unbegun_run start points old new same keeps run =
     as_same (IsOfRun start points) (record old { list = new.list }) new same (kept_run start points old.list new.list old.met.items old.begun old.shared old.is_plan keeps run)
 
@@ -453,7 +453,7 @@ first_client start points c client list begun due shared plan met proxy agrees =
       run = ap (λ (p : ProxyState). p.run) proxy;
       nodes = ap (λ (p : ProxyState). p.known.nodes) proxy;
     };
-    due = subst (λ (o : Option Call). MatchOption o (IsIdle c.proxy) (IsDue start c)) (sym due) (ap (λ (p : ProxyState). p.work) proxy);
+    due = subst (λ (o : Option Call). MatchOption o (IsIdle c.proxy) (MayCallNext start c)) (sym due) (ap (λ (p : ProxyState). p.work) proxy);
   };
 }
   where

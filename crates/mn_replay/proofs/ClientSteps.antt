@@ -43,10 +43,10 @@ use Rattle.mn_proxy.specs.Turns.{KeepsSelf}
 use Rattle.mn_replay.specs.declared.client.Call.{Call}
 use Rattle.mn_replay.specs.declared.client.Client.{Client}
 use Rattle.mn_replay.specs.declared.client.Went.TheVariants.{On}
-use Rattle.mn_replay.specs.Clients.{HasProxy, IsAlive, IsAtSteps, IsClient, IsDue, IsListOfRun, IsOfRun, IsProxyFor, KeepsIssues, MayCall, is_plan_first, last_shared}
+use Rattle.mn_replay.specs.Clients.{HasProxy, IsAlive, IsAtSteps, IsClient, MayCallNext, IsListOfRun, IsOfRun, IsProxyFor, KeepsIssues, MayCall, is_plan_first, last_shared}
 use Rattle.mn_replay.specs.Going.{HandedOut, HasGone, HasList, IsList, IsSameBut, KeepsPoints, MayMake, MeetsSame, WorksFor}
 use Rattle.mn_replay.specs.Points.{has_died, is_kill_of, is_some_met}
-use Rattle.mn_replay.specs.Steps.{Adds, Keeps, own_entry}
+use Rattle.mn_replay.specs.Steps.{Adds, KeepsList, own_entry}
 use Rattle.mn_replay.proofs.MetPoints.{own_meets_none}
 
 -- either way it ended
@@ -129,7 +129,7 @@ pub same_list : (P : ClientNo → List Entry → Type 0) (old new : ClientState)
 same_list P old new client entries so =
     subst (λ (d : ClientNo). P d (entries_of new.entries)) (sym client) (subst (λ (l : List (ℕ × Entry)). P old.client (entries_of l)) (sym entries) so)
 
-pub kept_list : (start : Start) (old new : ClientState) (begun : ℕ) (id : Option Tid) (plan : Bool) → Keeps old new → IsList start old begun id plan → IsList start new begun id plan
+pub kept_list : (start : Start) (old new : ClientState) (begun : ℕ) (id : Option Tid) (plan : Bool) → KeepsList old new → IsList start old begun id plan → IsList start new begun id plan
 kept_list start old new begun id plan keeps has = record {
   own = same_list (λ d es. AllByRecursion (λ x. x.client ≡ Some d) es) old new keeps.client keeps.entries has.own;
   of_run = same_list (λ d es. AllByRecursion (IsIssueOf start) es) old new keeps.client keeps.entries has.of_run;
@@ -138,7 +138,7 @@ kept_list start old new begun id plan keeps has = record {
   issues = same_list (λ d es. KeepsIssues es id plan) old new keeps.client keeps.entries has.issues;
 }
 
-pub kept_points : (old new : ClientState) (flags : List Bool) → Keeps old new → MeetsSame old flags new flags
+pub kept_points : (old new : ClientState) (flags : List Bool) → KeepsList old new → MeetsSame old flags new flags
 kept_points old new flags keeps = record { client = keeps.client; flags = refl; met = λ points. ap (λ (l : List (ℕ × Entry)). points_met points (entries_of l)) keeps.entries }
 
 pub same_points : (l : ClientState) (flags : List Bool) → MeetsSame l flags l flags
@@ -375,7 +375,7 @@ made_on start old new same ready none has = made_goes start old new (ap (λ (k :
 pub answered_rests : (start : Start) (old new : Client) → IsSameBut old new → IsIdle old.proxy → old.due ≡ None → HasProxy start new → IsAlive start new
 answered_rests start old new same idle none has = record {
   proxy = has;
-  due = subst (λ (o : Option Call). MatchOption o (IsIdle new.proxy) (IsDue start new)) (sym (ap (λ (k : Client). k.due) same ∙ none)) (ap (λ (k : Client). k.proxy.work) same ∙ idle);
+  due = subst (λ (o : Option Call). MatchOption o (IsIdle new.proxy) (MayCallNext start new)) (sym (ap (λ (k : Client). k.due) same ∙ none)) (ap (λ (k : Client). k.proxy.work) same ∙ idle);
 }
 
 -- its own steps go on, or rest

@@ -31,8 +31,8 @@ use Rattle.mn_replay.specs.Failed.{closer}
 use Rattle.mn_replay.specs.Logs.{GoesAs, Settles, played_by, works_of}
 use Rattle.mn_replay.specs.Plays.{HasTrail, IsAtRest, IsOfSome, PlayState, StaysPlay, list_by}
 use Rattle.mn_replay.specs.Schedule.{AreOfCloser, HaltsNode, Played, RestartsNode, with_entry}
-use Rattle.mn_replay.specs.Steps.{Adds, Keeps}
-use Rattle.mn_replay.specs.Turn.{GoesOn, IsTurn, Turn, past_in}
+use Rattle.mn_replay.specs.Steps.{Adds, KeepsList}
+use Rattle.mn_replay.specs.Turn.{ExtendsLog, IsTurn, Turn, past_in}
 use Rattle.mn_replay.proofs.Doings.{went_either_way}
 use Rattle.mn_replay.proofs.Resting.{IsAfter, IsTurnOf, Replaces, turn_after, turn_begins, turn_ends}
 use Rattle.mn_replay.proofs.Replacing.{closer_among, closer_replaced}
@@ -40,7 +40,7 @@ use Rattle.mn_replay.proofs.Scheduled.{by_map, entries_back, entries_both, list_
 
 -- Its list
 
-keeps_recovery : (start : Start) (old new : ClientState) → Keeps old new → IsOfRecovery start old → IsOfRecovery start new
+keeps_recovery : (start : Start) (old new : ClientState) → KeepsList old new → IsOfRecovery start old → IsOfRecovery start new
 keeps_recovery start old new keeps of =
     record {
       own = subst (λ (c : ClientNo). AllByRecursion (λ e. e.client ≡ Some c) (entries_of new.entries)) (sym keeps.client)
@@ -64,11 +64,11 @@ adds_recovery start old new n what of_run none adds of =
     doubts : (tid : Tid) (es : List Entry) → is_in_doubt tid es ≡ false → is_in_doubt tid (entry_at n old.client what ∷ es) ≡ false
     doubts tid es is = rw none is
 
-pub halt_recovery : {D E : Type 0} {stations : List (StationState D)} (start : Start) (old new : ClientState) (n : NodeNo) (r : Result (Unit {0}) E) → Halts n stations r old new → OnErr r (Keeps old new) → IsOfRecovery start old → IsOfRecovery start new
+pub halt_recovery : {D E : Type 0} {stations : List (StationState D)} (start : Start) (old new : ClientState) (n : NodeNo) (r : Result (Unit {0}) E) → Halts n stations r old new → OnErr r (KeepsList old new) → IsOfRecovery start old → IsOfRecovery start new
 halt_recovery start old new n (Ok u) halts none of = ⊎_elim (λ keeps. keeps_recovery start old new keeps of) (λ adds. adds_recovery start old new n (Stopped None None) tt refl adds of) (went_either_way n _ halts)
 halt_recovery start old new n (Err e) halts none of = keeps_recovery start old new none of
 
-pub restart_recovery : {D E : Type 0} {stations : List (StationState D)} (start : Start) (old new : ClientState) (n : NodeNo) (r : Result (Unit {0}) E) → Restarts n stations r old new → OnErr r (Keeps old new) → IsOfRecovery start old → IsOfRecovery start new
+pub restart_recovery : {D E : Type 0} {stations : List (StationState D)} (start : Start) (old new : ClientState) (n : NodeNo) (r : Result (Unit {0}) E) → Restarts n stations r old new → OnErr r (KeepsList old new) → IsOfRecovery start old → IsOfRecovery start new
 restart_recovery start old new n (Ok u) restarts none of =
     ⊎_elim (λ adds. adds_recovery start old new n (Restarted adds.0) tt refl adds.1 of) (λ keeps. keeps_recovery start old new keeps of) (went_either_way n _ restarts)
 restart_recovery start old new n (Err e) restarts none of = keeps_recovery start old new none of
@@ -90,7 +90,7 @@ module _ {D : Type 0} (board : TableId) (start : Start) (p : PlayState D) (some 
   closer_begins w u at split is = turn_begins board start p closer w u at p.callers.closer.list rests (lit< tt) split (is ∙ rests.passes) rests.numbers.closer_is refl
 
   pub closer_turn : (q : PlayState D) (w u : View Entry) (at : TableId) (t : Turn D) → IsSplit p.view (Client closer) w u → IsTurn board (start_nodes start) t
-      → GoesOn (record { table = p.table; stations = p.stations; board = at; view = u; list = p.callers.closer.list }) t
+      → ExtendsLog (record { table = p.table; stations = p.stations; board = at; view = u; list = p.callers.closer.list }) t
       → IsJoined w t.view q.view → q.rest ≡ p.rest → q.table ≡ t.table → q.stations ≡ t.stations → q.callers.closer.list ≡ t.list
       → q.callers.clients.items ≡ p.callers.clients.items → q.callers.desks.items ≡ p.callers.desks.items → IsOfRecovery start t.list
       → IsTurnOf board start p q closer w u q.view at p.callers.closer.list t
@@ -163,7 +163,7 @@ restarted : (n : NodeNo) (p q : Played) → true ≡ is_down (node_entries n p.p
 restarted n p q is so = subst (λ (b : Bool). MatchBool b ((q ≡ p) ⊎ ((kept : Bool) × (q ≡ with_entry (entry_at n closer (Restarted kept)) p))) (q ≡ p)) is so
 
 module _ {D : Type 0} (p q : PlayState D) (old new : ClientState) (before : HasTrail p.stations p.view.known p.callers) (after : IsAfter p q closer old.entries new.entries before) where
-  keeps_log : Keeps old new → after.own ≡ []
+  keeps_log : KeepsList old new → after.own ≡ []
   keeps_log keeps = turned after.own [] (sym (append_cancel_left old.entries [] (reverse after.own) (append-nil old.entries ∙ (sym keeps.entries ∙ after.list_is))))
 
   adds_log : (e : Entry) (adds : Adds e old new) → after.own ≡ (adds.place, e) ∷ []
@@ -183,7 +183,7 @@ module _ {D : Type 0} (p q : PlayState D) (old new : ClientState) (before : HasT
       now : Played
       now = played_by p (past_in before.trail)
 
-      by : (b : Bool) → b ≡ is_down (node_entries n (past_in before.trail)) → MatchBool b (Keeps old new) (Adds (entry_at n old.client (Stopped None None)) old new) → So (HaltsNode n) after.own
+      by : (b : Bool) → b ≡ is_down (node_entries n (past_in before.trail)) → MatchBool b (KeepsList old new) (Adds (entry_at n old.client (Stopped None None)) old new) → So (HaltsNode n) after.own
       by true is keeps =
           let none : after.own ≡ [] = keeps_log keeps in
           subst (λ (own : List (ℕ × Entry)). So (HaltsNode n) own) (sym none)
@@ -195,7 +195,7 @@ module _ {D : Type 0} (p q : PlayState D) (old new : ClientState) (before : HasT
           (subst (λ (b : Bool). MatchBool b (with_entry e now ≡ now) (with_entry e now ≡ with_entry (entry_at n closer (Stopped None None)) now)) is
           (ap (λ (c : ClientNo). with_entry (entry_at n c (Stopped None None)) now) client))
 
-  pub restarts_log : {E : Type 0} (n : NodeNo) (r : Result (Unit {0}) E) → old.client ≡ closer → Restarts n p.stations r old new → OnErr r (Keeps old new) → So (RestartsNode n) after.own
+  pub restarts_log : {E : Type 0} (n : NodeNo) (r : Result (Unit {0}) E) → old.client ≡ closer → Restarts n p.stations r old new → OnErr r (KeepsList old new) → So (RestartsNode n) after.own
   restarts_log n (Err e) client restarts none =
       let none' : after.own ≡ [] = keeps_log none in
       subst (λ (own : List (ℕ × Entry)). So (RestartsNode n) own) (sym none') (same_restart n (played_by p (past_in before.trail)))
@@ -204,7 +204,7 @@ module _ {D : Type 0} (p q : PlayState D) (old new : ClientState) (before : HasT
       now : Played
       now = played_by p (past_in before.trail)
 
-      by : (b : Bool) → b ≡ is_down (node_entries n (past_in before.trail)) → MatchBool b ((kept : Bool) × Adds (entry_at n old.client (Restarted kept)) old new) (Keeps old new) → So (RestartsNode n) after.own
+      by : (b : Bool) → b ≡ is_down (node_entries n (past_in before.trail)) → MatchBool b ((kept : Bool) × Adds (entry_at n old.client (Restarted kept)) old new) (KeepsList old new) → So (RestartsNode n) after.own
       by true is adds =
           let e = entry_at n old.client (Restarted adds.0) in
           let one : after.own ≡ (adds.1.place, e) ∷ [] = adds_log e adds.1 in

@@ -32,8 +32,8 @@ use Rattle.mn_replay.specs.Causes.{IsCaused}
 use Rattle.mn_replay.specs.Closing.{AllExtend, AreHeldIn, ClosesOn, Extends, IsCallOrRestart, IsClosing, IsDone, failure_of}
 use Rattle.mn_replay.specs.Desks.{IsRecoveryCall}
 use Rattle.mn_replay.specs.Doings.{HasAnswered, IsAnswer, IsDownAs, OthersStay}
-use Rattle.mn_replay.specs.Settled.{AllUp, AreSettled, records_at}
-use Rattle.mn_replay.specs.Steps.{Adds, Keeps}
+use Rattle.mn_replay.specs.Settled.{AllUp, AreUpAndFree, records_at}
+use Rattle.mn_replay.specs.Steps.{Adds, KeepsList}
 use Rattle.mn_replay.specs.Turn.{AreStations, IsTurn, Turn}
 use Rattle.mn_replay.proofs.Held.{all_from_doubts, extends_same, held_still, nothing_held, recovery_extends}
 use Rattle.mn_replay.proofs.Recovering.{recovery_adds, recovery_keeps, recovery_restarts}
@@ -62,7 +62,7 @@ closing_called board start t t' is turn client n request reply kind said none = 
 
 -- and after a restart
 pub closing_restarted : {D : Type 0} (board : TableId) (start : Start) (t t' : Turn D) → IsClosing board start t → IsTurn board (start_nodes start) t' → t'.list.client ≡ t.list.client → (n : NodeNo)
-    → Keeps t.list t'.list ⊎ ((kept : Bool) × Adds (entry_at n t.list.client (Restarted kept)) t.list t'.list) → IsClosing board start t'
+    → KeepsList t.list t'.list ⊎ ((kept : Bool) × Adds (entry_at n t.list.client (Restarted kept)) t.list t'.list) → IsClosing board start t'
 closing_restarted board start t t' is turn client n restarts = record {
   turn = turn;
   client = client ∙ is.client;
@@ -183,7 +183,7 @@ ids_kept tids tids' from sound = recursion_from_All IsTid tids' (All-weaker (Con
 
 -- after all recoveries each node is up and holds nothing
 pub settled_by : {D : Type 0} (nodes : ℕ) (old new : List (StationState D)) (tids : List Tid) → ((n : NodeNo) → n.0 < nodes → AreHeldIn tids (records_at old n)) → AllUp new → AllExtend old new
-    → ((t : Tid) → Contains tids t → IsDone nodes t (records_at new)) → AreSettled nodes new
+    → ((t : Tid) → Contains tids t → IsDone nodes t (records_at new)) → AreUpAndFree nodes new
 settled_by nodes old new tids held up ext done = (
   up,
   λ sound n among. nothing_held nodes (records_at new) tids (λ m there. held_still (λ h. Contains tids h.tid) (records_at old m) (records_at new m) (ext m) (held m there)) done sound n among,
@@ -225,7 +225,7 @@ pub closes_called : (old new : ClientState) (n : NodeNo) (request : Request) (re
 closes_called old new n request reply answers adds = closes_adds (entry_at n old.client (what_said request None reply)) old new (answered_kind request reply answers) adds
 
 -- a restart, where the node was down
-pub closes_restarted : (old new : ClientState) (n : NodeNo) → Keeps old new ⊎ ((kept : Bool) × Adds (entry_at n old.client (Restarted kept)) old new) → ClosesOn (entries_of old.entries) (entries_of new.entries)
+pub closes_restarted : (old new : ClientState) (n : NodeNo) → KeepsList old new ⊎ ((kept : Bool) × Adds (entry_at n old.client (Restarted kept)) old new) → ClosesOn (entries_of old.entries) (entries_of new.entries)
 closes_restarted old new n restarts = ⊎_elim
     (λ keeps. closes_same old new keeps.entries)
     (λ adds. closes_adds (entry_at n old.client (Restarted adds.0)) old new tt adds.1)

@@ -11,13 +11,13 @@ use Rattle.mn_base.specs.declared.ids.NodeNo.{NodeNo}
 use Rattle.mn_cell.specs.Calls.{numbered}
 use Rattle.mn_cell.specs.declared.trace.RunCause.{RunCause}
 use Rattle.mn_cell.specs.declared.trace.RunCause.TheVariants.{Disk, Damaged, NoMemory}
-use Rattle.mn_cell.specs.Station.{HasMade, RoseBy, StationState}
+use Rattle.mn_cell.specs.Station.{HasMadeEntries, RoseBy, StationState}
 use Rattle.mn_io.specs.DiskModel.{DiskState}
 use Rattle.mn_io.specs.Faults.{Rose}
-use Rattle.mn_cell.specs.Station.{KeepsAsAsked, unasked}
+use Rattle.mn_cell.specs.Station.{RestartsKeepRecordsAsAsked, unasked}
 use Rattle.mn_mini.specs.declared.record.Record.{Record}
 use Rattle.mn_mini.specs.Node.{held_parts}
-use Rattle.mn_node.specs.Restart.{IsDamage}
+use Rattle.mn_node.specs.Restart.{DamageNames}
 use Rattle.mn_node.specs.State.{NodeState}
 use Rattle.mn_world.specs.declared.entry.Entry.{Entry}
 use Rattle.mn_world.specs.Calls.{node_entries}
@@ -31,7 +31,7 @@ use Rattle.mn_replay.specs.Causes.{IsCaused}
 use Rattle.mn_replay.specs.Ended.{IsEnded}
 use Rattle.mn_replay.specs.Failed.{FailsSo, HasCause, IsAmong, IsRunOn, unasked_by_others}
 use Rattle.mn_replay.specs.Plays.{NamesGiven}
-use Rattle.mn_replay.specs.Settled.{AreSettled, records_at}
+use Rattle.mn_replay.specs.Settled.{AreUpAndFree, records_at}
 use Rattle.mn_replay.specs.Trace.{AreHandedBack, IsQuiet, IsTrace, StartsSound, start_on}
 
 -- Lists
@@ -82,7 +82,7 @@ module _ {D : Type 0} (start : Start) (stations : List (StationState D)) (past :
           ap (λ (o : Option (StationState D)). option_map_or (λ s. reverse s.node.records) o []) (slice_get_past stations n.0 above)
           ∙ sym (ap (node_records (base_at start n) (start_records start n)) (none_beyond start n beyond past follows) ∙ ap reverse (get_or_past start.records n.0 [] beyond))
 
-  pub free_as : AreSettled (start_nodes start) stations → AreSound (start_nodes start) (records_of start past) → AreFree start past
+  pub free_as : AreUpAndFree (start_nodes start) stations → AreSound (start_nodes start) (records_of start past) → AreFree start past
   free_as settled sound n among =
       let same : records_at stations ≡ records_of start past = fun_ext same_records in
       let sound_now = subst (λ (lists : NodeNo → List Record). AreSound (start_nodes start) lists) (sym same) sound in
@@ -94,14 +94,14 @@ module _ {D : Type 0} (state : D → DiskState) (faults : D → ℕ) (start : St
   past = entries_of log
 
   -- the node of a station has made what the log has of it
-  made_at : (k : ℕ) (s : StationState D) → slice_get ended.stations k ≡ Some s → HasMade state faults start (numbered k) (counts k) (honest k) (node_entries (numbered k) past) s.node
+  made_at : (k : ℕ) (s : StationState D) → slice_get ended.stations k ≡ Some s → HasMadeEntries state faults start (numbered k) (counts k) (honest k) (node_entries (numbered k) past) s.node
   made_at k s at =
-      subst (λ (es : List Entry). HasMade state faults start (numbered k) (counts k) (honest k) es s.node) (ended.lists k s at)
-      (subst (λ (n : NodeNo). HasMade state faults start n (counts n.0) (honest n.0) (entries_of s.list) s.node) (ended.numbers k s at) (ended.made k s at))
+      subst (λ (es : List Entry). HasMadeEntries state faults start (numbered k) (counts k) (honest k) es s.node) (ended.lists k s at)
+      (subst (λ (n : NodeNo). HasMadeEntries state faults start n (counts n.0) (honest n.0) (entries_of s.list) s.node) (ended.numbers k s at) (ended.made k s at))
 
   -- Quiet
 
-  pub quiet : RunsFollowProtocol → RecordsStaySound → AreSettled (start_nodes start) ended.stations → StartsSound start → IsQuiet start past
+  pub quiet : RunsFollowProtocol → RecordsStaySound → AreUpAndFree (start_nodes start) ended.stations → StartsSound start → IsQuiet start past
   quiet follow stay settled sound =
       let follows = follow start past ended.run.run in (
         λ n among. let found = there n among in sym (made_at n.0 found.0 found.1).down ∙ settled.0 n.0 found.0 found.1,
@@ -122,13 +122,13 @@ module _ {D : Type 0} (state : D → DiskState) (faults : D → ℕ) (records : 
   abbrev ended : IsEnded state faults start counts honest nodes played log
   ended = subst (λ (rs : List (List Record)). IsEnded state faults (start_of rs) counts honest nodes played log) named.records_are ended'
 
-  made : (k : ℕ) (s : StationState D) → slice_get ended.stations k ≡ Some s → HasMade state faults start (numbered k) (counts k) (honest k) (node_entries (numbered k) (entries_of log)) s.node
+  made : (k : ℕ) (s : StationState D) → slice_get ended.stations k ≡ Some s → HasMadeEntries state faults start (numbered k) (counts k) (honest k) (node_entries (numbered k) (entries_of log)) s.node
   made k s at = made_at state faults start counts honest nodes played log ended k s at
 
   handed : AreHandedBack state faults start (entries_of log) given nodes
   handed k m w gave left =
       let found = mapped_at (λ (s : StationState D). s.node) ended.stations k w (ap (λ (l : List (NodeState D)). slice_get l k) (sym ended.nodes_are) ∙ left) in
-      let has = subst (λ (n : NodeState D). HasMade state faults start (numbered k) (counts k) (honest k) (node_entries (numbered k) (entries_of log)) n) found.2 (made k found.0 found.1) in
+      let has = subst (λ (n : NodeState D). HasMadeEntries state faults start (numbered k) (counts k) (honest k) (node_entries (numbered k) (entries_of log)) n) found.2 (made k found.0 found.1) in
       record {
         node = has.node;
         nodes = has.nodes;
@@ -138,7 +138,7 @@ module _ {D : Type 0} (state : D → DiskState) (faults : D → ℕ) (records : 
         stops = has.stops;
         counted = subst (λ (before : ℕ). RoseBy (unasked (node_entries (numbered k) (entries_of log))) before (faults w.disk)) (named.counted k m gave) has.counted;
         honest = λ was. has.as_honest ((named.is_honest k m gave).1 was);
-        kept = λ is. subst (λ (before : ℕ). KeepsAsAsked (Rose before (faults w.disk)) (node_entries (numbered k) (entries_of log))) (named.counted k m gave) (has.kept is);
+        kept = λ is. subst (λ (before : ℕ). RestartsKeepRecordsAsAsked (Rose before (faults w.disk)) (node_entries (numbered k) (entries_of log))) (named.counted k m gave) (has.kept is);
       }
 
   pub run_on : IsRunOn state faults given nodes log
@@ -188,8 +188,8 @@ module _ {D : Type 0} (state : D → DiskState) (faults : D → ℕ) (records : 
         ⊎_elim (λ absent. inl absent)
             (λ other. inr (
               other.0,
-              subst (λ (pending : Option Record). IsDamage other.0 (reverse (records_of start (entries_of log) n)) pending place kept found) (has.pending down)
-                  (subst (λ (rs : List Record). IsDamage other.0 rs s.node.pending place kept found) these other.1),
+              subst (λ (pending : Option Record). DamageNames other.0 (reverse (records_of start (entries_of log) n)) pending place kept found) (has.pending down)
+                  (subst (λ (rs : List Record). DamageNames other.0 rs s.node.pending place kept found) these other.1),
             )) caused.3,
       )
 
@@ -209,5 +209,5 @@ module _ {D : Type 0} (state : D → DiskState) (faults : D → ℕ) (records : 
     run = ended.run;
     back = handed;
     quiet = quiet state faults start counts honest nodes played log ended follow stay
-        (subst (λ (r : Result (Unit {0}) RunCause). OnOk r (AreSettled (start_nodes start) ended.stations)) is ended.settled);
+        (subst (λ (r : Result (Unit {0}) RunCause). OnOk r (AreUpAndFree (start_nodes start) ended.stations)) is ended.settled);
   }

@@ -16,10 +16,10 @@ use Rattle.mn_base.specs.Ids.{node_same}
 use Rattle.mn_base.specs.declared.ids.ClientNo.{ClientNo}
 use Rattle.mn_base.specs.declared.ids.NodeNo.{NodeNo}
 use Rattle.mn_cell.specs.Calls.{IsLegalLine, numbered}
-use Rattle.mn_cell.specs.Runs.{AreParts, IsIssueOf, PartsMakeRun, placed_from}
+use Rattle.mn_cell.specs.Runs.{ArePartsOfRun, IsIssueOf, PartsMakeRun, placed_from}
 use Rattle.mn_cell.specs.declared.trace.RunCause.{RunCause}
 use Rattle.mn_cell.specs.Station.{StationState}
-use Rattle.mn_hist.specs.Merging.{AreOneLog, list_of}
+use Rattle.mn_hist.specs.Merging.{AreOneLog, actor_list}
 use Rattle.mn_io.specs.DiskModel.{DiskState}
 use Rattle.mn_node.specs.State.{NodeState}
 use Rattle.mn_world.specs.declared.entry.Entry.{Entry}
@@ -32,7 +32,7 @@ use Rattle.mn_replay.specs.declared.play.Callers.{Callers}
 use Rattle.mn_replay.specs.Causes.{IsCaused}
 use Rattle.mn_replay.specs.Ended.{AllHaveMade, AreLists, HoldsNodes, IsEnded}
 use Rattle.mn_replay.specs.Plays.{HasTrail, list_by}
-use Rattle.mn_replay.specs.Settled.{AreSettled}
+use Rattle.mn_replay.specs.Settled.{AreUpAndFree}
 use Rattle.mn_replay.specs.Turn.{AreStations, callers_count, past_in, trail_at, trail_by}
 use Rattle.mn_replay.proofs.Handing.{mapped_at, maps_at, some_same, within_at}
 use Rattle.mn_replay.proofs.OneTrail.{IsMannedBy, trail_is_past}
@@ -99,7 +99,7 @@ module _ (callers : Callers) (node_lists : List (List (ℕ × Entry))) (v : View
         once = there.once;
       }
     where
-      same : (a : Actor) → IsActor (length node_lists) (length client_lists) a → list_of node_lists client_lists a ≡ held v a
+      same : (a : Actor) → IsActor (length node_lists) (length client_lists) a → actor_list node_lists client_lists a ≡ held v a
       same (Node n) on = sym (holds n)
       same (Client c) on = let below = subst (λ (k : ℕ). c.0 < k) lists.count on in lists.each c below ∙ sym (owns c below)
 
@@ -110,11 +110,11 @@ module _ {D : Type 0} (state : D → DiskState) (faults : D → ℕ) (start : St
     (nodes_are : nodes ≡ map (λ (s : StationState D). s.node) stations) (lists_are : node_lists ≡ map (λ (s : StationState D). s.list) stations)
     (made : AllHaveMade state faults start counts honest stations) (lists : AreLists callers client_lists)
     (of_run : (c : ClientNo) → c.0 < callers_count → AllByRecursion (IsIssueOf start) (entries_of (list_by callers c)))
-    (played : Result (Unit {0}) RunCause) (settled : OnOk played (AreSettled (start_nodes start) stations)) (caused : IfErr played (IsCaused faults counts honest stations)) where
+    (played : Result (Unit {0}) RunCause) (settled : OnOk played (AreUpAndFree (start_nodes start) stations)) (caused : IfErr played (IsCaused faults counts honest stations)) where
   long : length node_lists ≡ start_nodes start
   long = ap length lists_are ∙ (length-map stations (λ (s : StationState D). s.list) ∙ are.count)
 
-  parts : AreParts start (length node_lists) (length client_lists) (list_of node_lists client_lists)
+  parts : ArePartsOfRun start (length node_lists) (length client_lists) (actor_list node_lists client_lists)
   parts = record {
     all = long;
     allowed = λ n list below at.
@@ -148,7 +148,7 @@ module _ {D : Type 0} (state : D → DiskState) (faults : D → ℕ) (start : St
         stations = stations;
         count = are.count;
         nodes_are = nodes_are;
-        run = law start (length node_lists) (length client_lists) clock (list_of node_lists client_lists) one parts;
+        run = law start (length node_lists) (length client_lists) clock (actor_list node_lists client_lists) one parts;
         numbers = are.in_order;
         made = made;
         lists = own;
@@ -160,17 +160,17 @@ module _ {D : Type 0} (state : D → DiskState) (faults : D → ℕ) (start : St
 
     -- a trail of the play is that log
     pub log_told : (known : ℕ) (h : HasTrail stations known callers) → entries_of log ≡ past_in h.trail
-    log_told known h = trail_is_past (length node_lists) (length client_lists) clock (list_of node_lists client_lists) one known h.trail h.is.falling at by
+    log_told known h = trail_is_past (length node_lists) (length client_lists) clock (actor_list node_lists client_lists) one known h.trail h.is.falling at by
         (subst (λ (k : ℕ). AllByRecursion (IsMannedBy k) h.trail) (sym lists.count) h.manned)
       where
-        at : (n : NodeNo) → n.0 < length node_lists → list_of node_lists client_lists (Node n) ≡ Some (trail_at n.0 h.trail)
+        at : (n : NodeNo) → n.0 < length node_lists → actor_list node_lists client_lists (Node n) ≡ Some (trail_at n.0 h.trail)
         at n below =
             let found = within_at stations n.0 (subst (λ (k : ℕ). n.0 < k) (ap length lists_are ∙ length-map stations (λ (s : StationState D). s.list)) below) in
             ap (λ (l : List (List (ℕ × Entry))). slice_get l n.0) lists_are
             ∙ (maps_at (λ (s : StationState D). s.list) stations n.0 found.0 found.1
             ∙ ap (λ (l : List (ℕ × Entry)). Some l) (h.is.at_nodes n.0 found.0 found.1))
 
-        by : (c : ClientNo) → c.0 < length client_lists → list_of node_lists client_lists (Client c) ≡ Some (trail_by c h.trail)
+        by : (c : ClientNo) → c.0 < length client_lists → actor_list node_lists client_lists (Client c) ≡ Some (trail_by c h.trail)
         by c below =
             let known = subst (λ (k : ℕ). c.0 < k) lists.count below in
             lists.each c known ∙ ap (λ (l : List (ℕ × Entry)). Some l) (h.by c known)

@@ -20,7 +20,7 @@ use Rattle.mn_world.specs.Protocol.{IsOwnStep}
 use Rattle.mn_world.specs.Run.{entries_of}
 use Rattle.mn_world.proofs.Reading.Same.{client_same-refl}
 use Rattle.mn_hist.specs.declared.points.Step.{Step}
-use Rattle.mn_hist.specs.Points.{asked_in, fits, is_vote_for, points_met, stops_same, voted_id, votes_for, votes_with, with_met}
+use Rattle.mn_hist.specs.Points.{asked_in, point_fits, is_vote_for, points_met, stops_same, voted_id, votes_for, votes_with, with_met}
 use Rattle.mn_hist.specs.Watching.{number_of, step_fits}
 use Rattle.mn_hist.proofs.Flags.{step_is, with_none, with_same}
 use Rattle.mn_replay.specs.Points.{is_kill_of, is_some_met, is_stop_at, stop_among}
@@ -164,13 +164,13 @@ votes_counted points c es what = if list_any (is_kill_of c) points then votes_wi
 
 pub step_meets : (points : List Point) (flags : List Bool) (es : List Entry) (e : Entry) (c : ClientNo) (s : Step) → AllByRecursion (λ x. x.client ≡ Some c) es → e.client ≡ Some c
     → s.client ≡ c → s.number ≡ number_of es → s.node ≡ e.node → s.votes ≡ votes_counted points c es e.what → s.asked ≡ asked_in e.what
-    → with_met (step_fits s) points flags ≡ with_met (fits es e) points flags
+    → with_met (step_fits s) points flags ≡ with_met (point_fits es e) points flags
 step_meets points flags es e c s own by client number node votes asked =
-    elim (list_any (is_kill_of c) points) as (λ b. list_any (is_kill_of c) points ≡ b → s.votes ≡ (if b then votes_with es e.what else None) → with_met (step_fits s) points flags ≡ with_met (fits es e) points flags) [
-      | true ↦ λ some is. with_same (step_fits s) (fits es e) (step_is es e c s by client (number ∙ ap number_of (sym mine)) node (is ∙ ap (λ l. votes_with l e.what) (sym mine)) asked) points flags
+    elim (list_any (is_kill_of c) points) as (λ b. list_any (is_kill_of c) points ≡ b → s.votes ≡ (if b then votes_with es e.what else None) → with_met (step_fits s) points flags ≡ with_met (point_fits es e) points flags) [
+      | true ↦ λ some is. with_same (step_fits s) (point_fits es e) (step_is es e c s by client (number ∙ ap number_of (sym mine)) node (is ∙ ap (λ l. votes_with l e.what) (sym mine)) asked) points flags
       | false ↦ λ none is.
           with_alike (step_fits s) (step_fits full) points flags (weaker (λ p. is_kill_of c p ≡ false) (λ p. step_fits s p ≡ step_fits full p) (λ p not. votes_pass s full p refl (ap (λ (d : ClientNo). is_kill_of d p) client ∙ not)) points (none_kills c points none))
-          ∙ with_same (step_fits full) (fits es e) (step_is es e c full by client (number ∙ ap number_of (sym mine)) node (ap (λ l. votes_with l e.what) (sym mine)) asked) points flags
+          ∙ with_same (step_fits full) (point_fits es e) (step_is es e c full by client (number ∙ ap number_of (sym mine)) node (ap (λ l. votes_with l e.what) (sym mine)) asked) points flags
     ] refl votes
   where
     mine : client_entries c es ≡ es
@@ -181,7 +181,7 @@ step_meets points flags es e c s own by client number node votes asked =
 
 -- Entries that meet no point
 
-fits_none : (es : List Entry) (e : Entry) → voted_id e.what ≡ None → asked_in e.what ≡ None → (p : Point) → fits es e p ≡ false
+fits_none : (es : List Entry) (e : Entry) → voted_id e.what ≡ None → asked_in e.what ≡ None → (p : Point) → point_fits es e p ≡ false
 fits_none es e votes asked (Kill d m k) =
     ap (λ (o : Option Tid). is_by d e && (option_map_or (λ (b : Begun). nat_eq b.number m) (under_way (client_entries d es)) false && option_map_or (nat_eq k) (option_map (λ tid. votes_for tid (client_entries d es) + 1) o) false)) votes
     ∙ ends (is_by d e) (option_map_or (λ (b : Begun). nat_eq b.number m) (under_way (client_entries d es)) false)
@@ -202,7 +202,7 @@ fits_none es e votes asked (Stop n d m at) =
 
 -- a step that a client makes by itself
 pub own_meets_none : (points : List Point) (es : List Entry) (e : Entry) → IsOwnStep e.what → points_met points (e ∷ es) ≡ points_met points es
-own_meets_none points es e own = let q = quiet e.what own in with_none (fits es e) (fits_none es e q.0 q.1) points (points_met points es)
+own_meets_none points es e own = let q = quiet e.what own in with_none (point_fits es e) (fits_none es e q.0 q.1) points (points_met points es)
   where
     quiet : (what : What) → IsOwnStep what → (voted_id what ≡ None) × (asked_in what ≡ None)
     quiet (Begin number op) own = (refl, refl)

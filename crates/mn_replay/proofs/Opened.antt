@@ -13,14 +13,14 @@ use Rattle.mn_world.specs.Run.{entries_of}
 use Rattle.mn_replay.specs.Ended.{AllHaveMade}
 use Rattle.mn_replay.specs.Logs.{AreFreeIfSound, HasLog}
 use Rattle.mn_replay.specs.Plays.{PlayState}
-use Rattle.mn_replay.specs.Settled.{AreSettled}
+use Rattle.mn_replay.specs.Settled.{AreUpAndFree}
 use Rattle.mn_replay.specs.Turn.{AreStations}
 use Rattle.mn_replay.proofs.Handing.{free_as}
 use Rattle.mn_replay.proofs.Scheduled.{list_of_node}
 
 module _ {D : Type 0} (state : D → DiskState) (faults : D → ℕ) (start : Start) (counts : ℕ → ℕ) (honest : ℕ → Type 0) (p : PlayState D) (are : AreStations (start_nodes start) p.stations)
     (made : AllHaveMade state faults start counts honest p.stations) where
-  pub free_if_sound : AreSettled (start_nodes start) p.stations → (past : List Entry) → HasLog p past → AreFreeIfSound start past
+  pub free_if_sound : AreUpAndFree (start_nodes start) p.stations → (past : List Entry) → HasLog p past → AreFreeIfSound start past
   free_if_sound settled past log follows sound = free_as start p.stations past are.count each follows settled sound
     where
       each : (k : ℕ) (s : StationState D) → slice_get p.stations k ≡ Some s → reverse s.node.records ≡ records_of start past (numbered k)

@@ -19,7 +19,7 @@ use Rattle.mn_world.specs.Lists.{ClientState}
 use Rattle.mn_world.specs.Run.{entries_of}
 use Rattle.mn_replay.specs.Clients.{last_shared}
 use Rattle.mn_replay.specs.Recoveries.{AsksIf, AsksNext, Bench, DoesRecover, IsEntered, first, has_to_wait, is_force, is_vote, left_after, one_more, work_of}
-use Rattle.mn_replay.specs.Steps.{Adds, Keeps}
+use Rattle.mn_replay.specs.Steps.{Adds, KeepsList}
 
 -- the recovery of this id, or none
 abbrev pub taken : ℕ → Option Tid → Option Recovery
@@ -28,7 +28,7 @@ taken nodes o = option_map (λ tid. record { tid = tid; nodes = nodes; stage = L
 -- One call
 
 -- its entry, or none
-pub entered_by : (n : NodeNo) (request : Request) (reply : NodeReply) (old new : ClientState) → (reply ≢ Say.NoMemory → Adds (entry_at n old.client (what_said request None reply)) old new) → (reply ≡ Say.NoMemory → Keeps old new)
+pub entered_by : (n : NodeNo) (request : Request) (reply : NodeReply) (old new : ClientState) → (reply ≢ Say.NoMemory → Adds (entry_at n old.client (what_said request None reply)) old new) → (reply ≡ Say.NoMemory → KeepsList old new)
     → IsEntered n old.client request reply (entries_of old.entries) (entries_of new.entries)
 entered_by n request Say.NoMemory old new said none = ap (λ l. entries_of l) (none refl).entries
 entered_by n request reply old new said none =

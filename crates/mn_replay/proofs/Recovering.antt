@@ -26,7 +26,7 @@ use Rattle.mn_world.specs.Lists.{ClientState}
 use Rattle.mn_world.specs.Protocol.{IsOfRun, Start}
 use Rattle.mn_world.specs.Run.{IsLegalBy, entries_of}
 use Rattle.mn_replay.specs.Desks.{DoubtsNothing, IsOfRecovery, IsRecoveryCall, IsWork}
-use Rattle.mn_replay.specs.Steps.{Adds, Keeps}
+use Rattle.mn_replay.specs.Steps.{Adds, KeepsList}
 use Rattle.mn_replay.proofs.Turns.{if_none}
 
 -- What a recovery sends
@@ -78,7 +78,7 @@ neither true b c one two = ap (λ x. x || c) one ∙ two
 neither false b c one two = two
 
 module _ (start : Start) (old new : ClientState) (is : IsOfRecovery start old) where
-  pub recovery_keeps : Keeps old new → IsOfRecovery start new
+  pub recovery_keeps : KeepsList old new → IsOfRecovery start new
   recovery_keeps keeps = record {
     own = subst (λ (l : List (ℕ × Entry)). AllByRecursion (λ e. e.client ≡ Some new.client) (entries_of l)) (sym keeps.entries) (subst (λ (c : ClientNo). AllByRecursion (λ e. e.client ≡ Some c) (entries_of old.entries)) (sym keeps.client) is.own);
     of_run = subst (λ (l : List (ℕ × Entry)). AllByRecursion (IsIssueOf start) (entries_of l)) (sym keeps.entries) is.of_run;
@@ -113,7 +113,7 @@ module _ (start : Start) (old new : ClientState) (is : IsOfRecovery start old) w
 
 -- the list shows how far the recovery has come once it was fed the reply
 pub work_goes_on : (start : Start) (old new : ClientState) (r r' : Recovery) (node : NodeNo) (request : Request) (reply : NodeReply) → IsWork start old r → step_of r ≡ Send node request
-    → (reply ≢ Say.NoMemory → Adds (entry_at node old.client (what_said request None reply)) old new) → (reply ≡ Say.NoMemory → Keeps old new)
+    → (reply ≢ Say.NoMemory → Adds (entry_at node old.client (what_said request None reply)) old new) → (reply ≡ Say.NoMemory → KeepsList old new)
     → r' ≡ fed r reply → ((es : List Entry) (e : Entry) (n : NodeNo) (q : Request) → Agrees es r → step_of r ≡ Send n q → IsAnswered e n q reply → Agrees (e ∷ es) r')
     → (reply ≡ Say.NoMemory → (es : List Entry) → Agrees es r → Agrees es r') → IsWork start new r'
 work_goes_on start old new r r' node request reply work step said none fed_is agrees no_entry = (

@@ -24,7 +24,7 @@ use Rattle.mn_world.specs.Run.{entries_of}
 use Rattle.mn_world.proofs.Reading.Same.{client_same-refl, client_same-true}
 use Rattle.mn_replay.specs.declared.play.Callers.{Callers}
 use Rattle.mn_replay.specs.Plays.{HasTrail, HaveNumbers, IsAtRest, IsManned, PlayState, list_by}
-use Rattle.mn_replay.specs.Turn.{AreStations, IsBoard, Fall, GoesOn, IsTrail, IsTurn, Turn, callers_count, trail_by}
+use Rattle.mn_replay.specs.Turn.{AreStations, IsBoard, Fall, ExtendsLog, IsTrail, IsTurn, Turn, callers_count, trail_by}
 
 -- A turn begins
 
@@ -109,7 +109,7 @@ pub record IsTurnOf {D : Type 0} (board : TableId) (start : Start) (p q : PlaySt
   pub client : list.client ≡ c
   pub entries : list.entries ≡ list_by p.callers c
   pub turn : IsTurn board (start_nodes start) t
-  pub goes : GoesOn (record { table = p.table; stations = p.stations; board = at; view = u; list = list }) t
+  pub goes : ExtendsLog (record { table = p.table; stations = p.stations; board = at; view = u; list = list }) t
   pub joined : IsJoined w t.view v
   pub passes : q.rest ≡ board
   pub table : q.table ≡ t.table

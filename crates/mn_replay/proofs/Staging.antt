@@ -10,7 +10,7 @@ use Rattle.mn_actors.specs.Lists.{IsJoined, IsSplit, Owns, held, or_else}
 use Rattle.mn_base.specs.declared.ids.NodeNo.{NodeNo}
 use Rattle.mn_cell.specs.Calls.{numbered}
 use Rattle.mn_cell.specs.Passes.{OwnsJust}
-use Rattle.mn_cell.specs.Station.{IsFirst, StationState}
+use Rattle.mn_cell.specs.Station.{IsNodeAtStart, StationState}
 use Rattle.mn_io.specs.DiskModel.{DiskState}
 use Rattle.mn_mini.specs.declared.record.Record.{Record}
 use Rattle.mn_node.specs.State.{NodeState}
@@ -32,7 +32,7 @@ given_at {X} given old new back x is popped =
     ap (λ (l : List X). slice_get l (length new)) (sym is ∙ (ap (λ (l : List X). l ++ back) popped ∙ append_assoc new (x ∷ []) back)) ∙ get_middle new back x
 
 pub is_first : {D : Type 0} (state : D → DiskState) (faults : D → ℕ) (records : List (List Record)) (counts : ℕ → ℕ) (honest : ℕ → Type 0) (given : List (NodeState D)) (k : ℕ) (m : NodeState D)
-    → NamesGiven state faults records counts honest given → MayBegin (length records) given → slice_get given k ≡ Some m → IsFirst state faults (start_of records) (numbered k) (counts k) (honest k) m
+    → NamesGiven state faults records counts honest given → MayBegin (length records) given → slice_get given k ≡ Some m → IsNodeAtStart state faults (start_of records) (numbered k) (counts k) (honest k) m
 is_first {D} state faults records counts honest given k m named may at =
     let this = may.each k m at in
     record {

@@ -16,9 +16,9 @@ use Rattle.mn_mini.specs.Flat.{Mismatched, part_mismatch_from}
 use Rattle.mn_mini.specs.Node.{Clash, Response, after_compares, after_locks, answer, clash_of, has_forced, has_voted, held_parts, space_of, with_added}
 use Rattle.mn_node.specs.declared.restart.RestartError.{RestartError}
 use Rattle.mn_node.specs.declared.restart.RestartError.TheVariants as error
-use Rattle.mn_node.specs.Restart.{AreAbsent, FailsRestart, IsDamage, IsNoLog}
+use Rattle.mn_node.specs.Restart.{AreAbsent, FailsRestart, DamageNames, IsNoLog}
 use Rattle.mn_cell.specs.Calls.{EndsBoth, IsUndamaged, entry_at, what_said}
-use Rattle.mn_cell.specs.Station.{HasMade, IsAsBefore, RoseBy, StationState, unasked, unasked_in}
+use Rattle.mn_cell.specs.Station.{HasMadeEntries, IsAsBefore, RoseBy, StationState, unasked, unasked_in}
 use Rattle.mn_cell.proofs.Owing.{newest_entry}
 use Rattle.mn_cell.specs.declared.trace.RunCause.TheVariants.{Disk}
 use Rattle.mn_world.specs.declared.entry.Entry.{Entry}
@@ -103,10 +103,10 @@ stopped_not_none reply is e = let no : Say.Stopped ≡ Say.NoMemory = sym is ∙
 module _ {D : Type 0} (state : D → DiskState) (faults : D → ℕ) (start : Start) (before : ℕ → ℕ) (honest : ℕ → Type 0) (n : NodeNo) where
   -- the station's node and list are those of a node that started so
   abbrev pub Made : StationState D → Type 0
-  Made s = HasMade state faults start n (before n.0) (honest n.0) (entries_of s.list) s.node
+  Made s = HasMadeEntries state faults start n (before n.0) (honest n.0) (entries_of s.list) s.node
 
-  pub made_at : (s : StationState D) → s.number ≡ n → HasMade state faults start s.number (before s.number.0) (honest s.number.0) (entries_of s.list) s.node → Made s
-  made_at s is made = subst (λ (m : NodeNo). HasMade state faults start m (before m.0) (honest m.0) (entries_of s.list) s.node) is made
+  pub made_at : (s : StationState D) → s.number ≡ n → HasMadeEntries state faults start s.number (before s.number.0) (honest s.number.0) (entries_of s.list) s.node → Made s
+  made_at s is made = subst (λ (m : NodeNo). HasMadeEntries state faults start m (before m.0) (honest m.0) (entries_of s.list) s.node) is made
 
   module _ (stations : List (StationState D)) (k : ℕ) (s s' : StationState D) (there : slice_get stations k ≡ Some s) (is : k ≡ n.0) where
     abbrev after : List (StationState D)
@@ -144,8 +144,8 @@ module _ {D : Type 0} (state : D → DiskState) (faults : D → ℕ) (start : St
         abbrev recs : List Record
         recs = node_records base (start_records start n) es
 
-        called : IsAnswer reply → HasMade state faults start n (before n.0) (honest n.0) (entry_at n c (Called request reply) ∷ es) s'.node
-        called answers = subst (λ (l : List Entry). HasMade state faults start n (before n.0) (honest n.0) l s'.node) (entries ∙ ap (λ what. entry_at n c what ∷ es) (answer_said request stop reply answers)) made
+        called : IsAnswer reply → HasMadeEntries state faults start n (before n.0) (honest n.0) (entry_at n c (Called request reply) ∷ es) s'.node
+        called answers = subst (λ (l : List Entry). HasMadeEntries state faults start n (before n.0) (honest n.0) l s'.node) (entries ∙ ap (λ what. entry_at n c what ∷ es) (answer_said request stop reply answers)) made
 
         was_up : IsAnswer reply → is_down es ≡ false
         was_up answers = by_flag (is_down es)
@@ -166,7 +166,7 @@ module _ {D : Type 0} (state : D → DiskState) (faults : D → ℕ) (start : St
         pub was_down : reply ≡ Say.Down → IsDownAs true stations n
         was_down says =
             let said : entries_of s'.list ≡ entry_at n c (Called request Say.Down) ∷ es = entries ∙ ap (λ r. entry_at n c (what_said request stop r) ∷ es) says in
-            let m = subst (λ (l : List Entry). HasMade state faults start n (before n.0) (honest n.0) l s'.node) said made in
+            let m = subst (λ (l : List Entry). HasMadeEntries state faults start n (before n.0) (honest n.0) l s'.node) said made in
             was_as true (had.down ∙ by_flag (is_down es)
             (λ down. down)
             (λ up. let e : Say.Down ≡ (answer base recs request).reply = m.allowed.1 ∙ ap (λ (b : Bool). if b then Say.Down else (answer base recs request).reply) up in
@@ -194,7 +194,7 @@ module _ {D : Type 0} (state : D → DiskState) (faults : D → ℕ) (start : St
             record { station = s'; at = new_at },
             undamaged,
             is_down',
-            subst (λ (p : Option Record). (AreAbsent kept found × IsNoLog place) ⊎ ((bodies : List (List ℕ)) × IsDamage bodies s'.node.records p place kept found)) (sym pending)
-                (subst (λ (l : List Record). (AreAbsent kept found × IsNoLog place) ⊎ ((bodies : List (List ℕ)) × IsDamage bodies l s.node.pending place kept found)) (sym same.records) cause.1),
+            subst (λ (p : Option Record). (AreAbsent kept found × IsNoLog place) ⊎ ((bodies : List (List ℕ)) × DamageNames bodies s'.node.records p place kept found)) (sym pending)
+                (subst (λ (l : List Record). (AreAbsent kept found × IsNoLog place) ⊎ ((bodies : List (List ℕ)) × DamageNames bodies l s.node.pending place kept found)) (sym same.records) cause.1),
           )
       caused same down error.NoMemory cause fault undamaged = tt

@@ -24,7 +24,7 @@ use Rattle.mn_world.specs.Calls.{is_at}
 use Rattle.mn_world.specs.Lists.{ClientState}
 use Rattle.mn_world.specs.Run.{IsLegalBy, entries_of}
 use Rattle.mn_replay.specs.Steps.{own_entry}
-use Rattle.mn_replay.specs.Turn.{AreStations, Fall, GoesOn, IsBoard, IsTrail, IsTurn, Turn, trail_at}
+use Rattle.mn_replay.specs.Turn.{AreStations, Fall, ExtendsLog, IsBoard, IsTrail, IsTurn, Turn, trail_at}
 
 -- Places
 
@@ -35,7 +35,7 @@ falls_from known known' (p ∷ trail) le falls = (omega (arith, le, falls.0), fa
 
 -- Nothing, and one after another
 
-pub goes_nowhere : {D : Type 0} (t : Turn D) → GoesOn t t
+pub goes_nowhere : {D : Type 0} (t : Turn D) → ExtendsLog t t
 goes_nowhere t = record {
   own = [];
   client = refl;
@@ -44,7 +44,7 @@ goes_nowhere t = record {
   trail = λ trail is. is;
 }
 
-pub goes_further : {D : Type 0} (a b c : Turn D) → GoesOn a b → GoesOn b c → GoesOn a c
+pub goes_further : {D : Type 0} (a b c : Turn D) → ExtendsLog a b → ExtendsLog b c → ExtendsLog a c
 goes_further a b c one two = record {
   own = two.own ++ one.own;
   client = two.client ∙ one.client;
@@ -58,7 +58,7 @@ module _ {D : Type 0} (t : Turn D) where
   abbrev pub with_list : ClientState → Turn D
   with_list list = record { table = t.table; stations = t.stations; board = t.board; view = t.view; list = list }
 
-  pub goes_same : (list : ClientState) → list.client ≡ t.list.client → list.entries ≡ t.list.entries → GoesOn t (with_list list)
+  pub goes_same : (list : ClientState) → list.client ≡ t.list.client → list.entries ≡ t.list.entries → ExtendsLog t (with_list list)
   goes_same list client entries = record {
     own = [];
     client = client;
@@ -83,7 +83,7 @@ module _ {D : Type 0} (old : Turn D) (new : Turn D) where
   AddsAlone place what = (new.stations ≡ old.stations) × (new.list.client ≡ old.list.client) × (new.list.entries ≡ old.list.entries ++ (place, own_entry old.list.client what) ∷ [])
       × (old.view.known ≤ place) × (new.view.known ≡ place + 1)
 
-  pub goes_alone : (place : ℕ) (what : What) → AddsAlone place what → GoesOn old new
+  pub goes_alone : (place : ℕ) (what : What) → AddsAlone place what → ExtendsLog old new
   goes_alone place what adds = record {
     own = (place, own_entry old.list.client what) ∷ [];
     client = adds.1;
@@ -164,7 +164,7 @@ module _ {D : Type 0} (t : Turn D) (k : ℕ) (s s' : StationState D) (there : sl
   }
 
   -- nothing was done that stands in a list
-  pub goes_still : s'.list ≡ s.list → view.known ≡ t.view.known → list.client ≡ t.list.client → list.entries ≡ t.list.entries → GoesOn t after_call
+  pub goes_still : s'.list ≡ s.list → view.known ≡ t.view.known → list.client ≡ t.list.client → list.entries ≡ t.list.entries → ExtendsLog t after_call
   goes_still same known client entries = record {
     own = [];
     client = client;
@@ -181,7 +181,7 @@ module _ {D : Type 0} (t : Turn D) (k : ℕ) (s s' : StationState D) (there : sl
 
   -- an entry ends both lists
   pub goes_called : (what : What) → s.number ≡ numbered k → list.client ≡ t.list.client
-      → EndsBoth t.view.known s'.known view.known (entry_at s.number t.list.client what) s.list s'.list t.list.entries list.entries → GoesOn t after_call
+      → EndsBoth t.view.known s'.known view.known (entry_at s.number t.list.client what) s.list s'.list t.list.entries list.entries → ExtendsLog t after_call
   goes_called what number client ends =
       let c = t.list.client in
       let p : ℕ × Entry = (ends.place, entry_at s.number c what) in

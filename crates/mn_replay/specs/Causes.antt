@@ -6,7 +6,7 @@ use Rattle.mn_cell.specs.declared.trace.RunCause.TheVariants.{Disk, Damaged, NoM
 use Rattle.mn_cell.specs.Station.{RoseBy, StationState}
 use Rattle.mn_node.specs.declared.restart.RestartError.{RestartError}
 use Rattle.mn_node.specs.declared.restart.RestartError.TheVariants as error
-use Rattle.mn_node.specs.Restart.{AreAbsent, IsNoLog, IsDamage}
+use Rattle.mn_node.specs.Restart.{AreAbsent, IsNoLog, DamageNames}
 use Rattle.mn_world.specs.Run.{entries_of}
 use Rattle.mn_replay.specs.Failed.{unasked_by_others}
 
@@ -28,7 +28,7 @@ IsCaused faults before honest stations (Damaged n place kept found) =
     (has : HasStation stations n) × (honest n.0 → ⊥) × (has.station.node.down ≡ true)
     × ((AreAbsent kept found × IsNoLog place)
     ⊎ ((bodies : List (List ℕ))
-    × IsDamage bodies has.station.node.records has.station.node.pending place kept found))
+    × DamageNames bodies has.station.node.records has.station.node.pending place kept found))
 IsCaused faults before honest stations NoMemory = ⊤
 
 -- the cause of a restart that failed so

@@ -58,8 +58,8 @@ pub record MayCall (start : Start) (list : ClientState) (p : ProxyState) (call :
   pub among : call.node.0 < start_nodes start
   pub sound : IsSoundRequest call.request
 
-abbrev pub IsDue : Start → Client → Call → Type 0
-IsDue start c call = MayCall start c.list c.proxy call
+abbrev pub MayCallNext : Start → Client → Call → Type 0
+MayCallNext start c call = MayCall start c.list c.proxy call
 
 -- the proxy agrees with the list, and works for its client in this run
 pub record IsProxyFor (start : Start) (list : ClientState) (p : ProxyState) : Type 0 where
@@ -74,7 +74,7 @@ HasProxy start c = IsProxyFor start c.list c.proxy
 -- it lives: where a call is due it may be made, and where none is no operation is under way
 pub record IsAlive (start : Start) (c : Client) : Type 0 where
   pub proxy : HasProxy start c
-  pub due : MatchOption c.due (IsIdle c.proxy) (IsDue start c)
+  pub due : MatchOption c.due (IsIdle c.proxy) (MayCallNext start c)
 
 -- the list is its client's own and of this run, the flags tell the points that it met, so many
 -- operations were begun, the shared id is such as there may be, and this is kept of its issues

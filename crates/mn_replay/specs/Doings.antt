@@ -13,7 +13,7 @@ use Rattle.mn_world.specs.Lists.{ClientState}
 use Rattle.mn_world.specs.Nodes.{is_down}
 use Rattle.mn_world.specs.Run.{entries_of}
 use Rattle.mn_replay.specs.Settled.{records_at}
-use Rattle.mn_replay.specs.Steps.{Adds, Keeps}
+use Rattle.mn_replay.specs.Steps.{Adds, KeepsList}
 
 -- the other stations are as before
 abbrev pub OthersStay : {D : Type 0} → NodeNo → List (StationState D) → List (StationState D)
@@ -52,7 +52,7 @@ pub record GoesBy {D : Type 0} (n : NodeNo) (stations : List (StationState D)) (
 abbrev pub Halts : {D E : Type 0} → NodeNo → List (StationState D) → Result (Unit {0}) E
     → ClientState → ClientState → Type 0
 Halts n stations result old new =
-    GoesBy n stations (OnOk result (Keeps old new))
+    GoesBy n stations (OnOk result (KeepsList old new))
     (OnOk result (Adds (entry_at n old.client (Stopped None None)) old new))
 
 -- a node that is down is restarted; where it is up the list is as before
@@ -61,4 +61,4 @@ abbrev pub Restarts : {D E : Type 0} → NodeNo → List (StationState D) → Re
 Restarts n stations result old new =
     GoesBy n stations
     (OnOk result ((kept : Bool) × Adds (entry_at n old.client (Restarted kept)) old new))
-    (OnOk result (Keeps old new))
+    (OnOk result (KeepsList old new))

@@ -9,7 +9,7 @@ use Rattle.mn_actors.specs.declared.clock.View.{View}
 use Rattle.mn_actors.specs.Lists.{Owns, held}
 use Rattle.mn_cell.specs.Calls.{numbered}
 use Rattle.mn_cell.specs.declared.trace.RunCause.{RunCause}
-use Rattle.mn_cell.specs.Station.{HasMade, StationState}
+use Rattle.mn_cell.specs.Station.{HasMadeEntries, StationState}
 use Rattle.mn_io.specs.DiskModel.{DiskState}
 use Rattle.mn_node.specs.State.{NodeState}
 use Rattle.mn_world.specs.declared.entry.Entry.{Entry}
@@ -21,14 +21,14 @@ use Rattle.mn_replay.specs.declared.ending.Rooms.{Rooms}
 use Rattle.mn_replay.specs.declared.play.Callers.{Callers}
 use Rattle.mn_replay.specs.Causes.{IsCaused}
 use Rattle.mn_replay.specs.Plays.{list_by}
-use Rattle.mn_replay.specs.Settled.{AreSettled}
+use Rattle.mn_replay.specs.Settled.{AreUpAndFree}
 use Rattle.mn_replay.specs.Turn.{callers_count}
 
 -- the station's node has made the entries of its list
 abbrev pub HasMadeList : {D : Type 0} → (D → DiskState) → (D → ℕ) → Start → (ℕ → ℕ)
     → (ℕ → Type 0) → StationState D → Type 0
 HasMadeList state faults start counts honest s =
-    HasMade state faults start s.number (counts s.number.0) (honest s.number.0)
+    HasMadeEntries state faults start s.number (counts s.number.0) (honest s.number.0)
     (entries_of s.list) s.node
 
 -- each station's has
@@ -82,5 +82,5 @@ pub record IsEnded {D : Type 0} (state : D → DiskState) (faults : D → ℕ) (
   pub made : AllHaveMade state faults start counts honest stations
   pub lists : (k : ℕ) (s : StationState D) → slice_get stations k ≡ Some s
       → entries_of s.list ≡ node_entries (numbered k) (entries_of log)
-  pub settled : OnOk played (AreSettled (start_nodes start) stations)
+  pub settled : OnOk played (AreUpAndFree (start_nodes start) stations)
   pub caused : IfErr played (IsCaused faults counts honest stations)

@@ -8,7 +8,7 @@ use Rattle.mn_cell.specs.declared.trace.RunCause.TheVariants.{Disk, Damaged, NoM
 use Rattle.mn_cell.specs.Station.{RoseBy, unasked_in}
 use Rattle.mn_io.specs.DiskModel.{DiskState}
 use Rattle.mn_mini.specs.declared.record.Record.{Record}
-use Rattle.mn_node.specs.Restart.{AreAbsent, IsNoLog, IsDamage}
+use Rattle.mn_node.specs.Restart.{AreAbsent, IsNoLog, DamageNames}
 use Rattle.mn_node.specs.State.{NodeState}
 use Rattle.mn_world.specs.declared.entry.Entry.{Entry}
 use Rattle.mn_world.specs.Calls.{is_by, node_entries}
@@ -36,7 +36,7 @@ RoseBeyond past n before now = RoseBy (unasked_by_others (node_entries n past) +
 abbrev pub HadOther : Start → List Entry → NodeNo → ℕ → Option Record → Option Record → Type 0
 HadOther start past n place kept found =
     (AreAbsent kept found × IsNoLog place)
-    ⊎ ((bodies : List (List ℕ)) × IsDamage bodies (reverse (records_of start past n))
+    ⊎ ((bodies : List (List ℕ)) × DamageNames bodies (reverse (records_of start past n))
     (added_by (base_at start n) (records_of start past n) (stopped_request (node_entries n past)))
     place kept found)
 

@@ -22,7 +22,8 @@ pub record HasLog {D : Type 0} (p : PlayState D) (past : List Entry) : Type 0 wh
   pub trail : HasTrail p.stations p.view.known p.callers
   pub past_is : past ≡ past_in trail.trail
 
--- nothing was done: its log is empty, and no recovery coordinator, of which there are four, has work
+-- nothing was done: its log is empty, and no recovery coordinator, of which there are four, has
+-- work
 pub record IsFresh {D : Type 0} (p : PlayState D) : Type 0 where
   pub log : HasLog p []
   pub idle : works_of p.callers ≡ replicate 4 None

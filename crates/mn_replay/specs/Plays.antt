@@ -6,7 +6,6 @@ use Rattle.std.specs.List.{AllByRecursion}
 use Rattle.std.specs.Option.{option_map_or}
 use Rattle.atomic_table.specs.Seated.{TableId}
 use Rattle.mn_actors.specs.declared.actor.Actor.TheVariants.{Client as OfClient, Node}
-use Rattle.mn_actors.specs.declared.board.Pass.{Pass}
 use Rattle.mn_actors.specs.declared.clock.View.{View}
 use Rattle.mn_actors.specs.Lists.{held}
 use Rattle.mn_actors.specs.Sight.{board_of, view_of}
@@ -24,10 +23,12 @@ use Rattle.mn_world.specs.Run.{entries_of}
 use Rattle.mn_replay.specs.declared.client.Client.{Client}
 use Rattle.mn_replay.specs.declared.desk.Desk.{Desk}
 use Rattle.mn_replay.specs.declared.play.Callers.{Callers}
+use Rattle.mn_replay.specs.declared.play.Play.{Play}
 use Rattle.mn_replay.specs.Clients.{IsClient, IsOfRun}
 use Rattle.mn_replay.specs.Desks.{IsDesk, IsOfRecovery}
 use Rattle.mn_replay.specs.Failed.{closer}
-use Rattle.mn_replay.specs.Turn.{AreStations, BoardState, IsBoard, IsTrail, callers_count, trail_by}
+use Rattle.mn_replay.specs.Turn.{AreStations, BoardState, IsBoard, IsTrail, callers_count, seen_of}
+use Rattle.mn_replay.specs.Turn.{trail_by}
 
 abbrev pub caller_at : ℕ → ClientNo
 caller_at k = record { 0 = k }
@@ -89,14 +90,13 @@ pub record PlayState (D : Type 0) : Type 0 where
   pub view : View Entry
   pub callers : Callers
 
-abbrev pub play_of : {L D : Type 0} {g : _} → BoardState → List (StationState D) → Pass L Entry g
-    → Callers → PlayState D
-play_of table stations rest callers = record {
-  table = table;
-  stations = stations;
-  rest = board_of rest;
-  view = view_of rest;
-  callers = callers;
+abbrev pub state_of : {N D : _} → Play N D → PlayState D
+state_of play = record {
+  table = seen_of play.table.board;
+  stations = play.table.stations.items;
+  rest = board_of play.rest;
+  view = view_of play.rest;
+  callers = play.callers;
 }
 
 -- no actor has a turn: `rest` owns the callers, whose lists are of this run

@@ -13,7 +13,7 @@ use Rattle.mn_world.specs.declared.entry.Entry.{Entry}
 use Rattle.mn_world.specs.declared.entry.What.{What}
 use Rattle.mn_world.specs.declared.entry.What.TheVariants.{Called, Stopped}
 use Rattle.mn_world.specs.Calls.{under_way}
-use Rattle.mn_cell.specs.Calls.{KeepsStop}
+use Rattle.mn_cell.specs.Calls.{ObeysStop}
 use Rattle.mn_hist.specs.Points.{may_stop, points_met}
 
 -- Death
@@ -62,6 +62,6 @@ stop_due points c n request es =
 -- the call was asked to stop where that is due, and nowhere else: a node that stopped inside it had
 -- been asked just this, and where a stop was due, nothing that adds a record was done
 abbrev pub AsksAs : Option StopAt → What → Type 0
-AsksAs due (Called request reply) = KeepsStop due request reply
+AsksAs due (Called request reply) = ObeysStop due request reply
 AsksAs due (Stopped request asked) = asked ≡ due
 AsksAs due what = ⊤

@@ -22,5 +22,5 @@ abbrev pub AllFree : {D : Type 0} → ℕ → List (StationState D) → Type 0
 AllFree nodes stations = AreSound nodes (records_at stations) → (n : NodeNo) → n.0 < nodes
     → held_parts (records_at stations n) ≡ []
 
-abbrev pub AreSettled : {D : Type 0} → ℕ → List (StationState D) → Type 0
-AreSettled nodes stations = AllUp stations × AllFree nodes stations
+abbrev pub AreUpAndFree : {D : Type 0} → ℕ → List (StationState D) → Type 0
+AreUpAndFree nodes stations = AllUp stations × AllFree nodes stations

@@ -16,6 +16,6 @@ pub record Adds (e : Entry) (old new : ClientState) : Type 0 where
   pub ends : new.entries ≡ old.entries ++ (place, e) ∷ []
 
 -- the list has no further entry
-pub record Keeps (old new : ClientState) : Type 0 where
+pub record KeepsList (old new : ClientState) : Type 0 where
   pub client : new.client ≡ old.client
   pub entries : new.entries ≡ old.entries

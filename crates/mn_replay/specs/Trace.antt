@@ -3,7 +3,8 @@ use Rattle.std.specs.Prelude.{ℕ, ◌≡◌, true, false, List, length, map, re
 use Rattle.std.specs.Prelude.{Some}
 use Rattle.mn_base.specs.declared.ids.NodeNo.{NodeNo}
 use Rattle.mn_cell.specs.Calls.{numbered}
-use Rattle.mn_cell.specs.Station.{AllStopAsTheyAdd, KeepsAsAsked, RoseBy, unasked}
+use Rattle.mn_cell.specs.Station.{AllStopWhereTheyWouldAdd, RestartsKeepRecordsAsAsked, RoseBy}
+use Rattle.mn_cell.specs.Station.{unasked}
 use Rattle.mn_io.specs.DiskModel.{DiskState}
 use Rattle.mn_io.specs.Faults.{Rose}
 use Rattle.mn_node.specs.State.{NodeState}
@@ -40,11 +41,13 @@ pub record IsHandedBack {D : Type 0} (state : D → DiskState) (faults : D → �
   pub down : left.down ≡ is_down (node_entries n past)
   pub pending : left.down ≡ true → left.pending
       ≡ added_by (base_at start n) (records_of start past n) (stopped_request (node_entries n past))
-  pub stops : AllStopAsTheyAdd (base_at start n) (start_records start n) (node_entries n past)
+  pub stops : AllStopWhereTheyWouldAdd (base_at start n) (start_records start n)
+      (node_entries n past)
   pub counted : RoseBy (unasked (node_entries n past)) (faults given.disk) (faults left.disk)
   pub honest : (state given.disk).honest → (state left.disk).honest
   pub kept : (state left.disk).honest
-      → KeepsAsAsked (Rose (faults given.disk) (faults left.disk)) (node_entries n past)
+      → RestartsKeepRecordsAsAsked (Rose (faults given.disk) (faults left.disk))
+      (node_entries n past)
 
 -- each node is
 abbrev pub AreHandedBack : {D : Type 0} → (D → DiskState) → (D → ℕ) → Start → List Entry

@@ -17,6 +17,7 @@ use Rattle.mn_cell.specs.Station.{StationState}
 use Rattle.mn_world.specs.declared.entry.Entry.{Entry}
 use Rattle.mn_world.specs.Calls.{is_at, is_by}
 use Rattle.mn_world.specs.Lists.{ClientState}
+use Rattle.mn_replay.specs.declared.table.Table.{Table}
 
 -- What an actor sees
 
@@ -46,11 +47,10 @@ pub record Turn (D : Type 0) : Type 0 where
   pub view : View Entry
   pub list : ClientState
 
-abbrev pub turn_of : {L D : Type 0} {g : _} → BoardState → List (StationState D) → Pass L Entry g
-    → ClientState → Turn D
-turn_of table stations pass list = record {
-  table = table;
-  stations = stations;
+abbrev pub turn_at : {N D L : _} {g : _} → Table N D → Pass L Entry g → ClientState → Turn D
+turn_at table pass list = record {
+  table = seen_of table.board;
+  stations = table.stations.items;
   board = board_of pass;
   view = view_of pass;
   list = list;
@@ -98,7 +98,7 @@ pub record IsTrail {D : Type 0} (stations : List (StationState D)) (known : ℕ)
   pub falling : Fall known trail
 
 -- the log went on by entries of the actor alone, newest first, which ended its list
-pub record GoesOn {D : Type 0} (old new : Turn D) : Type 0 where
+pub record ExtendsLog {D : Type 0} (old new : Turn D) : Type 0 where
   pub own : List (ℕ × Entry)
   pub client : new.list.client ≡ old.list.client
   pub list_is : new.list.entries ≡ old.list.entries ++ reverse own

@@ -13,14 +13,15 @@ ghost use Rattle.mn_world.specs.Clients.{is_read};
 ghost use Rattle.mn_world.specs.Protocol.{Start, run_number, start_nodes, start_of};
 ghost use Rattle.mn_replay.specs.Acts.{BeginsOp, CallsOnce, DoesAll, DoesGo, DoesPlan, DoesStep};
 ghost use Rattle.mn_replay.specs.Acts.{GoesByItself, IsUnderWay, as_role, has_work};
-ghost use Rattle.mn_replay.specs.Clients.{HasProxy, IsAtSteps, IsClient, IsDue, IsOfRun, past_of};
+ghost use Rattle.mn_replay.specs.Clients.{HasProxy, IsAtSteps, IsClient, MayCallNext, IsOfRun};
+ghost use Rattle.mn_replay.specs.Clients.{past_of};
 ghost use Rattle.mn_replay.specs.Going.{BeginsIfIdle, HasAnswer, HasFewer, HasGone, HasList};
 ghost use Rattle.mn_replay.specs.Going.{IsSameBut, IsSameButRoom, IsUnnoted, KeepsPoints};
 ghost use Rattle.mn_replay.specs.Going.{MakesStep, MayAdd, MayTake};
 ghost use Rattle.mn_replay.specs.Going.{is_planned, ops_left, work_left};
 ghost use Rattle.mn_replay.specs.Points.{has_died};
-ghost use Rattle.mn_replay.specs.Steps.{Adds, Keeps, own_entry};
-ghost use Rattle.mn_replay.specs.Turn.{GoesOn, IsTurn, seen_of, turn_of};
+ghost use Rattle.mn_replay.specs.Steps.{Adds, KeepsList, own_entry};
+ghost use Rattle.mn_replay.specs.Turn.{ExtendsLog, IsTurn, turn_at};
 
 use crate::points::{has_met_kill, note, stop_due};
 use crate::table::Table;
@@ -143,14 +144,16 @@ impl Client {
         ensures list { IfOk result (λ made. (made.list.client ≡ client)
             × (made.list.entries ≡ [])) }
     {
+        let met = none_met(alloc, points.len())?;
+        let proxy = Proxy::new(alloc, client, run, nodes)?;
         Ok(Client {
             list: ClientList::new(alloc, client),
-            proxy: Proxy::new(alloc, client, run, nodes)?,
+            proxy,
             begun: 0,
             due: None,
             shared: None,
             is_plan: false,
-            met: none_met(alloc, points.len())?,
+            met,
         })
     }
 
@@ -207,16 +210,15 @@ impl Client {
         what: What,
     ) -> Result<(), NoMemory>
         requires turn { IsTurn N.board (length N.records)
-            (turn_of (seen_of table.old.board) table.old.stations.items pass.old self.old.list) }
+            (turn_at table.old pass.old self.old.list) }
         requires may { MayAdd self.old.list.client (past_of self.old) what }
         ensures turn { IsTurn N.board (length N.records)
-            (turn_of (seen_of table.new.board) table.new.stations.items pass.new self.new.list) }
-        ensures goes_on { GoesOn (turn_of
-            (seen_of table.old.board) table.old.stations.items pass.old self.old.list)
-            (turn_of (seen_of table.new.board) table.new.stations.items pass.new self.new.list) }
+            (turn_at table.new pass.new self.new.list) }
+        ensures goes_on { ExtendsLog (turn_at table.old pass.old self.old.list)
+            (turn_at table.new pass.new self.new.list) }
         ensures added { OnOk result (Adds
             (own_entry self.old.list.client what) self.old.list self.new.list) }
-        ensures none { OnErr result (Keeps self.old.list self.new.list) }
+        ensures none { OnErr result (KeepsList self.old.list self.new.list) }
         ensures same { IsSameBut self.old self.new }
     {
         let _client = self.list.client();
@@ -233,14 +235,13 @@ impl Client {
         what: What,
     ) -> Result<(), NoMemory>
         requires turn { IsTurn N.board (length N.records)
-            (turn_of (seen_of table.old.board) table.old.stations.items pass.old self.old.list) }
+            (turn_at table.old pass.old self.old.list) }
         requires list { HasList (start_of N.records) self.old }
         requires step { MakesStep (start_of N.records) self.old what }
         ensures turn { IsTurn N.board (length N.records)
-            (turn_of (seen_of table.new.board) table.new.stations.items pass.new self.new.list) }
-        ensures goes_on { GoesOn (turn_of
-            (seen_of table.old.board) table.old.stations.items pass.old self.old.list)
-            (turn_of (seen_of table.new.board) table.new.stations.items pass.new self.new.list) }
+            (turn_at table.new pass.new self.new.list) }
+        ensures goes_on { ExtendsLog (turn_at table.old pass.old self.old.list)
+            (turn_at table.new pass.new self.new.list) }
         ensures list { HasList (start_of N.records) self.new }
         ensures proxy { OnOk result (HasProxy (start_of N.records) self.new) }
         ensures points { KeepsPoints self.old self.new }
@@ -251,7 +252,7 @@ impl Client {
         self.add(table, pass, what)
     }
 
-    /// Keeps what it has to know of a minitransaction that it has issued.
+    /// KeepsList what it has to know of a minitransaction that it has issued.
     fn keep_issue(&mut self, tid: Tid, is_shared: bool, is_plan: bool)
         requires shared { MatchOption self.old.shared ⊤ IsTid }
         requires run { 1 ≤ tid.run }
@@ -280,14 +281,13 @@ impl Client {
         mini: Minitransaction,
     ) -> Result<(), NoMemory>
         requires turn { IsTurn N.board (length N.records)
-            (turn_of (seen_of table.old.board) table.old.stations.items pass.old self.old.list) }
+            (turn_at table.old pass.old self.old.list) }
         requires list { HasList (start_of N.records) self.old }
         requires step { MayTake (start_of N.records) self.old (ProxyStep.Issue tid mini) }
         ensures turn { IsTurn N.board (length N.records)
-            (turn_of (seen_of table.new.board) table.new.stations.items pass.new self.new.list) }
-        ensures goes_on { GoesOn (turn_of
-            (seen_of table.old.board) table.old.stations.items pass.old self.old.list)
-            (turn_of (seen_of table.new.board) table.new.stations.items pass.new self.new.list) }
+            (turn_at table.new pass.new self.new.list) }
+        ensures goes_on { ExtendsLog (turn_at table.old pass.old self.old.list)
+            (turn_at table.new pass.new self.new.list) }
         ensures list { HasList (start_of N.records) self.new }
         ensures proxy { OnOk result (HasProxy (start_of N.records) self.new) }
         ensures points { KeepsPoints self.old self.new }
@@ -311,15 +311,14 @@ impl Client {
         step: ProxyStep,
     ) -> Result<Went, NoMemory>
         requires turn { IsTurn N.board (length N.records)
-            (turn_of (seen_of table.old.board) table.old.stations.items pass.old self.old.list) }
+            (turn_at table.old pass.old self.old.list) }
         requires list { HasList (start_of N.records) self.old }
         requires step { MayTake (start_of N.records) self.old step }
         requires none_due { self.old.due ≡ None }
         ensures turn { IsTurn N.board (length N.records)
-            (turn_of (seen_of table.new.board) table.new.stations.items pass.new self.new.list) }
-        ensures goes_on { GoesOn (turn_of
-            (seen_of table.old.board) table.old.stations.items pass.old self.old.list)
-            (turn_of (seen_of table.new.board) table.new.stations.items pass.new self.new.list) }
+            (turn_at table.new pass.new self.new.list) }
+        ensures goes_on { ExtendsLog (turn_at table.old pass.old self.old.list)
+            (turn_at table.new pass.new self.new.list) }
         ensures list { HasList (start_of N.records) self.new }
         ensures points { KeepsPoints self.old self.new }
         ensures went { IfOk result (λ went. HasGone (start_of N.records) self.new went) }
@@ -358,14 +357,13 @@ impl Client {
         pass: &mut Pass<CoreLaw>,
     ) -> Result<Went, NoMemory>
         requires turn { IsTurn N.board (length N.records)
-            (turn_of (seen_of table.old.board) table.old.stations.items pass.old self.old.list) }
+            (turn_at table.old pass.old self.old.list) }
         requires list { HasList (start_of N.records) self.old }
         requires ready { HasGone (start_of N.records) self.old Went.On }
         ensures turn { IsTurn N.board (length N.records)
-            (turn_of (seen_of table.new.board) table.new.stations.items pass.new self.new.list) }
-        ensures goes_on { GoesOn (turn_of
-            (seen_of table.old.board) table.old.stations.items pass.old self.old.list)
-            (turn_of (seen_of table.new.board) table.new.stations.items pass.new self.new.list) }
+            (turn_at table.new pass.new self.new.list) }
+        ensures goes_on { ExtendsLog (turn_at table.old pass.old self.old.list)
+            (turn_at table.new pass.new self.new.list) }
         ensures list { HasList (start_of N.records) self.new }
         ensures points { KeepsPoints self.old self.new }
         ensures went { IfOk result (λ went. HasGone (start_of N.records) self.new went) }
@@ -394,13 +392,12 @@ impl Client {
         points: &[Point],
     ) -> Result<(), NoMemory>
         requires turn { IsTurn N.board (length N.records)
-            (turn_of (seen_of table.old.board) table.old.stations.items pass.old self.old.list) }
+            (turn_at table.old pass.old self.old.list) }
         requires steps { IsAtSteps (start_of N.records) points.now self.old }
         ensures turn { IsTurn N.board (length N.records)
-            (turn_of (seen_of table.new.board) table.new.stations.items pass.new self.new.list) }
-        ensures goes_on { GoesOn (turn_of
-            (seen_of table.old.board) table.old.stations.items pass.old self.old.list)
-            (turn_of (seen_of table.new.board) table.new.stations.items pass.new self.new.list) }
+            (turn_at table.new pass.new self.new.list) }
+        ensures goes_on { ExtendsLog (turn_at table.old pass.old self.old.list)
+            (turn_at table.new pass.new self.new.list) }
         ensures client { OnOk result (IsClient (start_of N.records) points.now self.new) }
         ensures of_run { OnErr result (IsOfRun (start_of N.records) points.now self.new) }
         ensures own { OnOk result (GoesByItself self.old.list.client
@@ -426,16 +423,15 @@ impl Client {
         op: &Op,
     ) -> Result<(), NoMemory>
         requires turn { IsTurn N.board (length N.records)
-            (turn_of (seen_of table.old.board) table.old.stations.items pass.old self.old.list) }
+            (turn_at table.old pass.old self.old.list) }
         requires client { IsClient (start_of N.records) points.now self.old }
         requires idle { self.old.due ≡ None }
         requires lives { has_died points.now self.old.list.client (past_of self.old) ≡ false }
         requires few { self.old.begun + 1 < 2 ^ 32 }
         ensures turn { IsTurn N.board (length N.records)
-            (turn_of (seen_of table.new.board) table.new.stations.items pass.new self.new.list) }
-        ensures goes_on { GoesOn (turn_of
-            (seen_of table.old.board) table.old.stations.items pass.old self.old.list)
-            (turn_of (seen_of table.new.board) table.new.stations.items pass.new self.new.list) }
+            (turn_at table.new pass.new self.new.list) }
+        ensures goes_on { ExtendsLog (turn_at table.old pass.old self.old.list)
+            (turn_at table.new pass.new self.new.list) }
         ensures client { OnOk result (IsClient (start_of N.records) points.now self.new) }
         ensures of_run { OnErr result (IsOfRun (start_of N.records) points.now self.new) }
         ensures begins { OnOk result (BeginsOp self.old.list.client op.now
@@ -461,17 +457,16 @@ impl Client {
         ops: &[Op],
     ) -> Result<(), NoMemory>
         requires turn { IsTurn N.board (length N.records)
-            (turn_of (seen_of table.old.board) table.old.stations.items pass.old self.old.list) }
+            (turn_at table.old pass.old self.old.list) }
         requires client { IsClient (start_of N.records) points.now self.old }
         requires few { length ops.now < 2 ^ 32 }
         requires left { self.old.due ≡ None → self.old.begun < length ops.now }
         requires lives { self.old.due ≡ None
             → has_died points.now self.old.list.client (past_of self.old) ≡ false }
         ensures turn { IsTurn N.board (length N.records)
-            (turn_of (seen_of table.new.board) table.new.stations.items pass.new self.new.list) }
-        ensures goes_on { GoesOn (turn_of
-            (seen_of table.old.board) table.old.stations.items pass.old self.old.list)
-            (turn_of (seen_of table.new.board) table.new.stations.items pass.new self.new.list) }
+            (turn_at table.new pass.new self.new.list) }
+        ensures goes_on { ExtendsLog (turn_at table.old pass.old self.old.list)
+            (turn_at table.new pass.new self.new.list) }
         ensures client { OnOk result (IsClient (start_of N.records) points.now self.new) }
         ensures of_run { OnErr result (IsOfRun (start_of N.records) points.now self.new) }
         ensures under_way { OnOk result (IsUnderWay
@@ -537,16 +532,15 @@ impl Client {
         request: Request,
     ) -> NodeReply
         requires turn { IsTurn N.board (length N.records)
-            (turn_of (seen_of table.old.board) table.old.stations.items pass.old self.old.list) }
+            (turn_at table.old pass.old self.old.list) }
         requires run { IsOfRun (start_of N.records) points.now self.old }
         requires proxy { HasProxy (start_of N.records) self.old }
-        requires due { IsDue (start_of N.records) self.old
+        requires due { MayCallNext (start_of N.records) self.old
             (record { node = node; request = request }) }
         ensures turn { IsTurn N.board (length N.records)
-            (turn_of (seen_of table.new.board) table.new.stations.items pass.new self.new.list) }
-        ensures goes_on { GoesOn (turn_of
-            (seen_of table.old.board) table.old.stations.items pass.old self.old.list)
-            (turn_of (seen_of table.new.board) table.new.stations.items pass.new self.new.list) }
+            (turn_at table.new pass.new self.new.list) }
+        ensures goes_on { ExtendsLog (turn_at table.old pass.old self.old.list)
+            (turn_at table.new pass.new self.new.list) }
         ensures run { IsOfRun (start_of N.records) points.now self.new }
         ensures fits { Fits request result }
         ensures answer { result ≢ NodeReply.NoMemory
@@ -580,16 +574,15 @@ impl Client {
         request: Request,
     ) -> NodeReply
         requires turn { IsTurn N.board (length N.records)
-            (turn_of (seen_of table.old.board) table.old.stations.items pass.old self.old.list) }
+            (turn_at table.old pass.old self.old.list) }
         requires run { IsOfRun (start_of N.records) points.now self.old }
         requires proxy { HasProxy (start_of N.records) self.old }
-        requires due { IsDue (start_of N.records) self.old
+        requires due { MayCallNext (start_of N.records) self.old
             (record { node = node; request = request }) }
         ensures turn { IsTurn N.board (length N.records)
-            (turn_of (seen_of table.new.board) table.new.stations.items pass.new self.new.list) }
-        ensures goes_on { GoesOn (turn_of
-            (seen_of table.old.board) table.old.stations.items pass.old self.old.list)
-            (turn_of (seen_of table.new.board) table.new.stations.items pass.new self.new.list) }
+            (turn_at table.new pass.new self.new.list) }
+        ensures goes_on { ExtendsLog (turn_at table.old pass.old self.old.list)
+            (turn_at table.new pass.new self.new.list) }
         ensures run { IsOfRun (start_of N.records) points.now self.new }
         ensures fits { Fits request result }
         ensures answer { result ≢ NodeReply.NoMemory
@@ -615,13 +608,12 @@ impl Client {
         points: &[Point],
     ) -> Result<(), NoMemory>
         requires turn { IsTurn N.board (length N.records)
-            (turn_of (seen_of table.old.board) table.old.stations.items pass.old self.old.list) }
+            (turn_at table.old pass.old self.old.list) }
         requires client { IsClient (start_of N.records) points.now self.old }
         ensures turn { IsTurn N.board (length N.records)
-            (turn_of (seen_of table.new.board) table.new.stations.items pass.new self.new.list) }
-        ensures goes_on { GoesOn (turn_of
-            (seen_of table.old.board) table.old.stations.items pass.old self.old.list)
-            (turn_of (seen_of table.new.board) table.new.stations.items pass.new self.new.list) }
+            (turn_at table.new pass.new self.new.list) }
+        ensures goes_on { ExtendsLog (turn_at table.old pass.old self.old.list)
+            (turn_at table.new pass.new self.new.list) }
         ensures client { OnOk result (IsClient (start_of N.records) points.now self.new) }
         ensures of_run { OnErr result (IsOfRun (start_of N.records) points.now self.new) }
         ensures calls { OnOk result ((ops : List Op)
@@ -657,14 +649,13 @@ impl Client {
         ops: &[Op],
     ) -> Result<(), NoMemory>
         requires turn { IsTurn N.board (length N.records)
-            (turn_of (seen_of table.old.board) table.old.stations.items pass.old self.old.list) }
+            (turn_at table.old pass.old self.old.list) }
         requires client { IsClient (start_of N.records) points.now self.old }
         requires few { length ops.now < 2 ^ 32 }
         ensures turn { IsTurn N.board (length N.records)
-            (turn_of (seen_of table.new.board) table.new.stations.items pass.new self.new.list) }
-        ensures goes_on { GoesOn (turn_of
-            (seen_of table.old.board) table.old.stations.items pass.old self.old.list)
-            (turn_of (seen_of table.new.board) table.new.stations.items pass.new self.new.list) }
+            (turn_at table.new pass.new self.new.list) }
+        ensures goes_on { ExtendsLog (turn_at table.old pass.old self.old.list)
+            (turn_at table.new pass.new self.new.list) }
         ensures client { OnOk result (IsClient (start_of N.records) points.now self.new) }
         ensures of_run { IsOfRun (start_of N.records) points.now self.new }
         ensures does { OnOk result (DoesStep
@@ -688,14 +679,13 @@ impl Client {
         ops: &[Op],
     ) -> Result<(), NoMemory>
         requires turn { IsTurn N.board (length N.records)
-            (turn_of (seen_of table.old.board) table.old.stations.items pass.old self.old.list) }
+            (turn_at table.old pass.old self.old.list) }
         requires client { IsClient (start_of N.records) points.now self.old }
         requires few { length ops.now < 2 ^ 32 }
         ensures turn { IsTurn N.board (length N.records)
-            (turn_of (seen_of table.new.board) table.new.stations.items pass.new self.new.list) }
-        ensures goes_on { GoesOn (turn_of
-            (seen_of table.old.board) table.old.stations.items pass.old self.old.list)
-            (turn_of (seen_of table.new.board) table.new.stations.items pass.new self.new.list) }
+            (turn_at table.new pass.new self.new.list) }
+        ensures goes_on { ExtendsLog (turn_at table.old pass.old self.old.list)
+            (turn_at table.new pass.new self.new.list) }
         ensures client { OnOk result (IsClient (start_of N.records) points.now self.new) }
         ensures of_run { IsOfRun (start_of N.records) points.now self.new }
         ensures does { OnOk result (DoesPlan
@@ -722,14 +712,13 @@ impl Client {
         ops: &[Op],
     ) -> Result<(), NoMemory>
         requires turn { IsTurn N.board (length N.records)
-            (turn_of (seen_of table.old.board) table.old.stations.items pass.old self.old.list) }
+            (turn_at table.old pass.old self.old.list) }
         requires client { IsClient (start_of N.records) points.now self.old }
         requires few { length ops.now < 2 ^ 32 }
         ensures turn { IsTurn N.board (length N.records)
-            (turn_of (seen_of table.new.board) table.new.stations.items pass.new self.new.list) }
-        ensures goes_on { GoesOn (turn_of
-            (seen_of table.old.board) table.old.stations.items pass.old self.old.list)
-            (turn_of (seen_of table.new.board) table.new.stations.items pass.new self.new.list) }
+            (turn_at table.new pass.new self.new.list) }
+        ensures goes_on { ExtendsLog (turn_at table.old pass.old self.old.list)
+            (turn_at table.new pass.new self.new.list) }
         ensures client { OnOk result (IsClient (start_of N.records) points.now self.new) }
         ensures of_run { IsOfRun (start_of N.records) points.now self.new }
         ensures does { OnOk result (DoesGo
@@ -759,14 +748,13 @@ impl Client {
         ops: &[Op],
     ) -> Result<(), NoMemory>
         requires turn { IsTurn N.board (length N.records)
-            (turn_of (seen_of table.old.board) table.old.stations.items pass.old self.old.list) }
+            (turn_at table.old pass.old self.old.list) }
         requires client { IsClient (start_of N.records) points.now self.old }
         requires few { length ops.now < 2 ^ 32 }
         ensures turn { IsTurn N.board (length N.records)
-            (turn_of (seen_of table.new.board) table.new.stations.items pass.new self.new.list) }
-        ensures goes_on { GoesOn (turn_of
-            (seen_of table.old.board) table.old.stations.items pass.old self.old.list)
-            (turn_of (seen_of table.new.board) table.new.stations.items pass.new self.new.list) }
+            (turn_at table.new pass.new self.new.list) }
+        ensures goes_on { ExtendsLog (turn_at table.old pass.old self.old.list)
+            (turn_at table.new pass.new self.new.list) }
         ensures client { OnOk result (IsClient (start_of N.records) points.now self.new) }
         ensures of_run { IsOfRun (start_of N.records) points.now self.new }
         ensures does { OnOk result (DoesAll

@@ -14,8 +14,8 @@ ghost use Rattle.mn_replay.specs.Closing.{calls_of};
 ghost use Rattle.mn_replay.specs.Desks.{IsDesk, IsOfRecovery, IsRecoveryCall};
 ghost use Rattle.mn_replay.specs.Recoveries.{AsksIf, DoesRecover, DoesRstep, bench_of, is_force};
 ghost use Rattle.mn_replay.specs.Recoveries.{is_vote, work_of};
-ghost use Rattle.mn_replay.specs.Steps.{Adds, Keeps};
-ghost use Rattle.mn_replay.specs.Turn.{GoesOn, IsTurn, seen_of, turn_of};
+ghost use Rattle.mn_replay.specs.Steps.{Adds, KeepsList};
+ghost use Rattle.mn_replay.specs.Turn.{ExtendsLog, IsTurn, turn_at};
 
 use crate::table::Table;
 use mn_actors::Pass;
@@ -108,22 +108,21 @@ impl Desk {
         request: Request,
     ) -> NodeReply
         requires turn { IsTurn N.board (length N.records)
-            (turn_of (seen_of table.old.board) table.old.stations.items pass.old self.old.list) }
+            (turn_at table.old pass.old self.old.list) }
         requires list { IsOfRecovery (start_of N.records) self.old.list }
         requires node { node.0 < length N.records }
         requires sound { IsSoundRequest request }
         requires kind { IsRecoveryCall request }
         requires legal { Sends (entries_of self.old.list.entries) (Some node) request }
         ensures turn { IsTurn N.board (length N.records)
-            (turn_of (seen_of table.new.board) table.new.stations.items pass.new self.new.list) }
-        ensures goes_on { GoesOn (turn_of
-            (seen_of table.old.board) table.old.stations.items pass.old self.old.list)
-            (turn_of (seen_of table.new.board) table.new.stations.items pass.new self.new.list) }
+            (turn_at table.new pass.new self.new.list) }
+        ensures goes_on { ExtendsLog (turn_at table.old pass.old self.old.list)
+            (turn_at table.new pass.new self.new.list) }
         ensures list { IsOfRecovery (start_of N.records) self.new.list }
         ensures said { result ≢ NodeReply.NoMemory
             → Adds (entry_at node self.old.list.client (what_said request None result))
             self.old.list self.new.list }
-        ensures none { result ≡ NodeReply.NoMemory → Keeps self.old.list self.new.list }
+        ensures none { result ≡ NodeReply.NoMemory → KeepsList self.old.list self.new.list }
         ensures fits { Fits request result }
         ensures work { self.new.work ≡ self.old.work }
     {
@@ -144,13 +143,12 @@ impl Desk {
         pass: &mut Pass<CoreLaw>,
     ) -> bool
         requires turn { IsTurn N.board (length N.records)
-            (turn_of (seen_of table.old.board) table.old.stations.items pass.old self.old.list) }
+            (turn_at table.old pass.old self.old.list) }
         requires desk { IsDesk (start_of N.records) self.old }
         ensures turn { IsTurn N.board (length N.records)
-            (turn_of (seen_of table.new.board) table.new.stations.items pass.new self.new.list) }
-        ensures goes_on { GoesOn (turn_of
-            (seen_of table.old.board) table.old.stations.items pass.old self.old.list)
-            (turn_of (seen_of table.new.board) table.new.stations.items pass.new self.new.list) }
+            (turn_at table.new pass.new self.new.list) }
+        ensures goes_on { ExtendsLog (turn_at table.old pass.old self.old.list)
+            (turn_at table.new pass.new self.new.list) }
         ensures desk { IsDesk (start_of N.records) self.new }
         ensures client { self.new.list.client ≡ self.old.list.client }
         ensures asks { AsksIf self.old.list.client self.old.work (bench_of self.old)
@@ -184,14 +182,13 @@ impl Desk {
         shared: Option<Tid>,
     ) -> Result<(), NoMemory>
         requires turn { IsTurn N.board (length N.records)
-            (turn_of (seen_of table.old.board) table.old.stations.items pass.old self.old.list) }
+            (turn_at table.old pass.old self.old.list) }
         requires desk { IsDesk (start_of N.records) self.old }
         requires id { MatchOption shared ⊤ IsTid }
         ensures turn { IsTurn N.board (length N.records)
-            (turn_of (seen_of table.new.board) table.new.stations.items pass.new self.new.list) }
-        ensures goes_on { GoesOn (turn_of
-            (seen_of table.old.board) table.old.stations.items pass.old self.old.list)
-            (turn_of (seen_of table.new.board) table.new.stations.items pass.new self.new.list) }
+            (turn_at table.new pass.new self.new.list) }
+        ensures goes_on { ExtendsLog (turn_at table.old pass.old self.old.list)
+            (turn_at table.new pass.new self.new.list) }
         ensures desk { IsDesk (start_of N.records) self.new }
         ensures does { OnOk result ((es : List Entry) → shared ≡ last_shared (issues_of es)
             → DoesRstep (length N.records) self.old.list.client es (bench_of self.old)
@@ -213,14 +210,13 @@ impl Desk {
         shared: Option<Tid>,
     ) -> Result<(), NoMemory>
         requires turn { IsTurn N.board (length N.records)
-            (turn_of (seen_of table.old.board) table.old.stations.items pass.old self.old.list) }
+            (turn_at table.old pass.old self.old.list) }
         requires desk { IsDesk (start_of N.records) self.old }
         requires id { MatchOption shared ⊤ IsTid }
         ensures turn { IsTurn N.board (length N.records)
-            (turn_of (seen_of table.new.board) table.new.stations.items pass.new self.new.list) }
-        ensures goes_on { GoesOn (turn_of
-            (seen_of table.old.board) table.old.stations.items pass.old self.old.list)
-            (turn_of (seen_of table.new.board) table.new.stations.items pass.new self.new.list) }
+            (turn_at table.new pass.new self.new.list) }
+        ensures goes_on { ExtendsLog (turn_at table.old pass.old self.old.list)
+            (turn_at table.new pass.new self.new.list) }
         ensures desk { IsDesk (start_of N.records) self.new }
         ensures does { OnOk result ((es : List Entry) → shared ≡ last_shared (issues_of es)
             → DoesRecover (length N.records) self.old.list.client es (bench_of self.old)

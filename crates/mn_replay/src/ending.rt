@@ -1,6 +1,7 @@
 //! How a run ends: its nodes are handed back, and its lists are made one log.
 ghost use Rattle.std.specs.Prelude.{◌≡◌, ◌≤◌, ◌<◌, ◌+◌, ◌-◌, ◌++◌, ℕ, List, [], length, map};
-ghost use Rattle.std.specs.Prelude.{replicate, reverse, slice_get, Some, None, Err, Ok, IfErr, IfOk, IsOk};
+ghost use Rattle.std.specs.Prelude.{replicate, reverse, slice_get, Some, None, Err, Ok, IfErr};
+ghost use Rattle.std.specs.Prelude.{IfOk, IsOk};
 ghost use Rattle.std.specs.Prelude.{OnOk, vec_len, vec_capacity};
 ghost use Rattle.mn_actors.specs.declared.actor.Actor.TheVariants.{Node as AtNode};
 ghost use Rattle.mn_actors.specs.Lists.{held, OwnsAll};
@@ -15,10 +16,10 @@ ghost use Rattle.mn_replay.specs.Ended.{AllHaveMade, AreLists, AreMadeFromLast, 
 ghost use Rattle.mn_replay.specs.Ended.{HoldsNodes, IsEnded, OwnsNodes, SameCallers};
 ghost use Rattle.mn_replay.specs.Failed.{FailsSo, IsRunOn};
 ghost use Rattle.mn_replay.specs.Logs.{HasLog};
-ghost use Rattle.mn_replay.specs.Plays.{IsAtRest, NamesGiven, play_of};
-ghost use Rattle.mn_replay.specs.Settled.{AreSettled};
+ghost use Rattle.mn_replay.specs.Plays.{IsAtRest, NamesGiven, state_of};
+ghost use Rattle.mn_replay.specs.Settled.{AreUpAndFree};
 ghost use Rattle.mn_replay.specs.Trace.{IsTrace};
-ghost use Rattle.mn_replay.specs.Turn.{AreStations, callers_count, seen_of};
+ghost use Rattle.mn_replay.specs.Turn.{AreStations, callers_count};
 
 use crate::client::Client;
 use crate::desk::Desk;
@@ -274,9 +275,8 @@ pub fn end<N: Named, D: Disk>(
     rooms: Rooms,
     played: Result<(), RunCause>,
 ) -> Result<Trace<D>, RunFailed<D>>
-    requires rests { IsAtRest N.board (start_of N.records)
-        (play_of (seen_of play.table.board) play.table.stations.items play.rest play.callers) }
-    requires settled { OnOk played (AreSettled (length N.records) play.table.stations.items) }
+    requires rests { IsAtRest N.board (start_of N.records) (state_of play) }
+    requires settled { OnOk played (AreUpAndFree (length N.records) play.table.stations.items) }
     requires caused { IfErr played (IsCaused D.faults N.faults N.honest play.table.stations.items) }
     requires empty { nodes.items ≡ [] }
     requires room { length N.records ≤ vec_capacity nodes }
@@ -289,8 +289,7 @@ pub fn end<N: Named, D: Disk>(
         → IfErr result (λ failed. FailsSo D.state D.faults given failed.nodes.items failed.log
         failed.cause) }
     ensures done { IfOk result (λ trace. IsOk played) }
-    ensures log { IfOk result (λ trace. (past : List Noted) → HasLog
-        (play_of (seen_of play.table.board) play.table.stations.items play.rest play.callers) past
+    ensures log { IfOk result (λ trace. (past : List Noted) → HasLog (state_of play) past
         → entries_of trace.log ≡ past) }
 {
     let Play {

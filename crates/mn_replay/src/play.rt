@@ -15,12 +15,14 @@ ghost use Rattle.mn_replay.specs.Desks.{IsDesk};
 ghost use Rattle.mn_replay.specs.Follows.{IsPlayed};
 ghost use Rattle.mn_replay.specs.Logs.{AreFreeIfSound, GoesAs, HasLog, IsFresh, Settles, works_of};
 ghost use Rattle.mn_replay.specs.Plays.{AreCallers, AreReady, HaveNumbers, IsOfSome, IsPlay};
-ghost use Rattle.mn_replay.specs.Plays.{StayReady, StaysPlay, list_by, play_of};
+ghost use Rattle.mn_replay.specs.Plays.{state_of};
+ghost use Rattle.mn_replay.specs.Plays.{StayReady, StaysPlay, list_by};
 ghost use Rattle.mn_replay.specs.Recoveries.{bench_of};
-ghost use Rattle.mn_replay.specs.Schedule.{DoesAct, DoesActs, DoesMove, DoesWork, HaltsNode, IsOfClient};
+ghost use Rattle.mn_replay.specs.Schedule.{DoesAct, DoesActs, DoesMove, DoesWork, HaltsNode};
+ghost use Rattle.mn_replay.specs.Schedule.{IsOfClient};
 ghost use Rattle.mn_replay.specs.Schedule.{RecoversFor, RestartsNode, acts_of, last_acts, role_of};
-ghost use Rattle.mn_replay.specs.Settled.{AreSettled};
-ghost use Rattle.mn_replay.specs.Turn.{GoesOn, IsTurn, seen_of, turn_of};
+ghost use Rattle.mn_replay.specs.Settled.{AreUpAndFree};
+ghost use Rattle.mn_replay.specs.Turn.{ExtendsLog, IsTurn, turn_at};
 
 use crate::client::Client;
 use crate::desk::Desk;
@@ -135,15 +137,12 @@ fn make_move<N: Named, D: Disk>(
     ops: &[Op],
     what: Move,
 ) -> Result<(), NoMemory>
-    requires turn { IsTurn N.board (length N.records)
-        (turn_of (seen_of table.old.board) table.old.stations.items pass.old caller.old.list) }
+    requires turn { IsTurn N.board (length N.records) (turn_at table.old pass.old caller.old.list) }
     requires client { IsClient (start_of N.records) points.now caller.old }
     requires few { length ops.now < 2 ^ 32 }
-    ensures turn { IsTurn N.board (length N.records)
-        (turn_of (seen_of table.new.board) table.new.stations.items pass.new caller.new.list) }
-    ensures goes_on { GoesOn (turn_of
-        (seen_of table.old.board) table.old.stations.items pass.old caller.old.list)
-        (turn_of (seen_of table.new.board) table.new.stations.items pass.new caller.new.list) }
+    ensures turn { IsTurn N.board (length N.records) (turn_at table.new pass.new caller.new.list) }
+    ensures goes_on { ExtendsLog (turn_at table.old pass.old caller.old.list)
+        (turn_at table.new pass.new caller.new.list) }
     ensures client { OnOk result (IsClient (start_of N.records) points.now caller.new) }
     ensures of_run { IsOfRun (start_of N.records) points.now caller.new }
     ensures does { OnOk result (DoesMove what (as_role points.now caller.old.list.client ops.now)
@@ -166,15 +165,12 @@ fn work<N: Named, D: Disk>(
     shared: Option<Tid>,
     to_the_end: bool,
 ) -> Result<(), NoMemory>
-    requires turn { IsTurn N.board (length N.records)
-        (turn_of (seen_of table.old.board) table.old.stations.items pass.old desk.old.list) }
+    requires turn { IsTurn N.board (length N.records) (turn_at table.old pass.old desk.old.list) }
     requires desk { IsDesk (start_of N.records) desk.old }
     requires id { MatchOption shared ⊤ IsTid }
-    ensures turn { IsTurn N.board (length N.records)
-        (turn_of (seen_of table.new.board) table.new.stations.items pass.new desk.new.list) }
-    ensures goes_on { GoesOn (turn_of
-        (seen_of table.old.board) table.old.stations.items pass.old desk.old.list)
-        (turn_of (seen_of table.new.board) table.new.stations.items pass.new desk.new.list) }
+    ensures turn { IsTurn N.board (length N.records) (turn_at table.new pass.new desk.new.list) }
+    ensures goes_on { ExtendsLog (turn_at table.old pass.old desk.old.list)
+        (turn_at table.new pass.new desk.new.list) }
     ensures desk { IsDesk (start_of N.records) desk.new }
     ensures does { OnOk result ((es : List Entry) → shared ≡ last_shared (issues_of es)
         → DoesWork to_the_end (length N.records) desk.old.list.client es (bench_of desk.old)
@@ -196,20 +192,13 @@ impl<N: Named, D: Disk> Play<N, D> {
         client: ClientNo,
         what: Move,
     ) -> Result<(), NoMemory>
-        requires play { IsPlay N.board (start_of N.records) script.now
-            (play_of (seen_of self.old.table.board) self.old.table.stations.items self.old.rest
-            self.old.callers) }
+        requires play { IsPlay N.board (start_of N.records) script.now (state_of self.old) }
         requires ready { AreReady (start_of N.records) script.now self.old.callers }
         requires client { client.0 < length script.now.clients }
-        ensures play { IsPlay N.board (start_of N.records) script.now
-            (play_of (seen_of self.new.table.board) self.new.table.stations.items self.new.rest
-            self.new.callers) }
+        ensures play { IsPlay N.board (start_of N.records) script.now (state_of self.new) }
         ensures ready { OnOk result (AreReady (start_of N.records) script.now self.new.callers) }
-        ensures does { OnOk result (GoesAs
-            (IsOfClient client (DoesMove what (role_of script.now client)))
-            (play_of (seen_of self.old.table.board) self.old.table.stations.items self.old.rest
-            self.old.callers) (play_of (seen_of self.new.table.board) self.new.table.stations.items
-            self.new.rest self.new.callers)) }
+        ensures does { OnOk result (GoesAs (IsOfClient client (DoesMove what (role_of script.now
+            client))) (state_of self.old) (state_of self.new)) }
     {
         let at = usize::from(client.0);
         let ops = script.clients()[at].ops.as_slice();
@@ -232,21 +221,14 @@ impl<N: Named, D: Disk> Play<N, D> {
         client: ClientNo,
         to_the_end: bool,
     ) -> Result<(), NoMemory>
-        requires play { IsOfSome N.board (start_of N.records)
-            (play_of (seen_of self.old.table.board) self.old.table.stations.items self.old.rest
-            self.old.callers) }
+        requires play { IsOfSome N.board (start_of N.records) (state_of self.old) }
         requires recoverer { (1 ≤ recoverer) × (recoverer ≤ 4) }
         requires client { client.0 < length self.old.callers.clients.items }
-        ensures play { StaysPlay N.board (start_of N.records)
-            (play_of (seen_of self.old.table.board) self.old.table.stations.items self.old.rest
-            self.old.callers) (play_of (seen_of self.new.table.board) self.new.table.stations.items
-            self.new.rest self.new.callers) }
+        ensures play { StaysPlay N.board (start_of N.records) (state_of self.old)
+            (state_of self.new) }
         ensures ready { StayReady (start_of N.records) self.old.callers self.new.callers }
-        ensures does { OnOk result (GoesAs
-            (RecoversFor (length N.records) recoverer client to_the_end)
-            (play_of (seen_of self.old.table.board) self.old.table.stations.items self.old.rest
-            self.old.callers) (play_of (seen_of self.new.table.board) self.new.table.stations.items
-            self.new.rest self.new.callers)) }
+        ensures does { OnOk result (GoesAs (RecoversFor (length N.records) recoverer client
+            to_the_end) (state_of self.old) (state_of self.new)) }
     {
         let shared = self.callers.clients[usize::from(client.0)].shared();
         let at = recoverer - 1;
@@ -263,20 +245,13 @@ impl<N: Named, D: Disk> Play<N, D> {
 
     /// A node stops between two calls.
     fn halt(&mut self, node: NodeNo) -> Result<(), NoMemory>
-        requires play { IsOfSome N.board (start_of N.records)
-            (play_of (seen_of self.old.table.board) self.old.table.stations.items self.old.rest
-            self.old.callers) }
+        requires play { IsOfSome N.board (start_of N.records) (state_of self.old) }
         requires node { node.0 < length N.records }
-        ensures play { StaysPlay N.board (start_of N.records)
-            (play_of (seen_of self.old.table.board) self.old.table.stations.items self.old.rest
-            self.old.callers) (play_of (seen_of self.new.table.board) self.new.table.stations.items
-            self.new.rest self.new.callers) }
+        ensures play { StaysPlay N.board (start_of N.records) (state_of self.old)
+            (state_of self.new) }
         ensures ready { StayReady (start_of N.records) self.old.callers self.new.callers }
-        ensures does { OnOk result (GoesAs
-            (HaltsNode node)
-            (play_of (seen_of self.old.table.board) self.old.table.stations.items self.old.rest
-            self.old.callers) (play_of (seen_of self.new.table.board) self.new.table.stations.items
-            self.new.rest self.new.callers)) }
+        ensures does { OnOk result (GoesAs (HaltsNode node) (state_of self.old)
+            (state_of self.new)) }
     {
         let mut pass = self
             .table
@@ -291,19 +266,12 @@ impl<N: Named, D: Disk> Play<N, D> {
 
     /// A node is restarted. One whose restart fails stays down.
     fn restart(&mut self, alloc: Global, node: NodeNo)
-        requires play { IsOfSome N.board (start_of N.records)
-            (play_of (seen_of self.old.table.board) self.old.table.stations.items self.old.rest
-            self.old.callers) }
+        requires play { IsOfSome N.board (start_of N.records) (state_of self.old) }
         requires node { node.0 < length N.records }
-        ensures play { StaysPlay N.board (start_of N.records)
-            (play_of (seen_of self.old.table.board) self.old.table.stations.items self.old.rest
-            self.old.callers) (play_of (seen_of self.new.table.board) self.new.table.stations.items
-            self.new.rest self.new.callers) }
+        ensures play { StaysPlay N.board (start_of N.records) (state_of self.old)
+            (state_of self.new) }
         ensures ready { StayReady (start_of N.records) self.old.callers self.new.callers }
-        ensures does { GoesAs (RestartsNode node)
-            (play_of (seen_of self.old.table.board) self.old.table.stations.items self.old.rest
-            self.old.callers) (play_of (seen_of self.new.table.board) self.new.table.stations.items
-            self.new.rest self.new.callers) }
+        ensures does { GoesAs (RestartsNode node) (state_of self.old) (state_of self.new) }
     {
         let mut pass = self
             .table
@@ -317,21 +285,14 @@ impl<N: Named, D: Disk> Play<N, D> {
 
     /// Does an act. NoMemory: there was no memory to begin it.
     fn act(&mut self, alloc: Global, script: &Script, act: Act) -> Result<(), NoMemory>
-        requires play { IsPlay N.board (start_of N.records) script.now
-            (play_of (seen_of self.old.table.board) self.old.table.stations.items self.old.rest
-            self.old.callers) }
+        requires play { IsPlay N.board (start_of N.records) script.now (state_of self.old) }
         requires ready { AreReady (start_of N.records) script.now self.old.callers }
         requires act { IsAct script.now.nodes script.now.recoverers script.now.clients act }
         requires recoverers { script.now.recoverers ≤ 4 }
-        ensures play { IsPlay N.board (start_of N.records) script.now
-            (play_of (seen_of self.new.table.board) self.new.table.stations.items self.new.rest
-            self.new.callers) }
+        ensures play { IsPlay N.board (start_of N.records) script.now (state_of self.new) }
         ensures ready { OnOk result (AreReady (start_of N.records) script.now self.new.callers) }
-        ensures does { OnOk result (GoesAs
-            (DoesAct script.now act)
-            (play_of (seen_of self.old.table.board) self.old.table.stations.items self.old.rest
-            self.old.callers) (play_of (seen_of self.new.table.board) self.new.table.stations.items
-            self.new.rest self.new.callers)) }
+        ensures does { OnOk result (GoesAs (DoesAct script.now act) (state_of self.old)
+            (state_of self.new)) }
     {
         match act {
             Act::Step { client } => self.client_turn(alloc, script, client, Move::Step),
@@ -354,19 +315,12 @@ impl<N: Named, D: Disk> Play<N, D> {
 
     /// Does the acts of the schedule.
     fn do_schedule(&mut self, alloc: Global, script: &Script) -> Result<(), NoMemory>
-        requires play { IsPlay N.board (start_of N.records) script.now
-            (play_of (seen_of self.old.table.board) self.old.table.stations.items self.old.rest
-            self.old.callers) }
+        requires play { IsPlay N.board (start_of N.records) script.now (state_of self.old) }
         requires ready { AreReady (start_of N.records) script.now self.old.callers }
-        ensures play { IsPlay N.board (start_of N.records) script.now
-            (play_of (seen_of self.new.table.board) self.new.table.stations.items self.new.rest
-            self.new.callers) }
+        ensures play { IsPlay N.board (start_of N.records) script.now (state_of self.new) }
         ensures ready { OnOk result (AreReady (start_of N.records) script.now self.new.callers) }
-        ensures does { OnOk result (GoesAs
-            (DoesActs script.now script.now.schedule)
-            (play_of (seen_of self.old.table.board) self.old.table.stations.items self.old.rest
-            self.old.callers) (play_of (seen_of self.new.table.board) self.new.table.stations.items
-            self.new.rest self.new.callers)) }
+        ensures does { OnOk result (GoesAs (DoesActs script.now script.now.schedule)
+            (state_of self.old) (state_of self.new)) }
     {
         for act in script.schedule() {
             self.act(alloc, script, *act)?;
@@ -376,18 +330,11 @@ impl<N: Named, D: Disk> Play<N, D> {
 
     /// Does all that each client has left.
     fn finish(&mut self, alloc: Global, script: &Script) -> Result<(), NoMemory>
-        requires play { IsPlay N.board (start_of N.records) script.now
-            (play_of (seen_of self.old.table.board) self.old.table.stations.items self.old.rest
-            self.old.callers) }
+        requires play { IsPlay N.board (start_of N.records) script.now (state_of self.old) }
         requires ready { AreReady (start_of N.records) script.now self.old.callers }
-        ensures play { IsPlay N.board (start_of N.records) script.now
-            (play_of (seen_of self.new.table.board) self.new.table.stations.items self.new.rest
-            self.new.callers) }
-        ensures does { OnOk result (GoesAs
-            (DoesActs script.now (last_acts script.now))
-            (play_of (seen_of self.old.table.board) self.old.table.stations.items self.old.rest
-            self.old.callers) (play_of (seen_of self.new.table.board) self.new.table.stations.items
-            self.new.rest self.new.callers)) }
+        ensures play { IsPlay N.board (start_of N.records) script.now (state_of self.new) }
+        ensures does { OnOk result (GoesAs (DoesActs script.now (last_acts script.now))
+            (state_of self.old) (state_of self.new)) }
     {
         let count = script.clients().len();
         for at in 0..count {
@@ -398,18 +345,11 @@ impl<N: Named, D: Disk> Play<N, D> {
 
     /// Does the acts of the schedule, and then all that each client has left.
     fn do_acts(&mut self, alloc: Global, script: &Script) -> Result<(), NoMemory>
-        requires play { IsPlay N.board (start_of N.records) script.now
-            (play_of (seen_of self.old.table.board) self.old.table.stations.items self.old.rest
-            self.old.callers) }
+        requires play { IsPlay N.board (start_of N.records) script.now (state_of self.old) }
         requires ready { AreReady (start_of N.records) script.now self.old.callers }
-        ensures play { IsPlay N.board (start_of N.records) script.now
-            (play_of (seen_of self.new.table.board) self.new.table.stations.items self.new.rest
-            self.new.callers) }
-        ensures does { OnOk result (GoesAs
-            (DoesActs script.now (acts_of script.now))
-            (play_of (seen_of self.old.table.board) self.old.table.stations.items self.old.rest
-            self.old.callers) (play_of (seen_of self.new.table.board) self.new.table.stations.items
-            self.new.rest self.new.callers)) }
+        ensures play { IsPlay N.board (start_of N.records) script.now (state_of self.new) }
+        ensures does { OnOk result (GoesAs (DoesActs script.now (acts_of script.now))
+            (state_of self.old) (state_of self.new)) }
     {
         self.do_schedule(alloc, script)?;
         self.finish(alloc, script)
@@ -417,24 +357,15 @@ impl<N: Named, D: Disk> Play<N, D> {
 
     /// Opens or closes: restarts each node that is down, and recovers each id that a node holds.
     fn settle(&mut self, alloc: Global) -> Result<(), RunCause>
-        requires play { IsOfSome N.board (start_of N.records)
-            (play_of (seen_of self.old.table.board) self.old.table.stations.items self.old.rest
-            self.old.callers) }
-        ensures play { StaysPlay N.board (start_of N.records)
-            (play_of (seen_of self.old.table.board) self.old.table.stations.items self.old.rest
-            self.old.callers) (play_of (seen_of self.new.table.board) self.new.table.stations.items
-            self.new.rest self.new.callers) }
+        requires play { IsOfSome N.board (start_of N.records) (state_of self.old) }
+        ensures play { StaysPlay N.board (start_of N.records) (state_of self.old)
+            (state_of self.new) }
         ensures ready { StayReady (start_of N.records) self.old.callers self.new.callers }
-        ensures does { OnOk result (GoesAs
-            (Settles)
-            (play_of (seen_of self.old.table.board) self.old.table.stations.items self.old.rest
-            self.old.callers) (play_of (seen_of self.new.table.board) self.new.table.stations.items
-            self.new.rest self.new.callers)) }
+        ensures does { OnOk result (GoesAs (Settles) (state_of self.old) (state_of self.new)) }
         ensures settled { OnOk result
-            (AreSettled (length N.records) self.new.table.stations.items) }
-        ensures free { OnOk result ((past : List Entry) → HasLog
-            (play_of (seen_of self.new.table.board) self.new.table.stations.items self.new.rest
-            self.new.callers) past → AreFreeIfSound (start_of N.records) past) }
+            (AreUpAndFree (length N.records) self.new.table.stations.items) }
+        ensures free { OnOk result ((past : List Entry) → HasLog (state_of self.new) past
+            → AreFreeIfSound (start_of N.records) past) }
         ensures caused { IfErr result
             (IsCaused D.faults N.faults N.honest self.new.table.stations.items) }
     {
@@ -453,21 +384,14 @@ impl<N: Named, D: Disk> Play<N, D> {
 
     /// Opens, does the acts, and closes.
     pub fn play(&mut self, alloc: Global, script: &Script) -> Result<(), RunCause>
-        requires play { IsPlay N.board (start_of N.records) script.now
-            (play_of (seen_of self.old.table.board) self.old.table.stations.items self.old.rest
-            self.old.callers) }
+        requires play { IsPlay N.board (start_of N.records) script.now (state_of self.old) }
         requires ready { AreReady (start_of N.records) script.now self.old.callers }
-        ensures play { IsPlay N.board (start_of N.records) script.now
-            (play_of (seen_of self.new.table.board) self.new.table.stations.items self.new.rest
-            self.new.callers) }
+        ensures play { IsPlay N.board (start_of N.records) script.now (state_of self.new) }
         ensures settled { OnOk result
-            (AreSettled (length N.records) self.new.table.stations.items) }
-        ensures follows { IsFresh
-            (play_of (seen_of self.old.table.board) self.old.table.stations.items self.old.rest
-            self.old.callers) → OnOk result ((past : List Entry) × HasLog
-            (play_of (seen_of self.new.table.board) self.new.table.stations.items self.new.rest
-            self.new.callers) past
-            × IsPlayed (AreFreeIfSound (start_of N.records)) script.now past) }
+            (AreUpAndFree (length N.records) self.new.table.stations.items) }
+        ensures follows { IsFresh (state_of self.old) → OnOk result ((past : List Entry) × HasLog
+            (state_of self.new) past × IsPlayed (AreFreeIfSound (start_of N.records)) script.now
+            past) }
         ensures caused { IfErr result
             (IsCaused D.faults N.faults N.honest self.new.table.stations.items) }
     {

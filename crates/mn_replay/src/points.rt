@@ -1,7 +1,7 @@
 //! The crash points of a script, as the list of one client meets them.
 ghost use Rattle.std.specs.Prelude.{◌≡◌, ◌≤◌, ◌∷◌, [], None, if◌then◌else◌, length};
 ghost use Rattle.std.specs.List.{AllByRecursion, list_any};
-ghost use Rattle.mn_hist.specs.Points.{fits, may_stop, votes_for, votes_with, with_met};
+ghost use Rattle.mn_hist.specs.Points.{point_fits, may_stop, votes_for, votes_with, with_met};
 ghost use Rattle.mn_hist.specs.Watching.{number_of};
 ghost use Rattle.mn_world.specs.Run.{entries_of};
 ghost use Rattle.mn_replay.specs.Points.{is_kill_of, is_some_met, is_stop_at, stop_among};
@@ -128,7 +128,8 @@ pub fn note(
     requires own { AllByRecursion (λ e. e.client ≡ Some client) (entries_of before.now) }
     requires by { entry.now.client ≡ Some client }
     requires number { number ≡ number_of (entries_of before.now) }
-    ensures met { met.new ≡ with_met (fits (entries_of before.now) entry.now) points.now met.old }
+    ensures met { met.new ≡ with_met
+        (point_fits (entries_of before.now) entry.now) points.now met.old }
     ensures long { length met.new ≡ length points.now }
 {
     let step = Step {

@@ -19,9 +19,9 @@ ghost use Rattle.mn_replay.specs.Closing.{ClosesOn, calls_left, failure_of};
 ghost use Rattle.mn_replay.specs.Desks.{IsOfRecovery, IsRecoveryCall, IsWork};
 ghost use Rattle.mn_replay.specs.Doings.{HasAnswered, IsAnswer, IsDownAs, OthersStay};
 ghost use Rattle.mn_replay.specs.Failed.{closer};
-ghost use Rattle.mn_replay.specs.Settled.{AllUp, AreSettled, records_at};
+ghost use Rattle.mn_replay.specs.Settled.{AllUp, AreUpAndFree, records_at};
 ghost use Rattle.mn_replay.specs.Steps.{Adds};
-ghost use Rattle.mn_replay.specs.Turn.{GoesOn, IsTurn, seen_of, turn_of};
+ghost use Rattle.mn_replay.specs.Turn.{ExtendsLog, IsTurn, turn_at};
 
 use crate::desk::make_room;
 use crate::table::Table;
@@ -82,13 +82,12 @@ impl Closer {
         node: NodeNo,
     ) -> Result<(), RunCause>
         requires closing { IsClosing N.board (start_of N.records)
-            (turn_of (seen_of table.old.board) table.old.stations.items pass.old self.old.list) }
+            (turn_at table.old pass.old self.old.list) }
         requires node { node.0 < length N.records }
         ensures closing { IsClosing N.board (start_of N.records)
-            (turn_of (seen_of table.new.board) table.new.stations.items pass.new self.new.list) }
-        ensures goes_on { GoesOn (turn_of
-            (seen_of table.old.board) table.old.stations.items pass.old self.old.list)
-            (turn_of (seen_of table.new.board) table.new.stations.items pass.new self.new.list) }
+            (turn_at table.new pass.new self.new.list) }
+        ensures goes_on { ExtendsLog (turn_at table.old pass.old self.old.list)
+            (turn_at table.new pass.new self.new.list) }
         ensures closes { OnOk result (ClosesOn (entries_of self.old.list.entries)
             (entries_of self.new.list.entries)) }
         ensures others { OthersStay node table.old.stations.items table.new.stations.items }
@@ -110,12 +109,11 @@ impl Closer {
         pass: &mut Pass<CoreLaw>,
     ) -> Result<(), RunCause>
         requires closing { IsClosing N.board (start_of N.records)
-            (turn_of (seen_of table.old.board) table.old.stations.items pass.old self.old.list) }
+            (turn_at table.old pass.old self.old.list) }
         ensures closing { IsClosing N.board (start_of N.records)
-            (turn_of (seen_of table.new.board) table.new.stations.items pass.new self.new.list) }
-        ensures goes_on { GoesOn (turn_of
-            (seen_of table.old.board) table.old.stations.items pass.old self.old.list)
-            (turn_of (seen_of table.new.board) table.new.stations.items pass.new self.new.list) }
+            (turn_at table.new pass.new self.new.list) }
+        ensures goes_on { ExtendsLog (turn_at table.old pass.old self.old.list)
+            (turn_at table.new pass.new self.new.list) }
         ensures closes { OnOk result (ClosesOn (entries_of self.old.list.entries)
             (entries_of self.new.list.entries)) }
         ensures up { OnOk result (AllUp table.new.stations.items) }
@@ -138,17 +136,16 @@ impl Closer {
         request: Request,
     ) -> Result<NodeReply, RunCause>
         requires closing { IsClosing N.board (start_of N.records)
-            (turn_of (seen_of table.old.board) table.old.stations.items pass.old self.old.list) }
+            (turn_at table.old pass.old self.old.list) }
         requires up { AllUp table.old.stations.items }
         requires node { node.0 < length N.records }
         requires sound { IsSoundRequest request }
         requires kind { IsRecoveryCall request }
         requires legal { Sends (entries_of self.old.list.entries) (Some node) request }
         ensures closing { IsClosing N.board (start_of N.records)
-            (turn_of (seen_of table.new.board) table.new.stations.items pass.new self.new.list) }
-        ensures goes_on { GoesOn (turn_of
-            (seen_of table.old.board) table.old.stations.items pass.old self.old.list)
-            (turn_of (seen_of table.new.board) table.new.stations.items pass.new self.new.list) }
+            (turn_at table.new pass.new self.new.list) }
+        ensures goes_on { ExtendsLog (turn_at table.old pass.old self.old.list)
+            (turn_at table.new pass.new self.new.list) }
         ensures closes { OnOk result (ClosesOn (entries_of self.old.list.entries)
             (entries_of self.new.list.entries)) }
         ensures answers { IfOk result IsAnswer }
@@ -180,14 +177,13 @@ impl Closer {
         node: NodeNo,
     ) -> Result<Doubts, RunCause>
         requires closing { IsClosing N.board (start_of N.records)
-            (turn_of (seen_of table.old.board) table.old.stations.items pass.old self.old.list) }
+            (turn_at table.old pass.old self.old.list) }
         requires up { AllUp table.old.stations.items }
         requires node { node.0 < length N.records }
         ensures closing { IsClosing N.board (start_of N.records)
-            (turn_of (seen_of table.new.board) table.new.stations.items pass.new self.new.list) }
-        ensures goes_on { GoesOn (turn_of
-            (seen_of table.old.board) table.old.stations.items pass.old self.old.list)
-            (turn_of (seen_of table.new.board) table.new.stations.items pass.new self.new.list) }
+            (turn_at table.new pass.new self.new.list) }
+        ensures goes_on { ExtendsLog (turn_at table.old pass.old self.old.list)
+            (turn_at table.new pass.new self.new.list) }
         ensures closes { OnOk result (ClosesOn (entries_of self.old.list.entries)
             (entries_of self.new.list.entries)) }
         ensures up { OnOk result (AllUp table.new.stations.items) }
@@ -216,15 +212,14 @@ impl Closer {
         tids: &mut Vec<Tid>,
     ) -> Result<(), RunCause>
         requires closing { IsClosing N.board (start_of N.records)
-            (turn_of (seen_of table.old.board) table.old.stations.items pass.old self.old.list) }
+            (turn_at table.old pass.old self.old.list) }
         requires up { AllUp table.old.stations.items }
         requires node { node.0 < length N.records }
         requires ids { AllByRecursion IsTid tids.old.items }
         ensures closing { IsClosing N.board (start_of N.records)
-            (turn_of (seen_of table.new.board) table.new.stations.items pass.new self.new.list) }
-        ensures goes_on { GoesOn (turn_of
-            (seen_of table.old.board) table.old.stations.items pass.old self.old.list)
-            (turn_of (seen_of table.new.board) table.new.stations.items pass.new self.new.list) }
+            (turn_at table.new pass.new self.new.list) }
+        ensures goes_on { ExtendsLog (turn_at table.old pass.old self.old.list)
+            (turn_at table.new pass.new self.new.list) }
         ensures closes { OnOk result (ClosesOn (entries_of self.old.list.entries)
             (entries_of self.new.list.entries)) }
         ensures up { OnOk result (AllUp table.new.stations.items) }
@@ -253,13 +248,12 @@ impl Closer {
         pass: &mut Pass<CoreLaw>,
     ) -> Result<Vec<Tid>, RunCause>
         requires closing { IsClosing N.board (start_of N.records)
-            (turn_of (seen_of table.old.board) table.old.stations.items pass.old self.old.list) }
+            (turn_at table.old pass.old self.old.list) }
         requires up { AllUp table.old.stations.items }
         ensures closing { IsClosing N.board (start_of N.records)
-            (turn_of (seen_of table.new.board) table.new.stations.items pass.new self.new.list) }
-        ensures goes_on { GoesOn (turn_of
-            (seen_of table.old.board) table.old.stations.items pass.old self.old.list)
-            (turn_of (seen_of table.new.board) table.new.stations.items pass.new self.new.list) }
+            (turn_at table.new pass.new self.new.list) }
+        ensures goes_on { ExtendsLog (turn_at table.old pass.old self.old.list)
+            (turn_at table.new pass.new self.new.list) }
         ensures closes { OnOk result (ClosesOn (entries_of self.old.list.entries)
             (entries_of self.new.list.entries)) }
         ensures up { OnOk result (AllUp table.new.stations.items) }
@@ -289,7 +283,7 @@ impl Closer {
         request: Request,
     ) -> Result<(), RunCause>
         requires closing { IsClosing N.board (start_of N.records)
-            (turn_of (seen_of table.old.board) table.old.stations.items pass.old self.old.list) }
+            (turn_at table.old pass.old self.old.list) }
         requires up { AllUp table.old.stations.items }
         requires work { IsWork (start_of N.records) self.old.list work.old }
         requires step { step_of work.old ≡ Send node request }
@@ -298,10 +292,9 @@ impl Closer {
         requires done { IsDoneTo (length N.records) work.old.tid
             (records_at table.old.stations.items) work.old.stage }
         ensures closing { IsClosing N.board (start_of N.records)
-            (turn_of (seen_of table.new.board) table.new.stations.items pass.new self.new.list) }
-        ensures goes_on { GoesOn (turn_of
-            (seen_of table.old.board) table.old.stations.items pass.old self.old.list)
-            (turn_of (seen_of table.new.board) table.new.stations.items pass.new self.new.list) }
+            (turn_at table.new pass.new self.new.list) }
+        ensures goes_on { ExtendsLog (turn_at table.old pass.old self.old.list)
+            (turn_at table.new pass.new self.new.list) }
         ensures closes { OnOk result (ClosesOn (entries_of self.old.list.entries)
             (entries_of self.new.list.entries)) }
         ensures tid { work.new.tid ≡ work.old.tid }
@@ -333,14 +326,13 @@ impl Closer {
         tid: Tid,
     ) -> Result<(), RunCause>
         requires closing { IsClosing N.board (start_of N.records)
-            (turn_of (seen_of table.old.board) table.old.stations.items pass.old self.old.list) }
+            (turn_at table.old pass.old self.old.list) }
         requires up { AllUp table.old.stations.items }
         requires id { IsTid tid }
         ensures closing { IsClosing N.board (start_of N.records)
-            (turn_of (seen_of table.new.board) table.new.stations.items pass.new self.new.list) }
-        ensures goes_on { GoesOn (turn_of
-            (seen_of table.old.board) table.old.stations.items pass.old self.old.list)
-            (turn_of (seen_of table.new.board) table.new.stations.items pass.new self.new.list) }
+            (turn_at table.new pass.new self.new.list) }
+        ensures goes_on { ExtendsLog (turn_at table.old pass.old self.old.list)
+            (turn_at table.new pass.new self.new.list) }
         ensures closes { OnOk result (ClosesOn (entries_of self.old.list.entries)
             (entries_of self.new.list.entries)) }
         ensures up { OnOk result (AllUp table.new.stations.items) }
@@ -369,14 +361,13 @@ impl Closer {
         tids: &[Tid],
     ) -> Result<(), RunCause>
         requires closing { IsClosing N.board (start_of N.records)
-            (turn_of (seen_of table.old.board) table.old.stations.items pass.old self.old.list) }
+            (turn_at table.old pass.old self.old.list) }
         requires up { AllUp table.old.stations.items }
         requires ids { AllByRecursion IsTid tids.now }
         ensures closing { IsClosing N.board (start_of N.records)
-            (turn_of (seen_of table.new.board) table.new.stations.items pass.new self.new.list) }
-        ensures goes_on { GoesOn (turn_of
-            (seen_of table.old.board) table.old.stations.items pass.old self.old.list)
-            (turn_of (seen_of table.new.board) table.new.stations.items pass.new self.new.list) }
+            (turn_at table.new pass.new self.new.list) }
+        ensures goes_on { ExtendsLog (turn_at table.old pass.old self.old.list)
+            (turn_at table.new pass.new self.new.list) }
         ensures closes { OnOk result (ClosesOn (entries_of self.old.list.entries)
             (entries_of self.new.list.entries)) }
         ensures up { OnOk result (AllUp table.new.stations.items) }
@@ -401,18 +392,17 @@ impl Closer {
         pass: &mut Pass<CoreLaw>,
     ) -> Result<(), RunCause>
         requires turn { IsTurn N.board (length N.records)
-            (turn_of (seen_of table.old.board) table.old.stations.items pass.old self.old.list) }
+            (turn_at table.old pass.old self.old.list) }
         requires closer { self.old.list.client ≡ closer }
         requires list { IsOfRecovery (start_of N.records) self.old.list }
         ensures turn { IsTurn N.board (length N.records)
-            (turn_of (seen_of table.new.board) table.new.stations.items pass.new self.new.list) }
-        ensures goes_on { GoesOn (turn_of
-            (seen_of table.old.board) table.old.stations.items pass.old self.old.list)
-            (turn_of (seen_of table.new.board) table.new.stations.items pass.new self.new.list) }
+            (turn_at table.new pass.new self.new.list) }
+        ensures goes_on { ExtendsLog (turn_at table.old pass.old self.old.list)
+            (turn_at table.new pass.new self.new.list) }
         ensures closes { OnOk result (ClosesOn (entries_of self.old.list.entries)
             (entries_of self.new.list.entries)) }
         ensures list { IsOfRecovery (start_of N.records) self.new.list }
-        ensures settled { OnOk result (AreSettled (length N.records) table.new.stations.items) }
+        ensures settled { OnOk result (AreUpAndFree (length N.records) table.new.stations.items) }
         ensures caused { IfErr result
             (IsCaused D.faults N.faults N.honest table.new.stations.items) }
     {

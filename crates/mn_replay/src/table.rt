@@ -1,12 +1,12 @@
 //! What the actors of a run share: its board, and the stations of its nodes.
 ghost use Rattle.std.specs.Prelude.{◌≡◌, ◌≢◌, ◌≤◌, ◌<◌, ◌+◌, None, IfErr, OnErr, OnOk};
 ghost use Rattle.std.specs.Prelude.{length, true, false};
-ghost use Rattle.mn_cell.specs.Calls.{KeepsStop, MaySend, entry_at, what_said};
+ghost use Rattle.mn_cell.specs.Calls.{ObeysStop, MaySend, entry_at, what_said};
 ghost use Rattle.mn_cell.specs.Promises.{IsOwedAt, decided_by};
 ghost use Rattle.mn_mini.specs.Sound.{Fits, IsSoundRequest};
 ghost use Rattle.mn_world.specs.Run.{IsLegalBy, entries_of};
-ghost use Rattle.mn_replay.specs.Turn.{AreStations, GoesOn, IsTurn, seen_of, turn_of};
-ghost use Rattle.mn_replay.specs.Steps.{Adds, Keeps, own_entry};
+ghost use Rattle.mn_replay.specs.Turn.{AreStations, ExtendsLog, IsTurn, turn_at};
+ghost use Rattle.mn_replay.specs.Steps.{Adds, KeepsList, own_entry};
 ghost use Rattle.mn_replay.specs.Causes.{IsCaused, cause_of};
 ghost use Rattle.mn_replay.specs.Doings.{Halts, HasAnswered, IsAnswer, IsDownAs, OthersStay};
 ghost use Rattle.mn_replay.specs.Doings.{Restarts};
@@ -34,15 +34,12 @@ pub struct Table<N: Named, D: Disk> {
 impl<N: Named, D: Disk> Table<N, D> {
     /// Adds a step that an actor makes by itself, for which its list has room.
     pub fn add(&mut self, pass: &mut Pass<CoreLaw>, list: &mut ClientList, what: What)
-        requires turn { IsTurn N.board (length N.records)
-            (turn_of (seen_of self.old.board) self.old.stations.items pass.old list.old) }
+        requires turn { IsTurn N.board (length N.records) (turn_at self.old pass.old list.old) }
         requires legal { IsLegalBy (entries_of list.old.entries) (own_entry list.old.client what) }
         requires room { 0 < list.old.room }
-        ensures turn { IsTurn N.board (length N.records)
-            (turn_of (seen_of self.new.board) self.new.stations.items pass.new list.new) }
-        ensures goes_on { GoesOn (turn_of
-            (seen_of self.old.board) self.old.stations.items pass.old list.old)
-            (turn_of (seen_of self.new.board) self.new.stations.items pass.new list.new) }
+        ensures turn { IsTurn N.board (length N.records) (turn_at self.new pass.new list.new) }
+        ensures goes_on { ExtendsLog (turn_at self.old pass.old list.old)
+            (turn_at self.new pass.new list.new) }
         ensures added { Adds (own_entry list.old.client what) list.old list.new }
         ensures room { list.new.room + 1 ≡ list.old.room }
         ensures stations { self.new.stations.items ≡ self.old.stations.items }
@@ -71,16 +68,13 @@ impl<N: Named, D: Disk> Table<N, D> {
         request: Request,
         stop: Option<StopAt>,
     ) -> NodeReply
-        requires turn { IsTurn N.board (length N.records)
-            (turn_of (seen_of self.old.board) self.old.stations.items pass.old list.old) }
+        requires turn { IsTurn N.board (length N.records) (turn_at self.old pass.old list.old) }
         requires node { node.0 < length N.records }
         requires sound { IsSoundRequest request }
         requires legal { MaySend node list.old.client list.old.entries request stop }
-        ensures turn { IsTurn N.board (length N.records)
-            (turn_of (seen_of self.new.board) self.new.stations.items pass.new list.new) }
-        ensures goes_on { GoesOn (turn_of
-            (seen_of self.old.board) self.old.stations.items pass.old list.old)
-            (turn_of (seen_of self.new.board) self.new.stations.items pass.new list.new) }
+        ensures turn { IsTurn N.board (length N.records) (turn_at self.new pass.new list.new) }
+        ensures goes_on { ExtendsLog (turn_at self.old pass.old list.old)
+            (turn_at self.new pass.new list.new) }
         ensures fits { Fits request result }
         ensures said { result ≢ NodeReply.NoMemory
             → Adds (entry_at node list.old.client (what_said request stop result)) list.old
@@ -89,7 +83,7 @@ impl<N: Named, D: Disk> Table<N, D> {
         ensures room { list.old.room ≤ list.new.room + 1 }
         ensures owed { IsOwedAt node (decided_by request) (entries_of list.old.entries)
             → 0 < list.old.room → result ≢ NodeReply.NoMemory }
-        ensures stop { KeepsStop stop request result }
+        ensures stop { ObeysStop stop request result }
         ensures others { OthersStay node self.old.stations.items self.new.stations.items }
         ensures answered { IsAnswer result
             → HasAnswered (base_at (start_of N.records) node) node request result
@@ -113,16 +107,13 @@ impl<N: Named, D: Disk> Table<N, D> {
         list: &mut ClientList,
         node: NodeNo,
     ) -> Result<(), NoMemory>
-        requires turn { IsTurn N.board (length N.records)
-            (turn_of (seen_of self.old.board) self.old.stations.items pass.old list.old) }
+        requires turn { IsTurn N.board (length N.records) (turn_at self.old pass.old list.old) }
         requires node { node.0 < length N.records }
-        ensures turn { IsTurn N.board (length N.records)
-            (turn_of (seen_of self.new.board) self.new.stations.items pass.new list.new) }
-        ensures goes_on { GoesOn (turn_of
-            (seen_of self.old.board) self.old.stations.items pass.old list.old)
-            (turn_of (seen_of self.new.board) self.new.stations.items pass.new list.new) }
+        ensures turn { IsTurn N.board (length N.records) (turn_at self.new pass.new list.new) }
+        ensures goes_on { ExtendsLog (turn_at self.old pass.old list.old)
+            (turn_at self.new pass.new list.new) }
         ensures halts { Halts node self.old.stations.items result list.old list.new }
-        ensures none { OnErr result (Keeps list.old list.new) }
+        ensures none { OnErr result (KeepsList list.old list.new) }
     {
         // Whether the node is up shows by what its station has made.
         let station = &mut self.stations[usize::from(node.0)];
@@ -140,16 +131,13 @@ impl<N: Named, D: Disk> Table<N, D> {
         list: &mut ClientList,
         node: NodeNo,
     ) -> Result<(), RestartError>
-        requires turn { IsTurn N.board (length N.records)
-            (turn_of (seen_of self.old.board) self.old.stations.items pass.old list.old) }
+        requires turn { IsTurn N.board (length N.records) (turn_at self.old pass.old list.old) }
         requires node { node.0 < length N.records }
-        ensures turn { IsTurn N.board (length N.records)
-            (turn_of (seen_of self.new.board) self.new.stations.items pass.new list.new) }
-        ensures goes_on { GoesOn (turn_of
-            (seen_of self.old.board) self.old.stations.items pass.old list.old)
-            (turn_of (seen_of self.new.board) self.new.stations.items pass.new list.new) }
+        ensures turn { IsTurn N.board (length N.records) (turn_at self.new pass.new list.new) }
+        ensures goes_on { ExtendsLog (turn_at self.old pass.old list.old)
+            (turn_at self.new pass.new list.new) }
         ensures restarts { Restarts node self.old.stations.items result list.old list.new }
-        ensures none { OnErr result (Keeps list.old list.new) }
+        ensures none { OnErr result (KeepsList list.old list.new) }
         ensures was_down { OnErr result (IsDownAs true self.old.stations.items node) }
         ensures failed { IfErr result
             (λ e. IsCaused D.faults N.faults N.honest self.new.stations.items (cause_of node e)) }

@@ -64,9 +64,9 @@ fn a_snapshot_keeps_what_it_had(rt: HostRuntime) -> Result<(), Fail> {
     let refused = store.apply(alloc, &tx(alloc, b"main", put(alloc, b"k", b"w")?)?)?;
     assert!(rt; matches!(refused, Reply::Frozen));
     store.apply(alloc, &tx(alloc, b"next", put(alloc, b"k", b"w")?)?)?;
-    assert_eq!(rt; digest_of(alloc, &store, VersionNo(0))?, Some(K_IS_V));
-    assert_eq!(rt; digest_of(alloc, &store, VersionNo(1))?, Some(K_IS_W));
-    assert_eq!(rt; digest_of(alloc, &store, VersionNo(2))?, None);
+    assert!(rt; digest_of(alloc, &store, VersionNo(0))? == Some(K_IS_V));
+    assert!(rt; digest_of(alloc, &store, VersionNo(1))? == Some(K_IS_W));
+    assert!(rt; digest_of(alloc, &store, VersionNo(2))? == None);
     Ok(())
 }
 
@@ -85,6 +85,6 @@ fn the_65th_version_is_refused(rt: HostRuntime) -> Result<(), Fail> {
     assert!(rt; matches!(taken, Reply::NameTaken));
     let full = store.apply(alloc, &branch(alloc, b"main", b"w")?)?;
     assert!(rt; matches!(full, Reply::VersionsFull));
-    assert_eq!(rt; store.listing(alloc)?.as_slice().len(), MAX_VERSIONS);
+    assert!(rt; store.listing(alloc)?.as_slice().len() == MAX_VERSIONS);
     Ok(())
 }

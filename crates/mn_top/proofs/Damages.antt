@@ -3,7 +3,7 @@ use Rattle.std.proofs.Common.{◌≡◌, ℕ, List, refl, sym, subst, arith, inl
 use Rattle.std.specs.Prelude.{◌⊎◌}
 use Rattle.mn_io.specs.DiskModel.{DiskState, NoneNew, DiskStays, WritesNothing}
 use Rattle.mn_mini.specs.declared.record.Record.{Record}
-use Rattle.mn_node.specs.State.{AreRecords, IsFirstBad}
+use Rattle.mn_node.specs.State.{AreRecords, IsFirstBadBody}
 use Rattle.mn_node.specs.declared.start.StartCause.{StartCause}
 use Rattle.mn_node.specs.declared.start.StartCause.TheVariants as starts
 use Rattle.mn_redo.specs.Grammar.{AreInFront, IsDamaged, Stands}
@@ -55,7 +55,7 @@ module _ {D : Type 0} (state : D → DiskState) (faults : D → ℕ) (nodes k : 
   damaged_first bodies front are = record { unwritten = unwritten; due_is = (refl, λ h. inl (bodies, behind bodies front h, are)) }
 
   -- one of them is not
-  pub bad_first : (bodies : List (List ℕ)) (place : ℕ) → ((state disk).honest → IsDamaged k nodes (state disk).content at → AreInFront k nodes (state disk).content at bodies) → IsFirstBad bodies place
+  pub bad_first : (bodies : List (List ℕ)) (place : ℕ) → ((state disk).honest → IsDamaged k nodes (state disk).content at → AreInFront k nodes (state disk).content at bodies) → IsFirstBadBody bodies place
       → WasntRead state faults nodes k old new (dues.Damaged k place Log)
   bad_first bodies place front bad = record { unwritten = unwritten; due_is = (refl, λ h. inr (bodies, inr (at, behind bodies front h), bad)) }
 
@@ -71,7 +71,7 @@ module _ {D : Type 0} (state : D → DiskState) (faults : D → ℕ) (nodes k : 
 
 -- the log was read, and its bodies are not all records
 pub unread : {D : Type 0} (state : D → DiskState) (faults : D → ℕ) (nodes k : ℕ) (old : D) (disk : D) (bodies : List (List ℕ)) (cause : StartCause) → IsUnwritten (state old) (state disk) → ((state old).honest → Stands k nodes (state old).content bodies)
-    → ((at : ℕ) → cause ≡ starts.Damaged at → IsFirstBad bodies at) → (cause ≡ starts.Fault → ⊥) → WasntRead state faults nodes k old disk (due_of_starting k cause)
+    → ((at : ℕ) → cause ≡ starts.Damaged at → IsFirstBadBody bodies at) → (cause ≡ starts.Fault → ⊥) → WasntRead state faults nodes k old disk (due_of_starting k cause)
 unread state faults nodes k old disk bodies starts.Fault still stands bad none = absurd (none refl)
 unread state faults nodes k old disk bodies (starts.Damaged at) still stands bad none = record { unwritten = still; due_is = (refl, λ h. inr (bodies, inl (stands h), bad at refl)) }
 unread state faults nodes k old disk bodies starts.NoMemory still stands bad none = record { unwritten = still; due_is = tt }

@@ -2,7 +2,7 @@
 use Rattle.std.proofs.Common.{◌≡◌, ◌<◌, ◌+◌, ◌++◌, ◌∙◌, ℕ, zero, suc, List, [], ◌∷◌, length, map, drop, refl, ap, sym, subst, arith, inl, inr, Some, length-append, length-drop}
 use Rattle.std.specs.Prelude.{◌⊎◌, slice_get}
 use Rattle.std.proofs.lemmas.List.{length-map}
-use Rattle.mn_forest.proofs.Lists.{pushed_at}
+use Rattle.mn_flat.proofs.Lists.{pushed_at}
 use Rattle.mn_io.specs.DiskModel.{DiskState, IsDisk}
 use Rattle.mn_mini.specs.declared.record.Record.{Record}
 use Rattle.mn_redo.specs.Grammar.{Stands}

@@ -3,13 +3,13 @@ use Rattle.std.proofs.Common.{◌≡◌, ◌<◌, ◌+◌, ◌++◌, ◌∙◌, 
 use Rattle.std.specs.Prelude.{◌⊎◌, slice_get}
 use Rattle.std.specs.List.{AllByRecursion}
 use Rattle.std.proofs.lemmas.List.{length-map, map-append, reverse-append}
-use Rattle.mn_forest.proofs.Lists.{pushed_at}
+use Rattle.mn_flat.proofs.Lists.{pushed_at}
 use Rattle.mn_io.specs.DiskModel.{DiskState}
 use Rattle.mn_io.specs.Faults.{Rose}
 use Rattle.mn_mini.specs.declared.record.Record.{Record}
 use Rattle.mn_mini.specs.RecordGrammar.{IsRecord, record_bytes}
 use Rattle.mn_node.specs.Node.{StandsWithOrWithout, bodies_of}
-use Rattle.mn_node.specs.State.{AreRecords, IsFirstBad, NodeState, StandsForRecords}
+use Rattle.mn_node.specs.State.{AreRecords, IsFirstBadBody, NodeState, StandsForRecords}
 use Rattle.mn_node.specs.declared.start.StartCause.{StartCause}
 use Rattle.mn_node.specs.declared.start.StartCause.TheVariants as starts
 use Rattle.mn_redo.specs.Redo.{RedoState, StandsFor}
@@ -60,7 +60,7 @@ body_at [] number sound within = absurd (omega arith)
 body_at (r ∷ records) zero sound within = (r, sound.0, refl)
 body_at (r ∷ records) (suc number) sound within = body_at records number sound.1 (omega arith)
 
-none_bad : (bodies : List (List ℕ)) (records : List Record) (at : ℕ) → AreRecords bodies records → IsFirstBad bodies at → ⊥
+none_bad : (bodies : List (List ℕ)) (records : List Record) (at : ℕ) → AreRecords bodies records → IsFirstBadBody bodies at → ⊥
 none_bad bodies records at are bad =
     let there = body_at records bad.number are.sound (subst (λ (l : List (List ℕ)). bad.number < length l) are.bodies_are bad.within) in
     bad.bad there.0 (record { may = there.1; spelled = ap (λ (l : List (List ℕ)). get_or l bad.number []) are.bodies_are ∙ there.2 })
@@ -136,12 +136,12 @@ module _ {D : Type 0} (state : D → DiskState) (faults : D → ℕ) (redos : Li
         ∙ ap (λ (n : ℕ). slice_get (map (λ (n : NodeState D). n.disk) nodes ++ failed ∷ map (λ (r : RedoState D). r.disk) (drop (length nodes + 1) redos)) n) (sym count)
         ∙ seam (map (λ (n : NodeState D). n.disk) nodes) failed (map (λ (r : RedoState D). r.disk) (drop (length nodes + 1) redos))
 
-    due_at : (cause' : StartCause) → (cause' ≡ starts.Fault → Rose (faults redo.disk) (faults failed)) → ((place : ℕ) → cause' ≡ starts.Damaged place → IsFirstBad redo.bodies place) → IsDueAtStart faults redos disks (due_of_starting (length nodes) cause')
+    due_at : (cause' : StartCause) → (cause' ≡ starts.Fault → Rose (faults redo.disk) (faults failed)) → ((place : ℕ) → cause' ≡ starts.Damaged place → IsFirstBadBody redo.bodies place) → IsDueAtStart faults redos disks (due_of_starting (length nodes) cause')
     due_at starts.Fault rose bad = record { redo = redo; disk = failed; was = at; is = failed_at; rose = rose refl }
     due_at (starts.Damaged place) rose bad = absurd (none_bad redo.bodies (may (length nodes) redo at).list place (may (length nodes) redo at).records (bad place refl))
     due_at starts.NoMemory rose bad = tt
 
-    pub werent_started : (cause ≡ starts.Fault → Rose (faults redo.disk) (faults failed)) → ((place : ℕ) → cause ≡ starts.Damaged place → IsFirstBad redo.bodies place) → WerentStarted state faults redos disks (due_of_starting (length nodes) cause)
+    pub werent_started : (cause ≡ starts.Fault → Rose (faults redo.disk) (faults failed)) → ((place : ℕ) → cause ≡ starts.Damaged place → IsFirstBadBody redo.bodies place) → WerentStarted state faults redos disks (due_of_starting (length nodes) cause)
     werent_started rose bad = record {
       count =
           let low = within redos (length nodes) redo at in

@@ -3,8 +3,9 @@ use Rattle.std.specs.Prelude.{ℕ, ◌≡◌, ◌⊎◌, true, List, [], length,
 use Rattle.mn_base.specs.Store.{Store}
 use Rattle.mn_cell.specs.Calls.{numbered}
 use Rattle.mn_forest.specs.declared.error.ForestError.TheVariants as forest
-use Rattle.mn_forest.specs.declared.error.VoteError.TheVariants as vote
-use Rattle.mn_forest.specs.Refusal.{RefusesRecords, RefusesMemory}
+use Rattle.mn_flat.specs.declared.error.VoteError.TheVariants as vote
+use Rattle.mn_flat.specs.Refusal.{RefusesRecords}
+use Rattle.mn_forest.specs.Refusal.{RefusesMemory}
 use Rattle.mn_io.specs.DiskModel.{DiskState}
 use Rattle.mn_mini.specs.declared.record.Record.{Record}
 use Rattle.mn_replay.specs.Failed.{HadOther, RoseBeyond}

@@ -6,14 +6,14 @@ use Rattle.mn_cell.specs.declared.trace.RunCause.{RunCause}
 use Rattle.mn_cell.specs.declared.trace.RunCause.TheVariants as runs
 use Rattle.mn_forest.specs.declared.error.ForestError.{ForestError}
 use Rattle.mn_forest.specs.declared.error.ForestError.TheVariants as forest
-use Rattle.mn_forest.specs.declared.error.VoteError.{VoteError}
-use Rattle.mn_forest.specs.declared.error.VoteError.TheVariants as vote
+use Rattle.mn_flat.specs.declared.error.VoteError.{VoteError}
+use Rattle.mn_flat.specs.declared.error.VoteError.TheVariants as vote
 use Rattle.mn_hist.specs.Audit.{IsAudit}
 use Rattle.mn_io.specs.DiskModel.{DiskState}
 use Rattle.mn_io.specs.Faults.{Rose}
 use Rattle.mn_mini.specs.declared.record.Record.{Record}
 use Rattle.mn_node.specs.Node.{StandsWithOrWithout}
-use Rattle.mn_node.specs.State.{AreRecords, MayStart, NodeState, StandsForRecords}
+use Rattle.mn_node.specs.State.{AreRecords, HoldsPartsApart, NodeState, StandsForRecords}
 use Rattle.mn_node.specs.declared.start.StartCause.{StartCause}
 use Rattle.mn_node.specs.declared.start.StartCause.TheVariants as starts
 use Rattle.mn_redo.specs.Grammar.{IsDamaged, Stands}
@@ -124,7 +124,7 @@ due_of_forest forest.NoMemory = dues.NoMemory
 pub record MayBeStarted {D : Type 0} (state : D → DiskState) (redo : RedoState D) : Type 0 where
   pub going : redo.phase ≢ Closing
   pub some : 0 < redo.nodes
-  pub apart : MayStart redo.bodies
+  pub apart : HoldsPartsApart redo.bodies
   pub list : List Record
   pub records : AreRecords redo.bodies list
   pub stands : (state redo.disk).honest

@@ -6,7 +6,7 @@ use Rattle.mn_io.specs.DiskModel.{DiskState, NoneNew, WritesNothing}
 use Rattle.mn_mini.specs.declared.record.Record.{Record}
 use Rattle.mn_mini.specs.RecordGrammar.{IsRecord}
 use Rattle.mn_node.specs.Node.{bodies_of}
-use Rattle.mn_node.specs.State.{AreRecords, IsFirstBad}
+use Rattle.mn_node.specs.State.{AreRecords, IsFirstBadBody}
 use Rattle.mn_redo.specs.Grammar.{AreInFront, IsDamaged, Stands}
 use Rattle.mn_world.specs.Opened.{IsOpened}
 use Rattle.mn_world.specs.Protocol.{Start, base_at, run_number, start_nodes, start_records}
@@ -56,7 +56,7 @@ IsDamagedFirst nodes k content at =
 abbrev pub IsBadLog : ℕ → ℕ → DiskState → ℕ → Type 0
 IsBadLog nodes k disk at =
     disk.honest → IsDamagedFirst nodes k disk.content at
-    ⊎ ((bodies : List (List ℕ)) × Begins nodes k disk.content bodies × IsFirstBad bodies at)
+    ⊎ ((bodies : List (List ℕ)) × Begins nodes k disk.content bodies × IsFirstBadBody bodies at)
 
 -- that disk's log is bad there, and each disk before it reads as records
 pub record IsFirstBadLog {D : Type 0} (state : D → DiskState) (given : List D) (k at : ℕ)

@@ -4,7 +4,8 @@ use Rattle.std.specs.Prelude.{if◌then◌else◌}
 use Rattle.mn_base.specs.Store.{Store}
 use Rattle.mn_base.specs.declared.ids.NodeNo.{NodeNo}
 use Rattle.mn_cell.specs.Calls.{numbered}
-use Rattle.mn_cell.specs.Station.{AllStopAsTheyAdd, KeepsAsAsked, RoseBy, unasked}
+use Rattle.mn_cell.specs.Station.{AllStopWhereTheyWouldAdd, RestartsKeepRecordsAsAsked, RoseBy}
+use Rattle.mn_cell.specs.Station.{unasked}
 use Rattle.mn_hist.specs.Audit.{IsAudit}
 use Rattle.mn_io.specs.DiskModel.{DiskState}
 use Rattle.mn_io.specs.Faults.{Rose}
@@ -42,10 +43,11 @@ pub record IsLeft {D : Type 0} (state : D → DiskState) (faults : D → ℕ) (s
   pub honest : (state given).honest → (state left).honest
   pub stands : (state given).honest → StandsWithOrWithout (state left) n.0 (start_nodes start)
       (reverse (records_of start past n)) (left_behind start past n)
-  pub stops : AllStopAsTheyAdd (base_at start n) (start_records start n) (node_entries n past)
+  pub stops : AllStopWhereTheyWouldAdd (base_at start n) (start_records start n)
+      (node_entries n past)
   pub counted : RoseBy (unasked (node_entries n past)) (faults given) (faults left)
   pub kept : (state given).honest
-      → KeepsAsAsked (Rose (faults given) (faults left)) (node_entries n past)
+      → RestartsKeepRecordsAsAsked (Rose (faults given) (faults left)) (node_entries n past)
 
 -- each image of an honest disk stands for the node's records
 abbrev pub StandsAsLogged : {D : Type 0} → (D → DiskState) → Start → List Entry → NodeNo → D → D

@@ -1,8 +1,9 @@
 //! What is due where the disks can't be opened.
 ghost use Rattle.std.specs.Prelude.{◌≡◌, List, IfOk, MatchOption};
-ghost use Rattle.mn_forest.specs.Refusal.{IsLackOfMemory, IsWantOfMemory};
+ghost use Rattle.mn_flat.specs.Refusal.{IsWantOfMemory};
+ghost use Rattle.mn_forest.specs.Refusal.{IsLackOfMemory};
 ghost use Rattle.mn_mini.specs.declared.record.Record.{Record};
-ghost use Rattle.mn_node.specs.State.{AreRecords, IsFirstBad};
+ghost use Rattle.mn_node.specs.State.{AreRecords, IsFirstBadBody};
 ghost use Rattle.mn_top.specs.Logs.{WasRefused, WasntRead, due_of_starting, due_of_votes};
 ghost use Rattle.mn_top.specs.Logs.{due_of_forest};
 ghost use Rattle.mn_top.specs.declared.due.DamageRule.TheVariants.{Log};
@@ -11,7 +12,8 @@ ghost use Rattle.mn_redo.specs.declared.open.OpenCause.TheVariants as opens;
 
 use crate::due::{DamageRule, Due};
 use mn_base::{NoMemory, NodeNo};
-use mn_forest::{ForestError, VoteError};
+use mn_flat::VoteError;
+use mn_forest::ForestError;
 use mn_io::Disk;
 use mn_mini::{Record, RecordError};
 use mn_node::StartCause;
@@ -22,7 +24,7 @@ use std::alloc::Global;
 fn first_bad(alloc: Global, front: &Front) -> Result<Option<u64>, NoMemory>
     ensures { IfOk result (λ found.
         MatchOption found ((records : List Record) × AreRecords front.now records)
-        (IsFirstBad front.now)) }
+        (IsFirstBadBody front.now)) }
 {
     for number in 0..front.count() {
         match Record::read(alloc, front.body(number)) {

@@ -34,8 +34,8 @@ fn get_prints<T: Threads + Wait + Sync + Abort + AllocGlobal>(
     written: &str,
 ) -> Result<(), Fail> {
     let ran = replay(rt, GET, one_disk(rt.alloc(), content)?)?;
-    assert_eq!(rt; ran.sink.written(), written.as_bytes());
-    assert_eq!(rt; ran.outcome.status, status);
+    assert!(rt; ran.sink.written() == written.as_bytes());
+    assert!(rt; ran.outcome.status == status);
     Ok(())
 }
 
@@ -59,7 +59,7 @@ fn a_log_is_read_again(rt: HostRuntime) -> Result<(), Fail> {
         1, 0x4d, 0x4e, 0x4c, 0x4f, 0x47, 1, 0, 1, 0, 0, 0, 0, 0, 0, 0, 1, 0, 0, 0x08, 0x67, 2, 0,
         0, 0, 1, 0, 0, 0, 0, 2, 0, 3, 1, 0, 0, 0x50, 0, 0, 0, 4, 0,
     ];
-    assert_eq!(rt; bytes.len(), 2_173);
+    assert!(rt; bytes.len() == 2_173);
     assert!(rt; bytes.starts_with(&begin));
     for (length, gate, status, written) in [
         (2_173, 1, 0, V_IS_THERE),
@@ -140,9 +140,8 @@ fn fails_at<T: Threads + Wait + Sync + Abort + AllocGlobal>(
     disks.push(disk_of(alloc, &[], &[call])?)?;
     let mut ran = replay(rt, PUT_AND_GET, disks)?;
     // Three calls open the disk, eight write its header; then the put begins.
-    assert_eq!(rt;
-        ran.outcome.status,
-        if call < 11 { 5 } else { 0 },
+    assert!(rt;
+        ran.outcome.status == (if call < 11 { 5 } else { 0 }),
         "at call {call}"
     );
     let disk = ran
@@ -220,7 +219,7 @@ fn is_there_again<T: Threads + Wait + Sync + Abort + AllocGlobal>(
 ) -> Result<(), Fail> {
     let was_told = has_part(ran.sink.written(), reply);
     let again = replay(rt, GET_BOTH, mended(rt.alloc(), &ran.outcome.disks)?)?;
-    assert_eq!(rt; again.outcome.status, 0);
+    assert!(rt; again.outcome.status == 0);
     if was_told {
         assert!(rt; has_part(again.sink.written(), found));
     }
@@ -266,5 +265,51 @@ fn a_split_root_keeps_its_slot(rt: HostRuntime) -> Result<(), Fail> {
     let _node_1 = ran.outcome.disks.pop();
     let node_0 = ran.outcome.disks.pop().expect(&rt, "both are handed back");
     assert!(rt; has_part(node_0.content(), &root));
+    Ok(())
+}
+
+/// Nine puts, two children of `main`, and a put into each.
+const TWO_CHILDREN: &str =
+    "nodes 2\nclient s\nput main k1 v\nput main k2 v\nput main k3 v\nput main k4 v\nput main k5 v\nput main k6 v\nput main k7 v\nput main k8 v\nput main k9 v\nsnapshot main m2\nbranch main x\nput m2 k5 a\nput x k5 b\n";
+
+/// What is written to node 0 at last: the count, the entries of the three versions, the root and
+/// the right leaf of `main`, and the copies for `x`, which stand in the two slots behind them.
+const WRITTEN_TO_0: [&[u8]; 8] = [
+    b"\0\0\0\0\0\0\0\x04",
+    b"\0\0\0\0\0\0\0\x02\x02\xff\0\0\0\x04main\0",
+    b"\0\0\0\0\0\0\0\x01\x01\0\x01\0\x01\x02m2\0",
+    b"\0\0\0\0\0\0\0\x01\x01\0\0\0\x02\x01x\0",
+    b"\0\0\0\0\0\0\0\x0c\x02\0\x01\0\0\0\0\0\0\0\0\x06\0\0\x02\x01\0\0\x02k5\0\0\x01\0",
+    b"\0\0\0\0\0\0\0\x03\x01\0\0\0\0\0\0\0\0\0\0\x06\x02k5\0\x05\x02k5\x01v\x02k6\x01v",
+    b"\0\0\0\0\0\0\0\x02\x02\0\x01\x02\0\0\0\0\0\0\0\0\0\0\x02\x01\0\0\x02k5\0\0\x03\0",
+    b"\0\0\0\0\0\0\0\x01\x01\0\0\x02\0\0\0\0\0\0\0\0\x02k5\0\x05\x02k5\x01b\x02k6\x01v",
+];
+
+/// What is written to node 1 at last: the count, the left leaf of `main`, which all three share,
+/// and the copies for `m2`.
+const WRITTEN_TO_1: [&[u8]; 4] = [
+    b"\0\0\0\0\0\0\0\x03",
+    b"\0\0\0\0\0\0\0\x01\x01\0\0\0\0\0\0\0\0\0\0\0\0\x01\x02k5\x04\x02k1\x01v\x02k2\x01v",
+    b"\0\0\0\0\0\0\0\x02\x02\0\x01\x01\0\0\0\0\0\0\0\0\0\0\x02\x01\0\0\x02k5\x01\0\x02\0",
+    b"\0\0\0\0\0\0\0\x01\x01\0\0\x01\0\0\0\0\0\0\0\0\x02k5\0\x05\x02k5\x01a\x02k6\x01v",
+];
+
+/// The first of the parts that the bytes lack.
+fn first_lacking(bytes: &[u8], parts: &[&[u8]]) -> Option<usize> {
+    for (place, part) in parts.iter().enumerate() {
+        if !has_part(bytes, part) {
+            return Some(place);
+        }
+    }
+    None
+}
+
+#[test]
+fn versions_share_what_they_have_not_changed(rt: HostRuntime) -> Result<(), Fail> {
+    let mut ran = replay(&rt, TWO_CHILDREN, fresh_disks(rt.alloc(), 2)?)?;
+    let node_1 = ran.outcome.disks.pop().expect(&rt, "both are handed back");
+    let node_0 = ran.outcome.disks.pop().expect(&rt, "both are handed back");
+    assert!(rt; first_lacking(node_0.content(), &WRITTEN_TO_0) == None);
+    assert!(rt; first_lacking(node_1.content(), &WRITTEN_TO_1) == None);
     Ok(())
 }

@@ -89,12 +89,11 @@ pub fn prints<T: Threads + Wait + Sync + Abort + AllocGlobal>(
     written: &str,
 ) -> Result<(), Fail> {
     let ran = replay(rt, script, fresh_disks(rt.alloc(), nodes)?)?;
-    assert_eq!(rt;
-        ran.sink.written(),
-        written.as_bytes(),
+    assert!(rt;
+        ran.sink.written() == written.as_bytes(),
         "the text on {script:?}"
     );
-    assert_eq!(rt; ran.outcome.status, status, "the status on {script:?}");
-    assert_eq!(rt; ran.outcome.disks.len(), nodes);
+    assert!(rt; ran.outcome.status == status, "the status on {script:?}");
+    assert!(rt; ran.outcome.disks.len() == nodes);
     Ok(())
 }

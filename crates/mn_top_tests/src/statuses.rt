@@ -88,17 +88,13 @@ fn words_faults_and_wrong_disks_are_told_in_a_line(rt: HostRuntime) -> Result<()
     ] {
         let disks = fresh_disks(alloc, given)?;
         let ran = run(&rt, words, script, source_fails, sink_fails, disks)?;
-        assert_eq!(rt; ran.outcome.status, status, "the status on {words:?}");
-        assert_eq!(rt;
-            ran.sink.written(),
-            written.as_bytes(),
+        assert!(rt; ran.outcome.status == status, "the status on {words:?}");
+        assert!(rt;
+            ran.sink.written() == written.as_bytes(),
             "the text on {words:?}"
         );
-        assert_eq!(rt; ran.outcome.disks.len(), given);
-        assert_eq!(rt;
-            wanted(&words_of(alloc, words)?).is_some(),
-            status != 1 && words.len() > 1
-        );
+        assert!(rt; ran.outcome.disks.len() == given);
+        assert!(rt; wanted(&words_of(alloc, words)?).is_some() == (status != 1 && words.len() > 1));
     }
     Ok(())
 }

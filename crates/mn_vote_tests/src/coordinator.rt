@@ -1,6 +1,5 @@
-//! A coordinator over two nodes, fed each kind of reply; and the flat memory of two
-//! minitransactions.
-ghost use Rattle.std.specs.Prelude.{◌≡◌, ◌≤◌, true, false, MatchOption};
+//! A coordinator that is fed replies, step by step; and the flat memory of two minitransactions.
+ghost use Rattle.std.specs.Prelude.{◌≡◌, ◌≤◌, false};
 ghost use Rattle.mn_mini.specs.RecordGrammar.{IsTid};
 
 use mn_base::{Bytes, ClientNo, NodeNo, Nodes, Tid};
@@ -8,7 +7,6 @@ use mn_coord::{CoordStep, Coordinator};
 use mn_mini::{Item, Items, Minitransaction, NodeReply, Reads, Request, SPACE, Spaces};
 use mn_world::{Entry, Log, What, flat_after};
 use std::alloc::Global;
-use std::process::Abort;
 use std::test::Fail;
 
 fn tid(client: u8, serial: u32) -> Tid
@@ -42,146 +40,102 @@ fn done(alloc: Global) -> NodeReply {
     }
 }
 
-/// The kinds of reply that refuse a Prepare.
-fn refusals(alloc: Global) -> Result<Vec<NodeReply>, Fail> {
-    let mut replies = Vec::new(alloc);
-    replies.push(NodeReply::BadLock {
-        start: 20_480,
-        length: 1,
-        holder: tid(3, 7),
-    })?;
-    replies.push(NodeReply::BadCompare {
-        item: 0,
-        found: Bytes::from_vec(Vec::new(alloc)),
-    })?;
-    replies.push(NodeReply::BadForced)?;
-    replies.push(NodeReply::Down)?;
-    replies.push(NodeReply::NoMemory)?;
-    replies.push(NodeReply::Stopped)?;
-    Ok(replies)
-}
-
-fn is_prepare(request: &Request) -> bool {
-    matches!(request, Request::Prepare { .. })
-}
-
-fn is_decide(request: &Request, verdict: bool) -> bool {
-    match request {
-        Request::Decide { yes, .. } => *yes == verdict,
-        _ => false,
+/// The reply of this letter.
+fn reply_of(alloc: Global, letter: u8) -> NodeReply {
+    match letter {
+        b'd' => done(alloc),
+        b'l' => NodeReply::BadLock {
+            start: 20_480,
+            length: 1,
+            holder: tid(3, 7),
+        },
+        b'c' => NodeReply::BadCompare {
+            item: 0,
+            found: Bytes::from_vec(Vec::new(alloc)),
+        },
+        b'f' => NodeReply::BadForced,
+        b'w' => NodeReply::Down,
+        b'm' => NodeReply::NoMemory,
+        _ => NodeReply::Stopped,
     }
 }
 
-/// The request that is handed out next, if one is.
-fn sent(coordinator: &mut Coordinator) -> Option<(NodeNo, Request)>
+fn digit(node: NodeNo) -> u8 {
+    b'0' + (node.0 & 7)
+}
+
+/// P, X, Y or N: a Prepare, an Exec, a Decide with yes or with no.
+fn letter_of(request: &Request) -> u8 {
+    match request {
+        Request::Prepare { .. } => b'P',
+        Request::Exec { .. } => b'X',
+        Request::Decide { yes: true, .. } => b'Y',
+        Request::Decide { yes: false, .. } => b'N',
+        _ => b'?',
+    }
+}
+
+/// The next step: a request with its node, which is answered so; or that it is given up (A), or
+/// ends as committed (C), failed (F) or in doubt (D).
+fn step(coordinator: &mut Coordinator, reply: NodeReply) -> [u8; 2]
     requires { coordinator.old.asked ≡ false }
-    ensures { MatchOption result (coordinator.new.asked ≡ false)
-        (λ _. coordinator.new.asked ≡ true) }
+    ensures { coordinator.new.asked ≡ false }
 {
     match coordinator.next() {
-        CoordStep::Send { node, request } => Some((node, request)),
-        _ => None,
+        CoordStep::Send { node, request } => {
+            coordinator.feed(reply);
+            [letter_of(&request), digit(node)]
+        }
+        CoordStep::Abandon => *b"A ",
+        CoordStep::Committed => *b"C ",
+        CoordStep::Failed { node } => [b'F', digit(node)],
+        CoordStep::Doubt { node } => [b'D', digit(node)],
     }
 }
 
-fn is_abandon(coordinator: &mut Coordinator) -> bool
-    requires { coordinator.old.asked ≡ false }
-    ensures { result ≡ true → coordinator.new.asked ≡ false }
-{
-    matches!(coordinator.next(), CoordStep::Abandon)
-}
-
-/// The Prepares at two nodes: the first is answered Done, the second refused.
-fn refused_second(rt: &impl Abort, alloc: Global, reply: NodeReply) -> Result<(), Fail> {
-    let in_doubt = matches!(reply, NodeReply::Stopped);
-    let mut c = Coordinator::new(alloc, tid(0, 1), writes(alloc, &[0, 1], 20_480, 97)?)?;
-    let Some((node, request)) = sent(&mut c) else {
-        panic!(rt; "no Prepare");
-    };
-    assert!(rt; node == NodeNo(0) && is_prepare(&request));
-    c.feed(done(alloc));
-    let Some((node, request)) = sent(&mut c) else {
-        panic!(rt; "no second Prepare");
-    };
-    assert!(rt; node == NodeNo(1) && is_prepare(&request));
-    c.feed(reply);
-    if in_doubt {
-        assert!(rt; matches!(c.next(), CoordStep::Doubt { node: NodeNo(1) }));
-        return Ok(());
+/// The steps of a write at these nodes, with a letter for each: the reply, where it is a request.
+fn steps(alloc: Global, nodes: &[u8], replies: &[u8]) -> Result<Vec<u8>, Fail> {
+    let mut coordinator = Coordinator::new(alloc, tid(0, 1), writes(alloc, nodes, 20_480, 97)?)?;
+    let mut said = Vec::new(alloc);
+    for letter in replies {
+        said.extend_from_slice(&step(&mut coordinator, reply_of(alloc, *letter)))?;
     }
-    assert!(rt; is_abandon(&mut c));
-    let Some((node, request)) = sent(&mut c) else {
-        panic!(rt; "no Decide");
-    };
-    assert!(rt; node == NodeNo(0) && is_decide(&request, false));
-    c.feed(NodeReply::Down);
-    assert!(rt; matches!(c.next(), CoordStep::Failed { node: NodeNo(1) }));
-    Ok(())
+    Ok(said)
 }
 
-/// The first Prepare is refused: nothing is to be told.
-fn refused_first(rt: &impl Abort, alloc: Global, reply: NodeReply) -> Result<(), Fail> {
-    let mut c = Coordinator::new(alloc, tid(0, 1), writes(alloc, &[0, 1], 20_480, 97)?)?;
-    let Some((node, request)) = sent(&mut c) else {
-        panic!(rt; "no Prepare");
-    };
-    c.feed(reply);
-    assert!(rt; is_abandon(&mut c));
-    assert!(rt; matches!(c.next(), CoordStep::Failed { node: NodeNo(0) }));
-    Ok(())
-}
-
-/// One participant: one Exec.
-fn refused_exec(rt: &impl Abort, alloc: Global, reply: NodeReply) -> Result<(), Fail> {
-    let in_doubt = matches!(reply, NodeReply::Stopped);
-    let mut c = Coordinator::new(alloc, tid(0, 1), writes(alloc, &[1], 20_480, 97)?)?;
-    let Some((node, request)) = sent(&mut c) else {
-        panic!(rt; "no Exec");
-    };
-    assert!(rt; node == NodeNo(1) && matches!(request, Request::Exec { .. }));
-    c.feed(reply);
-    if in_doubt {
-        assert!(rt; matches!(c.next(), CoordStep::Doubt { node: NodeNo(1) }));
-    } else {
-        assert!(rt; matches!(c.next(), CoordStep::Failed { node: NodeNo(1) }));
-    }
-    Ok(())
-}
+/// Nodes, replies, and the steps.
+const ROWS: [(&[u8], &[u8], &[u8]); 19] = [
+    // All votes commit it, whatever becomes of the Decides.
+    (&[0, 1], b"ddss-", b"P0P1Y0Y1C "),
+    // The last Prepare is refused: the one that voted is told.
+    (&[0, 1], b"dl-w-", b"P0P1A N0F1"),
+    (&[0, 1], b"dc-w-", b"P0P1A N0F1"),
+    (&[0, 1], b"df-w-", b"P0P1A N0F1"),
+    (&[0, 1], b"dw-w-", b"P0P1A N0F1"),
+    (&[0, 1], b"dm-w-", b"P0P1A N0F1"),
+    // A stop inside it leaves a doubt.
+    (&[0, 1], b"ds-", b"P0P1D1"),
+    // The first Prepare is refused: nothing is to be told.
+    (&[0, 1], b"l--", b"P0A F0"),
+    (&[0, 1], b"c--", b"P0A F0"),
+    (&[0, 1], b"f--", b"P0A F0"),
+    (&[0, 1], b"w--", b"P0A F0"),
+    (&[0, 1], b"m--", b"P0A F0"),
+    (&[0, 1], b"s--", b"P0A F0"),
+    // One participant: one Exec.
+    (&[1], b"d-", b"X1C "),
+    (&[1], b"l-", b"X1F1"),
+    (&[1], b"c-", b"X1F1"),
+    (&[1], b"w-", b"X1F1"),
+    (&[1], b"m-", b"X1F1"),
+    (&[1], b"s-", b"X1D1"),
+];
 
 #[test]
-fn each_refusing_reply_ends_it(rt: HostRuntime) -> Result<(), Fail> {
-    for reply in refusals(rt.alloc())? {
-        refused_second(&rt, rt.alloc(), reply)?;
+fn each_reply_leads_to_its_end(rt: HostRuntime) -> Result<(), Fail> {
+    for (nodes, replies, said) in ROWS {
+        assert!(rt; steps(rt.alloc(), nodes, replies)?.as_slice() == said);
     }
-    for reply in refusals(rt.alloc())? {
-        refused_first(&rt, rt.alloc(), reply)?;
-    }
-    for reply in refusals(rt.alloc())? {
-        refused_exec(&rt, rt.alloc(), reply)?;
-    }
-    Ok(())
-}
-
-#[test]
-fn all_votes_commit_it(rt: HostRuntime) -> Result<(), Fail> {
-    let alloc = rt.alloc();
-    let mut c = Coordinator::new(alloc, tid(0, 1), writes(alloc, &[0, 1], 20_480, 97)?)?;
-    for n in 0..2 {
-        let Some((node, request)) = sent(&mut c) else {
-            panic!(&rt; "no Prepare");
-        };
-        assert!(rt; node == NodeNo(n) && is_prepare(&request));
-        c.feed(done(alloc));
-    }
-    for n in 0..2 {
-        let Some((node, request)) = sent(&mut c) else {
-            panic!(&rt; "no Decide");
-        };
-        assert!(rt; node == NodeNo(n) && is_decide(&request, true));
-        c.feed(NodeReply::Stopped);
-    }
-    assert!(rt; matches!(c.next(), CoordStep::Committed));
-    assert_eq!(rt; c.reads().len(), 2);
     Ok(())
 }
 
@@ -209,38 +163,51 @@ fn called(alloc: Global, client: u8, node: u8, request: Request) -> Entry {
     }
 }
 
-fn prepare(alloc: Global, mini: &Minitransaction, node: u8) -> Result<Request, Fail> {
+/// The first, which writes at both nodes.
+fn first(alloc: Global) -> Result<Minitransaction, Fail> {
+    writes(alloc, &[0, 1], 20_480, 97)
+}
+
+/// The second, which writes at node 0 alone.
+fn second(alloc: Global) -> Result<Minitransaction, Fail> {
+    writes(alloc, &[0], 21_504, 98)
+}
+
+/// The Prepare of the first at a node.
+fn prepare(alloc: Global, node: u8) -> Result<Request, Fail> {
     Ok(Request::Prepare {
         tid: tid(0, 1),
         participants: Nodes::from_vec([NodeNo(0), NodeNo(1)].to_vec(alloc)?),
-        part: mini.part(alloc, NodeNo(node))?,
+        part: first(alloc)?.part(alloc, NodeNo(node))?,
     })
 }
 
-/// Two issues, the first vote, and an Exec of the other: places 0 to 3.
-fn two_at_once(alloc: Global) -> Result<Vec<(u64, Entry)>, Fail> {
-    let a = writes(alloc, &[0, 1], 20_480, 97)?;
-    let b = writes(alloc, &[0], 21_504, 98)?;
-    let vote = prepare(alloc, &a, 0)?;
-    let exec = Request::Exec {
+/// The Exec of the second.
+fn exec(alloc: Global) -> Result<Request, Fail> {
+    Ok(Request::Exec {
         tid: tid(1, 1),
-        part: b.part(alloc, NodeNo(0))?,
-    };
-    let mut entries = Vec::new(alloc);
-    entries.push((0, issue(0, a)))?;
-    entries.push((1, issue(1, b)))?;
-    entries.push((2, called(alloc, 0, 0, vote)))?;
-    entries.push((3, called(alloc, 1, 0, exec)))?;
-    Ok(entries)
+        part: second(alloc)?.part(alloc, NodeNo(0))?,
+    })
 }
 
-/// The second vote at place 4 as well.
-fn both_voted(alloc: Global) -> Result<Vec<(u64, Entry)>, Fail> {
-    let mut entries = two_at_once(alloc)?;
-    let a = writes(alloc, &[0, 1], 20_480, 97)?;
-    let vote = prepare(alloc, &a, 1)?;
-    entries.push((4, called(alloc, 0, 1, vote)))?;
-    Ok(entries)
+/// Two issues, the first vote, the Exec of the other, and the second vote: places 0 to 4.
+fn entry_at(alloc: Global, place: u64) -> Result<Entry, Fail> {
+    match place {
+        0 => Ok(issue(0, first(alloc)?)),
+        1 => Ok(issue(1, second(alloc)?)),
+        2 => Ok(called(alloc, 0, 0, prepare(alloc, 0)?)),
+        3 => Ok(called(alloc, 1, 0, exec(alloc)?)),
+        _ => Ok(called(alloc, 0, 1, prepare(alloc, 1)?)),
+    }
+}
+
+/// The first entries, so many.
+fn log_of(alloc: Global, count: u64) -> Result<Log, Fail> {
+    let mut entries = Vec::new(alloc);
+    for place in 0..count {
+        entries.push((place, entry_at(alloc, place)?))?;
+    }
+    Ok(Log::from_vec(entries))
 }
 
 fn zeros(alloc: Global) -> Result<Spaces, Fail> {
@@ -255,16 +222,20 @@ fn byte_at(spaces: &Spaces, node: usize, at: usize) -> Option<u8> {
     spaces.as_slice().get(node)?.as_slice().get(at).copied()
 }
 
+/// What stands behind so many entries where the two write: the second on node 0, and the first on
+/// both.
+fn written(alloc: Global, count: u64) -> Result<[Option<u8>; 3], Fail> {
+    let spaces = flat_after(alloc, &zeros(alloc)?, &log_of(alloc, count)?)?;
+    Ok([
+        byte_at(&spaces, 0, 21_504),
+        byte_at(&spaces, 0, 20_480),
+        byte_at(&spaces, 1, 20_480),
+    ])
+}
+
 #[test]
 fn the_last_vote_is_the_commit(rt: HostRuntime) -> Result<(), Fail> {
-    let alloc = rt.alloc();
-    let before = flat_after(alloc, &zeros(alloc)?, &Log::from_vec(two_at_once(alloc)?))?;
-    assert_eq!(rt; byte_at(&before, 0, 21_504), Some(98));
-    assert_eq!(rt; byte_at(&before, 0, 20_480), Some(0));
-    assert_eq!(rt; byte_at(&before, 1, 20_480), Some(0));
-    let after = flat_after(alloc, &zeros(alloc)?, &Log::from_vec(both_voted(alloc)?))?;
-    assert_eq!(rt; byte_at(&after, 0, 21_504), Some(98));
-    assert_eq!(rt; byte_at(&after, 0, 20_480), Some(97));
-    assert_eq!(rt; byte_at(&after, 1, 20_480), Some(97));
+    assert!(rt; written(rt.alloc(), 4)? == [Some(98), Some(0), Some(0)]);
+    assert!(rt; written(rt.alloc(), 5)? == [Some(98), Some(97), Some(97)]);
     Ok(())
 }

@@ -5,8 +5,6 @@
 #[cfg(test)]
 mod coordinator;
 #[cfg(test)]
-mod flat_log;
-#[cfg(test)]
 mod recovery;
 #[cfg(test)]
 mod recovery_nodes;

@@ -7,7 +7,6 @@ use mn_coord::{CoordStep, Coordinator};
 use mn_mini::{Doubt, Doubts, Item, Items, Minitransaction, NodeReply, Reads, Request};
 use mn_recov::{RecovStep, Recoverer};
 use std::alloc::Global;
-use std::process::Abort;
 use std::test::Fail;
 
 /// What a node knows of the one id.
@@ -94,8 +93,10 @@ fn coordinate(alloc: Global, c: &mut Coordinator, nodes: &mut [OneId]) -> Result
     requires { c.old.asked ≡ false }
     ensures { OnOk result (c.new.asked ≡ false) }
 {
-    if let CoordStep::Send { node, request } = c.next() {
-        c.feed(call(alloc, nodes, node, &request)?);
+    match c.next() {
+        CoordStep::Send { node, request } => c.feed(call(alloc, nodes, node, &request)?),
+        CoordStep::Abandon | CoordStep::Committed => {}
+        CoordStep::Failed { node: _node } | CoordStep::Doubt { node: _node } => {}
     }
     Ok(())
 }
@@ -132,74 +133,92 @@ fn ended(r: &Recoverer) -> Option<Option<bool>> {
     }
 }
 
-#[test]
-fn the_race_that_a_force_wins(rt: HostRuntime) -> Result<(), Fail> {
-    let alloc = rt.alloc();
-    let mut nodes = [NOTHING, NOTHING];
-    let mut c = coordinator(alloc)?;
-    let mut one = Recoverer::new(alloc, tid(), 2)?;
-    let mut two = Recoverer::new(alloc, tid(), 2)?;
-    coordinate(alloc, &mut c, &mut nodes)?;
-    recover(alloc, &mut one, &mut nodes)?;
-    recover(alloc, &mut two, &mut nodes)?;
-    recover(alloc, &mut one, &mut nodes)?;
-    recover(alloc, &mut one, &mut nodes)?;
-    coordinate(alloc, &mut c, &mut nodes)?;
-    for _n in 0..3 {
-        recover(alloc, &mut two, &mut nodes)?;
-    }
-    assert!(rt; matches!(c.next(), CoordStep::Abandon));
-    coordinate(alloc, &mut c, &mut nodes)?;
-    for _n in 0..2 {
-        recover(alloc, &mut one, &mut nodes)?;
-        recover(alloc, &mut two, &mut nodes)?;
-    }
-    assert!(rt; matches!(c.next(), CoordStep::Failed { node: NodeNo(1) }));
-    assert_eq!(rt; ended(&one), Some(Some(false)));
-    assert_eq!(rt; ended(&two), Some(Some(false)));
-    assert!(rt; nodes[0].voted && nodes[0].decided == Some(false));
-    assert!(rt; nodes[1].forced && !nodes[1].voted);
-    Ok(())
-}
-
 /// The decision at a node, if one was made, is `verdict`; and a forced node has no vote.
 fn fits(node: &OneId, verdict: Option<bool>) -> bool {
     (node.decided.is_none() || node.decided == verdict) && !(node.forced && node.voted)
 }
 
-/// One order of the first eight calls, by the digits of `order` to base 3, and then one after
-/// another.
-fn race(rt: &impl Abort, alloc: Global, order: u32) -> Result<(), Fail> {
-    let mut nodes = [NOTHING, NOTHING];
-    let mut c = coordinator(alloc)?;
-    let mut one = Recoverer::new(alloc, tid(), 2)?;
-    let mut two = Recoverer::new(alloc, tid(), 2)?;
-    let mut rest = order;
-    for n in 0..32u32 {
-        let turn = if n < 8 { rest % 3 } else { n % 3 };
-        rest /= 3;
-        match turn {
-            0 => coordinate(alloc, &mut c, &mut nodes)?,
-            1 => recover(alloc, &mut one, &mut nodes)?,
-            _ => recover(alloc, &mut two, &mut nodes)?,
+/// How the coordinator ended.
+fn verdict_of(c: &mut Coordinator) -> Option<bool>
+    requires { c.old.asked ≡ false }
+{
+    let step = c.next();
+    if matches!(step, CoordStep::Committed) {
+        return Some(true);
+    }
+    if matches!(step, CoordStep::Failed { .. }) {
+        return Some(false);
+    }
+    None
+}
+
+/// A recovery ended so, or found nothing more to be decided.
+fn ended_so(r: &Recoverer, verdict: Option<bool>) -> bool {
+    let end = ended(r);
+    end == Some(None) || end == Some(verdict)
+}
+
+/// The three that race, and what the nodes know.
+#[derive(Drop)]
+struct Race {
+    nodes: [OneId; 2],
+    coordinator: Coordinator,
+    one: Recoverer,
+    two: Recoverer,
+}
+
+impl Race {
+    fn new(alloc: Global) -> Result<Self, Fail>
+        ensures { IfOk result (λ race. race.coordinator.asked ≡ false) }
+    {
+        Ok(Race {
+            nodes: [NOTHING, NOTHING],
+            coordinator: coordinator(alloc)?,
+            one: Recoverer::new(alloc, tid(), 2)?,
+            two: Recoverer::new(alloc, tid(), 2)?,
+        })
+    }
+
+    /// The turn of the coordinator, of one recovery, or of the other.
+    fn turn(&mut self, alloc: Global, number: u32) -> Result<(), Fail>
+        requires { self.old.coordinator.asked ≡ false }
+        ensures { OnOk result (self.new.coordinator.asked ≡ false) }
+    {
+        match number {
+            0 => coordinate(alloc, &mut self.coordinator, &mut self.nodes),
+            1 => recover(alloc, &mut self.one, &mut self.nodes),
+            _ => recover(alloc, &mut self.two, &mut self.nodes),
         }
     }
-    let verdict = match c.next() {
-        CoordStep::Committed => Some(true),
-        CoordStep::Failed { .. } => Some(false),
-        _ => None,
-    };
-    assert!(rt; verdict.is_some());
-    assert!(rt; fits(&nodes[0], verdict) && fits(&nodes[1], verdict));
-    assert!(rt; ended(&one) == Some(None) || ended(&one) == Some(verdict));
-    assert!(rt; ended(&two) == Some(None) || ended(&two) == Some(verdict));
-    Ok(())
+
+    /// Whether all three have ended in one way, which the nodes have too.
+    fn has_one_end(&mut self) -> bool
+        requires { self.old.coordinator.asked ≡ false }
+    {
+        let verdict = verdict_of(&mut self.coordinator);
+        if verdict.is_none() || !ended_so(&self.one, verdict) || !ended_so(&self.two, verdict) {
+            return false;
+        }
+        self.nodes.iter().all(|node| fits(node, verdict))
+    }
+}
+
+/// One order of the first eight calls, by the digits of `order` to base 3, and then one after
+/// another.
+fn is_one_way(alloc: Global, order: u32) -> Result<bool, Fail> {
+    let mut race = Race::new(alloc)?;
+    let mut rest = order;
+    for n in 0..32u32 {
+        race.turn(alloc, if n < 8 { rest % 3 } else { n % 3 })?;
+        rest /= 3;
+    }
+    Ok(race.has_one_end())
 }
 
 #[test]
 fn every_order_decides_one_way(rt: HostRuntime) -> Result<(), Fail> {
     for order in 0..6_561 {
-        race(&rt, rt.alloc(), order)?;
+        assert!(rt; is_one_way(rt.alloc(), order)?);
     }
     Ok(())
 }

@@ -3,7 +3,7 @@ ghost use Rattle.std.specs.Prelude.{◌≡◌, ◌≢◌, false, IfOk};
 ghost use Rattle.mn_mini.specs.RecordGrammar.{IsTid};
 ghost use Rattle.mn_mini.specs.Sound.{IsSoundRequest};
 ghost use Rattle.mn_redo.specs.declared.redo.Phase.TheVariants.{Closing};
-ghost use Rattle.mn_node.specs.State.{MayStart};
+ghost use Rattle.mn_node.specs.State.{HoldsPartsApart};
 
 use mn_base::{Bytes, ClientNo, NodeNo, Tid};
 use mn_coord::{CoordStep, Coordinator};
@@ -39,7 +39,7 @@ fn tid() -> Tid
 /// The log of a node of this number, of two, on a disk without a byte.
 fn empty_log(rt: &impl Abort, alloc: Global, number: u8) -> Result<Redo<MemoryDisk>, Fail>
     ensures going { IfOk result (λ redo. redo.phase ≢ Closing) }
-    ensures bodies { IfOk result (λ redo. MayStart redo.bodies) }
+    ensures bodies { IfOk result (λ redo. HoldsPartsApart redo.bodies) }
     ensures nodes { IfOk result (λ redo. redo.nodes ≡ 2) }
 {
     let disk = MemoryDisk::new(

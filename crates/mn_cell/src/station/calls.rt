@@ -1,5 +1,7 @@
 //! The calls of a station. Each is one entry of the node and the caller.
-ghost use Rattle.std.specs.Prelude.{◌≡◌, ◌≢◌, ◌≤◌, ◌<◌, ◌^◌, ◌+◌, ◌⊎◌, ℕ, List, Some, None, true, false, not, length, IfOk, IfErr, IfSome, IfNone, OnErr, OnOk, OnSome};
+ghost use Rattle.std.specs.Prelude.{◌≡◌, ◌≢◌, ◌≤◌, ◌<◌, ◌^◌, ◌+◌, ◌⊎◌, ℕ, List, Some, None, true};
+ghost use Rattle.std.specs.Prelude.{false, not, length, IfOk, IfErr, IfSome, IfNone, OnErr, OnOk};
+ghost use Rattle.std.specs.Prelude.{OnSome};
 ghost use Rattle.mn_mini.specs.Sound.{Fits, IsSoundRequest};
 ghost use Rattle.mn_mini.specs.declared.reply.NodeReply.{NodeReply as Reply};
 ghost use Rattle.mn_actors.specs.declared.actor.Actor.TheVariants.{Node as AtNode, Client};
@@ -12,9 +14,11 @@ ghost use Rattle.mn_node.specs.State.{response_to};
 ghost use Rattle.mn_world.specs.declared.entry.What.TheVariants.{Stopped, Restarted};
 ghost use Rattle.mn_world.specs.declared.entry.Entry.{Entry};
 ghost use Rattle.mn_world.specs.Run.{IsLegalBy, entries_of};
-ghost use Rattle.mn_cell.specs.Calls.{EndsBoth, HasLengths, IsLarge, IsLegalLine, IsUndamaged, KeepsStop, MaySend, entry_at, lengths_by, lengths_of, what_said};
-ghost use Rattle.mn_cell.specs.Passes.{AreOfOneLog, IsSame, OwnsJust};
-ghost use Rattle.mn_cell.specs.Promises.{HasPlace, IsOwed, IsOwedAt, decided_by, decided_in};
+ghost use Rattle.mn_cell.specs.Calls.{EndsBoth, HasLengths, IsLarge, IsLegalLine, IsUndamaged};
+ghost use Rattle.mn_cell.specs.Calls.{ObeysStop, MaySend, entry_at, lengths_by, lengths_of};
+ghost use Rattle.mn_cell.specs.Calls.{what_said};
+ghost use Rattle.mn_cell.specs.Passes.{AreOfOneLog, IsSameView, OwnsJust};
+ghost use Rattle.mn_cell.specs.Promises.{HasRoomForStep, IsOwed, IsOwedAt, decided_by, decided_in};
 ghost use Rattle.mn_cell.specs.Station.{IsAsBefore, RoseBy, unasked};
 
 use super::Station;
@@ -71,10 +75,12 @@ fn make_room(
     list: &mut ClientList,
     decided: Option<Tid>,
 ) -> Result<(), NoMemory>
-    ensures place { OnOk result (HasPlace own.new (Some list.old.client) decided) }
-    ensures short { OnOk result ((length own.new.entries < 2 ^ 58) × (length list.new.entries < 2 ^ 58)) }
+    ensures place { OnOk result (HasRoomForStep own.new (Some list.old.client) decided) }
+    ensures short { OnOk result ((length own.new.entries < 2 ^ 58)
+        × (length list.new.entries < 2 ^ 58)) }
     ensures room { OnOk result (0 < list.new.room) }
-    ensures owed { OnErr result (IsOwed (Some list.old.client) decided (entries_of own.old.entries) → 0 < list.old.room → ⊥) }
+    ensures owed { OnErr result (IsOwed (Some list.old.client) decided (entries_of own.old.entries)
+        → 0 < list.old.room → ⊥) }
     ensures own { own.new.entries ≡ own.old.entries }
     ensures client { list.new.client ≡ list.old.client }
     ensures entries { list.new.entries ≡ list.old.entries }
@@ -95,10 +101,13 @@ fn prepare(
     ensures request { IfOk result (λ spare. spare.request ≡ request.now) }
     ensures first { IfOk result (λ spare. lengths_of spare.first.items ≡ lengths_by request.now) }
     ensures second { IfOk result (λ spare. lengths_of spare.second.items ≡ lengths_by request.now) }
-    ensures place { OnOk result (HasPlace own.new (Some list.old.client) (decided_by request.now)) }
-    ensures short { OnOk result ((length own.new.entries < 2 ^ 58) × (length list.new.entries < 2 ^ 58)) }
+    ensures place { OnOk result (HasRoomForStep own.new (Some list.old.client)
+        (decided_by request.now)) }
+    ensures short { OnOk result ((length own.new.entries < 2 ^ 58)
+        × (length list.new.entries < 2 ^ 58)) }
     ensures room { OnOk result (0 < list.new.room) }
-    ensures owed { OnErr result (IsOwed (Some list.old.client) (decided_by request.now) (entries_of own.old.entries) → 0 < list.old.room → ⊥) }
+    ensures owed { OnErr result (IsOwed (Some list.old.client) (decided_by request.now)
+        (entries_of own.old.entries) → 0 < list.old.room → ⊥) }
     ensures own { own.new.entries ≡ own.old.entries }
     ensures client { list.new.client ≡ list.old.client }
     ensures entries { list.new.entries ≡ list.old.entries }
@@ -123,8 +132,10 @@ fn two_entries(
     requires first { lengths_of spare.first.items ≡ lengths_by request }
     requires second { lengths_of spare.second.items ≡ lengths_by request }
     requires lengths { HasLengths (lengths_by request) reply.now }
-    ensures one { IfSome result (λ made. made.0 ≡ entry_at number client (what_said request stop reply.now)) }
-    ensures two { IfSome result (λ made. made.1 ≡ entry_at number client (what_said request stop reply.now)) }
+    ensures one { IfSome result (λ made. made.0
+        ≡ entry_at number client (what_said request stop reply.now)) }
+    ensures two { IfSome result (λ made. made.1
+        ≡ entry_at number client (what_said request stop reply.now)) }
     ensures some { OnSome result (reply.now ≢ Reply.NoMemory) }
     ensures none { IfNone result ((reply.now ≡ Reply.NoMemory) ⊎ IsLarge reply.now) }
 {
@@ -184,18 +195,25 @@ fn enter(
     entries: (Entry, Entry),
 ) -> Pass<CoreLaw>
     requires board { (board_of own ≡ id_of board.now) × (board_of pass.old ≡ id_of board.now) }
-    requires owns { OwnsJust (view_of own) (AtNode number) × OwnsJust (view_of pass.old) (Client list.old.client) }
-    requires lists { (held (view_of own) (AtNode number) ≡ Some node_list.old.entries) × (held (view_of pass.old) (Client list.old.client) ≡ Some list.old.entries) }
+    requires owns { OwnsJust (view_of own) (AtNode number)
+        × OwnsJust (view_of pass.old) (Client list.old.client) }
+    requires lists { (held (view_of own) (AtNode number) ≡ Some node_list.old.entries)
+        × (held (view_of pass.old) (Client list.old.client) ≡ Some list.old.entries) }
     requires same { entries.1 ≡ entries.0 }
     requires actors { (entries.0.node ≡ Some number) × (entries.0.client ≡ Some list.old.client) }
     requires legal { IsLegalBy (entries_of list.old.entries) entries.0 }
-    requires place { HasPlace node_list.old (Some list.old.client) (decided_in entries.0.what) }
+    requires place { HasRoomForStep node_list.old (Some list.old.client)
+        (decided_in entries.0.what) }
     requires short { (length node_list.old.entries < 2 ^ 58) × (length list.old.entries < 2 ^ 58) }
     requires room { 0 < list.old.room }
     ensures board { (board_of result ≡ id_of board.now) × (board_of pass.new ≡ id_of board.now) }
-    ensures owns { OwnsJust (view_of result) (AtNode number) × OwnsJust (view_of pass.new) (Client list.old.client) }
-    ensures lists { (held (view_of result) (AtNode number) ≡ Some node_list.new.entries) × (held (view_of pass.new) (Client list.old.client) ≡ Some list.new.entries) }
-    ensures ends { EndsBoth (view_of pass.old).known (view_of result).known (view_of pass.new).known entries.0 node_list.old.entries node_list.new.entries list.old.entries list.new.entries }
+    ensures owns { OwnsJust (view_of result) (AtNode number)
+        × OwnsJust (view_of pass.new) (Client list.old.client) }
+    ensures lists { (held (view_of result) (AtNode number) ≡ Some node_list.new.entries)
+        × (held (view_of pass.new) (Client list.old.client) ≡ Some list.new.entries) }
+    ensures ends { EndsBoth (view_of pass.old).known (view_of result).known
+        (view_of pass.new).known entries.0 node_list.old.entries node_list.new.entries
+        list.old.entries list.new.entries }
     ensures client { list.new.client ≡ list.old.client }
     ensures room { list.old.room ≤ list.new.room + 1 }
 {
@@ -214,8 +232,11 @@ impl<N: Named, D: Disk> Station<N, D> {
         requires owns { OwnsJust (view_of pass.old) (Client client) }
         ensures same { self.new ≡ self.old }
         ensures board { board_of pass.new ≡ N.board }
-        ensures pass { IsSame (view_of pass.old) (view_of pass.new) × OwnsJust (view_of pass.new) (Client client) }
-        ensures one_log { (list : List (ℕ × Entry)) → held (view_of pass.old) (Client client) ≡ Some list → AreOfOneLog IsLegalLine self.old.number client self.old.list list }
+        ensures pass { IsSameView (view_of pass.old) (view_of pass.new)
+            × OwnsJust (view_of pass.new) (Client client) }
+        ensures one_log { (list : List (ℕ × Entry))
+            → held (view_of pass.old) (Client client) ≡ Some list
+            → AreOfOneLog IsLegalLine self.old.number client self.old.list list }
     {
         let Some(own) = self.pass.take() else {
             unreachable!()
@@ -251,19 +272,25 @@ impl<N: Named, D: Disk> Station<N, D> {
         ensures board { board_of pass.new ≡ N.board }
         ensures owns { OwnsJust (view_of pass.new) (Client list.old.client) }
         ensures list { held (view_of pass.new) (Client list.old.client) ≡ Some list.new.entries }
-        ensures said { result ≢ Reply.NoMemory → EndsBoth (view_of pass.old).known self.new.known (view_of pass.new).known (entry_at self.old.number list.old.client (what_said request stop result)) self.old.list self.new.list list.old.entries list.new.entries }
+        ensures said { result ≢ Reply.NoMemory
+            → EndsBoth (view_of pass.old).known self.new.known (view_of pass.new).known
+            (entry_at self.old.number list.old.client (what_said request stop result)) self.old.list
+            self.new.list list.old.entries list.new.entries }
         ensures before { result ≡ Reply.NoMemory → IsAsBefore self.old self.new }
-        ensures pass_before { result ≡ Reply.NoMemory → IsSame (view_of pass.old) (view_of pass.new) }
+        ensures pass_before { result ≡ Reply.NoMemory
+            → IsSameView (view_of pass.old) (view_of pass.new) }
         ensures list_before { result ≡ Reply.NoMemory → list.new.entries ≡ list.old.entries }
         ensures room { list.old.room ≤ list.new.room + 1 }
-        ensures owed { IsOwedAt self.old.number (decided_by request) (entries_of list.old.entries) → 0 < list.old.room → result ≢ Reply.NoMemory }
-        ensures stop { KeepsStop stop request result }
+        ensures owed { IsOwedAt self.old.number (decided_by request) (entries_of list.old.entries)
+            → 0 < list.old.room → result ≢ Reply.NoMemory }
+        ensures stop { ObeysStop stop request result }
 
         // A crash at any moment of the call leaves the node's records from before it, with the
         // answer's one record or without.
         ensures moments { self.old.node.down ≡ false → (D.state self.old.node.disk).honest
             → LeavesOnly (D.state self.old.node.disk) (D.state self.new.node.disk)
-            (IsWithOrWithout self.old.node.node self.old.node.nodes self.old.node.records (response_to self.old.node request).added) }
+            (IsWithOrWithout self.old.node.node self.old.node.nodes self.old.node.records
+            (response_to self.old.node request).added) }
     {
         let client = list.client();
         let _down = self.node.is_down();
@@ -303,9 +330,16 @@ impl<N: Named, D: Disk> Station<N, D> {
         ensures list { held (view_of pass.new) (Client list.old.client) ≡ Some list.new.entries }
         ensures exactly { IfOk result (λ halted. halted ≡ not self.old.node.down) }
         ensures down { OnOk result (self.new.node.down ≡ true) }
-        ensures halted { IfOk result (λ halted. halted ≡ true → EndsBoth (view_of pass.old).known self.new.known (view_of pass.new).known (entry_at self.old.number list.old.client (Stopped None None)) self.old.list self.new.list list.old.entries list.new.entries) }
-        ensures no_entry { IfOk result (λ halted. halted ≡ false → (self.new ≡ self.old) × (pass.new ≡ pass.old) × (list.new ≡ list.old)) }
-        ensures failed { OnErr result ((self.new ≡ self.old) × (pass.new ≡ pass.old) × (list.new.entries ≡ list.old.entries)) }
+        ensures halted { IfOk result
+            (λ halted. halted ≡ true → EndsBoth (view_of pass.old).known self.new.known
+            (view_of pass.new).known (entry_at self.old.number list.old.client (Stopped None None))
+            self.old.list self.new.list list.old.entries list.new.entries) }
+        ensures no_entry { IfOk result
+            (λ halted. halted ≡ false → (self.new ≡ self.old) × (pass.new ≡ pass.old)
+            × (list.new ≡ list.old)) }
+        ensures failed { OnErr result
+            ((self.new ≡ self.old) × (pass.new ≡ pass.old)
+            × (list.new.entries ≡ list.old.entries)) }
         ensures room { list.old.room ≤ list.new.room + 1 }
     {
         if self.node.is_down() {
@@ -349,19 +383,31 @@ impl<N: Named, D: Disk> Station<N, D> {
         ensures was_up { IfOk result (λ kept. IfNone kept (self.old.node.down ≡ false)) }
         ensures was_down { IfOk result (λ kept. OnSome kept (self.old.node.down ≡ true)) }
         ensures up { OnOk result (self.new.node.down ≡ false) }
-        ensures restarted { IfOk result (λ kept. IfSome kept (λ there. EndsBoth (view_of pass.old).known self.new.known (view_of pass.new).known (entry_at self.old.number list.old.client (Restarted there)) self.old.list self.new.list list.old.entries list.new.entries)) }
-        ensures no_entry { IfOk result (λ kept. IfNone kept ((self.new ≡ self.old) × (pass.new ≡ pass.old) × (list.new ≡ list.old))) }
-        ensures cause { IfErr result (FailsRestart D.state D.faults self.old.node.disk self.new.node.disk self.old.node.records self.old.node.pending) }
+        ensures restarted { IfOk result
+            (λ kept. IfSome kept (λ there.
+            EndsBoth (view_of pass.old).known self.new.known (view_of pass.new).known
+            (entry_at self.old.number list.old.client (Restarted there)) self.old.list self.new.list
+            list.old.entries list.new.entries)) }
+        ensures no_entry { IfOk result
+            (λ kept. IfNone kept ((self.new ≡ self.old) × (pass.new ≡ pass.old)
+            × (list.new ≡ list.old))) }
+        ensures cause { IfErr result
+            (FailsRestart D.state D.faults self.old.node.disk self.new.node.disk
+            self.old.node.records self.old.node.pending) }
         ensures fault { IfErr result (λ e. e ≡ RestartError.Fault
-            → RoseBy (unasked (entries_of self.new.list) + 1) (N.faults self.old.number.0) (D.faults self.new.node.disk)) }
+            → RoseBy (unasked (entries_of self.new.list) + 1) (N.faults self.old.number.0)
+            (D.faults self.new.node.disk)) }
         ensures undamaged { N.honest self.old.number.0 → IfErr result IsUndamaged }
 
         // A crash at any moment of the call leaves the node's records, with the one that may have
         // been there or without.
         ensures moments { (D.state self.old.node.disk).honest
             → LeavesOnly (D.state self.old.node.disk) (D.state self.new.node.disk)
-            (IsWithOrWithout self.old.node.node self.old.node.nodes self.old.node.records self.old.node.pending) }
-        ensures failed { OnErr result (IsAsBefore self.old self.new × (self.old.node.down ≡ true) × (pass.new ≡ pass.old) × (list.new.entries ≡ list.old.entries)) }
+            (IsWithOrWithout self.old.node.node self.old.node.nodes self.old.node.records
+            self.old.node.pending) }
+        ensures failed { OnErr result
+            (IsAsBefore self.old self.new × (self.old.node.down ≡ true) × (pass.new ≡ pass.old)
+            × (list.new.entries ≡ list.old.entries)) }
         ensures room { list.old.room ≤ list.new.room + 1 }
     {
         if !self.node.is_down() {

@@ -2,7 +2,7 @@ use Rattle.std.proofs.Common.{ℕ, ap, sym, subst, ◌∙◌}
 use Rattle.std.proofs.lemmas.Result.{err_from_is_err_and}
 use Rattle.mn_forest.specs.declared.error.ForestError.TheVariants.{Broken}
 use Rattle.mn_forest.specs.declared.error.Rule.TheVariants as rules
-use Rattle.mn_forest.specs.Votes.{numbered}
+use Rattle.mn_flat.specs.Votes.{numbered}
 use Rattle.mn_forest.specs.Rules.{OfEntry, OfRoot, HasEntryAt, HasRootAt}
 use Rattle.mn_forest.specs.Progress.{SaysFailed}
 use Rattle.mn_forest.proofs.Testing.{says_at, before_entry, before_root, fails_so, passes_so}

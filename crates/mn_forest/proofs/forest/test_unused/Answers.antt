@@ -4,7 +4,7 @@ use Rattle.mn_page.specs.Grammar.{IsUnused}
 use Rattle.mn_forest.specs.declared.error.ForestError.{ForestError}
 use Rattle.mn_forest.specs.declared.error.ForestError.TheVariants.{Broken}
 use Rattle.mn_forest.specs.declared.error.Rule.TheVariants as rules
-use Rattle.mn_forest.specs.Votes.{numbered}
+use Rattle.mn_flat.specs.Votes.{numbered}
 use Rattle.mn_forest.specs.Rules.{OfEntry, entry_place}
 use Rattle.mn_forest.specs.Progress.{SaysFailed}
 use Rattle.mn_forest.proofs.Testing.{says_at, before_entry, unused_at, used_at, fails_so, passes_so}

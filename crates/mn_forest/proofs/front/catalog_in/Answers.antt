@@ -2,7 +2,7 @@ use Rattle.std.proofs.Common.{◌≡◌, ◌+◌, ◌⊎◌, inl, inr, ℕ, List
 use Rattle.std.proofs.lemmas.List.{length_push}
 use Rattle.mn_page.specs.declared.entry.CatEntry.{CatEntry}
 use Rattle.mn_forest.specs.Rules.{ReadsAs, entry_place}
-use Rattle.mn_forest.proofs.Lists.{pushed_at}
+use Rattle.mn_flat.proofs.Lists.{pushed_at}
 use Rattle.mn_forest.proofs.front.catalog_in.Goals as goal
 
 pub loop-entry-preserved : goal.loop-entry-preserved

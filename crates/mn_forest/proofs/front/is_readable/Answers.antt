@@ -1,7 +1,7 @@
 use Rattle.std.proofs.Common.{◌≡◌, ◌<◌, length, arith, Option, Some, None, slice_get, ap, ◌∙◌}
 use Rattle.mn_page.specs.declared.entry.CatEntry.{CatEntry}
 use Rattle.mn_forest.specs.Rules.{entry_place}
-use Rattle.mn_forest.proofs.Lists.{at_place}
+use Rattle.mn_flat.proofs.Lists.{at_place}
 use Rattle.mn_forest.proofs.Fronts.{unused_readable}
 use Rattle.mn_forest.proofs.front.is_readable.Goals as goal
 

@@ -2,7 +2,7 @@ use Rattle.std.proofs.Common.{◌≡◌, Some, arith, slice_get, below_more}
 use Rattle.mn_page.specs.Forest.{ChildRange, children_of}
 use Rattle.mn_page.proofs.Grid.{all_by_place}
 use Rattle.mn_forest.specs.Rules.{IsChildAt}
-use Rattle.mn_forest.proofs.Lists.{place_in}
+use Rattle.mn_flat.proofs.Lists.{place_in}
 use Rattle.mn_forest.proofs.Testing.{fails_so, passes_so}
 use Rattle.mn_forest.proofs.ChildTests.{no_child}
 use Rattle.mn_forest.proofs.pages.are_children.Goals as goal

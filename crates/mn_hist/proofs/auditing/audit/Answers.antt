@@ -8,7 +8,7 @@ use Rattle.mn_world.specs.Run.{entries_of}
 use Rattle.mn_hist.specs.Audit.{answers_from, doubts_from, ranked_as, said_by, versions_told}
 use Rattle.mn_hist.specs.History.{stands}
 use Rattle.mn_hist.specs.Points.{points_met}
-use Rattle.mn_hist.specs.Saying.{Says, said_kept}
+use Rattle.mn_hist.specs.Saying.{TellsAnswers, said_kept}
 use Rattle.mn_hist.proofs.Reported.{report_is, can_report}
 use Rattle.mn_hist.proofs.Said.{answers_same, doubts_same}
 use Rattle.mn_hist.proofs.auditing.audit.Goals as goal
@@ -20,7 +20,7 @@ returns-clause-audit c = λ from h.
     let clients = c.clients-clients.result.now in
     let said = c.in_ok-said.said in
     let ends = c.in_ok-ending.ensures from h in
-    let says : Says said past = subst (λ (l : List (ℕ × Entry)). Says said (entries_of l)) c.as_slice-entries.ensures c.in_ok-said.ensures in
+    let says : TellsAnswers said past = subst (λ (l : List (ℕ × Entry)). TellsAnswers said (entries_of l)) c.as_slice-entries.ensures c.in_ok-said.ensures in
     let stood = λ (k : ClientNo) (n : ℕ). has_past k n ends.0 in
     record {
       placed = ends.0;
@@ -39,7 +39,7 @@ pub returns-clause-can_report : goal.returns-clause-can_report
 returns-clause-can_report c = λ from h.
     let past = entries_of c.args.log.now in
     let said = c.in_ok-said.said in
-    let says : Says said past = subst (λ (l : List (ℕ × Entry)). Says said (entries_of l)) c.as_slice-entries.ensures c.in_ok-said.ensures in
+    let says : TellsAnswers said past = subst (λ (l : List (ℕ × Entry)). TellsAnswers said (entries_of l)) c.as_slice-entries.ensures c.in_ok-said.ensures in
     can_report from c.args.start.now c.args.script.now past
     (record { answers = c.in_ok-answers.answers; history = c.in_ok-history.history; doubts = c.in_ok-doubts.doubts; points = c.from_vec.result; versions = c.in_ok-versions.versions }) h
     (c.in_ok-answers.ensures ∙ (answers_same (said_kept said) (said_by past) says 0 c.clients-clients.result.now ∙ ap (answers_from (said_by past) 0) c.clients-clients.ensures.value))

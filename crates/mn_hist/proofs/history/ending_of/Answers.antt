@@ -5,14 +5,14 @@ use Rattle.mn_world.specs.declared.entry.Entry.{Entry}
 use Rattle.mn_world.specs.History.{Placed, pasts_of}
 use Rattle.mn_world.specs.Run.{IsRun, entries_of}
 use Rattle.mn_hist.specs.History.{acts_in, done_from}
-use Rattle.mn_hist.specs.Told.{HasTold}
+use Rattle.mn_hist.specs.Told.{ReaderHasTold}
 use Rattle.mn_hist.proofs.Joining.{told_whole}
 use Rattle.mn_hist.proofs.history.ending_of.Goals as goal
 
 pub returns : goal.returns
 returns c = λ from run.
     let log_is = c.as_slice.ensures in
-    let told = subst (λ (l : List (ℕ × Entry)). (placed : List Placed) × HasTold c.in_ok-reader.reader (entries_of l) placed) log_is (c.in_ok-reader.ensures from (subst (λ (l : List (ℕ × Entry)). IsRun from (entries_of l)) (sym log_is) run.run)) in
+    let told = subst (λ (l : List (ℕ × Entry)). (placed : List Placed) × ReaderHasTold c.in_ok-reader.reader (entries_of l) placed) log_is (c.in_ok-reader.ensures from (subst (λ (l : List (ℕ × Entry)). IsRun from (entries_of l)) (sym log_is) run.run)) in
     let start = c.args.start.now in
     let one = c.runs_are_one_history.ensures from start (entries_of c.args.log.now) told.0 (record { opened = run; history = told.1.history }) in
     let slots = c.deref.result.now in

@@ -1,5 +1,5 @@
 use Rattle.std.proofs.Common.{◌≡◌, ap, sym, ◌∙◌}
-use Rattle.mn_hist.specs.History.{Planner, begun_by, state_of}
+use Rattle.mn_hist.specs.History.{Planner, begun_by, caller_state}
 use Rattle.mn_hist.proofs.Joining.{begun_there, no_issue, one_issue}
 use Rattle.mn_hist.proofs.Putting.{on_ok}
 use Rattle.mn_hist.proofs.history.note_issue.Goals.{in-Some, in-None}
@@ -10,7 +10,7 @@ returns c = on_ok c.note_planner.result c.note_planner.ensures (λ more past are
     let planner : Planner = record { client = c.args.entry.now.client; begun = c.match-entry-2.begun } in
     let who : c.match-entry-2.begun ≡ begun_by c.args.entry.now.client past =
     elim c.match-entry-2.branch [
-      | in-Some w ↦ w.begun-is ∙ (w.begun_by-begun.ensures.begun (state_of w.in-Some.client past) (are w.in-Some.client w.begun_by-begun.ensures.few) ∙ (begun_there past w.in-Some.client ∙ ap (λ o. begun_by o past) (sym w.in-Some.is)))
+      | in-Some w ↦ w.begun-is ∙ (w.begun_by-begun.ensures.begun (caller_state w.in-Some.client past) (are w.in-Some.client w.begun_by-begun.ensures.few) ∙ (begun_there past w.in-Some.client ∙ ap (λ o. begun_by o past) (sym w.in-Some.is)))
       | in-None w ↦ w.begun-is ∙ ap (λ o. begun_by o past) (sym w.in-None.is)
     ] in
     one_issue c.args.plans.now c.note_planner.new.plans past c.args.entry.now c.in-Issue.tid c.in-Issue.mini (record { client = c.args.entry.now.client; begun = c.match-entry-2.begun }) c.in-Issue.is

@@ -3,12 +3,12 @@ use Rattle.mn_world.specs.declared.entry.Entry.{Entry}
 use Rattle.mn_world.specs.History.{Placed}
 use Rattle.mn_world.specs.Protocol.{Start}
 use Rattle.mn_world.specs.Run.{IsRun, entries_of}
-use Rattle.mn_hist.specs.Told.{IsReading, HasTold}
+use Rattle.mn_hist.specs.Told.{ReaderHasRead, ReaderHasTold}
 use Rattle.mn_hist.proofs.history.read_log.Given as goal
 
 -- the entries so far are read, and their history is told
 abbrev pub invariant-loop-entry : goal.invariant-loop-entry
 invariant-loop-entry l = record {
-  reads : IsReading l.reader (entries_of (take l.entry-index l.log));
-  tells : (start : Start) → IsRun start (entries_of (take l.entry-index l.log)) → (placed : List Placed) × HasTold l.reader (entries_of (take l.entry-index l.log)) placed;
+  reads : ReaderHasRead l.reader (entries_of (take l.entry-index l.log));
+  tells : (start : Start) → IsRun start (entries_of (take l.entry-index l.log)) → (placed : List Placed) × ReaderHasTold l.reader (entries_of (take l.entry-index l.log)) placed;
 }

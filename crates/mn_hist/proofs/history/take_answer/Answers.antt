@@ -3,7 +3,7 @@ use Rattle.std.specs.Prelude.{slice_get, slice_set}
 use Rattle.mn_base.specs.declared.answer.Answer.{Answer}
 use Rattle.mn_world.specs.Calls.{Begun}
 use Rattle.mn_world.specs.History.{AnswerPuts}
-use Rattle.mn_hist.specs.History.{Act, CallerState, Note, IsNotedPlace, Puts, state_of}
+use Rattle.mn_hist.specs.History.{Act, CallerState, Note, IsNotedPlace, AnswerIsInHistory, caller_state}
 use Rattle.mn_hist.proofs.Putting.{on_ok, at_index, length_set, puts_none, idle_puts, stands_already, puts_read}
 use Rattle.mn_hist.proofs.history.take_answer.Goals as goal
 
@@ -11,7 +11,7 @@ pub returns-in_default-begun : goal.returns-in_default-begun
 returns-in_default-begun c = λ past placed are st fills.
     let few : c.args.client.0 < 256 = omega arith in
     let there = are c.args.client few in
-    let same = at_index c.args.callers.now c.args.client.0 c.index-callers-from.result (state_of c.args.client past) (subst (λ i. c.index-callers-from.result ≡ Rattle.std.specs.Prelude.slice_index_or c.args.callers.now i c.index-callers-from.result) c.from.ensures c.index-callers-from.is) there in
+    let same = at_index c.args.callers.now c.args.client.0 c.index-callers-from.result (caller_state c.args.client past) (subst (λ i. c.index-callers-from.result ≡ Rattle.std.specs.Prelude.slice_index_or c.args.callers.now i c.index-callers-from.result) c.from.ensures c.index-callers-from.is) there in
     puts_none past c.args.client c.args.answer.now placed c.args.standing.now c.args.slots.now.items
     (idle_puts past c.args.client c.args.answer.now placed (sym (ap (λ (s : CallerState). s.begun) (c.caller.view_is ∙ same)) ∙ c.in_default-begun.is)) st fills
 
@@ -19,9 +19,9 @@ pub returns-then-is_standing : goal.returns-then-is_standing
 returns-then-is_standing c = λ past placed are st fills.
     let few : c.args.client.0 < 256 = omega arith in
     let there = are c.args.client few in
-    let same = at_index c.args.callers.now c.args.client.0 c.index-callers-from.result (state_of c.args.client past) (subst (λ i. c.index-callers-from.result ≡ Rattle.std.specs.Prelude.slice_index_or c.args.callers.now i c.index-callers-from.result) c.from.ensures c.index-callers-from.is) there in
+    let same = at_index c.args.callers.now c.args.client.0 c.index-callers-from.result (caller_state c.args.client past) (subst (λ i. c.index-callers-from.result ≡ Rattle.std.specs.Prelude.slice_index_or c.args.callers.now i c.index-callers-from.result) c.from.ensures c.index-callers-from.is) there in
     let begun : Begun = record { number = c.begun.inside.number; op = c.begun.inside.op.now } in
-    subst (λ (a : Answer). Puts past c.args.client a placed c.args.standing.now c.args.slots.now.items c.args.slots.now.items) (sym c.in-Replied.is)
+    subst (λ (a : Answer). AnswerIsInHistory past c.args.client a placed c.args.standing.now c.args.slots.now.items c.args.slots.now.items) (sym c.in-Replied.is)
     (puts_none past c.args.client (Rattle.mn_base.specs.declared.answer.Answer.TheVariants.Replied c.in-Replied.reply) placed c.args.standing.now c.args.slots.now.items
     (stands_already past c.args.client (record { number = c.begun.inside.number; op = c.begun.inside.op.now }) c.in-Replied.reply placed
     (sym (ap (λ (s : CallerState). s.begun) (c.caller.view_is ∙ same)) ∙ (c.in-Some.is ∙ ap Some (sym c.begun.view_is)))
@@ -31,8 +31,8 @@ pub returns : goal.returns
 returns c = on_ok c.note_standing.result c.note_standing.ensures (λ more past placed are st fills.
     let few : c.args.client.0 < 256 = omega arith in
     let there = are c.args.client few in
-    let same = at_index c.args.callers.now c.args.client.0 c.index-callers-from.result (state_of c.args.client past) (subst (λ i. c.index-callers-from.result ≡ Rattle.std.specs.Prelude.slice_index_or c.args.callers.now i c.index-callers-from.result) c.from.ensures c.index-callers-from.is) there in
-    subst (λ (a : Answer). Puts past c.args.client a placed c.note_standing.new.standing c.args.slots.now.items c.put.new.slots.items) (sym c.in-Replied.is)
+    let same = at_index c.args.callers.now c.args.client.0 c.index-callers-from.result (caller_state c.args.client past) (subst (λ i. c.index-callers-from.result ≡ Rattle.std.specs.Prelude.slice_index_or c.args.callers.now i c.index-callers-from.result) c.from.ensures c.index-callers-from.is) there in
+    subst (λ (a : Answer). AnswerIsInHistory past c.args.client a placed c.note_standing.new.standing c.args.slots.now.items c.put.new.slots.items) (sym c.in-Replied.is)
     (puts_read past c.args.client (record { number = c.begun.inside.number; op = c.begun.inside.op.now }) c.in-Replied.reply placed c.args.standing.now c.note_standing.new.standing c.args.slots.now.items c.put.new.slots.items c.in_ok-place.place
     (sym (ap (λ (s : CallerState). s.begun) (c.caller.view_is ∙ same)) ∙ (c.in-Some.is ∙ ap Some (sym c.begun.view_is)))
     (sym (st c.args.client c.begun.inside.number) ∙ (sym c.is_standing.ensures ∙ c.if-is_standing.false))

@@ -2,7 +2,7 @@ use Rattle.std.proofs.Common.{List, take, ap, subst, sym, ◌∙◌}
 use Rattle.mn_world.specs.declared.entry.Entry.{Entry}
 use Rattle.mn_world.specs.Run.{entries_of}
 use Rattle.mn_hist.specs.Points.{points_met}
-use Rattle.mn_hist.specs.Watching.{Watches}
+use Rattle.mn_hist.specs.Watching.{TellsPointsMet}
 use Rattle.mn_hist.proofs.Joining.{one_more, take_whole}
 use Rattle.mn_hist.proofs.points.points_met.Goals as goal
 
@@ -14,7 +14,7 @@ loop-entry-preserved c =
     let more = one_more c.args.log.now c.loop-entry.entry-index c.loop-entry-item.result c.loop-entry-test.true c.loop-entry-item.is in
     record {
       is = c.in_ok-note.ensures.is;
-      watches = subst (λ (l : List Entry). Watches c.note.new.self c.args.points.now l) (sym more)
+      watches = subst (λ (l : List Entry). TellsPointsMet c.note.new.self c.args.points.now l) (sym more)
           (c.in_ok-note.ensures.watches (entries_of (take c.loop-entry.entry-index c.args.log.now)) c.loop-entry.invariant.watches);
     }
 

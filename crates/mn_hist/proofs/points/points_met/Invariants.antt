@@ -1,11 +1,11 @@
 use Rattle.std.proofs.Common.{take}
 use Rattle.mn_world.specs.Run.{entries_of}
-use Rattle.mn_hist.specs.Watching.{IsWatch, Watches}
+use Rattle.mn_hist.specs.Watching.{IsWatchOf, TellsPointsMet}
 use Rattle.mn_hist.proofs.points.points_met.Given as goal
 
 -- the points that the entries so far met are told
 abbrev pub invariant-loop-entry : goal.invariant-loop-entry
 invariant-loop-entry l = record {
-  is : IsWatch l.watch l.points;
-  watches : Watches l.watch l.points (entries_of (take l.entry-index l.log));
+  is : IsWatchOf l.watch l.points;
+  watches : TellsPointsMet l.watch l.points (entries_of (take l.entry-index l.log));
 }

@@ -1,4 +1,4 @@
-use Rattle.std.proofs.Common.{◌≡◌, Bool, false, true, List, ℕ, ap, sym, ◌∙◌, if◌then◌else◌}
+use Rattle.std.proofs.Common.{◌≡◌, Bool, false, true, List, ap, sym, ◌∙◌, if◌then◌else◌}
 use Rattle.mn_base.specs.Ids.{tid_same}
 use Rattle.mn_base.specs.declared.ids.Tid.{Tid}
 use Rattle.mn_mini.specs.declared.part.PartItem.{PartItem}

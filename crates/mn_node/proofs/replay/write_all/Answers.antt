@@ -1,8 +1,8 @@
-use Rattle.std.proofs.Common.{◌≡◌, ◌+◌, ◌++◌, ◌∷◌, [], List, take, reverse, ap, sym, subst, ◌∙◌}
+use Rattle.std.proofs.Common.{◌≡◌, ◌+◌, ◌++◌, ◌∷◌, [], List, take, ap, sym, subst, ◌∙◌}
 use Rattle.std.proofs.lemmas.List.{take_more}
 use Rattle.mn_mini.specs.declared.record.Record.{Record}
 use Rattle.mn_mini.specs.Node.{space_of}
-use Rattle.mn_node.specs.Held.{AreHeld}
+use Rattle.mn_node.specs.Held.{AreHeldVotes}
 use Rattle.mn_node.proofs.Replayed.{next_record}
 use Rattle.mn_node.proofs.replay.write_all.Goals as goal
 
@@ -15,5 +15,5 @@ loop-number-preserved c =
     record {
       size = c.apply.auto.space ∙ c.loop-number.invariant.size;
       written = c.in_ok-apply.ensures.space c.args.space.now c.loop-number.invariant.written ∙ sym (ap (λ (l : List Record). space_of c.args.space.now l) (next_record records n r c.loop-number-test.true c.index-records-number.is));
-      held = subst (λ (l : List Record). AreHeld l c.apply.new.held.items) (sym more) c.in_ok-apply.ensures.held;
+      held = subst (λ (l : List Record). AreHeldVotes l c.apply.new.held.items) (sym more) c.in_ok-apply.ensures.held;
     }

@@ -1,7 +1,7 @@
 use Rattle.std.proofs.Common.{◌≡◌, length, take, reverse}
 use Rattle.mn_mini.specs.Mini.{space_size}
 use Rattle.mn_mini.specs.Node.{space_of}
-use Rattle.mn_node.specs.Held.{AreHeld}
+use Rattle.mn_node.specs.Held.{AreHeldVotes}
 use Rattle.mn_node.proofs.replay.write_all.Given as goal
 
 -- the first records are written, and their held votes are noted
@@ -9,5 +9,5 @@ abbrev pub invariant-loop-number : goal.invariant-loop-number
 invariant-loop-number l = record {
   size : length l.space ≡ space_size;
   written : l.space ≡ space_of l.initial.space (reverse (take l.number l.records));
-  held : AreHeld (take l.number l.records) l.held.items;
+  held : AreHeldVotes (take l.number l.records) l.held.items;
 }

@@ -2,7 +2,7 @@ use Rattle.std.proofs.Common.{List, inr, refl, Err, ap, sym, subst}
 use Rattle.mn_mini.specs.declared.record.Record.{Record}
 use Rattle.mn_node.specs.declared.restart.RestartError.{RestartError}
 use Rattle.mn_node.specs.Node.{added_to, bodies_of}
-use Rattle.mn_node.specs.Restart.{Compares, FailsRestart, IsListed}
+use Rattle.mn_node.specs.Restart.{TellsOtherRecords, FailsRestart, AreBodiesWithOrWithout}
 use Rattle.mn_node.proofs.Moments.{listed_stands, moved, still_stands, woken}
 use Rattle.mn_node.proofs.Restarts.{no_damage, not_opened, neither, not_listed}
 use Rattle.mn_node.proofs.restart.back.Goals as goal
@@ -23,7 +23,7 @@ returns-in-Err-compare-clause-cause g c =
     let new = c.reopen.new.self in
     let records = c.args.memory.now.records.items in
     let content = (g.D.Disk.state old.disk).content in
-    let told = subst (λ (l : List Record). Compares new.bodies l c.args.pending.now c.in-Err-compare.error) c.deref.ensures.value c.in-Err-compare.ensures.differs in
+    let told = subst (λ (l : List Record). TellsOtherRecords new.bodies l c.args.pending.now c.in-Err-compare.error) c.deref.ensures.value c.in-Err-compare.ensures.differs in
     not_listed g.D.Disk.state g.D.Disk.faults old.disk new.disk new.bodies records c.args.pending.now c.in-Err-compare.error
     (λ other honest. neither old.node old.nodes content new.bodies records c.args.pending.now c.one_list.ensures other (c.in_default.ensures.read honest) (c.requires.stands honest content (g.D.Disk.is_disk old.disk honest).read)) told
 
@@ -34,7 +34,7 @@ returns-in_err-wake_found-clause-moments g c =
     let records = c.args.memory.now.records.items in
     let pending = c.args.pending.now in
     let there = c.in-Ok.there in
-    let listed = subst (λ (l : List Record). IsListed mid.bodies l pending there) c.deref.ensures.value c.in-Ok.ensures.listed in
+    let listed = subst (λ (l : List Record). AreBodiesWithOrWithout mid.bodies l pending there) c.deref.ensures.value c.in-Ok.ensures.listed in
     λ honest. woken g.D.Disk.state old mid c.wake_found.new.redo.disk records pending there c.reopen.ensures.node c.reopen.ensures.nodes listed (c.requires.stands honest) (c.reopen.ensures.unwritten honest) (c.wake_found.ensures.moments (c.reopen.ensures.honest honest))
 
 pub returns-clause-moments : goal.returns-clause-moments
@@ -44,7 +44,7 @@ returns-clause-moments g c =
     let records = c.args.memory.now.records.items in
     let pending = c.args.pending.now in
     let there = c.in-Ok.there in
-    let listed = subst (λ (l : List Record). IsListed mid.bodies l pending there) c.deref.ensures.value c.in-Ok.ensures.listed in
+    let listed = subst (λ (l : List Record). AreBodiesWithOrWithout mid.bodies l pending there) c.deref.ensures.value c.in-Ok.ensures.listed in
     λ honest. woken g.D.Disk.state old mid c.wake_found.new.redo.disk records pending there c.reopen.ensures.node c.reopen.ensures.nodes listed (c.requires.stands honest) (c.reopen.ensures.unwritten honest) (c.wake_found.ensures.moments (c.reopen.ensures.honest honest))
 
 pub returns-clause-stands : goal.returns-clause-stands
@@ -54,7 +54,7 @@ returns-clause-stands g c =
     let records = c.args.memory.now.records.items in
     let pending = c.args.pending.now in
     let there = c.in-Ok.there in
-    let listed = subst (λ (l : List Record). IsListed mid.bodies l pending there) c.deref.ensures.value c.in-Ok.ensures.listed in
+    let listed = subst (λ (l : List Record). AreBodiesWithOrWithout mid.bodies l pending there) c.deref.ensures.value c.in-Ok.ensures.listed in
     λ honest l image. moved mid.node old.node mid.nodes old.nodes records records pending c.reopen.ensures.node c.reopen.ensures.nodes refl l (listed_stands mid.node mid.nodes mid.bodies records pending there listed l (c.wake_found.ensures.stands honest l image))
 
 pub returns-in_err-wake_found-clause-keeps : goal.returns-in_err-wake_found-clause-keeps

@@ -1,7 +1,7 @@
 use Rattle.std.proofs.Common.{◌≡◌, ◌≢◌, [], Option, Some, None, length, get_or, subst, sym, arith, rules}
 use Rattle.mn_mini.specs.declared.record.Record.{Record}
 use Rattle.mn_mini.specs.RecordGrammar.{record_bytes}
-use Rattle.mn_node.specs.Restart.{Compares}
+use Rattle.mn_node.specs.Restart.{TellsOtherRecords}
 use Rattle.mn_node.proofs.Found.{differs_behind, differs_past, not_alone, not_left, pending_sound, unsome}
 use Rattle.mn_node.proofs.restart.compare_rest.Goals as goal
 
@@ -10,7 +10,7 @@ returns-in_default-clause-differs g c =
     let bodies = c.args.redo.now.bodies in
     let records = c.args.records.now in
     let none : c.args.pending.now ≡ None = search rules in
-    subst (λ (p : Option Record). Compares bodies records p c.differs.result) (sym none)
+    subst (λ (p : Option Record). TellsOtherRecords bodies records p c.differs.result) (sym none)
     (differs_behind bodies records None c.differs.result c.requires.front c.requires.more (not_alone bodies records c.requires.more, λ e. e) (λ r e. absurd cc) c.differs.ensures)
 
 pub spells-requires-clause-sound : goal.spells-requires-clause-sound
@@ -22,7 +22,7 @@ returns-then-not-branch-clause-differs g c =
     let records = c.args.records.now in
     let left = c.in-Some.left in
     let other : get_or bodies (length records) [] ≢ record_bytes left = c.in_ok-spells.ensures.no c.if-not-branch.true in
-    subst (λ (p : Option Record). Compares bodies records p c.differs-then-not-branch.result) (sym c.in-Some.is)
+    subst (λ (p : Option Record). TellsOtherRecords bodies records p c.differs-then-not-branch.result) (sym c.in-Some.is)
     (differs_behind bodies records (Some left) c.differs-then-not-branch.result c.requires.front c.requires.more
     (not_alone bodies records c.requires.more, not_left bodies records left other)
     (λ r e. subst (λ (q : Record). get_or bodies (length records) [] ≢ record_bytes q) (unsome left r e) other) c.differs-then-not-branch.ensures)
@@ -32,5 +32,5 @@ returns-then-total-count-clause-differs g c =
     let bodies = c.args.redo.now.bodies in
     let records = c.args.records.now in
     let left = c.in-Some.left in
-    subst (λ (p : Option Record). Compares bodies records p c.differs-then-total-count.result) (sym c.in-Some.is)
+    subst (λ (p : Option Record). TellsOtherRecords bodies records p c.differs-then-total-count.result) (sym c.in-Some.is)
     (differs_past bodies records left c.differs-then-total-count.result c.requires.front (omega (arith, c.if-total-count.true, c.count-total.ensures)) (c.in_ok-spells.ensures.yes c.if-not-branch.false) c.differs-then-total-count.ensures)

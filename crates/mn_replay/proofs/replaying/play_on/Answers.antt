@@ -7,9 +7,9 @@ use Rattle.mn_world.specs.Protocol.{start_of}
 use Rattle.mn_replay.specs.Failed.{IsRunOn}
 use Rattle.mn_replay.specs.Follows.{IsPlayed}
 use Rattle.mn_replay.specs.Logs.{AreFreeIfSound, HasLog}
-use Rattle.mn_replay.specs.Plays.{play_of}
+use Rattle.mn_replay.specs.Plays.{state_of}
 use Rattle.mn_replay.specs.Trace.{IsTrace, start_on}
-use Rattle.mn_replay.specs.Turn.{callers_count, seen_of}
+use Rattle.mn_replay.specs.Turn.{callers_count}
 use Rattle.mn_replay.proofs.Opening.{all_back, as_named, first_play, fresh_play, holds_empty, not_begun}
 use Rattle.mn_replay.proofs.Scheduled.{told_follows}
 use Rattle.mn_replay.proofs.replaying.play_on.Goals as goal
@@ -47,7 +47,7 @@ play-played-requires-clause-play g c =
     let size = c.requires.size in
     let made = c.in-Ok-stations_of.ensures in
     let callers = c.in-Ok.ensures in
-    first_play g.N.Named.board records c.args.script.now (play_of (seen_of c.args.board) c.in-Ok-stations_of.stations.items c.stations_of.new.all c.in-Ok.callers) (view_of c.args.all)
+    first_play g.N.Named.board records c.args.script.now (state_of {N = g.row.N.Denot} (record { table = record { board = c.args.board; stations = c.in-Ok-stations_of.stations }; rest = c.stations_of.new.all; callers = c.in-Ok.callers })) (view_of c.args.all)
     count (c.requires.board.0, size.0 ∙ sym count, size.1) made.stations made.bare made.board made.no_nodes made.callers c.requires.empty c.requires.others
     (callers.callers (start_of records) c.requires.run (sym count)) callers.numbers callers.empty callers.few callers.desks
 
@@ -62,9 +62,9 @@ returns-clause-follows g c =
     let script = c.args.script.now in
     let made = c.in-Ok-stations_of.ensures in
     let callers = c.in-Ok.ensures in
-    let first = play_of (seen_of c.args.board) c.in-Ok-stations_of.stations.items c.stations_of.new.all c.in-Ok.callers in
+    let first = state_of {N = g.row.N.Denot} (record { table = record { board = c.args.board; stations = c.in-Ok-stations_of.stations }; rest = c.stations_of.new.all; callers = c.in-Ok.callers }) in
     let ended = c.play-played.new.self in
-    let last = play_of (seen_of ended.table.board) ended.table.stations.items ended.rest ended.callers in
+    let last = state_of ended in
     let fresh = fresh_play first made.bare callers.empty callers.idle in
     told_follows (start_on given) script (λ t. t.log) c.end.result c.play-played.result (λ past. HasLog last past)
     (λ t. IsTrace g.D.Disk.state g.D.Disk.faults given t.nodes.items t.log)

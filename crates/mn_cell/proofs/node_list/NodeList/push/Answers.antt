@@ -1,7 +1,7 @@
 use Rattle.std.proofs.Common.{◌≡◌, ◌+◌, ◌≤◌, ◌<◌, ℕ, List, length, ap, sym, ◌∙◌, subst, arith, vec_len, vec_capacity}
 use Rattle.mn_world.specs.declared.entry.Entry.{Entry}
 use Rattle.mn_cell.specs.declared.node_list.Owed.{Owed}
-use Rattle.mn_cell.specs.Promises.{NodeListState, HasPlace, decided_in, voted_in, is_owed, owed_after, owes, OwesTo}
+use Rattle.mn_cell.specs.Promises.{NodeListState, HasRoomForStep, decided_in, voted_in, is_owed, owed_after, owes, OwesTo}
 use Rattle.mn_world.specs.Run.{entries_of}
 use Rattle.mn_cell.proofs.Owing.{covers, newest_entry, one_more, one_less, room_after}
 use Rattle.mn_cell.proofs.node_list.NodeList.push.Goals as goal
@@ -14,7 +14,7 @@ invariant_of-self c =
     let more = one_more e.client (decided_in e.what) (voted_in e.what) os in
     let less = one_less e.client (decided_in e.what) (voted_in e.what) os in
     let entries = ap (λ (m : List (ℕ × Entry)). entries_of m) c.push_reserved.ensures.items ∙ newest_entry l c.args.place e in
-    let place = subst (λ (s : NodeListState). HasPlace s e.client (decided_in e.what)) (sym c.self.view_is) c.requires.place in
+    let place = subst (λ (s : NodeListState). HasRoomForStep s e.client (decided_in e.what)) (sym c.self.view_is) c.requires.place in
     let count' = length (owed_after e.client (decided_in e.what) (voted_in e.what) os) in
     let size : ℕ = vec_len c.self.inside.entries in
     let count : ℕ = vec_len c.self.inside.owed in

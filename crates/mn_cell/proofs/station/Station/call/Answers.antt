@@ -8,7 +8,7 @@ use Rattle.mn_world.specs.declared.entry.Entry.{Entry}
 use Rattle.mn_world.specs.Run.{entries_of}
 use Rattle.mn_cell.specs.Calls.{entry_at, what_said}
 use Rattle.mn_cell.specs.Promises.{IsOwed, IsOwedAt, decided_by}
-use Rattle.mn_cell.specs.Station.{HasMade, IsPassOf}
+use Rattle.mn_cell.specs.Station.{HasMadeEntries, IsPassOf}
 use Rattle.mn_world.specs.Protocol.{start_of}
 use Rattle.mn_cell.proofs.Fills.{fit_lengths}
 use Rattle.mn_cell.proofs.Made.{base_is, keeps_stop, made_called, made_unchanged}
@@ -34,7 +34,7 @@ invariant_of-self-2 g c =
     ∙ ap (λ (e : Entry). e ∷ entries_of c.prepare.new.own.entries) c.in-Some.ensures.one
     ∙ ap (λ (l : List (ℕ × Entry)). e ∷ entries_of l) c.in-Ok.ensures.own in (
       (enter.board.0 ∙ c.requires.board.0, enter.owns.0, enter.lists.0),
-      subst (λ (l : List Entry). HasMade g.D.Disk.state g.D.Disk.faults start n (g.N.Named.faults n.0) (g.N.Named.honest n.0) l c.handle-reply.new.self) (sym entries) made,
+      subst (λ (l : List Entry). HasMadeEntries g.D.Disk.state g.D.Disk.faults start n (g.N.Named.faults n.0) (g.N.Named.honest n.0) l c.handle-reply.new.self) (sym entries) made,
     )
 
 pub returns-clause-stop : goal.returns-clause-stop
@@ -48,7 +48,7 @@ invariant_of-self-in_default-two_entries g c =
     let old = c.self.invariant.1 in
     let made = made_unchanged g.D.Disk.state g.D.Disk.faults start n (g.N.Named.faults n.0) (g.N.Named.honest n.0) es c.self.inside.node c.handle-reply.new.self old c.handle-reply.ensures.goes_on (base_is g.N.Named.records n old.among)
     c.args.request c.args.stop c.handle-reply.result c.handle-reply.ensures.answers c.in_default-two_entries.ensures.none in
-    subst (λ (l : List (ℕ × Entry)). IsPassOf g.N.Named.board n l c.self.inside.pass × HasMade g.D.Disk.state g.D.Disk.faults start n (g.N.Named.faults n.0) (g.N.Named.honest n.0) (entries_of l) c.handle-reply.new.self)
+    subst (λ (l : List (ℕ × Entry)). IsPassOf g.N.Named.board n l c.self.inside.pass × HasMadeEntries g.D.Disk.state g.D.Disk.faults start n (g.N.Named.faults n.0) (g.N.Named.honest n.0) (entries_of l) c.handle-reply.new.self)
     (sym c.in-Ok.ensures.own) (c.self.invariant.0, made)
 
 pub returns-in_default-clause-list : goal.returns-in_default-clause-list

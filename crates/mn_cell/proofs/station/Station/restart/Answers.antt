@@ -3,7 +3,7 @@ use Rattle.mn_world.specs.declared.entry.Entry.{Entry}
 use Rattle.mn_world.specs.declared.entry.What.TheVariants.{Restarted}
 use Rattle.mn_world.specs.Run.{entries_of}
 use Rattle.mn_cell.specs.Calls.{entry_at}
-use Rattle.mn_cell.specs.Station.{HasMade, IsPassOf}
+use Rattle.mn_cell.specs.Station.{HasMadeEntries, IsPassOf}
 use Rattle.mn_world.specs.Protocol.{start_of}
 use Rattle.mn_cell.proofs.Made.{base_is, made_failed, made_restarted}
 use Rattle.mn_cell.proofs.Owing.{newest_entry}
@@ -18,7 +18,7 @@ invariant_of-self-in-Err g c =
     let down : c.self.inside.node.down ≡ true = search rules in
     let made = made_failed g.D.Disk.state g.D.Disk.faults start n (g.N.Named.faults n.0) (g.N.Named.honest n.0) es c.self.inside.node c.restart.new.self old c.in-Err.ensures.goes_on (base_is g.N.Named.records n old.among)
     down c.in-Err.ensures.down c.in-Err.ensures.before c.in-Err.ensures.pending c.in-Err.ensures.keeps in
-    subst (λ (l : List (ℕ × Entry)). IsPassOf g.N.Named.board n l c.self.inside.pass × HasMade g.D.Disk.state g.D.Disk.faults start n (g.N.Named.faults n.0) (g.N.Named.honest n.0) (entries_of l) c.restart.new.self)
+    subst (λ (l : List (ℕ × Entry)). IsPassOf g.N.Named.board n l c.self.inside.pass × HasMadeEntries g.D.Disk.state g.D.Disk.faults start n (g.N.Named.faults n.0) (g.N.Named.honest n.0) (entries_of l) c.restart.new.self)
     (sym c.in_ok-make_room.ensures.own) (c.self.invariant.0, made)
 
 pub invariant_of-self-2 : goal.invariant_of-self-2
@@ -37,5 +37,5 @@ invariant_of-self-2 g c =
     ∙ ap (λ (x : Entry). x ∷ entries_of c.make_room.new.own.entries) c.restart_entry.ensures
     ∙ ap (λ (l : List (ℕ × Entry)). e ∷ entries_of l) c.in_ok-make_room.ensures.own in (
       (enter.board.0 ∙ c.requires.board.0, enter.owns.0, enter.lists.0),
-      subst (λ (l : List Entry). HasMade g.D.Disk.state g.D.Disk.faults start n (g.N.Named.faults n.0) (g.N.Named.honest n.0) l c.restart.new.self) (sym entries) made,
+      subst (λ (l : List Entry). HasMadeEntries g.D.Disk.state g.D.Disk.faults start n (g.N.Named.faults n.0) (g.N.Named.honest n.0) l c.restart.new.self) (sym entries) made,
     )

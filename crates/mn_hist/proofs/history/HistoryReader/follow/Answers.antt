@@ -1,6 +1,6 @@
 use Rattle.std.proofs.Common.{◌≡◌, ◌∷◌, List, length, ap, subst, sym, ◌∙◌, arith}
 use Rattle.std.proofs.lemmas.List.{with_items_is}
-use Rattle.mn_hist.specs.History.{AreCallers, CallerState}
+use Rattle.mn_hist.specs.History.{AreCallerStates, CallerState}
 use Rattle.mn_hist.proofs.Telling.{told_more}
 use Rattle.mn_hist.proofs.history.HistoryReader.follow.Goals as goal
 
@@ -20,10 +20,10 @@ returns-clause-tells c = λ start past placed run told.
     let long : length c.note_step.new.callers ≡ c.args.self.now.callers.len = omega (arith, new, old, ok) in
     let same = with_items_is c.args.self.now.callers c.note_step.new.callers long in
     let place : c.len.result ≡ length c.take_entry.new.slots.items = omega arith in
-    let takes = c.in_ok-act.ensures start past placed run (subst (λ (l : List CallerState). AreCallers l past) (sym c.deref.ensures.value) told.callers) told.plans (c.in_ok-committed.ensures.commits past told.reading.commits) told.stands told.fills in
+    let takes = c.in_ok-act.ensures start past placed run (subst (λ (l : List CallerState). AreCallerStates l past) (sym c.deref.ensures.value) told.callers) told.plans (c.in_ok-committed.ensures.commits past told.reading.commits) told.stands told.fills in
     told_more c.args.self.now _ past placed c.args.entry.now c.take_entry.new.slots.items c.in_ok-act.act told
     (record { commits = c.in_ok-committed.ensures.read past told.reading.commits; long = ap length same ∙ new })
-    (subst (λ (l : List CallerState). AreCallers l (c.args.entry.now ∷ past)) (sym same)
-    (c.in_ok-note_step.ensures.tells past (place ∙ (takes.long ∙ told.places)) (subst (λ (l : List CallerState). AreCallers l past) (sym c.deref_mut.ensures.value) told.callers)))
-    (c.in_ok-note_issue.ensures past (subst (λ (l : List CallerState). AreCallers l past) (sym c.deref-2.ensures.value) told.callers) told.plans)
+    (subst (λ (l : List CallerState). AreCallerStates l (c.args.entry.now ∷ past)) (sym same)
+    (c.in_ok-note_step.ensures.tells past (place ∙ (takes.long ∙ told.places)) (subst (λ (l : List CallerState). AreCallerStates l past) (sym c.deref_mut.ensures.value) told.callers)))
+    (c.in_ok-note_issue.ensures past (subst (λ (l : List CallerState). AreCallerStates l past) (sym c.deref-2.ensures.value) told.callers) told.plans)
     takes c.in_ok-push.ensures.items

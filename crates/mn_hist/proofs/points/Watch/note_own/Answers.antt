@@ -8,7 +8,7 @@ use Rattle.mn_world.specs.Calls.{client_entries}
 use Rattle.mn_hist.specs.declared.points.Step.{Step}
 use Rattle.mn_hist.specs.declared.points.Watch.{Watch}
 use Rattle.mn_hist.specs.Points.{with_met}
-use Rattle.mn_hist.specs.Watching.{AreNumbers, number_of, step_fits, votes_kept}
+use Rattle.mn_hist.specs.Watching.{AreNumbersUnderWay, number_of, step_fits, votes_kept}
 use Rattle.mn_hist.proofs.Flags.{step_is}
 use Rattle.mn_hist.proofs.Putting.{at_index}
 use Rattle.mn_hist.proofs.Watched.{watched_more, numbers_more, votes_more, votes_told}
@@ -29,8 +29,8 @@ returns-clause-watches c = λ past is watches.
     watched_more old new c.args.points.now past entry client s is
     (step_is past entry client s is refl number refl (c.in_ok-votes.ensures.count ∙ votes_told old.votes past client c.voted_id.result entry.what c.voted_id.ensures watches.votes) c.asked_in.ensures)
     (with_items_is old.met c.meet.new.met long ∙ (c.meet.ensures.met ∙ ap (with_met (step_fits s) c.args.points.now) c.deref_mut.ensures.value))
-    (subst (λ (i : ℕ). AreNumbers (slice_set numbers i c.number_after.result) (entry ∷ past)) (sym c.from-2.ensures)
-    (subst (λ (n : Option ℕ). AreNumbers (slice_set numbers client.0 n) (entry ∷ past)) (sym c.number_after.ensures)
+    (subst (λ (i : ℕ). AreNumbersUnderWay (slice_set numbers i c.number_after.result) (entry ∷ past)) (sym c.from-2.ensures)
+    (subst (λ (n : Option ℕ). AreNumbersUnderWay (slice_set numbers client.0 n) (entry ∷ past)) (sym c.number_after.ensures)
     (numbers_more numbers past entry client s.number few is watches.numbers number)))
     (votes_more old.votes c.count_vote.new.votes past entry client is
     (λ d t. c.in_ok-votes.ensures.kept d t ∙ ap (λ (o : Option Tid). if client_same client d && option_map_or (λ u. tid_same u t) o false then votes_kept old.votes d t + 1 else votes_kept old.votes d t) c.voted_id.ensures)

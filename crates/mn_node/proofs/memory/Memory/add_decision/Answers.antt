@@ -1,4 +1,4 @@
-use Rattle.std.proofs.Common.{◌≡◌, ◌+◌, ◌<◌, ◌≤◌, ◌++◌, ◌∷◌, [], ℕ, List, true, length, reverse, take, drop, ap, subst, sym, ◌∙◌, arith, vec_len, vec_capacity, if◌then◌else◌}
+use Rattle.std.proofs.Common.{◌≡◌, ◌+◌, ◌<◌, ◌++◌, ◌∷◌, [], ℕ, List, true, length, reverse, take, drop, ap, subst, sym, ◌∙◌, arith, vec_len, vec_capacity, if◌then◌else◌}
 use Rattle.std.specs.List.{list_any}
 use Rattle.mn_base.specs.Ids.{tid_same}
 use Rattle.std.proofs.lemmas.List.{take_at}
@@ -9,8 +9,8 @@ use Rattle.mn_locks.specs.declared.hold.Hold.{Hold}
 use Rattle.mn_locks.specs.Locks.{without}
 use Rattle.mn_page.specs.Base.{base_of}
 use Rattle.mn_node.specs.declared.held.Vote.{Vote}
-use Rattle.mn_node.specs.Held.{others}
-use Rattle.mn_node.specs.Memory.{IsBuilt}
+use Rattle.mn_node.specs.Held.{votes_of_others}
+use Rattle.mn_node.specs.Memory.{IsMadeByRecords}
 use Rattle.mn_node.proofs.Built.{built_decided}
 use Rattle.mn_node.proofs.Votes.{any_held, fewer}
 use Rattle.mn_node.proofs.memory.Memory.add_decision.Goals as goal
@@ -25,10 +25,10 @@ returns-clause-memory c =
     c.write_decided.ensures
     ∙ (λ i. if c.args.yes then with_held (λ t. tid_same t c.args.tid) (c.deref_mut.ensures.value i) (held_parts (reverse (c.deref.ensures.value i))) else c.deref_mut.ensures.value i) in
     let built = built_decided (base_of m.nodes m.node) m.records.items m.space.items c.write_decided.new.space m.locks.holds m.forced.items m.held.items c.args.tid c.args.yes c.requires.memory c.requires.decision written (grind arith) in
-    let with_records = subst (λ (l : List Record). IsBuilt (base_of m.nodes m.node) l c.write_decided.new.space (without c.args.tid m.locks.holds) m.forced.items (others c.args.tid m.held.items)) (sym items) built in
-    let with_holds = subst (λ (l : List Hold). IsBuilt (base_of m.nodes m.node) c.push.new.self.items c.write_decided.new.space l m.forced.items (others c.args.tid m.held.items)) (sym c.release.ensures.left) with_records in
-    let with_votes = subst (λ (l : List Vote). IsBuilt (base_of m.nodes m.node) c.push.new.self.items c.write_decided.new.space c.release.new.self.holds m.forced.items l) (sym c.forget.ensures) with_holds in
-    subst (λ (l : List ℕ). IsBuilt (base_of m.nodes m.node) c.push.new.self.items l c.release.new.self.holds m.forced.items c.forget.new.held.items) (sym whole) with_votes
+    let with_records = subst (λ (l : List Record). IsMadeByRecords (base_of m.nodes m.node) l c.write_decided.new.space (without c.args.tid m.locks.holds) m.forced.items (votes_of_others c.args.tid m.held.items)) (sym items) built in
+    let with_holds = subst (λ (l : List Hold). IsMadeByRecords (base_of m.nodes m.node) c.push.new.self.items c.write_decided.new.space l m.forced.items (votes_of_others c.args.tid m.held.items)) (sym c.release.ensures.left) with_records in
+    let with_votes = subst (λ (l : List Vote). IsMadeByRecords (base_of m.nodes m.node) c.push.new.self.items c.write_decided.new.space c.release.new.self.holds m.forced.items l) (sym c.forget.ensures) with_holds in
+    subst (λ (l : List ℕ). IsMadeByRecords (base_of m.nodes m.node) c.push.new.self.items l c.release.new.self.holds m.forced.items c.forget.new.held.items) (sym whole) with_votes
 
 pub returns-clause-held : goal.returns-clause-held
 returns-clause-held c =

@@ -5,7 +5,7 @@ use Rattle.mn_mini.specs.declared.record.Record.TheVariants.{Executed}
 use Rattle.mn_mini.specs.Flat.{space_after_part}
 use Rattle.mn_mini.specs.RecordGrammar.{IsRecord}
 use Rattle.mn_page.specs.Base.{base_of}
-use Rattle.mn_node.specs.Memory.{IsBuilt}
+use Rattle.mn_node.specs.Memory.{IsMadeByRecords}
 use Rattle.mn_node.proofs.Built.{built_executed}
 use Rattle.mn_node.proofs.memory.Memory.add_execution.Goals as goal
 
@@ -21,5 +21,5 @@ returns-clause-memory c =
     let whole : take m.space.len (new ++ drop (length new) m.space.items) ≡ new = take_at new (drop (length new) m.space.items) m.space.len same in
     let written : new ≡ space_after_part m.space.items part = c.write_items.ensures ∙ (λ i. space_after_part (c.deref_mut.ensures.value i) (c.as_slice.ensures i)) in
     let built = built_executed base m.records.items m.space.items new m.locks.holds m.forced.items m.held.items c.args.tid part c.requires.memory (subst IsRecord c.requires.same c.requires.execution) written (grind arith) in
-    let with_records = subst (λ (l : List Record). IsBuilt base l new m.locks.holds m.forced.items m.held.items) (sym records) built in
-    subst (λ (l : List ℕ). IsBuilt base c.push.new.self.items l m.locks.holds m.forced.items m.held.items) (sym whole) with_records
+    let with_records = subst (λ (l : List Record). IsMadeByRecords base l new m.locks.holds m.forced.items m.held.items) (sym records) built in
+    subst (λ (l : List ℕ). IsMadeByRecords base c.push.new.self.items l m.locks.holds m.forced.items m.held.items) (sym whole) with_records

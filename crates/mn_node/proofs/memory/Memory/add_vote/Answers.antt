@@ -1,4 +1,4 @@
-use Rattle.std.proofs.Common.{◌≡◌, ◌++◌, ◌∷◌, [], List, ap, length, reverse, sym, Some, None, subst, ◌∙◌}
+use Rattle.std.proofs.Common.{◌≡◌, ◌++◌, ◌∷◌, [], List, ap, reverse, sym, Some, None, subst, ◌∙◌}
 use Rattle.mn_mini.specs.RecordGrammar.{IsRecord}
 use Rattle.mn_mini.specs.declared.record.Record.{Record}
 use Rattle.mn_mini.specs.declared.record.Record.TheVariants.{Voted}
@@ -7,7 +7,7 @@ use Rattle.mn_locks.specs.Locks.{held_of, holds_of}
 use Rattle.mn_mini.specs.Node.{held_parts}
 use Rattle.mn_page.specs.Base.{base_of}
 use Rattle.mn_node.specs.declared.held.Vote.{Vote}
-use Rattle.mn_node.specs.Memory.{IsBuilt}
+use Rattle.mn_node.specs.Memory.{IsMadeByRecords}
 use Rattle.mn_node.specs.Part.{shared_of, alone_of}
 use Rattle.mn_node.proofs.Built.{built_voted}
 use Rattle.mn_node.proofs.TestedParts.{not_held, is_ok_of}
@@ -36,6 +36,6 @@ returns-clause-memory c =
     let items : c.push-2.new.self.items ≡ m.records.items ++ c.args.vote ∷ [] = rw c.unwrap-3.ensures at c.push-2.ensures.items in
     let records : c.push-2.new.self.items ≡ m.records.items ++ Voted c.args.tid ps part ∷ [] = items ∙ ap (λ (r : Record). m.records.items ++ r ∷ []) c.requires.same in
     let built = built_voted base m.records.items m.space.items m.locks.holds m.forced.items m.held.items c.args.tid ps part c.len-place.result (c.len-place.ensures ∙ m.records.ok.0) c.requires.memory (subst IsRecord c.requires.same c.requires.vote) in
-    let with_holds = subst (λ (l : List Hold). IsBuilt base (m.records.items ++ Voted c.args.tid ps part ∷ []) m.space.items l m.forced.items (m.held.items ++ v ∷ [])) (sym holds) built in
-    let with_votes = subst (λ (l : List Vote). IsBuilt base (m.records.items ++ Voted c.args.tid ps part ∷ []) m.space.items c.try_lock.new.self.holds m.forced.items l) (sym votes) with_holds in
-    subst (λ (l : List Record). IsBuilt base l m.space.items c.try_lock.new.self.holds m.forced.items c.push.new.self.items) (sym records) with_votes
+    let with_holds = subst (λ (l : List Hold). IsMadeByRecords base (m.records.items ++ Voted c.args.tid ps part ∷ []) m.space.items l m.forced.items (m.held.items ++ v ∷ [])) (sym holds) built in
+    let with_votes = subst (λ (l : List Vote). IsMadeByRecords base (m.records.items ++ Voted c.args.tid ps part ∷ []) m.space.items c.try_lock.new.self.holds m.forced.items l) (sym votes) with_holds in
+    subst (λ (l : List Record). IsMadeByRecords base l m.space.items c.try_lock.new.self.holds m.forced.items c.push.new.self.items) (sym records) with_votes

@@ -3,14 +3,14 @@ use Rattle.mn_proxy.specs.Measure.{steps_left}
 use Rattle.mn_world.specs.Protocol.{start_of}
 use Rattle.mn_replay.specs.Acts.{GoesByItself}
 use Rattle.mn_replay.specs.Clients.{IsAtSteps, past_of}
-use Rattle.mn_replay.specs.Turn.{GoesOn, IsTurn, seen_of, turn_of}
+use Rattle.mn_replay.specs.Turn.{ExtendsLog, IsTurn, turn_at}
 use Rattle.mn_replay.proofs.client.Client.go_on.Given as goal
 
 -- its proxy is to be asked again, after steps of its own
 abbrev pub invariant-loop : goal.invariant-loop
 invariant-loop g l = record {
-  turn : IsTurn g.N.Named.board (length g.N.Named.records) (turn_of (seen_of l.table.board) l.table.stations.items l.pass l.self.list);
-  goes_on : GoesOn (turn_of (seen_of l.fn.table.board) l.fn.table.stations.items l.fn.pass l.fn.self.list) (turn_of (seen_of l.table.board) l.table.stations.items l.pass l.self.list);
+  turn : IsTurn g.N.Named.board (length g.N.Named.records) (turn_at l.table l.pass l.self.list);
+  goes_on : ExtendsLog (turn_at l.fn.table l.fn.pass l.fn.self.list) (turn_at l.table l.pass l.self.list);
   steps : IsAtSteps (start_of g.N.Named.records) l.points l.self;
   own : GoesByItself l.fn.self.list.client (past_of l.fn.self) (past_of l.self);
   begun : l.self.begun ≡ l.fn.self.begun;

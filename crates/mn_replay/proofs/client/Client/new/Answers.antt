@@ -7,6 +7,6 @@ use Rattle.mn_replay.proofs.client.Client.new.Goals as goal
 
 pub returns-clause-client : goal.returns-clause-client
 returns-clause-client c = λ start run nodes.
-    let made : Client = record { list = c.new.result; proxy = c.in_ok-new.field-0; begun = 0; due = None; shared = None; is_plan = false; met = c.in_ok-none_met.field-0 } in
-    first_client start c.args.points.now made c.args.client c.new.ensures refl refl refl refl c.in_ok-none_met.ensures
-    (c.in_ok-new.ensures.starts ∙ (ap (λ (n : ℕ). new_proxy c.args.client n c.args.nodes) run ∙ ap (λ (n : ℕ). new_proxy c.args.client (run_number start) n) nodes)) c.in_ok-new.ensures.agrees
+    let made : Client = record { list = c.new-2.result; proxy = c.in_ok-proxy.proxy; begun = 0; due = None; shared = None; is_plan = false; met = c.in_ok-met.met } in
+    first_client start c.args.points.now made c.args.client c.new-2.ensures refl refl refl refl c.in_ok-met.ensures
+    (c.in_ok-proxy.ensures.starts ∙ (ap (λ (n : ℕ). new_proxy c.args.client n c.args.nodes) run ∙ ap (λ (n : ℕ). new_proxy c.args.client (run_number start) n) nodes)) c.in_ok-proxy.ensures.agrees

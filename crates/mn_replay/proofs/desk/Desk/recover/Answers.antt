@@ -2,19 +2,19 @@ use Rattle.std.proofs.Common.{ℕ, true, false, ap, ◌∙◌, inr, length}
 use Rattle.mn_world.specs.Lists.{ClientState}
 use Rattle.mn_world.specs.Protocol.{start_of}
 use Rattle.mn_replay.specs.Recoveries.{bench_of, work_of}
-use Rattle.mn_replay.specs.Turn.{seen_of, turn_of}
+use Rattle.mn_replay.specs.Turn.{turn_at}
 use Rattle.mn_replay.proofs.Recoveries.{asked_next, asked_none}
 use Rattle.mn_replay.proofs.Turns.{goes_further, goes_same, turn_same}
 use Rattle.mn_replay.proofs.desk.Desk.recover.Goals as goal
 
 pub returns-in_err-take_work-clause-goes_on : goal.returns-in_err-take_work-clause-goes_on
 returns-in_err-take_work-clause-goes_on g c =
-    let t = turn_of (seen_of c.args.table.now.board) c.args.table.now.stations.items c.args.pass.now c.args.self.now.list in
+    let t = turn_at c.args.table.now c.args.pass.now c.args.self.now.list in
     goes_same t _ (ap (λ (l : ClientState). l.client) c.take_work.ensures.list) (ap (λ (l : ClientState). l.entries) c.take_work.ensures.list)
 
 pub loop-alloc-init : goal.loop-alloc-init
 loop-alloc-init g c =
-    let t = turn_of (seen_of c.args.table.now.board) c.args.table.now.stations.items c.args.pass.now c.args.self.now.list in
+    let t = turn_at c.args.table.now c.args.pass.now c.args.self.now.list in
     let client = ap (λ (l : ClientState). l.client) c.take_work.ensures.list in
     let entries = ap (λ (l : ClientState). l.entries) c.take_work.ensures.list in
     record {

@@ -6,14 +6,14 @@ use Rattle.mn_replay.specs.Clients.{last_shared}
 use Rattle.mn_replay.specs.Closing.{calls_of}
 use Rattle.mn_replay.specs.Desks.{IsDesk}
 use Rattle.mn_replay.specs.Recoveries.{bench_of}
-use Rattle.mn_replay.specs.Turn.{GoesOn, IsTurn, seen_of, turn_of}
+use Rattle.mn_replay.specs.Turn.{ExtendsLog, IsTurn, turn_at}
 use Rattle.mn_replay.proofs.Recoveries.{HasAsked}
 use Rattle.mn_replay.proofs.desk.Desk.recover.Given as goal
 
 abbrev pub invariant-loop-alloc : goal.invariant-loop-alloc
 invariant-loop-alloc g l = record {
-  turn : IsTurn g.N.Named.board (length g.N.Named.records) (turn_of (seen_of l.table.board) l.table.stations.items l.pass l.self.list);
-  goes_on : GoesOn (turn_of (seen_of l.fn.table.board) l.fn.table.stations.items l.fn.pass l.fn.self.list) (turn_of (seen_of l.table.board) l.table.stations.items l.pass l.self.list);
+  turn : IsTurn g.N.Named.board (length g.N.Named.records) (turn_at l.table l.pass l.self.list);
+  goes_on : ExtendsLog (turn_at l.fn.table l.fn.pass l.fn.self.list) (turn_at l.table l.pass l.self.list);
   does : (es : List Entry) → l.fn.shared ≡ last_shared (issues_of es) → HasAsked (length g.N.Named.records) l.fn.self.list.client es (bench_of l.fn.self) (bench_of l.self);
   desk : IsDesk (start_of g.N.Named.records) l.self;
 }

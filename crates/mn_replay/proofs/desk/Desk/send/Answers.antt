@@ -1,17 +1,17 @@
 use Rattle.mn_world.specs.Protocol.{start_of}
-use Rattle.mn_replay.specs.Turn.{seen_of, turn_of}
+use Rattle.mn_replay.specs.Turn.{turn_at}
 use Rattle.mn_replay.proofs.Recovering.{recovery_adds, recovery_keeps}
 use Rattle.mn_replay.proofs.Turns.{goes_further, goes_same, if_none}
 use Rattle.mn_replay.proofs.desk.Desk.send.Goals as goal
 
 pub returns-then-is_err-clause-goes_on : goal.returns-then-is_err-clause-goes_on
 returns-then-is_err-clause-goes_on g c =
-    let t = turn_of (seen_of c.args.table.now.board) c.args.table.now.stations.items c.args.pass.now c.args.self.now.list in
+    let t = turn_at c.args.table.now c.args.pass.now c.args.self.now.list in
     goes_same t _ c.make_room.ensures.client c.make_room.ensures.entries
 
 pub returns-clause-goes_on : goal.returns-clause-goes_on
 returns-clause-goes_on g c =
-    let t = turn_of (seen_of c.args.table.now.board) c.args.table.now.stations.items c.args.pass.now c.args.self.now.list in
+    let t = turn_at c.args.table.now c.args.pass.now c.args.self.now.list in
     goes_further t _ _ (goes_same t _ c.make_room.ensures.client c.make_room.ensures.entries) c.call.ensures.goes_on
 
 pub returns-clause-list : goal.returns-clause-list

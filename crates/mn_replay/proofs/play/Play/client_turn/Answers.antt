@@ -9,8 +9,8 @@ use Rattle.mn_replay.specs.declared.play.Callers.{Callers}
 use Rattle.mn_replay.specs.Acts.{Role, as_role}
 use Rattle.mn_replay.specs.Clients.{IsClient, IsOfRun, past_of}
 use Rattle.mn_replay.specs.Logs.{GoesAs}
-use Rattle.mn_replay.specs.Plays.{AreReady, play_of}
-use Rattle.mn_replay.specs.Turn.{seen_of, turn_of}
+use Rattle.mn_replay.specs.Plays.{AreReady, state_of}
+use Rattle.mn_replay.specs.Turn.{turn_at}
 use Rattle.mn_replay.specs.Schedule.{DoesMove, IsOfClient, role_of}
 use Rattle.mn_replay.proofs.Acting.{client_begins, client_ends, client_goes, client_turn, met_at, ok_then, role_same}
 use Rattle.mn_replay.proofs.Replacing.{client_ready}
@@ -22,7 +22,7 @@ make_move-done-requires-clause-turn g c =
     let asked = c.requires.client in
     let there = met_at c.args.self.now.callers.clients.items c.args.client.0 c.from-at.result c.index_mut-caller.result.now (omega arith) c.from-at.ensures c.index_mut-caller.ensures.value in
     let p = c.args.self.now in
-    client_begins g.N.Named.board (start_of g.N.Named.records) (play_of (seen_of p.table.board) p.table.stations.items p.rest p.callers) c.requires.play.rests c.args.client.0 c.index_mut-caller.result.now there
+    client_begins g.N.Named.board (start_of g.N.Named.records) (state_of p) c.requires.play.rests c.args.client.0 c.index_mut-caller.result.now there
     (view_of c.split-pass.new.from) (view_of c.split-pass.result) (board_of c.split-pass.result) c.split-pass.ensures.view c.split-pass.ensures.board.1
 
 pub make_move-done-requires-clause-client : goal.make_move-done-requires-clause-client
@@ -40,13 +40,13 @@ returns-clause-play g c =
     let there = met_at c.args.self.now.callers.clients.items c.args.client.0 c.from-at.result c.index_mut-caller.result.now (omega arith) c.from-at.ensures c.index_mut-caller.ensures.value in
     let p = c.args.self.now in
     let start = start_of g.N.Named.records in
-    let state = play_of (seen_of p.table.board) p.table.stations.items p.rest p.callers in
+    let state = state_of p in
     let table = c.make_move-done.new.table in
     let caller = c.make_move-done.new.caller in
-    let turn = turn_of (seen_of table.board) table.stations.items c.make_move-done.new.pass caller.list in
+    let turn = turn_at table c.make_move-done.new.pass caller.list in
     let items = ap (λ (k : ℕ). slice_set p.callers.clients.items k caller) c.from-at.ensures in
     let of_run = subst (λ (points : List Point). IsOfRun start points caller) c.points-points.ensures.value c.make_move-done.ensures.of_run in
-    let after = play_of (seen_of table.board) table.stations.items c.join.new.into (record { clients = with_item p.callers.clients c.from-at.result caller; desks = p.callers.desks; closer = p.callers.closer }) in
+    let after = state_of (record { table = table; rest = c.join.new.into; callers = record { clients = with_item p.callers.clients c.from-at.result caller; desks = p.callers.desks; closer = p.callers.closer } }) in
     let of = client_turn g.N.Named.board start state c.requires.play.rests c.args.client.0 c.index_mut-caller.result.now there after
     (view_of c.split-pass.new.from) (view_of c.split-pass.result) (board_of c.split-pass.result) turn caller
     c.split-pass.ensures.view c.make_move-done.ensures.turn c.make_move-done.ensures.goes_on c.join.ensures.view (c.join.ensures.board ∙ c.split-pass.ensures.board.0) refl refl refl items refl refl of_run.of_run in
@@ -60,13 +60,13 @@ returns-clause-does g c =
     let there = met_at c.args.self.now.callers.clients.items c.args.client.0 c.from-at.result c.index_mut-caller.result.now (omega arith) c.from-at.ensures c.index_mut-caller.ensures.value in
     let p = c.args.self.now in
     let start = start_of g.N.Named.records in
-    let state = play_of (seen_of p.table.board) p.table.stations.items p.rest p.callers in
+    let state = state_of p in
     let table = c.make_move-done.new.table in
     let caller = c.make_move-done.new.caller in
-    let turn = turn_of (seen_of table.board) table.stations.items c.make_move-done.new.pass caller.list in
+    let turn = turn_at table c.make_move-done.new.pass caller.list in
     let items = ap (λ (k : ℕ). slice_set p.callers.clients.items k caller) c.from-at.ensures in
     let of_run = subst (λ (points : List Point). IsOfRun start points caller) c.points-points.ensures.value c.make_move-done.ensures.of_run in
-    let after = play_of (seen_of table.board) table.stations.items c.join.new.into (record { clients = with_item p.callers.clients c.from-at.result caller; desks = p.callers.desks; closer = p.callers.closer }) in
+    let after = state_of (record { table = table; rest = c.join.new.into; callers = record { clients = with_item p.callers.clients c.from-at.result caller; desks = p.callers.desks; closer = p.callers.closer } }) in
     let of = client_turn g.N.Named.board start state c.requires.play.rests c.args.client.0 c.index_mut-caller.result.now there after
     (view_of c.split-pass.new.from) (view_of c.split-pass.result) (board_of c.split-pass.result) turn caller
     c.split-pass.ensures.view c.make_move-done.ensures.turn c.make_move-done.ensures.goes_on c.join.ensures.view (c.join.ensures.board ∙ c.split-pass.ensures.board.0) refl refl refl items refl refl of_run.of_run in

@@ -1,15 +1,14 @@
 use Rattle.std.proofs.Common.{take}
 use Rattle.mn_world.specs.Protocol.{start_of}
 use Rattle.mn_replay.specs.Logs.{GoesAs}
-use Rattle.mn_replay.specs.Plays.{AreReady, IsPlay, play_of}
+use Rattle.mn_replay.specs.Plays.{AreReady, IsPlay, state_of}
 use Rattle.mn_replay.specs.Schedule.{DoesActs}
-use Rattle.mn_replay.specs.Turn.{seen_of}
 use Rattle.mn_replay.proofs.play.Play.do_schedule.Given as goal
 
 abbrev pub invariant-loop-act : goal.invariant-loop-act
 invariant-loop-act g l = record {
-  play : IsPlay g.N.Named.board (start_of g.N.Named.records) l.script (play_of (seen_of l.self.table.board) l.self.table.stations.items l.self.rest l.self.callers);
+  play : IsPlay g.N.Named.board (start_of g.N.Named.records) l.script (state_of l.self);
   ready : AreReady (start_of g.N.Named.records) l.script l.self.callers;
-  does : GoesAs (DoesActs l.script (take l.act-index l.act-items)) (play_of (seen_of l.fn.self.table.board) l.fn.self.table.stations.items l.fn.self.rest l.fn.self.callers)
-      (play_of (seen_of l.self.table.board) l.self.table.stations.items l.self.rest l.self.callers);
+  does : GoesAs (DoesActs l.script (take l.act-index l.act-items)) (state_of l.fn.self)
+      (state_of l.self);
 }

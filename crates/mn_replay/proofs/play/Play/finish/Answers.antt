@@ -3,18 +3,17 @@ use Rattle.std.specs.List.{range_with_len}
 use Rattle.std.proofs.lemmas.List.FromFn.{map-range_with_len_more}
 use Rattle.mn_script.specs.declared.elements.Act.{Act}
 use Rattle.mn_replay.specs.Logs.{GoesAs}
-use Rattle.mn_replay.specs.Plays.{play_of}
+use Rattle.mn_replay.specs.Plays.{state_of}
 use Rattle.mn_replay.specs.Schedule.{DoesAct, DoesActs, all_of}
-use Rattle.mn_replay.specs.Turn.{seen_of}
 use Rattle.mn_replay.proofs.Scheduled.{acts_as, acts_more}
 use Rattle.mn_replay.proofs.play.Play.finish.Goals as goal
 
 pub loop-at-preserved : goal.loop-at-preserved
 loop-at-preserved g c =
     let script = c.args.script.now in
-    let p = (play_of (seen_of c.args.self.now.table.board) c.args.self.now.table.stations.items c.args.self.now.rest c.args.self.now.callers) in
-    let q = (play_of (seen_of c.loop-at.self.table.board) c.loop-at.self.table.stations.items c.loop-at.self.rest c.loop-at.self.callers) in
-    let r = (play_of (seen_of c.client_turn.new.self.table.board) c.client_turn.new.self.table.stations.items c.client_turn.new.self.rest c.client_turn.new.self.callers) in
+    let p = (state_of c.args.self.now) in
+    let q = (state_of c.loop-at.self) in
+    let r = (state_of c.client_turn.new.self) in
     let k = c.loop-at.at in
     record {
       play = c.client_turn.ensures.play;
@@ -28,5 +27,5 @@ pub returns-clause-does : goal.returns-clause-does
 returns-clause-does g c =
     let all = ap length c.clients-count.ensures.value in
     let whole : c.loop-at.at ≡ length c.args.script.now.clients = omega (arith, all, c.loop-at-test.false, c.loop-at.auto.at-end) in
-    subst (λ (n : ℕ). GoesAs (DoesActs c.args.script.now (map all_of (range_with_len 0 n))) (play_of (seen_of c.args.self.now.table.board) c.args.self.now.table.stations.items c.args.self.now.rest c.args.self.now.callers)
-    (play_of (seen_of c.loop-at.self.table.board) c.loop-at.self.table.stations.items c.loop-at.self.rest c.loop-at.self.callers)) whole c.loop-at.invariant.does
+    subst (λ (n : ℕ). GoesAs (DoesActs c.args.script.now (map all_of (range_with_len 0 n))) (state_of c.args.self.now)
+    (state_of c.loop-at.self)) whole c.loop-at.invariant.does

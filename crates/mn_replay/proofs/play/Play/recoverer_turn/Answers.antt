@@ -11,10 +11,10 @@ use Rattle.mn_world.specs.Protocol.{start_of}
 use Rattle.mn_world.specs.Run.{entries_of}
 use Rattle.mn_replay.specs.Clients.{last_shared}
 use Rattle.mn_replay.specs.Logs.{GoesAs}
-use Rattle.mn_replay.specs.Plays.{caller_at, list_by, play_of}
+use Rattle.mn_replay.specs.Plays.{caller_at, list_by, state_of}
 use Rattle.mn_replay.specs.Recoveries.{bench_of}
 use Rattle.mn_replay.specs.Schedule.{DoesWork, RecoversFor, recoverer}
-use Rattle.mn_replay.specs.Turn.{seen_of, turn_of}
+use Rattle.mn_replay.specs.Turn.{turn_at}
 use Rattle.mn_replay.proofs.Acting.{desk_begins, desk_ends, desk_goes, desk_turn, list_of_client, met_at, ok_then}
 use Rattle.mn_replay.proofs.play.Play.recoverer_turn.Goals as goal
 
@@ -30,7 +30,7 @@ work-done-requires-clause-turn g c =
     let few = c.requires.recoverer in
     let there = met_at c.args.self.now.callers.desks.items (c.args.recoverer - 1) c.from-2.result c.index_mut-desk.result.now (omega arith) c.from-2.ensures c.index_mut-desk.ensures.value in
     let p = c.args.self.now in
-    desk_begins g.N.Named.board (start_of g.N.Named.records) (play_of (seen_of p.table.board) p.table.stations.items p.rest p.callers) c.requires.play.1.rests (c.args.recoverer - 1) c.index_mut-desk.result.now there
+    desk_begins g.N.Named.board (start_of g.N.Named.records) (state_of p) c.requires.play.1.rests (c.args.recoverer - 1) c.index_mut-desk.result.now there
     (view_of c.split-pass.new.from) (view_of c.split-pass.result) (board_of c.split-pass.result) c.split-pass.ensures.view c.split-pass.ensures.board.1
 
 pub work-done-requires-clause-desk : goal.work-done-requires-clause-desk
@@ -53,12 +53,12 @@ returns-clause-play g c =
     let there = met_at c.args.self.now.callers.desks.items (c.args.recoverer - 1) c.from-2.result c.index_mut-desk.result.now (omega arith) c.from-2.ensures c.index_mut-desk.ensures.value in
     let p = c.args.self.now in
     let start = start_of g.N.Named.records in
-    let state = play_of (seen_of p.table.board) p.table.stations.items p.rest p.callers in
+    let state = state_of p in
     let table = c.work-done.new.table in
     let desk = c.work-done.new.desk in
-    let turn = turn_of (seen_of table.board) table.stations.items c.work-done.new.pass desk.list in
+    let turn = turn_at table c.work-done.new.pass desk.list in
     let items = ap (λ (k : ℕ). slice_set p.callers.desks.items k desk) c.from-2.ensures in
-    let after = play_of (seen_of table.board) table.stations.items c.join.new.into (record { clients = p.callers.clients; desks = with_item p.callers.desks c.from-2.result desk; closer = p.callers.closer }) in
+    let after = state_of (record { table = table; rest = c.join.new.into; callers = record { clients = p.callers.clients; desks = with_item p.callers.desks c.from-2.result desk; closer = p.callers.closer } }) in
     let of = desk_turn g.N.Named.board start state c.requires.play.1.rests (c.args.recoverer - 1) c.index_mut-desk.result.now there after
     (view_of c.split-pass.new.from) (view_of c.split-pass.result) (board_of c.split-pass.result) turn desk
     c.split-pass.ensures.view c.work-done.ensures.turn c.work-done.ensures.goes_on c.join.ensures.view (c.join.ensures.board ∙ c.split-pass.ensures.board.0) refl refl refl items refl refl c.work-done.ensures.desk in
@@ -72,12 +72,12 @@ returns-clause-does g c =
     let there = met_at c.args.self.now.callers.desks.items (c.args.recoverer - 1) c.from-2.result c.index_mut-desk.result.now (omega arith) c.from-2.ensures c.index_mut-desk.ensures.value in
     let p = c.args.self.now in
     let start = start_of g.N.Named.records in
-    let state = play_of (seen_of p.table.board) p.table.stations.items p.rest p.callers in
+    let state = state_of p in
     let table = c.work-done.new.table in
     let desk = c.work-done.new.desk in
-    let turn = turn_of (seen_of table.board) table.stations.items c.work-done.new.pass desk.list in
+    let turn = turn_at table c.work-done.new.pass desk.list in
     let items = ap (λ (k : ℕ). slice_set p.callers.desks.items k desk) c.from-2.ensures in
-    let after = play_of (seen_of table.board) table.stations.items c.join.new.into (record { clients = p.callers.clients; desks = with_item p.callers.desks c.from-2.result desk; closer = p.callers.closer }) in
+    let after = state_of (record { table = table; rest = c.join.new.into; callers = record { clients = p.callers.clients; desks = with_item p.callers.desks c.from-2.result desk; closer = p.callers.closer } }) in
     let of = desk_turn g.N.Named.board start state c.requires.play.1.rests (c.args.recoverer - 1) c.index_mut-desk.result.now there after
     (view_of c.split-pass.new.from) (view_of c.split-pass.result) (board_of c.split-pass.result) turn desk
     c.split-pass.ensures.view c.work-done.ensures.turn c.work-done.ensures.goes_on c.join.ensures.view (c.join.ensures.board ∙ c.split-pass.ensures.board.0) refl refl refl items refl refl c.work-done.ensures.desk in

@@ -5,31 +5,31 @@ use Rattle.mn_world.specs.Protocol.{start_of}
 use Rattle.mn_world.specs.Run.{entries_of}
 use Rattle.mn_replay.specs.Closing.{ClosesOn}
 use Rattle.mn_replay.specs.Logs.{AreFreeIfSound, GoesAs, HasLog, Settles}
-use Rattle.mn_replay.specs.Plays.{play_of}
-use Rattle.mn_replay.specs.Settled.{AreSettled}
-use Rattle.mn_replay.specs.Turn.{seen_of, turn_of}
+use Rattle.mn_replay.specs.Plays.{state_of}
+use Rattle.mn_replay.specs.Settled.{AreUpAndFree}
+use Rattle.mn_replay.specs.Turn.{turn_at}
 use Rattle.mn_replay.proofs.Acting.{ok_then}
 use Rattle.mn_replay.proofs.Opened.{free_if_sound}
 use Rattle.mn_replay.proofs.CloserTurns.{closer_begins, closer_ends, closer_goes, closer_owns, closer_turn, settles_log}
 use Rattle.mn_replay.proofs.play.Play.settle.Goals as goal
 
 pub split-pass-requires-clause-owns : goal.split-pass-requires-clause-owns
-split-pass-requires-clause-owns g c = let p = c.args.self.now in closer_owns g.N.Named.board (start_of g.N.Named.records) (play_of (seen_of p.table.board) p.table.stations.items p.rest p.callers) c.requires.play
+split-pass-requires-clause-owns g c = let p = c.args.self.now in closer_owns g.N.Named.board (start_of g.N.Named.records) (state_of p) c.requires.play
 
 pub settle-done-requires-clause-turn : goal.settle-done-requires-clause-turn
 settle-done-requires-clause-turn g c =
     let p = c.args.self.now in
-    closer_begins g.N.Named.board (start_of g.N.Named.records) (play_of (seen_of p.table.board) p.table.stations.items p.rest p.callers) c.requires.play
+    closer_begins g.N.Named.board (start_of g.N.Named.records) (state_of p) c.requires.play
     (view_of c.split-pass.new.from) (view_of c.split-pass.result) (board_of c.split-pass.result) c.split-pass.ensures.view c.split-pass.ensures.board.1
 
 pub returns-clause-play : goal.returns-clause-play
 returns-clause-play g c =
     let p = c.args.self.now in
     let start = start_of g.N.Named.records in
-    let state = play_of (seen_of p.table.board) p.table.stations.items p.rest p.callers in
+    let state = state_of p in
     let table = c.settle-done.new.table in
-    let turn = turn_of (seen_of table.board) table.stations.items c.settle-done.new.pass c.settle-done.new.self.list in
-    let after = play_of (seen_of table.board) table.stations.items c.join.new.into (record { clients = p.callers.clients; desks = p.callers.desks; closer = record { list = c.settle-done.new.self.list } }) in
+    let turn = turn_at table c.settle-done.new.pass c.settle-done.new.self.list in
+    let after = state_of (record { table = table; rest = c.join.new.into; callers = record { clients = p.callers.clients; desks = p.callers.desks; closer = record { list = c.settle-done.new.self.list } } }) in
     let recovery = c.settle-done.ensures.list in
     let of = closer_turn g.N.Named.board start state c.requires.play after (view_of c.split-pass.new.from) (view_of c.split-pass.result) (board_of c.split-pass.result) turn
     c.split-pass.ensures.view c.settle-done.ensures.turn c.settle-done.ensures.goes_on c.join.ensures.view (c.join.ensures.board ∙ c.split-pass.ensures.board.0) refl refl refl refl refl recovery in
@@ -39,10 +39,10 @@ pub returns-clause-does : goal.returns-clause-does
 returns-clause-does g c =
     let p = c.args.self.now in
     let start = start_of g.N.Named.records in
-    let state = play_of (seen_of p.table.board) p.table.stations.items p.rest p.callers in
+    let state = state_of p in
     let table = c.settle-done.new.table in
-    let turn = turn_of (seen_of table.board) table.stations.items c.settle-done.new.pass c.settle-done.new.self.list in
-    let after = play_of (seen_of table.board) table.stations.items c.join.new.into (record { clients = p.callers.clients; desks = p.callers.desks; closer = record { list = c.settle-done.new.self.list } }) in
+    let turn = turn_at table c.settle-done.new.pass c.settle-done.new.self.list in
+    let after = state_of (record { table = table; rest = c.join.new.into; callers = record { clients = p.callers.clients; desks = p.callers.desks; closer = record { list = c.settle-done.new.self.list } } }) in
     let recovery = c.settle-done.ensures.list in
     let of = closer_turn g.N.Named.board start state c.requires.play after (view_of c.split-pass.new.from) (view_of c.split-pass.result) (board_of c.split-pass.result) turn
     c.split-pass.ensures.view c.settle-done.ensures.turn c.settle-done.ensures.goes_on c.join.ensures.view (c.join.ensures.board ∙ c.split-pass.ensures.board.0) refl refl refl refl refl recovery in
@@ -61,7 +61,7 @@ pub returns-clause-free : goal.returns-clause-free
 returns-clause-free g c =
     let p = c.args.self.now in
     let table = c.settle-done.new.table in
-    let after = play_of (seen_of table.board) table.stations.items c.join.new.into (record { clients = p.callers.clients; desks = p.callers.desks; closer = record { list = c.settle-done.new.self.list } }) in
-    ok_then c.settle-done.result (AreSettled (length g.N.Named.records) table.stations.items) ((past : List Entry) → HasLog after past → AreFreeIfSound (start_of g.N.Named.records) past)
+    let after = state_of (record { table = table; rest = c.join.new.into; callers = record { clients = p.callers.clients; desks = p.callers.desks; closer = record { list = c.settle-done.new.self.list } } }) in
+    ok_then c.settle-done.result (AreUpAndFree (length g.N.Named.records) table.stations.items) ((past : List Entry) → HasLog after past → AreFreeIfSound (start_of g.N.Named.records) past)
     (λ settled. free_if_sound g.D.Disk.state g.D.Disk.faults (start_of g.N.Named.records) g.N.Named.faults g.N.Named.honest after c.settle-done.ensures.turn.stations c.made.ensures settled)
     c.settle-done.ensures.settled

@@ -1,7 +1,7 @@
 use Rattle.std.proofs.Common.{sym}
 use Rattle.mn_world.specs.Protocol.{base_at, start_of}
 use Rattle.mn_replay.specs.Settled.{records_at}
-use Rattle.mn_replay.specs.Turn.{seen_of, turn_of}
+use Rattle.mn_replay.specs.Turn.{turn_at}
 use Rattle.mn_replay.proofs.Advancing.{fed_on}
 use Rattle.mn_replay.proofs.Closing.{all_extend, closes_further, closes_same, closing_same}
 use Rattle.mn_replay.proofs.Recovering.{sends_recovery, work_goes_on, work_same}
@@ -11,22 +11,22 @@ use Rattle.mn_replay.proofs.settle.Closer.advance.Goals as goal
 
 pub returns-then-is_err-clause-goes_on : goal.returns-then-is_err-clause-goes_on
 returns-then-is_err-clause-goes_on g c =
-    let t = turn_of (seen_of c.args.table.now.board) c.args.table.now.stations.items c.args.pass.now c.args.self.now.list in
+    let t = turn_at c.args.table.now c.args.pass.now c.args.self.now.list in
     goes_same t _ c.make_room.ensures.client c.make_room.ensures.entries
 
 pub call-requires-clause-closing : goal.call-requires-clause-closing
 call-requires-clause-closing g c =
-    let t = turn_of (seen_of c.args.table.now.board) c.args.table.now.stations.items c.args.pass.now c.args.self.now.list in
+    let t = turn_at c.args.table.now c.args.pass.now c.args.self.now.list in
     closing_same g.N.Named.board (start_of g.N.Named.records) t c.requires.closing _ c.make_room.ensures.client c.make_room.ensures.entries
 
 pub returns-in_err-reply-clause-goes_on : goal.returns-in_err-reply-clause-goes_on
 returns-in_err-reply-clause-goes_on g c =
-    let t = turn_of (seen_of c.args.table.now.board) c.args.table.now.stations.items c.args.pass.now c.args.self.now.list in
+    let t = turn_at c.args.table.now c.args.pass.now c.args.self.now.list in
     goes_further t _ _ (goes_same t _ c.make_room.ensures.client c.make_room.ensures.entries) c.call.ensures.goes_on
 
 pub returns-clause-goes_on : goal.returns-clause-goes_on
 returns-clause-goes_on g c =
-    let t = turn_of (seen_of c.args.table.now.board) c.args.table.now.stations.items c.args.pass.now c.args.self.now.list in
+    let t = turn_at c.args.table.now c.args.pass.now c.args.self.now.list in
     goes_further t _ _ (goes_same t _ c.make_room.ensures.client c.make_room.ensures.entries) c.call.ensures.goes_on
 
 pub returns-clause-work : goal.returns-clause-work

@@ -1,19 +1,19 @@
 use Rattle.std.proofs.Common.{refl}
 use Rattle.mn_world.specs.Protocol.{start_of}
-use Rattle.mn_replay.specs.Turn.{seen_of, turn_of}
+use Rattle.mn_replay.specs.Turn.{turn_at}
 use Rattle.mn_replay.proofs.Closing.{caused_by, closes_called, closing_called, no_failure, up_not_down}
 use Rattle.mn_replay.proofs.Stations.{not_none}
 use Rattle.mn_replay.proofs.settle.Closer.call.Goals as goal
 
 pub returns-in-Some-clause-closing : goal.returns-in-Some-clause-closing
 returns-in-Some-clause-closing g c =
-    let t = turn_of (seen_of c.args.table.now.board) c.args.table.now.stations.items c.args.pass.now c.args.self.now.list in
+    let t = turn_at c.args.table.now c.args.pass.now c.args.self.now.list in
     let r = c.call-reply.ensures in
     closing_called g.N.Named.board (start_of g.N.Named.records) t _ c.requires.closing r.turn r.goes_on.client c.args.node c.args.request c.call-reply.result c.requires.kind r.said r.none
 
 pub returns-in-None-clause-closing : goal.returns-in-None-clause-closing
 returns-in-None-clause-closing g c =
-    let t = turn_of (seen_of c.args.table.now.board) c.args.table.now.stations.items c.args.pass.now c.args.self.now.list in
+    let t = turn_at c.args.table.now c.args.pass.now c.args.self.now.list in
     let r = c.call-reply.ensures in
     closing_called g.N.Named.board (start_of g.N.Named.records) t _ c.requires.closing r.turn r.goes_on.client c.args.node c.args.request c.call-reply.result c.requires.kind r.said r.none
 

@@ -4,13 +4,13 @@ use Rattle.mn_world.specs.Run.{entries_of}
 use Rattle.mn_replay.specs.Closing.{AllExtend, ClosesOn, IsClosing, IsDoneTo, calls_left}
 use Rattle.mn_replay.specs.Desks.{IsWork}
 use Rattle.mn_replay.specs.Settled.{AllUp, records_at}
-use Rattle.mn_replay.specs.Turn.{GoesOn, seen_of, turn_of}
+use Rattle.mn_replay.specs.Turn.{ExtendsLog, turn_at}
 use Rattle.mn_replay.proofs.settle.Closer.recover.Given as goal
 
 abbrev pub invariant-loop-node : goal.invariant-loop-node
 invariant-loop-node g l = record {
-  closing : IsClosing g.N.Named.board (start_of g.N.Named.records) (turn_of (seen_of l.table.board) l.table.stations.items l.pass l.self.list);
-  goes_on : GoesOn (turn_of (seen_of l.fn.table.board) l.fn.table.stations.items l.fn.pass l.fn.self.list) (turn_of (seen_of l.table.board) l.table.stations.items l.pass l.self.list);
+  closing : IsClosing g.N.Named.board (start_of g.N.Named.records) (turn_at l.table l.pass l.self.list);
+  goes_on : ExtendsLog (turn_at l.fn.table l.fn.pass l.fn.self.list) (turn_at l.table l.pass l.self.list);
   closes : ClosesOn (entries_of l.fn.self.list.entries) (entries_of l.self.list.entries);
   up : AllUp l.table.stations.items;
   extends : AllExtend l.fn.table.stations.items l.table.stations.items;

@@ -5,13 +5,13 @@ use Rattle.mn_actors.specs.Lists.{IsAppended, MayAppend}
 use Rattle.mn_actors.specs.Sight.{view_of}
 use Rattle.mn_cell.specs.Calls.{IsLegalLine}
 use Rattle.mn_replay.specs.Steps.{own_entry}
-use Rattle.mn_replay.specs.Turn.{seen_of, turn_of}
+use Rattle.mn_replay.specs.Turn.{turn_at}
 use Rattle.mn_replay.proofs.Turns.{goes_alone, may_alone, turn_alone}
 use Rattle.mn_replay.proofs.table.Table.add.Goals as goal
 
 pub append_ref-place-requires-clause-may : goal.append_ref-place-requires-clause-may
 append_ref-place-requires-clause-may g c =
-    let t = turn_of (seen_of c.args.self.now.board) c.args.self.now.stations.items c.args.pass.now c.args.list.now in
+    let t = turn_at c.args.self.now c.args.pass.now c.args.list.now in
     let few = c.room-room.ensures.few in
     let some = subst (λ (n : ℕ). 0 < n) (sym c.room-room.ensures.room) c.requires.room in
     subst (λ (k : ClientNo). MayAppend IsLegalLine (view_of c.args.pass.now) (line None (Some k) (own_entry k c.args.what))) (sym c.client-client.ensures.client)

@@ -4,7 +4,7 @@ use Rattle.mn_cell.specs.Calls.{entry_at, what_said}
 use Rattle.mn_cell.specs.Promises.{IsOwedAt, decided_by}
 use Rattle.mn_world.specs.Protocol.{start_of}
 use Rattle.mn_world.specs.Run.{IsLegalBy, entries_of}
-use Rattle.mn_replay.specs.Turn.{seen_of, turn_of}
+use Rattle.mn_replay.specs.Turn.{turn_at}
 use Rattle.mn_replay.proofs.Stations.{answered, down_not_none, entered, made_at, not_none, others_stay, stopped, stopped_not_none, was_down}
 use Rattle.mn_replay.proofs.Turns.{goes_called, goes_still, if_none, is_among, its_number, read_there, turn_called}
 use Rattle.mn_replay.proofs.table.Table.call.Goals as goal
@@ -24,13 +24,13 @@ call-reply-requires-clause-legal g c = λ reply.
 pub returns-clause-turn : goal.returns-clause-turn
 returns-clause-turn g c =
     let at = (goal.at.returns-clause-turn g c).After-index_mut-station in
-    let t = turn_of (seen_of c.args.self.now.board) c.args.self.now.stations.items c.args.pass.now c.args.list.now in
+    let t = turn_at c.args.self.now c.args.pass.now c.args.list.now in
     turn_called t c.from.result c.index_mut-station.result.now c.call-reply.new.self (there g at) _ _ _ g.N.Named.board _ c.requires.turn c.call-reply.ensures.number c.call-reply.ensures.board c.call-reply.ensures.client c.call-reply.ensures.owns c.call-reply.ensures.list
 
 pub returns-clause-goes_on : goal.returns-clause-goes_on
 returns-clause-goes_on g c =
     let at = (goal.at.returns-clause-goes_on g c).After-index_mut-station in
-    let t = turn_of (seen_of c.args.self.now.board) c.args.self.now.stations.items c.args.pass.now c.args.list.now in
+    let t = turn_at c.args.self.now c.args.pass.now c.args.list.now in
     let s = c.index_mut-station.result.now in
     if_none c.call-reply.result
     (λ is. goes_still t c.from.result s c.call-reply.new.self (there g at) _ _ _ (c.call-reply.ensures.before is).list (c.call-reply.ensures.pass_before is).0 c.call-reply.ensures.client (c.call-reply.ensures.list_before is))

@@ -6,7 +6,7 @@ use Rattle.mn_world.specs.declared.entry.What.TheVariants.{Stopped}
 use Rattle.mn_world.specs.Lists.{ClientState}
 use Rattle.mn_world.specs.Nodes.{is_down}
 use Rattle.mn_world.specs.Run.{entries_of}
-use Rattle.mn_replay.specs.Turn.{seen_of, turn_of}
+use Rattle.mn_replay.specs.Turn.{turn_at}
 use Rattle.mn_replay.proofs.Doings.{by_halted, by_same, goes_by, in_both_ways, not_ok}
 use Rattle.mn_replay.proofs.Turns.{by_flag, goes_called, goes_still, is_among, its_number, read_there, turn_called}
 use Rattle.mn_replay.proofs.table.Table.halt.Goals as goal
@@ -21,20 +21,20 @@ number g c = its_number _ c.args.self.now.stations.items c.from.result c.args.no
 pub returns-in_err-halt-clause-goes_on : goal.returns-in_err-halt-clause-goes_on
 returns-in_err-halt-clause-goes_on g c =
     let at = (goal.at.returns-in_err-halt-clause-goes_on g c).After-index_mut-station in
-    let t = turn_of (seen_of c.args.self.now.board) c.args.self.now.stations.items c.args.pass.now c.args.list.now in
+    let t = turn_at c.args.self.now c.args.pass.now c.args.list.now in
     let same = c.in_err-halt.ensures.failed in
     goes_still t c.from.result c.index_mut-station.result.now c.halt.new.self (there g at) _ _ _ (ap (λ s. s.list) same.0) (ap (λ p. (view_of p).known) same.1) c.halt.ensures.client same.2
 
 pub returns-clause-turn : goal.returns-clause-turn
 returns-clause-turn g c =
     let at = (goal.at.returns-clause-turn g c).After-index_mut-station in
-    let t = turn_of (seen_of c.args.self.now.board) c.args.self.now.stations.items c.args.pass.now c.args.list.now in
+    let t = turn_at c.args.self.now c.args.pass.now c.args.list.now in
     turn_called t c.from.result c.index_mut-station.result.now c.halt.new.self (there g at) _ _ _ g.N.Named.board _ c.requires.turn c.halt.ensures.number c.halt.ensures.board c.halt.ensures.client c.halt.ensures.owns c.halt.ensures.list
 
 pub returns-clause-goes_on : goal.returns-clause-goes_on
 returns-clause-goes_on g c =
     let at = (goal.at.returns-clause-goes_on g c).After-index_mut-station in
-    let t = turn_of (seen_of c.args.self.now.board) c.args.self.now.stations.items c.args.pass.now c.args.list.now in
+    let t = turn_at c.args.self.now c.args.pass.now c.args.list.now in
     let s = c.index_mut-station.result.now in
     by_flag c.in_ok-halt.field-0
     (λ is. goes_called t c.from.result s c.halt.new.self (there g at) _ _ _ (Stopped None None) (c.requires.turn.stations.in_order c.from.result s (there g at)) c.halt.ensures.client (c.in_ok-halt.ensures.halted is))

@@ -8,7 +8,7 @@ use Rattle.mn_world.specs.Run.{entries_of}
 use Rattle.mn_world.specs.Lists.{ClientState}
 use Rattle.mn_world.specs.Nodes.{is_down}
 use Rattle.mn_world.specs.Protocol.{start_of}
-use Rattle.mn_replay.specs.Turn.{seen_of, turn_of}
+use Rattle.mn_replay.specs.Turn.{turn_at}
 use Rattle.mn_replay.proofs.Doings.{by_kept, by_same, goes_by, in_both_ways}
 use Rattle.mn_replay.proofs.Stations.{caused, down_as, made_at, others_stay, was_as}
 use Rattle.mn_replay.proofs.Turns.{by_option, goes_called, goes_still, is_among, its_number, read_there, turn_called}
@@ -24,21 +24,21 @@ number g c = its_number _ c.args.self.now.stations.items c.from.result c.args.no
 pub returns-in-Ok-clause-turn : goal.returns-in-Ok-clause-turn
 returns-in-Ok-clause-turn g c =
     let at = (goal.at.returns-in-Ok-clause-turn g c).After-index_mut-station in
-    let t = turn_of (seen_of c.args.self.now.board) c.args.self.now.stations.items c.args.pass.now c.args.list.now in
+    let t = turn_at c.args.self.now c.args.pass.now c.args.list.now in
     let r = c.restart.ensures in
     turn_called t c.from.result c.index_mut-station.result.now c.restart.new.self (there g at) _ _ _ g.N.Named.board _ c.requires.turn r.number r.board r.client r.owns r.list
 
 pub returns-in-Err-clause-turn : goal.returns-in-Err-clause-turn
 returns-in-Err-clause-turn g c =
     let at = (goal.at.returns-in-Err-clause-turn g c).After-index_mut-station in
-    let t = turn_of (seen_of c.args.self.now.board) c.args.self.now.stations.items c.args.pass.now c.args.list.now in
+    let t = turn_at c.args.self.now c.args.pass.now c.args.list.now in
     let r = c.restart.ensures in
     turn_called t c.from.result c.index_mut-station.result.now c.restart.new.self (there g at) _ _ _ g.N.Named.board _ c.requires.turn r.number r.board r.client r.owns r.list
 
 pub returns-in-Ok-clause-goes_on : goal.returns-in-Ok-clause-goes_on
 returns-in-Ok-clause-goes_on g c =
     let at = (goal.at.returns-in-Ok-clause-goes_on g c).After-index_mut-station in
-    let t = turn_of (seen_of c.args.self.now.board) c.args.self.now.stations.items c.args.pass.now c.args.list.now in
+    let t = turn_at c.args.self.now c.args.pass.now c.args.list.now in
     let s = c.index_mut-station.result.now in
     let r = c.in-Ok.ensures in
     let ends = λ (kept : Bool). EndsBoth (view_of c.args.pass.now).known c.restart.new.self.known (view_of c.restart.new.pass).known (entry_at s.number c.args.list.now.client (Restarted kept)) s.list c.restart.new.self.list c.args.list.now.entries c.restart.new.list.entries in
@@ -93,7 +93,7 @@ returns-in-Ok-clause-up g c =
 pub returns-in-Err-clause-goes_on : goal.returns-in-Err-clause-goes_on
 returns-in-Err-clause-goes_on g c =
     let at = (goal.at.returns-in-Err-clause-goes_on g c).After-index_mut-station in
-    let t = turn_of (seen_of c.args.self.now.board) c.args.self.now.stations.items c.args.pass.now c.args.list.now in
+    let t = turn_at c.args.self.now c.args.pass.now c.args.list.now in
     let same = c.in-Err.ensures.failed in
     goes_still t c.from.result c.index_mut-station.result.now c.restart.new.self (there g at) _ _ _ same.0.list (ap (λ p. (view_of p).known) same.2) c.restart.ensures.client same.3
 

@@ -1,0 +1,14 @@
+use Rattle.std.proofs.Common.{◌≡◌, List, take, reverse}
+use Rattle.mn_mini.specs.declared.record.Record.{Record}
+use Rattle.mn_mini.specs.Node.{space_of}
+use Rattle.mn_flat.specs.Told.{IsTold, IsPast}
+use Rattle.mn_flat.specs.Votes.{AreRight, list_at}
+use Rattle.mn_flat.proofs.flat.replay.Given as goal
+
+-- the records so far are right; they are kept, and the space is what they make of the base
+abbrev pub invariant-loop-number : goal.invariant-loop-number
+invariant-loop-number l = record {
+  past : IsPast l.past (reverse (take l.number l.list));
+  space : l.space ≡ space_of l.fn.space (reverse (take l.number l.list));
+  right : (records : List (List Record)) → IsTold l.told records → l.list ≡ list_at records l.node → AreRight records l.node (reverse (take l.number l.list));
+}

@@ -1,0 +1,4 @@
+pub mod Votes
+pub mod Known
+pub mod Told
+pub mod Refusal

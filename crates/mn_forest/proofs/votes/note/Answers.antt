@@ -1,4 +1,0 @@
-use Rattle.mn_forest.proofs.votes.note.Goals as goal
-
-pub returns : goal.returns
-returns c = λ older past. record { known = c.in_ok-note.ensures older past.known; held = c.in_ok-hold.ensures older past.held }

@@ -1,0 +1,273 @@
+//! How a try goes on to what it wants next: a read, by a Peek or by a minitransaction, its plan,
+//! or its end.
+ghost use Rattle.std.specs.Prelude.{◌≡◌, ◌≤◌, ◌<◌, List, IfOk, OnErr, None, true};
+ghost use Rattle.mn_base.specs.declared.op.Op.{Op};
+ghost use Rattle.mn_mini.specs.Mini.{IsInSpace, IsSound};
+ghost use Rattle.mn_txn.specs.Tries.{FreeSlotsAreLeft, TriesShowCauses, WornPagesShow};
+ghost use Rattle.mn_world.specs.declared.entry.Entry.{Entry};
+ghost use Rattle.mn_world.specs.Places.{catalog_place};
+ghost use Rattle.mn_proxy.specs.declared.errand.Purpose.TheVariants as purposes;
+ghost use Rattle.mn_proxy.specs.declared.get.Descent.{Descent};
+ghost use Rattle.mn_proxy.specs.Agrees.{IsAtRest, IsOwn, IsPlaceFor, MayPeekFor};
+ghost use Rattle.mn_proxy.specs.Cached.{Walks, next_of};
+ghost use Rattle.mn_proxy.specs.Kept.{CacheTurns, CatalogTurns, GoesWith, Issues, Reads};
+ghost use Rattle.mn_proxy.specs.Knows.{KeepsKnown};
+ghost use Rattle.mn_proxy.specs.Measure.{GoesBelow, left_after};
+ghost use Rattle.mn_proxy.specs.Paths.{HasCurrentPath, ReadsLeaf, WantsLeaf};
+ghost use Rattle.mn_proxy.specs.Places.{place_of};
+ghost use Rattle.mn_proxy.specs.Tries.{max_tries};
+ghost use Rattle.mn_proxy.specs.Turns.{IsSoundTurn, KeepsSelf, MayIssue, TurnAgrees, WaitsFor};
+ghost use Rattle.mn_proxy.specs.Turns.{read_mini, with_known};
+ghost use Rattle.mn_proxy.specs.Walks.{is_later};
+ghost use Rattle.mn_proxy.specs.Works.{IsJobOf, IsStartable, KeepsOp, WantsNext, new_work};
+
+use super::{PEEKS, Proxy, Turn, ends, goes};
+use crate::errand::{Errand, Purpose};
+use crate::next::Next;
+use crate::place::Place;
+use crate::step::ProxyStep;
+use crate::work::Work;
+use mn_base::{NoMemory, Tid, TryCopy};
+use mn_coord::Coordinator;
+use mn_mini::{Item, Items, MAX_ITEM, Minitransaction, Request, SPACE};
+use std::alloc::Global;
+
+/// A minitransaction that reads a place. NoMemory: there was no memory for it.
+fn read_of(alloc: Global, nodes: u8, place: Place) -> Result<Minitransaction, NoMemory>
+    ensures { IfOk result (λ mini. mini ≡ read_mini nodes (place_of place)) }
+{
+    let mut items = Vec::new(alloc);
+    items.push(Item::Read {
+        node: place.node,
+        start: place.start,
+        length: place.length,
+    })?;
+    match Minitransaction::new(alloc, nodes, Items::from_vec(items)) {
+        Ok(mini) => Ok(mini),
+        Err(_) => Err(NoMemory),
+    }
+}
+
+/// What is so of each minitransaction.
+fn is_sound(mini: &Minitransaction)
+    ensures { IsSound mini.now }
+{
+    let _items = mini.items();
+}
+
+/// Whether the place lies in the space of a node.
+fn is_in_space(place: &Place) -> bool
+    ensures { result ≡ true → IsInSpace place.now.start place.now.length }
+{
+    place.length >= 1
+        && place.length <= MAX_ITEM
+        && u64::from(place.start) + u64::from(place.length) <= u64::from(SPACE)
+}
+
+/// What is known of tries that end for want of slots or of numbers.
+fn causes_are_shown()
+    ensures causes { TriesShowCauses }
+    ensures worns { WornPagesShow }
+    ensures left { FreeSlotsAreLeft }
+{
+    mn_txn::tries_show_causes();
+    mn_txn::worn_pages_show();
+    mn_txn::free_slots_are_left();
+}
+
+impl Proxy {
+    /// Goes on with what the try wants next.
+    pub(super) fn advance(&mut self, alloc: Global, work: Work) -> Result<Turn, NoMemory>
+        requires idle { self.old.work ≡ None }
+        requires few { work.failed < max_tries }
+        requires job { IsJobOf self.old.known work }
+        ensures sound { IfOk result (IsSoundTurn self.new.known) }
+        ensures turns { (es : List Entry) → IsOwn es self.old → IsAtRest es self.old.known work
+            → IfOk result (TurnAgrees es self.new) }
+        ensures left { (es : List Entry) → IsOwn es self.old → OnErr result (IsOwn es self.new) }
+        ensures kept { KeepsSelf self.old self.new × (self.new.work ≡ None) }
+        ensures falls { IfOk result (GoesBelow (left_after self.old) self.new) }
+        ensures cache { CacheTurns None (is_later work.failed)
+            self.old.known.cache self.new.known.cache result }
+        ensures catalog { IfOk result
+            (CatalogTurns None self.old.known.catalog self.new.known.catalog) }
+        ensures path { (op : Op) (leaf : Descent) → (work ≡ new_work op)
+            → HasCurrentPath self.old.known op leaf
+            → IfOk result (ReadsLeaf self.old.known.nodes op leaf) }
+    {
+        causes_are_shown();
+        let mut work = work;
+        match self.want(alloc, &mut work)? {
+            Next::Catalog => self.read_catalog(alloc, work),
+            Next::Page { addr, peek } => {
+                let place = Place::of_page(addr);
+                self.read(alloc, work, place, peek, Purpose::Page { addr })
+            }
+            Next::Count { node, peek } => {
+                self.read(alloc, work, Place::of_count(node), peek, Purpose::Count)
+            }
+            Next::Plan { mini, reply } => self.issue(alloc, work, mini, Purpose::Plan { reply }),
+            Next::Fails { cause } => self.fail(alloc, work, cause),
+            Next::Answers { answer } => Ok(ends(answer)),
+        }
+    }
+
+    /// What the try wants next.
+    fn want(&mut self, alloc: Global, work: &mut Work) -> Result<Next, NoMemory>
+        requires idle { self.old.work ≡ None }
+        requires job { IsJobOf self.old.known work.old }
+        ensures same { self.new ≡ with_known self.old self.new.known }
+        ensures kept { KeepsKnown self.old.known self.new.known }
+        ensures op { KeepsOp work.old work.new }
+        ensures wants { IfOk result (WantsNext self.new.known work.old work.new) }
+        ensures cache { Walks (is_later work.old.failed) (next_of result)
+            self.old.known.cache self.new.known.cache }
+        ensures path { (op : Op) (leaf : Descent) → (work.old ≡ new_work op)
+            → HasCurrentPath self.old.known op leaf → IfOk result (WantsLeaf leaf work.new) }
+        ensures few { self.new.known.nodes ≤ 8 }
+    {
+        self.has_nodes();
+        work.advance(alloc, &mut self.known)
+    }
+
+    // There are 1 to 8 nodes.
+    fn has_nodes(&self)
+        ensures some { 1 ≤ self.now.known.nodes }
+        ensures few { self.now.known.nodes ≤ 8 }
+    {
+        let _nodes = self.known.nodes;
+    }
+
+    /// Reads the catalog.
+    pub(super) fn read_catalog(&mut self, alloc: Global, work: Work) -> Result<Turn, NoMemory>
+        requires idle { self.old.work ≡ None }
+        requires few { work.failed < max_tries }
+        requires job { IsJobOf self.old.known work }
+        requires startable { IsStartable work.op work.job }
+        ensures sound { IfOk result (IsSoundTurn self.new.known) }
+        ensures turns { (es : List Entry) → IsOwn es self.old → IsAtRest es self.old.known work
+            → IfOk result (TurnAgrees es self.new) }
+        ensures left { (es : List Entry) → IsOwn es self.old → OnErr result (IsOwn es self.new) }
+        ensures kept { KeepsSelf self.old self.new × (self.new.work ≡ None) }
+        ensures falls { IfOk result (GoesBelow (left_after self.old) self.new) }
+        ensures known { self.new.known ≡ self.old.known }
+        ensures reads { IfOk result
+            (Issues work purposes.Catalog (read_mini self.old.known.nodes catalog_place)) }
+    {
+        self.has_nodes();
+        self.read(alloc, work, Place::of_catalog(), false, Purpose::Catalog)
+    }
+
+    /// Reads a place, by a Peek or by an Exec.
+    fn read(
+        &mut self,
+        alloc: Global,
+        work: Work,
+        place: Place,
+        peek: bool,
+        purpose: Purpose,
+    ) -> Result<Turn, NoMemory>
+        requires idle { self.old.work ≡ None }
+        requires few { work.failed < max_tries }
+        requires waits { WaitsFor self.old.known work purpose }
+        requires node { place.node.0 < self.old.known.nodes }
+        ensures sound { IfOk result (IsSoundTurn self.new.known) }
+        ensures turns { (es : List Entry) → IsOwn es self.old → IsAtRest es self.old.known work
+            → IsPlaceFor work.job purpose (place_of place)
+            → (peek ≡ true → (work.failed ≡ 0) × MayPeekFor work.job purpose)
+            → IfOk result (TurnAgrees es self.new) }
+        ensures left { (es : List Entry) → IsOwn es self.old → OnErr result (IsOwn es self.new) }
+        ensures kept { KeepsSelf self.old self.new × (self.new.work ≡ None) }
+        ensures falls { IfOk result (GoesBelow (left_after self.old) self.new) }
+        ensures known { self.new.known ≡ self.old.known }
+        ensures reads { IfOk result
+            (Reads peek work purpose (read_mini self.old.known.nodes (place_of place))) }
+    {
+        if !self.may_peek(peek) {
+            let mini = read_of(alloc, self.known.nodes, place)?;
+            return self.issue(alloc, work, mini, purpose);
+        }
+        self.peek(work, place, purpose)
+    }
+
+    /// Whether a place is read by a Peek, where it may be.
+    fn may_peek(&self, peek: bool) -> bool
+        ensures { result ≡ true → (peek ≡ true) × (1 ≤ self.now.peeks) }
+    {
+        peek && self.peeks > 0
+    }
+
+    /// Reads a place by a Peek.
+    fn peek(&mut self, work: Work, place: Place, purpose: Purpose) -> Result<Turn, NoMemory>
+        requires idle { self.old.work ≡ None }
+        requires few { work.failed < max_tries }
+        requires waits { WaitsFor self.old.known work purpose }
+        requires node { place.node.0 < self.old.known.nodes }
+        requires left { 1 ≤ self.old.peeks }
+        ensures sound { IfOk result (IsSoundTurn self.new.known) }
+        ensures turns { (es : List Entry) → IsOwn es self.old → IsAtRest es self.old.known work
+            → IsPlaceFor work.job purpose (place_of place)
+            → (work.failed ≡ 0) × MayPeekFor work.job purpose
+            → IfOk result (TurnAgrees es self.new) }
+        ensures left { (es : List Entry) → IsOwn es self.old → OnErr result (IsOwn es self.new) }
+        ensures kept { KeepsSelf self.old self.new × (self.new.work ≡ None) }
+        ensures falls { IfOk result (GoesBelow (left_after self.old) self.new) }
+        ensures known { self.new.known ≡ self.old.known }
+        ensures reads { IfOk result (GoesWith work) }
+    {
+        if !is_in_space(&place) {
+            return Err(NoMemory);
+        }
+        self.peeks -= 1;
+        let step = ProxyStep::Call {
+            node: place.node,
+            request: Request::Peek {
+                start: place.start,
+                length: place.length,
+            },
+        };
+        let errand = Errand::Peek { place, purpose };
+        Ok(goes(step, work, errand))
+    }
+
+    /// Issues a minitransaction under the next serial.
+    fn issue(
+        &mut self,
+        alloc: Global,
+        work: Work,
+        mini: Minitransaction,
+        purpose: Purpose,
+    ) -> Result<Turn, NoMemory>
+        requires idle { self.old.work ≡ None }
+        requires few { work.failed < max_tries }
+        requires waits { WaitsFor self.old.known work purpose }
+        requires nodes { mini.nodes ≡ self.old.known.nodes }
+        ensures sound { IfOk result (IsSoundTurn self.new.known) }
+        ensures turns { (es : List Entry) → IsOwn es self.old
+            → MayIssue es self.old.known work purpose mini → IfOk result (TurnAgrees es self.new) }
+        ensures left { (es : List Entry) → IsOwn es self.old → OnErr result (IsOwn es self.new) }
+        ensures kept { KeepsSelf self.old self.new × (self.new.work ≡ None) }
+        ensures falls { IfOk result (GoesBelow (left_after self.old) self.new) }
+        ensures known { self.new.known ≡ self.old.known }
+        ensures issues { IfOk result (Issues work purpose mini) }
+    {
+        is_sound(&mini);
+        if self.issued == u32::MAX {
+            return Err(NoMemory);
+        }
+        let tid = Tid {
+            run: self.run,
+            client: self.client,
+            serial: self.issued + 1,
+        };
+        let coordinator = Coordinator::new(alloc, tid, mini.try_copy(alloc)?)?;
+        self.issued += 1;
+        self.peeks = PEEKS;
+        let errand = Errand::Mini {
+            tid,
+            coordinator,
+            purpose,
+        };
+        Ok(goes(ProxyStep::Issue { tid, mini }, work, errand))
+    }
+}

@@ -1,0 +1,147 @@
+//! How a try fails, and what follows: a later one, or the answer.
+ghost use Rattle.std.specs.Prelude.{◌≡◌, ◌<◌, ◌+◌, List, IfOk, OnErr, None, Some};
+ghost use Rattle.mn_world.specs.declared.entry.Entry.{Entry};
+ghost use Rattle.mn_proxy.specs.Agrees.{IsOwn};
+ghost use Rattle.mn_proxy.specs.Kept.{CatalogTurns};
+ghost use Rattle.mn_proxy.specs.Measure.{GoesBelow, left_after};
+ghost use Rattle.mn_proxy.specs.Tries.{max_tries};
+ghost use Rattle.mn_proxy.specs.Turns.{FailsSo, HasFailed, IsRefused, IsSoundTurn, KeepsSelf};
+ghost use Rattle.mn_proxy.specs.Turns.{MayRetry, TurnAgrees};
+ghost use Rattle.mn_proxy.specs.Works.{IsStartable, retried_job};
+
+use super::{Proxy, Turn, ends};
+use crate::causes::refusal;
+use crate::work::Work;
+use mn_base::{Answer, Busy, NoMemory, NodeNo, Tid};
+use mn_coord::Outcome;
+use mn_mini::{Minitransaction, NodeReply};
+use std::alloc::Global;
+
+/// The most tries of an operation, and of each leaf of a scan.
+const TRIES: u8 = 8;
+
+/// How a minitransaction failed.
+#[derive(Debug, Drop)]
+enum Failure {
+    /// A node was down, or stopped.
+    Down,
+    /// A node refused it; so its try failed by this cause.
+    Refused { cause: Option<Busy> },
+}
+
+/// How a minitransaction failed by this reply.
+fn failure_by(
+    alloc: Global,
+    tid: Tid,
+    mini: &Minitransaction,
+    node: NodeNo,
+    reply: NodeReply,
+) -> Result<Failure, NoMemory>
+    ensures { IfOk result (FailsSo tid mini.now node (Some reply)) }
+{
+    match reply {
+        NodeReply::NoMemory => Err(NoMemory),
+        NodeReply::Down => Ok(Failure::Down),
+        NodeReply::Stopped => Ok(Failure::Down),
+        reply => {
+            let cause = refusal(alloc, tid, mini, node, reply)?;
+            Ok(Failure::Refused { cause })
+        }
+    }
+}
+
+/// How a minitransaction failed, by the reply of this node. NoMemory: for want of memory, there or
+/// here.
+fn failure_of(alloc: Global, tid: Tid, node: NodeNo, outcome: Outcome) -> Result<Failure, NoMemory>
+    ensures { IfOk result (FailsSo tid outcome.mini node outcome.reply) }
+{
+    let Outcome {
+        mini,
+        reply,
+        reads: _reads,
+    } = outcome;
+    match reply {
+        Some(reply) => failure_by(alloc, tid, &mini, node, reply),
+        None => Err(NoMemory),
+    }
+}
+
+impl Proxy {
+    /// Goes on after a minitransaction that failed by the reply of this node.
+    pub(super) fn refuse(
+        &mut self,
+        alloc: Global,
+        work: Work,
+        tid: Tid,
+        node: NodeNo,
+        outcome: Outcome,
+    ) -> Result<Turn, NoMemory>
+        requires idle { self.old.work ≡ None }
+        requires few { work.failed < max_tries }
+        requires startable { IsStartable work.op (retried_job work.job) }
+        ensures sound { IfOk result (IsSoundTurn self.new.known) }
+        ensures turns { (es : List Entry) → IsOwn es self.old
+            → IsRefused es self.old.known work tid outcome.mini node outcome.reply
+            → IfOk result (TurnAgrees es self.new) }
+        ensures left { (es : List Entry) → IsOwn es self.old → OnErr result (IsOwn es self.new) }
+        ensures kept { KeepsSelf self.old self.new × (self.new.work ≡ None) }
+        ensures falls { IfOk result (GoesBelow (left_after self.old) self.new) }
+        ensures cache { self.new.known.cache ≡ self.old.known.cache }
+        ensures catalog { IfOk result
+            (CatalogTurns None self.old.known.catalog self.new.known.catalog) }
+    {
+        match failure_of(alloc, tid, node, outcome)? {
+            Failure::Down => Ok(ends(Answer::Down { node })),
+            Failure::Refused { cause } => self.fail(alloc, work, cause),
+        }
+    }
+
+    /// Goes on after a try that failed: with a later one, which reads the catalog anew, or with the
+    /// answer. Only the first try may fail with no cause: no run shows this of a later one.
+    pub(super) fn fail(
+        &mut self,
+        alloc: Global,
+        work: Work,
+        cause: Option<Busy>,
+    ) -> Result<Turn, NoMemory>
+        requires idle { self.old.work ≡ None }
+        requires few { work.failed < max_tries }
+        requires startable { IsStartable work.op (retried_job work.job) }
+        ensures sound { IfOk result (IsSoundTurn self.new.known) }
+        ensures turns { (es : List Entry) → IsOwn es self.old
+            → HasFailed es self.old.known work cause → IfOk result (TurnAgrees es self.new) }
+        ensures left { (es : List Entry) → IsOwn es self.old → OnErr result (IsOwn es self.new) }
+        ensures kept { KeepsSelf self.old self.new × (self.new.work ≡ None) }
+        ensures falls { IfOk result (GoesBelow (left_after self.old) self.new) }
+        ensures cache { self.new.known.cache ≡ self.old.known.cache }
+        ensures catalog { IfOk result
+            (CatalogTurns None self.old.known.catalog self.new.known.catalog) }
+    {
+        match cause {
+            None if work.is_later() => Err(NoMemory),
+            Some(cause) if work.failed + 1 >= TRIES => Ok(ends(Answer::Busy { cause })),
+            _ => self.retry(alloc, work),
+        }
+    }
+
+    /// Begins a later try.
+    fn retry(&mut self, alloc: Global, work: Work) -> Result<Turn, NoMemory>
+        requires idle { self.old.work ≡ None }
+        requires few { work.failed + 1 < max_tries }
+        requires startable { IsStartable work.op (retried_job work.job) }
+        ensures sound { IfOk result (IsSoundTurn self.new.known) }
+        ensures turns { (es : List Entry) → IsOwn es self.old → MayRetry es self.old.known work
+            → IfOk result (TurnAgrees es self.new) }
+        ensures left { (es : List Entry) → IsOwn es self.old → OnErr result (IsOwn es self.new) }
+        ensures kept { KeepsSelf self.old self.new × (self.new.work ≡ None) }
+        ensures falls { IfOk result (GoesBelow (left_after self.old) self.new) }
+        ensures cache { self.new.known.cache ≡ self.old.known.cache }
+        ensures catalog { IfOk result
+            (CatalogTurns None self.old.known.catalog self.new.known.catalog) }
+    {
+        let mut work = work;
+        work.retry();
+        self.known.catalog = None;
+        self.read_catalog(alloc, work)
+    }
+}

@@ -1,0 +1,251 @@
+//! How an operation goes on by what came: a Peek, or a minitransaction under way.
+ghost use Rattle.std.specs.Prelude.{◌≡◌, ◌<◌, ◌+◌, List, IfOk, OnErr, None, Some, false};
+ghost use Rattle.mn_base.specs.declared.ids.NodeNo.{NodeNo};
+ghost use Rattle.mn_mini.specs.declared.request.Request.{Request};
+ghost use Rattle.mn_coord.specs.declared.step.CoordStep.TheVariants.{Send};
+ghost use Rattle.mn_coord.specs.Coordination.{step_of};
+ghost use Rattle.mn_world.specs.declared.entry.Entry.{Entry};
+ghost use Rattle.mn_world.specs.Calls.{since_begin};
+ghost use Rattle.mn_proxy.specs.declared.errand.Errand.TheVariants as errands;
+ghost use Rattle.mn_proxy.specs.Agrees.{AreOverNodes, ErrandAgrees, HasRead, IsOwn, MayWant};
+ghost use Rattle.mn_proxy.specs.Agrees.{MiniAgrees};
+ghost use Rattle.mn_proxy.specs.Issues.{AreClosed};
+ghost use Rattle.mn_proxy.specs.Kept.{CacheTurns, CatalogTurns, Calls, PutsRead, read_by, read_for};
+ghost use Rattle.mn_proxy.specs.Kept.{read_when};
+ghost use Rattle.mn_proxy.specs.Knows.{ArePages};
+ghost use Rattle.mn_proxy.specs.Measure.{GoesBelow, left_after, left_of};
+ghost use Rattle.mn_proxy.specs.Paths.{LeafTurns};
+ghost use Rattle.mn_proxy.specs.Tries.{max_tries};
+ghost use Rattle.mn_proxy.specs.Turns.{CameOf, IsCommitted, IsSoundTurn, KeepsSelf, Leaves};
+ghost use Rattle.mn_proxy.specs.Turns.{TurnAgrees, WaitsFor, read_alone};
+ghost use Rattle.mn_proxy.specs.Walks.{is_later};
+
+use super::{Proxy, Turn, ends, goes};
+use crate::errand::{Errand, Purpose};
+use crate::known::Known;
+use crate::next::Taken;
+use crate::place::Place;
+use crate::step::ProxyStep;
+use crate::work::Work;
+use mn_base::{Answer, Bytes, NoMemory, Tid};
+use mn_coord::{CoordStep, Coordinator, Outcome};
+use mn_mini::NodeReply;
+use std::alloc::Global;
+
+/// What a minitransaction of one read item has read.
+fn only_read(outcome: Outcome) -> Option<Bytes>
+    ensures { result ≡ read_alone outcome.reads.items }
+{
+    let mut reads = outcome.reads;
+    let read = reads.pop()?;
+    if !reads.is_empty() {
+        return None;
+    }
+    let mut items = read.into_vec();
+    let bytes = items.pop()?;
+    if items.is_empty() { Some(bytes) } else { None }
+}
+
+/// Takes what was read for this purpose.
+fn taken_for(
+    alloc: Global,
+    work: &mut Work,
+    known: &mut Known,
+    purpose: Purpose,
+    bytes: Bytes,
+) -> Result<Taken, NoMemory>
+    requires pages { ArePages known.old.cache }
+    requires waits { WaitsFor known.old work.old purpose }
+    ensures pages { ArePages known.new.cache }
+    ensures leaves { Leaves known.old known.new purpose bytes }
+    ensures came { IfOk result (CameOf known.old known.new work.old work.new purpose bytes) }
+    ensures cache { PutsRead (Some (purpose, bytes)) known.old.cache known.new.cache result }
+{
+    match purpose {
+        Purpose::Catalog => work.take_catalog(alloc, known, bytes.as_slice()),
+        Purpose::Page { addr } => work.take_page(alloc, known, addr, bytes),
+        Purpose::Count => work.take_count(bytes.as_slice()),
+        Purpose::Plan { .. } => Err(NoMemory),
+    }
+}
+
+impl Proxy {
+    /// Goes on after a Peek that was answered.
+    pub(super) fn take_peeked(
+        &mut self,
+        alloc: Global,
+        work: Work,
+        place: Place,
+        reply: NodeReply,
+        purpose: Purpose,
+    ) -> Result<Turn, NoMemory>
+        requires idle { self.old.work ≡ None }
+        requires few { work.failed < max_tries }
+        requires waits { WaitsFor self.old.known work purpose }
+        ensures sound { IfOk result (IsSoundTurn self.new.known) }
+        ensures turns { (es : List Entry) → IsOwn es self.old
+            → ErrandAgrees es self.old.known work (errands.Peeked place reply purpose)
+            → IfOk result (TurnAgrees es self.new) }
+        ensures want { (es : List Entry) → IsOwn es self.old
+            → ErrandAgrees es self.old.known work (errands.Peeked place reply purpose)
+            → OnErr result (MayWant es) }
+        ensures left { (es : List Entry) → IsOwn es self.old
+            → ErrandAgrees es self.old.known work (errands.Peeked place reply purpose)
+            → OnErr result (IsOwn es self.new) }
+        ensures kept { KeepsSelf self.old self.new × (self.new.work ≡ None) }
+        ensures falls { IfOk result (GoesBelow (left_after self.old) self.new) }
+        ensures cache { CacheTurns
+            (read_by (errands.Peeked place reply purpose)) (is_later work.failed)
+            self.old.known.cache self.new.known.cache result }
+        ensures catalog { IfOk result
+            (CatalogTurns (read_by (errands.Peeked place reply purpose))
+            self.old.known.catalog self.new.known.catalog) }
+        ensures leaf { LeafTurns self.old.known work
+            (read_by (errands.Peeked place reply purpose)) result }
+    {
+        match reply {
+            NodeReply::Peeked { bytes } => self.take(alloc, work, purpose, bytes),
+            NodeReply::Down => Ok(ends(Answer::Down { node: place.node })),
+            _reply => Err(NoMemory),
+        }
+    }
+
+    /// Goes on with the minitransaction that is under way.
+    pub(super) fn coordinate(
+        &mut self,
+        alloc: Global,
+        work: Work,
+        tid: Tid,
+        coordinator: Coordinator,
+        purpose: Purpose,
+    ) -> Result<Turn, NoMemory>
+        requires idle { self.old.work ≡ None }
+        requires quiet { coordinator.asked ≡ false }
+        requires few { work.failed < max_tries }
+        requires nodes { coordinator.mini.nodes ≡ self.old.known.nodes }
+        requires waits { WaitsFor self.old.known work purpose }
+        ensures sound { IfOk result (IsSoundTurn self.new.known) }
+        ensures turns { (es : List Entry) → IsOwn es self.old
+            → MiniAgrees es self.old.known work tid coordinator purpose
+            → IfOk result (TurnAgrees es self.new) }
+        ensures want { (es : List Entry) → IsOwn es self.old
+            → MiniAgrees es self.old.known work tid coordinator purpose
+            → OnErr result (MayWant es) }
+        ensures left { (es : List Entry) → IsOwn es self.old
+            → MiniAgrees es self.old.known work tid coordinator purpose
+            → OnErr result (IsOwn es self.new) }
+        ensures kept { KeepsSelf self.old self.new × (self.new.work ≡ None) }
+        ensures falls { IfOk result
+            (GoesBelow (left_after self.old + left_of coordinator) self.new) }
+        ensures calls { (node : NodeNo) (request : Request)
+            → step_of coordinator ≡ Send node request
+            → Calls self.old self.new work tid coordinator purpose node request result }
+        ensures cache { CacheTurns
+            (read_when (step_of coordinator) coordinator.reads purpose) (is_later work.failed)
+            self.old.known.cache self.new.known.cache result }
+        ensures catalog { IfOk result
+            (CatalogTurns (read_when (step_of coordinator) coordinator.reads purpose)
+            self.old.known.catalog self.new.known.catalog) }
+        ensures leaf { LeafTurns self.old.known work
+            (read_when (step_of coordinator) coordinator.reads purpose) result }
+    {
+        let mut coordinator = coordinator;
+        let step = match coordinator.next() {
+            CoordStep::Send { node, request } => ProxyStep::Call { node, request },
+            CoordStep::Abandon => ProxyStep::Abandon { tid },
+            CoordStep::Committed => {
+                return self.commit(alloc, work, coordinator.into_outcome(), purpose);
+            }
+            CoordStep::Failed { node } => {
+                return self.refuse(alloc, work, tid, node, coordinator.into_outcome());
+            }
+            CoordStep::Doubt { node } => {
+                return Ok(ends(Answer::InDoubt { tid, node }));
+            }
+        };
+        let errand = Errand::Mini {
+            tid,
+            coordinator,
+            purpose,
+        };
+        Ok(goes(step, work, errand))
+    }
+
+    /// Goes on after a minitransaction that is committed.
+    fn commit(
+        &mut self,
+        alloc: Global,
+        work: Work,
+        outcome: Outcome,
+        purpose: Purpose,
+    ) -> Result<Turn, NoMemory>
+        requires idle { self.old.work ≡ None }
+        requires few { work.failed < max_tries }
+        requires waits { WaitsFor self.old.known work purpose }
+        ensures sound { IfOk result (IsSoundTurn self.new.known) }
+        ensures turns { (es : List Entry) → IsOwn es self.old
+            → IsCommitted es self.old.known work outcome.reads.items purpose
+            → IfOk result (TurnAgrees es self.new) }
+        ensures want { (es : List Entry) → IsOwn es self.old
+            → IsCommitted es self.old.known work outcome.reads.items purpose
+            → OnErr result (MayWant es) }
+        ensures left { (es : List Entry) → IsOwn es self.old
+            → IsCommitted es self.old.known work outcome.reads.items purpose
+            → OnErr result (IsOwn es self.new) }
+        ensures kept { KeepsSelf self.old self.new × (self.new.work ≡ None) }
+        ensures falls { IfOk result (GoesBelow (left_after self.old) self.new) }
+        ensures cache { CacheTurns (read_for purpose outcome.reads.items) (is_later work.failed)
+            self.old.known.cache self.new.known.cache result }
+        ensures catalog { IfOk result
+            (CatalogTurns (read_for purpose outcome.reads.items)
+            self.old.known.catalog self.new.known.catalog) }
+        ensures leaf { LeafTurns self.old.known work (read_for purpose outcome.reads.items) result }
+    {
+        match purpose {
+            Purpose::Plan { reply } => Ok(ends(Answer::Replied { reply })),
+            purpose => match only_read(outcome) {
+                Some(bytes) => self.take(alloc, work, purpose, bytes),
+                None => Err(NoMemory),
+            },
+        }
+    }
+
+    /// Goes on with what was read.
+    fn take(
+        &mut self,
+        alloc: Global,
+        work: Work,
+        purpose: Purpose,
+        bytes: Bytes,
+    ) -> Result<Turn, NoMemory>
+        requires idle { self.old.work ≡ None }
+        requires few { work.failed < max_tries }
+        requires waits { WaitsFor self.old.known work purpose }
+        ensures sound { IfOk result (IsSoundTurn self.new.known) }
+        ensures turns { (es : List Entry) → IsOwn es self.old
+            → HasRead es self.old.known work purpose bytes → AreClosed (since_begin es)
+            → AreOverNodes self.old.known.nodes work.failed (since_begin es)
+            → IfOk result (TurnAgrees es self.new) }
+        ensures left { (es : List Entry) → IsOwn es self.old
+            → HasRead es self.old.known work purpose bytes → OnErr result (IsOwn es self.new) }
+        ensures kept { KeepsSelf self.old self.new × (self.new.work ≡ None) }
+        ensures falls { IfOk result (GoesBelow (left_after self.old) self.new) }
+        ensures cache { CacheTurns (Some (purpose, bytes)) (is_later work.failed)
+            self.old.known.cache self.new.known.cache result }
+        ensures catalog { IfOk result
+            (CatalogTurns (Some (purpose, bytes))
+            self.old.known.catalog self.new.known.catalog) }
+        ensures leaf { LeafTurns self.old.known work (Some (purpose, bytes)) result }
+    {
+        let mut work = work;
+        match taken_for(alloc, &mut work, &mut self.known, purpose, bytes)? {
+            Taken::GoesOn => self.advance(alloc, work),
+            Taken::Leaf => {
+                work.failed = 0;
+                self.advance(alloc, work)
+            }
+            Taken::Replies { reply } => Ok(ends(Answer::Replied { reply })),
+            Taken::Fails { cause } => self.fail(alloc, work, cause),
+        }
+    }
+}
