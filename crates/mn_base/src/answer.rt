@@ -2,7 +2,7 @@ use crate::{Addr, Bytes, NoMemory, NodeNo, Reply, Tid, TryCopy};
 use std::alloc::Global;
 
 /// Why an operation gave up after its tries: the cause of the last one.
-#[derive(Debug, Drop)]
+#[derive(Debug)]
 pub enum Busy {
     /// A range of `length` bytes from `start` on conflicts with what `holder` holds on the node.
     Lock {
@@ -28,6 +28,34 @@ pub enum Busy {
         addr: Addr,
         seq: u64,
     },
+}
+
+/// It is let go by a call, which is proved once, and not in place wherever one goes.
+impl Drop for Busy {
+    fn drop(self) {
+        match self {
+            Busy::Lock {
+                node: _node,
+                start: _start,
+                length: _length,
+                holder: _holder,
+            } => {}
+            Busy::Moved {
+                node: _node,
+                start: _start,
+                expected,
+                found,
+            } => {
+                drop(expected);
+                drop(found);
+            }
+            Busy::Forced { tid: _tid } => {}
+            Busy::Path {
+                addr: _addr,
+                seq: _seq,
+            } => {}
+        }
+    }
 }
 
 impl TryCopy for Busy {
@@ -66,7 +94,7 @@ impl TryCopy for Busy {
 
 /// What an operation is answered. Busy, Down, Full, Worn and NoMemory mean that it has no effect,
 /// now or later.
-#[derive(Debug, Drop)]
+#[derive(Debug)]
 pub enum Answer {
     Replied { reply: Reply },
     Busy { cause: Busy },
@@ -81,6 +109,30 @@ pub enum Answer {
     /// again.
     Worn { node: NodeNo, start: u32 },
     NoMemory,
+}
+
+/// It is let go by a call, which is proved once, and not in place wherever one goes.
+impl Drop for Answer {
+    fn drop(self) {
+        match self {
+            Answer::Replied { reply } => drop(reply),
+            Answer::Busy { cause } => drop(cause),
+            Answer::Down { node: _node } => {}
+            Answer::InDoubt {
+                tid: _tid,
+                node: _node,
+            } => {}
+            Answer::Full {
+                need: _need,
+                free: _free,
+            } => {}
+            Answer::Worn {
+                node: _node,
+                start: _start,
+            } => {}
+            Answer::NoMemory => {}
+        }
+    }
 }
 
 impl TryCopy for Answer {

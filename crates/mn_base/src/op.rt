@@ -125,7 +125,7 @@ impl TryCopy for Steps {
 }
 
 /// An operation on the store.
-#[derive(Debug, Drop)]
+#[derive(Debug)]
 pub enum Op {
     /// Runs the steps in order on the version's pairs: all of them, or none where a Check isn't
     /// met.
@@ -153,6 +153,37 @@ pub enum Op {
     },
     /// Lists every version in order of number.
     Versions,
+}
+
+/// It is let go by a call, which is proved once, and not in place wherever one goes.
+impl Drop for Op {
+    fn drop(self) {
+        match self {
+            Op::Tx { version, steps } => {
+                drop(version);
+                drop(steps);
+            }
+            Op::Snapshot { version, child } => {
+                drop(version);
+                drop(child);
+            }
+            Op::Branch { version, child } => {
+                drop(version);
+                drop(child);
+            }
+            Op::Scan {
+                version,
+                low,
+                high,
+                limit: _limit,
+            } => {
+                drop(version);
+                drop(low);
+                drop(high);
+            }
+            Op::Versions => {}
+        }
+    }
 }
 
 impl TryCopy for Op {

@@ -170,7 +170,7 @@ impl TryCopy for Listing {
 }
 
 /// What the store replies to an operation. The last five refuse it: then nothing has changed.
-#[derive(Debug, Drop)]
+#[derive(Debug)]
 pub enum Reply {
     /// A transaction ran; what its Gets found.
     Values { found: Founds },
@@ -190,6 +190,24 @@ pub enum Reply {
     NameTaken,
     /// There are 64 versions.
     VersionsFull,
+}
+
+/// It is let go by a call, which is proved once, and not in place wherever one goes.
+impl Drop for Reply {
+    fn drop(self) {
+        match self {
+            Reply::Values { found } => drop(found),
+            Reply::Unmet { step: _step, found } => drop(found),
+            Reply::Made => {}
+            Reply::Pairs { pairs } => drop(pairs),
+            Reply::Listing { versions } => drop(versions),
+            Reply::NoVersion => {}
+            Reply::Frozen => {}
+            Reply::NotFrozen => {}
+            Reply::NameTaken => {}
+            Reply::VersionsFull => {}
+        }
+    }
 }
 
 impl TryCopy for Reply {

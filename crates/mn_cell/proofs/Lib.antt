@@ -5,3 +5,4 @@ pub mod OneLog
 pub mod Made
 pub mod Numbers
 pub mod Running
+pub mod Filled

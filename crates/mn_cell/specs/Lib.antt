@@ -1,5 +1,6 @@
 pub mod Passes
 pub mod Promises
 pub mod Calls
+pub mod Filled
 pub mod Station
 pub mod Runs

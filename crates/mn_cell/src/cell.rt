@@ -66,11 +66,28 @@ impl<N: Named, D: Disk, const NODE: u8> Cell<N, D, NODE> {
         ensures refused { IfErr result (λ refused. (refused.node ≡ node) × (refused.pass ≡ pass)) }
     {
         match Station::new(alloc, node, NodeNo(NODE), pass) {
-            Ok(station) => Ok(Cell {
-                lock: Mutex::new(Numbered { station }),
-            }),
+            Ok(station) => Ok(Cell::of(station)),
             Err(refused) => Err(refused),
         }
+    }
+
+    /// The cell of a station of this number.
+    pub fn of(station: Station<N, D>) -> Cell<N, D, NODE>
+        requires { station.number ≡ numbered NODE }
+    {
+        Cell {
+            lock: Mutex::new(Numbered { station }),
+        }
+    }
+
+    /// The station. What is known of it is what its type says, since its last caller may have been
+    /// another.
+    pub fn into_station(self) -> Station<N, D>
+        ensures { result.number ≡ numbered NODE }
+    {
+        let Cell { lock } = self;
+        let Numbered { station } = lock.into_inner();
+        station
     }
 
     /// Calls the node for the client, and adds the reply to both lists.
@@ -192,8 +209,6 @@ impl<N: Named, D: Disk, const NODE: u8> Cell<N, D, NODE> {
         ensures owns { OwnsJust (view_of result.2) (node_at NODE) }
         ensures pass { held (view_of result.2) (node_at NODE) ≡ Some result.1 }
     {
-        let Cell { lock } = self;
-        let Numbered { station } = lock.into_inner();
-        station.into_parts()
+        self.into_station().into_parts()
     }
 }

@@ -1,6 +1,7 @@
 //! The cells of a run's nodes.
-ghost use Rattle.std.specs.Prelude.{◌≡◌, ◌≢◌, ◌≤◌, ◌<◌, ◌+◌, ◌∷◌, [], Some, None, true, false};
-ghost use Rattle.std.specs.Prelude.{is_some, IfOk, IfErr, IfSome, IfNone, OnErr, OnOk, slice_get};
+ghost use Rattle.std.specs.Prelude.{◌≡◌, ◌≢◌, ◌≤◌, ◌<◌, ◌+◌, ◌-◌, ◌∷◌, [], Some, None, true, false};
+ghost use Rattle.std.specs.Prelude.{ℕ, nat_lt, vec_len, vec_capacity, is_some, slice_get, IfOk};
+ghost use Rattle.std.specs.Prelude.{IfErr, IfSome, IfNone, OnErr, OnOk};
 ghost use Rattle.mn_mini.specs.Sound.{Fits, IsSoundRequest};
 ghost use Rattle.mn_mini.specs.declared.reply.NodeReply.{NodeReply as Reply};
 ghost use Rattle.mn_actors.specs.declared.actor.Actor.TheVariants.{Client};
@@ -10,11 +11,14 @@ ghost use Rattle.mn_world.specs.declared.entry.What.TheVariants.{Stopped, Restar
 ghost use Rattle.mn_world.specs.Run.{entries_of};
 ghost use Rattle.mn_cell.specs.Calls.{EndsList, IsUndamaged, ObeysStop, MaySend, entry_at};
 ghost use Rattle.mn_cell.specs.Calls.{what_said};
+ghost use Rattle.mn_cell.specs.Filled.{AreNumbered, AreNumberedBelow, count_if, filled_of};
+ghost use Rattle.mn_cell.specs.Filled.{filled_to};
 ghost use Rattle.mn_cell.specs.Passes.{IsSameView, OwnsJust};
 ghost use Rattle.mn_cell.specs.Promises.{IsOwedAt, decided_by};
 
 use crate::cell::Cell;
 use crate::named::Named;
+use crate::station::Station;
 use mn_actors::{Board, Pass};
 use mn_base::{NoMemory, NodeNo, StopAt};
 use mn_io::Disk;
@@ -37,7 +41,98 @@ pub struct Cells<N: Named, D: Disk> {
     pub c7: Option<Cell<N, D, 7>>,
 }
 
+/// The cell of the last of these stations, which is that of this number, if one is left.
+fn take_last<N: Named, D: Disk, const NODE: u8>(
+    left: &mut Vec<Station<N, D>>,
+) -> Option<Cell<N, D, NODE>>
+    requires { AreNumberedBelow (NODE + vec_len left.old) left.old.items }
+    ensures is { is_some result ≡ nat_lt 0 (vec_len left.old) }
+    ensures left { AreNumberedBelow (NODE + 1 + vec_len left.new) left.new.items }
+    ensures len { vec_len left.new ≡ vec_len left.old - 1 }
+    ensures room { vec_capacity left.new ≡ vec_capacity left.old }
+{
+    match left.pop() {
+        Some(station) => Some(Cell::of(station)),
+        None => None,
+    }
+}
+
+/// Puts the station of the cell, if it is filled, behind the others, of which there are as many as
+/// its number says.
+fn put_back<N: Named, D: Disk, const NODE: u8>(
+    cell: Option<Cell<N, D, NODE>>,
+    stations: &mut Vec<Station<N, D>>,
+)
+    requires room { vec_len stations.old + count_if (is_some cell) ≤ vec_capacity stations.old }
+    requires numbers { AreNumbered stations.old.items }
+    requires next { is_some cell ≡ true → vec_len stations.old ≡ NODE }
+    ensures numbers { AreNumbered stations.new.items }
+    ensures len { vec_len stations.new ≡ vec_len stations.old + count_if (is_some cell) }
+    ensures room { vec_capacity stations.new ≡ vec_capacity stations.old }
+{
+    if let Some(cell) = cell {
+        stations.push_reserved(cell.into_station());
+    }
+}
+
 impl<N: Named, D: Disk> Cells<N, D> {
+    /// The cells of stations, numbered from 0 in order, of which none is left; their room is.
+    pub fn of(stations: &mut Vec<Station<N, D>>) -> Cells<N, D>
+        requires few { vec_len stations.old ≤ 8 }
+        requires numbers { AreNumbered stations.old.items }
+        ensures filled { filled_of (is_some result.c0) (is_some result.c1) (is_some result.c2)
+            (is_some result.c3) (is_some result.c4) (is_some result.c5) (is_some result.c6)
+            (is_some result.c7) ≡ filled_to (vec_len stations.old) }
+        ensures none { stations.new.items ≡ [] }
+        ensures room { vec_capacity stations.new ≡ vec_capacity stations.old }
+    {
+        stations.reverse();
+        Cells {
+            c0: take_last(stations),
+            c1: take_last(stations),
+            c2: take_last(stations),
+            c3: take_last(stations),
+            c4: take_last(stations),
+            c5: take_last(stations),
+            c6: take_last(stations),
+            c7: take_last(stations),
+        }
+    }
+
+    /// Puts the stations of the cells back, in order, where there is room for them.
+    pub fn into_stations(self, stations: &mut Vec<Station<N, D>>)
+        requires none { stations.old.items ≡ [] }
+        requires filled { (count : ℕ) × (count ≤ vec_capacity stations.old)
+            × (filled_of (is_some self.c0) (is_some self.c1) (is_some self.c2) (is_some self.c3)
+            (is_some self.c4) (is_some self.c5) (is_some self.c6) (is_some self.c7)
+            ≡ filled_to count) }
+        ensures count { filled_of (is_some self.c0) (is_some self.c1) (is_some self.c2)
+            (is_some self.c3) (is_some self.c4) (is_some self.c5) (is_some self.c6)
+            (is_some self.c7) ≡ filled_to (vec_len stations.new) }
+        ensures few { vec_len stations.new ≤ 8 }
+        ensures numbers { AreNumbered stations.new.items }
+        ensures room { vec_capacity stations.new ≡ vec_capacity stations.old }
+    {
+        let Cells {
+            c0,
+            c1,
+            c2,
+            c3,
+            c4,
+            c5,
+            c6,
+            c7,
+        } = self;
+        put_back(c0, stations);
+        put_back(c1, stations);
+        put_back(c2, stations);
+        put_back(c3, stations);
+        put_back(c4, stations);
+        put_back(c5, stations);
+        put_back(c6, stations);
+        put_back(c7, stations);
+    }
+
     /// Calls a node, whose cell is filled, as `Cell::call` does.
     pub fn call<T: Wait>(
         &self,

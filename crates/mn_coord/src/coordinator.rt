@@ -15,7 +15,7 @@ use std::collections::VecDeque;
 use std::marker::Model;
 
 /// A minitransaction on its way. Contracts see what it was answered so far.
-#[derive(Debug, Drop)]
+#[derive(Debug)]
 pub struct Coordinator {
     tid: Tid,
     mini: Minitransaction,
@@ -28,6 +28,27 @@ pub struct Coordinator {
     told: bool,
     decided: usize,
     asked: bool,
+}
+
+/// It is let go by a call, which is proved once, and not in place wherever one goes.
+impl Drop for Coordinator {
+    fn drop(self) {
+        let Coordinator {
+            tid: _tid,
+            mini,
+            requests,
+            reads,
+            done: _done,
+            refused,
+            told: _told,
+            decided: _decided,
+            asked: _asked,
+        } = self;
+        drop(mini);
+        drop(requests);
+        drop(reads);
+        drop(refused);
+    }
 }
 
 impl Model for Coordinator {
@@ -288,10 +309,21 @@ impl Coordinator {
         ensures reads { result.reads.items ≡ self.reads }
         ensures reply { result.reply ≡ self.refused }
     {
+        let Coordinator {
+            tid: _tid,
+            mini,
+            requests: _requests,
+            reads,
+            done: _done,
+            refused,
+            told: _told,
+            decided: _decided,
+            asked: _asked,
+        } = self;
         Outcome {
-            mini: self.mini,
-            reads: self.reads,
-            reply: self.refused,
+            mini,
+            reads,
+            reply: refused,
         }
     }
 }

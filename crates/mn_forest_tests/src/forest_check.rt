@@ -4,24 +4,15 @@ ghost use Rattle.std.specs.Bool.{OnTrue};
 ghost use Rattle.std.specs.List.{AllByRecursion, list_all};
 ghost use Rattle.mn_mini.specs.Mini.{space_size};
 
-use mn_base::{Bytes, Key, Name, NodeNo, Op, Reply, Step, Steps};
+use mn_base::{Bytes, Key, Name, NoMemory, NodeNo, Op, Reply, Step, Steps};
 use mn_forest::{ForestError, Rule, base_spaces, check};
 use mn_mini::{SPACE, Spaces};
 use mn_plain::Store;
 use std::alloc::Global;
 use std::test::Fail;
 
-/// Bytes of a node's space.
-#[derive(Clone, Copy)]
-struct Change {
-    node: usize,
-    start: usize,
-    bytes: &'static [u8],
-}
-
-fn at(node: usize, start: usize, bytes: &'static [u8]) -> Change {
-    Change { node, start, bytes }
-}
+/// Bytes of a node's space: the node, the place, and what stands there.
+type Change = (usize, usize, &'static [u8]);
 
 /// Where slots 0 and 1 begin.
 const SLOT_0: usize = 20_480;
@@ -61,17 +52,14 @@ const MAIN_AGAIN: &[u8] = &[
 /// A leaf made in version 1.
 const NEXT_LEAF: &[u8] = &[0, 0, 0, 0, 0, 0, 0, 1, 1, 0, 0, 1];
 
-/// The tree of the root and the two leaves, with one more change.
-fn tree_with(change: Change) -> [Change; 6] {
-    [
-        at(0, 23, &[2]),
-        at(1, 23, &[1]),
-        at(0, SLOT_0, ROOT),
-        at(1, SLOT_0, LEFT),
-        at(0, SLOT_1, RIGHT),
-        change,
-    ]
-}
+/// The tree of the root and the two leaves.
+const TREE: &[Change] = &[
+    (0, 23, &[2]),
+    (1, 23, &[1]),
+    (0, SLOT_0, ROOT),
+    (1, SLOT_0, LEFT),
+    (0, SLOT_1, RIGHT),
+];
 
 fn put(space: &mut Vec<u8>, start: usize, bytes: &[u8]) {
     for (place, byte) in space.iter_mut().skip(start).zip(bytes) {
@@ -79,16 +67,22 @@ fn put(space: &mut Vec<u8>, start: usize, bytes: &[u8]) {
     }
 }
 
-/// The memory of two fresh nodes with these changes.
-fn changed(alloc: Global, changes: &[Change]) -> Result<Spaces, Fail> {
+/// Makes the changes of this node in its space.
+fn change(space: &mut Vec<u8>, of: usize, changes: &[Change]) {
+    for (node, start, bytes) in changes {
+        if *node == of {
+            put(space, *start, bytes);
+        }
+    }
+}
+
+/// The memory of two fresh nodes with these changes, and then those.
+fn changed(alloc: Global, tree: &[Change], changes: &[Change]) -> Result<Spaces, NoMemory> {
     let mut spaces = Vec::new(alloc);
     for (node, space) in base_spaces(alloc, 2)?.into_vec().into_iter().enumerate() {
         let mut space = space.into_vec();
-        for change in changes {
-            if change.node == node {
-                put(&mut space, change.start, change.bytes);
-            }
-        }
+        change(&mut space, node, tree);
+        change(&mut space, node, changes);
         spaces.push(Bytes::from_vec(space))?;
     }
     Ok(Spaces::from_vec(spaces))
@@ -115,58 +109,61 @@ fn may_be_checked(spaces: &Spaces) -> bool
     are_whole(spaces)
 }
 
-/// What the check says of it.
-fn found(alloc: Global, changes: &[Change]) -> Result<Option<ForestError>, Fail> {
-    let spaces = changed(alloc, changes)?;
-    if !may_be_checked(&spaces) {
-        return Ok(None);
+/// The store that whole spaces hold.
+fn store_of(alloc: Global, spaces: &Spaces) -> Result<Store, Fail> {
+    if !may_be_checked(spaces) {
+        return Err(Fail::new("the spaces are not whole"));
     }
-    Ok(check(alloc, &spaces).err())
+    Ok(check(alloc, spaces)?)
 }
 
-fn broken(node: u8, start: u32, rule: Rule) -> Option<ForestError> {
-    Some(ForestError::Broken {
-        node: NodeNo(node),
-        start,
-        rule,
+/// A Get of a key in `main`.
+fn get(alloc: Global, key: &[u8]) -> Result<Op, Fail> {
+    let mut steps = Vec::new(alloc);
+    steps.push(Step::Get {
+        key: Key::new(alloc, key)?,
+    })?;
+    Ok(Op::Tx {
+        version: Name::new(alloc, b"main")?,
+        steps: Steps::new(steps)?,
     })
 }
 
-/// Whether this is the value of the key in `main`; none for no value.
-fn has_value(
-    alloc: Global,
-    store: &mut Store,
-    key: &[u8],
-    value: Option<&[u8]>,
-) -> Result<bool, Fail> {
-    let mut steps = Vec::new(alloc);
-    let key = Key::new(alloc, key)?;
-    steps.push(Step::Get { key })?;
-    let get = Op::Tx {
-        version: Name::new(alloc, b"main")?,
-        steps: Steps::new(steps)?,
+/// Whether a Get found this value, or none.
+fn has_found(reply: &Reply, value: Option<&[u8]>) -> bool {
+    let Reply::Values { found } = reply else {
+        return false;
     };
-    let Reply::Values { found } = store.apply(alloc, &get)? else {
-        return Ok(false);
-    };
-    let same = match (found.as_slice().first(), value) {
-        (Some(Some(found)), Some(value)) => found.as_slice() == value,
-        (Some(None), None) => true,
+    match found.as_slice() {
+        [Some(found)] => value == Some(found.as_slice()),
+        [None] => value.is_none(),
         _ => false,
-    };
-    Ok(same)
+    }
 }
+
+/// Whether `main` is the only version, and has these values, or none, at these keys.
+fn shows(alloc: Global, spaces: &Spaces, values: &[(&[u8], Option<&[u8]>)]) -> Result<bool, Fail> {
+    let mut store = store_of(alloc, spaces)?;
+    for (key, value) in values {
+        let reply = store.apply(alloc, &get(alloc, key)?)?;
+        if !has_found(&reply, *value) {
+            return Ok(false);
+        }
+    }
+    Ok(store.listing(alloc)?.as_slice().len() == 1)
+}
+
+const VALUES: &[(&[u8], Option<&[u8]>)] = &[
+    (b"k1", Some(b"v")),
+    (b"k5", None),
+    (b"k9", Some(b"w")),
+];
 
 #[test]
 fn shows_the_tree(rt: HostRuntime) -> Result<(), Fail> {
     let alloc = rt.alloc();
-    let spaces = changed(alloc, &tree_with(at(0, 0, b"M")))?;
-    assert!(rt; may_be_checked(&spaces));
-    let mut store = check(alloc, &spaces)?;
-    assert!(rt; store.listing(alloc)?.as_slice().len() == 1);
-    assert!(rt; has_value(alloc, &mut store, b"k1", Some(b"v".as_slice()))?);
-    assert!(rt; has_value(alloc, &mut store, b"k5", None)?);
-    assert!(rt; has_value(alloc, &mut store, b"k9", Some(b"w".as_slice()))?);
+    let spaces = changed(alloc, TREE, &[])?;
+    assert!(rt; shows(alloc, &spaces, VALUES)?);
     Ok(())
 }
 
@@ -174,98 +171,129 @@ fn shows_the_tree(rt: HostRuntime) -> Result<(), Fail> {
 fn shows_the_base_of_one_and_of_eight_nodes(rt: HostRuntime) -> Result<(), Fail> {
     let alloc = rt.alloc();
     for nodes in [1u8, 8] {
-        let spaces = base_spaces(alloc, nodes)?;
-        assert!(rt; may_be_checked(&spaces));
-        let mut store = check(alloc, &spaces)?;
-        assert!(rt; store.listing(alloc)?.as_slice().len() == 1);
-        assert!(rt; has_value(alloc, &mut store, b"k1", None)?);
+        assert!(rt; shows(alloc, &base_spaces(alloc, nodes)?, &[(b"k1", None)])?);
     }
     Ok(())
 }
+
+/// Changes, and the node and the place of what breaks a rule; none where none is broken.
+type Row = (&'static [Change], Option<(u8, u32, Rule)>);
+
+/// What the check says of a memory.
+fn found(alloc: Global, spaces: &Spaces) -> Result<Option<(u8, u32, Rule)>, Fail> {
+    if !may_be_checked(spaces) {
+        return Err(Fail::new("the spaces are not whole"));
+    }
+    match check(alloc, spaces) {
+        Ok(_store) => Ok(None),
+        Err(ForestError::Broken { node, start, rule }) => Ok(Some((node.0, start, rule))),
+        Err(ForestError::NoMemory) => Err(Fail::new("no memory")),
+    }
+}
+
+/// Whether the check says so of each row, whose changes come behind those of the tree.
+fn says(alloc: Global, tree: &[Change], rows: &[Row]) -> Result<bool, Fail> {
+    for (changes, said) in rows {
+        if found(alloc, &changed(alloc, tree, changes)?)? != *said {
+            return Ok(false);
+        }
+    }
+    Ok(true)
+}
+
+const FRONTS: &[Row] = &[
+    (&[(0, 0, b"X")], Some((0, 0, Rule::Header))),
+    (&[(1, 8, &[0])], Some((1, 0, Rule::Header))),
+    (&[(0, 15, &[1])], Some((0, 0, Rule::Header))),
+    (&[(0, 24, &[1])], Some((0, 0, Rule::Header))),
+    (&[(1, 20_479, &[1])], Some((1, 0, Rule::Header))),
+    (&[(1, 22, &[16, 1])], Some((1, 16, Rule::Count))),
+    // The entry of `main` is none, is no entry, or is frozen; the root's slot is above the
+    // count.
+    (&[(0, 64, &[0; 64])], Some((0, 64, Rule::Entry))),
+    (&[(0, 72, &[3])], Some((0, 64, Rule::Entry))),
+    (&[(0, 72, FROZEN)], Some((0, 64, Rule::Entry))),
+    (&[(0, 73, &[0])], Some((0, 64, Rule::Entry))),
+    (&[(0, 76, &[1])], Some((0, 64, Rule::Root))),
+    (&[(0, 74, &[1])], Some((0, 64, Rule::Root))),
+    (&[(0, 4_159, &[1])], Some((0, 4_096, Rule::Entry))),
+    (&[(1, 4_159, &[1])], Some((1, 4_096, Rule::Entry))),
+];
 
 #[test]
 fn names_the_front_at_fault(rt: HostRuntime) -> Result<(), Fail> {
-    let alloc = rt.alloc();
-    let cases = [
-        (at(0, 0, b"X"), broken(0, 0, Rule::Header)),
-        (at(1, 8, &[0]), broken(1, 0, Rule::Header)),
-        (at(0, 15, &[1]), broken(0, 0, Rule::Header)),
-        (at(0, 24, &[1]), broken(0, 0, Rule::Header)),
-        (at(1, 20_479, &[1]), broken(1, 0, Rule::Header)),
-        (at(1, 22, &[16, 1]), broken(1, 16, Rule::Count)),
-        // The entry of `main` is none, is no entry, or is frozen; the root's slot is above the
-        // count.
-        (at(0, 64, &[0; 64]), broken(0, 64, Rule::Entry)),
-        (at(0, 72, &[3]), broken(0, 64, Rule::Entry)),
-        (at(0, 72, FROZEN), broken(0, 64, Rule::Entry)),
-        (at(0, 73, &[0]), broken(0, 64, Rule::Entry)),
-        (at(0, 76, &[1]), broken(0, 64, Rule::Root)),
-        (at(0, 74, &[1]), broken(0, 64, Rule::Root)),
-        (at(0, 4_159, &[1]), broken(0, 4_096, Rule::Entry)),
-        (at(1, 4_159, &[1]), broken(1, 4_096, Rule::Entry)),
-    ];
-    for (change, expected) in cases {
-        assert!(rt; found(alloc, &[change])? == expected);
-    }
+    assert!(rt; says(rt.alloc(), &[], FRONTS)?);
     Ok(())
 }
+
+/// Node 0 has given out two slots.
+const TWO: Change = (0, 23, &[2]);
+
+/// The page of `main` was copied for version 1.
+const COPIED: Change = (0, SLOT_0 + 19, &[2]);
+
+const FROZEN_MAIN: Change = (0, 72, FROZEN);
+
+const CHILD: Change = (0, 128, NEXT);
+
+const ITS_LEAF: Change = (0, SLOT_1, NEXT_LEAF);
+
+const ENTRIES: &[Row] = &[
+    (&[FROZEN_MAIN, TWO, ITS_LEAF, COPIED, CHILD], None),
+    // Its name stands twice; it is behind a free entry.
+    (
+        &[FROZEN_MAIN, TWO, ITS_LEAF, COPIED, (0, 128, MAIN_AGAIN)],
+        Some((0, 128, Rule::Entry)),
+    ),
+    (
+        &[FROZEN_MAIN, TWO, ITS_LEAF, COPIED, (0, 192, NEXT)],
+        Some((0, 192, Rule::Entry)),
+    ),
+    // `main` is not frozen, is not copied; the child's root is a page of `main`.
+    (&[TWO, ITS_LEAF, COPIED, CHILD], Some((0, 64, Rule::Entry))),
+    (
+        &[FROZEN_MAIN, TWO, ITS_LEAF, CHILD],
+        Some((0, 20_480, Rule::Reach)),
+    ),
+    (
+        &[FROZEN_MAIN, TWO, (0, SLOT_1, LEAF), COPIED, CHILD],
+        Some((0, 128, Rule::Root)),
+    ),
+];
 
 #[test]
 fn names_the_entry_at_fault(rt: HostRuntime) -> Result<(), Fail> {
-    let alloc = rt.alloc();
-    let frozen = at(0, 72, FROZEN);
-    let two = at(0, 23, &[2]);
-    let leaf = at(0, SLOT_1, NEXT_LEAF);
-    // `main` was copied for version 1.
-    let copied = at(0, SLOT_0 + 19, &[2]);
-    let made = found(alloc, &[frozen, two, leaf, copied, at(0, 128, NEXT)])?;
-    assert!(rt; made == None);
-    let twice = found(alloc, &[frozen, two, leaf, copied, at(0, 128, MAIN_AGAIN)])?;
-    assert!(rt; twice == broken(0, 128, Rule::Entry));
-    let behind = found(alloc, &[frozen, two, leaf, copied, at(0, 192, NEXT)])?;
-    assert!(rt; behind == broken(0, 192, Rule::Entry));
-    let thawed = found(alloc, &[two, leaf, copied, at(0, 128, NEXT)])?;
-    assert!(rt; thawed == broken(0, 64, Rule::Entry));
-    let uncopied = found(alloc, &[frozen, two, leaf, at(0, 128, NEXT)])?;
-    assert!(rt; uncopied == broken(0, SLOT_0 as u32, Rule::Reach));
-    let elsewhere = found(
-        alloc,
-        &[frozen, two, at(0, SLOT_1, LEAF), copied, at(0, 128, NEXT)],
-    )?;
-    assert!(rt; elsewhere == broken(0, 128, Rule::Root));
+    assert!(rt; says(rt.alloc(), &[], ENTRIES)?);
     Ok(())
 }
+
+const PAGES: &[Row] = &[
+    // A slot below the count without a page, one from there on that is not free, a version that is
+    // not there.
+    (&[TWO], Some((0, 21_504, Rule::Page))),
+    (&[(0, SLOT_1, LEAF)], Some((0, 21_504, Rule::Page))),
+    (&[TWO, ITS_LEAF], Some((0, 21_504, Rule::Page))),
+    // A page that nothing names.
+    (&[TWO, (0, SLOT_1, LEAF)], Some((0, 21_504, Rule::Reach))),
+];
 
 #[test]
 fn names_the_page_at_fault(rt: HostRuntime) -> Result<(), Fail> {
-    let alloc = rt.alloc();
-    // A slot below the count without a page, one from there on that is not free, a version that is
-    // not there.
-    let missing = found(alloc, &[at(0, 23, &[2])])?;
-    assert!(rt; missing == broken(0, SLOT_1 as u32, Rule::Page));
-    let behind = found(alloc, &[at(0, SLOT_1, LEAF)])?;
-    assert!(rt; behind == broken(0, SLOT_1 as u32, Rule::Page));
-    let version = found(alloc, &[at(0, 23, &[2]), at(0, SLOT_1, NEXT_LEAF)])?;
-    assert!(rt; version == broken(0, SLOT_1 as u32, Rule::Page));
-    // A page that nothing names.
-    let unnamed = found(alloc, &[at(0, 23, &[2]), at(0, SLOT_1, LEAF)])?;
-    assert!(rt; unnamed == broken(0, SLOT_1 as u32, Rule::Reach));
+    assert!(rt; says(rt.alloc(), &[], PAGES)?);
     Ok(())
 }
 
+const CHILDREN: &[Row] = &[
+    // The left leaf ends at `k6`, the right one begins at `k6`, the root is 2 high, a child's slot
+    // is above the count.
+    (&[(1, SLOT_0 + 24, b"6")], Some((0, 20_480, Rule::Child))),
+    (&[(0, SLOT_1 + 22, b"6")], Some((0, 20_480, Rule::Child))),
+    (&[(0, SLOT_0 + 10, &[2])], Some((0, 20_480, Rule::Child))),
+    (&[(1, 23, &[0])], Some((0, 20_480, Rule::Child))),
+];
+
 #[test]
 fn names_the_child_at_fault(rt: HostRuntime) -> Result<(), Fail> {
-    let alloc = rt.alloc();
-    let cases = [
-        // The left leaf ends at `k6`, the right one begins at `k6`, the root is 2 high, a child's
-        // slot is above the count.
-        at(1, SLOT_0 + 24, b"6"),
-        at(0, SLOT_1 + 22, b"6"),
-        at(0, SLOT_0 + 10, &[2]),
-        at(1, 23, &[0]),
-    ];
-    for change in cases {
-        assert!(rt; found(alloc, &tree_with(change))? == broken(0, SLOT_0 as u32, Rule::Child));
-    }
+    assert!(rt; says(rt.alloc(), TREE, CHILDREN)?);
     Ok(())
 }

@@ -1,5 +1,5 @@
 //! The memory of two nodes, and the records at which there is none.
-use mn_base::{Bytes, ClientNo, NodeNo, Nodes, Tid};
+use mn_base::{Bytes, ClientNo, NoMemory, NodeNo, Nodes, Tid};
 use mn_flat::{VoteError, flat_of};
 use mn_forest::base_spaces;
 use mn_mini::{Part, PartItem, Record, Records, Spaces};
@@ -17,248 +17,191 @@ fn tid(serial: u32) -> Tid {
     }
 }
 
-/// A part that writes `61` at a place.
-fn part(alloc: Global, start: u32) -> Result<Part, Fail> {
+/// A part that writes `61` at the place.
+fn part(alloc: Global) -> Result<Part, NoMemory> {
     let mut items = Vec::new(alloc);
     items.push(PartItem::Write {
-        start,
+        start: PLACE,
         bytes: Bytes::from_vec([0x61].to_vec(alloc)?),
     })?;
     Ok(Part::from_vec(items))
 }
 
-/// A vote for two nodes.
-fn voted(alloc: Global, serial: u32, one: u8, other: u8) -> Result<Record, Fail> {
+/// A vote of id 1 for two nodes.
+fn voted(alloc: Global, one: u8, other: u8) -> Result<Record, NoMemory> {
     Ok(Record::Voted {
-        tid: tid(serial),
+        tid: tid(1),
         participants: Nodes::from_vec([NodeNo(one), NodeNo(other)].to_vec(alloc)?),
-        part: part(alloc, PLACE)?,
+        part: part(alloc)?,
     })
 }
 
-fn executed(alloc: Global, serial: u32) -> Result<Record, Fail> {
+fn executed(alloc: Global, serial: u32) -> Result<Record, NoMemory> {
     Ok(Record::Executed {
         tid: tid(serial),
-        part: part(alloc, PLACE)?,
+        part: part(alloc)?,
     })
 }
 
-fn decided(serial: u32, yes: bool) -> Record {
-    Record::Decided {
-        tid: tid(serial),
-        yes,
+fn decided(yes: bool) -> Record {
+    Record::Decided { tid: tid(1), yes }
+}
+
+/// The record of id 1 that has this letter: v, a vote for nodes 0 and 1, and w, z and 8 for 1 and
+/// 1, 0 and 0, and 1 and 8; y and n, a decision with yes and with no; f, it is forced; e, an
+/// execution, and o, one of another id.
+fn record_of(alloc: Global, letter: u8) -> Result<Record, NoMemory> {
+    match letter {
+        b'v' => voted(alloc, 0, 1),
+        b'w' => voted(alloc, 1, 1),
+        b'z' => voted(alloc, 0, 0),
+        b'8' => voted(alloc, 1, 8),
+        b'e' => executed(alloc, 1),
+        b'o' => executed(alloc, 2),
+        b'y' => Ok(decided(true)),
+        b'n' => Ok(decided(false)),
+        _ => Ok(Record::Forced { tid: tid(1) }),
     }
 }
 
-fn none(alloc: Global) -> Vec<Record> {
-    Vec::new(alloc)
-}
-
-fn one(alloc: Global, first: Record) -> Result<Vec<Record>, Fail> {
+fn records_of(alloc: Global, letters: &str) -> Result<Records, NoMemory> {
     let mut records = Vec::new(alloc);
-    records.push(first)?;
-    Ok(records)
+    for letter in letters.as_bytes() {
+        records.push(record_of(alloc, *letter)?)?;
+    }
+    Ok(Records::from_vec(records))
 }
 
-fn two(alloc: Global, first: Record, second: Record) -> Result<Vec<Record>, Fail> {
-    let mut records = one(alloc, first)?;
-    records.push(second)?;
-    Ok(records)
+/// The memory that the records of two nodes make, which have these letters.
+fn memory_of(alloc: Global, zero: &str, one: &str) -> Result<Spaces, VoteError> {
+    flat_of(alloc, &[records_of(alloc, zero)?, records_of(alloc, one)?])
 }
 
-fn memory_of(alloc: Global, zero: Vec<Record>, one: Vec<Record>) -> Result<Spaces, VoteError> {
-    flat_of(alloc, &[Records::from_vec(zero), Records::from_vec(one)])
+/// Whether these bytes stand at the place in a node's space.
+fn has(spaces: &Spaces, node: usize, at: usize, bytes: &[u8]) -> bool {
+    let Some(space) = spaces.as_slice().get(node) else {
+        return false;
+    };
+    at <= space.as_slice().len() && space.as_slice()[at..].starts_with(bytes)
 }
 
-/// The byte of a node's space.
-fn byte_at(spaces: &Spaces, node: usize, at: usize) -> Option<u8> {
-    let space = spaces.as_slice().get(node)?;
-    space.as_slice().get(at).copied()
-}
+/// The entry of `main` in a fresh store.
+const MAIN: &[u8] = &[
+    0, 0, 0, 0, 0, 0, 0, 1, 1, 0xff, 0, 0, 0, 4, 0x6d, 0x61, 0x69, 0x6e,
+];
 
-/// The byte at the place on each of two nodes.
-fn written(
-    alloc: Global,
-    zero: Vec<Record>,
-    one: Vec<Record>,
-) -> Result<(Option<u8>, Option<u8>), Fail> {
-    let memory = memory_of(alloc, zero, one)?;
-    let at = PLACE as usize;
-    Ok((byte_at(&memory, 0, at), byte_at(&memory, 1, at)))
-}
+const HEADER: &[u8] = &[0x4d, 0x49, 0x4e, 0x55, 0x45, 0x54, 1, 2];
 
-fn unvoted(node: u8, number: u32) -> Option<VoteError> {
-    Some(VoteError::Unvoted {
-        node: NodeNo(node),
-        number,
-    })
-}
-
-fn both(node: u8, number: u32) -> Option<VoteError> {
-    Some(VoteError::Both {
-        node: NodeNo(node),
-        number,
-    })
-}
+/// A place, and what stands there on node 0 and on node 1.
+const BASE: &[(usize, &[u8], &[u8])] = &[
+    (64, MAIN, &[0; 18]),
+    (0, HEADER, HEADER),
+    // The node's number, the count's last byte, the leaf's sequence number and kind, and the last
+    // byte.
+    (8, &[0], &[1]),
+    (23, &[1], &[0]),
+    (20_487, &[1], &[0]),
+    (20_488, &[1], &[0]),
+    (20_489, &[0], &[0]),
+    (4_214_783, &[0], &[0]),
+];
 
 #[test]
 fn the_base_memory_is_that_of_the_format(rt: HostRuntime) -> Result<(), Fail> {
     let spaces = base_spaces(rt.alloc(), 2)?;
-    let entry = [
-        0, 0, 0, 0, 0, 0, 0, 1, 1, 0xff, 0, 0, 0, 4, 0x6d, 0x61, 0x69, 0x6e,
-    ];
-    for (i, byte) in entry.iter().enumerate() {
-        assert!(rt; byte_at(&spaces, 0, 64 + i) == Some(*byte));
-        assert!(rt; byte_at(&spaces, 1, 64 + i) == Some(0));
+    for (at, zero, one) in BASE {
+        assert!(rt; has(&spaces, 0, *at, zero) && has(&spaces, 1, *at, one));
     }
-    let header = [0x4d, 0x49, 0x4e, 0x55, 0x45, 0x54, 1, 2];
-    for (i, byte) in header.iter().enumerate() {
-        assert!(rt; byte_at(&spaces, 0, i) == Some(*byte));
-        assert!(rt; byte_at(&spaces, 1, i) == Some(*byte));
-    }
-    // The node's number, the count's last byte, the leaf's sequence number and kind, and the last
-    // byte.
-    let cases = [
-        (8, 0, 1),
-        (23, 1, 0),
-        (20_487, 1, 0),
-        (20_488, 1, 0),
-        (20_489, 0, 0),
-        (4_214_783, 0, 0),
-    ];
-    for (at, zero, one) in cases {
-        assert!(rt; byte_at(&spaces, 0, at) == Some(zero));
-        assert!(rt; byte_at(&spaces, 1, at) == Some(one));
-    }
-    assert!(rt; byte_at(&spaces, 1, 4_214_784) == None);
+    // There is nothing behind the last byte.
+    assert!(rt; !has(&spaces, 1, 4_214_784, &[0]) && has(&spaces, 1, 4_214_784, &[]));
     Ok(())
 }
+
+/// The records of node 0 and of node 1, and the byte at the place on each.
+const MADE: &[(&str, &str, u8, u8)] = &[
+    ("", "", 0, 0),
+    // Both have voted, and nothing is decided.
+    ("v", "v", 0x61, 0x61),
+    // One of them has the decision.
+    ("vy", "v", 0x61, 0x61),
+    // One of them alone has voted.
+    ("v", "", 0, 0),
+    ("", "e", 0, 0x61),
+];
 
 #[test]
 fn applies_what_is_committed(rt: HostRuntime) -> Result<(), Fail> {
-    let alloc = rt.alloc();
-    let made = Some(0x61);
-    let (zero, other) = written(alloc, none(alloc), none(alloc))?;
-    assert!(rt; zero == Some(0) && other == Some(0));
-    // Both have voted, and nothing is decided.
-    let (zero, other) = written(
-        alloc,
-        one(alloc, voted(alloc, 1, 0, 1)?)?,
-        one(alloc, voted(alloc, 1, 0, 1)?)?,
-    )?;
-    assert!(rt; zero == made && other == made);
-    // One of them has the decision.
-    let (zero, other) = written(
-        alloc,
-        two(alloc, voted(alloc, 1, 0, 1)?, decided(1, true))?,
-        one(alloc, voted(alloc, 1, 0, 1)?)?,
-    )?;
-    assert!(rt; zero == made && other == made);
-    // One of them alone has voted.
-    let (zero, other) = written(alloc, one(alloc, voted(alloc, 1, 0, 1)?)?, none(alloc))?;
-    assert!(rt; zero == Some(0) && other == Some(0));
-    let (zero, other) = written(alloc, none(alloc), one(alloc, executed(alloc, 1)?)?)?;
-    assert!(rt; zero == Some(0) && other == made);
+    let at = PLACE as usize;
+    for (zero, one, byte, other) in MADE {
+        let memory = memory_of(rt.alloc(), zero, one)?;
+        assert!(rt; has(&memory, 0, at, &[*byte]) && has(&memory, 1, at, &[*other]));
+    }
     Ok(())
 }
 
-#[test]
-fn names_a_record_out_of_place(rt: HostRuntime) -> Result<(), Fail> {
-    let alloc = rt.alloc();
-    // A decision of an id that is not held, or that is held no more.
-    let found = memory_of(alloc, none(alloc), one(alloc, decided(1, false))?).err();
-    assert!(rt; found == unvoted(1, 0));
+/// The records of node 0 and of node 1, and the node and the number of the one that is named.
+type Refused = (&'static str, &'static str, u8, u32);
+
+const OUT_OF_PLACE: &[Refused] = &[
+    // A decision of an id that is not held.
+    ("", "n", 1, 0),
     // A yes without the vote of the other participant.
-    let found = memory_of(
-        alloc,
-        two(alloc, voted(alloc, 1, 0, 1)?, decided(1, true))?,
-        none(alloc),
-    )
-    .err();
-    assert!(rt; found == unvoted(0, 1));
+    ("vy", "", 0, 1),
     // A second vote for the id, and a vote after it was forced.
-    let found = memory_of(
-        alloc,
-        two(alloc, voted(alloc, 1, 0, 1)?, voted(alloc, 1, 0, 1)?)?,
-        none(alloc),
-    )
-    .err();
-    assert!(rt; found == unvoted(0, 1));
-    let found = memory_of(
-        alloc,
-        two(
-            alloc,
-            Record::Forced { tid: tid(1) },
-            voted(alloc, 1, 0, 1)?,
-        )?,
-        none(alloc),
-    )
-    .err();
-    assert!(rt; found == unvoted(0, 1));
+    ("vv", "", 0, 1),
+    ("fv", "", 0, 1),
     // A part that conflicts with a held one.
-    let found = memory_of(
-        alloc,
-        two(alloc, voted(alloc, 1, 0, 1)?, executed(alloc, 2)?)?,
-        none(alloc),
-    )
-    .err();
-    assert!(rt; found == unvoted(0, 1));
-    Ok(())
-}
+    ("vo", "", 0, 1),
+];
 
-#[test]
-fn names_the_least_of_records_that_do_not_fit(rt: HostRuntime) -> Result<(), Fail> {
-    let alloc = rt.alloc();
+const DO_NOT_FIT: &[Refused] = &[
     // Votes that name different participants.
-    let found = memory_of(
-        alloc,
-        one(alloc, voted(alloc, 1, 0, 1)?)?,
-        one(alloc, voted(alloc, 1, 1, 1)?)?,
-    )
-    .err();
-    assert!(rt; found == unvoted(0, 0));
+    ("v", "w", 0, 0),
     // A participant that is no node, and a vote that leaves out its own node.
-    let found = memory_of(alloc, none(alloc), one(alloc, voted(alloc, 1, 1, 8)?)?).err();
-    assert!(rt; found == unvoted(1, 0));
-    let found = memory_of(alloc, none(alloc), one(alloc, voted(alloc, 1, 0, 0)?)?).err();
-    assert!(rt; found == unvoted(1, 0));
+    ("", "8", 1, 0),
+    ("", "z", 1, 0),
     // An execution on two nodes.
-    let found = memory_of(
-        alloc,
-        one(alloc, executed(alloc, 1)?)?,
-        one(alloc, executed(alloc, 1)?)?,
-    )
-    .err();
-    assert!(rt; found == unvoted(0, 0));
-    Ok(())
+    ("e", "e", 0, 0),
+];
+
+/// Whether the named record of each row is out of place.
+fn are_unvoted(alloc: Global, rows: &[Refused]) -> bool {
+    for (zero, one, node, number) in rows {
+        let node = NodeNo(*node);
+        let number = *number;
+        if memory_of(alloc, zero, one).err() != Some(VoteError::Unvoted { node, number }) {
+            return false;
+        }
+    }
+    true
 }
 
 #[test]
-fn names_an_id_that_is_decided_both_ways(rt: HostRuntime) -> Result<(), Fail> {
-    let alloc = rt.alloc();
+fn names_a_record_out_of_place(rt: HostRuntime) {
+    assert!(rt; are_unvoted(rt.alloc(), OUT_OF_PLACE));
+}
+
+#[test]
+fn names_the_least_of_records_that_do_not_fit(rt: HostRuntime) {
+    assert!(rt; are_unvoted(rt.alloc(), DO_NOT_FIT));
+}
+
+const BOTH_WAYS: &[Refused] = &[
     // All votes count as a yes.
-    let found = memory_of(
-        alloc,
-        one(alloc, voted(alloc, 1, 0, 1)?)?,
-        two(alloc, voted(alloc, 1, 0, 1)?, decided(1, false))?,
-    )
-    .err();
-    assert!(rt; found == both(1, 1));
+    ("v", "vn", 1, 1),
     // The first decision is named, be it a yes.
-    let found = memory_of(
-        alloc,
-        two(alloc, voted(alloc, 1, 0, 1)?, decided(1, true))?,
-        two(alloc, voted(alloc, 1, 0, 1)?, decided(1, false))?,
-    )
-    .err();
-    assert!(rt; found == both(0, 1));
+    ("vy", "vn", 0, 1),
+];
+
+#[test]
+fn names_an_id_that_is_decided_both_ways(rt: HostRuntime) {
+    let alloc = rt.alloc();
+    for (zero, one, node, number) in BOTH_WAYS {
+        let node = NodeNo(*node);
+        let number = *number;
+        let refused = memory_of(alloc, zero, one).err();
+        assert!(rt; refused == Some(VoteError::Both { node, number }));
+    }
     // A decision that is not held is out of place before all.
-    let found = memory_of(
-        alloc,
-        one(alloc, decided(1, false))?,
-        two(alloc, voted(alloc, 1, 0, 1)?, decided(1, true))?,
-    )
-    .err();
-    assert!(rt; found == unvoted(0, 0));
-    Ok(())
+    assert!(rt; are_unvoted(alloc, &[("n", "vy", 0, 0)]));
 }

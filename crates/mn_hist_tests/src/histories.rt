@@ -1,8 +1,8 @@
 //! A small log on two nodes: what is committed, what is left in doubt, what a read shows, and what
 //! is reported of it.
 use mn_base::{
-    Addr, Answer, Bytes, ClientNo, Founds, History, Key, Listing, Name, NodeNo, Nodes, Op, Past,
-    Reply, Step, Steps, StopAt, Tid, Value,
+    Addr, Answer, Bytes, ClientNo, Founds, History, Key, Name, NodeNo, Nodes, Op, Past, Reply,
+    Step, Steps, StopAt, Tid, Value,
 };
 use mn_hist::{audit, history_of};
 use mn_mini::{Item, Items, Minitransaction, NodeReply, Reads, Request};
@@ -83,9 +83,10 @@ fn reads(alloc: Global) -> Result<Minitransaction, Fail> {
     Ok(Minitransaction::new(alloc, 2, Items::from_vec(items))?)
 }
 
-fn prepare(alloc: Global, client: u8, node: u8) -> Result<Request, Fail> {
+/// Asks for the vote of client 0's plan on a node.
+fn prepare(alloc: Global, node: u8) -> Result<Request, Fail> {
     Ok(Request::Prepare {
-        tid: tid(client),
+        tid: tid(0),
         participants: Nodes::from_vec([NodeNo(0), NodeNo(1)].to_vec(alloc)?),
         part: writes(alloc, 2)?.part(alloc, NodeNo(node))?,
     })
@@ -108,96 +109,163 @@ fn catalog(alloc: Global) -> Result<Bytes, Fail> {
     Ok(Bytes::from_vec(bytes))
 }
 
-fn listing(alloc: Global) -> Result<Listing, Fail> {
-    Ok(Store::new(alloc)?.listing(alloc)?)
+/// What a client is to do.
+fn op_of(alloc: Global, client: u8) -> Result<Op, Fail> {
+    match client {
+        0 => swap(alloc, b"a"),
+        1 => swap(alloc, b"b"),
+        _ => Ok(Op::Versions),
+    }
 }
 
-fn began(alloc: Global) -> Result<Vec<Entry>, Fail> {
-    let mut entries = Vec::new(alloc);
-    for (client, op) in [
-        (0, swap(alloc, b"a")?),
-        (1, swap(alloc, b"b")?),
-        (2, Op::Versions),
-    ] {
-        entries.push(own(client, What::Begin { number: 1, op }))?;
+/// The one minitransaction of a client: 0 and 1 write, and 2 reads the catalog.
+fn mini_of(alloc: Global, client: u8) -> Result<Minitransaction, Fail> {
+    match client {
+        0 => writes(alloc, 2),
+        1 => writes(alloc, 1),
+        _ => reads(alloc),
     }
-    Ok(entries)
+}
+
+/// The minitransaction of a client, all at node 0.
+fn exec(alloc: Global, client: u8) -> Result<Request, Fail> {
+    Ok(Request::Exec {
+        tid: tid(client),
+        part: mini_of(alloc, client)?.part(alloc, NodeNo(0))?,
+    })
+}
+
+/// Client 0 is in doubt of node 1, client 1 found nothing, and client 2 the one version.
+fn answer_of(alloc: Global, client: u8) -> Result<Answer, Fail> {
+    let reply = match client {
+        0 => {
+            return Ok(Answer::InDoubt {
+                tid: tid(0),
+                node: NodeNo(1),
+            });
+        }
+        1 => Reply::Values {
+            found: Founds::from_vec(Vec::from_array(alloc, [None])?),
+        },
+        _ => Reply::Listing {
+            versions: Store::new(alloc)?.listing(alloc)?,
+        },
+    };
+    Ok(Answer::Replied { reply })
+}
+
+/// What is logged, of a client or of a node.
+#[derive(Clone, Copy)]
+enum Logged {
+    Begin(u8),
+    Issue(u8),
+    Answer(u8),
+    /// Node 0 votes for client 0's plan.
+    Vote,
+    /// Client 2 reads the catalog.
+    Catalog,
+    /// Client 1's plan is run.
+    Exec,
+    /// Node 1 stops inside the last vote of client 0's plan.
+    Stop,
+    Restart,
 }
 
 /// Client 0's plan votes on node 0, client 2 reads the catalog, and client 1's plan is run before
-/// node 1 stops inside the last vote of client 0's, which its restart keeps if `kept`.
-fn worked(alloc: Global, kept: bool) -> Result<Log, Fail> {
-    let mut entries = began(alloc)?;
-    let mini = writes(alloc, 2)?;
-    entries.push(own(0, What::Issue { tid: tid(0), mini }))?;
-    entries.push(called(0, 0, prepare(alloc, 0, 0)?, Vec::new(alloc)))?;
-    let mini = reads(alloc)?;
-    let request = Request::Exec {
-        tid: tid(2),
-        part: mini.part(alloc, NodeNo(0))?,
-    };
-    entries.push(own(2, What::Issue { tid: tid(2), mini }))?;
-    entries.push(called(0, 2, request, Vec::from_array(alloc, [catalog(alloc)?])?))?;
-    let mini = writes(alloc, 1)?;
-    let request = Request::Exec {
-        tid: tid(1),
-        part: mini.part(alloc, NodeNo(0))?,
-    };
-    entries.push(own(1, What::Issue { tid: tid(1), mini }))?;
-    entries.push(called(0, 1, request, Vec::new(alloc)))?;
-    entries.push(Entry {
+/// node 1 stops inside the last vote of client 0's.
+const WORKED: &[Logged] = &[
+    Logged::Begin(0),
+    Logged::Begin(1),
+    Logged::Begin(2),
+    Logged::Issue(0),
+    Logged::Vote,
+    Logged::Issue(2),
+    Logged::Catalog,
+    Logged::Issue(1),
+    Logged::Exec,
+    Logged::Stop,
+    Logged::Restart,
+    Logged::Answer(0),
+    Logged::Answer(1),
+    Logged::Answer(2),
+];
+
+fn begun(alloc: Global, client: u8) -> Result<Entry, Fail> {
+    let op = op_of(alloc, client)?;
+    Ok(own(client, What::Begin { number: 1, op }))
+}
+
+fn issued(alloc: Global, client: u8) -> Result<Entry, Fail> {
+    let mini = mini_of(alloc, client)?;
+    let tid = tid(client);
+    Ok(own(client, What::Issue { tid, mini }))
+}
+
+fn answered(alloc: Global, client: u8) -> Result<Entry, Fail> {
+    let answer = answer_of(alloc, client)?;
+    Ok(own(client, What::Answered { number: 1, answer }))
+}
+
+fn stopped(alloc: Global, kept: bool) -> Result<Entry, Fail> {
+    Ok(Entry {
         node: Some(NodeNo(1)),
         client: Some(ClientNo(0)),
         what: What::Stopped {
-            request: Some(prepare(alloc, 0, 1)?),
+            request: Some(prepare(alloc, 1)?),
             asked: Some(if kept { StopAt::After } else { StopAt::Half }),
         },
-    })?;
-    entries.push(Entry {
+    })
+}
+
+fn restarted(kept: bool) -> Entry {
+    Entry {
         node: Some(NodeNo(1)),
         client: None,
         what: What::Restarted { kept },
-    })?;
-    for (client, answer) in [
-        (
-            0,
-            Answer::InDoubt {
-                tid: tid(0),
-                node: NodeNo(1),
-            },
-        ),
-        (
-            1,
-            Answer::Replied {
-                reply: Reply::Values {
-                    found: Founds::from_vec(Vec::from_array(alloc, [None])?),
-                },
-            },
-        ),
-        (
-            2,
-            Answer::Replied {
-                reply: Reply::Listing {
-                    versions: listing(alloc)?,
-                },
-            },
-        ),
-    ] {
-        entries.push(own(client, What::Answered { number: 1, answer }))?;
     }
+}
+
+/// Client 2 reads the catalog on node 0.
+fn catalog_read(alloc: Global) -> Result<Entry, Fail> {
+    let reads = Vec::from_array(alloc, [catalog(alloc)?])?;
+    Ok(called(0, 2, exec(alloc, 2)?, reads))
+}
+
+fn entry_of(alloc: Global, logged: Logged, kept: bool) -> Result<Entry, Fail> {
+    match logged {
+        Logged::Begin(client) => begun(alloc, client),
+        Logged::Issue(client) => issued(alloc, client),
+        Logged::Answer(client) => answered(alloc, client),
+        Logged::Vote => Ok(called(0, 0, prepare(alloc, 0)?, Vec::new(alloc))),
+        Logged::Catalog => catalog_read(alloc),
+        Logged::Exec => Ok(called(0, 1, exec(alloc, 1)?, Vec::new(alloc))),
+        Logged::Stop => stopped(alloc, kept),
+        Logged::Restart => Ok(restarted(kept)),
+    }
+}
+
+/// The log, where node 1's restart keeps the last vote if `kept`.
+fn worked(alloc: Global, kept: bool) -> Result<Log, Fail> {
     let mut log = Vec::new(alloc);
-    for (place, entry) in entries.into_iter().enumerate() {
-        log.push((place as u64, entry))?;
+    for (place, logged) in WORKED.iter().enumerate() {
+        log.push((place as u64, entry_of(alloc, *logged, kept)?))?;
     }
     Ok(Log::from_vec(log))
 }
 
-fn clients(alloc: Global, history: &History) -> Result<Vec<u8>, Fail> {
-    let mut clients = Vec::new(alloc);
-    for past in history.as_slice() {
-        clients.push(past.client.0)?;
+fn history(alloc: Global, kept: bool) -> Result<History, Fail> {
+    Ok(history_of(alloc, &Store::new(alloc)?, &worked(alloc, kept)?)?)
+}
+
+/// Whether the operations are of these clients, in this order.
+fn are_of(history: &History, clients: &[u8]) -> bool {
+    let past = history.as_slice();
+    for (place, one) in past.iter().enumerate() {
+        if clients.get(place).copied() != Some(one.client.0) {
+            return false;
+        }
     }
-    Ok(clients)
+    past.len() == clients.len()
 }
 
 /// The value that the operation's one Get found.
@@ -215,10 +283,8 @@ fn found(past: &Past) -> Option<&[u8]> {
 fn a_doubtful_commit_stands_at_its_restart_with_the_reply_of_the_store(
     rt: HostRuntime,
 ) -> Result<(), Fail> {
-    let alloc = rt.alloc();
-    let start = Store::new(alloc)?;
-    let history = history_of(alloc, &start, &worked(alloc, true)?)?;
-    assert!(rt; clients(alloc, &history)?.as_slice() == [2, 1, 0].as_slice());
+    let history = history(rt.alloc(), true)?;
+    assert!(rt; are_of(&history, &[2, 1, 0]));
     // It saw what client 1 had put.
     assert!(rt; history.as_slice().last().and_then(found) == Some(b"b".as_slice()));
     Ok(())
@@ -226,10 +292,7 @@ fn a_doubtful_commit_stands_at_its_restart_with_the_reply_of_the_store(
 
 #[test]
 fn a_vote_that_was_not_kept_leaves_no_operation(rt: HostRuntime) -> Result<(), Fail> {
-    let alloc = rt.alloc();
-    let start = Store::new(alloc)?;
-    let history = history_of(alloc, &start, &worked(alloc, false)?)?;
-    assert!(rt; clients(alloc, &history)?.as_slice() == [2, 1].as_slice());
+    assert!(rt; are_of(&history(rt.alloc(), false)?, &[2, 1]));
     Ok(())
 }
 
@@ -248,8 +311,8 @@ const SCRIPT: &[u8] = b"nodes 2\n\
 
 fn reported(alloc: Global, kept: bool) -> Result<Report, Fail> {
     let script = read_script(alloc, SCRIPT)?;
-    let start = Store::new(alloc)?;
-    Ok(audit(alloc, &start, &worked(alloc, kept)?, &script)?)
+    let log = worked(alloc, kept)?;
+    Ok(audit(alloc, &Store::new(alloc)?, &log, &script)?)
 }
 
 /// What becomes of the one operation in doubt.
@@ -261,18 +324,22 @@ fn is_committed(report: &Report) -> Option<bool> {
 }
 
 #[test]
-fn a_report_tells_what_became_of_a_doubt_and_which_points_were_met(
+fn a_report_tells_of_a_commit_in_doubt_and_which_points_were_met(
     rt: HostRuntime,
 ) -> Result<(), Fail> {
-    let alloc = rt.alloc();
-    let report = reported(alloc, true)?;
+    let report = reported(rt.alloc(), true)?;
     assert!(rt; is_committed(&report) == Some(true));
     // The second stop point fits as well, and the first one works.
     assert!(rt; report.points.as_slice() == [false, true, false].as_slice());
     assert!(rt; report.history.as_slice().len() == 3);
     assert!(rt; report.answers.as_slice().len() == 4);
     assert!(rt; matches!(report.answers.as_slice()[2].answer, LineAnswer::Never));
-    let report = reported(alloc, false)?;
+    Ok(())
+}
+
+#[test]
+fn a_report_tells_of_a_vote_that_was_not_kept_and_of_no_point(rt: HostRuntime) -> Result<(), Fail> {
+    let report = reported(rt.alloc(), false)?;
     assert!(rt; is_committed(&report) == Some(false));
     // It stopped elsewhere than the points say.
     assert!(rt; report.points.as_slice() == [false, false, false].as_slice());

@@ -5,7 +5,7 @@ use std::alloc::Global;
 use std::marker::Model;
 
 /// An item of a minitransaction, at a range of one node's space: 1 to 4,096 bytes from `start` on.
-#[derive(Debug, Drop)]
+#[derive(Debug)]
 pub enum Item {
     /// Nothing is done unless the range holds these bytes.
     Compare {
@@ -25,6 +25,29 @@ pub enum Item {
         start: u32,
         bytes: Bytes,
     },
+}
+
+/// It is let go by a call, which is proved once, and not in place wherever one goes.
+impl Drop for Item {
+    fn drop(self) {
+        match self {
+            Item::Compare {
+                node: _node,
+                start: _start,
+                bytes,
+            } => drop(bytes),
+            Item::Read {
+                node: _node,
+                start: _start,
+                length: _length,
+            } => {}
+            Item::Write {
+                node: _node,
+                start: _start,
+                bytes,
+            } => drop(bytes),
+        }
+    }
 }
 
 impl Item {

@@ -5,11 +5,31 @@ use std::alloc::Global;
 use std::marker::Model;
 
 /// An item without its node.
-#[derive(Debug, Drop)]
+#[derive(Debug)]
 pub enum PartItem {
     Compare { start: u32, bytes: Bytes },
     Read { start: u32, length: u32 },
     Write { start: u32, bytes: Bytes },
+}
+
+/// It is let go by a call, which is proved once, and not in place wherever one goes.
+impl Drop for PartItem {
+    fn drop(self) {
+        match self {
+            PartItem::Compare {
+                start: _start,
+                bytes,
+            } => drop(bytes),
+            PartItem::Read {
+                start: _start,
+                length: _length,
+            } => {}
+            PartItem::Write {
+                start: _start,
+                bytes,
+            } => drop(bytes),
+        }
+    }
 }
 
 impl TryCopy for PartItem {

@@ -6,7 +6,7 @@ use std::alloc::Global;
 use std::marker::Model;
 
 /// What a memory node keeps, one record for each request that changes it.
-#[derive(Debug, Drop)]
+#[derive(Debug)]
 pub enum Record {
     /// It voted yes for the part, which is held until it is decided.
     Voted {
@@ -28,6 +28,28 @@ pub enum Record {
     Forced {
         tid: Tid,
     },
+}
+
+/// It is let go by a call, which is proved once, and not in place wherever one goes.
+impl Drop for Record {
+    fn drop(self) {
+        match self {
+            Record::Voted {
+                tid: _tid,
+                participants,
+                part,
+            } => {
+                drop(participants);
+                drop(part);
+            }
+            Record::Executed { tid: _tid, part } => drop(part),
+            Record::Decided {
+                tid: _tid,
+                yes: _yes,
+            } => {}
+            Record::Forced { tid: _tid } => {}
+        }
+    }
 }
 
 impl TryCopy for Record {

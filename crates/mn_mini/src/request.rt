@@ -3,7 +3,7 @@ use mn_base::{NoMemory, Nodes, Tid, TryCopy};
 use std::alloc::Global;
 
 /// What a memory node is asked.
-#[derive(Debug, Drop)]
+#[derive(Debug)]
 pub enum Request {
     /// To vote for its part of a minitransaction with several participants. Done is the yes vote:
     /// the part is held until it is decided.
@@ -33,6 +33,33 @@ pub enum Request {
         start: u32,
         length: u32,
     },
+}
+
+/// It is let go by a call, which is proved once, and not in place wherever one goes.
+impl Drop for Request {
+    fn drop(self) {
+        match self {
+            Request::Prepare {
+                tid: _tid,
+                participants,
+                part,
+            } => {
+                drop(participants);
+                drop(part);
+            }
+            Request::Exec { tid: _tid, part } => drop(part),
+            Request::Decide {
+                tid: _tid,
+                yes: _yes,
+            } => {}
+            Request::Force { tid: _tid } => {}
+            Request::List => {}
+            Request::Peek {
+                start: _start,
+                length: _length,
+            } => {}
+        }
+    }
 }
 
 impl TryCopy for Request {

@@ -1,5 +1,5 @@
 //! A node on a disk in memory: what it answers, stops and restarts.
-ghost use Rattle.std.specs.Prelude.{◌≡◌, ◌≢◌, ◌≤◌, ◌<◌, ◌+◌, ◌∷◌, [], false, IfOk};
+ghost use Rattle.std.specs.Prelude.{◌≡◌, ◌≢◌, ◌≤◌, ◌<◌, ◌+◌, ◌∷◌, [], false, length, IfOk};
 ghost use Rattle.mn_mini.specs.Mini.{IsInSpace, space_size};
 ghost use Rattle.mn_mini.specs.RecordGrammar.{IsPart, IsPartItem, IsTid};
 ghost use Rattle.mn_redo.specs.declared.redo.Phase.TheVariants.{Closing};
@@ -9,15 +9,14 @@ ghost use Rattle.mn_node.specs.State.{HoldsPartsApart};
 use mn_base::{Bytes, ClientNo, NodeNo, Nodes, StopAt, Tid};
 use mn_io::{Bytes as DiskBytes, Calls};
 use mn_memdisk::MemoryDisk;
-use mn_mini::{NodeReply, Part, PartItem, Request};
+use mn_mini::{Part, PartItem, Request};
 use mn_node::Node;
 use mn_redo::Redo;
 use std::alloc::Global;
-use std::process::Abort;
 use std::test::Fail;
 
 /// The log of node 1 of two, on a disk without a byte whose calls in the list fail.
-fn empty_log(rt: &impl Abort, alloc: Global, fails: &[u64]) -> Result<Redo<MemoryDisk>, Fail>
+fn empty_log(alloc: Global, fails: &[u64]) -> Result<Redo<MemoryDisk>, Fail>
     ensures going { IfOk result (λ redo. redo.phase ≢ Closing) }
     ensures bodies { IfOk result (λ redo. HoldsPartsApart redo.bodies) }
     ensures nodes { IfOk result (λ redo. redo.nodes ≡ 2) }
@@ -26,28 +25,56 @@ fn empty_log(rt: &impl Abort, alloc: Global, fails: &[u64]) -> Result<Redo<Memor
     let disk = MemoryDisk::new(DiskBytes::from_vec(Vec::new(alloc)), fails);
     match Redo::open(alloc, disk, NodeNo(1), 2) {
         Ok(redo) => Ok(redo),
-        Err(_) => panic!(rt; "no log"),
+        Err(_failed) => Err(Fail::new("no log")),
     }
 }
 
 /// Node 1 of two, on a disk without a byte whose calls in the list fail.
-fn start(rt: &impl Abort, alloc: Global, fails: &[u64]) -> Result<Node<MemoryDisk>, Fail> {
-    let redo = empty_log(rt, alloc, fails)?;
+fn start(alloc: Global, fails: &[u64]) -> Result<Node<MemoryDisk>, Fail> {
+    let redo = empty_log(alloc, fails)?;
     match Node::start(alloc, redo) {
         Ok(node) => Ok(node),
-        Err(_) => panic!(rt; "no node"),
+        Err(_failed) => Err(Fail::new("no node")),
     }
 }
 
-fn tid(client: u8, serial: u32) -> Tid
-    requires client { client ≤ 20 }
-    requires serial { 1 ≤ serial }
+/// What is done at a place in the space.
+#[derive(Clone, Copy)]
+enum Piece {
+    /// Compares the eight bytes of the count with zeros, and writes `a` into the first slot.
+    Vote,
+    /// Writes a byte.
+    Write(u16, u8),
+    /// Compares a byte.
+    Compare(u16, u8),
+    /// Reads so many bytes.
+    Read(u16, u8),
+}
+
+/// A request: the numbers of a client and of its serial name an id, and a Prepare asks for a vote
+/// of both nodes.
+#[derive(Clone, Copy)]
+enum Ask {
+    Prepare(u8, u8, Piece),
+    Exec(u8, u8, Piece),
+    Decide(u8, u8, bool),
+    Force(u8, u8),
+    List,
+    /// So many bytes at a place.
+    Peek(u16, u8),
+}
+
+use Ask::{Decide, Exec, Force, List, Peek, Prepare};
+use Piece::{Compare, Read, Vote, Write};
+
+/// The id of these numbers, as far as there is one.
+fn tid(client: u8, serial: u8) -> Tid
     ensures { IsTid result }
 {
     Tid {
         run: 1,
-        client: ClientNo(client),
-        serial,
+        client: ClientNo(client.min(20)),
+        serial: u32::from(serial.max(1)),
     }
 }
 
@@ -65,36 +92,18 @@ fn write(alloc: Global, start: u32, byte: u8) -> Result<Part, Fail>
     requires { start < space_size }
     ensures { IfOk result IsPart }
 {
-    part_of(
-        alloc,
-        PartItem::Write {
-            start,
-            bytes: Bytes::from_vec([byte].to_vec(alloc)?),
-        },
-    )
+    let bytes = Bytes::from_vec([byte].to_vec(alloc)?);
+    part_of(alloc, PartItem::Write { start, bytes })
 }
 
 fn compare(alloc: Global, start: u32, byte: u8) -> Result<Part, Fail>
     requires { start < space_size }
     ensures { IfOk result IsPart }
 {
-    part_of(
-        alloc,
-        PartItem::Compare {
-            start,
-            bytes: Bytes::from_vec([byte].to_vec(alloc)?),
-        },
-    )
+    let bytes = Bytes::from_vec([byte].to_vec(alloc)?);
+    part_of(alloc, PartItem::Compare { start, bytes })
 }
 
-fn read(alloc: Global, start: u32, length: u32) -> Result<Part, Fail>
-    requires { IsInSpace start length }
-    ensures { IfOk result IsPart }
-{
-    part_of(alloc, PartItem::Read { start, length })
-}
-
-/// Compares the eight bytes of the count with zeros, and writes `a` into the first slot.
 fn vote_part(alloc: Global) -> Result<Part, Fail>
     ensures { IfOk result IsPart }
 {
@@ -110,319 +119,315 @@ fn vote_part(alloc: Global) -> Result<Part, Fail>
     Ok(Part::from_vec(items))
 }
 
+fn made(alloc: Global, piece: Piece) -> Result<Part, Fail>
+    ensures { IfOk result IsPart }
+{
+    match piece {
+        Vote => vote_part(alloc),
+        Write(start, byte) => write(alloc, u32::from(start), byte),
+        Compare(start, byte) => compare(alloc, u32::from(start), byte),
+        Read(start, length) => {
+            let length = u32::from(length.max(1));
+            let start = u32::from(start);
+            part_of(alloc, PartItem::Read { start, length })
+        }
+    }
+}
+
 /// Asks for a vote of both nodes.
-fn prepare(alloc: Global, client: u8, serial: u32, part: Part) -> Result<Request, Fail>
-    requires client { client ≤ 20 }
-    requires serial { 1 ≤ serial }
+fn prepare(alloc: Global, tid: Tid, part: Part) -> Result<Request, Fail>
+    requires id { IsTid tid }
     requires part { IsPart part }
     ensures { IfOk result IsSoundRequest }
 {
+    let participants = Nodes::from_vec([NodeNo(0), NodeNo(1)].to_vec(alloc)?);
     Ok(Request::Prepare {
-        tid: tid(client, serial),
-        participants: Nodes::from_vec([NodeNo(0), NodeNo(1)].to_vec(alloc)?),
+        tid,
+        participants,
         part,
     })
 }
 
-/// The node says this to the request.
-fn says(
-    rt: &impl Abort,
-    alloc: Global,
-    node: &mut Node<MemoryDisk>,
-    request: &Request,
-    stop: Option<StopAt>,
-    wanted: &str,
-) -> Result<(), Fail>
-    requires { IsSoundRequest request.now }
+fn request_of(alloc: Global, ask: Ask) -> Result<Request, Fail>
+    ensures { IfOk result IsSoundRequest }
 {
-    let reply = node.handle(alloc, request, stop);
-    let said = format!(in alloc; "{reply:?}")?;
-    assert!(rt; said.as_str() == wanted);
-    Ok(())
+    match ask {
+        Prepare(client, serial, piece) => prepare(alloc, tid(client, serial), made(alloc, piece)?),
+        Exec(client, serial, piece) => Ok(Request::Exec {
+            tid: tid(client, serial),
+            part: made(alloc, piece)?,
+        }),
+        Decide(client, serial, yes) => Ok(Request::Decide {
+            tid: tid(client, serial),
+            yes,
+        }),
+        Force(client, serial) => Ok(Request::Force {
+            tid: tid(client, serial),
+        }),
+        List => Ok(Request::List),
+        Peek(start, length) => Ok(Request::Peek {
+            start: u32::from(start),
+            length: u32::from(length.max(1)),
+        }),
+    }
 }
 
-/// Whether a restart finds the record of the stopped request.
-fn restarts(rt: &impl Abort, alloc: Global, node: &mut Node<MemoryDisk>) -> bool {
-    assert!(rt; node.is_down());
-    match node.restart(alloc) {
-        Ok(there) => there,
-        Err(_) => panic!(rt; "no restart"),
+/// Whether the node says this to the request.
+fn says(
+    alloc: Global,
+    node: &mut Node<MemoryDisk>,
+    ask: Ask,
+    stop: Option<StopAt>,
+    wanted: &str,
+) -> Result<bool, Fail> {
+    let request = request_of(alloc, ask)?;
+    let reply = node.handle(alloc, &request, stop);
+    Ok(format!(in alloc; "{reply:?}")?.as_str() == wanted)
+}
+
+/// A request, and what the node says to it.
+type Said = (Ask, &'static str);
+
+/// Whether the node says these, one after another.
+fn says_all(alloc: Global, node: &mut Node<MemoryDisk>, rows: &[Said]) -> Result<bool, Fail> {
+    for (ask, wanted) in rows {
+        if !says(alloc, node, *ask, None, wanted)? {
+            return Ok(false);
+        }
     }
+    Ok(true)
+}
+
+/// Whether a restart finds the record of the stopped request; none if the node is up or stays down.
+fn restart(alloc: Global, node: &mut Node<MemoryDisk>) -> Option<bool> {
+    if !node.is_down() {
+        return None;
+    }
+    match node.restart(alloc) {
+        Ok(there) => Some(there),
+        Err(_cause) => None,
+    }
+}
+
+const YES: &str = "Done { reads: Reads { reads: [] } }";
+
+const COUNT_IS_LOCKED: &str =
+    "BadLock { start: 20, length: 1, holder: Tid { run: 1, client: ClientNo(0), serial: 1 } }";
+
+const SLOT_IS_LOCKED: &str =
+    "BadLock { start: 20480, length: 1, holder: Tid { run: 1, client: ClientNo(0), serial: 1 } }";
+
+const A_VOTE: &[Said] = &[
+    (Prepare(0, 1, Vote), YES),
+    (Prepare(1, 1, Write(20, 1)), COUNT_IS_LOCKED),
+    (
+        Exec(1, 2, Read(16, 8)),
+        "Done { reads: Reads { reads: [Bytes { bytes: [0, 0, 0, 0, 0, 0, 0, 0] }] } }",
+    ),
+];
+
+const IT_IS_FORCED: &[Said] = &[
+    (Force(1, 3), "Vote { yes: false }"),
+    (Prepare(1, 3, Read(0, 1)), "BadForced"),
+    (Force(0, 1), "Vote { yes: true }"),
+];
+
+const IT_IS_DECIDED: &[Said] = &[
+    (Prepare(1, 4, Write(20, 1)), COUNT_IS_LOCKED),
+    (
+        List,
+        "Listed { doubts: Doubts { doubts: [Doubt { tid: Tid { run: 1, client: ClientNo(0), serial: 1 }, participants: Nodes { nodes: [NodeNo(0), NodeNo(1)] } }] } }",
+    ),
+    (Decide(0, 1, true), "Decided"),
+    (Peek(20_480, 1), "Peeked { bytes: Bytes { bytes: [97] } }"),
+    (
+        Prepare(1, 5, Compare(20_480, 0)),
+        "BadCompare { item: 0, found: Bytes { bytes: [97] } }",
+    ),
+];
+
+/// Whether it has one record behind a vote, says that it is down when it is halted, and has no new
+/// record when it is restarted.
+fn keeps_a_vote(alloc: Global, node: &mut Node<MemoryDisk>) -> Result<bool, Fail> {
+    if !says_all(alloc, node, A_VOTE)? || node.records().len() != 1 {
+        return Ok(false);
+    }
+    if !says_all(alloc, node, IT_IS_FORCED)? {
+        return Ok(false);
+    }
+    node.halt();
+    Ok(says(alloc, node, Peek(20_480, 1), None, "Down")? && restart(alloc, node) == Some(false))
 }
 
 #[test]
 fn a_node_answers_by_its_records(rt: HostRuntime) -> Result<(), Fail> {
     let alloc = rt.alloc();
-    let mut node = start(&rt, alloc, &[])?;
-    let first = prepare(alloc, 0, 1, vote_part(alloc)?)?;
-    says(
-        &rt,
-        alloc,
-        &mut node,
-        &first,
-        None,
-        "Done { reads: Reads { reads: [] } }",
-    )?;
-    let second = prepare(alloc, 1, 1, write(alloc, 20, 1)?)?;
-    let locked =
-        "BadLock { start: 20, length: 1, holder: Tid { run: 1, client: ClientNo(0), serial: 1 } }";
-    says(&rt, alloc, &mut node, &second, None, locked)?;
-    let exec = Request::Exec {
-        tid: tid(1, 2),
-        part: read(alloc, 16, 8)?,
-    };
-    says(
-        &rt,
-        alloc,
-        &mut node,
-        &exec,
-        None,
-        "Done { reads: Reads { reads: [Bytes { bytes: [0, 0, 0, 0, 0, 0, 0, 0] }] } }",
-    )?;
-    assert!(rt; node.records().len() == 1);
-    says(
-        &rt,
-        alloc,
-        &mut node,
-        &Request::Force { tid: tid(1, 3) },
-        None,
-        "Vote { yes: false }",
-    )?;
-    let forced = prepare(alloc, 1, 3, read(alloc, 0, 1)?)?;
-    says(&rt, alloc, &mut node, &forced, None, "BadForced")?;
-    says(
-        &rt,
-        alloc,
-        &mut node,
-        &Request::Force { tid: tid(0, 1) },
-        None,
-        "Vote { yes: true }",
-    )?;
-    node.halt();
-    let peek = Request::Peek {
-        start: 20_480,
-        length: 1,
-    };
-    says(&rt, alloc, &mut node, &peek, None, "Down")?;
-    assert!(rt; !restarts(&rt, alloc, &mut node));
-    let fourth = prepare(alloc, 1, 4, write(alloc, 20, 1)?)?;
-    says(&rt, alloc, &mut node, &fourth, None, locked)?;
-    says(
-        &rt,
-        alloc,
-        &mut node,
-        &Request::List,
-        None,
-        "Listed { doubts: Doubts { doubts: [Doubt { tid: Tid { run: 1, client: ClientNo(0), serial: 1 }, participants: Nodes { nodes: [NodeNo(0), NodeNo(1)] } }] } }",
-    )?;
-    let decide = Request::Decide {
-        tid: tid(0, 1),
-        yes: true,
-    };
-    says(&rt, alloc, &mut node, &decide, None, "Decided")?;
-    says(
-        &rt,
-        alloc,
-        &mut node,
-        &peek,
-        None,
-        "Peeked { bytes: Bytes { bytes: [97] } }",
-    )?;
-    let fifth = prepare(alloc, 1, 5, compare(alloc, 20_480, 0)?)?;
-    says(
-        &rt,
-        alloc,
-        &mut node,
-        &fifth,
-        None,
-        "BadCompare { item: 0, found: Bytes { bytes: [97] } }",
-    )?;
+    let mut node = start(alloc, &[])?;
+    assert!(rt; keeps_a_vote(alloc, &mut node)?);
+    assert!(rt; says_all(alloc, &mut node, IT_IS_DECIDED)?);
     assert!(rt; node.records().len() == 3);
     Ok(())
 }
 
-/// A write of one byte, at this node alone.
-fn exec(alloc: Global) -> Result<Request, Fail>
-    ensures { IfOk result IsSoundRequest }
-{
-    Ok(Request::Exec {
-        tid: tid(2, 1),
-        part: write(alloc, 20_480, 0x62)?,
-    })
-}
+const LOCKS_FIRST: &[Said] = &[
+    (Prepare(0, 1, Vote), YES),
+    (Prepare(1, 1, Compare(20_480, 9)), SLOT_IS_LOCKED),
+];
 
 #[test]
 fn locks_are_tested_before_compares(rt: HostRuntime) -> Result<(), Fail> {
     let alloc = rt.alloc();
-    let mut node = start(&rt, alloc, &[])?;
-    let vote = prepare(alloc, 0, 1, vote_part(alloc)?)?;
-    says(
-        &rt,
-        alloc,
-        &mut node,
-        &vote,
-        None,
-        "Done { reads: Reads { reads: [] } }",
-    )?;
-    let other = prepare(alloc, 1, 1, compare(alloc, 20_480, 9)?)?;
-    let locked =
-        "BadLock { start: 20480, length: 1, holder: Tid { run: 1, client: ClientNo(0), serial: 1 } }";
-    says(&rt, alloc, &mut node, &other, None, locked)
+    let mut node = start(alloc, &[])?;
+    assert!(rt; says_all(alloc, &mut node, LOCKS_FIRST)?);
+    Ok(())
 }
 
+const TWO_IDS: &[Said] = &[
+    (Prepare(0, 1, Write(20_480, 0x61)), YES),
+    (Prepare(1, 1, Write(20_482, 0x62)), YES),
+    (Prepare(0, 1, Write(20_481, 0x63)), YES),
+    (Decide(0, 1, true), "Decided"),
+];
+
 /// The node shows both writes of the first id, and lists the second.
-fn shows_one_ended(
-    rt: &impl Abort,
-    alloc: Global,
-    node: &mut Node<MemoryDisk>,
-) -> Result<(), Fail> {
-    let peek = Request::Peek {
-        start: 20_480,
-        length: 3,
-    };
-    says(
-        rt,
-        alloc,
-        node,
-        &peek,
-        None,
+const ONE_HAS_ENDED: &[Said] = &[
+    (
+        Peek(20_480, 3),
         "Peeked { bytes: Bytes { bytes: [97, 99, 0] } }",
-    )?;
-    says(
-        rt,
-        alloc,
-        node,
-        &Request::List,
-        None,
+    ),
+    (
+        List,
         "Listed { doubts: Doubts { doubts: [Doubt { tid: Tid { run: 1, client: ClientNo(1), serial: 1 }, participants: Nodes { nodes: [NodeNo(0), NodeNo(1)] } }] } }",
-    )
-}
+    ),
+];
 
 #[test]
 fn a_decision_ends_each_vote_of_its_id_alone(rt: HostRuntime) -> Result<(), Fail> {
     let alloc = rt.alloc();
-    let mut node = start(&rt, alloc, &[])?;
-    let yes = "Done { reads: Reads { reads: [] } }";
-    let first = prepare(alloc, 0, 1, write(alloc, 20_480, 0x61)?)?;
-    says(&rt, alloc, &mut node, &first, None, yes)?;
-    let other = prepare(alloc, 1, 1, write(alloc, 20_482, 0x62)?)?;
-    says(&rt, alloc, &mut node, &other, None, yes)?;
-    let again = prepare(alloc, 0, 1, write(alloc, 20_481, 0x63)?)?;
-    says(&rt, alloc, &mut node, &again, None, yes)?;
-    let decide = Request::Decide {
-        tid: tid(0, 1),
-        yes: true,
-    };
-    says(&rt, alloc, &mut node, &decide, None, "Decided")?;
-    shows_one_ended(&rt, alloc, &mut node)?;
+    let mut node = start(alloc, &[])?;
+    assert!(rt; says_all(alloc, &mut node, TWO_IDS)?);
+    assert!(rt; says_all(alloc, &mut node, ONE_HAS_ENDED)?);
     node.halt();
-    assert!(rt; !restarts(&rt, alloc, &mut node));
-    shows_one_ended(&rt, alloc, &mut node)
+    assert!(rt; restart(alloc, &mut node) == Some(false));
+    assert!(rt; says_all(alloc, &mut node, ONE_HAS_ENDED)?);
+    Ok(())
 }
 
-/// A vote, and a decision of it on a disk whose call of this number fails: the node stops, is down,
-/// and is restarted, where the decision is there or not.
-fn decides(rt: &impl Abort, alloc: Global, fails: u64, there: bool) -> Result<(), Fail> {
-    let mut node = start(rt, alloc, &[fails])?;
-    let vote = prepare(alloc, 0, 1, vote_part(alloc)?)?;
-    says(
-        rt,
-        alloc,
-        &mut node,
-        &vote,
-        None,
-        "Done { reads: Reads { reads: [] } }",
-    )?;
-    let decide = Request::Decide {
-        tid: tid(0, 1),
-        yes: true,
-    };
-    says(rt, alloc, &mut node, &decide, None, "Stopped")?;
-    says(rt, alloc, &mut node, &decide, None, "Down")?;
-    assert!(rt; restarts(rt, alloc, &mut node) == there);
-    says(rt, alloc, &mut node, &decide, None, "Decided")?;
-    assert!(rt; node.records().len() == 2);
-    Ok(())
+/// A vote, and a decision of it in which the node stops and is down.
+const A_DECISION_STOPS: &[Said] = &[
+    (Prepare(0, 1, Vote), YES),
+    (Decide(0, 1, true), "Stopped"),
+    (Decide(0, 1, true), "Down"),
+];
+
+/// Whether the node stops in a decision on a disk whose call of this number fails, is restarted
+/// where the decision is there or not, and decides.
+fn decides(alloc: Global, fails: u64, there: bool) -> Result<bool, Fail> {
+    let mut node = start(alloc, &[fails])?;
+    if !says_all(alloc, &mut node, A_DECISION_STOPS)? {
+        return Ok(false);
+    }
+    Ok(
+        restart(alloc, &mut node) == Some(there)
+            && says(alloc, &mut node, Decide(0, 1, true), None, "Decided")?
+            && node.records().len() == 2,
+    )
 }
 
 #[test]
 fn a_decision_on_a_disk_that_fails_stops_the_node(rt: HostRuntime) -> Result<(), Fail> {
-    let alloc = rt.alloc();
-
     // Three calls read the disk, eight write its header, and four write the vote. Then the record
     // behind its closed gate and the gate are written, each with a sync behind it.
-    decides(&rt, alloc, 15, false)?;
-    decides(&rt, alloc, 16, false)?;
-    decides(&rt, alloc, 18, true)
+    for (fails, there) in [(15, false), (16, false), (18, true)] {
+        assert!(rt; decides(rt.alloc(), fails, there)?);
+    }
+    Ok(())
 }
 
-/// How many records a crash of this choice leaves after an Exec with this stop, on a disk whose
-/// call of this number fails.
-fn left(
-    rt: &impl Abort,
-    alloc: Global,
-    fails: u64,
-    stop: Option<StopAt>,
-    choice: u64,
-) -> Result<u32, Fail> {
-    let mut node = start(rt, alloc, &[fails])?;
-    says(rt, alloc, &mut node, &exec(alloc)?, stop, "Stopped")?;
-    let disk = match node.close().crash(alloc, choice) {
-        Ok(disk) => disk,
-        Err(_) => panic!(rt; "no crash"),
-    };
-    match Redo::open(alloc, disk, NodeNo(1), 2) {
-        Ok(redo) => Ok(redo.count()),
-        Err(_) => panic!(rt; "no log"),
+/// A write of one byte, at this node alone.
+const EXEC: Ask = Exec(2, 1, Write(20_480, 0x62));
+
+/// How many records a log has that is opened on what a crash leaves.
+fn left_by(alloc: Global, disk: MemoryDisk, choice: u64) -> Result<Option<u32>, Fail> {
+    match Redo::open(alloc, disk.crash(alloc, choice)?, NodeNo(1), 2) {
+        Ok(redo) => Ok(Some(redo.count())),
+        Err(_failed) => Ok(None),
     }
 }
 
+/// The call that fails, where the node is to stop, what the crash chooses, and how many records it
+/// leaves.
+type Crash = (u64, Option<StopAt>, u64, u32);
+
+/// Whether an Exec stops the node, and so many records are left.
+fn leaves(alloc: Global, crash: Crash) -> Result<bool, Fail> {
+    let (fails, stop, choice, left) = crash;
+    let mut node = start(alloc, &[fails])?;
+    if !says(alloc, &mut node, EXEC, stop, "Stopped")? {
+        return Ok(false);
+    }
+    Ok(left_by(alloc, node.close(), choice)? == Some(left))
+}
+
+const NEVER: u64 = 100;
+
+const STOPS: &[Crash] = &[
+    (NEVER, Some(StopAt::Before), 0, 0),
+    (NEVER, Some(StopAt::Before), 1, 0),
+    (NEVER, Some(StopAt::Half), 0, 0),
+    (NEVER, Some(StopAt::Half), 1, 0),
+    (NEVER, Some(StopAt::After), 0, 1),
+    (NEVER, Some(StopAt::After), 1, 1),
+];
+
 #[test]
 fn a_stop_leaves_the_record_or_not(rt: HostRuntime) -> Result<(), Fail> {
-    let alloc = rt.alloc();
-    let never = 100;
-    assert!(rt; left(&rt, alloc, never, Some(StopAt::Before), 0)? == 0);
-    assert!(rt; left(&rt, alloc, never, Some(StopAt::Before), 1)? == 0);
-    assert!(rt; left(&rt, alloc, never, Some(StopAt::Half), 0)? == 0);
-    assert!(rt; left(&rt, alloc, never, Some(StopAt::Half), 1)? == 0);
-    assert!(rt; left(&rt, alloc, never, Some(StopAt::After), 0)? == 1);
-    assert!(rt; left(&rt, alloc, never, Some(StopAt::After), 1)? == 1);
+    for crash in STOPS {
+        assert!(rt; leaves(rt.alloc(), *crash)?);
+    }
     Ok(())
 }
+
+const FAILED_SYNCS: &[Crash] = &[
+    (12, None, 0, 0),
+    (12, None, 1, 0),
+    (12, None, 2, 0),
+    (12, None, 3, 0),
+    (14, None, 0, 0),
+    (14, None, 1, 1),
+];
 
 #[test]
 fn a_crash_behind_a_failed_sync_leaves_the_record_or_not(rt: HostRuntime) -> Result<(), Fail> {
-    let alloc = rt.alloc();
-    assert!(rt; left(&rt, alloc, 12, None, 0)? == 0);
-    assert!(rt; left(&rt, alloc, 12, None, 1)? == 0);
-    assert!(rt; left(&rt, alloc, 12, None, 2)? == 0);
-    assert!(rt; left(&rt, alloc, 12, None, 3)? == 0);
-    assert!(rt; left(&rt, alloc, 14, None, 0)? == 0);
-    assert!(rt; left(&rt, alloc, 14, None, 1)? == 1);
+    for crash in FAILED_SYNCS {
+        assert!(rt; leaves(rt.alloc(), *crash)?);
+    }
     Ok(())
 }
 
-/// Whether a restart finds the record of an Exec with this stop, after which a Peek shows whether
-/// it wrote.
-fn comes_back(rt: &impl Abort, alloc: Global, stop: StopAt, byte: &str) -> Result<bool, Fail> {
-    let mut node = start(rt, alloc, &[])?;
-    says(rt, alloc, &mut node, &exec(alloc)?, Some(stop), "Stopped")?;
-    let there = restarts(rt, alloc, &mut node);
-    let peek = Request::Peek {
-        start: 20_480,
-        length: 1,
-    };
-    says(rt, alloc, &mut node, &peek, None, byte)?;
-    Ok(there)
+/// Whether a restart finds the record of an Exec with this stop or not, after which a Peek shows
+/// whether it wrote.
+fn comes_back(alloc: Global, stop: StopAt, there: bool, byte: &str) -> Result<bool, Fail> {
+    let mut node = start(alloc, &[])?;
+    if !says(alloc, &mut node, EXEC, Some(stop), "Stopped")? {
+        return Ok(false);
+    }
+    Ok(
+        restart(alloc, &mut node) == Some(there)
+            && says(alloc, &mut node, Peek(20_480, 1), None, byte)?,
+    )
 }
 
 #[test]
 fn a_restart_tells_whether_the_record_is_there(rt: HostRuntime) -> Result<(), Fail> {
-    let alloc = rt.alloc();
     let before = "Peeked { bytes: Bytes { bytes: [0] } }";
     let after = "Peeked { bytes: Bytes { bytes: [98] } }";
-    assert!(rt; !comes_back(&rt, alloc, StopAt::Before, before)?);
-    assert!(rt; !comes_back(&rt, alloc, StopAt::Half, before)?);
-    assert!(rt; comes_back(&rt, alloc, StopAt::After, after)?);
+    for (stop, there, byte) in [
+        (StopAt::Before, false, before),
+        (StopAt::Half, false, before),
+        (StopAt::After, true, after),
+    ] {
+        assert!(rt; comes_back(rt.alloc(), stop, there, byte)?);
+    }
     Ok(())
 }

@@ -1,4 +1,8 @@
-use mn_base::{Addr, Name, NodeNo, Op, Reply, VersionNo};
+ghost use Rattle.std.specs.Prelude.{◌≡◌, None};
+ghost use Rattle.mn_base.specs.Store.{refusal};
+ghost use Rattle.mn_page.specs.Forest.{heads_in};
+
+use mn_base::{Addr, Name, NoMemory, NodeNo, Op, Reply, VersionNo};
 use mn_catalog::{CatError, Catalog};
 use mn_page::Entries;
 use std::alloc::Global;
@@ -12,24 +16,33 @@ const MAIN: [u8; 18] = [
 /// A catalog with `main` at this place alone.
 fn main_at(place: u8) -> [u8; 4_096] {
     let mut bytes = [0; 4_096];
-    for (byte, new) in bytes.iter_mut().skip(usize::from(place) * 64).zip(&MAIN) {
-        *byte = *new;
+    let start = usize::from(place) * 64;
+    if start <= 4_032 {
+        bytes[start..start + 18].copy_from_slice(&MAIN);
     }
     bytes
 }
 
+/// The version of this name.
+fn number_of(alloc: Global, catalog: &Catalog, name: &[u8]) -> Result<Option<VersionNo>, Fail> {
+    let name = Name::new(alloc, name)?;
+    Ok(catalog.find(&name))
+}
+
 #[test]
 fn the_base_catalog_has_main(rt: HostRuntime) -> Result<(), Fail> {
-    let catalog = Catalog::read(rt.alloc(), &main_at(0))?;
+    let alloc = rt.alloc();
+    let catalog = Catalog::read(alloc, &main_at(0))?;
     assert!(rt; catalog.entries().len() == 1);
-    let main = Name::new(rt.alloc(), b"main")?;
-    assert!(rt; catalog.find(&main) == Some(VersionNo(0)));
-    let other = Name::new(rt.alloc(), b"other")?;
-    assert!(rt; catalog.find(&other) == None);
-
-    let behind = Catalog::read(rt.alloc(), &main_at(1)).err();
-    assert!(rt; behind == Some(CatError::BadCatalog { entry: 1 }));
+    assert!(rt; number_of(alloc, &catalog, b"main")? == Some(VersionNo(0)));
+    assert!(rt; number_of(alloc, &catalog, b"other")? == None);
     Ok(())
+}
+
+#[test]
+fn an_entry_behind_a_free_one_is_refused(rt: HostRuntime) {
+    let refused = Catalog::read(rt.alloc(), &main_at(1)).err();
+    assert!(rt; refused == Some(CatError::BadCatalog { entry: 1 }));
 }
 
 /// Writes entries into the bytes of a catalog.
@@ -42,79 +55,116 @@ fn put(bytes: &mut [u8; 4_096], entries: Entries) {
     }
 }
 
-/// Makes a child of `main`, whose root is to stand in the first slot of node 1. A refusing reply,
-/// if there is one.
-fn make(
-    alloc: Global,
-    bytes: &mut [u8; 4_096],
-    snapshot: bool,
-    child: &[u8],
-) -> Result<Option<Reply>, Fail> {
+/// The first slot of node 1.
+const ROOT: Addr = Addr {
+    node: NodeNo(1),
+    slot: 0,
+};
+
+/// The entries that an operation writes which makes a child with this root.
+fn entries_of(alloc: Global, catalog: &Catalog, op: &Op) -> Result<Option<Entries>, NoMemory>
+    requires admitted { refusal (heads_in catalog.now) op.now ≡ None }
+{
+    match op {
+        Op::Snapshot { version, child } => match catalog.find(version) {
+            Some(number) => Ok(Some(catalog.snapshot(alloc, number, child, ROOT)?)),
+            None => Ok(None),
+        },
+        Op::Branch { version, child } => match catalog.find(version) {
+            Some(number) => Ok(Some(catalog.branch(alloc, number, child, ROOT)?)),
+            None => Ok(None),
+        },
+        _ => Ok(None),
+    }
+}
+
+/// What becomes of an operation: the child is made, or a reply refuses it.
+#[derive(Clone, Copy)]
+enum Said {
+    Made,
+    Frozen,
+    NotFrozen,
+    NameTaken,
+    VersionsFull,
+    Other,
+}
+
+fn told(refused: &Reply) -> Said {
+    match refused {
+        Reply::Frozen => Said::Frozen,
+        Reply::NotFrozen => Said::NotFrozen,
+        Reply::NameTaken => Said::NameTaken,
+        Reply::VersionsFull => Said::VersionsFull,
+        _ => Said::Other,
+    }
+}
+
+/// Makes the child that an operation asks for.
+fn make(alloc: Global, bytes: &mut [u8; 4_096], op: &Op) -> Result<Said, Fail> {
     let catalog = Catalog::read(alloc, bytes)?;
+    if let Some(refused) = catalog.admit(op) {
+        return Ok(told(&refused));
+    }
+    match entries_of(alloc, &catalog, op)? {
+        Some(entries) => {
+            put(bytes, entries);
+            Ok(Said::Made)
+        }
+        None => Ok(Said::Other),
+    }
+}
+
+/// Makes a snapshot of `main` whose child has this name.
+fn snapshot(alloc: Global, bytes: &mut [u8; 4_096], child: &[u8]) -> Result<Said, Fail> {
     let version = Name::new(alloc, b"main")?;
     let child = Name::new(alloc, child)?;
-    let Some(number) = catalog.find(&version) else {
-        return Ok(Some(Reply::NoVersion));
-    };
-    let root = Addr {
-        node: NodeNo(1),
-        slot: 0,
-    };
-    let op = if snapshot {
-        Op::Snapshot { version, child }
-    } else {
-        Op::Branch { version, child }
-    };
-    let refused = catalog.admit(&op);
-    if refused.is_some() {
-        return Ok(refused);
+    make(alloc, bytes, &Op::Snapshot { version, child })
+}
+
+/// Makes a branch of `main` of this name.
+fn branch(alloc: Global, bytes: &mut [u8; 4_096], child: &[u8]) -> Result<Said, Fail> {
+    let version = Name::new(alloc, b"main")?;
+    let child = Name::new(alloc, child)?;
+    make(alloc, bytes, &Op::Branch { version, child })
+}
+
+/// Whether 62 branches are made.
+fn is_filled(alloc: Global, bytes: &mut [u8; 4_096]) -> Result<bool, Fail> {
+    for n in 1..63 {
+        let child = [b'x', b'0' + n / 10, b'0' + n % 10];
+        if !matches!(branch(alloc, bytes, &child)?, Said::Made) {
+            return Ok(false);
+        }
     }
-    let entries = match &op {
-        Op::Snapshot { child, .. } => catalog.snapshot(alloc, number, child, root)?,
-        Op::Branch { child, .. } => catalog.branch(alloc, number, child, root)?,
-        _ => return Ok(refused),
-    };
-    put(bytes, entries);
-    Ok(None)
+    Ok(true)
+}
+
+#[test]
+fn a_catalog_tells_what_may_be_made(rt: HostRuntime) -> Result<(), Fail> {
+    let alloc = rt.alloc();
+    let mut bytes = main_at(0);
+    assert!(rt; matches!(branch(alloc, &mut bytes, b"m")?, Said::NotFrozen));
+    assert!(rt; matches!(snapshot(alloc, &mut bytes, b"main")?, Said::NameTaken));
+    assert!(rt; matches!(snapshot(alloc, &mut bytes, b"m")?, Said::Made));
+    assert!(rt; matches!(snapshot(alloc, &mut bytes, b"y")?, Said::Frozen));
+    Ok(())
+}
+
+/// Whether there are 64 entries, of which the first was changed once and the last is a child of it.
+fn has_64(alloc: Global, bytes: &[u8; 4_096]) -> Result<bool, Fail> {
+    let catalog = Catalog::read(alloc, bytes)?;
+    let entries = catalog.entries();
+    Ok(entries.len() == 64 && entries[0].seq == 2 && entries[63].parent == Some(VersionNo(0)))
 }
 
 #[test]
 fn a_catalog_takes_64_versions(rt: HostRuntime) -> Result<(), Fail> {
     let alloc = rt.alloc();
     let mut bytes = main_at(0);
-    assert!(rt;
-        matches!(
-            make(alloc, &mut bytes, false, b"m")?,
-            Some(Reply::NotFrozen)
-        )
-    );
-    assert!(rt;
-        matches!(
-            make(alloc, &mut bytes, true, b"main")?,
-            Some(Reply::NameTaken)
-        )
-    );
-    assert!(rt; make(alloc, &mut bytes, true, b"m")?.is_none());
-    assert!(rt; matches!(make(alloc, &mut bytes, true, b"y")?, Some(Reply::Frozen)));
-    for n in 1..63 {
-        let child = [b'x', b'0' + n / 10, b'0' + n % 10];
-        assert!(rt; make(alloc, &mut bytes, false, &child)?.is_none());
-    }
-    assert!(rt;
-        matches!(
-            make(alloc, &mut bytes, false, b"y")?,
-            Some(Reply::VersionsFull)
-        )
-    );
-    assert!(rt;
-        matches!(
-            make(alloc, &mut bytes, false, b"m")?,
-            Some(Reply::NameTaken)
-        )
-    );
-    let catalog = Catalog::read(alloc, &bytes)?;
-    assert!(rt; catalog.entries().len() == 64);
-    assert!(rt; catalog.entries()[0].seq == 2);
-    assert!(rt; catalog.entries()[63].parent == Some(VersionNo(0)));
+    assert!(rt; matches!(snapshot(alloc, &mut bytes, b"m")?, Said::Made));
+    assert!(rt; is_filled(alloc, &mut bytes)?);
+    assert!(rt; matches!(branch(alloc, &mut bytes, b"y")?, Said::VersionsFull));
+    assert!(rt; matches!(branch(alloc, &mut bytes, b"m")?, Said::NameTaken));
+    assert!(rt; has_64(alloc, &bytes)?);
     Ok(())
 }

@@ -1,4 +1,5 @@
 use mn_page::{BadPage, Body, CatEntry, Page, PageError, PageRef};
+use std::alloc::Global;
 
 /// The root after the first split: children node 1 slot 0 and, from `k5` on, node 0 slot 1.
 const ROOT: [u8; 32] = [
@@ -9,8 +10,8 @@ const ROOT: [u8; 32] = [
 /// A slot that begins with these bytes and goes on with zeros.
 fn slot(front: &[u8]) -> [u8; 1_024] {
     let mut bytes = [0; 1_024];
-    for (byte, new) in bytes.iter_mut().zip(front) {
-        *byte = *new;
+    if front.len() <= 1_024 {
+        bytes[..front.len()].copy_from_slice(front);
     }
     bytes
 }
@@ -32,10 +33,9 @@ fn changed(at: usize, byte: u8) -> Option<u16> {
     place(&bytes)
 }
 
-#[test]
-fn reads_and_writes_the_root(rt: HostRuntime) -> Result<(), PageError> {
-    let bytes = slot(&ROOT);
-    let Some(page) = Page::read(rt.alloc(), &bytes)? else {
+/// What is written of the page that a slot spells.
+fn written(alloc: Global, bytes: &[u8; 1_024]) -> Result<[u8; 1_024], PageError> {
+    let Some(page) = Page::read(alloc, bytes)? else {
         return Err(PageError::BadPage { at: 0 });
     };
     let mut again = [7; 1_024];
@@ -44,79 +44,111 @@ fn reads_and_writes_the_root(rt: HostRuntime) -> Result<(), PageError> {
             page.write(&mut again);
         }
     }
-    assert!(rt; again == bytes);
-    Ok(())
+    Ok(again)
 }
 
 #[test]
-fn names_the_first_byte_at_fault(rt: HostRuntime) -> Result<(), PageError> {
-    // A byte of the root that is changed, and the place of the fault.
-    let cases = [
-        (26, 0, 26),
-        (26, 33, 26),
-        (7, 0, 7),
-        (8, 3, 8),
-        (10, 0, 10),
-        (11, 64, 11),
-        (19, 1, 19),
-        (20, 33, 20),
-        (21, 2, 21),
-        (22, 1, 22),
-        (22, 9, 22),
-        (23, 8, 23),
-        (24, 16, 24),
-        (29, 8, 29),
-        (32, 1, 32),
-        (1_023, 1, 1_023),
-    ];
-    for (at, byte, fault) in cases {
-        let found = changed(at, byte);
-        assert!(rt; found == Some(fault));
+fn reads_and_writes_the_root(rt: HostRuntime) -> Result<(), PageError> {
+    let bytes = slot(&ROOT);
+    assert!(rt; written(rt.alloc(), &bytes)? == bytes);
+    Ok(())
+}
+
+/// A byte of the root that is changed, and the place of the fault.
+const CHANGES: &[(usize, u8, u16)] = &[
+    (26, 0, 26),
+    (26, 33, 26),
+    (7, 0, 7),
+    (8, 3, 8),
+    (10, 0, 10),
+    (11, 64, 11),
+    (19, 1, 19),
+    (20, 33, 20),
+    (21, 2, 21),
+    (22, 1, 22),
+    (22, 9, 22),
+    (23, 8, 23),
+    (24, 16, 24),
+    (29, 8, 29),
+    (32, 1, 32),
+    (1_023, 1, 1_023),
+];
+
+#[test]
+fn names_the_first_byte_at_fault(rt: HostRuntime) {
+    for (at, byte, fault) in CHANGES {
+        assert!(rt; changed(*at, *byte) == Some(*fault));
     }
-    assert!(rt; place(&slot(&[])) == None);
+}
+
+#[test]
+fn names_the_end_of_a_slot_of_another_size(rt: HostRuntime) {
     assert!(rt; place(&[0; 1_023]) == Some(7));
     assert!(rt; place(&ROOT) == Some(32));
-    Ok(())
 }
 
-#[test]
-fn names_the_first_byte_at_which_no_key_fits(rt: HostRuntime) -> Result<(), PageError> {
+/// What a slot begins with, and the place of the fault.
+const FRONTS: &[(&[u8], Option<u16>)] = &[
+    // It is free.
+    (&[], None),
     // Low fence `a`, high fence `a` and a zero: one key lies between.
-    let two = [
-        0, 0, 0, 0, 0, 0, 0, 1, 1, 0, 0, 0, 0, 0, 0, 0, 0, 0, 0, 0, 1, b'a', 1, 2, b'a', 0, 2,
-    ];
-    assert!(rt; place(&slot(&two)) == Some(26));
+    (
+        &[
+            0, 0, 0, 0, 0, 0, 0, 1, 1, 0, 0, 0, 0, 0, 0, 0, 0, 0, 0, 0, 1, b'a', 1, 2, b'a', 0, 2,
+        ],
+        Some(26),
+    ),
     // `k2`, then `k1`.
-    let descends = [
-        0, 0, 0, 0, 0, 0, 0, 1, 1, 0, 0, 0, 0, 0, 0, 0, 0, 0, 0, 0, 0, 0, 2, 2, b'k', b'2', 0, 2,
-        b'k', b'1', 0,
-    ];
-    assert!(rt; place(&slot(&descends)) == Some(29));
+    (
+        &[
+            0, 0, 0, 0, 0, 0, 0, 1, 1, 0, 0, 0, 0, 0, 0, 0, 0, 0, 0, 0, 0, 0, 2, 2, b'k', b'2', 0,
+            2, b'k', b'1', 0,
+        ],
+        Some(29),
+    ),
     // Low fence `b`, high fence `a`.
-    let crossed = [
-        0, 0, 0, 0, 0, 0, 0, 1, 1, 0, 0, 0, 0, 0, 0, 0, 0, 0, 0, 0, 1, b'b', 1, 1, b'a', 0,
-    ];
-    assert!(rt; place(&slot(&crossed)) == Some(24));
-    Ok(())
-}
+    (
+        &[
+            0, 0, 0, 0, 0, 0, 0, 1, 1, 0, 0, 0, 0, 0, 0, 0, 0, 0, 0, 0, 1, b'b', 1, 1, b'a', 0,
+        ],
+        Some(24),
+    ),
+];
 
 #[test]
-fn reads_and_writes_an_entry(rt: HostRuntime) -> Result<(), PageError> {
-    let mut bytes = [0; 64];
-    for (byte, new) in bytes.iter_mut().zip(&[
-        0, 0, 0, 0, 0, 0, 0, 1, 1, 255, 0, 0, 0, 4, b'm', b'a', b'i', b'n',
-    ]) {
-        *byte = *new;
+fn names_the_first_byte_at_which_no_key_fits(rt: HostRuntime) {
+    for (front, fault) in FRONTS {
+        assert!(rt; place(&slot(front)) == *fault);
     }
-    let Some(entry) = CatEntry::read(rt.alloc(), &bytes)? else {
+}
+
+/// The entry of `main`, writable, without a parent, with its root in the first slot of node 0.
+const MAIN: [u8; 64] = [
+    0, 0, 0, 0, 0, 0, 0, 1, 1, 255, 0, 0, 0, 4, b'm', b'a', b'i', b'n', 0, 0, 0, 0, 0, 0, 0, 0, 0,
+    0, 0, 0, 0, 0, 0, 0, 0, 0, 0, 0, 0, 0, 0, 0, 0, 0, 0, 0, 0, 0, 0, 0, 0, 0, 0, 0, 0, 0, 0, 0, 0,
+    0, 0, 0, 0, 0,
+];
+
+/// What is written of the entry that these bytes spell.
+fn entry_written(alloc: Global, bytes: &[u8; 64]) -> Result<[u8; 64], PageError> {
+    let Some(entry) = CatEntry::read(alloc, bytes)? else {
         return Err(PageError::BadPage { at: 0 });
     };
     let mut again = [7; 64];
     entry.write(&mut again);
-    assert!(rt; again == bytes);
+    Ok(again)
+}
 
+#[test]
+fn reads_and_writes_an_entry(rt: HostRuntime) -> Result<(), PageError> {
+    assert!(rt; entry_written(rt.alloc(), &MAIN)? == MAIN);
+    Ok(())
+}
+
+#[test]
+fn names_the_byte_at_fault_in_an_entry(rt: HostRuntime) {
+    let mut bytes = MAIN;
     bytes[15] = b'A';
     let refused = CatEntry::read(rt.alloc(), &bytes).err();
     assert!(rt; refused == Some(PageError::BadPage { at: 15 }));
-    Ok(())
 }

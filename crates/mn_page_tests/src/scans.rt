@@ -101,13 +101,11 @@ fn scan_of(
 ) -> Result<ScanRun, Fail> {
     let tree = VersionTree::new(alloc, &[None, Some(VersionNo(0))])?;
     let (low, high) = (bound(alloc, low)?, bound(alloc, high)?);
-    let version = VersionNo(version);
-    Ok(ScanRun::new(alloc, tree, version, at(0), low, high, limit)?)
+    Ok(ScanRun::new(alloc, tree, VersionNo(version), at(0), low, high, limit)?)
 }
 
-// The slots that it reads, and the keys that it finds, one behind the other.
-fn found(alloc: Global, version: u8, scan: ScanRun) -> Result<(Vec<u16>, Vec<u8>), Fail> {
-    let mut scan = scan;
+// The slots that it reads.
+fn read_by(alloc: Global, version: u8, scan: &mut ScanRun) -> Result<Vec<u16>, Fail> {
     let mut reads = Vec::new(alloc);
     for _page in 0..16 {
         if let ScanStep::Need { addr, .. } = scan.next() {
@@ -115,91 +113,192 @@ fn found(alloc: Global, version: u8, scan: ScanRun) -> Result<(Vec<u16>, Vec<u8>
             scan.feed(addr, page_at(alloc, version, addr.slot)?)?;
         }
     }
+    Ok(reads)
+}
+
+// The keys that it finds, one behind the other.
+fn found(alloc: Global, scan: ScanRun) -> Result<Vec<u8>, Fail> {
     let mut keys = Vec::new(alloc);
     for pair in scan.into_pairs().as_slice() {
         keys.extend_from_slice(pair.key.as_slice())?;
     }
-    Ok((reads, keys))
+    Ok(keys)
+}
+
+// A version, the bounds and the limit, the slots that are read and the keys that are found.
+type Walk = (
+    u8,
+    &'static [u8],
+    &'static [u8],
+    u32,
+    &'static [u16],
+    &'static [u8],
+);
+
+const WALKS: &[Walk] = &[
+    (0, b"", b"", 10, &[0, 1, 0, 2, 0, 3], b"k1k3k7k8"),
+    (1, b"", b"", 10, &[0, 1, 0, 2, 0, 3], b"k2k7k8"),
+    // The limit ends it at a leaf, also in the midst of its pairs.
+    (0, b"", b"", 1, &[0, 1], b"k1"),
+    (0, b"", b"", 2, &[0, 1], b"k1k3"),
+    (0, b"", b"", 3, &[0, 1, 0, 2, 0, 3], b"k1k3k7"),
+    // So does a leaf that reaches the upper bound, which doesn't belong to it.
+    (0, b"k2", b"k5", 10, &[0, 1], b"k3"),
+    (0, b"", b"k50", 10, &[0, 1, 0, 2], b"k1k3"),
+    (0, b"k3", b"k8", 10, &[0, 1, 0, 2, 0, 3], b"k3k7"),
+    // It reads a leaf also where nothing lies between the bounds, and an empty one.
+    (0, b"k5", b"k5", 10, &[0, 2], b""),
+    (1, b"k7", b"k1", 10, &[0, 3], b""),
+];
+
+fn walks_so(alloc: Global, walk: &Walk) -> Result<bool, Fail> {
+    let (version, low, high, limit, reads, keys) = walk;
+    let mut scan = scan_of(alloc, *version, low, high, *limit)?;
+    if read_by(alloc, *version, &mut scan)?.as_slice() != *reads {
+        return Ok(false);
+    }
+    Ok(found(alloc, scan)?.as_slice() == *keys)
 }
 
 #[test]
 fn a_scan_walks_to_each_leaf(rt: HostRuntime) -> Result<(), Fail> {
-    let alloc = rt.alloc();
-    let cases: [(u8, &[u8], &[u8], u32, &[u16], &[u8]); 10] = [
-        (0, b"", b"", 10, &[0, 1, 0, 2, 0, 3], b"k1k3k7k8"),
-        (1, b"", b"", 10, &[0, 1, 0, 2, 0, 3], b"k2k7k8"),
-        // The limit ends it at a leaf, also in the midst of its pairs.
-        (0, b"", b"", 1, &[0, 1], b"k1"),
-        (0, b"", b"", 2, &[0, 1], b"k1k3"),
-        (0, b"", b"", 3, &[0, 1, 0, 2, 0, 3], b"k1k3k7"),
-        // So does a leaf that reaches the upper bound, which doesn't belong to it.
-        (0, b"k2", b"k5", 10, &[0, 1], b"k3"),
-        (0, b"", b"k50", 10, &[0, 1, 0, 2], b"k1k3"),
-        (0, b"k3", b"k8", 10, &[0, 1, 0, 2, 0, 3], b"k3k7"),
-        // It reads a leaf also where nothing lies between the bounds, and an empty one.
-        (0, b"k5", b"k5", 10, &[0, 2], b""),
-        (1, b"k7", b"k1", 10, &[0, 3], b""),
-    ];
-    for (version, low, high, limit, reads, keys) in cases {
-        let scan = scan_of(alloc, version, low, high, limit)?;
-        let (read, pairs) = found(alloc, version, scan)?;
-        assert!(rt; read.as_slice() == reads);
-        assert!(rt; pairs.as_slice() == keys);
+    for walk in WALKS {
+        assert!(rt; walks_so(rt.alloc(), walk)?);
     }
     Ok(())
 }
 
-// The answer to a page that the scan needs.
-fn fed(scan: &mut ScanRun, page: Page) -> Option<ScanError> {
-    let ScanStep::Need { addr, .. } = scan.next() else {
-        return None;
+// A page that is given to a scan.
+enum Given {
+    // An inner page over three leaves, made for a version.
+    Root {
+        made: u8,
+        height: u16,
+    },
+    // A leaf of main with these fences and keys.
+    Leaf {
+        low: &'static [u8],
+        high: &'static [u8],
+        keys: &'static [&'static [u8]],
+    },
+}
+
+fn page_of(alloc: Global, given: &Given) -> Result<Page, NoMemory> {
+    match given {
+        Given::Root { made, height } => root(alloc, *made, *height),
+        Given::Leaf { low, high, keys } => leaf(alloc, 0, low, high, keys),
+    }
+}
+
+// A page, the slot at which it is refused, what the scan wants next (a slot, and whether a leaf may
+// stand there), and the key at which it then stands.
+type Feed = (Given, Option<u16>, (u16, bool), &'static [u8]);
+
+const FEEDS: &[Feed] = &[
+    // Made for another version; too high; beside the key.
+    (
+        Given::Root { made: 1, height: 1 },
+        Some(0),
+        (0, true),
+        b"k6",
+    ),
+    (
+        Given::Root {
+            made: 0,
+            height: 15,
+        },
+        Some(0),
+        (0, true),
+        b"k6",
+    ),
+    (
+        Given::Leaf {
+            low: b"k7",
+            high: b"",
+            keys: &[],
+        },
+        Some(0),
+        (0, true),
+        b"k6",
+    ),
+    (
+        Given::Leaf {
+            low: b"",
+            high: b"k6",
+            keys: &[],
+        },
+        Some(0),
+        (0, true),
+        b"k6",
+    ),
+    // Not one height below; after that it begins at the root again.
+    (Given::Root { made: 0, height: 2 }, None, (2, false), b"k6"),
+    (
+        Given::Leaf {
+            low: b"k5",
+            high: b"k7",
+            keys: &[],
+        },
+        Some(2),
+        (0, true),
+        b"k6",
+    ),
+    // The first leaf covers the lower bound.
+    (Given::Root { made: 0, height: 1 }, None, (2, true), b"k6"),
+    (
+        Given::Leaf {
+            low: b"k5",
+            high: b"k7",
+            keys: &[],
+        },
+        None,
+        (0, true),
+        b"k7",
+    ),
+];
+
+// The slot at which a page is refused that is given to the scan for the one that it needs.
+fn refusal(scan: &mut ScanRun, page: Page) -> Option<ScanError> {
+    match scan.next() {
+        ScanStep::Need { addr, .. } => scan.feed(addr, page).err(),
+        ScanStep::Ended => None,
+    }
+}
+
+fn stands_at(scan: &ScanRun, key: &[u8]) -> bool {
+    scan.key() == key
+}
+
+fn is_answered(alloc: Global, scan: &mut ScanRun, feed: &Feed) -> Result<bool, NoMemory> {
+    let (given, refused, (slot, leaf), key) = feed;
+    let answer = refusal(scan, page_of(alloc, given)?);
+    let wanted = refused.map(|slot| ScanError::BadPath { addr: at(slot) });
+    let next = ScanStep::Need {
+        addr: at(*slot),
+        leaf: *leaf,
     };
-    scan.feed(addr, page).err()
+    Ok(answer == wanted && scan.next() == next && stands_at(scan, key))
+}
+
+fn are_answered(alloc: Global, scan: &mut ScanRun) -> Result<bool, NoMemory> {
+    for feed in FEEDS {
+        if !is_answered(alloc, scan, feed)? {
+            return Ok(false);
+        }
+    }
+    Ok(true)
 }
 
 #[test]
 fn pages_on_no_path_are_refused(rt: HostRuntime) -> Result<(), Fail> {
     let alloc = rt.alloc();
-    let bad = |slot| Some(ScanError::BadPath { addr: at(slot) });
     let mut scan = scan_of(alloc, 0, b"k6", b"", 10)?;
-    // Made for another version; too high; beside the key.
-    assert!(rt; fed(&mut scan, root(alloc, 1, 1)?) == bad(0));
-    assert!(rt; fed(&mut scan, root(alloc, 0, 15)?) == bad(0));
-    assert!(rt; fed(&mut scan, leaf(alloc, 0, b"k7", b"", &[])?) == bad(0));
-    assert!(rt; fed(&mut scan, leaf(alloc, 0, b"", b"k6", &[])?) == bad(0));
-    // Not one height below; after that it begins at the root again.
-    assert!(rt; fed(&mut scan, root(alloc, 0, 2)?) == None);
-    assert!(rt;
-        scan.next()
-            == ScanStep::Need {
-                addr: at(2),
-                leaf: false
-            }
-    );
-    assert!(rt; fed(&mut scan, page_at(alloc, 0, 2)?) == bad(2));
-    assert!(rt;
-        scan.next()
-            == ScanStep::Need {
-                addr: at(0),
-                leaf: true
-            }
-    );
-
-    // The first leaf covers the lower bound; each other begins where the one before it ended.
-    assert!(rt; fed(&mut scan, root(alloc, 0, 1)?) == None);
-    assert!(rt;
-        scan.next()
-            == ScanStep::Need {
-                addr: at(2),
-                leaf: true
-            }
-    );
-    assert!(rt; fed(&mut scan, page_at(alloc, 0, 2)?) == None);
-    assert!(rt; scan.key() == b"k7".as_slice());
+    assert!(rt; are_answered(alloc, &mut scan)?);
+    // A later leaf begins where the one before it ended.
     let wide = leaf(alloc, 0, b"k6", b"", &[b"k6"])?;
-    assert!(rt; fed(&mut scan, wide) == Some(ScanError::NoMemory));
+    assert!(rt; refusal(&mut scan, wide) == Some(ScanError::NoMemory));
     assert!(rt; scan.key() == b"k7".as_slice());
-    assert!(rt; fed(&mut scan, page_at(alloc, 0, 3)?) == None);
+    assert!(rt; refusal(&mut scan, page_at(alloc, 0, 3)?) == None);
     assert!(rt; scan.next() == ScanStep::Ended);
     Ok(())
 }

@@ -17,32 +17,32 @@ use Rattle.mn_world.specs.Calls.{since_begin}
 use Rattle.mn_world.specs.Clients.{is_plan}
 use Rattle.mn_world.specs.Planned.{IsPlanned}
 use Rattle.mn_world.specs.Shown.{ScanShows, Seen, seen_in}
-use Rattle.mn_proxy.specs.declared.attempt.Attempt.{Attempt}
-use Rattle.mn_proxy.specs.declared.child.Child.{Child}
+use Rattle.mn_work.specs.declared.attempt.Attempt.{Attempt}
+use Rattle.mn_work.specs.declared.child.Child.{Child}
 use Rattle.mn_proxy.specs.declared.errand.Purpose.TheVariants as by
-use Rattle.mn_proxy.specs.declared.get.Descent.{Descent}
-use Rattle.mn_proxy.specs.declared.known.Known.{Known}
-use Rattle.mn_proxy.specs.declared.next.Next.{Next}
-use Rattle.mn_proxy.specs.declared.work.Job.{Job}
-use Rattle.mn_proxy.specs.declared.work.Job.TheVariants as at
-use Rattle.mn_proxy.specs.declared.work.Work.{Work}
+use Rattle.mn_work.specs.declared.get.Descent.{Descent}
+use Rattle.mn_work.specs.declared.known.Known.{Known}
+use Rattle.mn_work.specs.declared.next.Next.{Next}
+use Rattle.mn_work.specs.declared.work.Job.{Job}
+use Rattle.mn_work.specs.declared.work.Job.TheVariants as at
+use Rattle.mn_work.specs.declared.work.Work.{Work}
 use Rattle.mn_proxy.specs.Agrees.{AreComparesShown, AreOverNodes, IsOpen, JobAsked, MayPeekFor}
-use Rattle.mn_proxy.specs.Attempts as attempts
-use Rattle.mn_proxy.specs.Children as children
-use Rattle.mn_proxy.specs.Descents as descents
+use Rattle.mn_work.specs.Attempts as attempts
+use Rattle.mn_work.specs.Children as children
+use Rattle.mn_work.specs.Descents as descents
 use Rattle.mn_proxy.specs.Jobs.{JobShows, ReadsShow, ReadsShowBy, ScanShown}
-use Rattle.mn_proxy.specs.Scans as scans
+use Rattle.mn_work.specs.Scans as scans
 use Rattle.mn_proxy.specs.Tries.{HasAsked}
-use Rattle.mn_proxy.specs.Walks.{FailsBy, IfLater, is_later}
-use Rattle.mn_proxy.specs.Knows.{KeepsKnown}
-use Rattle.mn_proxy.specs.Works.{BeginsBy, GetWants, IsJobIn, IsJobOf, IsStartable, JobWants, KeepsOp, ScanEnds}
-use Rattle.mn_proxy.specs.Works.{ScanWants, WantsNext}
+use Rattle.mn_work.specs.Walks.{FailsBy, IfLater, is_later}
+use Rattle.mn_work.specs.Knows.{KeepsKnown}
+use Rattle.mn_work.specs.Works.{BeginsBy, GetWants, IsJobIn, IsJobOf, IsStartable, JobWants, KeepsOp, ScanEnds}
+use Rattle.mn_work.specs.Works.{ScanWants, WantsNext}
 use Rattle.mn_proxy.proofs.ChildrenShow.{child_wants_for}
 use Rattle.mn_proxy.proofs.GetsShow.{PagesOrFails, get_wants_for}
 use Rattle.mn_proxy.proofs.ScansShow.{scan_ends_for, scan_wants_for}
 use Rattle.mn_proxy.proofs.Shown.{AnswerShown, WantShown, later_is}
 use Rattle.mn_proxy.proofs.StepsShow.{steps_want_for}
-use Rattle.mn_proxy.proofs.Works.{AsksOrGoes, WentOn, asks_or_goes, begins_steps}
+use Rattle.mn_work.proofs.Works.{AsksOrGoes, WentOn, asks_or_goes, begins_steps}
 use Rattle.mn_proxy.proofs.CatalogsShow.{begun_shows}
 
 -- What it tells

@@ -37,25 +37,25 @@ use Rattle.mn_world.specs.Shown.{CatalogReplies, CatalogShows, IsCatalogRead, Se
 use Rattle.mn_world.specs.Shown.{seen_at, seen_in}
 use Rattle.mn_world.proofs.Reading.Gathered.{gathered_stays}
 use Rattle.mn_world.proofs.Reading.Sees.{seen_in-cons}
-use Rattle.mn_proxy.specs.declared.attempt.Attempt.{Attempt}
-use Rattle.mn_proxy.specs.declared.child.Child.{Child}
-use Rattle.mn_proxy.specs.declared.known.Known.{Known}
-use Rattle.mn_proxy.specs.declared.next.Taken.{Taken}
-use Rattle.mn_proxy.specs.declared.work.Job.{Job}
-use Rattle.mn_proxy.specs.declared.work.Job.TheVariants as at
-use Rattle.mn_proxy.specs.declared.work.Started.{Started}
-use Rattle.mn_proxy.specs.declared.work.Work.{Work}
-use Rattle.mn_proxy.specs.Among.{AreBrought}
-use Rattle.mn_proxy.specs.Attempts as attempts
-use Rattle.mn_proxy.specs.Children as children
-use Rattle.mn_proxy.specs.Catalogs.{HasParentsBelow, SpellsVersions}
+use Rattle.mn_work.specs.declared.attempt.Attempt.{Attempt}
+use Rattle.mn_work.specs.declared.child.Child.{Child}
+use Rattle.mn_work.specs.declared.known.Known.{Known}
+use Rattle.mn_work.specs.declared.next.Taken.{Taken}
+use Rattle.mn_work.specs.declared.work.Job.{Job}
+use Rattle.mn_work.specs.declared.work.Job.TheVariants as at
+use Rattle.mn_work.specs.declared.work.Started.{Started}
+use Rattle.mn_work.specs.declared.work.Work.{Work}
+use Rattle.mn_work.specs.Among.{AreBrought}
+use Rattle.mn_work.specs.Attempts as attempts
+use Rattle.mn_work.specs.Children as children
+use Rattle.mn_work.specs.Catalogs.{HasParentsBelow, SpellsVersions}
 use Rattle.mn_proxy.specs.Jobs.{AreCounted, HasScanned, IsBrought, IsOfTry, JobShows, ReadsShow, ScanShown}
 use Rattle.mn_proxy.specs.Tries.{HasAsked}
-use Rattle.mn_proxy.specs.Walks.{Admits, IfLater, WalkComesTo}
-use Rattle.mn_proxy.specs.Works.{BeginsBy, BeginsOn, GoesOnFrom, IsJobIn, IsJobOf, IsNewChild, IsScan, IsStartable, KeepsOp}
-use Rattle.mn_proxy.specs.Works.{StartsOn, TakesCatalog, catalog_addr, lone_key, retried, retried_job}
+use Rattle.mn_work.specs.Walks.{Admits, IfLater, WalkComesTo}
+use Rattle.mn_work.specs.Works.{BeginsBy, BeginsOn, GoesOnFrom, IsJobIn, IsJobOf, IsNewChild, IsScan, IsStartable, KeepsOp}
+use Rattle.mn_work.specs.Works.{StartsOn, TakesCatalog, catalog_addr, lone_key, retried, retried_job}
 use Rattle.mn_proxy.proofs.ScansShow.{scan_elsewhere}
-use Rattle.mn_proxy.proofs.Works.{admits_as, begins_steps, retry_starts}
+use Rattle.mn_work.proofs.Works.{admits_as, begins_steps, retry_starts}
 
 -- Catalogs
 

@@ -41,22 +41,22 @@ use Rattle.mn_world.proofs.Plans.Spaces.{entry_sizes}
 use Rattle.mn_txn.specs.Children.{ChildTry, branch_writes, child_reads, snapshot_writes}
 use Rattle.mn_txn.specs.ChildPlan.{IsVersion, IsWornEntry, IsWornRoot, child_try}
 use Rattle.mn_txn.specs.Tries.{FreeSlotsAreLeft}
-use Rattle.mn_proxy.specs.declared.child.Child.{Child}
-use Rattle.mn_proxy.specs.declared.known.Known.{Known}
-use Rattle.mn_proxy.specs.declared.next.Next.{Next}
-use Rattle.mn_proxy.specs.declared.next.Taken.{Taken}
-use Rattle.mn_proxy.specs.declared.work.Job.TheVariants as at
+use Rattle.mn_work.specs.declared.child.Child.{Child}
+use Rattle.mn_work.specs.declared.known.Known.{Known}
+use Rattle.mn_work.specs.declared.next.Next.{Next}
+use Rattle.mn_work.specs.declared.next.Taken.{Taken}
+use Rattle.mn_work.specs.declared.work.Job.TheVariants as at
 use Rattle.mn_proxy.specs.Agrees.{AreComparesShown}
-use Rattle.mn_proxy.specs.Children.{CountsOn, EndsBy, IsAnsweredAs, IsOnItsWay, IsPlanFor, IsUnderWay, IsWanted, IsWornFor}
-use Rattle.mn_proxy.specs.Children.{KeepsTry, MakesChild, SameButCounts, TakesRoot, TakesRootBytes, UnlessFails, WantsCount, WantsEnd, WantsPage, may_copy}
+use Rattle.mn_work.specs.Children.{CountsOn, EndsBy, IsAnsweredAs, IsOnItsWay, IsPlanFor, IsUnderWay, IsWanted, IsWornFor}
+use Rattle.mn_work.specs.Children.{KeepsTry, MakesChild, SameButCounts, TakesRoot, TakesRootBytes, UnlessFails, WantsCount, WantsEnd, WantsPage, may_copy}
 use Rattle.mn_proxy.specs.Jobs.{AreCounted, IsBrought, IsOfTry, ReadsShow}
-use Rattle.mn_proxy.specs.Seen.{SpellsNone}
-use Rattle.mn_proxy.specs.Walks.{Admits, IfLater, is_later, seen_page}
-use Rattle.mn_proxy.specs.Works.{AsksPageFor, ChildTakes, ChildWants, IsJobIn, IsNewChild, JobCounts, JobTakes, JobWants}
-use Rattle.mn_proxy.proofs.Attempts.{of_kept}
-use Rattle.mn_proxy.proofs.Compares.{items_plan, of_items, within_is}
+use Rattle.mn_work.specs.Seen.{SpellsNone}
+use Rattle.mn_work.specs.Walks.{Admits, IfLater, is_later, seen_page}
+use Rattle.mn_work.specs.Works.{AsksPageFor, ChildTakes, ChildWants, IsJobIn, IsNewChild, JobCounts, JobTakes, JobWants}
+use Rattle.mn_work.proofs.Attempts.{of_kept}
+use Rattle.mn_work.proofs.Compares.{items_plan, of_items, within_is}
 use Rattle.mn_proxy.proofs.Shown.{AnswerShown, TakenShown, WantShown, bad_count, counted_next, entry_shown, free_shown, front_shown, later_is, none_counted, not_later, root_reached, seen_count, whole_shown}
-use Rattle.mn_proxy.proofs.Walks.{at_fault, bad_page, either, no_node, no_page}
+use Rattle.mn_work.proofs.Walks.{at_fault, bad_page, either, no_node, no_page}
 
 -- Room for a version
 

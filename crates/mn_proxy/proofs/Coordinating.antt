@@ -37,25 +37,25 @@ use Rattle.mn_coord.proofs.Endings.{done_is_settled, doubt_is_shown, failed_is_g
 use Rattle.mn_proxy.specs.declared.errand.Errand.TheVariants as out
 use Rattle.mn_proxy.specs.declared.errand.Purpose.{Purpose}
 use Rattle.mn_proxy.specs.declared.errand.Purpose.TheVariants as by
-use Rattle.mn_proxy.specs.declared.known.Known.{Known}
+use Rattle.mn_work.specs.declared.known.Known.{Known}
 use Rattle.mn_proxy.specs.declared.proxy.retrying.Failure.{Failure}
 use Rattle.mn_proxy.specs.declared.proxy.retrying.Failure.TheVariants as fails
 use Rattle.mn_proxy.specs.declared.proxy.Turn.TheVariants as turns
 use Rattle.mn_proxy.specs.declared.step.ProxyStep.TheVariants as steps
-use Rattle.mn_proxy.specs.declared.work.Job.{Job}
-use Rattle.mn_proxy.specs.declared.work.Job.TheVariants as at
-use Rattle.mn_proxy.specs.declared.work.Work.{Work}
+use Rattle.mn_work.specs.declared.work.Job.{Job}
+use Rattle.mn_work.specs.declared.work.Job.TheVariants as at
+use Rattle.mn_work.specs.declared.work.Work.{Work}
 use Rattle.mn_proxy.specs.Agrees.{Agrees, AreOverNodes, HasRead, IsMadeFor, IsOwn, IsUnderWay, MayWant}
 use Rattle.mn_proxy.specs.Agrees.{IsAtRest, IsPeekOf, IsReadOf, MayPeekFor}
 use Rattle.mn_proxy.specs.Agrees.{MiniAgrees, MiniFailed, MiniGoesOn, PeekedAgrees, ReadGoesOn}
 use Rattle.mn_proxy.specs.Issues.{AreClosed}
 use Rattle.mn_proxy.specs.Jobs.{ScanShown}
-use Rattle.mn_proxy.specs.Refusals.{refusal_of}
+use Rattle.mn_work.specs.Refusals.{refusal_of}
 use Rattle.mn_proxy.specs.State.{IsOutIn, ProxyState}
 use Rattle.mn_proxy.specs.Turns.{FailsSo, IsCommitted, IsDown, IsOver, IsReadDone, IsRefused, IsRefusedBy}
 use Rattle.mn_proxy.specs.Turns.{HasFailed, IsSoundTurn, IsSoundWork, TurnAgrees, WaitsFor, read_alone, with_work}
-use Rattle.mn_proxy.specs.Walks.{IfLater}
-use Rattle.mn_proxy.specs.Works.{IsJobIn, IsStartable, retried_job}
+use Rattle.mn_work.specs.Walks.{IfLater}
+use Rattle.mn_work.specs.Works.{IsJobIn, IsStartable, retried_job}
 use Rattle.mn_proxy.proofs.Answered.{answered_own, may_answer, may_want}
 use Rattle.mn_proxy.proofs.Feeding.{failed_on, id_issued, mini_on, mini_same, own_as, read_few}
 use Rattle.mn_proxy.proofs.Issues.{IsLater, abandoned_later, called_later, closed_are_given_up, closed_are_settled, closed_plan, closed_read, closed_with, ended_given_up, ended_settled, fresh_abandoned, last_tid, own_calls_none, own_recovers_none, own_tries_none}

@@ -48,28 +48,29 @@ use Rattle.mn_proxy.specs.declared.errand.Errand.{Errand}
 use Rattle.mn_proxy.specs.declared.errand.Errand.TheVariants as out
 use Rattle.mn_proxy.specs.declared.errand.Purpose.{Purpose}
 use Rattle.mn_proxy.specs.declared.errand.Purpose.TheVariants as by
-use Rattle.mn_proxy.specs.declared.known.Known.{Known}
-use Rattle.mn_proxy.specs.declared.work.Job.{Job}
-use Rattle.mn_proxy.specs.declared.work.Job.TheVariants as at
-use Rattle.mn_proxy.specs.declared.work.Work.{Work}
+use Rattle.mn_work.specs.declared.known.Known.{Known}
+use Rattle.mn_work.specs.declared.work.Job.{Job}
+use Rattle.mn_work.specs.declared.work.Job.TheVariants as at
+use Rattle.mn_work.specs.declared.work.Work.{Work}
 use Rattle.mn_proxy.specs.Agrees.{Agrees, ErrandAgrees, HasOut, HasOutIn, WorksBy}
-use Rattle.mn_proxy.specs.Agrees.{AreComparesShown, AreOverNodes, HasBegun, IsAtRest, IsMadeFor}
+use Rattle.mn_proxy.specs.Agrees.{AreComparesShown, AreOverNodes, IsAtRest, IsMadeFor}
+use Rattle.mn_work.specs.Works.{HasBegun}
 use Rattle.mn_proxy.specs.Agrees.{IsOpen, IsOwn, IsPlaceFor, IsUnderWay, JobAsked, MayPeekFor, MiniAgrees}
 use Rattle.mn_proxy.specs.Agrees.{MiniFailed, MiniGoesOn, PeekedAgrees, ReadGoesOn}
 use Rattle.mn_proxy.specs.Issues.{are_closed}
 use Rattle.mn_proxy.specs.Jobs.{ScanShown}
-use Rattle.mn_proxy.specs.Refusals.{compares_at, refusal_of}
-use Rattle.mn_proxy.specs.Places.{place_of}
+use Rattle.mn_work.specs.Refusals.{compares_at, refusal_of}
+use Rattle.mn_work.specs.Places.{place_of}
 use Rattle.mn_proxy.specs.State.{IsOutIn, ProxyState}
 use Rattle.mn_proxy.specs.Tries.{HasAsked, WasRefused}
 use Rattle.mn_proxy.specs.Turns.{IsFed, IsSoundErrand, IsSoundUnderWay, IsSoundWork, OwesNoDecide, OwesNone}
 use Rattle.mn_proxy.specs.Turns.{OwesNoneIn, WaitsFor, with_work}
-use Rattle.mn_proxy.specs.Works.{AsksCountFor, AsksPageFor, IsStartable}
-use Rattle.mn_proxy.specs.Walks.{IfLater}
+use Rattle.mn_work.specs.Works.{AsksCountFor, AsksPageFor, IsStartable}
+use Rattle.mn_work.specs.Walks.{IfLater}
 use Rattle.mn_proxy.proofs.Issues.{GoesOn, IsLater, TriesNone, called_later, closed_later, closed_since, earlier_differ, fresh_peeked, fresh_step, last_stays, last_tid, no_issue, peek_recovers_none, peek_tries_none, since_on, step_recovers_none, step_tries_none}
 use Rattle.mn_proxy.proofs.Opens.{IsQuiet, asked_on, open_on, own_on, scan_shown_quiet, under_way_still}
 use Rattle.mn_proxy.proofs.Tries.{NoPeek, decided_on, refused_on}
-use Rattle.mn_proxy.proofs.Works.{startable}
+use Rattle.mn_work.proofs.Works.{startable}
 
 -- Later tries
 

@@ -32,21 +32,21 @@ use Rattle.mn_world.specs.Shown.{ReadShows, Seen, ServesNamed, ShowsCatalog, see
 use Rattle.mn_world.specs.Answers.{IsPageAtFault, MeetsFault, Reached, ReachesAddr, SomeReadShows}
 use Rattle.mn_world.proofs.Bytes.Seen.{nothing}
 use Rattle.mn_world.proofs.Reading.Sees.{seen_in-cons}
-use Rattle.mn_proxy.specs.declared.get.Descent.{Descent}
-use Rattle.mn_proxy.specs.declared.known.Known.{Known}
-use Rattle.mn_proxy.specs.declared.next.Next.{Next}
-use Rattle.mn_proxy.specs.declared.next.Taken.{Taken}
-use Rattle.mn_proxy.specs.declared.work.Job.TheVariants as at
-use Rattle.mn_proxy.specs.Descents.{DescentTakes, FailsOff, IsFault, IsOffNodes, TakesInner, TakesLeaf}
-use Rattle.mn_proxy.specs.Descents.{WantsPage, gone_below, may_be_leaf}
+use Rattle.mn_work.specs.declared.get.Descent.{Descent}
+use Rattle.mn_work.specs.declared.known.Known.{Known}
+use Rattle.mn_work.specs.declared.next.Next.{Next}
+use Rattle.mn_work.specs.declared.next.Taken.{Taken}
+use Rattle.mn_work.specs.declared.work.Job.TheVariants as at
+use Rattle.mn_work.specs.Descents.{DescentTakes, FailsOff, IsFault, IsOffNodes, TakesInner, TakesLeaf}
+use Rattle.mn_work.specs.Descents.{WantsPage, gone_below, may_be_leaf}
 use Rattle.mn_proxy.specs.Jobs.{GetShows, IsOfTry, ReadsShow}
-use Rattle.mn_proxy.specs.Seen.{SpellsNone}
-use Rattle.mn_proxy.specs.Walks.{Admits, FailsBy, IfLater, IsReadBy, WalkComesTo}
-use Rattle.mn_proxy.specs.Walks.{height_below, is_later, seen_page}
-use Rattle.mn_proxy.specs.Works.{GetTakes, GetWants, JobTakes, lone_key}
-use Rattle.mn_proxy.proofs.Bodies.{is_inner}
+use Rattle.mn_work.specs.Seen.{SpellsNone}
+use Rattle.mn_work.specs.Walks.{Admits, FailsBy, IfLater, IsReadBy, WalkComesTo}
+use Rattle.mn_work.specs.Walks.{height_below, is_later, seen_page}
+use Rattle.mn_work.specs.Works.{GetTakes, GetWants, JobTakes, lone_key}
+use Rattle.mn_work.proofs.Bodies.{is_inner}
 use Rattle.mn_proxy.proofs.Tries.{reaches_on}
-use Rattle.mn_proxy.proofs.Walks.{at_fault, bad_page, goes_below, no_node, no_page, serves_named}
+use Rattle.mn_work.proofs.Walks.{at_fault, bad_page, goes_below, no_node, no_page, serves_named}
 
 -- Walks
 

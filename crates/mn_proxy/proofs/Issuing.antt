@@ -27,13 +27,13 @@ use Rattle.mn_proxy.specs.declared.errand.Errand.{Errand}
 use Rattle.mn_proxy.specs.declared.errand.Errand.TheVariants as out
 use Rattle.mn_proxy.specs.declared.errand.Purpose.{Purpose}
 use Rattle.mn_proxy.specs.declared.errand.Purpose.TheVariants as by
-use Rattle.mn_proxy.specs.declared.known.Known.{Known}
+use Rattle.mn_work.specs.declared.known.Known.{Known}
 use Rattle.mn_proxy.specs.declared.proxy.Turn.{Turn}
 use Rattle.mn_proxy.specs.declared.proxy.Turn.TheVariants as turns
 use Rattle.mn_proxy.specs.declared.step.ProxyStep.TheVariants as steps
-use Rattle.mn_proxy.specs.declared.work.Job.{Job}
-use Rattle.mn_proxy.specs.declared.work.Job.TheVariants as at
-use Rattle.mn_proxy.specs.declared.work.Work.{Work}
+use Rattle.mn_work.specs.declared.work.Job.{Job}
+use Rattle.mn_work.specs.declared.work.Job.TheVariants as at
+use Rattle.mn_work.specs.declared.work.Work.{Work}
 use Rattle.mn_proxy.specs.Agrees.{AreComparesShown, AreOverNodes, Agrees, BeginsNext, IsAtRest}
 use Rattle.mn_proxy.specs.Agrees.{IsMadeFor, IsOpen, IsOwn, IsOwnEntry, IsPlaceFor, JobAsked, MiniAgrees, MiniGoesOn, ReadGoesOn}
 use Rattle.mn_proxy.specs.Issues.{are_closed, tid_of}
@@ -41,8 +41,8 @@ use Rattle.mn_proxy.specs.Jobs.{ReadsShow, ScanShown}
 use Rattle.mn_proxy.specs.State.{ProxyState}
 use Rattle.mn_proxy.specs.Tries.{IsTrying}
 use Rattle.mn_proxy.specs.Turns.{ComparesFor, MayIssue, TurnAgrees, new_coordination, read_mini}
-use Rattle.mn_proxy.specs.Walks.{IfLater}
-use Rattle.mn_proxy.specs.Works.{IsStartable, new_work}
+use Rattle.mn_work.specs.Walks.{IfLater}
+use Rattle.mn_work.specs.Works.{IsStartable, new_work}
 use Rattle.mn_proxy.proofs.Issues.{GoesOn, closed_are_settled, closed_follow, closed_none, closed_since, fresh_begun, fresh_next}
 use Rattle.mn_proxy.proofs.Issues.{issue_goes_on, last_is_new, one_issue, own_calls_none, own_recovers_none, own_tries_none, since_begun}
 use Rattle.mn_proxy.proofs.Opens.{GoesOnAs, IsQuiet, open_on, own_issued, own_on, under_way_still, with_serial}

@@ -17,23 +17,23 @@ use Rattle.mn_proxy.specs.declared.errand.Errand.{Errand}
 use Rattle.mn_proxy.specs.declared.errand.Errand.TheVariants as out
 use Rattle.mn_proxy.specs.declared.errand.Purpose.{Purpose}
 use Rattle.mn_proxy.specs.declared.errand.Purpose.TheVariants as reads_for
-use Rattle.mn_proxy.specs.declared.known.Known.{Known}
-use Rattle.mn_proxy.specs.declared.next.Next.{Next}
-use Rattle.mn_proxy.specs.declared.next.Next.TheVariants as wants_next
-use Rattle.mn_proxy.specs.declared.next.Taken.{Taken}
-use Rattle.mn_proxy.specs.declared.place.Place.{Place}
+use Rattle.mn_work.specs.declared.known.Known.{Known}
+use Rattle.mn_work.specs.declared.next.Next.{Next}
+use Rattle.mn_work.specs.declared.next.Next.TheVariants as wants_next
+use Rattle.mn_work.specs.declared.next.Taken.{Taken}
+use Rattle.mn_work.specs.declared.place.Place.{Place}
 use Rattle.mn_proxy.specs.declared.proxy.Turn.{Turn}
 use Rattle.mn_proxy.specs.declared.proxy.Turn.TheVariants as turns
 use Rattle.mn_proxy.specs.declared.step.ProxyStep.{ProxyStep}
-use Rattle.mn_proxy.specs.declared.work.Work.{Work}
-use Rattle.mn_proxy.specs.Cached.{AreUsed, Walks, without_next}
+use Rattle.mn_work.specs.declared.work.Work.{Work}
+use Rattle.mn_work.specs.Cached.{AreUsed, Walks, without_next}
 use Rattle.mn_proxy.specs.Kept.{BeginsLater, CacheGoes, CacheTurns, CatalogGoes, CatalogTurns, Issues, KeepsRead, LeavesBy, LeavesFor, PutsRead, Reads}
 use Rattle.mn_proxy.specs.Kept.{StepLeaves, TurnLeaves, is_later_in, read_by, read_for, read_in}
-use Rattle.mn_proxy.specs.Paths.{HasLeaf, shown_by}
+use Rattle.mn_proxy.specs.LeafReads.{HasLeaf, shown_by}
 use Rattle.mn_proxy.specs.State.{ProxyState}
 use Rattle.mn_proxy.specs.Turns.{CameOf, read_alone}
-use Rattle.mn_proxy.specs.Walks.{is_later}
-use Rattle.mn_proxy.proofs.Cached.{none_used}
+use Rattle.mn_work.specs.Walks.{is_later}
+use Rattle.mn_work.proofs.Cached.{none_used}
 use Rattle.mn_proxy.proofs.Taking.{came_keeps}
 
 -- The cache

@@ -16,10 +16,10 @@ use Rattle.mn_world.specs.Causes.{recovers_nothing}
 use Rattle.mn_world.specs.Shown.{IsCatalogRead, Seen, seen_at, seen_in}
 use Rattle.mn_world.proofs.Reading.Sees.{seen_in-cons}
 use Rattle.mn_proxy.specs.declared.errand.Errand.{Errand}
-use Rattle.mn_proxy.specs.declared.known.Known.{Known}
-use Rattle.mn_proxy.specs.declared.work.Job.{Job}
-use Rattle.mn_proxy.specs.declared.work.Job.TheVariants as at
-use Rattle.mn_proxy.specs.declared.work.Work.{Work}
+use Rattle.mn_work.specs.declared.known.Known.{Known}
+use Rattle.mn_work.specs.declared.work.Job.{Job}
+use Rattle.mn_work.specs.declared.work.Job.TheVariants as at
+use Rattle.mn_work.specs.declared.work.Work.{Work}
 use Rattle.mn_mini.specs.Mini.{Mini}
 use Rattle.mn_proxy.specs.Agrees.{AreOverNodes, IsKept, IsOpen, IsOwn, IsUnderWay, JobAsked}
 use Rattle.mn_proxy.specs.Issues.{AreFresh, tid_of}

@@ -15,13 +15,13 @@ use Rattle.mn_scan.specs.Scan.{key_at}
 use Rattle.mn_world.specs.Answers.{ReachesAddr, ShowsBytes}
 use Rattle.mn_world.specs.Shown.{Seen, SeesCatalog}
 use Rattle.mn_txn.specs.declared.seen.SeenPage.{SeenPage}
-use Rattle.mn_proxy.specs.declared.get.Descent.{Descent}
-use Rattle.mn_proxy.specs.declared.work.Job.{Job}
-use Rattle.mn_proxy.specs.declared.work.Job.TheVariants as at
-use Rattle.mn_proxy.specs.Among.{AreBrought}
+use Rattle.mn_work.specs.declared.get.Descent.{Descent}
+use Rattle.mn_work.specs.declared.work.Job.{Job}
+use Rattle.mn_work.specs.declared.work.Job.TheVariants as at
+use Rattle.mn_work.specs.Among.{AreBrought}
 use Rattle.mn_proxy.specs.Jobs.{AreCounted, GetShows, IsBrought, IsOfTry, ReadsShow}
-use Rattle.mn_proxy.specs.Walks.{Admits, IfLater, WalkComesTo, height_below, seen_page}
-use Rattle.mn_proxy.specs.Works.{lone_key}
+use Rattle.mn_work.specs.Walks.{Admits, IfLater, WalkComesTo, height_below, seen_page}
+use Rattle.mn_work.specs.Works.{lone_key}
 use Rattle.mn_proxy.proofs.Tries.{reaches_on}
 
 -- what is asked of a later try alone

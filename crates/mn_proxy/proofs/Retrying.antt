@@ -11,19 +11,19 @@ use Rattle.mn_page.specs.declared.entry.CatEntry.{CatEntry}
 use Rattle.mn_world.specs.declared.entry.Entry.{Entry}
 use Rattle.mn_world.specs.Answers.{FailedTries, ShowsAnswer, nodes_of}
 use Rattle.mn_world.specs.Calls.{issues_of, since_begin}
-use Rattle.mn_proxy.specs.declared.known.Known.{Known}
+use Rattle.mn_work.specs.declared.known.Known.{Known}
 use Rattle.mn_proxy.specs.declared.proxy.Turn.TheVariants as turns
-use Rattle.mn_proxy.specs.declared.work.Job.{Job}
-use Rattle.mn_proxy.specs.declared.work.Job.TheVariants as at
-use Rattle.mn_proxy.specs.declared.work.Work.{Work}
+use Rattle.mn_work.specs.declared.work.Job.{Job}
+use Rattle.mn_work.specs.declared.work.Job.TheVariants as at
+use Rattle.mn_work.specs.declared.work.Work.{Work}
 use Rattle.mn_proxy.specs.Agrees.{AreOverNodes, IsAtRest, IsOwn}
-use Rattle.mn_proxy.specs.Children.{IsUnderWay as ChildIsUnderWay}
+use Rattle.mn_work.specs.Children.{IsUnderWay as ChildIsUnderWay}
 use Rattle.mn_proxy.specs.Jobs.{ScanShown}
 use Rattle.mn_proxy.specs.State.{ProxyState}
 use Rattle.mn_proxy.specs.Tries.{HasNoLeaf, IsTrying, max_tries}
 use Rattle.mn_proxy.specs.Turns.{FailedNow, HasFailed, MayRetry, TurnAgrees}
-use Rattle.mn_proxy.specs.Walks.{IfLater, is_later}
-use Rattle.mn_proxy.specs.Works.{IsJobIn, IsStartable, catalog_addr, retried, retried_job}
+use Rattle.mn_work.specs.Walks.{IfLater, is_later}
+use Rattle.mn_work.specs.Works.{IsJobIn, IsStartable, catalog_addr, retried, retried_job}
 use Rattle.mn_proxy.proofs.Answered.{answered_own, may_answer}
 use Rattle.mn_proxy.proofs.Issues.{closed_are_given_up, closed_are_settled}
 use Rattle.mn_proxy.proofs.Shown.{later_is}

@@ -48,23 +48,23 @@ use Rattle.mn_world.specs.Answers.{BringsLeaf, EndsWithLeaf, IsPageAtFault, Meet
 use Rattle.mn_world.proofs.Bytes.Seen.{nothing}
 use Rattle.mn_world.proofs.Reading.Gathered.{gathered_is_shown, gathered_stays, leaves_are_gathered}
 use Rattle.mn_world.proofs.Reading.Sees.{seen_in-cons}
-use Rattle.mn_proxy.specs.declared.known.Known.{Known}
-use Rattle.mn_proxy.specs.declared.next.Next.{Next}
-use Rattle.mn_proxy.specs.declared.next.Taken.{Taken}
-use Rattle.mn_proxy.specs.declared.work.Job.TheVariants as at
+use Rattle.mn_work.specs.declared.known.Known.{Known}
+use Rattle.mn_work.specs.declared.next.Next.{Next}
+use Rattle.mn_work.specs.declared.next.Taken.{Taken}
+use Rattle.mn_work.specs.declared.work.Job.TheVariants as at
 use Rattle.mn_proxy.specs.Jobs.{EndsAt, HasScanned, IsOfTry, ReadsShow, ScanShown, StandsAtEnd}
-use Rattle.mn_proxy.specs.Scans.{FailsOffNodes, StaysBefore, TakesBytes, TakesPage, WalksAlike}
-use Rattle.mn_proxy.specs.Scans.{WantsNext, goes_by}
-use Rattle.mn_proxy.specs.Seen.{SpellsNone}
+use Rattle.mn_work.specs.Scans.{FailsOffNodes, StaysBefore, TakesBytes, TakesPage, WalksAlike}
+use Rattle.mn_work.specs.Scans.{WantsNext, goes_by}
+use Rattle.mn_work.specs.Seen.{SpellsNone}
 use Rattle.mn_proxy.specs.Tries.{HasNoLeaf}
-use Rattle.mn_proxy.specs.Walks.{Admits, FailsBy, IfLater, IsAbove, IsReadBy, WalkComesTo}
-use Rattle.mn_proxy.specs.Walks.{height_below, is_later, seen_page}
-use Rattle.mn_proxy.specs.Works.{IsJobIn, JobTakes, ScanEnds, ScanTakes, ScanWants}
-use Rattle.mn_proxy.proofs.Bodies.{is_inner}
+use Rattle.mn_work.specs.Walks.{Admits, FailsBy, IfLater, IsAbove, IsReadBy, WalkComesTo}
+use Rattle.mn_work.specs.Walks.{height_below, is_later, seen_page}
+use Rattle.mn_work.specs.Works.{IsJobIn, JobTakes, ScanEnds, ScanTakes, ScanWants}
+use Rattle.mn_work.proofs.Bodies.{is_inner}
 use Rattle.mn_proxy.proofs.GetsShow.{PagesOrFails, SpellsHigh, comes_below, comes_on, comes_to_root}
 use Rattle.mn_proxy.proofs.GetsShow.{fault_by, of_try_on}
 use Rattle.mn_proxy.proofs.GetsShow.{later_is, leaf_may_be, lone_read, none_is_met, off_is_met, page_apart}
-use Rattle.mn_proxy.proofs.Walks.{at_fault, serves_named}
+use Rattle.mn_work.proofs.Walks.{at_fault, serves_named}
 
 -- Leaves in a row
 

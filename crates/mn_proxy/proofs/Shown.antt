@@ -31,13 +31,13 @@ use Rattle.mn_world.specs.Shown.{Seen, SeesCatalog}
 use Rattle.mn_world.proofs.Plans.Told.{all_there}
 use Rattle.mn_world.proofs.Reading.Shows.{entry_given}
 use Rattle.mn_txn.specs.Tries.{FreeSlotsAreLeft}
-use Rattle.mn_proxy.specs.declared.next.Next.{Next}
-use Rattle.mn_proxy.specs.declared.next.Taken.{Taken}
-use Rattle.mn_proxy.specs.declared.work.Job.{Job}
+use Rattle.mn_work.specs.declared.next.Next.{Next}
+use Rattle.mn_work.specs.declared.next.Taken.{Taken}
+use Rattle.mn_work.specs.declared.work.Job.{Job}
 use Rattle.mn_proxy.specs.Agrees.{AreComparesShown}
-use Rattle.mn_proxy.specs.Counts.{IsCountOf, SpellsNoCount, count_addr}
+use Rattle.mn_work.specs.Counts.{IsCountOf, SpellsNoCount, count_addr}
 use Rattle.mn_proxy.specs.Jobs.{AreCounted, ReadsShow}
-use Rattle.mn_proxy.specs.Walks.{Admits, IfLater, is_later}
+use Rattle.mn_work.specs.Walks.{Admits, IfLater, is_later}
 
 -- what is shown where it wants this: that a plan is one of the operation, with its compares, why it
 -- fails, and what it is answered

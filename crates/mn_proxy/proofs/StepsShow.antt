@@ -35,19 +35,19 @@ use Rattle.mn_txn.specs.Attempt.{Attempt as Tried}
 use Rattle.mn_txn.specs.Tries.{FreeSlotsAreLeft, TriesShowCauses, WornPagesShow}
 use Rattle.mn_txn.specs.declared.seen.SeenPage.{SeenPage}
 use Rattle.mn_txn.specs.Seen.{seen_as}
-use Rattle.mn_proxy.specs.declared.attempt.Attempt.{Attempt}
-use Rattle.mn_proxy.specs.declared.known.Known.{Known}
-use Rattle.mn_proxy.specs.declared.next.Next.{Next}
-use Rattle.mn_proxy.specs.declared.next.Taken.{Taken}
-use Rattle.mn_proxy.specs.declared.work.Job.TheVariants as at
+use Rattle.mn_work.specs.declared.attempt.Attempt.{Attempt}
+use Rattle.mn_work.specs.declared.known.Known.{Known}
+use Rattle.mn_work.specs.declared.next.Next.{Next}
+use Rattle.mn_work.specs.declared.next.Taken.{Taken}
+use Rattle.mn_work.specs.declared.work.Job.TheVariants as at
 use Rattle.mn_proxy.specs.Agrees.{AreComparesShown}
-use Rattle.mn_proxy.specs.Among.{AreBrought}
-use Rattle.mn_proxy.specs.Attempts.{CountsOn, HasAll, HasCome, IsAnsweredAs, IsBegun, IsCause, IsOnItsWay, IsReadAt, IsShort, IsUnderWay, IsWorn}
-use Rattle.mn_proxy.specs.Attempts.{KeepsVersion, SameButCounts, TakesBytes, TakesNone, TakesPage, WantsBy, tried}
+use Rattle.mn_work.specs.Among.{AreBrought}
+use Rattle.mn_work.specs.Attempts.{CountsOn, HasAll, HasCome, IsAnsweredAs, IsBegun, IsCause, IsOnItsWay, IsReadAt, IsShort, IsUnderWay, IsWorn}
+use Rattle.mn_work.specs.Attempts.{KeepsVersion, SameButCounts, TakesBytes, TakesNone, TakesPage, WantsBy, tried}
 use Rattle.mn_proxy.specs.Jobs.{AreCounted, IsOfTry, ReadsShow}
-use Rattle.mn_proxy.specs.Walks.{Admits, IfLater, is_later, seen_page}
-use Rattle.mn_proxy.specs.Works.{JobCounts, JobTakes, JobWants, StepsTake, StepsWant}
-use Rattle.mn_proxy.proofs.Attempts.{admits_after, of_kept, take_all}
+use Rattle.mn_work.specs.Walks.{Admits, IfLater, is_later, seen_page}
+use Rattle.mn_work.specs.Works.{JobCounts, JobTakes, JobWants, StepsTake, StepsWant}
+use Rattle.mn_work.proofs.Attempts.{admits_after, of_kept, take_all}
 use Rattle.mn_proxy.proofs.Shown.{AnswerShown, TakenShown, WantShown, bad_count, counted_next, entry_shown, free_shown, later_is, none_counted, not_later, root_reached, seen_count, whole_shown}
 
 -- The pages of a try

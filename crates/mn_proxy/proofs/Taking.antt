@@ -23,32 +23,32 @@ use Rattle.mn_world.specs.Calls.{Call, call_in, issues_of, since_begin}
 use Rattle.mn_world.specs.Places.{Place, catalog_place, count_place}
 use Rattle.mn_world.specs.Shown.{ReadShows, Seen, ShowsCatalog, seen_at, seen_in}
 use Rattle.mn_world.proofs.Reading.Sees.{seen_in-cons}
-use Rattle.mn_proxy.specs.declared.child.Child.{Child}
+use Rattle.mn_work.specs.declared.child.Child.{Child}
 use Rattle.mn_proxy.specs.declared.errand.Errand.{Errand}
 use Rattle.mn_proxy.specs.declared.errand.Purpose.{Purpose}
 use Rattle.mn_proxy.specs.declared.errand.Purpose.TheVariants as reads_for
-use Rattle.mn_proxy.specs.declared.get.Descent.{Descent}
-use Rattle.mn_proxy.specs.declared.known.Known.{Known}
-use Rattle.mn_proxy.specs.declared.next.Taken.{Taken}
-use Rattle.mn_proxy.specs.declared.work.Job.{Job}
-use Rattle.mn_proxy.specs.declared.work.Job.TheVariants as at
-use Rattle.mn_proxy.specs.declared.work.Work.{Work}
+use Rattle.mn_work.specs.declared.get.Descent.{Descent}
+use Rattle.mn_work.specs.declared.known.Known.{Known}
+use Rattle.mn_work.specs.declared.next.Taken.{Taken}
+use Rattle.mn_work.specs.declared.work.Job.{Job}
+use Rattle.mn_work.specs.declared.work.Job.TheVariants as at
+use Rattle.mn_work.specs.declared.work.Work.{Work}
 use Rattle.mn_proxy.specs.Agrees.{AreOverNodes, HasRead, IsAtRest, IsKept, IsOpen, IsOwn, IsPeekOf, IsPlaceFor}
 use Rattle.mn_proxy.specs.Agrees.{IsReadOf, IsUnderWay, JobAsked, MayPeekFor}
-use Rattle.mn_proxy.specs.Catalogs.{TellsVersions}
-use Rattle.mn_proxy.specs.Children as children
+use Rattle.mn_work.specs.Catalogs.{TellsVersions}
+use Rattle.mn_work.specs.Children as children
 use Rattle.mn_proxy.specs.Issues.{AreClosed, AreIssues}
 use Rattle.mn_proxy.specs.Jobs.{JobShows, ReadsShow, ReadsShowBy, ScanShown}
-use Rattle.mn_proxy.specs.Knows.{ArePages, KeepsKnown}
+use Rattle.mn_work.specs.Knows.{ArePages, KeepsKnown}
 use Rattle.mn_proxy.specs.State.{ProxyState}
 use Rattle.mn_proxy.specs.Tries.{HasAsked, HasNoLeaf, IsTrying, max_tries}
 use Rattle.mn_proxy.specs.Turns.{CameOf, HasFailed, IsSoundInside, IsSoundUnderWay, KeepsSelf, Leaves, TurnAgrees, WaitsFor, with_known}
 use Rattle.mn_proxy.specs.declared.proxy.Proxy.TheInside.{Inside}
 use Rattle.mn_proxy.specs.declared.proxy.Turn.{Turn}
 use Rattle.mn_proxy.specs.declared.proxy.Turn.TheVariants as turns
-use Rattle.mn_proxy.specs.Walks.{FailsBy, IfLater, is_later, seen_page}
-use Rattle.mn_proxy.specs.Works.{AsksCountFor, AsksPageFor, IsJobIn, IsJobOf, IsScan, IsStartable, JobCounts, JobTakes, KeepsOp}
-use Rattle.mn_proxy.specs.Works.{TakesCatalog, TakesCountBytes, TakesPageBytes, counts_of, retried_job}
+use Rattle.mn_work.specs.Walks.{FailsBy, IfLater, is_later, seen_page}
+use Rattle.mn_work.specs.Works.{AsksCountFor, AsksPageFor, IsJobIn, IsJobOf, IsScan, IsStartable, JobCounts, JobTakes, KeepsOp}
+use Rattle.mn_work.specs.Works.{TakesCatalog, TakesCountBytes, TakesPageBytes, counts_of, retried_job}
 use Rattle.mn_proxy.proofs.CatalogsShow.{asks_now, catalog_seen, fails_scan, fails_shows, goes_on_shows, has_asked, replies_shows}
 use Rattle.mn_proxy.proofs.CatalogsShow.{retried_scan, retried_scan_as, shows_catalog}
 use Rattle.mn_proxy.proofs.ChildrenShow.{child_counts_for, child_takes_for}
@@ -61,8 +61,8 @@ use Rattle.mn_proxy.proofs.ScansShow.{IsNewestPage, ScanIsToldBy, catalog_no_lea
 use Rattle.mn_proxy.proofs.Shown.{TakenShown, seen_count}
 use Rattle.mn_proxy.proofs.StepsShow.{steps_count_for, steps_take_for}
 use Rattle.mn_proxy.proofs.Tries.{NoPeek, trying_on}
-use Rattle.mn_proxy.proofs.Works.{count_taken, page_taken, retried_after_count, retried_after_page, retry_after_catalog}
-use Rattle.mn_proxy.proofs.Works.{retry_after_count, retry_after_page, starts_right}
+use Rattle.mn_work.proofs.Works.{count_taken, page_taken, retried_after_count, retried_after_page, retry_after_catalog}
+use Rattle.mn_work.proofs.Works.{retry_after_count, retry_after_page, starts_right}
 
 -- The entry that brought it
 

@@ -30,7 +30,7 @@ use Rattle.mn_world.specs.Answers.{RefusedAs, asks_for_catalog, ends_refused, is
 use Rattle.mn_world.specs.Answers.{is_one_try, is_peek, is_refusal, none_refused, reads_anew}
 use Rattle.mn_proxy.specs.Tries.{FirstFailed, HasAsked, HasNoLeaf, HaveFailed, IsTrying}
 use Rattle.mn_proxy.specs.Tries.{MayPeek, ShowsCause, WasRefused, peeks_at_nothing}
-use Rattle.mn_proxy.specs.Walks.{IfLater}
+use Rattle.mn_work.specs.Walks.{IfLater}
 
 -- Lists
 

@@ -12,8 +12,8 @@ use Rattle.mn_proxy.specs.declared.proxy.Turn.{Turn}
 use Rattle.mn_proxy.specs.declared.proxy.Turn.TheVariants as turns
 use Rattle.mn_proxy.specs.declared.step.ProxyStep.{ProxyStep}
 use Rattle.mn_proxy.specs.declared.step.ProxyStep.TheVariants as steps
-use Rattle.mn_proxy.specs.declared.work.Work.{Work}
-use Rattle.mn_proxy.specs.declared.known.Known.{Known}
+use Rattle.mn_work.specs.declared.work.Work.{Work}
+use Rattle.mn_work.specs.declared.known.Known.{Known}
 use Rattle.mn_proxy.specs.Agrees.{Agrees, Enters, EntersWant, ErrandAgrees, HasOutIn, IsOwn, IsOwnEntry, IsSoundStep, MayStep, Wants, WorksBy}
 use Rattle.mn_proxy.specs.State.{IsOutIn, ProxyState}
 use Rattle.mn_proxy.specs.Turns.{IsOutAs, IsSoundTurn, TurnAgrees, with_work}

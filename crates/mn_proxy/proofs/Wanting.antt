@@ -20,22 +20,22 @@ use Rattle.mn_world.specs.Calls.{issues_of, since_begin}
 use Rattle.mn_world.specs.Places.{Place, count_place}
 use Rattle.mn_world.specs.Shown.{ScanShows, Seen, seen_in}
 use Rattle.mn_proxy.specs.declared.errand.Purpose.TheVariants as by
-use Rattle.mn_proxy.specs.declared.known.Known.{Known}
-use Rattle.mn_proxy.specs.declared.next.Next.{Next}
+use Rattle.mn_work.specs.declared.known.Known.{Known}
+use Rattle.mn_work.specs.declared.next.Next.{Next}
 use Rattle.mn_proxy.specs.declared.step.ProxyStep.TheVariants as steps
-use Rattle.mn_proxy.specs.declared.work.Job.{Job}
-use Rattle.mn_proxy.specs.declared.work.Job.TheVariants as at
-use Rattle.mn_proxy.specs.declared.work.Work.{Work}
+use Rattle.mn_work.specs.declared.work.Job.{Job}
+use Rattle.mn_work.specs.declared.work.Job.TheVariants as at
+use Rattle.mn_work.specs.declared.work.Work.{Work}
 use Rattle.mn_proxy.specs.Agrees.{AreComparesShown, AreOverNodes, IsAtRest, IsKept, IsOwn, IsPlaceFor, MayPeekFor}
 use Rattle.mn_proxy.specs.Agrees.{MayStep}
 use Rattle.mn_proxy.specs.Issues.{AreClosed, AreIssues}
-use Rattle.mn_proxy.specs.Knows.{KeepsKnown}
+use Rattle.mn_work.specs.Knows.{KeepsKnown}
 use Rattle.mn_proxy.specs.State.{ProxyState}
 use Rattle.mn_proxy.specs.Tries.{HasAsked, IsTrying}
 use Rattle.mn_proxy.specs.declared.proxy.Turn.TheVariants as turns
 use Rattle.mn_proxy.specs.Turns.{FailedNow, HasFailed, KeepsSelf, MayIssue, TurnAgrees, with_known}
-use Rattle.mn_proxy.specs.Walks.{FailsBy, IfLater}
-use Rattle.mn_proxy.specs.Works.{AsksCountFor, IsJobOf, KeepsOp, WantsNext, counts_of}
+use Rattle.mn_work.specs.Walks.{FailsBy, IfLater}
+use Rattle.mn_work.specs.Works.{AsksCountFor, IsJobOf, KeepsOp, WantsNext, counts_of}
 use Rattle.mn_proxy.proofs.Advancing.{AdvanceTells, AnswerTold, IsNoScan, NextTold, OpenAs, PeeksAs}
 use Rattle.mn_proxy.proofs.Advancing.{advance_tells, open_kept}
 use Rattle.mn_proxy.proofs.Answered.{answered_own, may_answer}
@@ -43,7 +43,7 @@ use Rattle.mn_proxy.proofs.CatalogsShow.{retried_scan_as}
 use Rattle.mn_proxy.proofs.Issues.{closed_are_given_up, closed_are_settled}
 use Rattle.mn_proxy.proofs.Shown.{AnswerShown, not_later}
 use Rattle.mn_proxy.proofs.Tries.{last_try}
-use Rattle.mn_proxy.proofs.Works.{plan_asked, retried_after_wants}
+use Rattle.mn_work.proofs.Works.{plan_asked, retried_after_wants}
 
 -- What is kept
 

@@ -38,20 +38,21 @@ use Rattle.mn_proxy.specs.declared.errand.Errand.{Errand}
 use Rattle.mn_proxy.specs.declared.errand.Errand.TheVariants as out
 use Rattle.mn_proxy.specs.declared.errand.Purpose.{Purpose}
 use Rattle.mn_proxy.specs.declared.errand.Purpose.TheVariants as by
-use Rattle.mn_proxy.specs.declared.known.Known.{Known}
+use Rattle.mn_work.specs.declared.known.Known.{Known}
 use Rattle.mn_proxy.specs.declared.step.ProxyStep.{ProxyStep}
 use Rattle.mn_proxy.specs.declared.step.ProxyStep.TheVariants as steps
-use Rattle.mn_proxy.specs.declared.work.Job.{Job}
-use Rattle.mn_proxy.specs.declared.work.Job.TheVariants as at
-use Rattle.mn_proxy.specs.declared.work.Work.{Work}
-use Rattle.mn_proxy.specs.Catalogs.{HasParentsBelow}
+use Rattle.mn_work.specs.declared.work.Job.{Job}
+use Rattle.mn_work.specs.declared.work.Job.TheVariants as at
+use Rattle.mn_work.specs.declared.work.Work.{Work}
+use Rattle.mn_work.specs.Catalogs.{HasParentsBelow}
 use Rattle.mn_proxy.specs.Issues.{AreClosed, AreFresh, AreIssues, are_closed}
 use Rattle.mn_proxy.specs.Jobs.{JobShows, ScanShown}
-use Rattle.mn_proxy.specs.Places.{place_of}
-use Rattle.mn_proxy.specs.Refusals.{refusal_of}
+use Rattle.mn_work.specs.Places.{place_of}
+use Rattle.mn_work.specs.Refusals.{refusal_of}
 use Rattle.mn_proxy.specs.State.{IsIdle, IsReady, ProxyState}
 use Rattle.mn_proxy.specs.Tries.{HasAsked, HasNoLeaf, IsTrying, WasRefused}
-use Rattle.mn_proxy.specs.Walks.{IfLater}
+use Rattle.mn_work.specs.Walks.{IfLater}
+use Rattle.mn_work.specs.Works.{HasBegun}
 
 -- What is kept
 
@@ -160,11 +161,6 @@ abbrev pub AreComparesShown : List Seen → Mini → Type 0
 AreComparesShown seens mini =
     (n : NodeNo) (start : ℕ) (bytes : List ℕ) → Contains mini.items (Compare n start bytes)
     → ShowsBytes seens n start bytes
-
--- a job that has begun
-abbrev pub HasBegun : Job → Type 0
-HasBegun at.Start = ⊥
-HasBegun job = ⊤
 
 -- a minitransaction for this purpose: a read of its place, or a plan of the operation, which a job
 -- that has begun made

@@ -21,13 +21,13 @@ use Rattle.mn_world.specs.Answers.{ShowsBytes}
 use Rattle.mn_world.specs.Scans.{HasGathered}
 use Rattle.mn_world.specs.Shown.{FirstCatalog, IsCatalogRead, ReachesEnd, Seen, SeesCatalog}
 use Rattle.mn_world.specs.Shown.{seen_in}
-use Rattle.mn_proxy.specs.declared.known.Known.{Known}
-use Rattle.mn_proxy.specs.declared.work.Job.{Job}
-use Rattle.mn_proxy.specs.declared.work.Job.TheVariants as at
-use Rattle.mn_proxy.specs.declared.work.Work.{Work}
-use Rattle.mn_proxy.specs.Among.{AreBrought}
-use Rattle.mn_proxy.specs.Walks.{Admits, IfLater, WalkComesTo, seen_page}
-use Rattle.mn_proxy.specs.Works.{IsStartable, lone_key}
+use Rattle.mn_work.specs.declared.known.Known.{Known}
+use Rattle.mn_work.specs.declared.work.Job.{Job}
+use Rattle.mn_work.specs.declared.work.Job.TheVariants as at
+use Rattle.mn_work.specs.declared.work.Work.{Work}
+use Rattle.mn_work.specs.Among.{AreBrought}
+use Rattle.mn_work.specs.Walks.{Admits, IfLater, WalkComesTo, seen_page}
+use Rattle.mn_work.specs.Works.{IsStartable, lone_key}
 
 -- By the kept catalog
 

@@ -25,12 +25,12 @@ use Rattle.mn_proxy.specs.declared.proxy.Turn.{Turn}
 use Rattle.mn_proxy.specs.declared.proxy.Turn.TheVariants as turns
 use Rattle.mn_proxy.specs.declared.step.ProxyStep.{ProxyStep}
 use Rattle.mn_proxy.specs.declared.step.ProxyStep.TheVariants as steps
-use Rattle.mn_proxy.specs.declared.work.Work.{Work}
-use Rattle.mn_proxy.specs.Cached.{AreUsed, Puts}
-use Rattle.mn_proxy.specs.Catalogs.{TellsVersions}
+use Rattle.mn_work.specs.declared.work.Work.{Work}
+use Rattle.mn_work.specs.Cached.{AreUsed, Puts}
+use Rattle.mn_work.specs.Catalogs.{TellsVersions}
 use Rattle.mn_proxy.specs.State.{ProxyState}
 use Rattle.mn_proxy.specs.Turns.{new_coordination, read_alone, with_work}
-use Rattle.mn_proxy.specs.Walks.{is_later}
+use Rattle.mn_work.specs.Walks.{is_later}
 
 -- What was read
 

@@ -1,13 +1,14 @@
 -- What contracts see of a proxy.
-use Rattle.std.specs.Prelude.{ℕ, ◌≡◌, ◌≢◌, true, [], Option, Some, None, ⊤}
+use Rattle.std.specs.Prelude.{ℕ, ◌≡◌, ◌≢◌, true, Option, Some, None, ⊤}
 use Rattle.mn_base.specs.declared.ids.ClientNo.{ClientNo}
 use Rattle.mn_base.specs.declared.op.Op.{Op}
 use Rattle.mn_proxy.specs.declared.errand.Errand.{Errand}
 use Rattle.mn_proxy.specs.declared.errand.Errand.TheVariants as out
-use Rattle.mn_proxy.specs.declared.known.Known.{Known}
+use Rattle.mn_work.specs.declared.known.Known.{Known}
 use Rattle.mn_proxy.specs.declared.proxy.TheConstants.{PEEKS}
-use Rattle.mn_proxy.specs.declared.work.Work.{Work}
-use Rattle.mn_proxy.specs.Works.{new_work}
+use Rattle.mn_work.specs.declared.work.Work.{Work}
+use Rattle.mn_work.specs.Knows.{new_known}
+use Rattle.mn_work.specs.Works.{new_work}
 
 -- the client, the run, and how many serials were given out; how many Peeks may come before the next
 -- serial; what is kept; the operation under way and what is on its way for it
@@ -26,7 +27,7 @@ new_proxy client run nodes = record {
   run = run;
   issued = 0;
   peeks = PEEKS;
-  known = record { nodes = nodes; catalog = None; cache = [] };
+  known = new_known nodes;
   work = None;
 }
 

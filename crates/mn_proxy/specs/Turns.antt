@@ -25,8 +25,8 @@ use Rattle.mn_proxy.specs.declared.errand.Errand.{Errand}
 use Rattle.mn_proxy.specs.declared.errand.Errand.TheVariants as out
 use Rattle.mn_proxy.specs.declared.errand.Purpose.{Purpose}
 use Rattle.mn_proxy.specs.declared.errand.Purpose.TheVariants as by
-use Rattle.mn_proxy.specs.declared.known.Known.{Known}
-use Rattle.mn_proxy.specs.declared.next.Taken.{Taken}
+use Rattle.mn_work.specs.declared.known.Known.{Known}
+use Rattle.mn_work.specs.declared.next.Taken.{Taken}
 use Rattle.mn_proxy.specs.declared.proxy.retrying.Failure.{Failure}
 use Rattle.mn_proxy.specs.declared.proxy.retrying.Failure.TheVariants as fails
 use Rattle.mn_proxy.specs.declared.proxy.Proxy.TheInside.{Inside}
@@ -34,18 +34,18 @@ use Rattle.mn_proxy.specs.declared.proxy.Turn.{Turn}
 use Rattle.mn_proxy.specs.declared.proxy.Turn.TheVariants as turns
 use Rattle.mn_proxy.specs.declared.step.ProxyStep.{ProxyStep}
 use Rattle.mn_proxy.specs.declared.step.ProxyStep.TheVariants as steps
-use Rattle.mn_proxy.specs.declared.work.Work.{Work}
+use Rattle.mn_work.specs.declared.work.Work.{Work}
 use Rattle.mn_proxy.specs.Agrees.{AreComparesShown, AreOverNodes, Agrees, Enters, HasOutIn, HasRead}
 use Rattle.mn_proxy.specs.Agrees.{IsAtRest, IsMadeFor, IsOwn, IsSoundStep, IsUnderWay, MayStep}
 use Rattle.mn_proxy.specs.Issues.{AreClosed}
 use Rattle.mn_proxy.specs.Jobs.{ScanShown}
-use Rattle.mn_proxy.specs.Knows.{ArePages, KeepsKnown, LearnsOrKeeps}
-use Rattle.mn_proxy.specs.Refusals.{refusal_of}
+use Rattle.mn_work.specs.Knows.{ArePages, KeepsKnown, LearnsOrKeeps}
+use Rattle.mn_work.specs.Refusals.{refusal_of}
 use Rattle.mn_proxy.specs.State.{IsOutIn, ProxyState}
 use Rattle.mn_proxy.specs.Tries.{HasAsked, HasNoLeaf, IsTrying, WasRefused, max_tries}
-use Rattle.mn_proxy.specs.Walks.{IfLater}
-use Rattle.mn_proxy.specs.Works.{AsksCount, AsksPage, IsJobOf, IsStartable, KeepsOp, TakesCatalog}
-use Rattle.mn_proxy.specs.Works.{TakesCountBytes, TakesPageBytes, counts_of, retried_job}
+use Rattle.mn_work.specs.Walks.{IfLater}
+use Rattle.mn_work.specs.Works.{AsksCount, AsksPage, IsJobOf, IsStartable, KeepsOp, TakesCatalog}
+use Rattle.mn_work.specs.Works.{TakesCountBytes, TakesPageBytes, counts_of, retried_job}
 
 -- What is so of an operation
 

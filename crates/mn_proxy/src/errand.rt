@@ -1,7 +1,7 @@
-use crate::place::Place;
 use mn_base::{Addr, Reply, Tid};
 use mn_coord::Coordinator;
 use mn_mini::NodeReply;
+use mn_work::Place;
 
 /// What a minitransaction or a Peek is for.
 #[derive(Debug, Drop)]

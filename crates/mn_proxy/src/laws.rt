@@ -1,4 +1,4 @@
-ghost use Rattle.mn_proxy.specs.Paths.{ReadsTakeOneCall};
+ghost use Rattle.mn_proxy.specs.LeafReads.{ReadsTakeOneCall};
 
 /// A law, proved of definitions: the minitransaction that reads a place makes one call, an Exec at
 /// its node; once that is Done it is committed, with the bytes as read.

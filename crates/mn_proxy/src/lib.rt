@@ -3,23 +3,10 @@
 //! that is out of date again with what it reads anew, up to eight times (Minuet, PVLDB 2012).
 #![tactic(auto)]
 
-mod attempt;
-mod catalog;
-mod causes;
-mod child;
-mod counts;
 mod errand;
-mod get;
-mod grammar;
-mod known;
 mod laws;
-mod next;
-mod place;
 mod proxy;
-mod scan;
-mod seen;
 mod step;
-mod work;
 
 pub use laws::reads_take_one_call;
 pub use proxy::Proxy;

@@ -11,29 +11,28 @@ ghost use Rattle.mn_coord.specs.Legal.{IsAnswered};
 ghost use Rattle.mn_world.specs.declared.entry.Entry.{Entry};
 ghost use Rattle.mn_proxy.specs.declared.errand.Errand.TheVariants as errands;
 ghost use Rattle.mn_proxy.specs.declared.errand.Purpose.{Purpose};
-ghost use Rattle.mn_proxy.specs.declared.get.Descent.{Descent};
+ghost use Rattle.mn_work.specs.declared.get.Descent.{Descent};
 ghost use Rattle.mn_proxy.specs.declared.proxy.Turn.TheVariants as turns;
-ghost use Rattle.mn_proxy.specs.declared.work.Work.{Work};
+ghost use Rattle.mn_work.specs.declared.work.Work.{Work};
 ghost use Rattle.mn_proxy.specs.Agrees.{Agrees, BeginsNext, Enters, EntersWant, ErrandAgrees};
 ghost use Rattle.mn_proxy.specs.Agrees.{HasOut, IsOwn, IsSoundStep, MayStep, MayWant, Wants};
 ghost use Rattle.mn_proxy.specs.Kept.{CacheGoes, CacheTurns, CatalogGoes, CatalogTurns, Calls};
 ghost use Rattle.mn_proxy.specs.Kept.{StepCalls, read_by};
 ghost use Rattle.mn_proxy.specs.Measure.{Falls, GoesBelow, steps_left};
-ghost use Rattle.mn_proxy.specs.Paths.{HasCurrentPath, LeafGoes, LeafTurns, ReadsLeaf};
-ghost use Rattle.mn_proxy.specs.Paths.{StepReadsLeaf};
+ghost use Rattle.mn_work.specs.Paths.{HasCurrentPath};
+ghost use Rattle.mn_proxy.specs.LeafReads.{LeafGoes, LeafTurns, ReadsLeaf};
+ghost use Rattle.mn_proxy.specs.LeafReads.{StepReadsLeaf};
 ghost use Rattle.mn_proxy.specs.State.{IsIdle, IsOut, IsOutIn, IsReady, begun, new_proxy};
 ghost use Rattle.mn_proxy.specs.Turns.{IsFed, IsOutFor, IsSoundTurn, IsSoundWork, KeepsSelf};
 ghost use Rattle.mn_proxy.specs.Turns.{OwesNoDecide, TurnAgrees, with_work};
-ghost use Rattle.mn_proxy.specs.Walks.{is_later};
-ghost use Rattle.mn_proxy.specs.Works.{new_work};
+ghost use Rattle.mn_work.specs.Walks.{is_later};
+ghost use Rattle.mn_work.specs.Works.{new_work};
 
 use crate::errand::Errand;
-use crate::known::Known;
 use crate::step::ProxyStep;
-use crate::work::Work;
 use mn_base::{Answer, ClientNo, NoMemory, Op};
-use mn_cache::Cache;
 use mn_mini::NodeReply;
+use mn_work::{Known, Work};
 use std::alloc::Global;
 use std::marker::Model;
 
@@ -61,7 +60,6 @@ enum Turn {
 }
 
 /// The proxy of a client, which runs its operations one after another.
-#[derive(Drop)]
 pub struct Proxy {
     client: ClientNo,
     run: u32,
@@ -72,6 +70,22 @@ pub struct Proxy {
     known: Known,
     /// The operation under way, and what is on its way for it.
     work: Option<(Work, Errand)>,
+}
+
+/// It is let go by a call, which is proved once, and not in place wherever one goes.
+impl Drop for Proxy {
+    fn drop(self) {
+        let Proxy {
+            client: _client,
+            run: _run,
+            issued: _issued,
+            peeks: _peeks,
+            known,
+            work,
+        } = self;
+        drop(known);
+        drop(work);
+    }
 }
 
 impl Model for Proxy {
@@ -114,16 +128,13 @@ impl Proxy {
         ensures starts { IfOk result (λ proxy. proxy ≡ new_proxy client run nodes) }
         ensures agrees { IfOk result (λ proxy. Agrees [] proxy) }
     {
+        let known = Known::new(alloc, nodes)?;
         Ok(Proxy {
             client,
             run,
             issued: 0,
             peeks: PEEKS,
-            known: Known {
-                nodes,
-                catalog: None,
-                cache: Cache::new(alloc)?,
-            },
+            known,
             work: None,
         })
     }

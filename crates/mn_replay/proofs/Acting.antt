@@ -1,10 +1,10 @@
 -- The turns of clients and of recovery coordinators.
-use Rattle.std.proofs.Common.{◌≡◌, ℕ, zero, suc, ◌+◌, ◌-◌, ◌<◌, Result, Ok, Err, is_err, IfOk, OnOk, Bool, false, Option, Some, None, List, [], ◌∷◌, ◌++◌, length, map, get_or, refl, sym, ap, ◌∙◌, subst, arith, nat_eq}
+use Rattle.std.proofs.Common.{◌≡◌, ℕ, zero, suc, ◌+◌, ◌-◌, ◌<◌, Result, Ok, Err, is_err, OnOk, Bool, false, Option, Some, None, List, [], ◌∷◌, ◌++◌, length, map, get_or, refl, sym, ap, ◌∙◌, subst, arith, nat_eq}
 use Rattle.std.specs.Prelude.{slice_get, slice_index_or, slice_set}
 use Rattle.std.specs.List.{AllByRecursion}
 use Rattle.std.specs.Option.{option_map_or}
 use Rattle.std.proofs.lemmas.Bool.{le-ltb, lt-ltb, ne_eqb}
-use Rattle.std.proofs.lemmas.Option.{slice_get_read, slice_get_within}
+use Rattle.std.proofs.lemmas.Option.{slice_get_within}
 use Rattle.atomic_table.specs.Seated.{TableId}
 use Rattle.mn_actors.specs.declared.actor.Actor.TheVariants.{Client as Calls}
 use Rattle.mn_actors.specs.declared.clock.View.{View}
@@ -21,20 +21,25 @@ use Rattle.mn_world.specs.Calls.{client_entries}
 use Rattle.mn_world.specs.Lists.{ClientState}
 use Rattle.mn_world.specs.Protocol.{Start, start_nodes}
 use Rattle.mn_world.specs.Run.{entries_of}
-use Rattle.mn_replay.specs.declared.client.Client.{Client}
-use Rattle.mn_replay.specs.declared.desk.Desk.{Desk}
-use Rattle.mn_replay.specs.declared.play.Callers.{Callers}
-use Rattle.mn_replay.specs.Acts.{as_role}
-use Rattle.mn_replay.specs.Clients.{IsOfRun}
-use Rattle.mn_replay.specs.Desks.{IsDesk}
-use Rattle.mn_replay.specs.Plays.{IsAtRest, IsPlay, PlayState, StaysPlay, caller_at, list_by}
-use Rattle.mn_replay.specs.Logs.{GoesAs, HasLog, played_by, works_of}
-use Rattle.mn_replay.specs.Recoveries.{Bench, bench_of}
-use Rattle.mn_replay.specs.Schedule.{IsOfClient, IsOfRecoverer, recoverer, role_of}
-use Rattle.mn_replay.specs.Turn.{ExtendsLog, IsTurn, Turn, callers_count, past_in, trail_by}
-use Rattle.mn_replay.proofs.Resting.{IsAfter, IsTurnOf, Replaces, turn_after, turn_begins, turn_ends}
-use Rattle.mn_replay.proofs.Scheduled.{client_acts, list_of_client as list_of_client_in, recoverer_acts}
-use Rattle.mn_replay.proofs.Replacing.{client_among, client_replaced, desk_among, desk_replaced, list_of}
+use Rattle.mn_callers.specs.declared.client.Client.{Client}
+use Rattle.mn_callers.specs.declared.desk.Desk.{Desk}
+use Rattle.mn_callers.specs.declared.callers.Callers.{Callers}
+use Rattle.mn_callers.specs.Acts.{as_role}
+use Rattle.mn_callers.specs.Clients.{IsOfRun}
+use Rattle.mn_callers.specs.Desks.{IsDesk}
+use Rattle.mn_callers.specs.Plays.{IsAtRest, IsPlay, PlayState, StaysPlay, caller_at, list_by}
+use Rattle.mn_replay.specs.Logs.{GoesAs, played_by}
+use Rattle.mn_callers.specs.Logs.{HasLog, works_of}
+use Rattle.mn_callers.specs.Recoveries.{Bench, bench_of}
+use Rattle.mn_replay.specs.Schedule.{IsOfClient, IsOfRecoverer}
+use Rattle.mn_callers.specs.Desks.{recoverer}
+use Rattle.mn_callers.specs.Acts.{role_of}
+use Rattle.mn_callers.specs.Turn.{ExtendsLog, IsTurn, Turn, callers_count, past_in, trail_by}
+use Rattle.mn_callers.proofs.Handing.{read_at}
+use Rattle.mn_callers.proofs.Resting.{IsAfter, IsTurnOf, Replaces, turn_after, turn_begins, turn_ends}
+use Rattle.mn_replay.proofs.Scheduled.{client_acts, recoverer_acts}
+use Rattle.mn_callers.proofs.Trails.{list_of_client as list_of_client_in}
+use Rattle.mn_callers.proofs.Replacing.{client_among, client_replaced, desk_among, desk_replaced, list_of}
 
 pub ok_then : {E : Type 0} (r : Result (Unit {0}) E) (P Q : Type 0) → (P → Q) → OnOk r P → OnOk r Q
 ok_then (Ok u) P Q f p = f p
@@ -44,17 +49,9 @@ pub ok_so : {E : Type 0} (r : Result (Unit {0}) E) (P : Type 0) → P → OnOk r
 ok_so (Ok u) P p = p
 ok_so (Err e) P p = tt
 
-pub if_ok : {T E : Type 0} (r : Result T E) {P Q : T → Type 0} → IfOk r P → ((t : T) → P t → Q t) → IfOk r Q
-if_ok (Ok t) p f = f t p
-if_ok (Err e) p f = tt
-
 pub not_err : {E : Type 0} (r : Result (Unit {0}) E) (P : Type 0) → is_err r ≡ false → OnOk r P → P
 not_err (Ok u) P is p = p
 not_err (Err e) P is p = absurd cc
-
--- the element that was read
-pub read_at : {X : Type 0} (xs : List X) (k : ℕ) (x : X) → k < length xs → x ≡ get_or xs k x → slice_get xs k ≡ Some x
-read_at xs k x within is = slice_get_read xs (length xs) k x refl within is
 
 pub met_at : {X : Type 0} (xs : List X) (k j : ℕ) (x : X) → k < length xs → j ≡ k → x ≡ get_or xs j x → slice_get xs k ≡ Some x
 met_at xs k j x within same is = read_at xs k x within (is ∙ ap (λ (i : ℕ). get_or xs i x) same)

@@ -23,20 +23,23 @@ use Rattle.mn_world.specs.Lists.{ClientState}
 use Rattle.mn_world.specs.Nodes.{is_down}
 use Rattle.mn_world.specs.Protocol.{IsOfRun, Start, start_nodes}
 use Rattle.mn_world.specs.Run.{entries_of}
-use Rattle.mn_replay.specs.declared.desk.Desk.{Desk}
-use Rattle.mn_replay.specs.Closing.{ClosesOn, IsCallOrRestart}
-use Rattle.mn_replay.specs.Desks.{DoubtsNothing, IsOfRecovery}
-use Rattle.mn_replay.specs.Doings.{Halts, Restarts}
-use Rattle.mn_replay.specs.Failed.{closer}
-use Rattle.mn_replay.specs.Logs.{GoesAs, Settles, played_by, works_of}
-use Rattle.mn_replay.specs.Plays.{HasTrail, IsAtRest, IsOfSome, PlayState, StaysPlay, list_by}
-use Rattle.mn_replay.specs.Schedule.{AreOfCloser, HaltsNode, Played, RestartsNode, with_entry}
-use Rattle.mn_replay.specs.Steps.{Adds, KeepsList}
-use Rattle.mn_replay.specs.Turn.{ExtendsLog, IsTurn, Turn, past_in}
-use Rattle.mn_replay.proofs.Doings.{went_either_way}
-use Rattle.mn_replay.proofs.Resting.{IsAfter, IsTurnOf, Replaces, turn_after, turn_begins, turn_ends}
-use Rattle.mn_replay.proofs.Replacing.{closer_among, closer_replaced}
-use Rattle.mn_replay.proofs.Scheduled.{by_map, entries_back, entries_both, list_of_node}
+use Rattle.mn_callers.specs.declared.desk.Desk.{Desk}
+use Rattle.mn_callers.specs.Closing.{ClosesOn, IsCallOrRestart}
+use Rattle.mn_callers.specs.Desks.{DoubtsNothing, IsOfRecovery}
+use Rattle.mn_callers.specs.Doings.{Halts, Restarts}
+use Rattle.mn_callers.specs.Failed.{closer}
+use Rattle.mn_replay.specs.Logs.{GoesAs, Settles, played_by}
+use Rattle.mn_callers.specs.Logs.{works_of}
+use Rattle.mn_callers.specs.Plays.{HasTrail, IsAtRest, IsOfSome, PlayState, StaysPlay, list_by}
+use Rattle.mn_callers.specs.Closing.{AreOfCloser}
+use Rattle.mn_replay.specs.Schedule.{HaltsNode, Played, RestartsNode, with_entry}
+use Rattle.mn_callers.specs.Steps.{Adds, KeepsList}
+use Rattle.mn_callers.specs.Turn.{ExtendsLog, IsTurn, Turn, past_in}
+use Rattle.mn_callers.proofs.Doings.{went_either_way}
+use Rattle.mn_callers.proofs.Resting.{IsAfter, IsTurnOf, Replaces, turn_after, turn_begins, turn_ends}
+use Rattle.mn_callers.proofs.Replacing.{closer_among, closer_replaced}
+use Rattle.mn_replay.proofs.Scheduled.{by_map}
+use Rattle.mn_callers.proofs.Trails.{entries_back, entries_both, list_of_node}
 
 -- Its list
 

@@ -10,13 +10,14 @@ use Rattle.mn_world.specs.Calls.{node_entries}
 use Rattle.mn_world.specs.Nodes.{node_records}
 use Rattle.mn_world.specs.Protocol.{Start, base_at, records_of, start_nodes, start_records}
 use Rattle.mn_world.specs.Run.{entries_of}
-use Rattle.mn_replay.specs.Ended.{AllHaveMade}
-use Rattle.mn_replay.specs.Logs.{AreFreeIfSound, HasLog}
-use Rattle.mn_replay.specs.Plays.{PlayState}
-use Rattle.mn_replay.specs.Settled.{AreUpAndFree}
-use Rattle.mn_replay.specs.Turn.{AreStations}
-use Rattle.mn_replay.proofs.Handing.{free_as}
-use Rattle.mn_replay.proofs.Scheduled.{list_of_node}
+use Rattle.mn_callers.specs.Ended.{AllHaveMade}
+use Rattle.mn_replay.specs.Logs.{AreFreeIfSound}
+use Rattle.mn_callers.specs.Logs.{HasLog}
+use Rattle.mn_callers.specs.Plays.{PlayState}
+use Rattle.mn_callers.specs.Settled.{AreUpAndFree}
+use Rattle.mn_callers.specs.Turn.{AreStations}
+use Rattle.mn_callers.proofs.Handing.{free_as}
+use Rattle.mn_callers.proofs.Trails.{list_of_node}
 
 module _ {D : Type 0} (state : D → DiskState) (faults : D → ℕ) (start : Start) (counts : ℕ → ℕ) (honest : ℕ → Type 0) (p : PlayState D) (are : AreStations (start_nodes start) p.stations)
     (made : AllHaveMade state faults start counts honest p.stations) where

@@ -5,8 +5,9 @@ use Rattle.mn_script.specs.Script.{Script}
 use Rattle.mn_world.specs.declared.entry.Entry.{Entry}
 use Rattle.mn_world.specs.OneHistory.{AreFree}
 use Rattle.mn_world.specs.Protocol.{Start}
-use Rattle.mn_replay.specs.Schedule.{AreOfCloser, DoesActs, acts_of, played_from}
-use Rattle.mn_replay.specs.Trace.{StartsSound}
+use Rattle.mn_callers.specs.Closing.{AreOfCloser}
+use Rattle.mn_replay.specs.Schedule.{DoesActs, acts_of, played_from}
+use Rattle.mn_callers.specs.Trace.{StartsSound}
 
 -- the log is what the opening made, which ended so, then what the acts of the schedule made and an
 -- `all` of each client, one act after another, and then what the closing made

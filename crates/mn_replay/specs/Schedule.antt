@@ -1,13 +1,10 @@
 -- What the acts of a schedule make of a log. Lists of entries stand newest first.
 use Rattle.std.specs.Prelude.{ℕ, ◌+◌, ◌-◌, ◌≡◌, ◌⊎◌, Bool, List, [], ◌∷◌, ◌++◌, length, map}
-use Rattle.std.specs.Prelude.{Option, Some, None, slice_get, slice_index_or, slice_set, MatchBool}
+use Rattle.std.specs.Prelude.{Option, Some, None, slice_index_or, slice_set, MatchBool}
 use Rattle.std.specs.Prelude.{replicate, true, false}
 use Rattle.std.specs.List.{range_with_len, AllByRecursion}
-use Rattle.std.specs.Option.{option_map_or}
 use Rattle.mn_base.specs.declared.ids.NodeNo.{NodeNo}
 use Rattle.mn_base.specs.declared.ids.ClientNo.{ClientNo}
-use Rattle.mn_base.specs.declared.op.Op.{Op}
-use Rattle.mn_script.specs.declared.elements.ScriptClient.{ScriptClient}
 use Rattle.mn_script.specs.declared.elements.Act.{Act}
 use Rattle.mn_script.specs.declared.elements.Act.TheVariants as acts
 use Rattle.mn_script.specs.Script.{Script}
@@ -19,21 +16,10 @@ use Rattle.mn_cell.specs.Calls.{entry_at}
 use Rattle.mn_recov.specs.Recovery.{Recovery}
 use Rattle.mn_replay.specs.declared.play.Move.{Move}
 use Rattle.mn_replay.specs.declared.play.Move.TheVariants as moves
-use Rattle.mn_replay.specs.Acts.{Role, DoesStep, DoesPlan, DoesGo, DoesAll}
-use Rattle.mn_replay.specs.Closing.{IsCallOrRestart}
-use Rattle.mn_replay.specs.Failed.{closer}
-use Rattle.mn_replay.specs.Recoveries.{Bench, DoesRstep, DoesRecover}
-
-abbrev pub ops_by : List ScriptClient → ClientNo → List Op
-ops_by clients c = option_map_or (λ client. client.ops) (slice_get clients c.0) []
-
-abbrev pub role_of : Script → ClientNo → Role
-role_of script c =
-    record { points = script.points; number = c; ops = ops_by script.clients c }
-
--- recovery coordinators are the actors from 17 on, for their numbers from 1 on
-abbrev pub recoverer : ℕ → ClientNo
-recoverer number = record { 0 = 16 + number }
+use Rattle.mn_callers.specs.Acts.{Role, DoesStep, DoesPlan, DoesGo, DoesAll, role_of}
+use Rattle.mn_callers.specs.Desks.{recoverer}
+use Rattle.mn_callers.specs.Failed.{closer}
+use Rattle.mn_callers.specs.Recoveries.{Bench, DoesRstep, DoesRecover}
 
 -- the log so far, and the work of each recovery coordinator
 pub record Played : Type 0 where
@@ -128,10 +114,3 @@ acts_of script = script.schedule ++ last_acts script
 -- the log with which the acts begin: no recovery coordinator, of which there may be four, has work
 abbrev pub played_from : List Entry → Played
 played_from past = record { past = past; works = replicate 4 None }
-
--- Opening and closing
-
--- entries at opening or closing: the closing coordinator calls nodes and restarts them; no node
--- stops
-abbrev pub AreOfCloser : List Entry → Type 0
-AreOfCloser es = AllByRecursion (λ e. (e.client ≡ Some closer) × IsCallOrRestart e.what) es

@@ -1,112 +1,37 @@
 //! A run that is played on one thread, act after act.
-ghost use Rattle.std.specs.Prelude.{◌≡◌, ◌≤◌, ◌<◌, ◌^◌, List, [], length, IfErr, IfOk, MatchOption};
-ghost use Rattle.std.specs.Prelude.{None, OnOk, replicate, ⊤};
-ghost use Rattle.mn_base.specs.declared.ids.ClientNo.{ClientNo as ClientNumber};
+ghost use Rattle.std.specs.Prelude.{◌≡◌, ◌≤◌, ◌<◌, ◌^◌, List, length, IfErr, MatchOption};
+ghost use Rattle.std.specs.Prelude.{OnOk, ⊤};
 ghost use Rattle.mn_mini.specs.RecordGrammar.{IsTid};
 ghost use Rattle.mn_script.specs.Script.{IsAct};
 ghost use Rattle.mn_world.specs.Calls.{issues_of};
 ghost use Rattle.mn_world.specs.declared.entry.Entry.{Entry};
-ghost use Rattle.mn_world.specs.Protocol.{Start, run_number, start_nodes, start_of};
-ghost use Rattle.mn_replay.specs.Acts.{as_role};
-ghost use Rattle.mn_replay.specs.Begins.{AreNewClients, AreNewDesks};
-ghost use Rattle.mn_replay.specs.Causes.{IsCaused};
-ghost use Rattle.mn_replay.specs.Clients.{IsClient, IsOfRun, last_shared, past_of};
-ghost use Rattle.mn_replay.specs.Desks.{IsDesk};
+ghost use Rattle.mn_world.specs.Protocol.{start_of};
+ghost use Rattle.mn_callers.specs.Acts.{as_role};
+ghost use Rattle.mn_callers.specs.Causes.{IsCaused};
+ghost use Rattle.mn_callers.specs.Clients.{IsClient, IsOfRun, last_shared, past_of};
+ghost use Rattle.mn_callers.specs.Desks.{IsDesk};
 ghost use Rattle.mn_replay.specs.Follows.{IsPlayed};
-ghost use Rattle.mn_replay.specs.Logs.{AreFreeIfSound, GoesAs, HasLog, IsFresh, Settles, works_of};
-ghost use Rattle.mn_replay.specs.Plays.{AreCallers, AreReady, HaveNumbers, IsOfSome, IsPlay};
-ghost use Rattle.mn_replay.specs.Plays.{state_of};
-ghost use Rattle.mn_replay.specs.Plays.{StayReady, StaysPlay, list_by};
-ghost use Rattle.mn_replay.specs.Recoveries.{bench_of};
+ghost use Rattle.mn_replay.specs.Logs.{AreFreeIfSound, GoesAs, Settles};
+ghost use Rattle.mn_callers.specs.Logs.{HasLog, IsFresh};
+ghost use Rattle.mn_callers.specs.Plays.{AreReady, IsOfSome, IsPlay};
+ghost use Rattle.mn_replay.specs.Logs.{state_of};
+ghost use Rattle.mn_callers.specs.Plays.{StayReady, StaysPlay};
+ghost use Rattle.mn_callers.specs.Recoveries.{bench_of};
 ghost use Rattle.mn_replay.specs.Schedule.{DoesAct, DoesActs, DoesMove, DoesWork, HaltsNode};
 ghost use Rattle.mn_replay.specs.Schedule.{IsOfClient};
-ghost use Rattle.mn_replay.specs.Schedule.{RecoversFor, RestartsNode, acts_of, last_acts, role_of};
-ghost use Rattle.mn_replay.specs.Settled.{AreUpAndFree};
-ghost use Rattle.mn_replay.specs.Turn.{ExtendsLog, IsTurn, turn_at};
+ghost use Rattle.mn_replay.specs.Schedule.{RecoversFor, RestartsNode, acts_of, last_acts};
+ghost use Rattle.mn_callers.specs.Acts.{role_of};
+ghost use Rattle.mn_callers.specs.Settled.{AreUpAndFree};
+ghost use Rattle.mn_callers.specs.Turn.{ExtendsLog, IsTurn, turn_at};
 
-use crate::client::Client;
-use crate::desk::Desk;
-use crate::settle::{CLOSER, Closer};
-use crate::table::Table;
 use mn_actors::{Actor, Pass};
 use mn_base::{ClientNo, NoMemory, NodeNo, Op, Tid};
+use mn_callers::{CLOSER, Callers, Client, Desk, FIRST_RECOVERER, Table};
 use mn_cell::{Named, RunCause};
 use mn_io::Disk;
 use mn_script::{Act, Point, Script};
-use mn_world::{ClientList, CoreLaw};
+use mn_world::CoreLaw;
 use std::alloc::Global;
-
-/// The actor that is recovery coordinator 1.
-const FIRST_RECOVERER: u8 = 17;
-
-/// The most recovery coordinators.
-const RECOVERERS: u8 = 4;
-
-/// The callers of a run: its clients and recovery coordinators, and the coordinator that opens and
-/// closes.
-#[derive(Drop)]
-pub struct Callers {
-    pub clients: Vec<Client>,
-    pub desks: Vec<Desk>,
-    pub closer: Closer,
-}
-
-/// The clients of a script, of which none has done anything. NoMemory: there was no memory for
-/// them.
-fn new_clients(alloc: Global, script: &Script, run: u32) -> Result<Vec<Client>, NoMemory>
-    requires run { 1 ≤ run }
-    ensures count { IfOk result (λ clients. length clients.items ≡ length script.now.clients) }
-    ensures few { IfOk result (λ clients. length clients.items ≤ 16) }
-    ensures new { IfOk result (λ clients. AreNewClients run script.now clients.items) }
-{
-    let count = script.clients().len();
-    let mut clients = Vec::with_capacity(alloc, count)?;
-    for at in 0..count {
-        let client = ClientNo(at as u8);
-        clients.push(Client::new(alloc, client, run, script.nodes(), script.points())?)?;
-    }
-    Ok(clients)
-}
-
-/// The recovery coordinators, of which none has done anything. NoMemory: there was no memory for
-/// them.
-fn new_desks(alloc: Global) -> Result<Vec<Desk>, NoMemory>
-    ensures count { IfOk result (λ desks. length desks.items ≡ 4) }
-    ensures new { IfOk result (λ desks. AreNewDesks desks.items) }
-{
-    let mut desks = Vec::with_capacity(alloc, usize::from(RECOVERERS))?;
-    for at in 0..RECOVERERS {
-        desks.push(Desk::new(alloc, ClientNo(FIRST_RECOVERER + at)))?;
-    }
-    Ok(desks)
-}
-
-impl Callers {
-    /// The callers of a script, of which none has done anything. NoMemory: there was no memory for
-    /// them.
-    pub fn new(alloc: Global, script: &Script, run: u32) -> Result<Callers, NoMemory>
-        requires run { 1 ≤ run }
-        ensures callers { (start : Start) → run ≡ run_number start
-            → script.now.nodes ≡ start_nodes start
-            → IfOk result (AreCallers start script.now) }
-        ensures ready { (start : Start) → run ≡ run_number start
-            → script.now.nodes ≡ start_nodes start
-            → IfOk result (AreReady start script.now) }
-        ensures empty { (c : ClientNumber) → IfOk result (λ callers. list_by callers c ≡ []) }
-        ensures numbers { IfOk result HaveNumbers }
-        ensures idle { IfOk result (λ callers. works_of callers ≡ replicate 4 None) }
-        ensures few { IfOk result (λ callers. length callers.clients.items ≤ 16) }
-        ensures desks { IfOk result (λ callers. length callers.desks.items ≡ 4) }
-    {
-        Ok(Callers {
-            clients: new_clients(alloc, script, run)?,
-            desks: new_desks(alloc)?,
-            closer: Closer {
-                list: ClientList::new(alloc, CLOSER),
-            },
-        })
-    }
-}
 
 /// A run of a script that is under way: `rest` owns the callers that have no turn. A turn begins
 /// where the pass is split that owns its actor alone: all that stands in the log by then stands

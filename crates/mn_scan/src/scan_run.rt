@@ -67,7 +67,7 @@ fn is_last(bound: &Option<Key>, fence: &Option<Key>) -> bool
 /// A scan on its way through the leaves of a frozen version. It stands at a key, walks from the
 /// root to the leaf that covers it, takes that leaf's pairs, and goes on at the leaf's high fence
 /// (Minuet, PVLDB 2012).
-#[derive(Debug, Drop)]
+#[derive(Debug)]
 pub struct ScanRun {
     tree: VersionTree,
     version: VersionNo,
@@ -85,6 +85,31 @@ pub struct ScanRun {
     began: bool,
     ended: bool,
     pairs: Vec<Pair>,
+}
+
+/// It is let go by a call, which is proved once, and not in place wherever one goes.
+impl Drop for ScanRun {
+    fn drop(self) {
+        let ScanRun {
+            tree,
+            version: _version,
+            root: _root,
+            low,
+            high,
+            limit: _limit,
+            at,
+            needed: _needed,
+            above: _above,
+            began: _began,
+            ended: _ended,
+            pairs,
+        } = self;
+        drop(tree);
+        drop(low);
+        drop(high);
+        drop(at);
+        drop(pairs);
+    }
 }
 
 impl Model for ScanRun {
@@ -282,6 +307,20 @@ impl ScanRun {
     pub fn into_pairs(self) -> Pairs
         ensures { result ≡ self.pairs }
     {
-        Pairs::from_vec(self.pairs)
+        let ScanRun {
+            tree: _tree,
+            version: _version,
+            root: _root,
+            low: _low,
+            high: _high,
+            limit: _limit,
+            at: _at,
+            needed: _needed,
+            above: _above,
+            began: _began,
+            ended: _ended,
+            pairs,
+        } = self;
+        Pairs::from_vec(pairs)
     }
 }

@@ -14,7 +14,7 @@ use Rattle.mn_script.specs.declared.elements.ScriptClient.{ScriptClient}
 use Rattle.mn_script.specs.declared.elements.Point.TheVariants.{Kill, Stop}
 use Rattle.mn_script.specs.declared.elements.Act.TheVariants as acts
 use Rattle.mn_script.specs.Words.{Text, word_at, next_at, column_at, name_word, number_word, key_word, value_word}
-use Rattle.mn_script.specs.Lines.{name_at, number_at, key_at, value_at, bound_at, absent_or_is, want_at, literal, get_step, put_step, del_step, check_step, step_at, entry_at, steps_at, few_steps, tx_op, put_op, get_op, del_op, snapshot_op, branch_op, scan_op, op_at, client_named, client_at, ops_of, stop_word, target_at, kill_point, stop_point, by_client, by_node, by_recoverer, act_at}
+use Rattle.mn_script.specs.Lines.{name_at, number_at, key_at, value_at, bound_at, absent_or_is, want_at, literal, get_step, put_step, del_step, check_step, step_at, entry_at, steps_at, few_steps, tx_op, put_op, get_op, del_op, snapshot_op, branch_op, scan_op, other_op, op_at, client_named, client_at, ops_of, stop_word, target_at, kill_point, stop_point, by_client, by_node, by_recoverer, other_act, act_at}
 use Rattle.mn_script.specs.Script.{IsKey, IsValue, IsStep, IsOp, IsTarget, IsPoint, IsRecovery, IsAct}
 use Rattle.mn_script.proofs.Parts.{Right, right-ok, right-err, right-bind, right-if, right-either, right-told, right-end, at_most, some-map, some-either, name_right, IsWithin, number_right, key_right, value_right}
 
@@ -169,7 +169,7 @@ scan_op-right line at =
     right-end IsOp line k.1 (Scan v.0 low.0 high.0 k.0) (n, l, h, r.0, r.1)))))
 
 pub op_at-right : (line : Text) → Right IsOp (op_at line)
-unfolding op_at
+unfolding op_at other_op
 op_at-right line =
     right-either IsOp (bytes_eq (word_at line 0) (codes "put")) _ _ (put_op-right line (next_at line 0)) (
     right-either IsOp (bytes_eq (word_at line 0) (codes "get")) _ _ (get_op-right line (next_at line 0)) (
@@ -244,7 +244,7 @@ by_recoverer-right recoverers clients line at =
     right-bind (InClients clients) (InRecovery recoverers clients) _ _ (by_client-right clients line r.1) (λ c h. right-ok (InRecovery recoverers clients) (r.0, c) (l.0, l.1, h)))
 
 pub act_at-right : (nodes recoverers : ℕ) (clients : List ScriptClient) (line : Text) → 1 ≤ nodes → Right (IsAct nodes recoverers clients) (act_at (nodes - 1) recoverers clients line)
-unfolding act_at
+unfolding act_at other_act
 act_at-right nodes recoverers clients line some =
     let at = next_at line 0 in
     right-either (IsAct nodes recoverers clients) (bytes_eq (word_at line 0) (codes "step")) _ _ (right-bind (InClients clients) (IsAct nodes recoverers clients) _ _ (by_client-right clients line at) (λ c h. right-ok (IsAct nodes recoverers clients) (acts.Step c) h)) (

@@ -1,4 +1,5 @@
 pub mod LineLemmas
+pub mod Loops
 pub mod Parts
 pub mod Kept
 pub mod Drafts

@@ -9,7 +9,7 @@ use Rattle.mn_base.specs.declared.op.Op.{Op}
 use Rattle.mn_base.specs.declared.op.Op.TheVariants.{Tx, Snapshot, Branch, Scan, Versions}
 use Rattle.mn_report.specs.Spelling.{word_of, spaced, spaced_number}
 use Rattle.mn_script.specs.Words.{Text, Part, word_at, next_at, column_at, ◌>>=◌, told_at, end_at, name_word, number_word, key_word, value_word}
-use Rattle.mn_script.specs.Lines.{name_at, number_at, key_at, value_at, bound_at, absent_or_is, want_at, literal, literal_at, get_step, put_step, del_step, check_step, step_at, entry_at, steps_at, few_steps, tx_op, put_op, get_op, del_op, snapshot_op, branch_op, scan_op, op_at}
+use Rattle.mn_script.specs.Lines.{name_at, number_at, key_at, value_at, bound_at, absent_or_is, want_at, literal, literal_at, get_step, put_step, del_step, check_step, step_at, entry_at, steps_at, few_steps, tx_op, put_op, get_op, del_op, snapshot_op, branch_op, scan_op, other_op, op_at}
 use Rattle.mn_script.specs.Script.{IsKey, IsValue, IsStep, IsOp}
 use Rattle.mn_script.specs.Grammar.{want_text, step_text, more_text, steps_text, bound_text, op_text}
 use Rattle.mn_script.proofs.Texts.{From, from-append, from-spaced, le-true, Tail, At, at_front, at_length, word_at-is, next_at-is, Says, says-told, says-bind, ok-bind, ends, is_end, goes_on}
@@ -258,7 +258,7 @@ op_by-is Versions line at a is = ends Versions line at a
 
 -- the line of an operation says that operation
 pub op_at-is : (op : Op) → IsOp op → op_at (op_text op) ≡ Ok op
-unfolding op_at
+unfolding op_at other_op
 op_at-is op is = ap (λ (w : Text). op_by w (op_text op) (next_at (op_text op) 0)) (verb-is op) ∙ op_by-is op (op_text op) (next_at (op_text op) 0) (rest-at op) is
 
 -- A line has no byte below a space

@@ -15,7 +15,7 @@ use Rattle.mn_script.specs.declared.elements.Point.TheVariants.{Kill, Stop}
 use Rattle.mn_script.specs.declared.elements.Act.{Act}
 use Rattle.mn_script.specs.declared.elements.Act.TheVariants as acts
 use Rattle.mn_script.specs.Words.{Text, word_at, next_at, column_at, ◌>>=◌, told_at, end_at}
-use Rattle.mn_script.specs.Lines.{number_at, literal, literal_at, client_named, client_at, ops_of, stop_word, target_at, kill_point, stop_point, by_client, by_node, by_recoverer, act_at}
+use Rattle.mn_script.specs.Lines.{number_at, literal, literal_at, client_named, client_at, ops_of, stop_word, target_at, kill_point, stop_point, by_client, by_node, by_recoverer, other_act, act_at}
 use Rattle.mn_script.specs.Script.{IsClient, AreClients, IsTarget, IsPoint, IsRecovery, IsAct}
 use Rattle.mn_script.specs.Grammar.{name_of, stop_text, point_text, act_text}
 use Rattle.mn_script.proofs.Texts.{From, from-append, Tail, At, at_front, word_at-is, next_at-is, Says, says-told, says-bind, ok-bind, ends}
@@ -212,7 +212,7 @@ act_by-is nodes recoverers cs (acts.Recover recoverer client) line at a few low 
 
 -- the line of an act says that act
 pub act_at-is : (nodes recoverers : ℕ) (cs : List ScriptClient) (act : Act) → nodes ≤ 8 → recoverers ≤ 4 → AreClients cs → IsAct nodes recoverers cs act → act_at (nodes - 1) recoverers cs (act_text cs act) ≡ Ok act
-unfolding act_at
+unfolding act_at other_act
 act_at-is nodes recoverers cs act few low are is =
     let line = act_text cs act in
     let front : At line 0 (spaced (act_verb act) ++ act_rest cs act) = (omega arith, ap (λ (l : Text). spaced l) (act_text-is cs act)) in

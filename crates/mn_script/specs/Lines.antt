@@ -137,11 +137,24 @@ unfoldable pub branch_op : Text → ℕ → Result Op ℕ
 branch_op line at =
     name_at line at >>= λ v. name_at line v.1 >>= λ w. end_at line w.1 (Branch v.0 w.0)
 
+-- a scan between these bounds, with its limit
+abbrev pub limited_scan : Text → Option Text → Option Text → Text → ℕ → Result Op ℕ
+limited_scan version low high line at =
+    number_at 1 1000 line at >>= λ n. end_at line n.1 (Scan version low high n.0)
+
 unfoldable pub scan_op : Text → ℕ → Result Op ℕ
 scan_op line at =
     name_at line at >>= λ v. bound_at line v.1 >>= λ low. bound_at line low.1 >>= λ high.
-    number_at 1 1000 line high.1 >>= λ n.
-    end_at line n.1 (Scan v.0 low.0 high.0 n.0)
+    limited_scan v.0 low.0 high.0 line high.1
+
+-- an operation with this first word that is no transaction
+unfoldable pub other_op : Text → Text → ℕ → Result Op ℕ
+other_op word line at =
+    if bytes_eq word (codes "snapshot") then snapshot_op line at
+    else (if bytes_eq word (codes "branch") then branch_op line at
+    else (if bytes_eq word (codes "scan") then scan_op line at
+    else (if bytes_eq word (codes "versions") then end_at line at Versions
+    else Err (column_at line 0))))
 
 -- the operation of a line
 unfoldable pub op_at : Text → Result Op ℕ
@@ -151,12 +164,7 @@ op_at line =
     if bytes_eq word (codes "put") then put_op line at
     else (if bytes_eq word (codes "get") then get_op line at
     else (if bytes_eq word (codes "del") then del_op line at
-    else (if bytes_eq word (codes "tx") then tx_op line at
-    else (if bytes_eq word (codes "snapshot") then snapshot_op line at
-    else (if bytes_eq word (codes "branch") then branch_op line at
-    else (if bytes_eq word (codes "scan") then scan_op line at
-    else (if bytes_eq word (codes "versions") then end_at line at Versions
-    else Err (column_at line 0))))))))
+    else (if bytes_eq word (codes "tx") then tx_op line at else other_op word line at)))
 
 -- Clients
 
@@ -218,6 +226,18 @@ unfoldable pub by_recoverer : ℕ → List ScriptClient → Text → ℕ → Res
 by_recoverer recoverers clients line at =
     number_at 1 recoverers line at >>= λ r. by_client clients line r.1 >>= λ c. Ok (r.0, c)
 
+-- an act with this first word that names not just a client
+unfoldable pub other_act : ℕ → ℕ → List ScriptClient → Text → Text → ℕ → Result Act ℕ
+other_act last recoverers clients word line at =
+    if bytes_eq word (codes "halt") then (by_node last line at >>= λ m. Ok (acts.Halt m))
+    else (if bytes_eq word (codes "restart")
+    then (by_node last line at >>= λ m. Ok (acts.Restart m))
+    else (if bytes_eq word (codes "rstep")
+    then (by_recoverer recoverers clients line at >>= λ r. Ok (acts.Rstep r.0 r.1))
+    else (if bytes_eq word (codes "recover")
+    then (by_recoverer recoverers clients line at >>= λ r. Ok (acts.Recover r.0 r.1))
+    else Err (column_at line 0))))
+
 -- the act of a line
 unfoldable pub act_at : ℕ → ℕ → List ScriptClient → Text → Result Act ℕ
 act_at last recoverers clients line =
@@ -227,14 +247,7 @@ act_at last recoverers clients line =
     else (if bytes_eq word (codes "plan") then (by_client clients line at >>= λ c. Ok (acts.Plan c))
     else (if bytes_eq word (codes "go") then (by_client clients line at >>= λ c. Ok (acts.Go c))
     else (if bytes_eq word (codes "all") then (by_client clients line at >>= λ c. Ok (acts.All c))
-    else (if bytes_eq word (codes "halt") then (by_node last line at >>= λ m. Ok (acts.Halt m))
-    else (if bytes_eq word (codes "restart")
-    then (by_node last line at >>= λ m. Ok (acts.Restart m))
-    else (if bytes_eq word (codes "rstep")
-    then (by_recoverer recoverers clients line at >>= λ r. Ok (acts.Rstep r.0 r.1))
-    else (if bytes_eq word (codes "recover")
-    then (by_recoverer recoverers clients line at >>= λ r. Ok (acts.Recover r.0 r.1))
-    else Err (column_at line 0))))))))
+    else other_act last recoverers clients word line at)))
 
 -- Marks
 

@@ -3,7 +3,7 @@ ghost use Rattle.mn_base.specs.declared.ids.NodeNo.{NodeNo};
 ghost use Rattle.mn_base.specs.declared.ids.ClientNo.{ClientNo};
 ghost use Rattle.mn_script.specs.Words.{Gives, GivesPart};
 ghost use Rattle.mn_script.specs.Lines.{number_at, client_at, by_client, by_node, by_recoverer};
-ghost use Rattle.mn_script.specs.Lines.{act_at, AreFew};
+ghost use Rattle.mn_script.specs.Lines.{act_at, other_act, AreFew};
 
 use crate::clients::client;
 use crate::elements::Act;
@@ -55,6 +55,39 @@ fn recoverer_of(
     Ok((recoverer as u8, client))
 }
 
+/// The act of a line that begins with this word, where it names not just a client.
+#[tactic(auto, unfolding(crate::specs::Lines::other_act))]
+fn other_act(
+    last: u8,
+    recoverers: u8,
+    clients: &Roster,
+    line: &[u8],
+    word: &[u8],
+    at: usize,
+) -> Result<Act, LineError>
+    requires at { at ≤ length line.now + 1 }
+    requires clients { AreFew clients.now }
+    ensures { Gives result (other_act last recoverers clients.now word.now line.now at) }
+{
+    if word == b"halt".as_slice() {
+        let node = node_of(last, line, at)?;
+        return Ok(Act::Halt { node });
+    }
+    if word == b"restart".as_slice() {
+        let node = node_of(last, line, at)?;
+        return Ok(Act::Restart { node });
+    }
+    if word == b"rstep".as_slice() {
+        let (recoverer, client) = recoverer_of(recoverers, clients, line, at)?;
+        return Ok(Act::Rstep { recoverer, client });
+    }
+    if word == b"recover".as_slice() {
+        let (recoverer, client) = recoverer_of(recoverers, clients, line, at)?;
+        return Ok(Act::Recover { recoverer, client });
+    }
+    Err(wrong(line, 0))
+}
+
 /// The act of a line, where the nodes go up to the last and there are so many recovery
 /// coordinators.
 #[tactic(auto, unfolding(crate::specs::Lines::act_at))]
@@ -80,21 +113,5 @@ pub fn act_of(last: u8, recoverers: u8, clients: &Roster, line: &[u8]) -> Result
         let client = client_of(clients, line, at)?;
         return Ok(Act::All { client });
     }
-    if word == b"halt".as_slice() {
-        let node = node_of(last, line, at)?;
-        return Ok(Act::Halt { node });
-    }
-    if word == b"restart".as_slice() {
-        let node = node_of(last, line, at)?;
-        return Ok(Act::Restart { node });
-    }
-    if word == b"rstep".as_slice() {
-        let (recoverer, client) = recoverer_of(recoverers, clients, line, at)?;
-        return Ok(Act::Rstep { recoverer, client });
-    }
-    if word == b"recover".as_slice() {
-        let (recoverer, client) = recoverer_of(recoverers, clients, line, at)?;
-        return Ok(Act::Recover { recoverer, client });
-    }
-    Err(wrong(line, 0))
+    other_act(last, recoverers, clients, line, word, at)
 }

@@ -1,6 +1,6 @@
 ghost use Rattle.std.specs.Prelude.{◌≡◌, ◌≤◌, ◌<◌, ◌+◌, ◌-◌, ◌^◌, length, Option, Some, None};
 ghost use Rattle.std.specs.Prelude.{option_map, IfSome, OnOk, OnErr, IfOk, IsOkUnless, not};
-ghost use Rattle.std.specs.Prelude.{is_some, bytes_eq, codes};
+ghost use Rattle.std.specs.Prelude.{is_some, bytes_eq, codes, IsTrue};
 ghost use Rattle.mn_script.specs.Words.{word_at, told_at, Gives, GivesPart};
 ghost use Rattle.mn_script.specs.Lines.{client_named};
 ghost use Rattle.mn_script.specs.Script.{steps_in, limit_in};
@@ -27,7 +27,7 @@ use std::marker::Model;
 
 /// Which lines may come next: the nodes; the recovery coordinators or a section; a section; the
 /// operations of a client; crash points; acts. Where sections may come the later parts may too.
-#[derive(Clone, Copy, Debug, PartialEq, Eq)]
+#[derive(Clone, Copy, PartialEq, Eq)]
 pub enum Phase {
     Start,
     Head,
@@ -38,7 +38,7 @@ pub enum Phase {
 }
 
 /// What the lines so far say.
-#[derive(Debug, Drop)]
+#[derive(Drop)]
 pub struct Draft {
     phase: Phase,
     nodes: u8,
@@ -124,6 +124,21 @@ impl Draft {
             && u64::from(self.limits) + u64::from(limit_of(op)) <= 100_000
     }
 
+    /// Adds an operation, for which there is room, to the last client.
+    fn push_op(&mut self, op: Op) -> Result<(), LineError>
+        requires some { 1 ≤ length self.old.clients }
+        requires room { IsTrue (fits_op self.old op) }
+        ensures { GivesDraft result self.new (add_op self.old op) }
+    {
+        let steps = steps_of(&op) as u32;
+        let limit = limit_of(&op);
+        self.clients.push_op(op)?;
+        self.ops += 1;
+        self.steps += steps;
+        self.limits += limit;
+        Ok(())
+    }
+
     /// Adds an operation to the last client.
     fn add_op(&mut self, op: Op) -> Result<(), LineError>
         requires { 1 ≤ length self.old.clients }
@@ -132,13 +147,7 @@ impl Draft {
         if !self.has_room(&op) {
             return Err(LineError::Wrong { column: 1 });
         }
-        let steps = steps_of(&op) as u32;
-        let limit = limit_of(&op);
-        self.clients.push_op(op)?;
-        self.ops += 1;
-        self.steps += steps;
-        self.limits += limit;
-        Ok(())
+        self.push_op(op)
     }
 
     #[tactic(auto, unfolding(crate::specs::Reading::op_line))]

@@ -12,7 +12,7 @@ pub enum ScriptError {
 }
 
 /// Why a line was refused.
-#[derive(Clone, Copy, Debug)]
+#[derive(Clone, Copy)]
 pub enum LineError {
     /// The first wrong word stands at this column, counted from 1.
     Wrong { column: usize },

@@ -1,12 +1,12 @@
 ghost use Rattle.std.specs.Prelude.{◌≡◌, ◌≤◌, ◌+◌, [], ◌∷◌, length, IfOk};
 ghost use Rattle.mn_script.specs.Words.{Gives, end_at};
 ghost use Rattle.mn_script.specs.Lines.{few_steps, tx_op, put_op, get_op, del_op, snapshot_op};
-ghost use Rattle.mn_script.specs.Lines.{branch_op, scan_op, op_at};
+ghost use Rattle.mn_script.specs.Lines.{branch_op, scan_op, limited_scan, other_op, op_at};
 
 use crate::error::LineError;
 use crate::steps::{del, get, put, steps};
 use crate::words::{bound, end, name, next, number, word, wrong};
-use mn_base::{BaseError, Name, NoMemory, Op, Step, Steps};
+use mn_base::{BaseError, Key, Name, NoMemory, Op, Step, Steps};
 use std::alloc::Global;
 
 /// A transaction of one step.
@@ -23,6 +23,24 @@ fn one_step(alloc: Global, version: Name, step: Step) -> Result<Op, NoMemory>
         Err(BaseError::BadName { .. }) => unreachable!(),
         Err(BaseError::NoMemory) => Err(NoMemory),
     }
+}
+
+/// A transaction of one step, whose line ends there.
+fn lone(alloc: Global, line: &[u8], at: usize, version: Name, step: Step) -> Result<Op, LineError>
+    requires { at ≤ length line.now + 1 }
+    ensures { Gives result (end_at line.now at (Op.Tx version (step ∷ []))) }
+{
+    end(line, at)?;
+    Ok(one_step(alloc, version, step)?)
+}
+
+/// An operation whose line ends there.
+fn ended(line: &[u8], at: usize, op: Op) -> Result<Op, LineError>
+    requires { at ≤ length line.now + 1 }
+    ensures { Gives result (end_at line.now at op) }
+{
+    end(line, at)?;
+    Ok(op)
 }
 
 /// A transaction of these steps, of which there is at least one.
@@ -58,8 +76,7 @@ fn put_of(alloc: Global, line: &[u8], at: usize) -> Result<Op, LineError>
     let mut at = at;
     let version = name(alloc, line, &mut at)?;
     let step = put(alloc, line, &mut at)?;
-    end(line, at)?;
-    Ok(one_step(alloc, version, step)?)
+    lone(alloc, line, at, version, step)
 }
 
 #[tactic(auto, unfolding(crate::specs::Lines::get_op))]
@@ -70,8 +87,7 @@ fn get_of(alloc: Global, line: &[u8], at: usize) -> Result<Op, LineError>
     let mut at = at;
     let version = name(alloc, line, &mut at)?;
     let step = get(alloc, line, &mut at)?;
-    end(line, at)?;
-    Ok(one_step(alloc, version, step)?)
+    lone(alloc, line, at, version, step)
 }
 
 #[tactic(auto, unfolding(crate::specs::Lines::del_op))]
@@ -82,8 +98,7 @@ fn del_of(alloc: Global, line: &[u8], at: usize) -> Result<Op, LineError>
     let mut at = at;
     let version = name(alloc, line, &mut at)?;
     let step = del(alloc, line, &mut at)?;
-    end(line, at)?;
-    Ok(one_step(alloc, version, step)?)
+    lone(alloc, line, at, version, step)
 }
 
 #[tactic(auto, unfolding(crate::specs::Lines::snapshot_op))]
@@ -94,8 +109,7 @@ fn snapshot_of(alloc: Global, line: &[u8], at: usize) -> Result<Op, LineError>
     let mut at = at;
     let version = name(alloc, line, &mut at)?;
     let child = name(alloc, line, &mut at)?;
-    end(line, at)?;
-    Ok(Op::Snapshot { version, child })
+    ended(line, at, Op::Snapshot { version, child })
 }
 
 #[tactic(auto, unfolding(crate::specs::Lines::branch_op))]
@@ -106,8 +120,29 @@ fn branch_of(alloc: Global, line: &[u8], at: usize) -> Result<Op, LineError>
     let mut at = at;
     let version = name(alloc, line, &mut at)?;
     let child = name(alloc, line, &mut at)?;
+    ended(line, at, Op::Branch { version, child })
+}
+
+/// A scan between these bounds, whose line ends behind its limit.
+fn limited(
+    line: &[u8],
+    at: usize,
+    version: Name,
+    low: Option<Key>,
+    high: Option<Key>,
+) -> Result<Op, LineError>
+    requires { at ≤ length line.now + 1 }
+    ensures { Gives result (limited_scan version low high line.now at) }
+{
+    let mut at = at;
+    let limit = number(line, &mut at, 1, 1000)?;
     end(line, at)?;
-    Ok(Op::Branch { version, child })
+    Ok(Op::Scan {
+        version,
+        low,
+        high,
+        limit,
+    })
 }
 
 #[tactic(auto, unfolding(crate::specs::Lines::scan_op))]
@@ -119,22 +154,28 @@ fn scan_of(alloc: Global, line: &[u8], at: usize) -> Result<Op, LineError>
     let version = name(alloc, line, &mut at)?;
     let low = bound(alloc, line, &mut at)?;
     let high = bound(alloc, line, &mut at)?;
-    let limit = number(line, &mut at, 1, 1000)?;
-    end(line, at)?;
-    Ok(Op::Scan {
-        version,
-        low,
-        high,
-        limit,
-    })
+    limited(line, at, version, low, high)
 }
 
-fn versions_of(line: &[u8], at: usize) -> Result<Op, LineError>
+/// The operation of a line that begins with this word, if it is no transaction.
+#[tactic(auto, unfolding(crate::specs::Lines::other_op))]
+fn other_op(alloc: Global, line: &[u8], word: &[u8], at: usize) -> Result<Op, LineError>
     requires { at ≤ length line.now + 1 }
-    ensures { Gives result (end_at line.now at Op.Versions) }
+    ensures { Gives result (other_op word.now line.now at) }
 {
-    end(line, at)?;
-    Ok(Op::Versions)
+    if word == b"snapshot".as_slice() {
+        return snapshot_of(alloc, line, at);
+    }
+    if word == b"branch".as_slice() {
+        return branch_of(alloc, line, at);
+    }
+    if word == b"scan".as_slice() {
+        return scan_of(alloc, line, at);
+    }
+    if word == b"versions".as_slice() {
+        return ended(line, at, Op::Versions);
+    }
+    Err(wrong(line, 0))
 }
 
 /// The operation of a line.
@@ -156,17 +197,5 @@ pub fn op_of(alloc: Global, line: &[u8]) -> Result<Op, LineError>
     if word == b"tx".as_slice() {
         return tx_of(alloc, line, at);
     }
-    if word == b"snapshot".as_slice() {
-        return snapshot_of(alloc, line, at);
-    }
-    if word == b"branch".as_slice() {
-        return branch_of(alloc, line, at);
-    }
-    if word == b"scan".as_slice() {
-        return scan_of(alloc, line, at);
-    }
-    if word == b"versions".as_slice() {
-        return versions_of(line, at);
-    }
-    Err(wrong(line, 0))
+    other_op(alloc, line, word, at)
 }

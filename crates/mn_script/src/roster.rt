@@ -12,7 +12,7 @@ use std::collections::BTreeMap;
 use std::marker::Model;
 
 /// The clients of a script so far, in order, with a map by which one is found by its name.
-#[derive(Debug, Drop)]
+#[derive(Drop)]
 pub struct Roster {
     clients: Vec<ScriptClient>,
     numbers: BTreeMap<Vec<u8>, usize>,
@@ -81,8 +81,8 @@ impl Roster {
         ensures kept { OnErr result (self.new ≡ self.old) }
         ensures memory { IsOkUnless result LineError.NoMemory }
     {
-        let key = name.as_slice().to_vec(alloc)?;
         self.clients.reserve(1)?;
+        let key = name.as_slice().to_vec(alloc)?;
         self.numbers.insert(key, self.clients.len())?;
         self.clients.push_reserved(ScriptClient {
             name,

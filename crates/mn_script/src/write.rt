@@ -9,7 +9,7 @@ ghost use Rattle.mn_script.specs.Grammar.{head_text, schedule_text, script_text}
 
 use crate::elements::{Act, Mark, Point, ScriptClient};
 use crate::script::Script;
-use mn_base::{Bytes, ClientNo, Key, NoMemory, Op, Step, StopAt, Value};
+use mn_base::{Bytes, ClientNo, Key, Name, NoMemory, Op, Step, StopAt, Value};
 use mn_report::{push_spaced_number, push_word};
 use std::alloc::{AllocError, Global};
 
@@ -25,6 +25,36 @@ fn push_spaced_word(out: &mut Vec<u8>, bytes: &[u8]) -> Result<(), AllocError>
 {
     out.push(b' ')?;
     push_word(out, bytes)
+}
+
+/// Adds a word and a name, with a space between them.
+fn push_named(out: &mut Vec<u8>, word: &[u8], name: &[u8]) -> Result<(), AllocError>
+    ensures { OnOk result (out.new.items ≡ out.old.items ++ (word.now ++ spaced name.now)) }
+{
+    out.extend_from_slice(word)?;
+    push_spaced(out, name)
+}
+
+/// Adds a word and a number, with a space between them.
+fn push_numbered(
+    alloc: Global,
+    out: &mut Vec<u8>,
+    word: &[u8],
+    number: u8,
+) -> Result<(), AllocError>
+    ensures { OnOk result (out.new.items ≡ out.old.items ++ (word.now ++ spaced_number number)) }
+{
+    out.extend_from_slice(word)?;
+    push_spaced_number(alloc, out, u64::from(number))
+}
+
+/// Adds a word and a key, with a space between them.
+fn push_keyed(out: &mut Vec<u8>, word: &[u8], key: &Key) -> Result<(), AllocError>
+    ensures { OnOk result (out.new.items
+        ≡ out.old.items ++ (word.now ++ spaced (word_of key.now))) }
+{
+    out.extend_from_slice(word)?;
+    push_spaced_word(out, key.as_slice())
 }
 
 fn push_want(out: &mut Vec<u8>, want: &Option<Value>) -> Result<(), AllocError>
@@ -43,22 +73,14 @@ fn push_step(out: &mut Vec<u8>, step: &Step) -> Result<(), AllocError>
     ensures { OnOk result (out.new.items ≡ out.old.items ++ step_text step.now) }
 {
     match step {
-        Step::Get { key } => {
-            out.extend_from_slice(b" get")?;
-            push_spaced_word(out, key.as_slice())
-        }
+        Step::Get { key } => push_keyed(out, b" get", key),
         Step::Put { key, value } => {
-            out.extend_from_slice(b" put")?;
-            push_spaced_word(out, key.as_slice())?;
+            push_keyed(out, b" put", key)?;
             push_spaced_word(out, value.as_slice())
         }
-        Step::Del { key } => {
-            out.extend_from_slice(b" del")?;
-            push_spaced_word(out, key.as_slice())
-        }
+        Step::Del { key } => push_keyed(out, b" del", key),
         Step::Check { key, want } => {
-            out.extend_from_slice(b" check")?;
-            push_spaced_word(out, key.as_slice())?;
+            push_keyed(out, b" check", key)?;
             push_want(out, want)
         }
     }
@@ -95,36 +117,54 @@ fn push_bound(out: &mut Vec<u8>, bound: &Option<Key>) -> Result<(), AllocError>
     }
 }
 
+/// Adds the first word of an operation that makes a child, with the names of both versions.
+fn push_family(
+    out: &mut Vec<u8>,
+    word: &[u8],
+    version: &Name,
+    child: &Name,
+) -> Result<(), AllocError>
+    ensures { OnOk result (out.new.items
+        ≡ out.old.items ++ (word.now ++ (spaced version.now ++ spaced child.now))) }
+{
+    push_named(out, word, version.as_slice())?;
+    push_spaced(out, child.as_slice())
+}
+
+/// Adds the bounds of a scan and its limit.
+fn push_range(
+    alloc: Global,
+    out: &mut Vec<u8>,
+    low: &Option<Key>,
+    high: &Option<Key>,
+    limit: u32,
+) -> Result<(), AllocError>
+    ensures { OnOk result (out.new.items ≡ out.old.items
+        ++ (bound_text low.now ++ (bound_text high.now ++ spaced_number limit))) }
+{
+    push_bound(out, low)?;
+    push_bound(out, high)?;
+    push_spaced_number(alloc, out, u64::from(limit))
+}
+
 fn push_op(alloc: Global, out: &mut Vec<u8>, op: &Op) -> Result<(), AllocError>
     ensures { OnOk result (out.new.items ≡ out.old.items ++ op_text op.now) }
 {
     match op {
         Op::Tx { version, steps } => {
-            out.extend_from_slice(b"tx")?;
-            push_spaced(out, version.as_slice())?;
+            push_named(out, b"tx", version.as_slice())?;
             push_steps(out, steps.as_slice())
         }
-        Op::Snapshot { version, child } => {
-            out.extend_from_slice(b"snapshot")?;
-            push_spaced(out, version.as_slice())?;
-            push_spaced(out, child.as_slice())
-        }
-        Op::Branch { version, child } => {
-            out.extend_from_slice(b"branch")?;
-            push_spaced(out, version.as_slice())?;
-            push_spaced(out, child.as_slice())
-        }
+        Op::Snapshot { version, child } => push_family(out, b"snapshot", version, child),
+        Op::Branch { version, child } => push_family(out, b"branch", version, child),
         Op::Scan {
             version,
             low,
             high,
             limit,
         } => {
-            out.extend_from_slice(b"scan")?;
-            push_spaced(out, version.as_slice())?;
-            push_bound(out, low)?;
-            push_bound(out, high)?;
-            push_spaced_number(alloc, out, u64::from(*limit))
+            push_named(out, b"scan", version.as_slice())?;
+            push_range(alloc, out, low, high, *limit)
         }
         Op::Versions => out.extend_from_slice(b"versions"),
     }
@@ -186,17 +226,6 @@ fn name_at(clients: &[ScriptClient], client: ClientNo) -> &[u8]
     }
 }
 
-/// Adds a space and the name of the client with this number.
-fn push_name(
-    out: &mut Vec<u8>,
-    clients: &[ScriptClient],
-    client: ClientNo,
-) -> Result<(), AllocError>
-    ensures { OnOk result (out.new.items ≡ out.old.items ++ spaced (name_of clients.now client.0)) }
-{
-    push_spaced(out, name_at(clients, client))
-}
-
 fn push_stop(out: &mut Vec<u8>, at: StopAt) -> Result<(), AllocError>
     ensures { OnOk result (out.new.items ≡ out.old.items ++ stop_text at) }
 {
@@ -205,6 +234,40 @@ fn push_stop(out: &mut Vec<u8>, at: StopAt) -> Result<(), AllocError>
         StopAt::Half => out.extend_from_slice(b" half"),
         StopAt::After => out.extend_from_slice(b" after"),
     }
+}
+
+/// Adds the death of a client.
+fn push_kill(
+    alloc: Global,
+    out: &mut Vec<u8>,
+    client: &[u8],
+    number: u32,
+    votes: u8,
+) -> Result<(), AllocError>
+    ensures { OnOk result (out.new.items ≡ out.old.items ++ (codes "kill" ++ (spaced client.now
+        ++ (spaced_number number ++ (codes " votes" ++ spaced_number votes))))) }
+{
+    push_named(out, b"kill", client)?;
+    push_spaced_number(alloc, out, u64::from(number))?;
+    push_numbered(alloc, out, b" votes", votes)
+}
+
+/// Adds the stop of a node.
+fn push_node_stop(
+    alloc: Global,
+    out: &mut Vec<u8>,
+    node: u8,
+    client: &[u8],
+    number: u32,
+    at: StopAt,
+) -> Result<(), AllocError>
+    ensures { OnOk result (out.new.items ≡ out.old.items ++ (codes "stop" ++ (spaced_number node
+        ++ (spaced client.now ++ (spaced_number number ++ stop_text at))))) }
+{
+    push_numbered(alloc, out, b"stop", node)?;
+    push_spaced(out, client)?;
+    push_spaced_number(alloc, out, u64::from(number))?;
+    push_stop(out, at)
 }
 
 fn push_point(
@@ -220,25 +283,13 @@ fn push_point(
             client,
             number,
             votes,
-        } => {
-            out.extend_from_slice(b"kill")?;
-            push_name(out, clients, *client)?;
-            push_spaced_number(alloc, out, u64::from(*number))?;
-            out.extend_from_slice(b" votes")?;
-            push_spaced_number(alloc, out, u64::from(*votes))
-        }
+        } => push_kill(alloc, out, name_at(clients, *client), *number, *votes),
         Point::Stop {
             node,
             client,
             number,
             at,
-        } => {
-            out.extend_from_slice(b"stop")?;
-            push_spaced_number(alloc, out, u64::from(node.0))?;
-            push_name(out, clients, *client)?;
-            push_spaced_number(alloc, out, u64::from(*number))?;
-            push_stop(out, *at)
-        }
+        } => push_node_stop(alloc, out, node.0, name_at(clients, *client), *number, *at),
     }
 }
 
@@ -258,6 +309,21 @@ fn push_points(
     Ok(())
 }
 
+/// Adds the first word of an act, the number of a recovery coordinator and the name of a client.
+fn push_recovery(
+    alloc: Global,
+    out: &mut Vec<u8>,
+    word: &[u8],
+    recoverer: u8,
+    client: &[u8],
+) -> Result<(), AllocError>
+    ensures { OnOk result (out.new.items
+        ≡ out.old.items ++ (word.now ++ (spaced_number recoverer ++ spaced client.now))) }
+{
+    push_numbered(alloc, out, word, recoverer)?;
+    push_spaced(out, client)
+}
+
 fn push_act(
     alloc: Global,
     out: &mut Vec<u8>,
@@ -267,39 +333,19 @@ fn push_act(
     ensures { OnOk result (out.new.items ≡ out.old.items ++ act_text clients.now act.now) }
 {
     match act {
-        Act::Step { client } => {
-            out.extend_from_slice(b"step")?;
-            push_name(out, clients, *client)
-        }
-        Act::Plan { client } => {
-            out.extend_from_slice(b"plan")?;
-            push_name(out, clients, *client)
-        }
-        Act::Go { client } => {
-            out.extend_from_slice(b"go")?;
-            push_name(out, clients, *client)
-        }
-        Act::All { client } => {
-            out.extend_from_slice(b"all")?;
-            push_name(out, clients, *client)
-        }
-        Act::Halt { node } => {
-            out.extend_from_slice(b"halt")?;
-            push_spaced_number(alloc, out, u64::from(node.0))
-        }
-        Act::Restart { node } => {
-            out.extend_from_slice(b"restart")?;
-            push_spaced_number(alloc, out, u64::from(node.0))
-        }
+        Act::Step { client } => push_named(out, b"step", name_at(clients, *client)),
+        Act::Plan { client } => push_named(out, b"plan", name_at(clients, *client)),
+        Act::Go { client } => push_named(out, b"go", name_at(clients, *client)),
+        Act::All { client } => push_named(out, b"all", name_at(clients, *client)),
+        Act::Halt { node } => push_numbered(alloc, out, b"halt", node.0),
+        Act::Restart { node } => push_numbered(alloc, out, b"restart", node.0),
         Act::Rstep { recoverer, client } => {
-            out.extend_from_slice(b"rstep")?;
-            push_spaced_number(alloc, out, u64::from(*recoverer))?;
-            push_name(out, clients, *client)
+            let client = name_at(clients, *client);
+            push_recovery(alloc, out, b"rstep", *recoverer, client)
         }
         Act::Recover { recoverer, client } => {
-            out.extend_from_slice(b"recover")?;
-            push_spaced_number(alloc, out, u64::from(*recoverer))?;
-            push_name(out, clients, *client)
+            let client = name_at(clients, *client);
+            push_recovery(alloc, out, b"recover", *recoverer, client)
         }
     }
 }
@@ -330,8 +376,7 @@ fn push_number_line(
     ensures { OnOk result (out.new.items
         ≡ out.old.items ++ line (word.now ++ spaced_number number)) }
 {
-    out.extend_from_slice(word)?;
-    push_spaced_number(alloc, out, u64::from(number))?;
+    push_numbered(alloc, out, word, number)?;
     out.push(b'\n')?;
     Ok(())
 }

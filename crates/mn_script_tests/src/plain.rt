@@ -3,34 +3,63 @@ use mn_plain::{MAX_VERSIONS, Store};
 use std::alloc::Global;
 use std::test::Fail;
 
-fn put(alloc: Global, key: &[u8], value: &[u8]) -> Result<Step, Fail> {
-    Ok(Step::Put {
-        key: Key::new(alloc, key)?,
-        value: Value::new(alloc, value)?,
-    })
+/// What a reply says.
+#[derive(Clone, Copy)]
+enum Said {
+    Values,
+    Made,
+    Frozen,
+    NameTaken,
+    VersionsFull,
+    Other,
 }
 
-fn tx(alloc: Global, version: &[u8], step: Step) -> Result<Op, Fail> {
+fn told(reply: &Reply) -> Said {
+    match reply {
+        Reply::Values { .. } => Said::Values,
+        Reply::Made => Said::Made,
+        Reply::Frozen => Said::Frozen,
+        Reply::NameTaken => Said::NameTaken,
+        Reply::VersionsFull => Said::VersionsFull,
+        _ => Said::Other,
+    }
+}
+
+/// What the store replies.
+fn reply_to(alloc: Global, store: &mut Store, op: &Op) -> Result<Said, Fail> {
+    let reply = store.apply(alloc, op)?;
+    Ok(told(&reply))
+}
+
+/// The step that puts this value at `k`.
+fn k_is(alloc: Global, value: &[u8]) -> Result<Steps, Fail> {
     let mut steps = Vec::new(alloc);
-    steps.push(step)?;
-    Ok(Op::Tx {
-        version: Name::new(alloc, version)?,
-        steps: Steps::new(steps)?,
-    })
+    steps.push(Step::Put {
+        key: Key::new(alloc, b"k")?,
+        value: Value::new(alloc, value)?,
+    })?;
+    Ok(Steps::new(steps)?)
 }
 
-fn snapshot(alloc: Global, version: &[u8], child: &[u8]) -> Result<Op, Fail> {
-    Ok(Op::Snapshot {
-        version: Name::new(alloc, version)?,
-        child: Name::new(alloc, child)?,
-    })
+/// Puts this value at `k` in a version.
+fn put(alloc: Global, store: &mut Store, version: &[u8], value: &[u8]) -> Result<Said, Fail> {
+    let version = Name::new(alloc, version)?;
+    let steps = k_is(alloc, value)?;
+    reply_to(alloc, store, &Op::Tx { version, steps })
 }
 
-fn branch(alloc: Global, version: &[u8], child: &[u8]) -> Result<Op, Fail> {
-    Ok(Op::Branch {
-        version: Name::new(alloc, version)?,
-        child: Name::new(alloc, child)?,
-    })
+/// Makes a snapshot of `main` whose child has this name.
+fn snapshot(alloc: Global, store: &mut Store, child: &[u8]) -> Result<Said, Fail> {
+    let version = Name::new(alloc, b"main")?;
+    let child = Name::new(alloc, child)?;
+    reply_to(alloc, store, &Op::Snapshot { version, child })
+}
+
+/// Makes a branch of `main` of this name.
+fn branch(alloc: Global, store: &mut Store, child: &[u8]) -> Result<Said, Fail> {
+    let version = Name::new(alloc, b"main")?;
+    let child = Name::new(alloc, child)?;
+    reply_to(alloc, store, &Op::Branch { version, child })
 }
 
 /// The digest of a version, if it is there.
@@ -54,37 +83,62 @@ const K_IS_W: [u8; 32] = [
     0x37, 0x7D, 0x58, 0xB2, 0xBF, 0xEE, 0x60, 0xA9, 0xB3, 0x9A, 0xFF, 0x58, 0x64, 0x44, 0x1C, 0x7D,
 ];
 
+/// Whether `main` takes a Put, is frozen by a snapshot, and then its child takes one.
+fn is_frozen(alloc: Global, store: &mut Store) -> Result<bool, Fail> {
+    Ok(
+        matches!(put(alloc, store, b"main", b"v")?, Said::Values)
+            && matches!(snapshot(alloc, store, b"next")?, Said::Made)
+            && matches!(put(alloc, store, b"main", b"w")?, Said::Frozen)
+            && matches!(put(alloc, store, b"next", b"w")?, Said::Values),
+    )
+}
+
+/// Whether there are `main`, where `k` is `v`, and its child, where `k` is `w`, and no other.
+fn has_both(alloc: Global, store: &Store) -> Result<bool, Fail> {
+    Ok(
+        digest_of(alloc, store, VersionNo(0))? == Some(K_IS_V)
+            && digest_of(alloc, store, VersionNo(1))? == Some(K_IS_W)
+            && digest_of(alloc, store, VersionNo(2))? == None,
+    )
+}
+
 #[test]
 fn a_snapshot_keeps_what_it_had(rt: HostRuntime) -> Result<(), Fail> {
     let alloc = rt.alloc();
     let mut store = Store::new(alloc)?;
-    store.apply(alloc, &tx(alloc, b"main", put(alloc, b"k", b"v")?)?)?;
-    let made = store.apply(alloc, &snapshot(alloc, b"main", b"next")?)?;
-    assert!(rt; matches!(made, Reply::Made));
-    let refused = store.apply(alloc, &tx(alloc, b"main", put(alloc, b"k", b"w")?)?)?;
-    assert!(rt; matches!(refused, Reply::Frozen));
-    store.apply(alloc, &tx(alloc, b"next", put(alloc, b"k", b"w")?)?)?;
-    assert!(rt; digest_of(alloc, &store, VersionNo(0))? == Some(K_IS_V));
-    assert!(rt; digest_of(alloc, &store, VersionNo(1))? == Some(K_IS_W));
-    assert!(rt; digest_of(alloc, &store, VersionNo(2))? == None);
+    assert!(rt; is_frozen(alloc, &mut store)?);
+    assert!(rt; has_both(alloc, &store)?);
     Ok(())
+}
+
+/// Whether 62 branches are made beside `main` and its child `v`.
+fn is_filled(alloc: Global, store: &mut Store) -> Result<bool, Fail> {
+    if !matches!(snapshot(alloc, store, b"v")?, Said::Made) {
+        return Ok(false);
+    }
+    for n in 2..MAX_VERSIONS {
+        let name = [b'a' + (n / 26) as u8, b'a' + (n % 26) as u8];
+        if !matches!(branch(alloc, store, &name)?, Said::Made) {
+            return Ok(false);
+        }
+    }
+    Ok(true)
+}
+
+/// Whether there are so many versions that no branch of another name is made.
+fn is_full(alloc: Global, store: &mut Store) -> Result<bool, Fail> {
+    Ok(
+        matches!(branch(alloc, store, b"v")?, Said::NameTaken)
+            && matches!(branch(alloc, store, b"w")?, Said::VersionsFull)
+            && store.listing(alloc)?.as_slice().len() == MAX_VERSIONS,
+    )
 }
 
 #[test]
 fn the_65th_version_is_refused(rt: HostRuntime) -> Result<(), Fail> {
     let alloc = rt.alloc();
     let mut store = Store::new(alloc)?;
-    let made = store.apply(alloc, &snapshot(alloc, b"main", b"v")?)?;
-    assert!(rt; matches!(made, Reply::Made));
-    for n in 2..MAX_VERSIONS {
-        let name = [b'a' + (n / 26) as u8, b'a' + (n % 26) as u8];
-        let made = store.apply(alloc, &branch(alloc, b"main", &name)?)?;
-        assert!(rt; matches!(made, Reply::Made));
-    }
-    let taken = store.apply(alloc, &branch(alloc, b"main", b"v")?)?;
-    assert!(rt; matches!(taken, Reply::NameTaken));
-    let full = store.apply(alloc, &branch(alloc, b"main", b"w")?)?;
-    assert!(rt; matches!(full, Reply::VersionsFull));
-    assert!(rt; store.listing(alloc)?.as_slice().len() == MAX_VERSIONS);
+    assert!(rt; is_filled(alloc, &mut store)?);
+    assert!(rt; is_full(alloc, &mut store)?);
     Ok(())
 }

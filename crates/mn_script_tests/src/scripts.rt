@@ -12,8 +12,11 @@ fn place(alloc: Global, text: &[u8]) -> Result<Option<(u32, u32)>, NoMemory> {
     }
 }
 
-/// Texts and the places at which they are refused.
-const HEADS: &[(&[u8], u32, u32)] = &[
+/// A text, and the line and column at which it is refused.
+type Row = (&'static [u8], u32, u32);
+
+/// Texts, and the line and column at which they are refused.
+const HEADS: &[Row] = &[
     (b"", 1, 1),
     (b"\n\n# x\n", 4, 1),
     (b"#", 2, 1),
@@ -50,65 +53,68 @@ const HEADS: &[(&[u8], u32, u32)] = &[
     (b"#\n\nnodes 1\n# x\nclient  a", 5, 8),
 ];
 
-/// Lines behind `nodes 1` and `client a`, and the columns at which they are refused.
-const OPERATIONS: &[(&[u8], u32)] = &[
-    (b"put main k", 11),
-    (b"put main", 9),
-    (b"put", 4),
-    (b"put Main k v", 5),
-    (b"put main % v", 10),
-    (b"put main %41 v", 10),
-    (b"put main %2F v", 10),
-    (b"put main a;b v", 10),
-    (b"put main a%b v", 10),
-    (b"put main %2 v", 10),
-    (b"put main k %0", 12),
-    (b"put main k v w", 14),
-    (b"put main k  v", 12),
-    (b"put main  k v", 10),
-    (b"put main k v ", 14),
-    (b"put main kkkkkkkkkkkkkkkkkkkkkkkkkkkkkkkkk v", 10),
+/// Lines behind a head, and the line and column at which they are refused.
+const OPERATIONS: &[Row] = &[
+    (b"put main k", 3, 11),
+    (b"put main", 3, 9),
+    (b"put", 3, 4),
+    (b"put Main k v", 3, 5),
+    (b"put main % v", 3, 10),
+    (b"put main %41 v", 3, 10),
+    (b"put main %2F v", 3, 10),
+    (b"put main a;b v", 3, 10),
+    (b"put main a%b v", 3, 10),
+    (b"put main %2 v", 3, 10),
+    (b"put main k %0", 3, 12),
+    (b"put main k v w", 3, 14),
+    (b"put main k  v", 3, 12),
+    (b"put main  k v", 3, 10),
+    (b"put main k v ", 3, 14),
+    (b"put main kkkkkkkkkkkkkkkkkkkkkkkkkkkkkkkkk v", 3, 10),
     (
         b"put main k vvvvvvvvvvvvvvvvvvvvvvvvvvvvvvvvvvvvvvvvvvvvvvvvvvvvvvvvvvvvvvvvv",
+        3,
         12,
     ),
-    (b"snapshot main nnnnnnnnnnnnnnnnn", 15),
-    (b"snapshot main", 14),
-    (b"branch main m x", 15),
-    (b"scan main % %", 14),
-    (b"scan main % % 0", 15),
-    (b"scan main % % 1001", 15),
-    (b"scan main % % 010", 15),
-    (b"scan main k", 12),
-    (b"scan main % k% 1", 13),
-    (b"versions all", 10),
-    (b"versions ", 10),
-    (b"tx main", 8),
-    (b"tx main ;", 9),
-    (b"tx main get k ;", 16),
-    (b"tx main get k ; ", 17),
-    (b"tx main get k get k", 15),
-    (b"tx main check k", 16),
-    (b"tx main check k is", 19),
-    (b"tx main check k was v", 17),
-    (b"tx main check k absent v", 24),
-    (b"tx main scan k", 9),
+    (b"snapshot main nnnnnnnnnnnnnnnnn", 3, 15),
+    (b"snapshot main", 3, 14),
+    (b"branch main m x", 3, 15),
+    (b"scan main % %", 3, 14),
+    (b"scan main % % 0", 3, 15),
+    (b"scan main % % 1001", 3, 15),
+    (b"scan main % % 010", 3, 15),
+    (b"scan main k", 3, 12),
+    (b"scan main % k% 1", 3, 13),
+    (b"versions all", 3, 10),
+    (b"versions ", 3, 10),
+    (b"tx main", 3, 8),
+    (b"tx main ;", 3, 9),
+    (b"tx main get k ;", 3, 16),
+    (b"tx main get k ; ", 3, 17),
+    (b"tx main get k get k", 3, 15),
+    (b"tx main check k", 3, 16),
+    (b"tx main check k is", 3, 19),
+    (b"tx main check k was v", 3, 17),
+    (b"tx main check k absent v", 3, 24),
+    (b"tx main scan k", 3, 9),
     (
         b"tx main get k ; get k ; get k ; get k ; get k ; get k ; get k ; get k ; get k ; get k ; get k ; get k ; get k ; get k ; get k ; get k ; get k",
+        3,
         1,
     ),
     (
         b"tx main get k ; get k ; get k ; get k ; get k ; get k ; get k ; get k ; get k ; get k ; get k ; get k ; get k ; get k ; get k ; get k ; get k ; x",
+        3,
         145,
     ),
-    (b"get main k\0", 10),
-    (b"flush", 1),
-    (b" # x", 1),
-    (b"get main k\r", 10),
+    (b"get main k\0", 3, 10),
+    (b"flush", 3, 1),
+    (b" # x", 3, 1),
+    (b"get main k\r", 3, 10),
 ];
 
-/// Lines behind one operation, and the places at which they are refused.
-const LATER: &[(&[u8], u32, u32)] = &[
+/// Lines behind one operation, and the line and column at which they are refused.
+const LATER: &[Row] = &[
     (b"kill", 4, 5),
     (b"kill b 1 votes 1", 4, 6),
     (b"kill a 2 votes 1", 4, 8),
@@ -147,100 +153,141 @@ const SCRIPTS: &[&[u8]] = &[
     b"nodes 2\nrecoverers 1\nclient a\ndel main k\nkill a 1 votes 8\nstop 1 a 1 half\nschedule\n# x\nstep a\nplan a\ngo a\nall a\nhalt 1\nrestart 1\nrstep 1 a\nrecover 1 a\n",
 ];
 
-fn joined(alloc: Global, front: &[u8], back: &[u8]) -> Result<Vec<u8>, NoMemory> {
+/// Whether these two, one behind the other, are refused at this place.
+fn is_refused(
+    alloc: Global,
+    front: &[u8],
+    back: &[u8],
+    line: u32,
+    column: u32,
+) -> Result<bool, NoMemory> {
     let mut text = front.to_vec(alloc)?;
     text.extend_from_slice(back)?;
-    Ok(text)
+    Ok(place(alloc, &text)? == Some((line, column)))
+}
+
+/// Whether each row is refused at its place behind this front.
+fn are_refused(alloc: Global, front: &[u8], rows: &[Row]) -> Result<bool, NoMemory> {
+    for (text, line, column) in rows {
+        if !is_refused(alloc, front, text, *line, *column)? {
+            return Ok(false);
+        }
+    }
+    Ok(true)
 }
 
 #[test]
-fn faults_are_named_by_line_and_column(rt: HostRuntime) -> Result<(), Fail> {
-    for (text, line, column) in HEADS {
-        assert!(rt; place(rt.alloc(), text)? == Some((*line, *column)));
-    }
-    for (line, column) in OPERATIONS {
-        let text = joined(rt.alloc(), b"nodes 1\nclient a\n", line)?;
-        assert!(rt; place(rt.alloc(), &text)? == Some((3, *column)));
-    }
-    for (lines, line, column) in LATER {
-        let text = joined(rt.alloc(), b"nodes 1\nclient a\nput main k v\n", lines)?;
-        assert!(rt; place(rt.alloc(), &text)? == Some((*line, *column)));
-    }
+fn faults_of_a_head_are_named_by_line_and_column(rt: HostRuntime) -> Result<(), Fail> {
+    assert!(rt; are_refused(rt.alloc(), b"", HEADS)?);
+    Ok(())
+}
+
+#[test]
+fn faults_of_an_operation_are_named_by_line_and_column(rt: HostRuntime) -> Result<(), Fail> {
+    assert!(rt; are_refused(rt.alloc(), b"nodes 1\nclient a\n", OPERATIONS)?);
+    Ok(())
+}
+
+#[test]
+fn faults_behind_operations_are_named_by_line_and_column(rt: HostRuntime) -> Result<(), Fail> {
+    assert!(rt; are_refused(rt.alloc(), b"nodes 1\nclient a\nput main k v\n", LATER)?);
+    Ok(())
+}
+
+#[test]
+fn scripts_are_not_refused(rt: HostRuntime) -> Result<(), Fail> {
     for text in SCRIPTS {
         assert!(rt; place(rt.alloc(), text)? == None);
     }
     Ok(())
 }
 
-/// A text of a head and so many times the same line.
-fn repeated(alloc: Global, head: &[u8], line: &[u8], count: u32) -> Result<Vec<u8>, NoMemory> {
-    let mut text = head.to_vec(alloc)?;
+/// Puts so many times the same line behind a text.
+fn repeat(text: &mut Vec<u8>, line: &[u8], count: u32) -> Result<(), NoMemory> {
     for _ in 0..count {
         text.extend_from_slice(line)?;
     }
-    Ok(text)
+    Ok(())
 }
 
-/// A head, a line, how often it may come, and the line at which it comes too often.
-const LIMITS: &[(&[u8], &[u8], u32, u32)] = &[
-    (b"nodes 1\nclient a\n", b"versions\n", 2000, 2003),
-    (b"nodes 1\nclient a\n", b"scan main % % 1000\n", 100, 103),
+/// The most clients that a script may have.
+const CLIENTS: &[u8] =
+    b"nodes 1\nclient a\nclient b\nclient c\nclient d\nclient e\nclient f\nclient g\nclient h\nclient i\nclient j\nclient k\nclient l\nclient m\nclient n\nclient o\nclient p\n";
+
+/// A head, a line, how often it may come, and the line and column at which it comes too often.
+type Limit = (&'static [u8], &'static [u8], u32, u32, u32);
+
+const LIMITS: &[Limit] = &[
+    (b"nodes 1\nclient a\n", b"versions\n", 2000, 2003, 1),
+    (b"nodes 1\nclient a\n", b"scan main % % 1000\n", 100, 103, 1),
     (
         b"nodes 1\nclient a\n",
         b"tx main get k ; get k ; get k ; get k ; get k ; get k ; get k ; get k ; get k ; get k ; get k ; get k ; get k ; get k ; get k ; get k\n",
         1250,
         1253,
+        1,
     ),
     (
         b"nodes 1\nclient a\nversions\n",
         b"kill a 1 votes 1\n",
         64,
         68,
+        1,
     ),
-    (b"nodes 1\nclient a\nschedule\n", b"go a\n", 20000, 20004),
+    (b"nodes 1\nclient a\nschedule\n", b"go a\n", 20000, 20004, 1),
+    (CLIENTS, b"client q", 0, 18, 1),
+    (CLIENTS, b"client p", 0, 18, 8),
+    (b"nodes 1\n", b"#", 4_194_296, 0, 0),
 ];
+
+/// Whether a text is a script, and is refused at this place with this line behind it.
+fn is_full(
+    alloc: Global,
+    text: &[u8],
+    line: &[u8],
+    at: u32,
+    column: u32,
+) -> Result<bool, NoMemory> {
+    Ok(place(alloc, text)? == None && is_refused(alloc, text, line, at, column)?)
+}
+
+/// A head and so many times the same line.
+fn repeated(alloc: Global, head: &[u8], line: &[u8], count: u32) -> Result<Vec<u8>, NoMemory> {
+    let mut text = head.to_vec(alloc)?;
+    repeat(&mut text, line, count)?;
+    Ok(text)
+}
+
+/// Whether the line may come so often, and not once more.
+fn is_met(alloc: Global, limit: &Limit) -> Result<bool, NoMemory> {
+    let (head, line, count, at, column) = limit;
+    let within = repeated(alloc, head, line, *count)?;
+    is_full(alloc, &within, line, *at, *column)
+}
 
 #[test]
 fn limits_are_met_at_both_sides(rt: HostRuntime) -> Result<(), Fail> {
-    for (head, line, count, at) in LIMITS {
-        let within = repeated(rt.alloc(), head, line, *count)?;
-        assert!(rt; place(rt.alloc(), &within)? == None);
-        let beyond = joined(rt.alloc(), &within, line)?;
-        assert!(rt; place(rt.alloc(), &beyond)? == Some((*at, 1)));
+    for limit in LIMITS {
+        assert!(rt; is_met(rt.alloc(), limit)?);
     }
-    let clients =
-        b"nodes 1\nclient a\nclient b\nclient c\nclient d\nclient e\nclient f\nclient g\nclient h\nclient i\nclient j\nclient k\nclient l\nclient m\nclient n\nclient o\nclient p\n";
-    assert!(rt; place(rt.alloc(), clients)? == None);
-    let more = joined(rt.alloc(), clients, b"client q")?;
-    assert!(rt; place(rt.alloc(), &more)? == Some((18, 1)));
-    let twice = joined(rt.alloc(), clients, b"client p")?;
-    assert!(rt; place(rt.alloc(), &twice)? == Some((18, 8)));
-    let longest = repeated(rt.alloc(), b"nodes 1\n", b"#", 4_194_296)?;
-    assert!(rt; place(rt.alloc(), &longest)? == None);
-    let longer = joined(rt.alloc(), &longest, b"#")?;
-    assert!(rt; place(rt.alloc(), &longer)? == Some((0, 0)));
     Ok(())
 }
 
-/// Sections with all the operations that they may have.
-const FULL: &[&[u8]] = &[b"client a\n", b"client b\n", b"client c\n", b"client d\n"];
-
-/// A text of these sections, each of 2,000 operations.
+/// A text of four clients, each of 2,000 operations, and of one that has none.
 fn full(alloc: Global) -> Result<Vec<u8>, NoMemory> {
     let mut text = b"nodes 1\n".to_vec(alloc)?;
-    for section in FULL {
-        text.extend_from_slice(section)?;
-        text = repeated(alloc, &text, b"versions\n", 2000)?;
+    for client in [b"client a\n", b"client b\n", b"client c\n", b"client d\n"] {
+        text.extend_from_slice(client)?;
+        repeat(&mut text, b"versions\n", 2000)?;
     }
+    text.extend_from_slice(b"client e\n")?;
     Ok(text)
 }
 
 #[test]
 fn operations_of_all_clients_are_counted(rt: HostRuntime) -> Result<(), Fail> {
-    let within = joined(rt.alloc(), &full(rt.alloc())?, b"client e\n")?;
-    assert!(rt; place(rt.alloc(), &within)? == None);
-    let beyond = joined(rt.alloc(), &within, b"versions\n")?;
-    assert!(rt; place(rt.alloc(), &beyond)? == Some((8007, 1)));
+    let alloc = rt.alloc();
+    assert!(rt; is_full(alloc, &full(alloc)?, b"versions\n", 8007, 1)?);
     Ok(())
 }
 
@@ -257,15 +304,17 @@ const SPELLINGS: &[(&[u8], &[u8])] = &[
     ),
 ];
 
+/// Whether the script that a text spells is written so.
+fn is_written(alloc: Global, text: &[u8], written: &[u8]) -> Result<bool, Fail> {
+    let script = read_script(alloc, text)?;
+    Ok(write_script(alloc, &script)?.as_slice() == written)
+}
+
 #[test]
 fn what_is_written_is_read_again(rt: HostRuntime) -> Result<(), Fail> {
+    let alloc = rt.alloc();
     for (text, written) in SPELLINGS {
-        let script = read_script(rt.alloc(), text)?;
-        let once = write_script(rt.alloc(), &script)?;
-        assert!(rt; once.as_slice() == *written);
-        let again = read_script(rt.alloc(), once.as_slice())?;
-        let twice = write_script(rt.alloc(), &again)?;
-        assert!(rt; twice.as_slice() == *written);
+        assert!(rt; is_written(alloc, text, written)? && is_written(alloc, written, written)?);
     }
     Ok(())
 }

@@ -17,7 +17,7 @@ use Rattle.mn_node.specs.State.{AreRecords, NodeState}
 use Rattle.mn_node.proofs.Steps.{rose_later}
 use Rattle.mn_redo.specs.Grammar.{Stands}
 use Rattle.mn_redo.specs.Redo.{RedoState, StandsFor}
-use Rattle.mn_replay.specs.Trace.{MayBegin}
+use Rattle.mn_callers.specs.Trace.{MayBegin}
 use Rattle.mn_script.specs.Script.{Script}
 use Rattle.mn_world.specs.declared.entry.Entry.{Entry}
 use Rattle.mn_world.specs.Opened.{AreSound}

@@ -15,9 +15,9 @@ use Rattle.mn_node.specs.Node.{StandsWithOrWithout, bodies_of}
 use Rattle.mn_node.specs.State.{NodeState}
 use Rattle.mn_node.proofs.Steps.{rose_later}
 use Rattle.mn_redo.specs.Redo.{StandsFor}
-use Rattle.mn_replay.specs.Failed.{FailsSo, HadOther, HasCause, IsRunOn, TellsRun}
+use Rattle.mn_callers.specs.Failed.{FailsSo, HadOther, HasCause, IsRunOn, TellsRun}
 use Rattle.mn_replay.specs.Follows.{Follows}
-use Rattle.mn_replay.specs.Trace.{AreHandedBack, IsHandedBack, IsQuiet, IsTrace, StartsSound, start_on}
+use Rattle.mn_callers.specs.Trace.{AreHandedBack, IsHandedBack, IsQuiet, IsTrace, StartsSound, start_on}
 use Rattle.mn_script.specs.Script.{Script}
 use Rattle.mn_world.specs.declared.entry.Entry.{Entry}
 use Rattle.mn_world.specs.Calls.{node_entries}

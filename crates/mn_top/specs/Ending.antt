@@ -8,7 +8,7 @@ use Rattle.mn_flat.specs.Refusal.{RefusesRecords}
 use Rattle.mn_forest.specs.Refusal.{RefusesMemory}
 use Rattle.mn_io.specs.DiskModel.{DiskState}
 use Rattle.mn_mini.specs.declared.record.Record.{Record}
-use Rattle.mn_replay.specs.Failed.{HadOther, RoseBeyond}
+use Rattle.mn_callers.specs.Failed.{HadOther, RoseBeyond}
 use Rattle.mn_script.specs.Script.{Script}
 use Rattle.mn_world.specs.declared.entry.Entry.{Entry}
 use Rattle.mn_world.specs.Calls.{node_entries}

@@ -13,7 +13,7 @@ use Rattle.mn_mini.specs.declared.record.Record.{Record}
 use Rattle.mn_node.specs.Node.{StandsWithOrWithout, bodies_of}
 use Rattle.mn_redo.specs.Redo.{StandsFor}
 use Rattle.mn_replay.specs.Follows.{Follows}
-use Rattle.mn_replay.specs.Trace.{IsQuiet}
+use Rattle.mn_callers.specs.Trace.{IsQuiet}
 use Rattle.mn_report.specs.declared.report.Report.{Report}
 use Rattle.mn_report.specs.Report.{report_text}
 use Rattle.mn_script.specs.Script.{Script}

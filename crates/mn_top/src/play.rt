@@ -3,7 +3,7 @@ ghost use Rattle.std.specs.Prelude.{◌≡◌, ◌≤◌, ◌+◌, ◌++◌, ◌
 ghost use Rattle.std.specs.Prelude.{reverse, vec_capacity};
 ghost use Rattle.mn_base.specs.Store.{Store};
 ghost use Rattle.mn_mini.specs.declared.record.Record.{Record};
-ghost use Rattle.mn_replay.specs.Trace.{MayBegin, start_on};
+ghost use Rattle.mn_callers.specs.Trace.{MayBegin, start_on};
 ghost use Rattle.mn_top.specs.Ending.{ComesTo};
 ghost use Rattle.mn_top.specs.Logs.{AllCloseSo, AllRead, AreReady, AreStarted, IsToldOf, MakeStart};
 ghost use Rattle.mn_top.specs.Logs.{MayAllBeStarted, WerentStarted, due_of_failing};

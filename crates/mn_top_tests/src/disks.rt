@@ -4,7 +4,6 @@ use mn_base::{NoMemory, NodeNo};
 use mn_memdisk::MemoryDisk;
 use mn_redo::Redo;
 use std::alloc::Global;
-use std::process::Abort;
 use std::sync::Wait;
 use std::test::Fail;
 use std::thread::Threads;
@@ -19,62 +18,69 @@ const V_IS_THERE: &str =
 const NOTHING_IS_THERE: &str =
     "a 1 ok -\nhistory 1\n1 a 1\nversion main - writable 0 e3b0c44298fc1c149afbf4c8996fb92427ae41e4649b934ca495991b7852b855\nend\n";
 
-/// One disk with these bytes.
-fn one_disk(alloc: Global, content: &[u8]) -> Result<Vec<MemoryDisk>, NoMemory> {
+/// One disk with these bytes, whose calls with these numbers fail.
+fn one_disk(alloc: Global, content: &[u8], fails: &[u64]) -> Result<Vec<MemoryDisk>, NoMemory> {
     let mut disks = Vec::new(alloc);
-    disks.push(disk_of(alloc, content, &[])?)?;
+    disks.push(disk_of(alloc, content, fails)?)?;
     Ok(disks)
 }
 
-/// Replays a get on one disk with these bytes, which ends with this status and text.
-fn get_prints<T: Threads + Wait + Sync + Abort + AllocGlobal>(
+/// Whether a replay of a get on one disk with these bytes ends with this status and text.
+fn get_prints<T: Threads + Wait + Sync + AllocGlobal>(
     rt: &T,
     content: &[u8],
     status: u8,
     written: &str,
-) -> Result<(), Fail> {
-    let ran = replay(rt, GET, one_disk(rt.alloc(), content)?)?;
-    assert!(rt; ran.sink.written() == written.as_bytes());
-    assert!(rt; ran.outcome.status == status);
-    Ok(())
+) -> Result<bool, Fail> {
+    let ran = replay(rt, GET, one_disk(rt.alloc(), content, &[])?)?;
+    Ok(ran.ended(status, written))
 }
 
 /// The bytes of a fresh disk after one put and one get.
-fn used<T: Threads + Wait + Sync + Abort + AllocGlobal>(rt: &T) -> Result<Vec<u8>, Fail> {
-    let alloc = rt.alloc();
-    let mut ran = replay(rt, PUT_AND_GET, fresh_disks(alloc, 1)?)?;
-    let disk = ran
-        .outcome
-        .disks
-        .pop()
-        .expect(rt, "the disk is handed back");
-    Ok(disk.content().to_vec(alloc)?)
+fn used<T: Threads + Wait + Sync + AllocGlobal>(rt: &T) -> Result<Vec<u8>, Fail> {
+    let ran = replay(rt, PUT_AND_GET, fresh_disks(rt.alloc(), 1)?)?;
+    Ok(ran.content(0).to_vec(rt.alloc())?)
+}
+
+/// The front of that disk.
+const FRONT: &[u8] = &[
+    1, 0x4d, 0x4e, 0x4c, 0x4f, 0x47, 1, 0, 1, 0, 0, 0, 0, 0, 0, 0, 1, 0, 0, 0x08, 0x67, 2, 0, 0, 0,
+    1, 0, 0, 0, 0, 2, 0, 3, 1, 0, 0, 0x50, 0, 0, 0, 4, 0,
+];
+
+#[test]
+fn a_log_begins_with_its_header_and_the_first_put(rt: HostRuntime) -> Result<(), Fail> {
+    let bytes = used(&rt)?;
+    assert!(rt; bytes.len() == 2_173 && bytes.starts_with(FRONT));
+    Ok(())
+}
+
+/// How many bytes are left of that disk, its first gate, and the status and the text on it.
+type Cut = (usize, u8, u8, &'static str);
+
+const CUTS: &[Cut] = &[
+    (2_173, 1, 0, V_IS_THERE),
+    (2_173, 0, 0, NOTHING_IS_THERE),
+    (17, 0, 0, NOTHING_IS_THERE),
+    (1_000, 0, 0, NOTHING_IS_THERE),
+    (1_000, 1, 6, "damaged 0 16 log\n"),
+    (16, 1, 0, NOTHING_IS_THERE),
+];
+
+fn is_read_again<T: Threads + Wait + Sync + AllocGlobal>(rt: &T, cut: &Cut) -> Result<bool, Fail> {
+    let (length, gate, status, written) = cut;
+    let mut content = used(rt)?;
+    if content.len() > 16 {
+        content[16] = *gate;
+    }
+    content.truncate(*length);
+    get_prints(rt, &content, *status, written)
 }
 
 #[test]
 fn a_log_is_read_again(rt: HostRuntime) -> Result<(), Fail> {
-    let alloc = rt.alloc();
-    let bytes = used(&rt)?;
-    let begin = [
-        1, 0x4d, 0x4e, 0x4c, 0x4f, 0x47, 1, 0, 1, 0, 0, 0, 0, 0, 0, 0, 1, 0, 0, 0x08, 0x67, 2, 0,
-        0, 0, 1, 0, 0, 0, 0, 2, 0, 3, 1, 0, 0, 0x50, 0, 0, 0, 4, 0,
-    ];
-    assert!(rt; bytes.len() == 2_173);
-    assert!(rt; bytes.starts_with(&begin));
-    for (length, gate, status, written) in [
-        (2_173, 1, 0, V_IS_THERE),
-        (2_173, 0, 0, NOTHING_IS_THERE),
-        (17, 0, 0, NOTHING_IS_THERE),
-        (1_000, 0, 0, NOTHING_IS_THERE),
-        (1_000, 1, 6, "damaged 0 16 log\n"),
-        (16, 1, 0, NOTHING_IS_THERE),
-    ] {
-        let mut content = bytes.as_slice().to_vec(alloc)?;
-        if content.len() > 16 {
-            content[16] = gate;
-        }
-        content.truncate(length);
-        get_prints(&rt, &content, status, written)?;
+    for cut in CUTS {
+        assert!(rt; is_read_again(&rt, cut)?);
     }
     Ok(())
 }
@@ -96,64 +102,75 @@ fn damaged_behind(alloc: Global, kind: u8) -> Result<Vec<u8>, Fail> {
 fn the_lower_one_of_two_faults_is_told(rt: HostRuntime) -> Result<(), Fail> {
     // A Forced record, and one of a kind that there is not.
     for (kind, written) in [(4, "damaged 0 31 log\n"), (9, "damaged 0 16 log\n")] {
-        get_prints(&rt, &damaged_behind(rt.alloc(), kind)?, 6, written)?;
+        let content = damaged_behind(rt.alloc(), kind)?;
+        assert!(rt; get_prints(&rt, &content, 6, written)?);
     }
     Ok(())
+}
+
+/// The used disk without its last byte, and its one record again.
+fn with_two_records<T: Threads + Wait + Sync + AllocGlobal>(rt: &T) -> Result<Vec<u8>, Fail> {
+    let mut content = used(rt)?;
+    let bytes = used(rt)?;
+    content.truncate(2_172);
+    if bytes.len() > 16 {
+        content.extend_from_slice(&bytes[16..])?;
+    }
+    Ok(content)
 }
 
 /// An execution is the only record of its id: the first of the two is none already.
 #[test]
 fn a_record_that_stands_twice_is_told(rt: HostRuntime) -> Result<(), Fail> {
-    let alloc = rt.alloc();
-    let bytes = used(&rt)?;
-    let mut content = bytes.as_slice().to_vec(alloc)?;
-    content.truncate(2_172);
-    for byte in bytes.as_slice().iter().skip(16) {
-        content.push(*byte)?;
+    assert!(rt; get_prints(&rt, &with_two_records(&rt)?, 6, "damaged 0 0 votes\n")?);
+    Ok(())
+}
+
+/// The used disk, with this last byte of the number of its run.
+fn of_run<T: Threads + Wait + Sync + AllocGlobal>(rt: &T, last: u8) -> Result<Vec<u8>, Fail> {
+    let mut content = used(rt)?;
+    if content.len() > 25 {
+        content[22] = 0xff;
+        content[23] = 0xff;
+        content[24] = 0xff;
+        content[25] = last;
     }
-    get_prints(&rt, &content, 6, "damaged 0 0 votes\n")
+    Ok(content)
 }
 
 #[test]
 fn a_log_without_a_number_for_a_run_is_told(rt: HostRuntime) -> Result<(), Fail> {
     for (last, status, written) in [(0xfd, 0, V_IS_THERE), (0xfe, 6, "damaged 0 0 runs\n")] {
-        let mut content = used(&rt)?;
-        if content.len() > 25 {
-            content[22] = 0xff;
-            content[23] = 0xff;
-            content[24] = 0xff;
-            content[25] = last;
-        }
-        get_prints(&rt, &content, status, written)?;
+        let content = of_run(&rt, last)?;
+        assert!(rt; get_prints(&rt, &content, status, written)?);
     }
     Ok(())
 }
 
-/// Runs a put and a get on a disk whose call of this number fails, and opens what a crash leaves.
-fn fails_at<T: Threads + Wait + Sync + Abort + AllocGlobal>(
+/// How many records what a crash leaves of a disk has; none if it is no log.
+fn left_of(alloc: Global, disk: MemoryDisk, choice: u64) -> Result<Option<u32>, Fail> {
+    match Redo::open(alloc, disk.crash(alloc, choice)?, NodeNo(0), 1) {
+        Ok(log) => Ok(Some(log.count())),
+        Err(_failed) => Ok(None),
+    }
+}
+
+/// Whether a put and a get on a disk whose call of this number fails end with the status that is
+/// due, and a crash then leaves one record or none.
+fn leaves_one_or_none<T: Threads + Wait + Sync + AllocGlobal>(
     rt: &T,
     call: u64,
     choice: u64,
-) -> Result<(), Fail> {
-    let alloc = rt.alloc();
-    let mut disks = Vec::new(alloc);
-    disks.push(disk_of(alloc, &[], &[call])?)?;
-    let mut ran = replay(rt, PUT_AND_GET, disks)?;
+) -> Result<bool, Fail> {
+    let mut ran = replay(rt, PUT_AND_GET, one_disk(rt.alloc(), &[], &[call])?)?;
     // Three calls open the disk, eight write its header; then the put begins.
-    assert!(rt;
-        ran.outcome.status == (if call < 11 { 5 } else { 0 }),
-        "at call {call}"
-    );
-    let disk = ran
-        .outcome
-        .disks
-        .pop()
-        .expect(rt, "the disk is handed back");
-    match Redo::open(alloc, disk.crash(alloc, choice)?, NodeNo(0), 1) {
-        Ok(log) => assert!(rt; log.count() <= 1, "the records after call {call}"),
-        Err(_) => assert!(rt; false, "no log after call {call}"),
+    if ran.outcome.status != (if call < 11 { 5 } else { 0 }) {
+        return Ok(false);
     }
-    Ok(())
+    match ran.outcome.disks.pop() {
+        Some(disk) => Ok(matches!(left_of(rt.alloc(), disk, choice)?, Some(0 | 1))),
+        None => Ok(false),
+    }
 }
 
 /// Of a change that no sync made stable the choices leave nothing, all, the first half and the
@@ -162,7 +179,7 @@ fn fails_at<T: Threads + Wait + Sync + Abort + AllocGlobal>(
 fn a_disk_that_fails_leaves_the_put_or_nothing(rt: HostRuntime) -> Result<(), Fail> {
     for call in 0..15 {
         for choice in 0..4 {
-            fails_at(&rt, call, choice)?;
+            assert!(rt; leaves_one_or_none(&rt, call, choice)?, "at call {call}");
         }
     }
     Ok(())
@@ -211,60 +228,76 @@ fn mended(alloc: Global, disks: &[MemoryDisk]) -> Result<Vec<MemoryDisk>, NoMemo
 }
 
 /// What was replied to is read again from the bytes of the disks that are handed back.
-fn is_there_again<T: Threads + Wait + Sync + Abort + AllocGlobal>(
+fn is_there_again<T: Threads + Wait + Sync + AllocGlobal>(
     rt: &T,
-    ran: Ran,
+    ran: &Ran,
     reply: &[u8],
     found: &[u8],
-) -> Result<(), Fail> {
-    let was_told = has_part(ran.sink.written(), reply);
+) -> Result<bool, Fail> {
     let again = replay(rt, GET_BOTH, mended(rt.alloc(), &ran.outcome.disks)?)?;
-    assert!(rt; again.outcome.status == 0);
-    if was_told {
-        assert!(rt; has_part(again.sink.written(), found));
-    }
-    Ok(())
+    let was_told = has_part(ran.sink.written(), reply);
+    let is_found = has_part(again.sink.written(), found);
+    Ok(again.outcome.status == 0 && (is_found || !was_told))
 }
 
-fn replay_failing<T: Threads + Wait + Sync + Abort + AllocGlobal>(
+/// A script, the reply that it may print, and what is then found in it.
+type Kept = (&'static str, &'static [u8], &'static [u8]);
+
+const KEPT: &[Kept] = &[
+    (OVER_TWO_NODES, b"s 10 ok\n", b"a 1 ok =w\na 2 ok =w\n"),
+    (STOPS_AFTER, b"\nb 1 ok =x\n", b"a 1 ok =x\na 2 ok =x\n"),
+];
+
+/// Whether the script ends well, or with a fault of a disk, where this call of a node's disk fails,
+/// and what it replied to is there again.
+fn is_kept<T: Threads + Wait + Sync + AllocGlobal>(
     rt: &T,
-    script: &str,
+    kept: &Kept,
     node: usize,
     call: u64,
-) -> Result<Ran, Fail> {
+) -> Result<bool, Fail> {
+    let (script, reply, found) = kept;
     let ran = replay(rt, script, two_disks(rt.alloc(), node, call)?)?;
-    let status = ran.outcome.status;
-    assert!(rt;
-        status == 0 || status == 5,
-        "status {status} at call {call} of {node}"
-    );
-    Ok(ran)
+    if ran.outcome.status != 0 && ran.outcome.status != 5 {
+        return Ok(false);
+    }
+    is_there_again(rt, &ran, reply, found)
+}
+
+/// Whether both scripts are kept so.
+fn are_kept<T: Threads + Wait + Sync + AllocGlobal>(
+    rt: &T,
+    node: usize,
+    call: u64,
+) -> Result<bool, Fail> {
+    for kept in KEPT {
+        if !is_kept(rt, kept, node, call)? {
+            return Ok(false);
+        }
+    }
+    Ok(true)
 }
 
 #[test]
 fn what_was_replied_to_is_there_again(rt: HostRuntime) -> Result<(), Fail> {
     for node in 0..2 {
         for call in 0..70 {
-            let ran = replay_failing(&rt, OVER_TWO_NODES, node, call)?;
-            is_there_again(&rt, ran, b"s 10 ok\n", b"a 1 ok =w\na 2 ok =w\n")?;
-            let ran = replay_failing(&rt, STOPS_AFTER, node, call)?;
-            is_there_again(&rt, ran, b"\nb 1 ok =x\n", b"a 1 ok =x\na 2 ok =x\n")?;
+            assert!(rt; are_kept(&rt, node, call)?, "at call {call} of {node}");
         }
     }
     Ok(())
 }
 
 /// The page of the root that has split: sequence 10, inner, one level up, with two children.
+const ROOT: &[u8] = &[
+    0, 0, 0, 0, 0, 0, 0, 10, 2, 0, 1, 0, 0, 0, 0, 0, 0, 0, 0, 0, 0, 0, 2, 1, 0, 0, 2, b'k', b'5',
+    0, 0, 1,
+];
+
 #[test]
 fn a_split_root_keeps_its_slot(rt: HostRuntime) -> Result<(), Fail> {
-    let mut ran = replay(&rt, OVER_TWO_NODES, fresh_disks(rt.alloc(), 2)?)?;
-    let root = [
-        0, 0, 0, 0, 0, 0, 0, 10, 2, 0, 1, 0, 0, 0, 0, 0, 0, 0, 0, 0, 0, 0, 2, 1, 0, 0, 2, b'k',
-        b'5', 0, 0, 1,
-    ];
-    let _node_1 = ran.outcome.disks.pop();
-    let node_0 = ran.outcome.disks.pop().expect(&rt, "both are handed back");
-    assert!(rt; has_part(node_0.content(), &root));
+    let ran = replay(&rt, OVER_TWO_NODES, fresh_disks(rt.alloc(), 2)?)?;
+    assert!(rt; has_part(ran.content(0), ROOT));
     Ok(())
 }
 
@@ -306,10 +339,8 @@ fn first_lacking(bytes: &[u8], parts: &[&[u8]]) -> Option<usize> {
 
 #[test]
 fn versions_share_what_they_have_not_changed(rt: HostRuntime) -> Result<(), Fail> {
-    let mut ran = replay(&rt, TWO_CHILDREN, fresh_disks(rt.alloc(), 2)?)?;
-    let node_1 = ran.outcome.disks.pop().expect(&rt, "both are handed back");
-    let node_0 = ran.outcome.disks.pop().expect(&rt, "both are handed back");
-    assert!(rt; first_lacking(node_0.content(), &WRITTEN_TO_0) == None);
-    assert!(rt; first_lacking(node_1.content(), &WRITTEN_TO_1) == None);
+    let ran = replay(&rt, TWO_CHILDREN, fresh_disks(rt.alloc(), 2)?)?;
+    assert!(rt; first_lacking(ran.content(0), &WRITTEN_TO_0) == None);
+    assert!(rt; first_lacking(ran.content(1), &WRITTEN_TO_1) == None);
     Ok(())
 }

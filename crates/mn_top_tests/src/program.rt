@@ -4,7 +4,6 @@ use mn_io::{Bytes, Calls, MemorySink, MemorySource};
 use mn_memdisk::MemoryDisk;
 use mn_top::{Outcome, Words, run_program};
 use std::alloc::Global;
-use std::process::Abort;
 use std::sync::Wait;
 use std::test::Fail;
 use std::thread::Threads;
@@ -34,6 +33,26 @@ pub fn fresh_disks(alloc: Global, count: usize) -> Result<Vec<MemoryDisk>, NoMem
     Ok(disks)
 }
 
+/// A script, and the numbers of the calls of its source and of the sink that fail.
+#[derive(Clone, Copy)]
+pub struct Given<'a> {
+    pub script: &'a str,
+    pub source_fails: &'a [u64],
+    pub sink_fails: &'a [u64],
+}
+
+fn source_of(alloc: Global, given: &Given<'_>) -> Result<MemorySource, NoMemory> {
+    Ok(MemorySource::new(
+        Bytes::from_vec(given.script.as_bytes().to_vec(alloc)?),
+        Calls::from_vec(given.source_fails.to_vec(alloc)?),
+    ))
+}
+
+fn sink_of(alloc: Global, given: &Given<'_>) -> Result<MemorySink, Fail> {
+    let fails = Calls::from_vec(given.sink_fails.to_vec(alloc)?);
+    Ok(MemorySink::new(alloc, 65_536, fails)?)
+}
+
 /// What came of a call of the program.
 #[derive(Drop)]
 pub struct Ran {
@@ -41,21 +60,32 @@ pub struct Ran {
     pub sink: MemorySink,
 }
 
-/// Runs the program on a script with these words and disks. The calls of its source and sink with
-/// these numbers fail.
-pub fn run<T: Threads + Wait + Sync + Abort + AllocGlobal>(
+impl Ran {
+    /// The bytes of the disk of a node.
+    pub fn content(&self, node: usize) -> &[u8] {
+        match self.outcome.disks.get(node) {
+            Some(disk) => disk.content(),
+            None => &[],
+        }
+    }
+
+    /// Whether it ended with this status and text.
+    pub fn ended(&self, status: u8, written: &str) -> bool {
+        self.outcome.status == status && self.sink.written() == written.as_bytes()
+    }
+}
+
+/// Runs the program with these words and disks.
+pub fn run<T: Threads + Wait + Sync + AllocGlobal>(
     rt: &T,
     words: &[&str],
-    script: &str,
-    source_fails: &[u64],
-    sink_fails: &[u64],
+    given: &Given<'_>,
     disks: Vec<MemoryDisk>,
 ) -> Result<Ran, Fail> {
     let alloc = rt.alloc();
     let words = words_of(alloc, words)?;
-    let script = Bytes::from_vec(script.as_bytes().to_vec(alloc)?);
-    let mut source = MemorySource::new(script, Calls::from_vec(source_fails.to_vec(alloc)?));
-    let mut sink = MemorySink::new(alloc, 65_536, Calls::from_vec(sink_fails.to_vec(alloc)?))?;
+    let mut source = source_of(alloc, given)?;
+    let mut sink = sink_of(alloc, given)?;
     let outcome = run_program(rt, alloc, &words, &mut source, &mut sink, disks, &OpenGate);
     Ok(Ran { outcome, sink })
 }
@@ -71,29 +101,42 @@ fn nodes_word(nodes: usize) -> &'static str {
 }
 
 /// Replays a script on these disks.
-pub fn replay<T: Threads + Wait + Sync + Abort + AllocGlobal>(
+pub fn replay<T: Threads + Wait + Sync + AllocGlobal>(
     rt: &T,
     script: &str,
     disks: Vec<MemoryDisk>,
 ) -> Result<Ran, Fail> {
     let words = ["replay", nodes_word(disks.len())];
-    run(rt, &words, script, &[], &[], disks)
+    let given = Given {
+        script,
+        source_fails: &[],
+        sink_fails: &[],
+    };
+    run(rt, &words, &given, disks)
 }
 
-/// Replays a script on so many fresh disks, which ends with this status and text.
-pub fn prints<T: Threads + Wait + Sync + Abort + AllocGlobal>(
+/// A script for so many fresh disks, and the status and the text with which the program ends.
+pub struct Row {
+    pub nodes: usize,
+    pub script: &'static str,
+    pub status: u8,
+    pub written: &'static str,
+}
+
+fn prints<T: Threads + Wait + Sync + AllocGlobal>(rt: &T, row: &Row) -> Result<bool, Fail> {
+    let ran = replay(rt, row.script, fresh_disks(rt.alloc(), row.nodes)?)?;
+    Ok(ran.ended(row.status, row.written) && ran.outcome.disks.len() == row.nodes)
+}
+
+/// The first of the rows that does not end as it says.
+pub fn first_wrong<T: Threads + Wait + Sync + AllocGlobal>(
     rt: &T,
-    nodes: usize,
-    script: &str,
-    status: u8,
-    written: &str,
-) -> Result<(), Fail> {
-    let ran = replay(rt, script, fresh_disks(rt.alloc(), nodes)?)?;
-    assert!(rt;
-        ran.sink.written() == written.as_bytes(),
-        "the text on {script:?}"
-    );
-    assert!(rt; ran.outcome.status == status, "the status on {script:?}");
-    assert!(rt; ran.outcome.disks.len() == nodes);
-    Ok(())
+    rows: &[Row],
+) -> Result<Option<usize>, Fail> {
+    for (place, row) in rows.iter().enumerate() {
+        if !prints(rt, row)? {
+            return Ok(Some(place));
+        }
+    }
+    Ok(None)
 }

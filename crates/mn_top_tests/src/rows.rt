@@ -1,17 +1,6 @@
 //! Whole scripts, and the bytes that the program prints for them.
-use crate::program::prints;
-use std::process::Abort;
-use std::sync::Wait;
+use crate::program::{Row, first_wrong};
 use std::test::Fail;
-use std::thread::Threads;
-
-/// A script for so many nodes, and how the program ends on fresh disks.
-struct Row {
-    nodes: usize,
-    script: &'static str,
-    status: u8,
-    written: &'static str,
-}
 
 const SCRIPTS_OF_ONE_CLIENT: &[Row] = &[
     // A put and a get.
@@ -186,32 +175,30 @@ const VERSIONS: &[Row] = &[
     },
 ];
 
-fn print_as_they_should<T: Threads + Wait + Sync + Abort + AllocGlobal>(
-    rt: &T,
-    rows: &[Row],
-) -> Result<(), Fail> {
-    for row in rows {
-        prints(rt, row.nodes, row.script, row.status, row.written)?;
-    }
+#[test]
+fn scripts_of_one_client_are_answered(rt: HostRuntime) -> Result<(), Fail> {
+    let wrong = first_wrong(&rt, SCRIPTS_OF_ONE_CLIENT)?;
+    assert!(rt; wrong == None, "the row {wrong:?}");
     Ok(())
 }
 
 #[test]
-fn scripts_of_one_client_are_answered(rt: HostRuntime) -> Result<(), Fail> {
-    print_as_they_should(&rt, SCRIPTS_OF_ONE_CLIENT)
-}
-
-#[test]
 fn clients_that_race_try_again_or_are_busy(rt: HostRuntime) -> Result<(), Fail> {
-    print_as_they_should(&rt, CLIENTS_THAT_RACE)
+    let wrong = first_wrong(&rt, CLIENTS_THAT_RACE)?;
+    assert!(rt; wrong == None, "the row {wrong:?}");
+    Ok(())
 }
 
 #[test]
 fn doubts_are_decided_by_recovery(rt: HostRuntime) -> Result<(), Fail> {
-    print_as_they_should(&rt, CRASHES_AND_RECOVERIES)
+    let wrong = first_wrong(&rt, CRASHES_AND_RECOVERIES)?;
+    assert!(rt; wrong == None, "the row {wrong:?}");
+    Ok(())
 }
 
 #[test]
 fn versions_are_kept_apart(rt: HostRuntime) -> Result<(), Fail> {
-    print_as_they_should(&rt, VERSIONS)
+    let wrong = first_wrong(&rt, VERSIONS)?;
+    assert!(rt; wrong == None, "the row {wrong:?}");
+    Ok(())
 }

@@ -1,117 +1,145 @@
 //! The statuses of the program, by its words, its source and its sink.
-use crate::program::{fresh_disks, prints, run, words_of};
+use crate::program::{Given, Row, first_wrong, fresh_disks, run, words_of};
 use mn_top::wanted;
+use std::alloc::Global;
+use std::sync::Wait;
 use std::test::Fail;
+use std::thread::Threads;
 
 const REPLAY: &[&str] = &["replay", "1"];
 
-#[test]
-fn words_faults_and_wrong_disks_are_told_in_a_line(rt: HostRuntime) -> Result<(), Fail> {
-    let alloc = rt.alloc();
-    let script = "nodes 1\nclient a\nget main k\n";
-    for (words, given, source_fails, sink_fails, status, written) in [
-        (&[][..], 1, &[][..], &[][..], 1, "usage\n"),
-        (&["replay"][..], 1, &[][..], &[][..], 1, "usage\n"),
-        (&["replay", "0"][..], 1, &[][..], &[][..], 1, "usage\n"),
-        (&["replay", "9"][..], 1, &[][..], &[][..], 1, "usage\n"),
-        (&["replay", "01"][..], 1, &[][..], &[][..], 1, "usage\n"),
-        (&["replay", "1", ""][..], 1, &[][..], &[][..], 1, "usage\n"),
-        (
-            &["replay", "1", "-d"][..],
-            1,
-            &[][..],
-            &[][..],
-            1,
-            "usage\n",
-        ),
-        (
-            &["replay", "1", "d", "d"][..],
-            1,
-            &[][..],
-            &[][..],
-            1,
-            "usage\n",
-        ),
-        (&["gen", "1"][..], 1, &[][..], &[][..], 1, "usage\n"),
-        (&["gen", "1", "07"][..], 1, &[][..], &[][..], 1, "usage\n"),
-        (&["gen", "1", "+7"][..], 1, &[][..], &[][..], 1, "usage\n"),
-        (
-            &["gen", "1", "18446744073709551616"][..],
-            1,
-            &[][..],
-            &[][..],
-            1,
-            "usage\n",
-        ),
-        (&["check", "1"][..], 1, &[][..], &[][..], 1, "usage\n"),
-        (&["--help"][..], 1, &[][..], &[][..], 1, "usage\n"),
-        (
-            &["replay", "1", "d"][..],
-            1,
-            &[][..],
-            &[][..],
-            9,
-            "unbuilt\n",
-        ),
-        (&["run", "8"][..], 1, &[][..], &[][..], 9, "unbuilt\n"),
-        (
-            &["gen", "1", "18446744073709551615"][..],
-            1,
-            &[][..],
-            &[][..],
-            9,
-            "unbuilt\n",
-        ),
-        (
-            &["gen", "1", "0", "d"][..],
-            1,
-            &[][..],
-            &[][..],
-            9,
-            "unbuilt\n",
-        ),
-        (
-            &["check", "1", "d"][..],
-            1,
-            &[][..],
-            &[][..],
-            9,
-            "unbuilt\n",
-        ),
-        (&["replay", "2"][..], 1, &[][..], &[][..], 8, "disks 1 2\n"),
-        (REPLAY, 0, &[][..], &[][..], 8, "disks 0 1\n"),
-        (&["replay", "2"][..], 2, &[][..], &[][..], 8, "disks 2 1\n"),
-        (REPLAY, 1, &[0][..], &[][..], 3, "read fault\n"),
-        (REPLAY, 1, &[1][..], &[][..], 3, "read fault\n"),
-        (REPLAY, 1, &[][..], &[0][..], 4, ""),
-        (&[][..], 1, &[][..], &[0][..], 4, ""),
-    ] {
-        let disks = fresh_disks(alloc, given)?;
-        let ran = run(&rt, words, script, source_fails, sink_fails, disks)?;
-        assert!(rt; ran.outcome.status == status, "the status on {words:?}");
-        assert!(rt;
-            ran.sink.written() == written.as_bytes(),
-            "the text on {words:?}"
-        );
-        assert!(rt; ran.outcome.disks.len() == given);
-        assert!(rt; wanted(&words_of(alloc, words)?).is_some() == (status != 1 && words.len() > 1));
+/// Words, how many disks there are, the calls of the source and of the sink that fail, and the
+/// status and the text with which the program ends.
+type End = (
+    &'static [&'static str],
+    usize,
+    &'static [u64],
+    &'static [u64],
+    u8,
+    &'static str,
+);
+
+const WRONG_WORDS: &[End] = &[
+    (&[], 1, &[], &[], 1, "usage\n"),
+    (&["replay"], 1, &[], &[], 1, "usage\n"),
+    (&["replay", "0"], 1, &[], &[], 1, "usage\n"),
+    (&["replay", "9"], 1, &[], &[], 1, "usage\n"),
+    (&["replay", "01"], 1, &[], &[], 1, "usage\n"),
+    (&["replay", "1", ""], 1, &[], &[], 1, "usage\n"),
+    (&["replay", "1", "-d"], 1, &[], &[], 1, "usage\n"),
+    (&["replay", "1", "d", "d"], 1, &[], &[], 1, "usage\n"),
+    (&["gen", "1"], 1, &[], &[], 1, "usage\n"),
+    (&["gen", "1", "07"], 1, &[], &[], 1, "usage\n"),
+    (&["gen", "1", "+7"], 1, &[], &[], 1, "usage\n"),
+    (
+        &["gen", "1", "18446744073709551616"],
+        1,
+        &[],
+        &[],
+        1,
+        "usage\n",
+    ),
+    (&["check", "1"], 1, &[], &[], 1, "usage\n"),
+    (&["--help"], 1, &[], &[], 1, "usage\n"),
+];
+
+const OTHER_ENDS: &[End] = &[
+    (&["replay", "1", "d"], 1, &[], &[], 9, "unbuilt\n"),
+    (&["run", "8"], 1, &[], &[], 9, "unbuilt\n"),
+    (
+        &["gen", "1", "18446744073709551615"],
+        1,
+        &[],
+        &[],
+        9,
+        "unbuilt\n",
+    ),
+    (&["gen", "1", "0", "d"], 1, &[], &[], 9, "unbuilt\n"),
+    (&["check", "1", "d"], 1, &[], &[], 9, "unbuilt\n"),
+    (&["replay", "2"], 1, &[], &[], 8, "disks 1 2\n"),
+    (REPLAY, 0, &[], &[], 8, "disks 0 1\n"),
+    (&["replay", "2"], 2, &[], &[], 8, "disks 2 1\n"),
+    (REPLAY, 1, &[0], &[], 3, "read fault\n"),
+    (REPLAY, 1, &[1], &[], 3, "read fault\n"),
+    (REPLAY, 1, &[], &[0], 4, ""),
+    (&[], 1, &[], &[0], 4, ""),
+];
+
+/// Whether the words want disks exactly where they are no usage.
+fn are_told(alloc: Global, words: &[&str], status: u8) -> Result<bool, Fail> {
+    let is_wanted = wanted(&words_of(alloc, words)?).is_some();
+    Ok(is_wanted == (status != 1 && words.len() > 1))
+}
+
+/// Whether the program ends so on a script of one get.
+fn ends_so<T: Threads + Wait + Sync + AllocGlobal>(rt: &T, end: &End) -> Result<bool, Fail> {
+    let (words, disks, source_fails, sink_fails, status, written) = end;
+    let given = Given {
+        script: "nodes 1\nclient a\nget main k\n",
+        source_fails,
+        sink_fails,
+    };
+    let ran = run(rt, words, &given, fresh_disks(rt.alloc(), *disks)?)?;
+    Ok(ran.ended(*status, written) && ran.outcome.disks.len() == *disks)
+}
+
+/// The first of the rows that does not end so.
+fn first_other<T: Threads + Wait + Sync + AllocGlobal>(
+    rt: &T,
+    ends: &[End],
+) -> Result<Option<usize>, Fail> {
+    for (place, end) in ends.iter().enumerate() {
+        if !ends_so(rt, end)? || !are_told(rt.alloc(), end.0, end.4)? {
+            return Ok(Some(place));
+        }
     }
+    Ok(None)
+}
+
+#[test]
+fn wrong_words_are_told_in_a_line(rt: HostRuntime) -> Result<(), Fail> {
+    let wrong = first_other(&rt, WRONG_WORDS)?;
+    assert!(rt; wrong == None, "the row {wrong:?}");
     Ok(())
 }
 
 #[test]
+fn faults_and_wrong_disks_are_told_in_a_line(rt: HostRuntime) -> Result<(), Fail> {
+    let wrong = first_other(&rt, OTHER_ENDS)?;
+    assert!(rt; wrong == None, "the row {wrong:?}");
+    Ok(())
+}
+
+const NO_SCRIPTS: &[Row] = &[
+    Row {
+        nodes: 1,
+        script: "",
+        status: 2,
+        written: "refused 1 1\n",
+    },
+    Row {
+        nodes: 1,
+        script: "nodes 1\nclient a\nput main k\n",
+        status: 2,
+        written: "refused 3 11\n",
+    },
+    Row {
+        nodes: 1,
+        script: "nodes 1\nclient a\ntx main get k ; del\n",
+        status: 2,
+        written: "refused 3 20\n",
+    },
+    Row {
+        nodes: 1,
+        script: "nodes 2\n",
+        status: 8,
+        written: "disks 1 2\n",
+    },
+];
+
+#[test]
 fn scripts_that_are_none_are_told(rt: HostRuntime) -> Result<(), Fail> {
-    for (script, status, written) in [
-        ("", 2, "refused 1 1\n"),
-        ("nodes 1\nclient a\nput main k\n", 2, "refused 3 11\n"),
-        (
-            "nodes 1\nclient a\ntx main get k ; del\n",
-            2,
-            "refused 3 20\n",
-        ),
-        ("nodes 2\n", 8, "disks 1 2\n"),
-    ] {
-        prints(&rt, 1, script, status, written)?;
-    }
+    let wrong = first_wrong(&rt, NO_SCRIPTS)?;
+    assert!(rt; wrong == None, "the row {wrong:?}");
     Ok(())
 }

@@ -1,4 +1,4 @@
-ghost use Rattle.std.specs.Prelude.{◌≡◌, ◌≤◌, ◌<◌, ◌++◌, ◌∷◌, [], length, IfOk};
+ghost use Rattle.std.specs.Prelude.{◌≡◌, ◌≤◌, ◌<◌, ◌++◌, ◌∷◌, [], length, IfOk, OnOk};
 ghost use Rattle.std.specs.Option.{option_to_list};
 ghost use Rattle.mn_page.specs.Grammar.{height_of};
 ghost use Rattle.mn_page.specs.Holds.{pairs_in};
@@ -19,7 +19,7 @@ const LEFT: usize = 4;
 
 /// A body that one page can hold, or its two halves, with the first key or lower fence of the right
 /// one.
-#[derive(Debug, Drop)]
+#[derive(Drop)]
 pub enum Parts {
     Whole {
         body: Body,
@@ -122,47 +122,81 @@ pub fn parts_of(alloc: Global, body: Body) -> Result<Parts, NoMemory>
     }
 }
 
-/// Adds a child at another address, perhaps a further one, and copies of others behind these.
-fn with_tail(
+/// Adds a copy of a child.
+fn push_copy(alloc: Global, children: &mut Vec<Child>, child: &Child) -> Result<(), NoMemory>
+    ensures { OnOk result (children.new.items ≡ children.old.items ++ child.now ∷ []) }
+{
+    let child = child.try_copy(alloc)?;
+    children.push(child)?;
+    Ok(())
+}
+
+/// Adds copies of children.
+fn push_copies(alloc: Global, children: &mut Vec<Child>, more: &[Child]) -> Result<(), NoMemory>
+    ensures { OnOk result (children.new.items ≡ children.old.items ++ more.now) }
+{
+    for child in more {
+        push_copy(alloc, children, child)?;
+    }
+    Ok(())
+}
+
+/// Adds perhaps a child, and copies of others after it.
+fn push_first(
     alloc: Global,
-    before: Vec<Child>,
+    children: &mut Vec<Child>,
+    more: Option<Child>,
+    after: &[Child],
+) -> Result<(), NoMemory>
+    ensures { OnOk result (children.new.items
+        ≡ children.old.items ++ (option_to_list more ++ after.now)) }
+{
+    match more {
+        Some(child) => {
+            children.push(child)?;
+            push_copies(alloc, children, after)
+        }
+        None => push_copies(alloc, children, after),
+    }
+}
+
+/// Adds a child at another address, perhaps a further one, and copies of others behind these.
+fn push_tail(
+    alloc: Global,
+    children: &mut Vec<Child>,
     separator: &Key,
     now: Addr,
     more: Option<Child>,
     after: &[Child],
-) -> Result<Vec<Child>, NoMemory>
-    ensures { IfOk result (λ children. children.items
-        ≡ before.items ++ (record { separator = separator.now; addr = now }
+) -> Result<(), NoMemory>
+    ensures { OnOk result (children.new.items
+        ≡ children.old.items ++ (record { separator = separator.now; addr = now }
         ∷ (option_to_list more ++ after.now))) }
 {
-    let mut children = before;
+    let separator = separator.try_copy(alloc)?;
     children.push(Child {
-        separator: separator.try_copy(alloc)?,
+        separator,
         addr: now,
     })?;
-    if let Some(more) = more {
-        children.push(more)?;
-    }
-    for child in after {
-        children.push(child.try_copy(alloc)?)?;
-    }
-    Ok(children)
+    push_first(alloc, children, more, after)
 }
 
-/// The children with the one at `addr` at another address, and perhaps a further one after it.
-fn with_child(
+/// Adds copies of the children with the one at `addr` at another address, and perhaps a further one
+/// after it.
+fn push_rest_with(
     alloc: Global,
+    children: &mut Vec<Child>,
     rest: &[Child],
     addr: Addr,
     now: Addr,
     more: Option<Child>,
-) -> Result<Vec<Child>, NoMemory>
-    ensures { IfOk result (λ children. children.items ≡ rest_with rest.now addr now more) }
+) -> Result<(), NoMemory>
+    ensures { OnOk result (children.new.items
+        ≡ children.old.items ++ rest_with rest.now addr now more) }
 {
-    let mut children = Vec::new(alloc);
     for (at, child) in rest.iter().enumerate() {
         if is_same(child.addr, addr) {
-            return with_tail(
+            return push_tail(
                 alloc,
                 children,
                 &child.separator,
@@ -171,23 +205,9 @@ fn with_child(
                 &rest[at + 1..],
             );
         }
-        children.push(child.try_copy(alloc)?)?;
+        push_copy(alloc, children, child)?;
     }
-    Ok(children)
-}
-
-/// Perhaps a child, and copies of others after it.
-fn with_first(alloc: Global, more: Option<Child>, after: &[Child]) -> Result<Vec<Child>, NoMemory>
-    ensures { IfOk result (λ children. children.items ≡ option_to_list more ++ after.now) }
-{
-    let mut children = Vec::new(alloc);
-    if let Some(more) = more {
-        children.push(more)?;
-    }
-    for child in after {
-        children.push(child.try_copy(alloc)?)?;
-    }
-    Ok(children)
+    Ok(())
 }
 
 /// A body with the child at `addr` at another address, and perhaps a further child after it.
@@ -207,17 +227,20 @@ pub fn with_children(
             first,
             rest,
         } => {
+            let mut children = Vec::new(alloc);
             if is_same(*first, addr) {
+                push_first(alloc, &mut children, more, rest.as_slice())?;
                 return Ok(Body::Inner {
                     height: *height,
                     first: now,
-                    rest: Branches::from_vec(with_first(alloc, more, rest.as_slice())?),
+                    rest: Branches::from_vec(children),
                 });
             }
+            push_rest_with(alloc, &mut children, rest.as_slice(), addr, now, more)?;
             Ok(Body::Inner {
                 height: *height,
                 first: *first,
-                rest: Branches::from_vec(with_child(alloc, rest.as_slice(), addr, now, more)?),
+                rest: Branches::from_vec(children),
             })
         }
     }

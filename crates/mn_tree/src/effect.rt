@@ -1,8 +1,11 @@
-ghost use Rattle.std.specs.Prelude.{◌≡◌, ◌≤◌, ◌<◌, ◌^◌, [], length, IfOk};
+ghost use Rattle.std.specs.Prelude.{◌≡◌, ◌≤◌, ◌<◌, ◌+◌, ◌^◌, [], length, IfOk};
 ghost use Rattle.mn_base.specs.Store.{step_key};
 ghost use Rattle.mn_tree.specs.Walk.{held_of, helds, walk};
 ghost use Rattle.mn_tree.specs.Found.{lents};
 ghost use Rattle.mn_tree.specs.Effects.{IsEffect, IsProgress};
+ghost use Rattle.mn_tree.specs.Writes.{origins_in, writes_up};
+ghost use Rattle.mn_tree.specs.declared.stepped.Stepped.TheVariants.{Changed};
+ghost use Rattle.mn_page.specs.declared.page.Body.TheVariants.{Leaf};
 
 use crate::Stepped;
 use crate::body::{leaf_of, pairs_of};
@@ -12,19 +15,19 @@ use crate::pairs::{copy_of, is_found, value_of, with_pair, without_pair};
 use crate::walk::{Walked, walk_to};
 use crate::write::Write;
 use crate::writer::raise;
-use mn_base::{Addr, Key, NoMemory, Step, VersionNo};
+use mn_base::{Addr, Key, NoMemory, Pair, Step, VersionNo};
 use mn_vtree::VersionTree;
 use std::alloc::Global;
 
 /// What a step does on the leaf of its key: its answer, and the pages that it writes.
-#[derive(Debug, Drop)]
+#[derive(Drop)]
 pub struct Effect {
     pub answer: Stepped,
     pub writes: Vec<Write>,
 }
 
 /// How far a step comes.
-#[derive(Debug, Drop)]
+#[derive(Drop)]
 pub enum Progress {
     Missing { addr: Addr, above: Option<u16> },
     Wrong { addr: Addr },
@@ -53,6 +56,31 @@ fn unwritten(alloc: Global, answer: Stepped) -> Effect
     }
 }
 
+/// A step after which the leaf has these pairs.
+fn rewritten(
+    alloc: Global,
+    version: VersionNo,
+    origins: &[Addr],
+    leaf: &HeldPage,
+    above: &[&HeldPage],
+    pairs: Vec<Pair>,
+) -> Result<Effect, NoMemory>
+    requires version { version.0 < 64 }
+    requires bound { length origins.now ≤ 2 ^ 16 }
+    ensures answer { IfOk result (λ effect. effect.answer ≡ Changed) }
+    ensures writes { IfOk result (λ effect. effect.writes.items
+        ≡ writes_up version (length origins.now) origins.now (held_of leaf.now)
+        (lents above.now) (Leaf pairs.items)) }
+    ensures bound { IfOk result (λ effect.
+        length origins.now + length (origins_in effect.writes.items) ≤ 2 ^ 16) }
+{
+    let writes = raise(alloc, version, origins, leaf, above, leaf_of(pairs))?;
+    Ok(Effect {
+        answer: Stepped::Changed,
+        writes,
+    })
+}
+
 /// What a step does on the leaf of its key, where the pages above it lead up to the root.
 fn effect_on(
     alloc: Global,
@@ -74,21 +102,15 @@ fn effect_on(
             Ok(unwritten(alloc, Stepped::Found { value }))
         }
         Step::Put { key, value } => {
-            let body = leaf_of(with_pair(alloc, pairs, key, value)?);
-            Ok(Effect {
-                answer: Stepped::Changed,
-                writes: raise(alloc, version, origins, leaf, above, body)?,
-            })
+            let pairs = with_pair(alloc, pairs, key, value)?;
+            rewritten(alloc, version, origins, leaf, above, pairs)
         }
         Step::Del { key } => {
             if value_of(pairs, key).is_none() {
                 return Ok(unwritten(alloc, Stepped::Same));
             }
-            let body = leaf_of(without_pair(alloc, pairs, key)?);
-            Ok(Effect {
-                answer: Stepped::Changed,
-                writes: raise(alloc, version, origins, leaf, above, body)?,
-            })
+            let pairs = without_pair(alloc, pairs, key)?;
+            rewritten(alloc, version, origins, leaf, above, pairs)
         }
         Step::Check { key, want } => {
             let found = value_of(pairs, key);

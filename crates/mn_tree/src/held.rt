@@ -9,10 +9,18 @@ use mn_page::Page;
 pub const UNPLACED: u8 = 8;
 
 /// A page at its address.
-#[derive(Debug, Drop)]
+#[derive(Debug)]
 pub struct HeldPage {
     pub addr: Addr,
     pub page: Page,
+}
+
+/// It is let go by a call, which is proved once, and not in place wherever one goes.
+impl Drop for HeldPage {
+    fn drop(self) {
+        let HeldPage { addr: _addr, page } = self;
+        drop(page);
+    }
 }
 
 /// The page that a step asked for: where it stands, the step's key, and the height of the page that

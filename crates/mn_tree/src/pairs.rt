@@ -1,4 +1,4 @@
-ghost use Rattle.std.specs.Prelude.{◌≡◌, ◌++◌, ◌∷◌, [], option_map, IfOk, bytes_eq};
+ghost use Rattle.std.specs.Prelude.{◌≡◌, ◌++◌, ◌∷◌, [], option_map, IfOk, OnOk, bytes_eq};
 ghost use Rattle.std.specs.Option.{option_eq};
 ghost use Rattle.mn_base.specs.Store.{value_at, pairs_with, pairs_without};
 
@@ -37,26 +37,56 @@ pub fn copy_of(alloc: Global, found: Option<&Value>) -> Result<Option<Value>, No
     }
 }
 
+/// Adds a pair.
+fn push_pair(alloc: Global, pairs: &mut Vec<Pair>, key: &Key, value: &Value) -> Result<(), NoMemory>
+    ensures { OnOk result (pairs.new.items
+        ≡ pairs.old.items ++ record { key = key.now; value = value.now } ∷ []) }
+{
+    let key = key.try_copy(alloc)?;
+    let value = value.try_copy(alloc)?;
+    pairs.push(Pair { key, value })?;
+    Ok(())
+}
+
 /// Adds a new pair and copies of others behind these.
-fn with_tail(
+fn push_tail(
     alloc: Global,
-    before: Vec<Pair>,
+    pairs: &mut Vec<Pair>,
     key: &Key,
     value: &Value,
     after: &[Pair],
-) -> Result<Vec<Pair>, NoMemory>
-    ensures { IfOk result (λ pairs. pairs.items
-        ≡ before.items ++ record { key = key.now; value = value.now } ∷ after.now) }
+) -> Result<(), NoMemory>
+    ensures { OnOk result (pairs.new.items
+        ≡ pairs.old.items ++ record { key = key.now; value = value.now } ∷ after.now) }
 {
-    let mut pairs = before;
-    pairs.push(Pair {
-        key: key.try_copy(alloc)?,
-        value: value.try_copy(alloc)?,
-    })?;
+    push_pair(alloc, pairs, key, value)?;
     for pair in after {
-        pairs.push(pair.try_copy(alloc)?)?;
+        push_pair(alloc, pairs, &pair.key, &pair.value)?;
     }
-    Ok(pairs)
+    Ok(())
+}
+
+/// Adds the pairs with this value of the key, still in order.
+fn push_pairs_with(
+    alloc: Global,
+    found: &mut Vec<Pair>,
+    pairs: &[Pair],
+    key: &Key,
+    value: &Value,
+) -> Result<(), NoMemory>
+    ensures { OnOk result (found.new.items
+        ≡ found.old.items ++ pairs_with pairs.now key.now value.now) }
+{
+    for (at, pair) in pairs.iter().enumerate() {
+        if key.as_slice().cmp(pair.key.as_slice()).is_lt() {
+            return push_tail(alloc, found, key, value, &pairs[at..]);
+        }
+        if pair.key.as_slice() == key.as_slice() {
+            return push_tail(alloc, found, key, value, &pairs[at + 1..]);
+        }
+        push_pair(alloc, found, &pair.key, &pair.value)?;
+    }
+    push_pair(alloc, found, key, value)
 }
 
 /// The pairs with this value of the key, still in order.
@@ -69,16 +99,8 @@ pub fn with_pair(
     ensures { IfOk result (λ found. found.items ≡ pairs_with pairs.now key.now value.now) }
 {
     let mut found = Vec::new(alloc);
-    for (at, pair) in pairs.iter().enumerate() {
-        if key.as_slice().cmp(pair.key.as_slice()).is_lt() {
-            return with_tail(alloc, found, key, value, &pairs[at..]);
-        }
-        if pair.key.as_slice() == key.as_slice() {
-            return with_tail(alloc, found, key, value, &pairs[at + 1..]);
-        }
-        found.push(pair.try_copy(alloc)?)?;
-    }
-    with_tail(alloc, found, key, value, &[])
+    push_pairs_with(alloc, &mut found, pairs, key, value)?;
+    Ok(found)
 }
 
 /// The pairs without the key.
@@ -88,7 +110,7 @@ pub fn without_pair(alloc: Global, pairs: &[Pair], key: &Key) -> Result<Vec<Pair
     let mut found = Vec::new(alloc);
     for pair in pairs {
         if pair.key.as_slice() != key.as_slice() {
-            found.push(pair.try_copy(alloc)?)?;
+            push_pair(alloc, &mut found, &pair.key, &pair.value)?;
         }
     }
     Ok(found)

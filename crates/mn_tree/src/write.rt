@@ -3,7 +3,7 @@ use mn_page::Page;
 
 /// A page as a step leaves it: an old one or a new one of before where it stands, or one more new
 /// one, which was made of the page that was read at `origin`.
-#[derive(Debug, Drop)]
+#[derive(Drop)]
 pub struct Write {
     pub addr: Addr,
     pub page: Page,

@@ -19,7 +19,7 @@ use mn_path::height;
 use std::alloc::Global;
 
 /// What a page's change asks of its parent.
-#[derive(Debug, Drop)]
+#[derive(Drop)]
 pub enum Ask {
     Nothing,
     /// The child stands at another address now, and perhaps a further one after it.
@@ -27,7 +27,7 @@ pub enum Ask {
 }
 
 /// The writes of a step so far, for a version, and how many new pages there are with them.
-#[derive(Debug, Drop)]
+#[derive(Drop)]
 pub struct Writer {
     pub version: VersionNo,
     pub fresh: usize,
@@ -124,6 +124,114 @@ impl Writer {
         Ok(())
     }
 
+    /// Changes the body of a page where it stands.
+    fn put_body(&mut self, alloc: Global, held: &HeldPage, body: Body) -> Result<(), NoMemory>
+        ensures writes { OnOk result (self.new.writes.items ≡ self.old.writes.items
+            ++ change held.now.addr (page_with held.now.page held.now.page.low held.now.page.high
+            body) ∷ []) }
+        ensures fresh { self.new.fresh ≡ self.old.fresh }
+        ensures version { self.new.version ≡ self.old.version }
+    {
+        let high = held.page.high.try_copy(alloc)?;
+        let page = changed(alloc, &held.page, high, body)?;
+        self.put(held.addr, page)
+    }
+
+    /// Leaves the left half of a page where it stands.
+    fn put_left(
+        &mut self,
+        alloc: Global,
+        held: &HeldPage,
+        separator: &Key,
+        left: Body,
+    ) -> Result<(), NoMemory>
+        ensures writes { OnOk result (self.new.writes.items ≡ self.old.writes.items
+            ++ change held.now.addr (page_with held.now.page held.now.page.low
+            (Some separator.now) left) ∷ []) }
+        ensures fresh { self.new.fresh ≡ self.old.fresh }
+        ensures version { self.new.version ≡ self.old.version }
+    {
+        let page = left_half(alloc, &held.page, separator, left)?;
+        self.put(held.addr, page)
+    }
+
+    /// Marks a page as copied for the version.
+    fn put_marked(&mut self, alloc: Global, held: &HeldPage) -> Result<(), NoMemory>
+        requires { self.old.version.0 < 64 }
+        ensures writes { OnOk result (self.new.writes.items ≡ self.old.writes.items
+            ++ change held.now.addr (copied_for self.old.version held.now.page) ∷ []) }
+        ensures fresh { self.new.fresh ≡ self.old.fresh }
+        ensures version { self.new.version ≡ self.old.version }
+    {
+        let page = marked(alloc, self.version, &held.page)?;
+        self.put(held.addr, page)
+    }
+
+    /// Adds a copy of a page with this body.
+    fn create_copy(
+        &mut self,
+        alloc: Global,
+        page: &Page,
+        origin: Addr,
+        body: Body,
+    ) -> Result<Addr, NoMemory>
+        ensures at { IfOk result (λ addr. addr ≡ new_addr self.old.fresh) }
+        ensures writes { OnOk result (self.new.writes.items ≡ self.old.writes.items
+            ++ creation self.old.fresh (new_page self.old.version page.now.low page.now.high body)
+            origin ∷ []) }
+        ensures fresh { OnOk result (self.new.fresh ≡ self.old.fresh + 1) }
+        ensures bound { OnOk result (self.new.fresh ≤ 2 ^ 16) }
+        ensures version { self.new.version ≡ self.old.version }
+    {
+        let low = page.low.try_copy(alloc)?;
+        let high = page.high.try_copy(alloc)?;
+        self.create(fresh_page(self.version, low, high, body), origin)
+    }
+
+    /// Adds the left half of a page.
+    fn create_left(
+        &mut self,
+        alloc: Global,
+        page: &Page,
+        origin: Addr,
+        left: Body,
+        separator: &Key,
+    ) -> Result<Addr, NoMemory>
+        ensures at { IfOk result (λ addr. addr ≡ new_addr self.old.fresh) }
+        ensures writes { OnOk result (self.new.writes.items ≡ self.old.writes.items
+            ++ creation self.old.fresh (new_page self.old.version page.now.low
+            (Some separator.now) left) origin ∷ []) }
+        ensures fresh { OnOk result (self.new.fresh ≡ self.old.fresh + 1) }
+        ensures bound { OnOk result (self.new.fresh ≤ 2 ^ 16) }
+        ensures version { self.new.version ≡ self.old.version }
+    {
+        let low = page.low.try_copy(alloc)?;
+        let high = Some(separator.try_copy(alloc)?);
+        self.create(fresh_page(self.version, low, high, left), origin)
+    }
+
+    /// Adds the right half of a page.
+    fn create_right(
+        &mut self,
+        alloc: Global,
+        page: &Page,
+        origin: Addr,
+        separator: &Key,
+        right: Body,
+    ) -> Result<Addr, NoMemory>
+        ensures at { IfOk result (λ addr. addr ≡ new_addr self.old.fresh) }
+        ensures writes { OnOk result (self.new.writes.items ≡ self.old.writes.items
+            ++ creation self.old.fresh (new_page self.old.version separator.now page.now.high right)
+            origin ∷ []) }
+        ensures fresh { OnOk result (self.new.fresh ≡ self.old.fresh + 1) }
+        ensures bound { OnOk result (self.new.fresh ≤ 2 ^ 16) }
+        ensures version { self.new.version ≡ self.old.version }
+    {
+        let low = fence_of(alloc, separator)?;
+        let high = page.high.try_copy(alloc)?;
+        self.create(fresh_page(self.version, low, high, right), origin)
+    }
+
     /// A page that was made in the version has this body now.
     fn change_own(
         &mut self,
@@ -146,11 +254,9 @@ impl Writer {
         ensures bound { OnOk result (self.new.fresh ≤ 2 ^ 16) }
         ensures version { self.new.version ≡ self.old.version }
     {
-        let page = &held.page;
         match parts_of(alloc, body)? {
             Parts::Whole { body } => {
-                let high = page.high.try_copy(alloc)?;
-                self.put(held.addr, changed(alloc, page, high, body)?)?;
+                self.put_body(alloc, held, body)?;
                 Ok(Ask::Nothing)
             }
             Parts::Halves {
@@ -158,10 +264,8 @@ impl Writer {
                 separator,
                 right,
             } => {
-                let low = fence_of(alloc, &separator)?;
-                let right = fresh_page(self.version, low, page.high.try_copy(alloc)?, right);
-                let addr = self.create(right, origin)?;
-                self.put(held.addr, left_half(alloc, page, &separator, left)?)?;
+                let addr = self.create_right(alloc, &held.page, origin, &separator, right)?;
+                self.put_left(alloc, held, &separator, left)?;
                 Ok(Ask::Child {
                     now: held.addr,
                     more: Some(Child { separator, addr }),
@@ -191,12 +295,8 @@ impl Writer {
         ensures bound { OnOk result (self.new.fresh ≤ 2 ^ 16) }
         ensures version { self.new.version ≡ self.old.version }
     {
-        let low = page.low.try_copy(alloc)?;
-        let high = Some(separator.try_copy(alloc)?);
-        let left = self.create(fresh_page(self.version, low, high, left), origin)?;
-        let low = fence_of(alloc, separator)?;
-        let high = page.high.try_copy(alloc)?;
-        let right = self.create(fresh_page(self.version, low, high, right), origin)?;
+        let left = self.create_left(alloc, page, origin, left, separator)?;
+        let right = self.create_right(alloc, page, origin, separator, right)?;
         Ok((left, right))
     }
 
@@ -225,10 +325,8 @@ impl Writer {
         let page = &held.page;
         match parts_of(alloc, body)? {
             Parts::Whole { body } => {
-                let low = page.low.try_copy(alloc)?;
-                let high = page.high.try_copy(alloc)?;
-                let now = self.create(fresh_page(self.version, low, high, body), origin)?;
-                self.put(held.addr, marked(alloc, self.version, page)?)?;
+                let now = self.create_copy(alloc, page, origin, body)?;
+                self.put_marked(alloc, held)?;
                 Ok(Ask::Child { now, more: None })
             }
             Parts::Halves {
@@ -237,7 +335,7 @@ impl Writer {
                 right,
             } => {
                 let (now, addr) = self.create_halves(alloc, page, origin, left, &separator, right)?;
-                self.put(held.addr, marked(alloc, self.version, page)?)?;
+                self.put_marked(alloc, held)?;
                 Ok(Ask::Child {
                     now,
                     more: Some(Child { separator, addr }),
@@ -294,9 +392,8 @@ impl Writer {
     {
         let page = &held.page;
         let below = height(&body);
-        let high = page.high.try_copy(alloc)?;
         match parts_of(alloc, body)? {
-            Parts::Whole { body } => self.put(held.addr, changed(alloc, page, high, body)?),
+            Parts::Whole { body } => self.put_body(alloc, held, body),
             Parts::Halves {
                 left,
                 separator,
@@ -306,7 +403,7 @@ impl Writer {
                     alloc, page, origin, left, &separator, right,
                 )?;
                 let root = root_over(alloc, below, first, Child { separator, addr })?;
-                self.put(held.addr, changed(alloc, page, high, root)?)
+                self.put_body(alloc, held, root)
             }
         }
     }

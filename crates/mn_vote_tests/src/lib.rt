@@ -5,6 +5,8 @@
 #[cfg(test)]
 mod coordinator;
 #[cfg(test)]
+mod one_id;
+#[cfg(test)]
 mod recovery;
 #[cfg(test)]
 mod recovery_nodes;

@@ -1,16 +1,16 @@
 //! A coordinator and two recoveries race over one id and two nodes.
 ghost use Rattle.std.specs.Prelude.{◌≡◌, false, IfOk, OnOk};
-ghost use Rattle.mn_mini.specs.RecordGrammar.{IsTid};
 
-use mn_base::{Bytes, ClientNo, NodeNo, Nodes, Tid};
+use crate::one_id::{coordinator, ended, tid};
+use mn_base::{NodeNo, Nodes};
 use mn_coord::{CoordStep, Coordinator};
-use mn_mini::{Doubt, Doubts, Item, Items, Minitransaction, NodeReply, Reads, Request};
+use mn_mini::{Doubt, Doubts, NodeReply, Reads, Request};
 use mn_recov::{RecovStep, Recoverer};
 use std::alloc::Global;
 use std::test::Fail;
 
 /// What a node knows of the one id.
-#[derive(Clone, Copy, Debug, PartialEq, Eq)]
+#[derive(Clone, Copy)]
 struct OneId {
     voted: bool,
     forced: bool,
@@ -22,16 +22,6 @@ const NOTHING: OneId = OneId {
     forced: false,
     decided: None,
 };
-
-fn tid() -> Tid
-    ensures { IsTid result }
-{
-    Tid {
-        run: 1,
-        client: ClientNo(0),
-        serial: 1,
-    }
-}
 
 fn both(alloc: Global) -> Result<Nodes, Fail> {
     Ok(Nodes::from_vec([NodeNo(0), NodeNo(1)].to_vec(alloc)?))
@@ -110,29 +100,6 @@ fn recover(alloc: Global, r: &mut Recoverer, nodes: &mut [OneId]) -> Result<(), 
     Ok(())
 }
 
-fn coordinator(alloc: Global) -> Result<Coordinator, Fail>
-    ensures { IfOk result (λ c. c.asked ≡ false) }
-{
-    let mut items = Vec::new(alloc);
-    for node in 0..2 {
-        items.push(Item::Write {
-            node: NodeNo(node),
-            start: 20_480,
-            bytes: Bytes::from_vec([97].to_vec(alloc)?),
-        })?;
-    }
-    let mini = Minitransaction::new(alloc, 2, Items::from_vec(items))?;
-    Ok(Coordinator::new(alloc, tid(), mini)?)
-}
-
-/// How a recovery ended.
-fn ended(r: &Recoverer) -> Option<Option<bool>> {
-    match r.next() {
-        RecovStep::Ended { yes } => Some(yes),
-        RecovStep::Send { .. } => None,
-    }
-}
-
 /// The decision at a node, if one was made, is `verdict`; and a forced node has no vote.
 fn fits(node: &OneId, verdict: Option<bool>) -> bool {
     (node.decided.is_none() || node.decided == verdict) && !(node.forced && node.voted)
@@ -199,7 +166,7 @@ impl Race {
         if verdict.is_none() || !ended_so(&self.one, verdict) || !ended_so(&self.two, verdict) {
             return false;
         }
-        self.nodes.iter().all(|node| fits(node, verdict))
+        fits(&self.nodes[0], verdict) && fits(&self.nodes[1], verdict)
     }
 }
 

@@ -1,110 +1,91 @@
 //! Two recoveries race over two real nodes, which hold votes of a client that is gone.
 ghost use Rattle.std.specs.Prelude.{◌≡◌, ◌≢◌, false, IfOk};
-ghost use Rattle.mn_mini.specs.RecordGrammar.{IsTid};
 ghost use Rattle.mn_mini.specs.Sound.{IsSoundRequest};
 ghost use Rattle.mn_redo.specs.declared.redo.Phase.TheVariants.{Closing};
 ghost use Rattle.mn_node.specs.State.{HoldsPartsApart};
 
-use mn_base::{Bytes, ClientNo, NodeNo, Tid};
+use crate::one_id::{coordinator, ended, tid};
+use mn_base::{NodeNo, Tid};
 use mn_coord::{CoordStep, Coordinator};
-use mn_io::{Bytes as DiskBytes, Calls};
+use mn_io::{Bytes, Calls};
 use mn_memdisk::MemoryDisk;
-use mn_mini::{Item, Items, Minitransaction, NodeReply, Record, Request};
+use mn_mini::{NodeReply, Record, Request};
 use mn_node::Node;
 use mn_recov::{RecovStep, Recoverer};
 use mn_redo::Redo;
 use std::alloc::Global;
-use std::process::Abort;
 use std::test::Fail;
 
-/// What a record of the one id says.
-#[derive(Clone, Copy, Debug, PartialEq, Eq)]
-enum Kept {
-    Voted,
-    Executed,
-    Decided { yes: bool },
-    Forced,
-}
-
-fn tid() -> Tid
-    ensures { IsTid result }
-{
-    Tid {
-        run: 1,
-        client: ClientNo(0),
-        serial: 1,
-    }
-}
-
 /// The log of a node of this number, of two, on a disk without a byte.
-fn empty_log(rt: &impl Abort, alloc: Global, number: u8) -> Result<Redo<MemoryDisk>, Fail>
+fn empty_log(alloc: Global, number: u8) -> Result<Redo<MemoryDisk>, Fail>
     ensures going { IfOk result (λ redo. redo.phase ≢ Closing) }
     ensures bodies { IfOk result (λ redo. HoldsPartsApart redo.bodies) }
     ensures nodes { IfOk result (λ redo. redo.nodes ≡ 2) }
 {
     let disk = MemoryDisk::new(
-        DiskBytes::from_vec(Vec::new(alloc)),
+        Bytes::from_vec(Vec::new(alloc)),
         Calls::from_vec(Vec::new(alloc)),
     );
     match Redo::open(alloc, disk, NodeNo(number), 2) {
         Ok(redo) => Ok(redo),
-        Err(_) => panic!(rt; "no log"),
+        Err(_failed) => Err(Fail::new("no log")),
     }
 }
 
-fn start(rt: &impl Abort, alloc: Global, number: u8) -> Result<Node<MemoryDisk>, Fail> {
-    let redo = empty_log(rt, alloc, number)?;
+fn start(alloc: Global, number: u8) -> Result<Node<MemoryDisk>, Fail> {
+    let redo = empty_log(alloc, number)?;
     match Node::start(alloc, redo) {
         Ok(node) => Ok(node),
-        Err(_) => panic!(rt; "no node"),
+        Err(_failed) => Err(Fail::new("no node")),
     }
 }
 
-/// A node's reply.
-fn call(alloc: Global, nodes: &mut [Node<MemoryDisk>], at: NodeNo, request: &Request) -> NodeReply
-    requires { IsSoundRequest request.now }
-{
-    match nodes.get_mut(at.0 as usize) {
-        Some(node) => node.handle(alloc, request, None),
-        None => NodeReply::Down,
+/// Both nodes.
+#[derive(Drop)]
+struct Both {
+    zero: Node<MemoryDisk>,
+    one: Node<MemoryDisk>,
+}
+
+impl Both {
+    fn new(alloc: Global) -> Result<Self, Fail> {
+        Ok(Both {
+            zero: start(alloc, 0)?,
+            one: start(alloc, 1)?,
+        })
+    }
+
+    /// A node's reply.
+    fn call(&mut self, alloc: Global, at: NodeNo, request: &Request) -> NodeReply
+        requires { IsSoundRequest request.now }
+    {
+        match at.0 {
+            0 => self.zero.handle(alloc, request, None),
+            1 => self.one.handle(alloc, request, None),
+            _ => NodeReply::Down,
+        }
     }
 }
 
 /// The coordinator makes its next call, if it has one.
-fn coordinate(alloc: Global, c: &mut Coordinator, nodes: &mut [Node<MemoryDisk>])
+fn coordinate(alloc: Global, c: &mut Coordinator, nodes: &mut Both)
     requires { c.old.asked ≡ false }
     ensures { c.new.asked ≡ false }
 {
     if let CoordStep::Send { node, request } = c.next() {
-        c.feed(call(alloc, nodes, node, &request));
+        c.feed(nodes.call(alloc, node, &request));
     }
 }
 
 /// A recovery makes its next call, if it has one.
-fn recover(alloc: Global, r: &mut Recoverer, nodes: &mut [Node<MemoryDisk>]) {
+fn recover(alloc: Global, r: &mut Recoverer, nodes: &mut Both) {
     if let RecovStep::Send { node, request } = r.next() {
-        r.feed(call(alloc, nodes, node, &request));
+        r.feed(nodes.call(alloc, node, &request));
     }
-}
-
-/// A write at both nodes.
-fn coordinator(alloc: Global) -> Result<Coordinator, Fail>
-    ensures { IfOk result (λ c. c.asked ≡ false) }
-{
-    let mut items = Vec::new(alloc);
-    for node in 0..2 {
-        items.push(Item::Write {
-            node: NodeNo(node),
-            start: 20_480,
-            bytes: Bytes::from_vec([97].to_vec(alloc)?),
-        })?;
-    }
-    let mini = Minitransaction::new(alloc, 2, Items::from_vec(items))?;
-    Ok(Coordinator::new(alloc, tid(), mini)?)
 }
 
 /// The client asks for so many votes, and is gone.
-fn vote(alloc: Global, nodes: &mut [Node<MemoryDisk>], votes: u32) -> Result<(), Fail> {
+fn vote(alloc: Global, nodes: &mut Both, votes: u32) -> Result<(), Fail> {
     let mut c = coordinator(alloc)?;
     for _ in 0..votes {
         coordinate(alloc, &mut c, nodes);
@@ -112,97 +93,94 @@ fn vote(alloc: Global, nodes: &mut [Node<MemoryDisk>], votes: u32) -> Result<(),
     Ok(())
 }
 
-fn said(record: &Record) -> (Tid, Kept) {
+/// The letter of a record, and its id.
+fn said(record: &Record) -> (u8, Tid) {
     match record {
-        Record::Voted { tid, .. } => (*tid, Kept::Voted),
-        Record::Executed { tid, .. } => (*tid, Kept::Executed),
-        Record::Decided { tid, yes } => (*tid, Kept::Decided { yes: *yes }),
-        Record::Forced { tid } => (*tid, Kept::Forced),
+        Record::Voted { tid, .. } => (b'V', *tid),
+        Record::Executed { tid, .. } => (b'E', *tid),
+        Record::Decided { tid, yes: true } => (b'Y', *tid),
+        Record::Decided { tid, yes: false } => (b'N', *tid),
+        Record::Forced { tid } => (b'F', *tid),
     }
 }
 
-/// The records are these, all of the one id.
-fn has(records: &[Record], expected: &[Kept]) -> bool {
+/// The records have these letters, and are all of the one id.
+fn has(records: &[Record], letters: &[u8]) -> bool {
     for (at, record) in records.iter().enumerate() {
-        match expected.get(at) {
-            Some(one) if said(record) == (tid(), *one) => {}
-            _ => return false,
+        let (letter, id) = said(record);
+        if id != tid() || letters.get(at).copied() != Some(letter) {
+            return false;
         }
     }
-    records.len() == expected.len()
+    records.len() == letters.len()
 }
 
-/// How a recovery ended.
-fn ended(r: &Recoverer) -> Option<Option<bool>> {
-    match r.next() {
-        RecovStep::Ended { yes } => Some(yes),
-        RecovStep::Send { .. } => None,
+/// Two recoveries, and the nodes.
+#[derive(Drop)]
+struct Race {
+    nodes: Both,
+    one: Recoverer,
+    two: Recoverer,
+}
+
+impl Race {
+    fn new(alloc: Global) -> Result<Self, Fail> {
+        Ok(Race {
+            nodes: Both::new(alloc)?,
+            one: Recoverer::new(alloc, tid(), 2)?,
+            two: Recoverer::new(alloc, tid(), 2)?,
+        })
     }
-}
 
-/// The first five calls of the recoveries are in the order of the binary digits, and then each has
-/// its turn. One of them ends with the verdict, and the other too, unless no node listed the id any
-/// more.
-fn race(
-    rt: &impl Abort,
-    alloc: Global,
-    nodes: &mut [Node<MemoryDisk>],
-    order: u32,
-    verdict: bool,
-) -> Result<(), Fail> {
-    let mut one = Recoverer::new(alloc, tid(), 2)?;
-    let mut two = Recoverer::new(alloc, tid(), 2)?;
-    let mut rest = order;
-    for n in 0..17u32 {
-        let turn = if n < 5 { rest % 2 } else { n % 2 };
-        rest /= 2;
-        if turn == 0 {
-            recover(alloc, &mut one, nodes);
+    /// The turn of one recovery, or of the other.
+    fn turn(&mut self, alloc: Global, number: u32) {
+        if number == 0 {
+            recover(alloc, &mut self.one, &mut self.nodes);
         } else {
-            recover(alloc, &mut two, nodes);
+            recover(alloc, &mut self.two, &mut self.nodes);
         }
     }
-    let ends = (ended(&one), ended(&two));
-    let decided = Some(Some(verdict));
-    assert!(rt;
-        ends.0 == decided || ends.1 == decided,
-        "the end by {order}"
-    );
-    assert!(rt;
-        ends.0 == decided || ends.0 == Some(None),
-        "one's end by {order}"
-    );
-    assert!(rt;
-        ends.1 == decided || ends.1 == Some(None),
-        "two's end by {order}"
-    );
-    Ok(())
+
+    /// The first five calls are in the order of the binary digits, and then each has its turn.
+    fn run(&mut self, alloc: Global, order: u32) {
+        let mut rest = order;
+        for n in 0..17u32 {
+            self.turn(alloc, if n < 5 { rest % 2 } else { n % 2 });
+            rest /= 2;
+        }
+    }
+
+    /// One of them ends with the verdict, and the other too, unless no node listed the id any more.
+    fn has_ended(&self, verdict: bool) -> bool {
+        let decided = Some(Some(verdict));
+        match (ended(&self.one), ended(&self.two)) {
+            (one, Some(None)) => one == decided,
+            (Some(None), two) => two == decided,
+            (one, two) => one == decided && two == decided,
+        }
+    }
+}
+
+/// How many votes there are, the verdict, and the records that both nodes have in the end: V, a
+/// vote, F, it was forced, Y and N, a decision with yes and with no.
+type Row = (u32, bool, &'static [u8], &'static [u8]);
+
+const ROWS: [Row; 2] = [(1, false, b"VN", b"F"), (2, true, b"VY", b"VY")];
+
+fn ends_so(alloc: Global, row: &Row, order: u32) -> Result<bool, Fail> {
+    let (votes, verdict, zero, one) = row;
+    let mut race = Race::new(alloc)?;
+    vote(alloc, &mut race.nodes, *votes)?;
+    race.run(alloc, order);
+    let nodes = &race.nodes;
+    Ok(race.has_ended(*verdict) && has(nodes.zero.records(), zero) && has(nodes.one.records(), one))
 }
 
 #[test]
 fn a_race_over_real_nodes_leaves_their_records(rt: HostRuntime) -> Result<(), Fail> {
-    let alloc = rt.alloc();
-    let yes = [Kept::Voted, Kept::Decided { yes: true }];
-    let no = [Kept::Voted, Kept::Decided { yes: false }];
-    for (votes, verdict, first, second) in [
-        (1, false, &no[..], &[Kept::Forced][..]),
-        (2, true, &yes[..], &yes[..]),
-    ] {
+    for row in &ROWS {
         for order in 0..32 {
-            let mut nodes = Vec::new(alloc);
-            nodes.push(start(&rt, alloc, 0)?)?;
-            nodes.push(start(&rt, alloc, 1)?)?;
-            vote(alloc, &mut nodes, votes)?;
-            race(&rt, alloc, &mut nodes, order, verdict)?;
-            assert!(rt; nodes.len() == 2);
-            assert!(rt;
-                has(nodes[0].records(), first),
-                "node 0 after {votes} by {order}"
-            );
-            assert!(rt;
-                has(nodes[1].records(), second),
-                "node 1 after {votes} by {order}"
-            );
+            assert!(rt; ends_so(rt.alloc(), row, order)?, "the race by {order}");
         }
     }
     Ok(())

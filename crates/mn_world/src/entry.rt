@@ -11,7 +11,7 @@ pub struct Entry {
 }
 
 /// What happened in a step.
-#[derive(Debug, Drop)]
+#[derive(Debug)]
 pub enum What {
     /// The client began its operation of this number, from 1.
     Begin {
@@ -48,6 +48,33 @@ pub enum What {
         number: u32,
         answer: Answer,
     },
+}
+
+/// It is let go by a call, which is proved once, and not in place wherever one goes.
+impl Drop for What {
+    fn drop(self) {
+        match self {
+            What::Begin {
+                number: _number,
+                op,
+            } => drop(op),
+            What::Issue { tid: _tid, mini } => drop(mini),
+            What::Called { request, reply } => {
+                drop(request);
+                drop(reply);
+            }
+            What::Stopped {
+                request,
+                asked: _asked,
+            } => drop(request),
+            What::Restarted { kept: _kept } => {}
+            What::Abandoned { tid: _tid } => {}
+            What::Answered {
+                number: _number,
+                answer,
+            } => drop(answer),
+        }
+    }
 }
 
 impl TryCopy for Entry {

@@ -7,29 +7,28 @@ ghost use Rattle.mn_txn.specs.Tries.{FreeSlotsAreLeft, TriesShowCauses, WornPage
 ghost use Rattle.mn_world.specs.declared.entry.Entry.{Entry};
 ghost use Rattle.mn_world.specs.Places.{catalog_place};
 ghost use Rattle.mn_proxy.specs.declared.errand.Purpose.TheVariants as purposes;
-ghost use Rattle.mn_proxy.specs.declared.get.Descent.{Descent};
+ghost use Rattle.mn_work.specs.declared.get.Descent.{Descent};
 ghost use Rattle.mn_proxy.specs.Agrees.{IsAtRest, IsOwn, IsPlaceFor, MayPeekFor};
-ghost use Rattle.mn_proxy.specs.Cached.{Walks, next_of};
+ghost use Rattle.mn_work.specs.Cached.{Walks, next_of};
 ghost use Rattle.mn_proxy.specs.Kept.{CacheTurns, CatalogTurns, GoesWith, Issues, Reads};
-ghost use Rattle.mn_proxy.specs.Knows.{KeepsKnown};
+ghost use Rattle.mn_work.specs.Knows.{KeepsKnown};
 ghost use Rattle.mn_proxy.specs.Measure.{GoesBelow, left_after};
-ghost use Rattle.mn_proxy.specs.Paths.{HasCurrentPath, ReadsLeaf, WantsLeaf};
-ghost use Rattle.mn_proxy.specs.Places.{place_of};
+ghost use Rattle.mn_work.specs.Paths.{HasCurrentPath, WantsLeaf};
+ghost use Rattle.mn_proxy.specs.LeafReads.{ReadsLeaf};
+ghost use Rattle.mn_work.specs.Places.{place_of};
 ghost use Rattle.mn_proxy.specs.Tries.{max_tries};
 ghost use Rattle.mn_proxy.specs.Turns.{IsSoundTurn, KeepsSelf, MayIssue, TurnAgrees, WaitsFor};
 ghost use Rattle.mn_proxy.specs.Turns.{read_mini, with_known};
-ghost use Rattle.mn_proxy.specs.Walks.{is_later};
-ghost use Rattle.mn_proxy.specs.Works.{IsJobOf, IsStartable, KeepsOp, WantsNext, new_work};
+ghost use Rattle.mn_work.specs.Walks.{is_later};
+ghost use Rattle.mn_work.specs.Works.{IsJobOf, IsStartable, KeepsOp, WantsNext, new_work};
 
 use super::{PEEKS, Proxy, Turn, ends, goes};
 use crate::errand::{Errand, Purpose};
-use crate::next::Next;
-use crate::place::Place;
 use crate::step::ProxyStep;
-use crate::work::Work;
 use mn_base::{NoMemory, Tid, TryCopy};
 use mn_coord::Coordinator;
 use mn_mini::{Item, Items, MAX_ITEM, Minitransaction, Request, SPACE};
+use mn_work::{Next, Place, Work};
 use std::alloc::Global;
 
 /// A minitransaction that reads a place. NoMemory: there was no memory for it.

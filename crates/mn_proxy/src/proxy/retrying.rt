@@ -7,14 +7,13 @@ ghost use Rattle.mn_proxy.specs.Measure.{GoesBelow, left_after};
 ghost use Rattle.mn_proxy.specs.Tries.{max_tries};
 ghost use Rattle.mn_proxy.specs.Turns.{FailsSo, HasFailed, IsRefused, IsSoundTurn, KeepsSelf};
 ghost use Rattle.mn_proxy.specs.Turns.{MayRetry, TurnAgrees};
-ghost use Rattle.mn_proxy.specs.Works.{IsStartable, retried_job};
+ghost use Rattle.mn_work.specs.Works.{IsStartable, retried_job};
 
 use super::{Proxy, Turn, ends};
-use crate::causes::refusal;
-use crate::work::Work;
 use mn_base::{Answer, Busy, NoMemory, NodeNo, Tid};
 use mn_coord::Outcome;
 use mn_mini::{Minitransaction, NodeReply};
+use mn_work::{Work, refusal};
 use std::alloc::Global;
 
 /// The most tries of an operation, and of each leaf of a scan.

@@ -12,24 +12,21 @@ ghost use Rattle.mn_proxy.specs.Agrees.{MiniAgrees};
 ghost use Rattle.mn_proxy.specs.Issues.{AreClosed};
 ghost use Rattle.mn_proxy.specs.Kept.{CacheTurns, CatalogTurns, Calls, PutsRead, read_by, read_for};
 ghost use Rattle.mn_proxy.specs.Kept.{read_when};
-ghost use Rattle.mn_proxy.specs.Knows.{ArePages};
+ghost use Rattle.mn_work.specs.Knows.{ArePages};
 ghost use Rattle.mn_proxy.specs.Measure.{GoesBelow, left_after, left_of};
-ghost use Rattle.mn_proxy.specs.Paths.{LeafTurns};
+ghost use Rattle.mn_proxy.specs.LeafReads.{LeafTurns};
 ghost use Rattle.mn_proxy.specs.Tries.{max_tries};
 ghost use Rattle.mn_proxy.specs.Turns.{CameOf, IsCommitted, IsSoundTurn, KeepsSelf, Leaves};
 ghost use Rattle.mn_proxy.specs.Turns.{TurnAgrees, WaitsFor, read_alone};
-ghost use Rattle.mn_proxy.specs.Walks.{is_later};
+ghost use Rattle.mn_work.specs.Walks.{is_later};
 
 use super::{Proxy, Turn, ends, goes};
 use crate::errand::{Errand, Purpose};
-use crate::known::Known;
-use crate::next::Taken;
-use crate::place::Place;
 use crate::step::ProxyStep;
-use crate::work::Work;
 use mn_base::{Answer, Bytes, NoMemory, Tid};
 use mn_coord::{CoordStep, Coordinator, Outcome};
 use mn_mini::NodeReply;
+use mn_work::{Known, Place, Taken, Work};
 use std::alloc::Global;
 
 /// What a minitransaction of one read item has read.

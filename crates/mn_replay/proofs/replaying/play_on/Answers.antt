@@ -4,13 +4,14 @@ use Rattle.mn_mini.specs.declared.record.Record.{Record}
 use Rattle.mn_node.specs.State.{NodeState}
 use Rattle.mn_world.specs.declared.entry.Entry.{Entry}
 use Rattle.mn_world.specs.Protocol.{start_of}
-use Rattle.mn_replay.specs.Failed.{IsRunOn}
+use Rattle.mn_callers.specs.Failed.{IsRunOn}
 use Rattle.mn_replay.specs.Follows.{IsPlayed}
-use Rattle.mn_replay.specs.Logs.{AreFreeIfSound, HasLog}
-use Rattle.mn_replay.specs.Plays.{state_of}
-use Rattle.mn_replay.specs.Trace.{IsTrace, start_on}
-use Rattle.mn_replay.specs.Turn.{callers_count}
-use Rattle.mn_replay.proofs.Opening.{all_back, as_named, first_play, fresh_play, holds_empty, not_begun}
+use Rattle.mn_replay.specs.Logs.{AreFreeIfSound}
+use Rattle.mn_callers.specs.Logs.{HasLog}
+use Rattle.mn_replay.specs.Logs.{state_of}
+use Rattle.mn_callers.specs.Trace.{IsTrace, start_on}
+use Rattle.mn_callers.specs.Turn.{callers_count}
+use Rattle.mn_callers.proofs.Opening.{all_back, as_named, first_play, fresh_play, holds_empty, not_begun}
 use Rattle.mn_replay.proofs.Scheduled.{told_follows}
 use Rattle.mn_replay.proofs.replaying.play_on.Goals as goal
 

@@ -1,5 +1,5 @@
 use Rattle.std.proofs.Common.{[], refl}
-use Rattle.mn_replay.proofs.Opening.{not_begun}
+use Rattle.mn_callers.proofs.Opening.{not_begun}
 use Rattle.mn_replay.proofs.replaying.replay.Goals as goal
 
 pub returns-in-Err-clause-failed : goal.returns-in-Err-clause-failed

@@ -3,7 +3,7 @@ use Rattle.std.specs.Prelude.{slice_get}
 use Rattle.std.specs.Option.{option_map_or}
 use Rattle.mn_actors.specs.Sight.{id_of}
 use Rattle.mn_world.specs.Protocol.{run_number}
-use Rattle.mn_replay.specs.Trace.{start_on}
+use Rattle.mn_callers.specs.Trace.{start_on}
 use Rattle.mn_replay.proofs.replaying.replay.Given as goal
 
 abbrev pub ghosts-play_on : goal.ghosts-play_on

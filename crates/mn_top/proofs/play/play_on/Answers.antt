@@ -1,5 +1,5 @@
 use Rattle.std.proofs.Common.{◌++◌, ◌∙◌, map, ap}
-use Rattle.mn_replay.specs.Trace.{start_on}
+use Rattle.mn_callers.specs.Trace.{start_on}
 use Rattle.mn_top.proofs.Playing.{failed, played}
 use Rattle.mn_top.proofs.play.play_on.Goals as goal
 

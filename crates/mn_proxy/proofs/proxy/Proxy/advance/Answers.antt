@@ -1,26 +1,26 @@
 -- What a try wants goes on by the callee's own clause.
 use Rattle.std.proofs.Common.{◌<◌, ℕ, sym, ap, subst, Result, Ok, Err}
 use Rattle.std.specs.Prelude.{OnErr}
-use Rattle.mn_proxy.specs.declared.next.Next.{Next}
-use Rattle.mn_proxy.specs.Places.{place_of}
+use Rattle.mn_work.specs.declared.next.Next.{Next}
+use Rattle.mn_work.specs.Places.{place_of}
 use Rattle.mn_proxy.specs.Turns.{TurnAgrees}
-use Rattle.mn_proxy.specs.Works.{WantsNext}
+use Rattle.mn_work.specs.Works.{WantsNext}
 use Rattle.mn_world.specs.Places.{Place as Range}
 use Rattle.mn_proxy.proofs.Wanting.{answers_so, asks_catalog, asks_count, asks_page, counts_place}
 use Rattle.mn_proxy.proofs.Wanting.{answers_self, has_failed, kept_idle, kept_self, makes_plan, own_self}
-use Rattle.mn_proxy.proofs.Works.{catalog_asked, count_asked, page_asked, plan_asked, retry_after_wants, starts_right}
+use Rattle.mn_work.proofs.Works.{catalog_asked, count_asked, page_asked, plan_asked, retry_after_wants, starts_right}
 use Rattle.mn_proxy.specs.Measure.{GoesBelow, left_after}
 use Rattle.mn_proxy.proofs.Measure.{known_goes}
 use Rattle.std.proofs.Common.{None, Some, refl, ◌∙◌}
 use Rattle.mn_base.specs.declared.error.NoMemory.{NoMemory}
-use Rattle.mn_proxy.specs.declared.known.Known.{Known}
+use Rattle.mn_work.specs.declared.known.Known.{Known}
 use Rattle.mn_proxy.specs.declared.proxy.Turn.{Turn}
-use Rattle.mn_proxy.specs.declared.work.Work.{Work}
-use Rattle.mn_proxy.specs.Cached.{Walks}
-use Rattle.mn_proxy.specs.Paths.{ReadsLeaf}
-use Rattle.mn_proxy.specs.Walks.{is_later}
-use Rattle.mn_proxy.proofs.Getting.{reads_leaf}
-use Rattle.mn_proxy.proofs.Cached.{walks_none}
+use Rattle.mn_work.specs.declared.work.Work.{Work}
+use Rattle.mn_work.specs.Cached.{Walks}
+use Rattle.mn_proxy.specs.LeafReads.{ReadsLeaf}
+use Rattle.mn_work.specs.Walks.{is_later}
+use Rattle.mn_proxy.proofs.LeafReads.{reads_leaf}
+use Rattle.mn_work.proofs.Cached.{walks_none}
 use Rattle.mn_proxy.proofs.Kept.{catalog_stays, catalog_then, no_page_turns, page_turns, used_turns}
 use Rattle.mn_proxy.proofs.Taking.{none_made}
 use Rattle.mn_proxy.proofs.proxy.Proxy.advance.Goals as goal

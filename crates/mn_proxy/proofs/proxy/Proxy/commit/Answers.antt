@@ -8,7 +8,7 @@ use Rattle.mn_base.specs.declared.error.NoMemory.{NoMemory}
 use Rattle.mn_proxy.specs.declared.errand.Purpose.{Purpose}
 use Rattle.mn_proxy.specs.declared.proxy.Turn.{Turn}
 use Rattle.mn_proxy.specs.Kept.{read_for}
-use Rattle.mn_proxy.specs.Walks.{is_later}
+use Rattle.mn_work.specs.Walks.{is_later}
 use Rattle.mn_proxy.proofs.Kept.{cache_as, catalog_as, catalog_stays, leaf_as, read_none, read_some, unread_cache, unread_catalog, unread_leaf}
 use Rattle.mn_proxy.proofs.proxy.Proxy.commit.Goals as goal
 

@@ -21,7 +21,7 @@ use Rattle.mn_coord.specs.declared.step.CoordStep.TheVariants.{Committed, Doubt,
 use Rattle.mn_proxy.specs.declared.errand.Purpose.{Purpose}
 use Rattle.mn_proxy.specs.declared.proxy.Turn.{Turn}
 use Rattle.mn_proxy.specs.Kept.{read_for, read_when}
-use Rattle.mn_proxy.specs.Walks.{is_later}
+use Rattle.mn_work.specs.Walks.{is_later}
 use Rattle.mn_proxy.proofs.Kept.{cache_as, catalog_as, catalog_stays, leaf_as, unread_cache, unread_catalog, unread_leaf}
 use Rattle.mn_base.specs.declared.ids.NodeNo.{NodeNo}
 use Rattle.mn_mini.specs.declared.request.Request.{Request}

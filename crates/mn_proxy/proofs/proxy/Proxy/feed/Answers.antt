@@ -10,9 +10,9 @@ use Rattle.std.proofs.Common.{Some, ap}
 use Rattle.mn_coord.specs.Coordination.{Coordination}
 use Rattle.mn_proxy.specs.declared.errand.Errand.{Errand}
 use Rattle.mn_proxy.specs.declared.errand.Errand.TheVariants as out
-use Rattle.mn_proxy.specs.declared.work.Work.{Work}
+use Rattle.mn_work.specs.declared.work.Work.{Work}
 use Rattle.mn_proxy.specs.Turns.{IsFed}
-use Rattle.mn_proxy.proofs.Getting.{under_as}
+use Rattle.mn_proxy.proofs.LeafReads.{under_as}
 use Rattle.mn_proxy.proofs.proxy.Proxy.feed.Goals as goal
 
 pub invariant_of-self-2 : goal.invariant_of-self-2

@@ -11,17 +11,17 @@ use Rattle.std.proofs.Common.{◌≡◌, Ok, Result}
 use Rattle.mn_base.specs.declared.error.NoMemory.{NoMemory}
 use Rattle.mn_proxy.specs.declared.step.ProxyStep.{ProxyStep}
 use Rattle.mn_proxy.specs.Kept.{CacheGoes, CatalogGoes, read_by}
-use Rattle.mn_proxy.specs.Paths.{ReadsLeaf, shown_by}
+use Rattle.mn_proxy.specs.LeafReads.{ReadsLeaf, shown_by}
 use Rattle.mn_proxy.specs.declared.proxy.Turn.TheVariants as turns
 use Rattle.mn_proxy.specs.declared.step.ProxyStep.TheVariants as steps
-use Rattle.mn_proxy.proofs.Getting.{leaf_ends, path_reads}
+use Rattle.mn_proxy.proofs.LeafReads.{leaf_ends, path_reads}
 use Rattle.mn_proxy.proofs.Kept.{cache_ends, cache_fails, cache_goes, catalog_ends, catalog_goes}
 use Rattle.mn_coord.specs.Coordination.{after_step}
 use Rattle.mn_coord.specs.declared.step.CoordStep.TheVariants.{Send}
 use Rattle.mn_proxy.specs.declared.errand.Errand.{Errand}
 use Rattle.mn_proxy.specs.declared.errand.Errand.TheVariants as out
-use Rattle.mn_proxy.specs.declared.work.Work.{Work}
-use Rattle.mn_proxy.proofs.Getting.{under_as}
+use Rattle.mn_work.specs.declared.work.Work.{Work}
+use Rattle.mn_proxy.proofs.LeafReads.{under_as}
 use Rattle.mn_proxy.proofs.proxy.Proxy.next.Goals as goal
 
 pub returns-in_err-step-clause-left : goal.returns-in_err-step-clause-left

@@ -1,6 +1,6 @@
 -- What is read by an Exec is issued.
 use Rattle.std.proofs.Common.{◌∙◌, ap}
-use Rattle.mn_proxy.specs.Places.{place_of}
+use Rattle.mn_work.specs.Places.{place_of}
 use Rattle.mn_proxy.specs.State.{ProxyState}
 use Rattle.mn_proxy.specs.Turns.{read_mini}
 use Rattle.mn_proxy.proofs.Issuing.{may_read}

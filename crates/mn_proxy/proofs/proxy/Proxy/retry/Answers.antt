@@ -3,10 +3,10 @@ use Rattle.mn_proxy.specs.contracts.proxy.Proxy.{the_view}
 use Rattle.mn_proxy.proofs.Retrying.{own_forgotten_as, retried_as}
 use Rattle.mn_proxy.proofs.Measure.{same_goes}
 use Rattle.std.proofs.Common.{ap, ◌∙◌}
-use Rattle.mn_proxy.specs.declared.known.Known.{Known}
-use Rattle.mn_proxy.specs.declared.work.Work.{Work}
+use Rattle.mn_work.specs.declared.known.Known.{Known}
+use Rattle.mn_work.specs.declared.work.Work.{Work}
 use Rattle.mn_proxy.specs.State.{ProxyState}
-use Rattle.mn_proxy.specs.Walks.{is_later}
+use Rattle.mn_work.specs.Walks.{is_later}
 use Rattle.mn_proxy.proofs.Kept.{catalog_gone, later_now}
 use Rattle.mn_proxy.proofs.proxy.Proxy.retry.Goals as goal
 

@@ -3,7 +3,7 @@ use Rattle.std.proofs.Common.{◌≡◌, ◌∙◌, inl, inr, ap, subst, sym, re
 use Rattle.mn_proxy.specs.State.{ProxyState}
 use Rattle.mn_proxy.specs.Turns.{IsSoundTurn, TurnAgrees, WaitsFor, with_known}
 use Rattle.mn_proxy.specs.Agrees.{IsOwn}
-use Rattle.mn_proxy.specs.declared.next.Taken.{Taken}
+use Rattle.mn_work.specs.declared.next.Taken.{Taken}
 use Rattle.mn_proxy.specs.contracts.proxy.Proxy.{the_view}
 use Rattle.mn_proxy.proofs.Taking.{few_as, job_as, kept_as, none_left, none_made, own_left_as, replies_as, sound_left, startable_as, tells_as}
 use Rattle.mn_proxy.specs.Measure.{GoesBelow, left_after}
@@ -14,14 +14,13 @@ use Rattle.mn_base.specs.declared.error.NoMemory.{NoMemory}
 use Rattle.mn_base.specs.declared.reply.Reply.{Reply}
 use Rattle.mn_proxy.specs.declared.proxy.Turn.{Turn}
 use Rattle.mn_proxy.specs.declared.proxy.Turn.TheVariants as turns
-use Rattle.mn_proxy.specs.Descents.{values_at}
+use Rattle.mn_work.specs.Descents.{values_at}
 use Rattle.mn_proxy.specs.Kept.{CatalogTurns}
-use Rattle.mn_proxy.specs.Paths.{shown_by}
-use Rattle.mn_proxy.specs.Walks.{is_later}
-use Rattle.mn_proxy.proofs.Getting.{leaf_next}
+use Rattle.mn_proxy.specs.LeafReads.{shown_by}
+use Rattle.mn_work.specs.Walks.{is_later}
+use Rattle.mn_proxy.proofs.LeafReads.{leaf_next}
 use Rattle.mn_proxy.proofs.Kept.{cache_last, cache_left, cache_then, came_op, catalog_next, catalog_stays, never_later}
 use Rattle.mn_proxy.proofs.proxy.Proxy.take.Goals as goal
-use Rattle.mn_proxy.proofs.proxy.Proxy.take.Goals.{in-Transaction-2, in-Child-2, in-Scan-2, in-Start-2}
 
 pub taken_for-requires-clause-pages : goal.taken_for-requires-clause-pages
 taken_for-requires-clause-pages c = c.self.invariant.pages
@@ -84,23 +83,8 @@ pub advance-requires-in-Leaf-clause-job : goal.advance-requires-in-Leaf-clause-j
 advance-requires-in-Leaf-clause-job c =
     job_as (the_view c.self.inside) c.args.self.now c.self.view_is c.taken_for.new.known c.args.work c.taken_for.new.work c.args.purpose c.args.bytes c.in_ok-taken_for.field-0 c.requires.waits c.in_ok-taken_for.ensures.came (inr c.in-Leaf.is)
 
-pub invariant_of-self-in-Replies : goal.invariant_of-self-in-Replies
-invariant_of-self-in-Replies c =
-    sound_left c.self.inside c.taken_for.new.known c.args.purpose c.args.bytes c.self.invariant
-    (ap (λ (p : ProxyState). p.work) c.self.view_is ∙ c.requires.idle) c.taken_for.ensures.leaves c.taken_for.ensures.pages
-
-pub invariant_of-self-in-Replies-2 : goal.invariant_of-self-in-Replies-2
-invariant_of-self-in-Replies-2 c =
-    sound_left c.self.inside c.taken_for.new.known c.args.purpose c.args.bytes c.self.invariant
-    (ap (λ (p : ProxyState). p.work) c.self.view_is ∙ c.requires.idle) c.taken_for.ensures.leaves c.taken_for.ensures.pages
-
-pub invariant_of-self-in-Replies-3 : goal.invariant_of-self-in-Replies-3
-invariant_of-self-in-Replies-3 c =
-    sound_left c.self.inside c.taken_for.new.known c.args.purpose c.args.bytes c.self.invariant
-    (ap (λ (p : ProxyState). p.work) c.self.view_is ∙ c.requires.idle) c.taken_for.ensures.leaves c.taken_for.ensures.pages
-
-pub invariant_of-self-in-Replies-4 : goal.invariant_of-self-in-Replies-4
-invariant_of-self-in-Replies-4 c =
+pub invariant_of-self-in-Replies-1 : goal.invariant_of-self-in-Replies-1
+invariant_of-self-in-Replies-1 c =
     sound_left c.self.inside c.taken_for.new.known c.args.purpose c.args.bytes c.self.invariant
     (ap (λ (p : ProxyState). p.work) c.self.view_is ∙ c.requires.idle) c.taken_for.ensures.leaves c.taken_for.ensures.pages
 
@@ -156,28 +140,18 @@ pub returns-in-Leaf-clause-kept : goal.returns-in-Leaf-clause-kept
 returns-in-Leaf-clause-kept c =
     kept_as (the_view c.self.inside) c.args.self.now c.advance-in-Leaf.new.self c.taken_for.new.known c.args.purpose c.args.bytes c.self.view_is c.taken_for.ensures.leaves c.advance-in-Leaf.ensures.kept
 
--- the state stays while the operation is dropped
-state_after : (c : goal.Joined-work-5) → c.match-work-5.self ≡ with_known (the_view c.self.inside) c.taken_for.new.known
-state_after c =
-    elim c.match-work-5.branch [
-      | in-Transaction-2 w ↦ w.self-is
-      | in-Child-2 w ↦ w.self-is
-      | in-Scan-2 w ↦ w.self-is
-      | in-Start-2 w ↦ w.self-is
-    ]
-
 pub returns-in-Replies-clause-sound : goal.returns-in-Replies-clause-sound
-returns-in-Replies-clause-sound c = subst (IsSoundTurn c.match-work-5.self.known) (sym c.ends.ensures) tt
+returns-in-Replies-clause-sound c = subst (IsSoundTurn c.taken_for.new.known) (sym c.ends.ensures) tt
 
 pub returns-in-Replies-clause-turns : goal.returns-in-Replies-clause-turns
 returns-in-Replies-clause-turns c = λ es own read closed over.
-    replies_as es (the_view c.self.inside) c.args.self.now c.self.view_is c.taken_for.new.known c.args.work c.args.purpose c.args.bytes own read c.taken_for.new.work c.in_ok-taken_for.field-0 c.in-Replies.reply c.ends.result c.match-work-5.self (state_after c) c.ends.ensures c.in-Replies.is c.requires.waits closed over c.in_ok-taken_for.ensures.came c.taken_for.ensures.leaves
+    replies_as es (the_view c.self.inside) c.args.self.now c.self.view_is c.taken_for.new.known c.args.work c.args.purpose c.args.bytes own read c.taken_for.new.work c.in_ok-taken_for.field-0 c.in-Replies.reply c.ends.result (with_known (the_view c.self.inside) c.taken_for.new.known) refl c.ends.ensures c.in-Replies.is c.requires.waits closed over c.in_ok-taken_for.ensures.came c.taken_for.ensures.leaves
 
 pub returns-in-Replies-clause-kept : goal.returns-in-Replies-clause-kept
 returns-in-Replies-clause-kept c =
-    kept_as (the_view c.self.inside) c.args.self.now c.match-work-5.self c.taken_for.new.known c.args.purpose c.args.bytes c.self.view_is c.taken_for.ensures.leaves (
-      (ap (λ (p : ProxyState). p.client) (state_after c), ap (λ (p : ProxyState). p.run) (state_after c), ap (λ (p : ProxyState). p.known.nodes) (state_after c)),
-      ap (λ (p : ProxyState). p.work) (state_after c) ∙ ap (λ (p : ProxyState). p.work) c.self.view_is ∙ c.requires.idle,
+    kept_as (the_view c.self.inside) c.args.self.now (with_known (the_view c.self.inside) c.taken_for.new.known) c.taken_for.new.known c.args.purpose c.args.bytes c.self.view_is c.taken_for.ensures.leaves (
+      (refl, refl, refl),
+      ap (λ (p : ProxyState). p.work) c.self.view_is ∙ c.requires.idle,
     )
 
 pub returns-in-Fails-clause-sound : goal.returns-in-Fails-clause-sound
@@ -215,7 +189,7 @@ returns-in-Fails-clause-falls c =
     same_goes c.args.self.now (the_view c.self.inside) c.fail.new.self c.fail.result c.self.view_is c.fail.ensures.falls
 
 pub returns-in-Replies-clause-falls : goal.returns-in-Replies-clause-falls
-returns-in-Replies-clause-falls c = subst (GoesBelow (left_after c.args.self.now) c.match-work-5.self) (sym c.ends.ensures) tt
+returns-in-Replies-clause-falls c = subst (GoesBelow (left_after c.args.self.now) (with_known (the_view c.self.inside) c.taken_for.new.known)) (sym c.ends.ensures) tt
 
 -- What is kept
 
@@ -282,15 +256,15 @@ returns-in-Fails-clause-cache c =
 
 pub returns-in-Replies-clause-cache : goal.returns-in-Replies-clause-cache
 returns-in-Replies-clause-cache c =
-    cache_last (the_view c.self.inside) c.args.self.now c.self.view_is (Some (c.args.purpose, c.args.bytes)) (is_later c.args.work.failed) c.taken_for.new.known.cache c.match-work-5.self.known.cache
-    c.in_ok-taken_for.field-0 (Ok c.ends.result) c.in_ok-taken_for.ensures.cache (ap (λ (p : ProxyState). p.known.cache) (state_after c))
+    cache_last (the_view c.self.inside) c.args.self.now c.self.view_is (Some (c.args.purpose, c.args.bytes)) (is_later c.args.work.failed) c.taken_for.new.known.cache c.taken_for.new.known.cache
+    c.in_ok-taken_for.field-0 (Ok c.ends.result) c.in_ok-taken_for.ensures.cache refl
 
 pub returns-in-Replies-clause-catalog : goal.returns-in-Replies-clause-catalog
 returns-in-Replies-clause-catalog c =
     let result : Result Turn NoMemory = Ok c.ends.result in
     catalog_next (the_view c.self.inside) c.args.self.now c.self.view_is c.args.work c.taken_for.new.work c.args.purpose c.args.bytes c.in_ok-taken_for.field-0 c.taken_for.new.known
-    c.match-work-5.self.known.catalog result c.in_ok-taken_for.ensures.came
-    (catalog_stays c.taken_for.new.known.catalog c.match-work-5.self.known.catalog result (ap (λ (p : ProxyState). p.known.catalog) (state_after c)))
+    c.taken_for.new.known.catalog result c.in_ok-taken_for.ensures.came
+    (catalog_stays c.taken_for.new.known.catalog c.taken_for.new.known.catalog result refl)
 
 pub returns-in-Replies-clause-leaf : goal.returns-in-Replies-clause-leaf
 returns-in-Replies-clause-leaf c = λ leaf.

@@ -1,6 +1,6 @@
 use Rattle.std.proofs.Common.{refl, subst, sym}
 use Rattle.mn_proxy.specs.Agrees.{MayWant, PeekedAgrees}
-use Rattle.mn_proxy.specs.Places.{place_of}
+use Rattle.mn_work.specs.Places.{place_of}
 use Rattle.mn_proxy.specs.Turns.{TurnAgrees}
 use Rattle.mn_proxy.proofs.Coordinating.{on_err, peeked_down, peeked_may_want}
 use Rattle.std.proofs.Common.{◌≡◌, Err, Ok, Result, Some, ap}
@@ -9,10 +9,10 @@ use Rattle.mn_mini.specs.declared.reply.NodeReply.{NodeReply}
 use Rattle.mn_mini.specs.declared.reply.NodeReply.TheVariants as Say
 use Rattle.mn_proxy.specs.declared.errand.Errand.TheVariants as out
 use Rattle.mn_proxy.specs.declared.errand.Purpose.{Purpose}
-use Rattle.mn_proxy.specs.declared.place.Place.{Place}
+use Rattle.mn_work.specs.declared.place.Place.{Place}
 use Rattle.mn_proxy.specs.declared.proxy.Turn.{Turn}
 use Rattle.mn_proxy.specs.Kept.{read_by}
-use Rattle.mn_proxy.specs.Walks.{is_later}
+use Rattle.mn_work.specs.Walks.{is_later}
 use Rattle.mn_proxy.proofs.Kept.{cache_as, catalog_as, catalog_stays, leaf_as, peeked_none, unread_cache, unread_catalog, unread_leaf}
 use Rattle.mn_proxy.proofs.proxy.Proxy.take_peeked.Goals as goal
 

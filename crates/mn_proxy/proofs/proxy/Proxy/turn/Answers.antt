@@ -8,7 +8,7 @@ use Rattle.mn_proxy.specs.Turns.{with_work}
 use Rattle.mn_proxy.proofs.Measure.{errand_goes}
 use Rattle.std.proofs.Common.{None, ap, refl, ◌∙◌}
 use Rattle.mn_proxy.specs.Kept.{read_by}
-use Rattle.mn_proxy.specs.Walks.{is_later}
+use Rattle.mn_work.specs.Walks.{is_later}
 use Rattle.mn_proxy.proofs.Kept.{cache_as, catalog_as, leaf_as, unread_cache, unread_leaf}
 use Rattle.std.proofs.Common.{◌≡◌}
 use Rattle.mn_base.specs.declared.ids.Tid.{Tid}

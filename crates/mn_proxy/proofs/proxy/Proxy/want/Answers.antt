@@ -1,6 +1,6 @@
 use Rattle.std.proofs.Common.{subst, sym}
 use Rattle.mn_proxy.specs.State.{ProxyState}
-use Rattle.mn_proxy.specs.Paths.{HasCurrentPath}
+use Rattle.mn_work.specs.Paths.{HasCurrentPath}
 use Rattle.mn_proxy.proofs.proxy.Proxy.want.Goals as goal
 
 pub returns-clause-path : goal.returns-clause-path

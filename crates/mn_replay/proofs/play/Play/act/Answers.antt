@@ -1,7 +1,8 @@
 use Rattle.std.proofs.Common.{ℕ, OnOk, true, false, sym, subst}
 use Rattle.mn_world.specs.Protocol.{start_of}
 use Rattle.mn_replay.specs.Logs.{GoesAs}
-use Rattle.mn_replay.specs.Plays.{AreReady, state_of}
+use Rattle.mn_callers.specs.Plays.{AreReady}
+use Rattle.mn_replay.specs.Logs.{state_of}
 use Rattle.mn_replay.specs.Schedule.{DoesAct, RecoversFor}
 use Rattle.mn_script.specs.declared.elements.Act.{Act}
 use Rattle.mn_replay.proofs.Acting.{ok_so}

@@ -5,15 +5,17 @@ use Rattle.mn_actors.specs.Sight.{board_of, view_of}
 use Rattle.mn_script.specs.declared.elements.Point.{Point}
 use Rattle.mn_script.specs.declared.elements.ScriptClient.{ScriptClient}
 use Rattle.mn_world.specs.Protocol.{start_of}
-use Rattle.mn_replay.specs.declared.play.Callers.{Callers}
-use Rattle.mn_replay.specs.Acts.{Role, as_role}
-use Rattle.mn_replay.specs.Clients.{IsClient, IsOfRun, past_of}
+use Rattle.mn_callers.specs.declared.callers.Callers.{Callers}
+use Rattle.mn_callers.specs.Acts.{Role, as_role}
+use Rattle.mn_callers.specs.Clients.{IsClient, IsOfRun, past_of}
 use Rattle.mn_replay.specs.Logs.{GoesAs}
-use Rattle.mn_replay.specs.Plays.{AreReady, state_of}
-use Rattle.mn_replay.specs.Turn.{turn_at}
-use Rattle.mn_replay.specs.Schedule.{DoesMove, IsOfClient, role_of}
+use Rattle.mn_callers.specs.Plays.{AreReady}
+use Rattle.mn_replay.specs.Logs.{state_of}
+use Rattle.mn_callers.specs.Turn.{turn_at}
+use Rattle.mn_replay.specs.Schedule.{DoesMove, IsOfClient}
+use Rattle.mn_callers.specs.Acts.{role_of}
 use Rattle.mn_replay.proofs.Acting.{client_begins, client_ends, client_goes, client_turn, met_at, ok_then, role_same}
-use Rattle.mn_replay.proofs.Replacing.{client_ready}
+use Rattle.mn_callers.proofs.Replacing.{client_ready}
 use Rattle.mn_replay.proofs.play.Play.client_turn.Goals as goal
 
 pub make_move-done-requires-clause-turn : goal.make_move-done-requires-clause-turn

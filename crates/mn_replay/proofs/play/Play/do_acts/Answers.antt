@@ -1,5 +1,5 @@
 use Rattle.mn_replay.specs.Logs.{GoesAs}
-use Rattle.mn_replay.specs.Plays.{state_of}
+use Rattle.mn_replay.specs.Logs.{state_of}
 use Rattle.mn_replay.specs.Schedule.{DoesActs, acts_of, last_acts}
 use Rattle.mn_replay.proofs.Acting.{ok_then}
 use Rattle.mn_replay.proofs.Scheduled.{acts_as, acts_both}

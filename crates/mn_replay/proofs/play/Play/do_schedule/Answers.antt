@@ -2,7 +2,7 @@ use Rattle.std.proofs.Common.{◌∙◌, ◌+◌, List, take, sym, subst}
 use Rattle.std.proofs.lemmas.List.{take_more, take_all}
 use Rattle.mn_script.specs.declared.elements.Act.{Act}
 use Rattle.mn_replay.specs.Logs.{GoesAs}
-use Rattle.mn_replay.specs.Plays.{state_of}
+use Rattle.mn_replay.specs.Logs.{state_of}
 use Rattle.mn_replay.specs.Schedule.{DoesAct, DoesActs}
 use Rattle.mn_replay.proofs.Scheduled.{acts_as, acts_more}
 use Rattle.mn_replay.proofs.play.Play.do_schedule.Goals as goal

@@ -1,7 +1,8 @@
 use Rattle.std.proofs.Common.{take}
 use Rattle.mn_world.specs.Protocol.{start_of}
 use Rattle.mn_replay.specs.Logs.{GoesAs}
-use Rattle.mn_replay.specs.Plays.{AreReady, IsPlay, state_of}
+use Rattle.mn_callers.specs.Plays.{AreReady, IsPlay}
+use Rattle.mn_replay.specs.Logs.{state_of}
 use Rattle.mn_replay.specs.Schedule.{DoesActs}
 use Rattle.mn_replay.proofs.play.Play.do_schedule.Given as goal
 

@@ -3,7 +3,7 @@ use Rattle.std.specs.List.{range_with_len}
 use Rattle.std.proofs.lemmas.List.FromFn.{map-range_with_len_more}
 use Rattle.mn_script.specs.declared.elements.Act.{Act}
 use Rattle.mn_replay.specs.Logs.{GoesAs}
-use Rattle.mn_replay.specs.Plays.{state_of}
+use Rattle.mn_replay.specs.Logs.{state_of}
 use Rattle.mn_replay.specs.Schedule.{DoesAct, DoesActs, all_of}
 use Rattle.mn_replay.proofs.Scheduled.{acts_as, acts_more}
 use Rattle.mn_replay.proofs.play.Play.finish.Goals as goal

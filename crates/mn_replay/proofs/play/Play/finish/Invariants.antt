@@ -2,7 +2,8 @@ use Rattle.std.proofs.Common.{map}
 use Rattle.std.specs.List.{range_with_len}
 use Rattle.mn_world.specs.Protocol.{start_of}
 use Rattle.mn_replay.specs.Logs.{GoesAs}
-use Rattle.mn_replay.specs.Plays.{AreReady, IsPlay, state_of}
+use Rattle.mn_callers.specs.Plays.{AreReady, IsPlay}
+use Rattle.mn_replay.specs.Logs.{state_of}
 use Rattle.mn_replay.specs.Schedule.{DoesActs, all_of}
 use Rattle.mn_replay.proofs.play.Play.finish.Given as goal
 

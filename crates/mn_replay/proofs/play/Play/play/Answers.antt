@@ -2,8 +2,9 @@ use Rattle.std.proofs.Common.{List, ◌∙◌, sym}
 use Rattle.mn_world.specs.declared.entry.Entry.{Entry}
 use Rattle.mn_world.specs.Protocol.{start_of}
 use Rattle.mn_replay.specs.Follows.{IsPlayed}
-use Rattle.mn_replay.specs.Logs.{AreFreeIfSound, GoesAs, HasLog, Settles}
-use Rattle.mn_replay.specs.Plays.{state_of}
+use Rattle.mn_replay.specs.Logs.{AreFreeIfSound, GoesAs, Settles}
+use Rattle.mn_callers.specs.Logs.{HasLog}
+use Rattle.mn_replay.specs.Logs.{state_of}
 use Rattle.mn_replay.specs.Schedule.{DoesActs, acts_of}
 use Rattle.mn_replay.proofs.Acting.{not_err, ok_then}
 use Rattle.mn_replay.proofs.Scheduled.{played_whole}

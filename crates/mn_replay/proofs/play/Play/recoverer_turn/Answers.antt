@@ -9,12 +9,14 @@ use Rattle.mn_world.specs.declared.entry.Entry.{Entry}
 use Rattle.mn_world.specs.Calls.{issues_of}
 use Rattle.mn_world.specs.Protocol.{start_of}
 use Rattle.mn_world.specs.Run.{entries_of}
-use Rattle.mn_replay.specs.Clients.{last_shared}
+use Rattle.mn_callers.specs.Clients.{last_shared}
 use Rattle.mn_replay.specs.Logs.{GoesAs}
-use Rattle.mn_replay.specs.Plays.{caller_at, list_by, state_of}
-use Rattle.mn_replay.specs.Recoveries.{bench_of}
-use Rattle.mn_replay.specs.Schedule.{DoesWork, RecoversFor, recoverer}
-use Rattle.mn_replay.specs.Turn.{turn_at}
+use Rattle.mn_callers.specs.Plays.{caller_at, list_by}
+use Rattle.mn_replay.specs.Logs.{state_of}
+use Rattle.mn_callers.specs.Recoveries.{bench_of}
+use Rattle.mn_replay.specs.Schedule.{DoesWork, RecoversFor}
+use Rattle.mn_callers.specs.Desks.{recoverer}
+use Rattle.mn_callers.specs.Turn.{turn_at}
 use Rattle.mn_replay.proofs.Acting.{desk_begins, desk_ends, desk_goes, desk_turn, list_of_client, met_at, ok_then}
 use Rattle.mn_replay.proofs.play.Play.recoverer_turn.Goals as goal
 

@@ -2,8 +2,8 @@ use Rattle.std.proofs.Common.{refl, ◌∙◌}
 use Rattle.mn_actors.specs.Sight.{board_of, view_of}
 use Rattle.mn_world.specs.Protocol.{start_of}
 use Rattle.mn_replay.specs.Schedule.{RestartsNode}
-use Rattle.mn_replay.specs.Plays.{state_of}
-use Rattle.mn_replay.specs.Turn.{turn_at}
+use Rattle.mn_replay.specs.Logs.{state_of}
+use Rattle.mn_callers.specs.Turn.{turn_at}
 use Rattle.mn_replay.proofs.CloserTurns.{closer_begins, closer_ends, closer_goes, closer_owns, closer_turn, closer_recovery, restart_recovery, restarts_log}
 use Rattle.mn_replay.proofs.play.Play.restart.Goals as goal
 

@@ -3,11 +3,12 @@ use Rattle.mn_actors.specs.Sight.{board_of, view_of}
 use Rattle.mn_world.specs.declared.entry.Entry.{Entry}
 use Rattle.mn_world.specs.Protocol.{start_of}
 use Rattle.mn_world.specs.Run.{entries_of}
-use Rattle.mn_replay.specs.Closing.{ClosesOn}
-use Rattle.mn_replay.specs.Logs.{AreFreeIfSound, GoesAs, HasLog, Settles}
-use Rattle.mn_replay.specs.Plays.{state_of}
-use Rattle.mn_replay.specs.Settled.{AreUpAndFree}
-use Rattle.mn_replay.specs.Turn.{turn_at}
+use Rattle.mn_callers.specs.Closing.{ClosesOn}
+use Rattle.mn_replay.specs.Logs.{AreFreeIfSound, GoesAs, Settles}
+use Rattle.mn_callers.specs.Logs.{HasLog}
+use Rattle.mn_replay.specs.Logs.{state_of}
+use Rattle.mn_callers.specs.Settled.{AreUpAndFree}
+use Rattle.mn_callers.specs.Turn.{turn_at}
 use Rattle.mn_replay.proofs.Acting.{ok_then}
 use Rattle.mn_replay.proofs.Opened.{free_if_sound}
 use Rattle.mn_replay.proofs.CloserTurns.{closer_begins, closer_ends, closer_goes, closer_owns, closer_turn, settles_log}

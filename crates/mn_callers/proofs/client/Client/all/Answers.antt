@@ -1,0 +1,51 @@
+use Rattle.std.proofs.Common.{◌≡◌, true, false}
+use Rattle.mn_world.specs.Protocol.{start_of}
+use Rattle.mn_callers.specs.Acts.{DoesGo, OperatesOn, has_work}
+use Rattle.mn_callers.specs.Clients.{past_of}
+use Rattle.mn_callers.proofs.ClientActs.{has_work_as, of_same}
+use Rattle.mn_callers.proofs.Turns.{goes_further, goes_nowhere}
+use Rattle.mn_callers.proofs.client.Client.all.Goals as goal
+
+pub loop-alloc-init : goal.loop-alloc-init
+loop-alloc-init g c = record { turn = c.requires.turn; goes_on = goes_nowhere _; client = c.requires.client; operates = OperatesOn.none }
+
+pub has_work-requires : goal.has_work-requires
+has_work-requires g c = c.loop-alloc.invariant.client.run.met
+
+pub returns-clause-of_run : goal.returns-clause-of_run
+returns-clause-of_run g c = c.loop-alloc.invariant.client.run
+
+pub returns-in_err-go-clause-goes_on : goal.returns-in_err-go-clause-goes_on
+returns-in_err-go-clause-goes_on g c = goes_further _ _ _ c.loop-alloc.invariant.goes_on c.go.ensures.goes_on
+
+pub returns-in_err-go-clause-of_run : goal.returns-in_err-go-clause-of_run
+returns-in_err-go-clause-of_run g c = c.in_err-go.ensures.of_run
+
+pub loop-alloc-preserved : goal.loop-alloc-preserved
+loop-alloc-preserved g c =
+    let old = c.args.self.now in
+    let now = c.loop-alloc.self in
+    let new = c.go.new.self in
+    let points = c.args.points.now in
+    let ops = c.args.ops.now in
+    let same = c.loop-alloc.invariant.goes_on.client in
+    let work = has_work_as (start_of g.N.Named.records) c.args.points.now c.loop-alloc.self c.loop-alloc.invariant.client c.args.ops.now c.has_work.result _ c.has_work.ensures.is c.loop-alloc-test.true in
+    record {
+      turn = c.go.ensures.turn;
+      goes_on = goes_further _ _ _ c.loop-alloc.invariant.goes_on c.go.ensures.goes_on;
+      client = c.in_ok-go.ensures.client;
+      operates = OperatesOn.one_more (past_of now) (past_of new) c.loop-alloc.invariant.operates (of_same (λ r. has_work r (past_of now) ≡ true) points now.list.client old.list.client ops same work)
+          (of_same (λ r. DoesGo r (past_of now) (past_of new)) points now.list.client old.list.client ops same c.in_ok-go.ensures.does);
+    }
+
+pub returns-clause-does : goal.returns-clause-does
+returns-clause-does g c =
+    let now = c.loop-alloc.self in (
+      c.loop-alloc.invariant.operates,
+      of_same (λ r. has_work r (past_of now) ≡ false) c.args.points.now now.list.client c.args.self.now.list.client c.args.ops.now c.loop-alloc.invariant.goes_on.client
+          (has_work_as (start_of g.N.Named.records) c.args.points.now c.loop-alloc.self c.loop-alloc.invariant.client c.args.ops.now c.has_work.result _ c.has_work.ensures.is c.loop-alloc-test.false),
+    )
+
+pub loop-alloc-smaller : goal.loop-alloc-smaller
+loop-alloc-smaller g c =
+    c.in_ok-go.ensures.falls (has_work_as (start_of g.N.Named.records) c.args.points.now c.loop-alloc.self c.loop-alloc.invariant.client c.args.ops.now c.has_work.result _ c.has_work.ensures.is c.loop-alloc-test.true)

@@ -1,0 +1,96 @@
+use Rattle.std.proofs.Common.{◌≡◌, ◌≤◌, ◌<◌, None, is_some, subst, sym, ap, ◌∙◌}
+use Rattle.mn_proxy.specs.Measure.{steps_left}
+use Rattle.mn_proxy.specs.State.{IsOut, ProxyState}
+use Rattle.mn_world.specs.Protocol.{start_of}
+use Rattle.mn_callers.specs.declared.client.Client.{Client}
+use Rattle.mn_callers.specs.Clients.{past_of}
+use Rattle.mn_callers.specs.Going.{work_left}
+use Rattle.mn_callers.proofs.Turns.{goes_further, goes_nowhere}
+use Rattle.mn_callers.proofs.ClientActs.{calls_last, calls_none, calls_on}
+use Rattle.mn_callers.proofs.ClientEnds.{call_falls, idle_calls, no_more, none_rests}
+use Rattle.mn_callers.proofs.ClientSteps.{on_ok}
+use Rattle.mn_callers.proofs.ClientCalls.{dead_client, due_alive, fed_steps, lives_by, none_taken, waits}
+use Rattle.mn_callers.proofs.client.Client.call.Goals as goal
+
+pub returns-in_default-clause-goes_on : goal.returns-in_default-clause-goes_on
+returns-in_default-clause-goes_on g c = goes_nowhere _
+
+pub returns-in_default-clause-client : goal.returns-in_default-clause-client
+returns-in_default-clause-client g c =
+    none_taken (start_of g.N.Named.records) c.args.points.now c.args.self.now c.take.new.self c.requires.client (sym c.take.ensures.value ∙ c.in_default.is) c.take.ensures.after
+
+pub send-reply-requires-clause-proxy : goal.send-reply-requires-clause-proxy
+send-reply-requires-clause-proxy g c =
+    (due_alive (start_of g.N.Named.records) c.args.points.now c.args.self.now c.in-Some.field-0 c.requires.client (sym c.take.ensures.value ∙ c.in-Some.is)).1
+
+pub send-reply-requires-clause-due : goal.send-reply-requires-clause-due
+send-reply-requires-clause-due g c =
+    (due_alive (start_of g.N.Named.records) c.args.points.now c.args.self.now c.in-Some.field-0 c.requires.client (sym c.take.ensures.value ∙ c.in-Some.is)).2
+
+pub has_died-requires : goal.has_died-requires
+has_died-requires g c = c.send-reply.ensures.run.met
+
+pub returns-then-has_died-clause-client : goal.returns-then-has_died-clause-client
+returns-then-has_died-clause-client g c =
+    dead_client (start_of g.N.Named.records) c.args.points.now c.send-reply.new.self c.send-reply.ensures.run (c.send-reply.ensures.stays.1 ∙ c.take.ensures.after) (sym c.has_died.ensures ∙ c.if-has_died.true)
+
+pub feed-requires : goal.feed-requires
+feed-requires g c =
+    let old = c.args.self.now in
+    let call = c.in-Some.field-0 in
+    let alive = due_alive (start_of g.N.Named.records) c.args.points.now old call c.requires.client (sym c.take.ensures.value ∙ c.in-Some.is) in
+    record { out = subst (λ (p : ProxyState). IsOut p) (sym c.send-reply.ensures.stays.0) (waits old.proxy.work call.node call.request alive.2.out) }
+
+pub go_on-requires-clause-steps : goal.go_on-requires-clause-steps
+go_on-requires-clause-steps g c =
+    let start = start_of g.N.Named.records in
+    let points = c.args.points.now in
+    let old : Client = record c.args.self.now { due = c.take.new.self } in
+    let call = c.in-Some.field-0 in
+    let alive = due_alive start points c.args.self.now call c.requires.client (sym c.take.ensures.value ∙ c.in-Some.is) in
+    let send = c.send-reply.ensures in
+    fed_steps start points old c.send-reply.new.self c.feed.new.self call.node call.request c.send-reply.result alive.1 alive.2 send.stays.0 send.client send.fits send.answer send.none
+    (λ none decide. c.is_decide-is_decide.ensures (c.is_lost.ensures c.if-is_lost.false none) decide)
+    (record { ready = c.feed.ensures.ready; agrees = c.feed.ensures.agrees; no_entry = c.feed.ensures.no_entry; kept = c.feed.ensures.kept })
+    (send.stays.1 ∙ c.take.ensures.after) send.run (lives_by points c.send-reply.new.self (sym c.has_died.ensures ∙ c.if-has_died.false))
+
+pub returns-clause-goes_on : goal.returns-clause-goes_on
+returns-clause-goes_on g c = goes_further _ _ _ c.send-reply.ensures.goes_on c.go_on.ensures.goes_on
+
+pub returns-in_default-clause-calls : goal.returns-in_default-clause-calls
+returns-in_default-clause-calls g c = λ ops.
+    calls_none (start_of g.N.Named.records) c.args.points.now c.args.self.now c.requires.client ops (sym c.take.ensures.value ∙ c.in_default.is)
+
+pub returns-then-has_died-clause-calls : goal.returns-then-has_died-clause-calls
+returns-then-has_died-clause-calls g c = λ ops.
+    let send = c.send-reply.ensures in
+    calls_last (start_of g.N.Named.records) c.args.points.now c.args.self.now c.requires.client c.in-Some.field-0 (sym c.take.ensures.value ∙ c.in-Some.is) c.take.new.self c.send-reply.new.self c.send-reply.result send.run send.client send.answer send.none ops
+
+pub returns-clause-calls : goal.returns-clause-calls
+returns-clause-calls g c =
+    let send = c.send-reply.ensures in
+    on_ok c.go_on.result _ _
+    (calls_on (start_of g.N.Named.records) c.args.points.now c.args.self.now c.requires.client c.in-Some.field-0 (sym c.take.ensures.value ∙ c.in-Some.is) c.take.new.self c.send-reply.new.self c.send-reply.result send.run send.client send.answer send.none
+    (sym c.has_died.ensures ∙ c.if-has_died.false) (past_of c.go_on.new.self)) c.go_on.ensures.own
+
+pub returns-in_default-clause-falls : goal.returns-in_default-clause-falls
+returns-in_default-clause-falls g c = λ due. idle_calls c.args.self.now.due _ (sym c.take.ensures.value ∙ c.in_default.is) due
+
+pub returns-then-has_died-clause-falls : goal.returns-then-has_died-clause-falls
+returns-then-has_died-clause-falls g c = λ due.
+    let new = c.send-reply.new.self in
+    let old = c.args.self.now in
+    call_falls old new (none_rests new (steps_left old.proxy) (c.send-reply.ensures.stays.1 ∙ c.take.ensures.after)) due
+
+pub returns-clause-falls : goal.returns-clause-falls
+returns-clause-falls g c =
+    let old = c.args.self.now in
+    let new = c.go_on.new.self in
+    let fed : steps_left c.feed.new.self ≤ steps_left old.proxy = subst (λ (p : ProxyState). steps_left c.feed.new.self ≤ steps_left p) c.send-reply.ensures.stays.0 c.feed.ensures.falls in
+    on_ok c.go_on.result _ _ (λ less due. call_falls old new (no_more (work_left new) (steps_left c.feed.new.self) (steps_left old.proxy) less fed) due) c.go_on.ensures.falls
+
+pub returns-then-has_died-clause-begun : goal.returns-then-has_died-clause-begun
+returns-then-has_died-clause-begun g c = c.send-reply.ensures.stays.2
+
+pub returns-clause-begun : goal.returns-clause-begun
+returns-clause-begun g c = c.go_on.ensures.begun ∙ c.send-reply.ensures.stays.2

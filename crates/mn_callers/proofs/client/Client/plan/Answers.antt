@@ -1,0 +1,81 @@
+use Rattle.std.proofs.Common.{◌≡◌, true, false, not, ◌||◌, sym, ◌∙◌}
+use Rattle.mn_world.specs.Protocol.{start_of}
+use Rattle.mn_callers.specs.Acts.{CallsOnce, CallsUntil, CallsWhile, as_role, is_at_work, is_plan_due}
+use Rattle.mn_callers.specs.Clients.{past_of}
+use Rattle.mn_callers.proofs.ClientActs.{calls_more, has_work_as, of_same, plan_goes_on, planned, works_not, works_so}
+use Rattle.mn_callers.proofs.ClientEnds.{unplanned}
+use Rattle.mn_callers.proofs.Turns.{goes_further, goes_nowhere}
+use Rattle.mn_callers.proofs.client.Client.plan.Goals as goal
+
+pub returns-then-not-has_work-clause-goes_on : goal.returns-then-not-has_work-clause-goes_on
+returns-then-not-has_work-clause-goes_on g c = goes_nowhere _
+
+pub returns-then-not-has_work-clause-of_run : goal.returns-then-not-has_work-clause-of_run
+returns-then-not-has_work-clause-of_run g c = c.requires.client.run
+
+pub has_work-requires : goal.has_work-requires
+has_work-requires g c = c.requires.client.run.met
+
+pub begin_if_idle-requires-clause-left : goal.begin_if_idle-requires-clause-left
+begin_if_idle-requires-clause-left g c = c.has_work.ensures.left c.if-not-has_work.false
+
+pub begin_if_idle-requires-clause-lives : goal.begin_if_idle-requires-clause-lives
+begin_if_idle-requires-clause-lives g c = c.has_work.ensures.lives c.if-not-has_work.false
+
+pub returns-in_err-begin_if_idle-clause-of_run : goal.returns-in_err-begin_if_idle-clause-of_run
+returns-in_err-begin_if_idle-clause-of_run g c = c.in_err-begin_if_idle.ensures.of_run
+
+pub loop-alloc-init : goal.loop-alloc-init
+loop-alloc-init g c = record { turn = c.begin_if_idle.ensures.turn; goes_on = c.begin_if_idle.ensures.goes_on; client = c.in_ok-begin_if_idle.ensures.client; calls = CallsWhile.none }
+
+pub returns-clause-of_run : goal.returns-clause-of_run
+returns-clause-of_run g c = c.loop-alloc.invariant.client.run
+
+pub returns-in_err-call-clause-goes_on : goal.returns-in_err-call-clause-goes_on
+returns-in_err-call-clause-goes_on g c = goes_further _ _ _ c.loop-alloc.invariant.goes_on c.call.ensures.goes_on
+
+pub returns-in_err-call-clause-of_run : goal.returns-in_err-call-clause-of_run
+returns-in_err-call-clause-of_run g c = c.in_err-call.ensures.of_run
+
+pub loop-alloc-preserved : goal.loop-alloc-preserved
+loop-alloc-preserved g c =
+    let old = c.args.self.now in
+    let now = c.loop-alloc.self in
+    let new = c.call.new.self in
+    let points = c.args.points.now in
+    let ops = c.args.ops.now in
+    let role = as_role points old.list.client ops in
+    let same = c.loop-alloc.invariant.goes_on.client in
+    let goes : (not (is_at_work role (past_of now)) || is_plan_due (past_of now)) ≡ false = of_same (λ r. (not (is_at_work r (past_of now)) || is_plan_due (past_of now)) ≡ false) points now.list.client old.list.client ops same
+    (sym (planned (start_of g.N.Named.records) points now c.loop-alloc.invariant.client ops) ∙ (sym c.is_planned.ensures ∙ c.loop-alloc-test.true)) in
+    record {
+      turn = c.call.ensures.turn;
+      goes_on = goes_further _ _ _ c.loop-alloc.invariant.goes_on c.call.ensures.goes_on;
+      client = c.in_ok-call.ensures.client;
+      calls = calls_more role (λ now. not (is_at_work role now) || is_plan_due now) (past_of c.begin_if_idle.new.self) (past_of now) (past_of new) c.loop-alloc.invariant.calls goes (plan_goes_on role (past_of now) goes)
+          (of_same (λ r. CallsOnce r (past_of now) (past_of new)) points now.list.client old.list.client ops same (c.in_ok-call.ensures.calls ops));
+    }
+
+pub returns-then-not-has_work-clause-does : goal.returns-then-not-has_work-clause-does
+returns-then-not-has_work-clause-does g c =
+    let old = c.args.self.now in
+    let role = as_role c.args.points.now old.list.client c.args.ops.now in
+    works_not role (CallsUntil role (λ now. not (is_at_work role now) || is_plan_due now)) (past_of old) (has_work_as (start_of g.N.Named.records) c.args.points.now c.args.self.now c.requires.client c.args.ops.now c.has_work.result _ c.has_work.ensures.is c.if-not-has_work.true)
+
+pub returns-clause-does : goal.returns-clause-does
+returns-clause-does g c =
+    let old = c.args.self.now in
+    let mid = c.begin_if_idle.new.self in
+    let now = c.loop-alloc.self in
+    let points = c.args.points.now in
+    let ops = c.args.ops.now in
+    let role = as_role points old.list.client ops in
+    works_so role (CallsUntil role (λ now. not (is_at_work role now) || is_plan_due now)) (past_of old) (past_of mid) (past_of now) (has_work_as (start_of g.N.Named.records) c.args.points.now c.args.self.now c.requires.client c.args.ops.now c.has_work.result _ c.has_work.ensures.is c.if-not-has_work.false) c.in_ok-begin_if_idle.ensures.under_way (
+      c.loop-alloc.invariant.calls,
+      of_same (λ r. (not (is_at_work r (past_of now)) || is_plan_due (past_of now)) ≡ true) points now.list.client old.list.client ops c.loop-alloc.invariant.goes_on.client
+          (sym (planned (start_of g.N.Named.records) points now c.loop-alloc.invariant.client ops) ∙ (sym c.is_planned.ensures ∙ c.loop-alloc-test.false)),
+    )
+
+pub loop-alloc-smaller : goal.loop-alloc-smaller
+loop-alloc-smaller g c =
+    let now = c.loop-alloc.self in c.in_ok-call.ensures.falls (unplanned now.due now.is_plan (sym c.is_planned.ensures ∙ c.loop-alloc-test.true))

@@ -1,0 +1,82 @@
+-- Why a replay fails. Lists of entries stand newest first.
+use Rattle.std.specs.Prelude.{ℕ, ◌+◌, ◌≡◌, ◌⊎◌, List, [], ◌∷◌, length, reverse, true, Some}
+use Rattle.std.specs.Prelude.{Option, slice_get, if◌then◌else◌}
+use Rattle.mn_base.specs.declared.ids.ClientNo.{ClientNo}
+use Rattle.mn_base.specs.declared.ids.NodeNo.{NodeNo}
+use Rattle.mn_cell.specs.declared.trace.RunCause.{RunCause}
+use Rattle.mn_cell.specs.declared.trace.RunCause.TheVariants.{Disk, Damaged, NoMemory}
+use Rattle.mn_cell.specs.Station.{RoseBy, unasked_in}
+use Rattle.mn_io.specs.DiskModel.{DiskState}
+use Rattle.mn_mini.specs.declared.record.Record.{Record}
+use Rattle.mn_node.specs.Restart.{AreAbsent, IsNoLog, DamageNames}
+use Rattle.mn_node.specs.State.{NodeState}
+use Rattle.mn_world.specs.declared.entry.Entry.{Entry}
+use Rattle.mn_world.specs.Calls.{is_by, node_entries}
+use Rattle.mn_world.specs.Nodes.{added_by, is_down, stopped_request}
+use Rattle.mn_world.specs.Protocol.{Start, base_at, records_of}
+use Rattle.mn_world.specs.Run.{IsLogOfRun, entries_of}
+use Rattle.mn_callers.specs.Trace.{AreHandedBack, start_on}
+
+-- the actor that opens and closes, halts and restarts
+abbrev pub closer : ClientNo
+closer = record { 0 = 16 }
+
+-- the stops of a node inside requests of others that nobody asked for
+abbrev pub unasked_by_others : List Entry → ℕ
+unasked_by_others [] = 0
+unasked_by_others (e ∷ es) =
+    unasked_by_others es + (if is_by closer e then 0 else unasked_in e.what)
+
+-- the count of its disk rose by more than these
+abbrev pub RoseBeyond : List Entry → NodeNo → ℕ → ℕ → Type 0
+RoseBeyond past n before now = RoseBy (unasked_by_others (node_entries n past) + 1) before now
+
+-- a restart found another list on the disk than the node's records, with the one of the stopped
+-- request or without: `kept` and `found` are the first record that differs, or there is no log
+abbrev pub HadOther : Start → List Entry → NodeNo → ℕ → Option Record → Option Record → Type 0
+HadOther start past n place kept found =
+    (AreAbsent kept found × IsNoLog place)
+    ⊎ ((bodies : List (List ℕ)) × DamageNames bodies (reverse (records_of start past n))
+    (added_by (base_at start n) (records_of start past n) (stopped_request (node_entries n past)))
+    place kept found)
+
+-- the node of this number, as it was given and as it is left
+pub record IsAmong {D : Type 0} (n : NodeNo) (given left : List (NodeState D)) : Type 0 where
+  pub before : NodeState D
+  pub now : NodeState D
+  pub was : slice_get given n.0 ≡ Some before
+  pub is : slice_get left n.0 ≡ Some now
+
+-- Disk: that disk failed more often than it stopped its node unasked for others than the closing
+-- coordinator. Damaged: the node is down, and its disk, which was not honest, had another list.
+-- NoMemory tells no log.
+abbrev pub HasCause : {D : Type 0} → (D → DiskState) → (D → ℕ) → List (NodeState D)
+    → List (NodeState D) → List (ℕ × Entry) → RunCause → Type 0
+HasCause state faults given left log (Disk n) =
+    (at : IsAmong n given left)
+    × RoseBeyond (entries_of log) n (faults at.before.disk) (faults at.now.disk)
+HasCause state faults given left log (Damaged n place kept found) =
+    (at : IsAmong n given left) × ((state at.before.disk).honest → ⊥)
+    × (is_down (node_entries n (entries_of log)) ≡ true)
+    × HadOther (start_on given) (entries_of log) n place kept found
+HasCause state faults given left log NoMemory = log ≡ []
+
+-- the log is a run, and the nodes are handed back as it says
+abbrev pub IsRunOn : {D : Type 0} → (D → DiskState) → (D → ℕ) → List (NodeState D)
+    → List (NodeState D) → List (ℕ × Entry) → Type 0
+IsRunOn state faults given left log = IsLogOfRun (start_on given) log
+    × AreHandedBack state faults (start_on given) (entries_of log) given left
+
+-- the log that is told is one; where there was no memory, one that is not told is
+abbrev pub TellsRun : {D : Type 0} → (D → DiskState) → (D → ℕ) → List (NodeState D)
+    → List (NodeState D) → List (ℕ × Entry) → RunCause → Type 0
+TellsRun state faults given left log NoMemory =
+    (past : List (ℕ × Entry)) × IsRunOn state faults given left past
+TellsRun state faults given left log cause = IsRunOn state faults given left log
+
+-- a replay failed so
+pub record FailsSo {D : Type 0} (state : D → DiskState) (faults : D → ℕ)
+    (given left : List (NodeState D)) (log : List (ℕ × Entry)) (cause : RunCause) : Type 0 where
+  pub count : length left ≡ length given
+  pub cause_is : HasCause state faults given left log cause
+  pub told : TellsRun state faults given left log cause

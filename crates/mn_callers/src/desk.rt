@@ -1,0 +1,230 @@
+//! A recovery coordinator of the script.
+ghost use Rattle.std.specs.Prelude.{◌≡◌, ◌≢◌, ◌≤◌, ◌<◌, ◌&&◌, [], false, true, length, List, not};
+ghost use Rattle.std.specs.Prelude.{MatchOption, None, OnErr, OnOk, ⊤};
+ghost use Rattle.mn_cell.specs.Calls.{entry_at, what_said};
+ghost use Rattle.mn_mini.specs.RecordGrammar.{IsTid};
+ghost use Rattle.mn_mini.specs.Sound.{Fits, IsSoundRequest};
+ghost use Rattle.mn_world.specs.declared.entry.Entry.{Entry};
+ghost use Rattle.mn_world.specs.Calls.{issues_of};
+ghost use Rattle.mn_world.specs.Clients.{Sends};
+ghost use Rattle.mn_world.specs.Protocol.{Start, start_nodes, start_of};
+ghost use Rattle.mn_world.specs.Run.{entries_of};
+ghost use Rattle.mn_callers.specs.Clients.{last_shared};
+ghost use Rattle.mn_callers.specs.Closing.{calls_of};
+ghost use Rattle.mn_callers.specs.Desks.{IsDesk, IsOfRecovery, IsRecoveryCall};
+ghost use Rattle.mn_callers.specs.Recoveries.{AsksIf, DoesRecover, DoesRstep, bench_of, is_force};
+ghost use Rattle.mn_callers.specs.Recoveries.{is_vote, work_of};
+ghost use Rattle.mn_callers.specs.Steps.{Adds, KeepsList};
+ghost use Rattle.mn_callers.specs.Turn.{ExtendsLog, IsTurn, turn_at};
+
+use crate::table::Table;
+use mn_actors::Pass;
+use mn_base::{ClientNo, NoMemory, NodeNo, Tid};
+use mn_cell::Named;
+use mn_io::Disk;
+use mn_mini::{NodeReply, Request};
+use mn_recov::{RecovStep, Recoverer};
+use mn_world::{ClientList, CoreLaw};
+use std::alloc::Global;
+
+/// The most entries of a recovery from a vote on: that one, and a decision for each participant.
+const ENTRIES_AHEAD: usize = 9;
+
+/// A recovery coordinator: its list, and the recovery that it works on.
+#[derive(Drop)]
+pub struct Desk {
+    pub list: ClientList,
+    work: Option<Recoverer>,
+}
+
+/// Room in the list for a call of a recovery, and unless it is a decision, for all decisions that
+/// may follow it. NoMemory: there was none.
+pub fn make_room(list: &mut ClientList, request: &Request) -> Result<(), NoMemory>
+    ensures client { list.new.client ≡ list.old.client }
+    ensures entries { list.new.entries ≡ list.old.entries }
+{
+    if matches!(request, Request::Decide { .. }) {
+        return Ok(());
+    }
+    list.reserve(ENTRIES_AHEAD)
+}
+
+/// Whether it asks for a vote.
+fn is_force(request: &Request) -> bool
+    ensures { result ≡ is_force request.now }
+{
+    matches!(request, Request::Force { .. })
+}
+
+/// Whether a Force, where it was one, wasn't voted on, and has to be asked again.
+fn has_to_wait(force: bool, reply: &NodeReply) -> bool
+    ensures { result ≡ (force && not (is_vote reply.now)) }
+{
+    force && !matches!(reply, NodeReply::Vote { .. })
+}
+
+impl Desk {
+    /// A coordinator without work.
+    pub fn new(alloc: Global, actor: ClientNo) -> Desk
+        requires actor { actor.0 ≤ 20 }
+        ensures list { (result.list.client ≡ actor) × (result.list.entries ≡ []) }
+        ensures idle { result.work ≡ None }
+        ensures desk { (start : Start) → IsDesk start result }
+    {
+        Desk {
+            list: ClientList::new(alloc, actor),
+            work: None,
+        }
+    }
+
+    /// Where it has no work it takes the recovery of this id, if there is one.
+    /// NoMemory: there was none for it.
+    fn take_work(&mut self, alloc: Global, shared: Option<Tid>, nodes: u8) -> Result<(), NoMemory>
+        requires id { MatchOption shared ⊤ IsTid }
+        ensures list { self.new.list ≡ self.old.list }
+        ensures work { OnOk result ((es : List Entry) → shared ≡ last_shared (issues_of es)
+            → self.new.work ≡ work_of nodes self.old.work es) }
+        ensures failed { OnErr result (self.new ≡ self.old) }
+        ensures desk { (start : Start) → nodes ≡ start_nodes start → IsDesk start self.old
+            → IsDesk start self.new }
+    {
+        if self.work.is_some() {
+            return Ok(());
+        }
+        let Some(tid) = shared else {
+            return Ok(());
+        };
+        self.work = Some(Recoverer::new(alloc, tid, nodes)?);
+        Ok(())
+    }
+
+    /// Sends a request. NoMemory: there was none for it or for its entries, and there is no entry.
+    fn send<N: Named, D: Disk>(
+        &mut self,
+        alloc: Global,
+        table: &mut Table<N, D>,
+        pass: &mut Pass<CoreLaw>,
+        node: NodeNo,
+        request: Request,
+    ) -> NodeReply
+        requires turn { IsTurn N.board (length N.records)
+            (turn_at table.old pass.old self.old.list) }
+        requires list { IsOfRecovery (start_of N.records) self.old.list }
+        requires node { node.0 < length N.records }
+        requires sound { IsSoundRequest request }
+        requires kind { IsRecoveryCall request }
+        requires legal { Sends (entries_of self.old.list.entries) (Some node) request }
+        ensures turn { IsTurn N.board (length N.records)
+            (turn_at table.new pass.new self.new.list) }
+        ensures goes_on { ExtendsLog (turn_at table.old pass.old self.old.list)
+            (turn_at table.new pass.new self.new.list) }
+        ensures list { IsOfRecovery (start_of N.records) self.new.list }
+        ensures said { result ≢ NodeReply.NoMemory
+            → Adds (entry_at node self.old.list.client (what_said request None result))
+            self.old.list self.new.list }
+        ensures none { result ≡ NodeReply.NoMemory → KeepsList self.old.list self.new.list }
+        ensures fits { Fits request result }
+        ensures work { self.new.work ≡ self.old.work }
+    {
+        // A list's actor is one that there may be.
+        let _client = self.list.client();
+        if make_room(&mut self.list, &request).is_err() {
+            return NodeReply::NoMemory;
+        }
+        table.call(alloc, pass, &mut self.list, node, request, None)
+    }
+
+    /// The call that its recovery wants next, if it has work. The answer is whether another may
+    /// follow: it has work left, and doesn't have to wait at a Force.
+    fn call<N: Named, D: Disk>(
+        &mut self,
+        alloc: Global,
+        table: &mut Table<N, D>,
+        pass: &mut Pass<CoreLaw>,
+    ) -> bool
+        requires turn { IsTurn N.board (length N.records)
+            (turn_at table.old pass.old self.old.list) }
+        requires desk { IsDesk (start_of N.records) self.old }
+        ensures turn { IsTurn N.board (length N.records)
+            (turn_at table.new pass.new self.new.list) }
+        ensures goes_on { ExtendsLog (turn_at table.old pass.old self.old.list)
+            (turn_at table.new pass.new self.new.list) }
+        ensures desk { IsDesk (start_of N.records) self.new }
+        ensures client { self.new.list.client ≡ self.old.list.client }
+        ensures asks { AsksIf self.old.list.client self.old.work (bench_of self.old)
+            (bench_of self.new) result }
+        ensures falls { result ≡ true → calls_of self.new.work < calls_of self.old.work }
+    {
+        let Some(mut work) = self.work.take() else {
+            return false;
+        };
+        let RecovStep::Send { node, request } = work.next() else {
+            return false;
+        };
+        let force = is_force(&request);
+        let reply = self.send(alloc, table, pass, node, request);
+        let waits = has_to_wait(force, &reply);
+        work.feed(reply);
+        if let RecovStep::Ended { .. } = work.next() {
+            return false;
+        }
+        self.work = Some(work);
+        !waits
+    }
+
+    /// One call. Where it has no work it first takes this id, if there is one. NoMemory: there was
+    /// none to take it.
+    pub fn step<N: Named, D: Disk>(
+        &mut self,
+        alloc: Global,
+        table: &mut Table<N, D>,
+        pass: &mut Pass<CoreLaw>,
+        shared: Option<Tid>,
+    ) -> Result<(), NoMemory>
+        requires turn { IsTurn N.board (length N.records)
+            (turn_at table.old pass.old self.old.list) }
+        requires desk { IsDesk (start_of N.records) self.old }
+        requires id { MatchOption shared ⊤ IsTid }
+        ensures turn { IsTurn N.board (length N.records)
+            (turn_at table.new pass.new self.new.list) }
+        ensures goes_on { ExtendsLog (turn_at table.old pass.old self.old.list)
+            (turn_at table.new pass.new self.new.list) }
+        ensures desk { IsDesk (start_of N.records) self.new }
+        ensures does { OnOk result ((es : List Entry) → shared ≡ last_shared (issues_of es)
+            → DoesRstep (length N.records) self.old.list.client es (bench_of self.old)
+            (bench_of self.new)) }
+        ensures failed { OnErr result (self.new ≡ self.old) }
+    {
+        self.take_work(alloc, shared, table.nodes())?;
+        self.call(alloc, table, pass);
+        Ok(())
+    }
+
+    /// Calls until its recovery ends, or has to wait at a Force. NoMemory: there was none to take
+    /// the id, and it made no call.
+    pub fn recover<N: Named, D: Disk>(
+        &mut self,
+        alloc: Global,
+        table: &mut Table<N, D>,
+        pass: &mut Pass<CoreLaw>,
+        shared: Option<Tid>,
+    ) -> Result<(), NoMemory>
+        requires turn { IsTurn N.board (length N.records)
+            (turn_at table.old pass.old self.old.list) }
+        requires desk { IsDesk (start_of N.records) self.old }
+        requires id { MatchOption shared ⊤ IsTid }
+        ensures turn { IsTurn N.board (length N.records)
+            (turn_at table.new pass.new self.new.list) }
+        ensures goes_on { ExtendsLog (turn_at table.old pass.old self.old.list)
+            (turn_at table.new pass.new self.new.list) }
+        ensures desk { IsDesk (start_of N.records) self.new }
+        ensures does { OnOk result ((es : List Entry) → shared ≡ last_shared (issues_of es)
+            → DoesRecover (length N.records) self.old.list.client es (bench_of self.old)
+            (bench_of self.new) false) }
+        ensures failed { OnErr result (self.new ≡ self.old) }
+    {
+        self.take_work(alloc, shared, table.nodes())?;
+        while self.call(alloc, table, pass) {}
+        Ok(())
+    }
+}

@@ -1,0 +1,310 @@
+//! How a run ends: its nodes are handed back, and its lists are made one log.
+ghost use Rattle.std.specs.Prelude.{◌≡◌, ◌≤◌, ◌<◌, ◌+◌, ◌-◌, ◌++◌, List, [], length, map};
+ghost use Rattle.std.specs.Prelude.{replicate, reverse, Some, Err, Ok, IfErr};
+ghost use Rattle.std.specs.Prelude.{IfOk, IsOk};
+ghost use Rattle.std.specs.Prelude.{OnOk, vec_len, vec_capacity};
+ghost use Rattle.mn_actors.specs.Lists.{OwnsAll};
+ghost use Rattle.mn_actors.specs.Sight.{board_of, clients_of, id_of, nodes_of, view_of};
+ghost use Rattle.mn_node.specs.State.{NodeState};
+ghost use Rattle.mn_world.specs.declared.entry.Entry.{Entry as Noted};
+ghost use Rattle.mn_world.specs.Protocol.{start_of};
+ghost use Rattle.mn_world.specs.Run.{entries_of};
+ghost use Rattle.mn_callers.specs.Causes.{IsCaused};
+ghost use Rattle.mn_callers.specs.Ended.{AllHaveMade, AreLists, AreMadeFromLast, HasRoomFor};
+ghost use Rattle.mn_callers.specs.Ended.{HoldsNodes, IsEnded, OwnsNodes, SameCallers};
+ghost use Rattle.mn_callers.specs.Failed.{FailsSo, IsRunOn};
+ghost use Rattle.mn_callers.specs.Logs.{HasLog};
+ghost use Rattle.mn_callers.specs.Plays.{IsAtRest, NamesGiven, state_at};
+ghost use Rattle.mn_callers.specs.Settled.{AreUpAndFree};
+ghost use Rattle.mn_callers.specs.Trace.{IsTrace};
+ghost use Rattle.mn_callers.specs.Turn.{AreStations, callers_count};
+
+use crate::callers::{CALLERS, Callers};
+use crate::client::Client;
+use crate::desk::Desk;
+use crate::settle::CLOSER;
+use crate::table::Table;
+use mn_actors::{Board, Pass};
+use mn_base::{ClientNo, NoMemory};
+use mn_cell::{Named, RunCause, RunFailed, Station, Trace, parts_make_run};
+use mn_hist::{ClientLists, Lists, NodeLists, merge};
+use mn_io::Disk;
+use mn_node::Node;
+use mn_world::{ClientList, CoreLaw, EntryList, Log, records_stay_sound, runs_follow_protocol};
+use std::alloc::Global;
+
+/// Room for the lists of a run, taken before it begins.
+#[derive(Drop)]
+pub struct Rooms {
+    node_lists: Vec<EntryList>,
+    client_lists: Vec<ClientList>,
+}
+
+impl Rooms {
+    /// Room for so many nodes and for all callers. NoMemory: there was none.
+    pub fn new(alloc: Global, nodes: usize) -> Result<Rooms, NoMemory>
+        ensures { IfOk result (HasRoomFor nodes) }
+    {
+        Ok(Rooms {
+            node_lists: Vec::with_capacity(alloc, nodes)?,
+            client_lists: Vec::with_capacity(alloc, usize::from(CALLERS))?,
+        })
+    }
+}
+
+/// Puts the nodes of stations that were made from the last one on behind the others, and their
+/// actors back.
+pub fn give_back<N: Named, D: Disk>(
+    board: &Board<CoreLaw>,
+    all: &mut Pass<CoreLaw>,
+    nodes: &mut Vec<Node<D>>,
+    stations: Vec<Station<N, D>>,
+)
+    requires board { (id_of board.now ≡ N.board) × (board_of all.old ≡ N.board) }
+    requires room { vec_len nodes.old + vec_len stations ≤ vec_capacity nodes.old }
+    requires numbers { AreMadeFromLast (vec_len nodes.old + vec_len stations) stations.items }
+    requires owns { OwnsNodes (vec_len nodes.old) (view_of all.old) }
+    ensures board { board_of all.new ≡ N.board }
+    ensures nodes { nodes.new.items
+        ≡ nodes.old.items ++ reverse (map (λ s. s.node) stations.items) }
+    ensures owns { OwnsNodes (vec_len nodes.new) (view_of all.new) }
+    ensures callers { SameCallers (view_of all.old) (view_of all.new) }
+{
+    let mut left = stations;
+    while let Some(station) = left.pop() {
+        let (node, _list, pass) = station.into_parts();
+        nodes.push_reserved(node);
+        board.join(all, pass);
+    }
+    left.destroy_empty();
+}
+
+/// No run, for want of memory.
+pub fn no_memory<D: Disk>(alloc: Global, nodes: Vec<Node<D>>) -> RunFailed<D>
+    ensures { (given : List (NodeState D)) → length nodes.items ≡ length given
+        → (past : _) → IsRunOn D.state D.faults given nodes.items past
+        → FailsSo D.state D.faults given result.nodes.items result.log result.cause }
+{
+    RunFailed {
+        nodes,
+        log: Log::from_vec(Vec::new(alloc)),
+        cause: RunCause::NoMemory,
+    }
+}
+
+/// The same where there is a board.
+pub fn without_log<D: Disk>(
+    alloc: Global,
+    board: Board<CoreLaw>,
+    all: Pass<CoreLaw>,
+    nodes: Vec<Node<D>>,
+) -> RunFailed<D>
+    requires board { board_of all ≡ id_of board }
+    requires owns { OwnsAll (nodes_of board) (clients_of board) (view_of all) }
+    ensures { (given : List (NodeState D)) → length nodes.items ≡ length given
+        → (past : _) → IsRunOn D.state D.faults given nodes.items past
+        → FailsSo D.state D.faults given result.nodes.items result.log result.cause }
+{
+    board.close(all);
+    no_memory(alloc, nodes)
+}
+
+/// Takes the stations apart: the nodes in order, their lists, and their actors.
+fn take_apart<N: Named, D: Disk>(
+    board: &Board<CoreLaw>,
+    all: &mut Pass<CoreLaw>,
+    stations: Vec<Station<N, D>>,
+    nodes: &mut Vec<Node<D>>,
+    lists: &mut Vec<EntryList>,
+)
+    requires board { (id_of board.now ≡ N.board) × (board_of all.old ≡ N.board) }
+    requires stations { AreStations (length N.records) stations.items }
+    requires empty { (nodes.old.items ≡ []) × (lists.old.items ≡ []) }
+    requires nodes_room { length N.records ≤ vec_capacity nodes.old }
+    requires lists_room { length N.records ≤ vec_capacity lists.old }
+    requires no_nodes { HoldsNodes (view_of all.old) [] }
+    ensures board { board_of all.new ≡ N.board }
+    ensures nodes { nodes.new.items ≡ map (λ s. s.node) stations.items }
+    ensures lists { lists.new.items ≡ map (λ s. s.list) stations.items }
+    ensures made { AllHaveMade D.state D.faults
+        (start_of N.records) N.faults N.honest stations.items }
+    ensures holds { HoldsNodes (view_of all.new) lists.new.items }
+    ensures callers { SameCallers (view_of all.old) (view_of all.new) }
+{
+    let mut left = stations;
+    left.reverse();
+    while let Some(station) = left.pop() {
+        let (node, list, pass) = station.into_parts();
+        nodes.push_reserved(node);
+        lists.push_reserved(list);
+        board.join(all, pass);
+    }
+    left.destroy_empty();
+}
+
+/// Adds the lists of the clients.
+fn take_clients(clients: Vec<Client>, lists: &mut Vec<ClientList>)
+    requires { vec_len lists.old + vec_len clients ≤ vec_capacity lists.old }
+    ensures lists { lists.new.items ≡ lists.old.items ++ map (λ c. c.list) clients.items }
+    ensures room { vec_capacity lists.new ≡ vec_capacity lists.old }
+{
+    for client in clients {
+        lists.push_reserved(client.list);
+    }
+}
+
+/// Adds empty lists, so that there are as many as there may be clients.
+fn fill(alloc: Global, lists: &mut Vec<ClientList>)
+    requires few { vec_len lists.old ≤ 16 }
+    requires room { 16 ≤ vec_capacity lists.old }
+    ensures lists { map (λ l. l.entries) lists.new.items
+        ≡ map (λ l. l.entries) lists.old.items ++ replicate (16 - vec_len lists.old) [] }
+    ensures room { vec_capacity lists.new ≡ vec_capacity lists.old }
+{
+    for number in lists.len()..usize::from(CLOSER.0) {
+        lists.push_reserved(ClientList::new(alloc, ClientNo(number as u8)));
+    }
+}
+
+/// Adds the lists of the recovery coordinators.
+fn take_desks(desks: Vec<Desk>, lists: &mut Vec<ClientList>)
+    requires { vec_len lists.old + vec_len desks ≤ vec_capacity lists.old }
+    ensures { lists.new.items ≡ lists.old.items ++ map (λ d. d.list) desks.items }
+{
+    for desk in desks {
+        lists.push_reserved(desk.list);
+    }
+}
+
+/// The lists of all callers, in order of number.
+fn take_lists(alloc: Global, callers: Callers, lists: &mut Vec<ClientList>)
+    requires few { length callers.clients.items ≤ 16 }
+    requires four { length callers.desks.items ≡ 4 }
+    requires empty { lists.old.items ≡ [] }
+    requires room { callers_count ≤ vec_capacity lists.old }
+    ensures { AreLists callers lists.new.items }
+{
+    let Callers {
+        clients,
+        desks,
+        closer,
+    } = callers;
+    take_clients(clients, lists);
+    fill(alloc, lists);
+    lists.push_reserved(closer.list);
+    take_desks(desks, lists);
+}
+
+/// The run failed so.
+fn failed_so<N: Named, D: Disk>(
+    alloc: Global,
+    nodes: Vec<Node<D>>,
+    log: Log,
+    cause: RunCause,
+) -> RunFailed<D>
+    requires { IsEnded D.state D.faults (start_of N.records) N.faults N.honest nodes.items
+        (Err cause) log }
+    ensures { (given : List (NodeState D))
+        → NamesGiven D.state D.faults N.records N.faults N.honest given
+        → FailsSo D.state D.faults given result.nodes.items result.log result.cause }
+{
+    match cause {
+        RunCause::Disk { node } => RunFailed {
+            nodes,
+            log,
+            cause: RunCause::Disk { node },
+        },
+        RunCause::Damaged {
+            node,
+            place,
+            kept,
+            found,
+        } => RunFailed {
+            nodes,
+            log,
+            cause: RunCause::Damaged {
+                node,
+                place,
+                kept,
+                found,
+            },
+        },
+        RunCause::NoMemory => no_memory(alloc, nodes),
+    }
+}
+
+/// What the run comes to, where its lists were made one log or there was no memory for it.
+fn result_of<N: Named, D: Disk>(
+    alloc: Global,
+    nodes: Vec<Node<D>>,
+    merged: Result<Log, NoMemory>,
+    played: Result<(), RunCause>,
+) -> Result<Trace<D>, RunFailed<D>>
+    requires { (past : _) × IsEnded D.state D.faults
+        (start_of N.records) N.faults N.honest nodes.items played past
+        × IfOk merged (λ log. log ≡ past) }
+    ensures trace { (given : List (NodeState D))
+        → NamesGiven D.state D.faults N.records N.faults N.honest given
+        → IfOk result (λ trace. IsTrace D.state D.faults given trace.nodes.items trace.log) }
+    ensures failed { (given : List (NodeState D))
+        → NamesGiven D.state D.faults N.records N.faults N.honest given
+        → IfErr result (λ failed. FailsSo D.state D.faults given failed.nodes.items failed.log
+        failed.cause) }
+    ensures log { IfOk result (λ trace. merged ≡ Ok trace.log) }
+    ensures done { IfOk result (λ trace. IsOk played) }
+{
+    runs_follow_protocol();
+    records_stay_sound();
+    let Ok(log) = merged else {
+        return Err(no_memory(alloc, nodes));
+    };
+    match played {
+        Ok(()) => Ok(Trace { nodes, log }),
+        Err(cause) => Err(failed_so::<N, D>(alloc, nodes, log, cause)),
+    }
+}
+
+/// Ends a run that was played so: its nodes go into `nodes`, which has the room.
+pub fn end<N: Named, D: Disk>(
+    alloc: Global,
+    table: Table<N, D>,
+    rest: Pass<CoreLaw>,
+    callers: Callers,
+    nodes: Vec<Node<D>>,
+    rooms: Rooms,
+    played: Result<(), RunCause>,
+) -> Result<Trace<D>, RunFailed<D>>
+    requires rests { IsAtRest N.board (start_of N.records) (state_at table rest callers) }
+    requires settled { OnOk played (AreUpAndFree (length N.records) table.stations.items) }
+    requires caused { IfErr played (IsCaused D.faults N.faults N.honest table.stations.items) }
+    requires empty { nodes.items ≡ [] }
+    requires room { length N.records ≤ vec_capacity nodes }
+    requires rooms { HasRoomFor (length N.records) rooms }
+    ensures trace { (given : List (NodeState D))
+        → NamesGiven D.state D.faults N.records N.faults N.honest given
+        → IfOk result (λ trace. IsTrace D.state D.faults given trace.nodes.items trace.log) }
+    ensures failed { (given : List (NodeState D))
+        → NamesGiven D.state D.faults N.records N.faults N.honest given
+        → IfErr result (λ failed. FailsSo D.state D.faults given failed.nodes.items failed.log
+        failed.cause) }
+    ensures done { IfOk result (λ trace. IsOk played) }
+    ensures log { IfOk result (λ trace. (past : List Noted)
+        → HasLog (state_at table rest callers) past → entries_of trace.log ≡ past) }
+{
+    let Table { board, stations } = table;
+    let mut nodes = nodes;
+    let mut all = rest;
+    let Rooms {
+        mut node_lists,
+        mut client_lists,
+    } = rooms;
+    take_apart(&board, &mut all, stations, &mut nodes, &mut node_lists);
+    take_lists(alloc, callers, &mut client_lists);
+    board.close(all);
+    let lists = Lists {
+        nodes: NodeLists::from_vec(node_lists),
+        clients: ClientLists::from_vec(client_lists),
+    };
+    parts_make_run();
+    result_of::<N, D>(alloc, nodes, merge(alloc, lists), played)
+}

@@ -1,5 +1,0 @@
-use Rattle.mn_proxy.specs.Bodies.{ChildSoFar}
-use Rattle.mn_proxy.proofs.causes.child_in.Given as goal
-
-abbrev pub invariant-loop-i : goal.invariant-loop-i
-invariant-loop-i l = ChildSoFar l.page.body l.i l.found l.key

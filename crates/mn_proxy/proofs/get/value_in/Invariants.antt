@@ -1,5 +1,0 @@
-use Rattle.mn_proxy.specs.Bodies.{NoValueSoFar}
-use Rattle.mn_proxy.proofs.get.value_in.Given as goal
-
-abbrev pub invariant-loop-i : goal.invariant-loop-i
-invariant-loop-i l = NoValueSoFar l.leaf.body l.i l.key

@@ -1,6 +1,0 @@
-use Rattle.std.proofs.Common.{◌≡◌, ◌++◌, ◌∷◌, drop}
-use Rattle.mn_tree.proofs.pairs.with_tail.Given as goal
-
--- what was added so far, and the rest
-abbrev pub invariant-loop-pair : goal.invariant-loop-pair
-invariant-loop-pair l = l.pairs.items ++ drop l.pair-index l.after ≡ l.fn.before.items ++ record { key = l.key; value = l.value } ∷ l.after

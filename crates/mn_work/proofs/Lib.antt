@@ -1,0 +1,13 @@
+pub mod Among
+pub mod Attempts
+pub mod Bodies
+pub mod Cached
+pub mod Children
+pub mod Compares
+pub mod Descents
+pub mod Getting
+pub mod Paths
+pub mod Scans
+pub mod Versions
+pub mod Walks
+pub mod Works

@@ -1,0 +1,26 @@
+-- None of the cached pages has left before the next one is wanted.
+use Rattle.std.proofs.Common.{Option, rules, subst}
+use Rattle.mn_work.specs.declared.next.Next.{Next}
+use Rattle.mn_work.specs.Cached.{Walks}
+use Rattle.mn_work.proofs.Cached.{then_used, uses, walks_none, walks_on}
+use Rattle.mn_work.proofs.attempt.Attempt.advance.Goals as goal
+
+pub returns-in_err-next-clause-cache : goal.returns-in_err-next-clause-cache
+returns-in_err-next-clause-cache c =
+    uses c.args.later _ c.args.known.now.cache c.run_step.new.known.cache
+    (then_used c.args.known.now.cache c.loop-self.known.cache c.run_step.new.known.cache c.loop-self.invariant.1
+    (walks_none c.args.later c.loop-self.known.cache c.run_step.new.known.cache c.in_err-next.ensures.cache))
+
+pub returns-in-Some-clause-cache : goal.returns-in-Some-clause-cache
+returns-in-Some-clause-cache c =
+    walks_on c.args.later _ c.args.known.now.cache c.loop-self.known.cache c.run_step.new.known.cache c.loop-self.invariant.1
+    (subst (λ (o : Option Next). Walks c.args.later o c.loop-self.known.cache c.run_step.new.known.cache) c.in-Some.is c.in_ok-next.ensures.cache)
+
+pub loop-self-preserved : goal.loop-self-preserved
+loop-self-preserved c = (
+  search rules,
+  then_used c.args.known.now.cache c.loop-self.known.cache c.run_step.new.known.cache c.loop-self.invariant.1
+      (walks_none c.args.later c.loop-self.known.cache c.run_step.new.known.cache
+      (subst (λ (o : Option Next). Walks c.args.later o c.loop-self.known.cache c.run_step.new.known.cache) c.in_default.is c.in_ok-next.ensures.cache)),
+  search rules,
+)

@@ -1,0 +1,38 @@
+use Rattle.std.proofs.Common.{◌+◌, ◌∙◌, sym, ap, arith, Some}
+use Rattle.std.proofs.lemmas.Option.{slice_get_within}
+use Rattle.mn_work.specs.Attempts.{IsUnmet, WantsBy}
+use Rattle.mn_work.proofs.Attempts.{at_index, of_kept, to_kept, unmet_may, unmet_wanted}
+use Rattle.mn_work.specs.declared.next.Next.TheVariants as next
+use Rattle.mn_base.specs.declared.reply.Reply.TheVariants.{Unmet}
+use Rattle.mn_work.proofs.attempt.Attempt.end_unmet.Goals as goal
+
+pub unmet_plan-requires : goal.unmet_plan-requires
+unmet_plan-requires c =
+    let unmet = of_kept c.args.known.now.catalog c.in-Some.kept (λ es. IsUnmet c.args.known.now.nodes es c.args.steps.now c.args.self.now c.args.found) c.in-Some.is c.requires.unmet in
+    record {
+      may = unmet_may c.args.known.now.nodes c.in-Some.kept c.args.steps.now c.args.self.now c.args.found unmet c.index-entries-from.result
+          (unmet.admits.there ∙ ap Some (sym (at_index c.in-Some.kept c.args.self.now.version.0 unmet.admits.entry c.index-entries-from.result _ unmet.admits.there (rw c.catalog.ensures at (rw c.entries.ensures.entries at (rw c.from.ensures at c.index-entries-from.is))))))
+          c.requires.nodes c.tried.result c.tried.ensures;
+    }
+
+pub overflow_cast-result : goal.overflow_cast-result
+overflow_cast-result c =
+    let unmet = of_kept c.args.known.now.catalog c.in-Some.kept (λ es. IsUnmet c.args.known.now.nodes es c.args.steps.now c.args.self.now c.args.found) c.in-Some.is c.requires.unmet in
+    let low = slice_get_within c.args.steps.now c.args.self.now.done unmet.step unmet.next in
+    let many = unmet.many in
+    omega arith
+
+pub overflow_add-result : goal.overflow_add-result
+overflow_add-result c =
+    let unmet = of_kept c.args.known.now.catalog c.in-Some.kept (λ es. IsUnmet c.args.known.now.nodes es c.args.steps.now c.args.self.now c.args.found) c.in-Some.is c.requires.unmet in
+    let low = slice_get_within c.args.steps.now c.args.self.now.done unmet.step unmet.next in
+    let many = unmet.many in
+    omega arith
+
+pub returns : goal.returns
+returns c =
+    let unmet = of_kept c.args.known.now.catalog c.in-Some.kept (λ es. IsUnmet c.args.known.now.nodes es c.args.steps.now c.args.self.now c.args.found) c.in-Some.is c.requires.unmet in
+    to_kept c.args.known.now.catalog c.in-Some.kept (λ es. WantsBy c.args.known.now.nodes es c.args.later c.args.steps.now c.args.self.now (next.Plan c.in_ok-mini.mini (Unmet (c.args.self.now.done + 1) c.args.found))) c.in-Some.is
+    (unmet_wanted c.args.known.now.nodes c.in-Some.kept c.args.steps.now c.args.self.now c.args.found unmet c.index-entries-from.result
+    (unmet.admits.there ∙ ap Some (sym (at_index c.in-Some.kept c.args.self.now.version.0 unmet.admits.entry c.index-entries-from.result _ unmet.admits.there (rw c.catalog.ensures at (rw c.entries.ensures.entries at (rw c.from.ensures at c.index-entries-from.is))))))
+    c.requires.nodes c.tried.result c.tried.ensures c.in_ok-mini.mini c.in_ok-mini.ensures.planned c.in_ok-mini.ensures.made)

@@ -1,0 +1,17 @@
+pub mod Among
+pub mod Answers
+pub mod Attempts
+pub mod Bodies
+pub mod Cached
+pub mod Catalogs
+pub mod Children
+pub mod Counts
+pub mod Descents
+pub mod Knows
+pub mod Paths
+pub mod Places
+pub mod Refusals
+pub mod Scans
+pub mod Seen
+pub mod Walks
+pub mod Works

@@ -1,0 +1,554 @@
+ghost use Rattle.std.specs.Prelude.{◌≡◌, ◌≢◌, ◌≤◌, ◌<◌, ◌+◌, [], List, Some, None, IfOk, IfSome};
+ghost use Rattle.std.specs.Prelude.{OnOk};
+ghost use Rattle.std.specs.Prelude.{MatchOption, length, nat_eq, slice_get, true, false};
+ghost use Rattle.std.specs.Option.{option_map};
+ghost use Rattle.mn_alloc.specs.Plan.{new_slots, free_slots};
+ghost use Rattle.mn_base.specs.Store.{step_key};
+ghost use Rattle.mn_base.specs.declared.answer.Busy.{Busy};
+ghost use Rattle.mn_page.specs.Grammar.{IsPage, height_of, page_bytes};
+ghost use Rattle.mn_page.specs.declared.entry.CatEntry.{CatEntry};
+ghost use Rattle.mn_tree.specs.State.{IsWanted, fits, stepped, with_page};
+ghost use Rattle.mn_tree.specs.declared.stepped.Stepped.TheVariants as steps;
+ghost use Rattle.mn_base.specs.declared.reply.Reply.TheVariants.{Values};
+ghost use Rattle.mn_tree.specs.Tries.{MovesTakePages, NeedsAreSlots, NeedsMayCome};
+ghost use Rattle.mn_work.specs.declared.next.Next.TheVariants as next;
+ghost use Rattle.mn_work.specs.declared.attempt.Moved.TheVariants as moved;
+ghost use Rattle.mn_work.specs.Among.{FaultIsMet};
+ghost use Rattle.mn_work.specs.Answers.{worn_by};
+ghost use Rattle.mn_work.specs.Attempts.{Asks, CameBySteps, CountsOn};
+ghost use Rattle.mn_work.specs.Attempts.{ComesIn, HasCounts, HasUnmet, IsFault, IsTold, RunsOn};
+ghost use Rattle.mn_work.specs.Attempts.{IsBegun, KeepsSteps, MovesFurther, RunsFurther};
+ghost use Rattle.mn_work.specs.Attempts.{SameButFound};
+ghost use Rattle.mn_work.specs.Attempts.{IsNextStep, IsOnItsWay, KeepsVersion, MovesOn};
+ghost use Rattle.mn_work.specs.Attempts.{SameButCounts, StaysOnItsWay, TakesRead, WantsNext};
+ghost use Rattle.mn_work.specs.Attempts.{was_read};
+ghost use Rattle.mn_work.specs.Cached.{AreUsed, Puts, Walks, next_of, next_by, next_then};
+ghost use Rattle.mn_work.specs.Knows.{ArePages, KeepsKnown};
+
+use crate::causes::{LEVELS, fault_among};
+use crate::counts::take_count;
+use crate::known::Known;
+use crate::next::{Next, Taken, full, worn};
+use crate::seen::{is_leaf, page_bytes, page_in};
+use mn_alloc::{AllocError, plan_slots};
+use mn_base::{
+    Addr, Busy, Bytes, Counts, Founds, Key, NoMemory, NodeNo, Reply, Step, Steps, TryCopy, Value,
+    VersionNo,
+};
+use mn_page::{CatEntry, Page};
+use mn_tree::{AddError, Overlay, Stepped};
+use mn_txn::{Placing, PlanError, SeenPage, Tried, done_plan, page_at, unmet_plan};
+use mn_vtree::VersionTree;
+use std::alloc::Global;
+use std::mem;
+
+/// A try of a transaction: its steps on the pages that it read.
+#[derive(Debug)]
+pub struct Attempt {
+    version: VersionNo,
+    root: Addr,
+    overlay: Overlay,
+    /// The pages that came in, as they were read.
+    pages: Vec<SeenPage>,
+    /// What its Gets have found.
+    found: Vec<Option<Value>>,
+    /// How many steps are done.
+    done: usize,
+    /// The counts that were read, from node 0 on.
+    counts: Vec<u16>,
+}
+
+/// It is let go by a call, which is proved once, and not in place wherever one goes.
+impl Drop for Attempt {
+    fn drop(self) {
+        let Attempt {
+            version: _version,
+            root: _root,
+            overlay,
+            pages,
+            found,
+            done: _done,
+            counts,
+        } = self;
+        drop(overlay);
+        drop(pages);
+        drop(found);
+        drop(counts);
+    }
+}
+
+/// What became of a step.
+#[derive(Debug, Drop)]
+enum Moved {
+    /// It is done.
+    Done,
+    /// A page came in that it needs.
+    Came,
+    /// It can't go on before this.
+    Wants { next: Next },
+}
+
+/// The key that a step names.
+fn key_of(step: &Step) -> &Key
+    ensures { result.now ≡ step_key step.now }
+{
+    match step {
+        Step::Get { key } | Step::Put { key, .. } | Step::Del { key } | Step::Check { key, .. } => {
+            key
+        }
+    }
+}
+
+/// The try failed.
+fn fails(cause: Option<Busy>) -> Moved
+    ensures { result ≡ moved.Wants (next.Fails cause) }
+{
+    Moved::Wants {
+        next: Next::Fails { cause },
+    }
+}
+
+/// Whether one of these pages stands at one of the slots.
+fn was_read(pages: &[SeenPage], slots: &[Addr]) -> bool
+    ensures { result ≡ was_read pages.now slots.now }
+{
+    for slot in slots {
+        if page_at(pages, *slot).is_some() {
+            return true;
+        }
+    }
+    false
+}
+
+/// What is known of pages that come in where a step asks for them.
+fn pages_are_known()
+    ensures pages { MovesTakePages }
+    ensures slots { NeedsAreSlots }
+    ensures come { NeedsMayCome }
+{
+    mn_tree::moves_take_pages();
+    mn_tree::needs_are_slots();
+    mn_tree::needs_may_come();
+}
+
+impl Attempt {
+    /// A try that has read no page yet.
+    pub fn new(
+        alloc: Global,
+        tree: VersionTree,
+        version: VersionNo,
+        root: Addr,
+    ) -> Result<Self, NoMemory>
+        requires there { version.0 < length tree }
+        requires within { version.0 < 64 }
+        ensures { IfOk result (IsBegun tree version root) }
+    {
+        Ok(Attempt {
+            version,
+            root,
+            overlay: Overlay::new(alloc, tree, version, root)?,
+            pages: Vec::new(alloc),
+            found: Vec::new(alloc),
+            done: 0,
+            counts: Vec::new(alloc),
+        })
+    }
+
+    /// The fault that the walk for a key meets among the pages as they were read. The first try
+    /// tells none.
+    fn fault(&self, known: &Known, key: &Key, later: bool) -> Option<Busy>
+        ensures { IsFault known.now later self.now key.now result }
+    {
+        if !later {
+            return None;
+        }
+        match &known.catalog {
+            Some(kept) => fault_among(
+                known.nodes,
+                kept,
+                self.version,
+                self.root,
+                self.pages.as_slice(),
+                key.as_slice(),
+            ),
+            None => None,
+        }
+    }
+
+    /// What it wants next. A first try goes on at the inner pages that are kept, and reads each
+    /// other page by a Peek; a later one reads each page anew, by an Exec.
+    pub fn advance(
+        &mut self,
+        alloc: Global,
+        known: &mut Known,
+        steps: &Steps,
+        later: bool,
+    ) -> Result<Next, NoMemory>
+        requires pages { ArePages known.old.cache }
+        requires nodes { (1 ≤ known.old.nodes) × (known.old.nodes ≤ 8) }
+        requires way { IsOnItsWay known.old steps.now self.old }
+        ensures kept { KeepsKnown known.old known.new }
+        ensures cache { Walks later (next_of result) known.old.cache known.new.cache }
+        ensures stays { KeepsVersion self.old self.new }
+        ensures counts { self.new.counts ≡ self.old.counts }
+        ensures way { IfOk result (StaysOnItsWay known.new steps.now self.new) }
+        ensures later { later ≡ true → self.new.pages ≡ self.old.pages }
+        ensures wants { IfOk result (WantsNext known.new later steps.now self.new) }
+    {
+        let all = steps.as_slice();
+        while self.done < all.len() {
+            if let Some(next) = self.run_step(alloc, known, steps, later)? {
+                return Ok(next);
+            }
+        }
+        self.finish(alloc, known, steps, later)
+    }
+
+    /// Does the next step, as far as its pages are there. None: it is done. A path has at most
+    /// `LEVELS` pages.
+    fn run_step(
+        &mut self,
+        alloc: Global,
+        known: &mut Known,
+        steps: &Steps,
+        later: bool,
+    ) -> Result<Option<Next>, NoMemory>
+        requires pages { ArePages known.old.cache }
+        requires nodes { known.old.nodes ≤ 8 }
+        requires way { IsOnItsWay known.old steps.now self.old }
+        requires more { self.old.done < length steps.now }
+        ensures kept { KeepsKnown known.old known.new }
+        ensures cache { Walks later (next_then result) known.old.cache known.new.cache }
+        ensures stays { KeepsVersion self.old self.new }
+        ensures counts { self.new.counts ≡ self.old.counts }
+        ensures later { later ≡ true → self.new.pages ≡ self.old.pages }
+        ensures ran { IfOk result (RunsOn known.new later steps.now self.new) }
+        ensures further { IfOk result (RunsFurther self.old self.new) }
+    {
+        for _level in 0..LEVELS {
+            match self.step(alloc, known, steps, later)? {
+                Moved::Came => {}
+                Moved::Done => return Ok(None),
+                Moved::Wants { next } => return Ok(Some(next)),
+            }
+        }
+        Ok(Some(Next::Fails { cause: None }))
+    }
+
+    /// Tries the next step on the pages that are there.
+    fn step(
+        &mut self,
+        alloc: Global,
+        known: &mut Known,
+        steps: &Steps,
+        later: bool,
+    ) -> Result<Moved, NoMemory>
+        requires pages { ArePages known.old.cache }
+        requires nodes { known.old.nodes ≤ 8 }
+        requires way { IsOnItsWay known.old steps.now self.old }
+        requires more { self.old.done < length steps.now }
+        ensures kept { KeepsKnown known.old known.new }
+        ensures cache { Walks later (next_by result) known.old.cache known.new.cache }
+        ensures stays { KeepsVersion self.old self.new }
+        ensures counts { self.new.counts ≡ self.old.counts }
+        ensures later { later ≡ true → self.new.pages ≡ self.old.pages }
+        ensures moved { IfOk result (MovesOn known.new later steps.now self.new) }
+        ensures further { IfOk result (MovesFurther self.old self.new) }
+    {
+        mn_tree::moves_take_steps();
+        let step = &steps.as_slice()[self.done];
+        match self.overlay.step(alloc, step)? {
+            Stepped::Need { addr } => self.reach(alloc, known, steps, addr, later),
+            Stepped::BadPath { .. } => Ok(fails(self.fault(known, key_of(step), later))),
+            Stepped::Found { value } => {
+                self.found.push(value)?;
+                self.done += 1;
+                Ok(Moved::Done)
+            }
+            Stepped::Changed | Stepped::Same => {
+                self.done += 1;
+                Ok(Moved::Done)
+            }
+            Stepped::Unmet { found } => Ok(Moved::Wants {
+                next: self.end_unmet(alloc, known, steps, found, later)?,
+            }),
+        }
+    }
+
+    /// Takes the page that a step needs from the cache, in a first try, or asks for it.
+    fn reach(
+        &mut self,
+        alloc: Global,
+        known: &mut Known,
+        steps: &Steps,
+        addr: Addr,
+        later: bool,
+    ) -> Result<Moved, NoMemory>
+        requires pages { ArePages known.old.cache }
+        requires way { IsOnItsWay known.old steps.now self.old }
+        requires asks { Asks steps.now self.old addr }
+        ensures kept { KeepsKnown known.old known.new }
+        ensures cache { Walks later (next_by result) known.old.cache known.new.cache }
+        ensures stays { KeepsVersion self.old self.new }
+        ensures counts { self.new.counts ≡ self.old.counts }
+        ensures later { later ≡ true → self.new.pages ≡ self.old.pages }
+        ensures moved { IfOk result (MovesOn known.new later steps.now self.new) }
+        ensures further { IfOk result (MovesFurther self.old self.new) }
+    {
+        let key = key_of(&steps.as_slice()[self.done]);
+        if !known.has_node(addr) {
+            return Ok(fails(self.fault(known, key, later)));
+        }
+        if !later {
+            return self.reach_kept(alloc, known, steps, addr);
+        }
+        known.cache.drop_page(addr);
+        Ok(Moved::Wants {
+            next: Next::Page { addr, peek: false },
+        })
+    }
+
+    /// Takes the page from the cache, or asks for it by a Peek.
+    fn reach_kept(
+        &mut self,
+        alloc: Global,
+        known: &mut Known,
+        steps: &Steps,
+        addr: Addr,
+    ) -> Result<Moved, NoMemory>
+        requires pages { ArePages known.old.cache }
+        requires way { IsOnItsWay known.old steps.now self.old }
+        requires asks { Asks steps.now self.old addr }
+        requires node { addr.node.0 < known.old.nodes }
+        ensures kept { KeepsKnown known.old known.new }
+        ensures cache { AreUsed known.old.cache known.new.cache }
+        ensures stays { KeepsVersion self.old self.new }
+        ensures counts { self.new.counts ≡ self.old.counts }
+        ensures moved { IfOk result (MovesOn known.new false steps.now self.new) }
+        ensures further { IfOk result (MovesFurther self.old self.new) }
+    {
+        pages_are_known();
+        let Some(page) = known.kept_page(alloc, addr)? else {
+            return Ok(Moved::Wants {
+                next: Next::Page { addr, peek: true },
+            });
+        };
+        let bytes = page_bytes(alloc, &page)?;
+        if self.keep(addr, bytes, page)? {
+            Ok(Moved::Came)
+        } else {
+            Ok(fails(None))
+        }
+    }
+
+    /// A page comes in, with its bytes. Whether the step that asked for it goes on at it.
+    fn keep(&mut self, addr: Addr, bytes: Bytes, page: Page) -> Result<bool, NoMemory>
+        requires wanted { IsWanted self.old.overlay addr }
+        requires page { IsPage page }
+        requires bytes { bytes ≡ page_bytes page }
+        ensures stays { KeepsSteps self.old self.new }
+        ensures comes { IfOk result (ComesIn self.old addr page self.new) }
+    {
+        let leaf = is_leaf(&page);
+        self.pages.push(SeenPage { addr, bytes, leaf })?;
+        match self.overlay.add(addr, page) {
+            Ok(()) => Ok(true),
+            Err(AddError::BadPath { .. }) => Ok(false),
+            Err(AddError::NoMemory) => Err(NoMemory),
+        }
+    }
+
+    /// Takes the page that it asked for, by its bytes.
+    pub fn take_page(
+        &mut self,
+        alloc: Global,
+        known: &mut Known,
+        steps: &Steps,
+        addr: Addr,
+        bytes: Bytes,
+        later: bool,
+    ) -> Result<Taken, NoMemory>
+        requires way { IsOnItsWay known.old steps.now self.old }
+        requires asks { Asks steps.now self.old addr }
+        requires node { addr.node.0 < known.old.nodes }
+        ensures kept { KeepsKnown known.old known.new }
+        ensures cache { Puts addr bytes known.old.cache known.new.cache result }
+        ensures stays { KeepsVersion self.old self.new }
+        ensures counts { self.new.counts ≡ self.old.counts }
+        ensures taken { IfOk result (TakesRead known.old later steps.now self.old addr bytes
+            self.new) }
+        ensures way { IfOk result (CameBySteps known.new steps.now self.new) }
+    {
+        pages_are_known();
+        let key = key_of(&steps.as_slice()[self.done]);
+        let Some(page) = page_in(alloc, bytes.as_slice())? else {
+            self.pages.push(SeenPage {
+                addr,
+                bytes,
+                leaf: false,
+            })?;
+            return Ok(Taken::Fails {
+                cause: self.fault(known, key, later),
+            });
+        };
+        known.keep_inner(alloc, addr, &page)?;
+        if self.keep(addr, bytes, page)? {
+            Ok(Taken::GoesOn)
+        } else {
+            Ok(Taken::Fails {
+                cause: self.fault(known, key, later),
+            })
+        }
+    }
+
+    /// Takes the count of the next node, by its bytes.
+    pub fn take_count(&mut self, bytes: &[u8]) -> Result<Taken, NoMemory>
+        requires { length self.old.counts.items < 8 }
+        ensures taken { IfOk result (CountsOn self.old self.new bytes.now) }
+        ensures same { SameButCounts self.old self.new }
+    {
+        take_count(&mut self.counts, bytes)
+    }
+
+    /// What it has read, of which its plan is made.
+    fn tried<'a>(&'a self, nodes: u8, entry: &'a CatEntry, steps: &'a Steps) -> Tried<'a>
+        ensures { IsTold nodes entry.now steps.now self.now result }
+    {
+        Tried {
+            nodes,
+            version: self.version,
+            entry,
+            steps,
+            pages: self.pages.as_slice(),
+            read_set: self.overlay.read_set(),
+        }
+    }
+
+    /// Where a Check is unmet: it wants its plan, which compares the leaves that it touched.
+    fn end_unmet(
+        &self,
+        alloc: Global,
+        known: &Known,
+        steps: &Steps,
+        found: Option<Value>,
+        later: bool,
+    ) -> Result<Next, NoMemory>
+        requires nodes { known.now.nodes ≤ 8 }
+        requires unmet { HasUnmet known.now steps.now self.now found }
+        ensures { IfOk result (WantsNext known.now later steps.now self.now) }
+    {
+        let Some(kept) = &known.catalog else {
+            return Err(NoMemory);
+        };
+        let entry = &kept.catalog().entries()[usize::from(self.version.0)];
+        let mini = unmet_plan(alloc, self.tried(known.nodes, entry, steps))?;
+        Ok(Next::Plan {
+            mini,
+            reply: Reply::Unmet {
+                step: self.done as u8 + 1,
+                found,
+            },
+        })
+    }
+
+    /// Where all steps are done: it wants the counts, if it needs new slots, and then its plan.
+    fn finish(
+        &mut self,
+        alloc: Global,
+        known: &Known,
+        steps: &Steps,
+        later: bool,
+    ) -> Result<Next, NoMemory>
+        requires nodes { (1 ≤ known.now.nodes) × (known.now.nodes ≤ 8) }
+        requires way { IsOnItsWay known.now steps.now self.old }
+        requires done { self.old.done ≡ length steps.now }
+        ensures stays { KeepsVersion self.old self.new }
+        ensures counts { self.new.counts ≡ self.old.counts }
+        ensures pages { self.new.pages ≡ self.old.pages }
+        ensures way { IfOk result (StaysOnItsWay known.now steps.now self.new) }
+        ensures wants { IfOk result (WantsNext known.now later steps.now self.new) }
+    {
+        let need = self.overlay.new_pages();
+        if need == 0 {
+            return self.end(alloc, known, steps, &[], &[], later);
+        }
+        if self.counts.len() < usize::from(known.nodes) {
+            return Ok(Next::Count {
+                node: NodeNo(self.counts.len() as u8),
+                peek: !later,
+            });
+        }
+        let counts = Counts::from_vec(self.counts.to_vec(alloc)?);
+        match plan_slots(alloc, &counts, need) {
+            Ok(slots) => self.end(
+                alloc,
+                known,
+                steps,
+                counts.as_slice(),
+                slots.as_slice(),
+                later,
+            ),
+            Err(AllocError::Full { need, free }) => Ok(full(need, free, later)),
+            Err(AllocError::NoMemory) => Err(NoMemory),
+        }
+    }
+
+    /// Wants its plan, with these slots for its new pages. Where a page was read at one of them no
+    /// run can have given these replies.
+    fn end(
+        &mut self,
+        alloc: Global,
+        known: &Known,
+        steps: &Steps,
+        counts: &[u16],
+        slots: &[Addr],
+        later: bool,
+    ) -> Result<Next, NoMemory>
+        requires nodes { (1 ≤ known.now.nodes) × (known.now.nodes ≤ 8) }
+        requires way { IsOnItsWay known.now steps.now self.old }
+        requires done { self.old.done ≡ length steps.now }
+        requires slots { slots.now ≡ new_slots self.old.overlay.draft.overlay.fresh
+            self.old.counts.items }
+        requires counts { HasCounts known.now self.old counts.now slots.now }
+        ensures stays { KeepsVersion self.old self.new }
+        ensures counts { self.new.counts ≡ self.old.counts }
+        ensures pages { self.new.pages ≡ self.old.pages }
+        ensures way { IfOk result (StaysOnItsWay known.now steps.now self.new) }
+        ensures wants { IfOk result (WantsNext known.now later steps.now self.new) }
+    {
+        mn_tree::moves_are_met();
+        mn_txn::new_slots_are_next();
+        let Some(kept) = &known.catalog else {
+            return Err(NoMemory);
+        };
+        if was_read(self.pages.as_slice(), slots) {
+            return Ok(Next::Fails { cause: None });
+        }
+        let entry = &kept.catalog().entries()[usize::from(self.version.0)];
+        let pages = self.overlay.place(alloc, slots)?;
+        let placing = Placing {
+            pages: &pages,
+            counts,
+            slots,
+        };
+        match done_plan(alloc, self.tried(known.nodes, entry, steps), placing) {
+            Ok(mini) => Ok(Next::Plan {
+                mini,
+                reply: self.values(alloc),
+            }),
+            Err(PlanError::Worn { node, start }) => Ok(worn(node, start, later)),
+            Err(PlanError::NoMemory) => Err(NoMemory),
+        }
+    }
+
+    /// The reply of its steps, which it gives away.
+    fn values(&mut self, alloc: Global) -> Reply
+        ensures reply { result ≡ Values self.old.found.items }
+        ensures same { SameButFound self.old self.new }
+    {
+        let found = mem::replace(&mut self.found, Vec::new(alloc));
+        Reply::Values {
+            found: Founds::from_vec(found),
+        }
+    }
+}

@@ -1,0 +1,111 @@
+ghost use Rattle.std.specs.Prelude.{◌≡◌, IfOk, IfSome, OnErr, OnOk, nat_lt};
+ghost use Rattle.std.specs.Option.{option_map};
+ghost use Rattle.mn_page.specs.Grammar.{IsPage};
+ghost use Rattle.mn_work.specs.Cached.{AreUsed, with_inner};
+ghost use Rattle.mn_work.specs.Catalogs.{found, refusal_by, root_by};
+ghost use Rattle.mn_work.specs.Knows.{ArePages, KeepsKnown, LearnsFrom, lacks_catalog, new_known};
+
+use crate::catalog::{Kept, kept_of};
+use crate::seen::is_leaf;
+use mn_base::{Addr, Name, NoMemory, Op, Reply, TryCopy, VersionNo};
+use mn_cache::Cache;
+use mn_page::Page;
+use std::alloc::Global;
+
+/// What a proxy keeps from one operation to the next: the number of nodes, the catalog as it last
+/// read it, and inner pages.
+#[derive(Drop)]
+pub struct Known {
+    pub nodes: u8,
+    pub catalog: Option<Kept>,
+    pub cache: Cache,
+}
+
+impl Known {
+    /// It keeps nothing yet, of so many nodes. NoMemory: there was no memory for it.
+    pub fn new(alloc: Global, nodes: u8) -> Result<Self, NoMemory>
+        ensures { IfOk result (λ known. known ≡ new_known nodes) }
+    {
+        Ok(Known {
+            nodes,
+            catalog: None,
+            cache: Cache::new(alloc)?,
+        })
+    }
+
+    /// Keeps the catalog that the bytes spell, in place of the older one. Whether they spell one.
+    pub fn learn(&mut self, alloc: Global, bytes: &[u8]) -> Result<bool, NoMemory>
+        ensures learnt { IfOk result (LearnsFrom bytes.now self.new.catalog) }
+        ensures left { OnErr result (self.new.catalog ≡ self.old.catalog) }
+        ensures kept { (self.new.nodes ≡ self.old.nodes) × (self.new.cache ≡ self.old.cache) }
+    {
+        self.catalog = kept_of(alloc, bytes)?;
+        Ok(self.catalog.is_some())
+    }
+
+    /// Whether an operation has to read the catalog before its first try goes on: each but a
+    /// transaction that the kept one admits.
+    pub fn lacks_catalog(&self, op: &Op) -> bool
+        ensures { result ≡ lacks_catalog self.now.catalog op.now }
+    {
+        match (op, &self.catalog) {
+            (Op::Tx { .. }, Some(kept)) => kept.admit(op).is_some(),
+            _ => true,
+        }
+    }
+
+    /// The reply by which the kept catalog refuses the operation.
+    pub fn refusal(&self, op: &Op) -> Option<Reply>
+        ensures { result ≡ refusal_by self.now.catalog op.now }
+    {
+        match &self.catalog {
+            Some(kept) => kept.admit(op),
+            None => None,
+        }
+    }
+
+    /// The number of the version of this name in the kept catalog, and where its root stands.
+    pub fn root_of(&self, name: &Name) -> Option<(VersionNo, Addr)>
+        ensures { option_map found result ≡ root_by self.now.catalog name.now }
+    {
+        match &self.catalog {
+            Some(kept) => kept.root_of(name),
+            None => None,
+        }
+    }
+
+    /// Whether the address is on one of the nodes.
+    pub fn has_node(&self, addr: Addr) -> bool
+        ensures { result ≡ nat_lt addr.node.0 self.now.nodes }
+    {
+        addr.node.0 < self.nodes
+    }
+
+    /// Puts an inner page that was read into the cache.
+    pub fn keep_inner(&mut self, alloc: Global, addr: Addr, page: &Page) -> Result<(), NoMemory>
+        requires page { IsPage page.now }
+        ensures kept { KeepsKnown self.old self.new }
+        ensures put { OnOk result (self.new.cache ≡ with_inner addr page.now self.old.cache) }
+        ensures left { OnErr result (self.new.cache ≡ self.old.cache) }
+    {
+        if is_leaf(page) {
+            return Ok(());
+        }
+        self.cache.put(alloc, addr, page.try_copy(alloc)?)?;
+        Ok(())
+    }
+
+    /// The inner page that is kept of this address, once more. NoMemory: there was no memory for
+    /// it.
+    pub fn kept_page(&mut self, alloc: Global, addr: Addr) -> Result<Option<Page>, NoMemory>
+        requires pages { ArePages self.old.cache }
+        ensures kept { KeepsKnown self.old self.new }
+        ensures used { AreUsed self.old.cache self.new.cache }
+        ensures page { IfOk result (λ page. IfSome page IsPage) }
+    {
+        match self.cache.get(addr) {
+            Some(page) => Ok(Some(page.try_copy(alloc)?)),
+            None => Ok(None),
+        }
+    }
+}
