@@ -1,3 +1,4 @@
+pub mod Hands
 pub mod Trails
 pub mod Turns
 pub mod Resting
@@ -15,6 +16,7 @@ pub mod Recoveries
 pub mod Doings
 pub mod Held
 pub mod DeskEnds
+pub mod Sweeping
 pub mod Closing
 pub mod Advancing
 pub mod MetPoints

@@ -16,7 +16,8 @@ use Rattle.mn_world.specs.Run.{entries_of}
 use Rattle.mn_world.proofs.Reading.Same.{client_same-refl}
 use Rattle.mn_cell.specs.Calls.{IsLegalLine, numbered}
 use Rattle.mn_cell.specs.Runs.{placed_from}
-use Rattle.mn_callers.specs.Turn.{Fall, past_in, trail_at, trail_by}
+use Rattle.mn_callers.specs.Hands.{Fall}
+use Rattle.mn_callers.specs.Turn.{past_in, trail_at, trail_by}
 use Rattle.mn_callers.proofs.Trails.{entries_back}
 
 -- Members

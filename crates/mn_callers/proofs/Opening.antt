@@ -94,12 +94,6 @@ first_play {D} board records script p v count table stations bare passes nodes s
     few = few;
     four = four;
     numbers = numbers;
-    trail = record {
-      trail = [];
-      is = record { at_nodes = bare; falling = tt };
-      by = λ c below. none c;
-      manned = tt;
-    };
   };
   callers = callers;
 }

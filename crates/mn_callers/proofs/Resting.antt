@@ -24,7 +24,9 @@ use Rattle.mn_world.specs.Run.{entries_of}
 use Rattle.mn_world.proofs.Reading.Same.{client_same-refl, client_same-true}
 use Rattle.mn_callers.specs.declared.callers.Callers.{Callers}
 use Rattle.mn_callers.specs.Plays.{HasTrail, HaveNumbers, IsAtRest, IsManned, PlayState, list_by}
-use Rattle.mn_callers.specs.Turn.{AreStations, IsBoard, Fall, ExtendsLog, IsTrail, IsTurn, Turn, callers_count, trail_by}
+use Rattle.mn_callers.specs.Hands.{Fall}
+use Rattle.mn_callers.proofs.Turns.{trail_after}
+use Rattle.mn_callers.specs.Turn.{AreStations, IsBoard, ExtendsLog, IsTrail, IsTurn, Turn, callers_count, trail_by}
 
 -- A turn begins
 
@@ -35,8 +37,7 @@ turn_begins board start p c w u at list rests among split at_is client entries =
     let there = split.given.0 ∙ rests.owns c among in
     let owns : OwnsJust u (Client c) = ((list_by p.callers c, there), λ b other. (split.others b other).1) in
     record {
-      table = rests.table;
-      stations = rests.stations;
+      ready = record { table = rests.table; stations = rests.stations };
       passes = at_is;
       owns = subst (λ (k : ClientNo). OwnsJust u (Client k)) (sym client) owns;
       list = ap (λ (k : ClientNo). held u (Client k)) client ∙ (there ∙ ap (λ (l : List (ℕ × Entry)). Some l) (sym entries));
@@ -156,7 +157,7 @@ turn_after {D} board start p q c w u v at list t of before =
     all_own = subst (λ (k : ClientNo). AllBy k own) of.client of.goes.by
 
     after : IsTrail t.stations t.view.known (own ++ before.trail)
-    after = of.goes.trail before.trail (subst (λ (k : ℕ). IsTrail p.stations k before.trail) (sym of.split.known.1) before.is)
+    after = trail_after (record { table = p.table; stations = p.stations; board = at; view = u; list = list }) t of.goes before.trail (subst (λ (k : ℕ). IsTrail p.stations k before.trail) (sym of.split.known.1) before.is)
 
     here : t.list.entries ≡ trail_by c (own ++ before.trail)
     here =
@@ -187,8 +188,8 @@ pub turn_ends : {D : Type 0} (board : TableId) (start : Start) (p q : PlayState 
     → IsTurnOf board start p q c w u v at list t → IsAtRest board start q
 turn_ends {D} board start p q c w u v at list t of =
     record {
-      table = subst (IsBoard board (start_nodes start)) (sym of.table) of.turn.table;
-      stations = subst (AreStations (start_nodes start)) (sym of.stations) of.turn.stations;
+      table = subst (IsBoard board (start_nodes start)) (sym of.table) of.turn.ready.table;
+      stations = subst (AreStations (start_nodes start)) (sym of.stations) of.turn.ready.stations;
       passes = of.passes;
       owns = λ d below. owns d below (client_same d c) refl;
       no_others = λ d beyond. here (Client d) ∙ (or_here (held w (Client d)) (held t.view (Client d)) (gone_others d beyond) ∙ own_others d beyond);
@@ -197,7 +198,6 @@ turn_ends {D} board start p q c w u v at list t of =
       few = subst (λ (k : ℕ). k ≤ 16) (sym of.replaces.clients) of.rests.few;
       four = of.replaces.desks ∙ of.rests.four;
       numbers = of.replaces.numbers;
-      trail = (turn_after board start p q c w u v at list t of of.rests.trail).trail;
     }
   where
     client_is : t.list.client ≡ c

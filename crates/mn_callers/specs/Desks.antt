@@ -1,6 +1,6 @@
 -- The recovery coordinators of the script, and the one that opens and closes, by their own lists.
 -- Lists of entries stand newest first.
-use Rattle.std.specs.Prelude.{ℕ, ◌+◌, ◌≡◌, false, List, Some, MatchOption, ⊤}
+use Rattle.std.specs.Prelude.{ℕ, ◌+◌, ◌≡◌, false, List, ◌++◌, Some, None, MatchOption, ⊤}
 use Rattle.std.specs.List.{AllByRecursion}
 use Rattle.mn_base.specs.declared.ids.ClientNo.{ClientNo}
 use Rattle.mn_base.specs.declared.ids.Tid.{Tid}
@@ -10,6 +10,8 @@ use Rattle.mn_mini.specs.declared.request.Request.TheVariants as Ask
 use Rattle.mn_recov.specs.Legal.{Agrees}
 use Rattle.mn_recov.specs.Recovery.{Recovery}
 use Rattle.mn_world.specs.declared.entry.Entry.{Entry}
+use Rattle.mn_world.specs.declared.entry.What.{What}
+use Rattle.mn_world.specs.declared.entry.What.TheVariants.{Called, Stopped, Restarted}
 use Rattle.mn_world.specs.Calls.{is_in_doubt}
 use Rattle.mn_world.specs.Lists.{ClientState}
 use Rattle.mn_world.specs.Protocol.{Start, start_nodes}
@@ -44,3 +46,16 @@ IsWork start list r = Agrees (entries_of list.entries) r × (r.nodes ≡ start_n
 pub record IsDesk (start : Start) (d : Desk) : Type 0 where
   pub list : IsOfRecovery start d.list
   pub work : MatchOption d.work ⊤ (IsWork start d.list)
+
+-- a step of a recovery coordinator: a call, inside which the node may stop unasked, or a restart
+abbrev pub IsRecoveryStep : What → Type 0
+IsRecoveryStep (Called request reply) = ⊤
+IsRecoveryStep (Stopped (Some request) None) = ⊤
+IsRecoveryStep (Restarted kept) = ⊤
+IsRecoveryStep what = ⊥
+
+-- its list went on by such steps
+pub record RecoversOn (old new : List Entry) : Type 0 where
+  pub own : List Entry
+  pub new_is : new ≡ own ++ old
+  pub steps : AllByRecursion (λ e. IsRecoveryStep e.what) own

@@ -1,4 +1,6 @@
+pub mod Hands
 pub mod Turn
+pub mod Stationed
 pub mod Steps
 pub mod Points
 pub mod Clients

@@ -114,7 +114,6 @@ pub record IsAtRest {D : Type 0} (board : TableId) (start : Start) (p : PlayStat
   pub few : length p.callers.clients.items ≤ 16
   pub four : length p.callers.desks.items ≡ 4
   pub numbers : HaveNumbers p.callers
-  pub trail : HasTrail p.stations p.view.known p.callers
 
 -- and the callers are those of the script
 pub record IsPlay {D : Type 0} (board : TableId) (start : Start) (script : Script)

@@ -1,8 +1,11 @@
 -- What a step adds to its actor's list.
-use Rattle.std.specs.Prelude.{ℕ, ◌≡◌, [], ◌∷◌, ◌++◌, Some, None}
+use Rattle.std.specs.Prelude.{ℕ, ◌≡◌, ◌⊎◌, Bool, [], ◌∷◌, ◌++◌, Some, None}
 use Rattle.mn_base.specs.declared.ids.ClientNo.{ClientNo}
+use Rattle.mn_base.specs.declared.ids.NodeNo.{NodeNo}
+use Rattle.mn_cell.specs.Calls.{entry_at}
 use Rattle.mn_world.specs.declared.entry.Entry.{Entry}
 use Rattle.mn_world.specs.declared.entry.What.{What}
+use Rattle.mn_world.specs.declared.entry.What.TheVariants.{Restarted}
 use Rattle.mn_world.specs.Lists.{ClientState}
 
 -- a step that an actor makes by itself
@@ -19,3 +22,8 @@ pub record Adds (e : Entry) (old new : ClientState) : Type 0 where
 pub record KeepsList (old new : ClientState) : Type 0 where
   pub client : new.client ≡ old.client
   pub entries : new.entries ≡ old.entries
+
+-- the node was started again, or the list has no further entry
+abbrev pub MayRestart : NodeNo → ClientState → ClientState → Type 0
+MayRestart n old new =
+    KeepsList old new ⊎ ((kept : Bool) × Adds (entry_at n old.client (Restarted kept)) old new)

@@ -1,22 +1,20 @@
 -- The turn of an actor: what it sees of the run while it acts, and how the log goes on by it. A
 -- trail is the log so far, newest first.
-use Rattle.std.specs.Prelude.{ℕ, ◌≡◌, ◌≤◌, ◌<◌, List, [], ◌∷◌, ◌++◌, length, filter, map, reverse}
-use Rattle.std.specs.Prelude.{Some, slice_get, ⊤}
-use Rattle.std.specs.List.{AllByRecursion}
+use Rattle.std.specs.Prelude.{ℕ, ◌≡◌, ◌≤◌, List, ◌++◌, length, filter, map, reverse}
+use Rattle.std.specs.Prelude.{Option, Some, slice_get}
+use Rattle.std.specs.Option.{option_map}
 use Rattle.atomic_table.specs.Seated.{TableId}
-use Rattle.mn_actors.specs.declared.actor.Actor.TheVariants.{Client}
 use Rattle.mn_actors.specs.declared.board.Board.{Board}
 use Rattle.mn_actors.specs.declared.board.Pass.{Pass}
 use Rattle.mn_actors.specs.declared.clock.View.{View}
-use Rattle.mn_actors.specs.Lists.{held}
 use Rattle.mn_actors.specs.Sight.{board_of, clients_of, id_of, nodes_of, view_of}
 use Rattle.mn_base.specs.declared.ids.ClientNo.{ClientNo}
 use Rattle.mn_cell.specs.Calls.{numbered}
-use Rattle.mn_cell.specs.Passes.{OwnsJust}
 use Rattle.mn_cell.specs.Station.{StationState}
 use Rattle.mn_world.specs.declared.entry.Entry.{Entry}
 use Rattle.mn_world.specs.Calls.{is_at, is_by}
 use Rattle.mn_world.specs.Lists.{ClientState}
+use Rattle.mn_callers.specs.Hands.{Fall, Hand, HasTurn, MovesOn}
 use Rattle.mn_callers.specs.declared.table.Table.{Table}
 
 -- What an actor sees
@@ -63,25 +61,25 @@ pub record AreStations {D : Type 0} (nodes : ℕ) (stations : List (StationState
   pub in_order : (k : ℕ) (s : StationState D) → slice_get stations k ≡ Some s
       → s.number ≡ numbered k
 
--- it is a turn in the run of this board and of so many nodes: the pass owns just the actor, whose
--- list it has
-pub record IsTurn {D : Type 0} (board : TableId) (nodes : ℕ) (t : Turn D) : Type 0 where
-  pub table : IsBoard board nodes t.table
-  pub stations : AreStations nodes t.stations
-  pub passes : t.board ≡ board
-  pub owns : OwnsJust t.view (Client t.list.client)
-  pub list : held t.view (Client t.list.client) ≡ Some t.list.entries
+-- the board is this, of so many nodes, and the stations are theirs
+pub record IsTable {D : Type 0} (board : TableId) (nodes : ℕ) (seen : BoardState)
+    (theirs : List (StationState D)) : Type 0 where
+  pub table : IsBoard board nodes seen
+  pub stations : AreStations nodes theirs
+
+-- what the actor has in hand
+abbrev pub hand_in : {D : Type 0} → Turn D → Hand
+hand_in t = record { board = t.board; view = t.view; list = t.list }
+
+-- it is a turn in the run of this board and of so many nodes
+abbrev pub IsTurn : {D : Type 0} → TableId → ℕ → Turn D → Type 0
+IsTurn board nodes t = HasTurn board (IsTable board nodes t.table t.stations) (hand_in t)
 
 -- The log
 
 -- its entries
 abbrev pub past_in : List (ℕ × Entry) → List Entry
 past_in trail = map (λ p. p.1) trail
-
--- places fall from below this one
-abbrev pub Fall : ℕ → List (ℕ × Entry) → Type 0
-Fall known [] = ⊤
-Fall known (p ∷ trail) = (p.0 < known) × Fall p.0 trail
 
 -- the entries of the trail at the node, and those by the actor, oldest first
 abbrev pub trail_at : ℕ → List (ℕ × Entry) → List (ℕ × Entry)
@@ -97,11 +95,16 @@ pub record IsTrail {D : Type 0} (stations : List (StationState D)) (known : ℕ)
       → s.list ≡ trail_at k trail
   pub falling : Fall known trail
 
--- the log went on by entries of the actor alone, newest first, which ended its list
-pub record ExtendsLog {D : Type 0} (old new : Turn D) : Type 0 where
-  pub own : List (ℕ × Entry)
-  pub client : new.list.client ≡ old.list.client
-  pub list_is : new.list.entries ≡ old.list.entries ++ reverse own
-  pub by : AllByRecursion (λ p. p.1.client ≡ Some old.list.client) own
-  pub trail : (t : List (ℕ × Entry)) → IsTrail old.stations old.view.known t
-      → IsTrail new.stations new.view.known (own ++ t)
+-- the list of the station of this number, if there is one
+abbrev pub list_at : {D : Type 0} → ℕ → List (StationState D) → Option (List (ℕ × Entry))
+list_at k stations = option_map (λ s. s.list) (slice_get stations k)
+
+-- each station's list went on by those of these entries, newest first, that are at its node
+abbrev pub StationsWent : {D : Type 0} → List (StationState D) → List (StationState D)
+    → List (ℕ × Entry) → Type 0
+StationsWent old new own =
+    (k : ℕ) → list_at k new ≡ option_map (λ l. l ++ trail_at k own) (list_at k old)
+
+-- the log went on by entries of the actor alone, which ended its list
+abbrev pub ExtendsLog : {D : Type 0} → Turn D → Turn D → Type 0
+ExtendsLog old new = MovesOn (StationsWent old.stations new.stations) (hand_in old) (hand_in new)

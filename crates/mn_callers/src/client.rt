@@ -10,7 +10,7 @@ ghost use Rattle.mn_mini.specs.Sound.{Fits, IsDecide, IsSoundRequest};
 ghost use Rattle.mn_proxy.specs.Measure.{Falls, steps_left};
 ghost use Rattle.mn_proxy.specs.State.{ProxyState};
 ghost use Rattle.mn_world.specs.Clients.{is_read};
-ghost use Rattle.mn_world.specs.Protocol.{Start, run_number, start_nodes, start_of};
+ghost use Rattle.mn_world.specs.Protocol.{Start, run_number, start_nodes};
 ghost use Rattle.mn_callers.specs.Acts.{BeginsOp, CallsOnce, DoesAll, DoesGo, DoesPlan, DoesStep};
 ghost use Rattle.mn_callers.specs.Acts.{GoesByItself, IsUnderWay, as_role, has_work};
 ghost use Rattle.mn_callers.specs.Clients.{HasProxy, IsAtSteps, IsClient, MayCallNext, IsOfRun};
@@ -19,17 +19,15 @@ ghost use Rattle.mn_callers.specs.Going.{BeginsIfIdle, HasAnswer, HasFewer, HasG
 ghost use Rattle.mn_callers.specs.Going.{IsSameBut, IsSameButRoom, IsUnnoted, KeepsPoints};
 ghost use Rattle.mn_callers.specs.Going.{MakesStep, MayAdd, MayTake};
 ghost use Rattle.mn_callers.specs.Going.{is_planned, ops_left, work_left};
+ghost use Rattle.mn_callers.specs.Hands.{HasTurn, MovesOn, hand_of};
 ghost use Rattle.mn_callers.specs.Points.{has_died};
 ghost use Rattle.mn_callers.specs.Steps.{Adds, KeepsList, own_entry};
-ghost use Rattle.mn_callers.specs.Turn.{ExtendsLog, IsTurn, turn_at};
 
 use crate::points::{has_met_kill, note, stop_due};
-use crate::table::Table;
+use crate::transport::Transport;
 use mn_actors::Pass;
 use mn_base::{Answer, ClientNo, NoMemory, NodeNo, Op, Tid, TryCopy};
-use mn_cell::Named;
 use mn_hist::{may_stop, none_met};
-use mn_io::Disk;
 use mn_mini::{Item, Minitransaction, NodeReply, Request};
 use mn_proxy::{Proxy, ProxyStep};
 use mn_script::Point;
@@ -203,19 +201,17 @@ impl Client {
 
     /// Adds a step that it makes by itself. NoMemory: its list has no room, and there is no memory
     /// for more; the run ends.
-    fn add<N: Named, D: Disk>(
+    fn add<X: Transport>(
         &mut self,
-        table: &mut Table<N, D>,
+        table: &mut X,
         pass: &mut Pass<CoreLaw>,
         what: What,
     ) -> Result<(), NoMemory>
-        requires turn { IsTurn N.board (length N.records)
-            (turn_at table.old pass.old self.old.list) }
+        requires turn { HasTurn X.board (X.ready table.old) (hand_of pass.old self.old.list) }
         requires may { MayAdd self.old.list.client (past_of self.old) what }
-        ensures turn { IsTurn N.board (length N.records)
-            (turn_at table.new pass.new self.new.list) }
-        ensures goes_on { ExtendsLog (turn_at table.old pass.old self.old.list)
-            (turn_at table.new pass.new self.new.list) }
+        ensures turn { HasTurn X.board (X.ready table.new) (hand_of pass.new self.new.list) }
+        ensures goes_on { MovesOn (X.went table.old table.new)
+            (hand_of pass.old self.old.list) (hand_of pass.new self.new.list) }
         ensures added { OnOk result (Adds
             (own_entry self.old.list.client what) self.old.list self.new.list) }
         ensures none { OnErr result (KeepsList self.old.list self.new.list) }
@@ -223,27 +219,25 @@ impl Client {
     {
         let _client = self.list.client();
         self.list.reserve(1)?;
-        table.add(pass, &mut self.list, what);
+        table.put(pass, &mut self.list, what);
         Ok(())
     }
 
     /// Makes a step by itself that begins no operation, and issues nothing.
-    fn make<N: Named, D: Disk>(
+    fn make<X: Transport>(
         &mut self,
-        table: &mut Table<N, D>,
+        table: &mut X,
         pass: &mut Pass<CoreLaw>,
         what: What,
     ) -> Result<(), NoMemory>
-        requires turn { IsTurn N.board (length N.records)
-            (turn_at table.old pass.old self.old.list) }
-        requires list { HasList (start_of N.records) self.old }
-        requires step { MakesStep (start_of N.records) self.old what }
-        ensures turn { IsTurn N.board (length N.records)
-            (turn_at table.new pass.new self.new.list) }
-        ensures goes_on { ExtendsLog (turn_at table.old pass.old self.old.list)
-            (turn_at table.new pass.new self.new.list) }
-        ensures list { HasList (start_of N.records) self.new }
-        ensures proxy { OnOk result (HasProxy (start_of N.records) self.new) }
+        requires turn { HasTurn X.board (X.ready table.old) (hand_of pass.old self.old.list) }
+        requires list { HasList X.start self.old }
+        requires step { MakesStep X.start self.old what }
+        ensures turn { HasTurn X.board (X.ready table.new) (hand_of pass.new self.new.list) }
+        ensures goes_on { MovesOn (X.went table.old table.new)
+            (hand_of pass.old self.old.list) (hand_of pass.new self.new.list) }
+        ensures list { HasList X.start self.new }
+        ensures proxy { OnOk result (HasProxy X.start self.new) }
         ensures points { KeepsPoints self.old self.new }
         ensures same { IsSameBut self.old self.new }
         ensures own { OnOk result (GoesByItself self.old.list.client
@@ -273,23 +267,21 @@ impl Client {
     }
 
     /// Issues a minitransaction.
-    fn issue<N: Named, D: Disk>(
+    fn issue<X: Transport>(
         &mut self,
-        table: &mut Table<N, D>,
+        table: &mut X,
         pass: &mut Pass<CoreLaw>,
         tid: Tid,
         mini: Minitransaction,
     ) -> Result<(), NoMemory>
-        requires turn { IsTurn N.board (length N.records)
-            (turn_at table.old pass.old self.old.list) }
-        requires list { HasList (start_of N.records) self.old }
-        requires step { MayTake (start_of N.records) self.old (ProxyStep.Issue tid mini) }
-        ensures turn { IsTurn N.board (length N.records)
-            (turn_at table.new pass.new self.new.list) }
-        ensures goes_on { ExtendsLog (turn_at table.old pass.old self.old.list)
-            (turn_at table.new pass.new self.new.list) }
-        ensures list { HasList (start_of N.records) self.new }
-        ensures proxy { OnOk result (HasProxy (start_of N.records) self.new) }
+        requires turn { HasTurn X.board (X.ready table.old) (hand_of pass.old self.old.list) }
+        requires list { HasList X.start self.old }
+        requires step { MayTake X.start self.old (ProxyStep.Issue tid mini) }
+        ensures turn { HasTurn X.board (X.ready table.new) (hand_of pass.new self.new.list) }
+        ensures goes_on { MovesOn (X.went table.old table.new)
+            (hand_of pass.old self.old.list) (hand_of pass.new self.new.list) }
+        ensures list { HasList X.start self.new }
+        ensures proxy { OnOk result (HasProxy X.start self.new) }
         ensures points { KeepsPoints self.old self.new }
         ensures stays { (self.new.proxy ≡ self.old.proxy) × (self.new.due ≡ self.old.due)
             × (self.new.begun ≡ self.old.begun) }
@@ -304,24 +296,22 @@ impl Client {
     }
 
     /// Takes one step of the proxy.
-    fn take_step<N: Named, D: Disk>(
+    fn take_step<X: Transport>(
         &mut self,
-        table: &mut Table<N, D>,
+        table: &mut X,
         pass: &mut Pass<CoreLaw>,
         step: ProxyStep,
     ) -> Result<Went, NoMemory>
-        requires turn { IsTurn N.board (length N.records)
-            (turn_at table.old pass.old self.old.list) }
-        requires list { HasList (start_of N.records) self.old }
-        requires step { MayTake (start_of N.records) self.old step }
+        requires turn { HasTurn X.board (X.ready table.old) (hand_of pass.old self.old.list) }
+        requires list { HasList X.start self.old }
+        requires step { MayTake X.start self.old step }
         requires none_due { self.old.due ≡ None }
-        ensures turn { IsTurn N.board (length N.records)
-            (turn_at table.new pass.new self.new.list) }
-        ensures goes_on { ExtendsLog (turn_at table.old pass.old self.old.list)
-            (turn_at table.new pass.new self.new.list) }
-        ensures list { HasList (start_of N.records) self.new }
+        ensures turn { HasTurn X.board (X.ready table.new) (hand_of pass.new self.new.list) }
+        ensures goes_on { MovesOn (X.went table.old table.new)
+            (hand_of pass.old self.old.list) (hand_of pass.new self.new.list) }
+        ensures list { HasList X.start self.new }
         ensures points { KeepsPoints self.old self.new }
-        ensures went { IfOk result (λ went. HasGone (start_of N.records) self.new went) }
+        ensures went { IfOk result (λ went. HasGone X.start self.new went) }
         ensures own { OnOk result (GoesByItself self.old.list.client
             (past_of self.old) (past_of self.new)) }
         ensures begun { self.new.begun ≡ self.old.begun }
@@ -350,23 +340,21 @@ impl Client {
     }
 
     /// Makes one step of its own, or finds the next call.
-    fn own_step<N: Named, D: Disk>(
+    fn own_step<X: Transport>(
         &mut self,
         alloc: Global,
-        table: &mut Table<N, D>,
+        table: &mut X,
         pass: &mut Pass<CoreLaw>,
     ) -> Result<Went, NoMemory>
-        requires turn { IsTurn N.board (length N.records)
-            (turn_at table.old pass.old self.old.list) }
-        requires list { HasList (start_of N.records) self.old }
-        requires ready { HasGone (start_of N.records) self.old Went.On }
-        ensures turn { IsTurn N.board (length N.records)
-            (turn_at table.new pass.new self.new.list) }
-        ensures goes_on { ExtendsLog (turn_at table.old pass.old self.old.list)
-            (turn_at table.new pass.new self.new.list) }
-        ensures list { HasList (start_of N.records) self.new }
+        requires turn { HasTurn X.board (X.ready table.old) (hand_of pass.old self.old.list) }
+        requires list { HasList X.start self.old }
+        requires ready { HasGone X.start self.old Went.On }
+        ensures turn { HasTurn X.board (X.ready table.new) (hand_of pass.new self.new.list) }
+        ensures goes_on { MovesOn (X.went table.old table.new)
+            (hand_of pass.old self.old.list) (hand_of pass.new self.new.list) }
+        ensures list { HasList X.start self.new }
         ensures points { KeepsPoints self.old self.new }
-        ensures went { IfOk result (λ went. HasGone (start_of N.records) self.new went) }
+        ensures went { IfOk result (λ went. HasGone X.start self.new went) }
         ensures own { OnOk result (GoesByItself self.old.list.client
             (past_of self.old) (past_of self.new)) }
         ensures begun { self.new.begun ≡ self.old.begun }
@@ -384,22 +372,20 @@ impl Client {
     }
 
     /// Makes the steps of its own up to the next call, or to the answer.
-    fn go_on<N: Named, D: Disk>(
+    fn go_on<X: Transport>(
         &mut self,
         alloc: Global,
-        table: &mut Table<N, D>,
+        table: &mut X,
         pass: &mut Pass<CoreLaw>,
         points: &[Point],
     ) -> Result<(), NoMemory>
-        requires turn { IsTurn N.board (length N.records)
-            (turn_at table.old pass.old self.old.list) }
-        requires steps { IsAtSteps (start_of N.records) points.now self.old }
-        ensures turn { IsTurn N.board (length N.records)
-            (turn_at table.new pass.new self.new.list) }
-        ensures goes_on { ExtendsLog (turn_at table.old pass.old self.old.list)
-            (turn_at table.new pass.new self.new.list) }
-        ensures client { OnOk result (IsClient (start_of N.records) points.now self.new) }
-        ensures of_run { OnErr result (IsOfRun (start_of N.records) points.now self.new) }
+        requires turn { HasTurn X.board (X.ready table.old) (hand_of pass.old self.old.list) }
+        requires steps { IsAtSteps X.start points.now self.old }
+        ensures turn { HasTurn X.board (X.ready table.new) (hand_of pass.new self.new.list) }
+        ensures goes_on { MovesOn (X.went table.old table.new)
+            (hand_of pass.old self.old.list) (hand_of pass.new self.new.list) }
+        ensures client { OnOk result (IsClient X.start points.now self.new) }
+        ensures of_run { OnErr result (IsOfRun X.start points.now self.new) }
         ensures own { OnOk result (GoesByItself self.old.list.client
             (past_of self.old) (past_of self.new)) }
         ensures begun { self.new.begun ≡ self.old.begun }
@@ -414,26 +400,24 @@ impl Client {
     }
 
     /// Begins its next operation. NoMemory: there was no memory to begin it; the run ends.
-    fn begin<N: Named, D: Disk>(
+    fn begin<X: Transport>(
         &mut self,
         alloc: Global,
-        table: &mut Table<N, D>,
+        table: &mut X,
         pass: &mut Pass<CoreLaw>,
         points: &[Point],
         op: &Op,
     ) -> Result<(), NoMemory>
-        requires turn { IsTurn N.board (length N.records)
-            (turn_at table.old pass.old self.old.list) }
-        requires client { IsClient (start_of N.records) points.now self.old }
+        requires turn { HasTurn X.board (X.ready table.old) (hand_of pass.old self.old.list) }
+        requires client { IsClient X.start points.now self.old }
         requires idle { self.old.due ≡ None }
         requires lives { has_died points.now self.old.list.client (past_of self.old) ≡ false }
         requires few { self.old.begun + 1 < 2 ^ 32 }
-        ensures turn { IsTurn N.board (length N.records)
-            (turn_at table.new pass.new self.new.list) }
-        ensures goes_on { ExtendsLog (turn_at table.old pass.old self.old.list)
-            (turn_at table.new pass.new self.new.list) }
-        ensures client { OnOk result (IsClient (start_of N.records) points.now self.new) }
-        ensures of_run { OnErr result (IsOfRun (start_of N.records) points.now self.new) }
+        ensures turn { HasTurn X.board (X.ready table.new) (hand_of pass.new self.new.list) }
+        ensures goes_on { MovesOn (X.went table.old table.new)
+            (hand_of pass.old self.old.list) (hand_of pass.new self.new.list) }
+        ensures client { OnOk result (IsClient X.start points.now self.new) }
+        ensures of_run { OnErr result (IsOfRun X.start points.now self.new) }
         ensures begins { OnOk result (BeginsOp self.old.list.client op.now
             (past_of self.old) (past_of self.new)) }
         ensures begun { OnOk result (self.new.begun ≡ self.old.begun + 1) }
@@ -448,27 +432,25 @@ impl Client {
     }
 
     /// Begins its next operation where none is under way.
-    fn begin_if_idle<N: Named, D: Disk>(
+    fn begin_if_idle<X: Transport>(
         &mut self,
         alloc: Global,
-        table: &mut Table<N, D>,
+        table: &mut X,
         pass: &mut Pass<CoreLaw>,
         points: &[Point],
         ops: &[Op],
     ) -> Result<(), NoMemory>
-        requires turn { IsTurn N.board (length N.records)
-            (turn_at table.old pass.old self.old.list) }
-        requires client { IsClient (start_of N.records) points.now self.old }
+        requires turn { HasTurn X.board (X.ready table.old) (hand_of pass.old self.old.list) }
+        requires client { IsClient X.start points.now self.old }
         requires few { length ops.now < 2 ^ 32 }
         requires left { self.old.due ≡ None → self.old.begun < length ops.now }
         requires lives { self.old.due ≡ None
             → has_died points.now self.old.list.client (past_of self.old) ≡ false }
-        ensures turn { IsTurn N.board (length N.records)
-            (turn_at table.new pass.new self.new.list) }
-        ensures goes_on { ExtendsLog (turn_at table.old pass.old self.old.list)
-            (turn_at table.new pass.new self.new.list) }
-        ensures client { OnOk result (IsClient (start_of N.records) points.now self.new) }
-        ensures of_run { OnErr result (IsOfRun (start_of N.records) points.now self.new) }
+        ensures turn { HasTurn X.board (X.ready table.new) (hand_of pass.new self.new.list) }
+        ensures goes_on { MovesOn (X.went table.old table.new)
+            (hand_of pass.old self.old.list) (hand_of pass.new self.new.list) }
+        ensures client { OnOk result (IsClient X.start points.now self.new) }
+        ensures of_run { OnErr result (IsOfRun X.start points.now self.new) }
         ensures under_way { OnOk result (IsUnderWay
             (as_role points.now self.old.list.client ops.now)
             (past_of self.old) (past_of self.new)) }
@@ -522,26 +504,24 @@ impl Client {
 
     /// Calls a node, which is to stop inside the call where the points say so. NoMemory: there was
     /// none, and there is no entry.
-    fn ask<N: Named, D: Disk>(
+    fn ask<X: Transport>(
         &mut self,
         alloc: Global,
-        table: &mut Table<N, D>,
+        table: &mut X,
         pass: &mut Pass<CoreLaw>,
         points: &[Point],
         node: NodeNo,
         request: Request,
     ) -> NodeReply
-        requires turn { IsTurn N.board (length N.records)
-            (turn_at table.old pass.old self.old.list) }
-        requires run { IsOfRun (start_of N.records) points.now self.old }
-        requires proxy { HasProxy (start_of N.records) self.old }
-        requires due { MayCallNext (start_of N.records) self.old
+        requires turn { HasTurn X.board (X.ready table.old) (hand_of pass.old self.old.list) }
+        requires run { IsOfRun X.start points.now self.old }
+        requires proxy { HasProxy X.start self.old }
+        requires due { MayCallNext X.start self.old
             (record { node = node; request = request }) }
-        ensures turn { IsTurn N.board (length N.records)
-            (turn_at table.new pass.new self.new.list) }
-        ensures goes_on { ExtendsLog (turn_at table.old pass.old self.old.list)
-            (turn_at table.new pass.new self.new.list) }
-        ensures run { IsOfRun (start_of N.records) points.now self.new }
+        ensures turn { HasTurn X.board (X.ready table.new) (hand_of pass.new self.new.list) }
+        ensures goes_on { MovesOn (X.went table.old table.new)
+            (hand_of pass.old self.old.list) (hand_of pass.new self.new.list) }
+        ensures run { IsOfRun X.start points.now self.new }
         ensures fits { Fits request result }
         ensures answer { result ≢ NodeReply.NoMemory
             → HasAnswer points.now node request result self.old self.new }
@@ -558,32 +538,30 @@ impl Client {
             node,
             &request,
         );
-        let reply = table.call(alloc, pass, &mut self.list, node, request, stop);
+        let reply = table.send(alloc, pass, &mut self.list, node, request, stop);
         self.note_reply(points, &reply);
         reply
     }
 
     /// Sends a request. NoMemory: there was none for it or for its entries, and there is no entry.
-    fn send<N: Named, D: Disk>(
+    fn send<X: Transport>(
         &mut self,
         alloc: Global,
-        table: &mut Table<N, D>,
+        table: &mut X,
         pass: &mut Pass<CoreLaw>,
         points: &[Point],
         node: NodeNo,
         request: Request,
     ) -> NodeReply
-        requires turn { IsTurn N.board (length N.records)
-            (turn_at table.old pass.old self.old.list) }
-        requires run { IsOfRun (start_of N.records) points.now self.old }
-        requires proxy { HasProxy (start_of N.records) self.old }
-        requires due { MayCallNext (start_of N.records) self.old
+        requires turn { HasTurn X.board (X.ready table.old) (hand_of pass.old self.old.list) }
+        requires run { IsOfRun X.start points.now self.old }
+        requires proxy { HasProxy X.start self.old }
+        requires due { MayCallNext X.start self.old
             (record { node = node; request = request }) }
-        ensures turn { IsTurn N.board (length N.records)
-            (turn_at table.new pass.new self.new.list) }
-        ensures goes_on { ExtendsLog (turn_at table.old pass.old self.old.list)
-            (turn_at table.new pass.new self.new.list) }
-        ensures run { IsOfRun (start_of N.records) points.now self.new }
+        ensures turn { HasTurn X.board (X.ready table.new) (hand_of pass.new self.new.list) }
+        ensures goes_on { MovesOn (X.went table.old table.new)
+            (hand_of pass.old self.old.list) (hand_of pass.new self.new.list) }
+        ensures run { IsOfRun X.start points.now self.new }
         ensures fits { Fits request result }
         ensures answer { result ≢ NodeReply.NoMemory
             → HasAnswer points.now node request result self.old self.new }
@@ -600,22 +578,20 @@ impl Client {
 
     /// Makes the call that is due, with the steps that follow from its reply: none, where the
     /// client dies by it.
-    fn call<N: Named, D: Disk>(
+    fn call<X: Transport>(
         &mut self,
         alloc: Global,
-        table: &mut Table<N, D>,
+        table: &mut X,
         pass: &mut Pass<CoreLaw>,
         points: &[Point],
     ) -> Result<(), NoMemory>
-        requires turn { IsTurn N.board (length N.records)
-            (turn_at table.old pass.old self.old.list) }
-        requires client { IsClient (start_of N.records) points.now self.old }
-        ensures turn { IsTurn N.board (length N.records)
-            (turn_at table.new pass.new self.new.list) }
-        ensures goes_on { ExtendsLog (turn_at table.old pass.old self.old.list)
-            (turn_at table.new pass.new self.new.list) }
-        ensures client { OnOk result (IsClient (start_of N.records) points.now self.new) }
-        ensures of_run { OnErr result (IsOfRun (start_of N.records) points.now self.new) }
+        requires turn { HasTurn X.board (X.ready table.old) (hand_of pass.old self.old.list) }
+        requires client { IsClient X.start points.now self.old }
+        ensures turn { HasTurn X.board (X.ready table.new) (hand_of pass.new self.new.list) }
+        ensures goes_on { MovesOn (X.went table.old table.new)
+            (hand_of pass.old self.old.list) (hand_of pass.new self.new.list) }
+        ensures client { OnOk result (IsClient X.start points.now self.new) }
+        ensures of_run { OnErr result (IsOfRun X.start points.now self.new) }
         ensures calls { OnOk result ((ops : List Op)
             → CallsOnce (as_role points.now self.old.list.client ops)
             (past_of self.old) (past_of self.new)) }
@@ -640,24 +616,22 @@ impl Client {
 
     /// One call, of an operation that is begun if none is under way; nothing where there is no
     /// work.
-    pub fn step<N: Named, D: Disk>(
+    pub fn step<X: Transport>(
         &mut self,
         alloc: Global,
-        table: &mut Table<N, D>,
+        table: &mut X,
         pass: &mut Pass<CoreLaw>,
         points: &[Point],
         ops: &[Op],
     ) -> Result<(), NoMemory>
-        requires turn { IsTurn N.board (length N.records)
-            (turn_at table.old pass.old self.old.list) }
-        requires client { IsClient (start_of N.records) points.now self.old }
+        requires turn { HasTurn X.board (X.ready table.old) (hand_of pass.old self.old.list) }
+        requires client { IsClient X.start points.now self.old }
         requires few { length ops.now < 2 ^ 32 }
-        ensures turn { IsTurn N.board (length N.records)
-            (turn_at table.new pass.new self.new.list) }
-        ensures goes_on { ExtendsLog (turn_at table.old pass.old self.old.list)
-            (turn_at table.new pass.new self.new.list) }
-        ensures client { OnOk result (IsClient (start_of N.records) points.now self.new) }
-        ensures of_run { IsOfRun (start_of N.records) points.now self.new }
+        ensures turn { HasTurn X.board (X.ready table.new) (hand_of pass.new self.new.list) }
+        ensures goes_on { MovesOn (X.went table.old table.new)
+            (hand_of pass.old self.old.list) (hand_of pass.new self.new.list) }
+        ensures client { OnOk result (IsClient X.start points.now self.new) }
+        ensures of_run { IsOfRun X.start points.now self.new }
         ensures does { OnOk result (DoesStep
             (as_role points.now self.old.list.client ops.now)
             (past_of self.old) (past_of self.new)) }
@@ -670,24 +644,22 @@ impl Client {
     }
 
     /// Calls until the next one would be a Prepare or the Exec of a plan, or the operation is over.
-    pub fn plan<N: Named, D: Disk>(
+    pub fn plan<X: Transport>(
         &mut self,
         alloc: Global,
-        table: &mut Table<N, D>,
+        table: &mut X,
         pass: &mut Pass<CoreLaw>,
         points: &[Point],
         ops: &[Op],
     ) -> Result<(), NoMemory>
-        requires turn { IsTurn N.board (length N.records)
-            (turn_at table.old pass.old self.old.list) }
-        requires client { IsClient (start_of N.records) points.now self.old }
+        requires turn { HasTurn X.board (X.ready table.old) (hand_of pass.old self.old.list) }
+        requires client { IsClient X.start points.now self.old }
         requires few { length ops.now < 2 ^ 32 }
-        ensures turn { IsTurn N.board (length N.records)
-            (turn_at table.new pass.new self.new.list) }
-        ensures goes_on { ExtendsLog (turn_at table.old pass.old self.old.list)
-            (turn_at table.new pass.new self.new.list) }
-        ensures client { OnOk result (IsClient (start_of N.records) points.now self.new) }
-        ensures of_run { IsOfRun (start_of N.records) points.now self.new }
+        ensures turn { HasTurn X.board (X.ready table.new) (hand_of pass.new self.new.list) }
+        ensures goes_on { MovesOn (X.went table.old table.new)
+            (hand_of pass.old self.old.list) (hand_of pass.new self.new.list) }
+        ensures client { OnOk result (IsClient X.start points.now self.new) }
+        ensures of_run { IsOfRun X.start points.now self.new }
         ensures does { OnOk result (DoesPlan
             (as_role points.now self.old.list.client ops.now)
             (past_of self.old) (past_of self.new)) }
@@ -703,24 +675,22 @@ impl Client {
     }
 
     /// Calls until the operation is answered or the client has died.
-    pub fn go<N: Named, D: Disk>(
+    pub fn go<X: Transport>(
         &mut self,
         alloc: Global,
-        table: &mut Table<N, D>,
+        table: &mut X,
         pass: &mut Pass<CoreLaw>,
         points: &[Point],
         ops: &[Op],
     ) -> Result<(), NoMemory>
-        requires turn { IsTurn N.board (length N.records)
-            (turn_at table.old pass.old self.old.list) }
-        requires client { IsClient (start_of N.records) points.now self.old }
+        requires turn { HasTurn X.board (X.ready table.old) (hand_of pass.old self.old.list) }
+        requires client { IsClient X.start points.now self.old }
         requires few { length ops.now < 2 ^ 32 }
-        ensures turn { IsTurn N.board (length N.records)
-            (turn_at table.new pass.new self.new.list) }
-        ensures goes_on { ExtendsLog (turn_at table.old pass.old self.old.list)
-            (turn_at table.new pass.new self.new.list) }
-        ensures client { OnOk result (IsClient (start_of N.records) points.now self.new) }
-        ensures of_run { IsOfRun (start_of N.records) points.now self.new }
+        ensures turn { HasTurn X.board (X.ready table.new) (hand_of pass.new self.new.list) }
+        ensures goes_on { MovesOn (X.went table.old table.new)
+            (hand_of pass.old self.old.list) (hand_of pass.new self.new.list) }
+        ensures client { OnOk result (IsClient X.start points.now self.new) }
+        ensures of_run { IsOfRun X.start points.now self.new }
         ensures does { OnOk result (DoesGo
             (as_role points.now self.old.list.client ops.now)
             (past_of self.old) (past_of self.new)) }
@@ -739,30 +709,29 @@ impl Client {
     }
 
     /// One operation after another, until none is left or the client has died.
-    pub fn all<N: Named, D: Disk>(
+    pub fn all<X: Transport>(
         &mut self,
         alloc: Global,
-        table: &mut Table<N, D>,
+        table: &mut X,
         pass: &mut Pass<CoreLaw>,
         points: &[Point],
         ops: &[Op],
     ) -> Result<(), NoMemory>
-        requires turn { IsTurn N.board (length N.records)
-            (turn_at table.old pass.old self.old.list) }
-        requires client { IsClient (start_of N.records) points.now self.old }
+        requires turn { HasTurn X.board (X.ready table.old) (hand_of pass.old self.old.list) }
+        requires client { IsClient X.start points.now self.old }
         requires few { length ops.now < 2 ^ 32 }
-        ensures turn { IsTurn N.board (length N.records)
-            (turn_at table.new pass.new self.new.list) }
-        ensures goes_on { ExtendsLog (turn_at table.old pass.old self.old.list)
-            (turn_at table.new pass.new self.new.list) }
-        ensures client { OnOk result (IsClient (start_of N.records) points.now self.new) }
-        ensures of_run { IsOfRun (start_of N.records) points.now self.new }
+        ensures turn { HasTurn X.board (X.ready table.new) (hand_of pass.new self.new.list) }
+        ensures goes_on { MovesOn (X.went table.old table.new)
+            (hand_of pass.old self.old.list) (hand_of pass.new self.new.list) }
+        ensures client { OnOk result (IsClient X.start points.now self.new) }
+        ensures of_run { IsOfRun X.start points.now self.new }
         ensures does { OnOk result (DoesAll
             (as_role points.now self.old.list.client ops.now)
             (past_of self.old) (past_of self.new)) }
     {
         while self.has_work(points, ops) {
             self.go(alloc, table, pass, points, ops)?;
+            table.pause(&self.list, self.has_died(points));
         }
         Ok(())
     }

@@ -1,5 +1,5 @@
 //! A recovery coordinator of the script.
-ghost use Rattle.std.specs.Prelude.{◌≡◌, ◌≢◌, ◌≤◌, ◌<◌, ◌&&◌, [], false, true, length, List, not};
+ghost use Rattle.std.specs.Prelude.{◌≡◌, ◌≢◌, ◌≤◌, ◌<◌, ◌&&◌, [], false, true, List, not};
 ghost use Rattle.std.specs.Prelude.{MatchOption, None, OnErr, OnOk, ⊤};
 ghost use Rattle.mn_cell.specs.Calls.{entry_at, what_said};
 ghost use Rattle.mn_mini.specs.RecordGrammar.{IsTid};
@@ -7,21 +7,19 @@ ghost use Rattle.mn_mini.specs.Sound.{Fits, IsSoundRequest};
 ghost use Rattle.mn_world.specs.declared.entry.Entry.{Entry};
 ghost use Rattle.mn_world.specs.Calls.{issues_of};
 ghost use Rattle.mn_world.specs.Clients.{Sends};
-ghost use Rattle.mn_world.specs.Protocol.{Start, start_nodes, start_of};
+ghost use Rattle.mn_world.specs.Protocol.{Start, start_nodes};
 ghost use Rattle.mn_world.specs.Run.{entries_of};
 ghost use Rattle.mn_callers.specs.Clients.{last_shared};
 ghost use Rattle.mn_callers.specs.Closing.{calls_of};
-ghost use Rattle.mn_callers.specs.Desks.{IsDesk, IsOfRecovery, IsRecoveryCall};
+ghost use Rattle.mn_callers.specs.Desks.{IsDesk, IsOfRecovery, IsRecoveryCall, RecoversOn};
+ghost use Rattle.mn_callers.specs.Hands.{HasTurn, MovesOn, hand_of};
 ghost use Rattle.mn_callers.specs.Recoveries.{AsksIf, DoesRecover, DoesRstep, bench_of, is_force};
 ghost use Rattle.mn_callers.specs.Recoveries.{is_vote, work_of};
 ghost use Rattle.mn_callers.specs.Steps.{Adds, KeepsList};
-ghost use Rattle.mn_callers.specs.Turn.{ExtendsLog, IsTurn, turn_at};
 
-use crate::table::Table;
+use crate::transport::Transport;
 use mn_actors::Pass;
 use mn_base::{ClientNo, NoMemory, NodeNo, Tid};
-use mn_cell::Named;
-use mn_io::Disk;
 use mn_mini::{NodeReply, Request};
 use mn_recov::{RecovStep, Recoverer};
 use mn_world::{ClientList, CoreLaw};
@@ -99,30 +97,30 @@ impl Desk {
     }
 
     /// Sends a request. NoMemory: there was none for it or for its entries, and there is no entry.
-    fn send<N: Named, D: Disk>(
+    fn send<X: Transport>(
         &mut self,
         alloc: Global,
-        table: &mut Table<N, D>,
+        table: &mut X,
         pass: &mut Pass<CoreLaw>,
         node: NodeNo,
         request: Request,
     ) -> NodeReply
-        requires turn { IsTurn N.board (length N.records)
-            (turn_at table.old pass.old self.old.list) }
-        requires list { IsOfRecovery (start_of N.records) self.old.list }
-        requires node { node.0 < length N.records }
+        requires turn { HasTurn X.board (X.ready table.old) (hand_of pass.old self.old.list) }
+        requires list { IsOfRecovery X.start self.old.list }
+        requires node { node.0 < start_nodes X.start }
         requires sound { IsSoundRequest request }
         requires kind { IsRecoveryCall request }
         requires legal { Sends (entries_of self.old.list.entries) (Some node) request }
-        ensures turn { IsTurn N.board (length N.records)
-            (turn_at table.new pass.new self.new.list) }
-        ensures goes_on { ExtendsLog (turn_at table.old pass.old self.old.list)
-            (turn_at table.new pass.new self.new.list) }
-        ensures list { IsOfRecovery (start_of N.records) self.new.list }
+        ensures turn { HasTurn X.board (X.ready table.new) (hand_of pass.new self.new.list) }
+        ensures goes_on { MovesOn (X.went table.old table.new)
+            (hand_of pass.old self.old.list) (hand_of pass.new self.new.list) }
+        ensures list { IsOfRecovery X.start self.new.list }
         ensures said { result ≢ NodeReply.NoMemory
             → Adds (entry_at node self.old.list.client (what_said request None result))
             self.old.list self.new.list }
         ensures none { result ≡ NodeReply.NoMemory → KeepsList self.old.list self.new.list }
+        ensures recovers { RecoversOn (entries_of self.old.list.entries)
+            (entries_of self.new.list.entries) }
         ensures fits { Fits request result }
         ensures work { self.new.work ≡ self.old.work }
     {
@@ -131,26 +129,21 @@ impl Desk {
         if make_room(&mut self.list, &request).is_err() {
             return NodeReply::NoMemory;
         }
-        table.call(alloc, pass, &mut self.list, node, request, None)
+        table.send(alloc, pass, &mut self.list, node, request, None)
     }
 
     /// The call that its recovery wants next, if it has work. The answer is whether another may
     /// follow: it has work left, and doesn't have to wait at a Force.
-    fn call<N: Named, D: Disk>(
-        &mut self,
-        alloc: Global,
-        table: &mut Table<N, D>,
-        pass: &mut Pass<CoreLaw>,
-    ) -> bool
-        requires turn { IsTurn N.board (length N.records)
-            (turn_at table.old pass.old self.old.list) }
-        requires desk { IsDesk (start_of N.records) self.old }
-        ensures turn { IsTurn N.board (length N.records)
-            (turn_at table.new pass.new self.new.list) }
-        ensures goes_on { ExtendsLog (turn_at table.old pass.old self.old.list)
-            (turn_at table.new pass.new self.new.list) }
-        ensures desk { IsDesk (start_of N.records) self.new }
+    fn call<X: Transport>(&mut self, alloc: Global, table: &mut X, pass: &mut Pass<CoreLaw>) -> bool
+        requires turn { HasTurn X.board (X.ready table.old) (hand_of pass.old self.old.list) }
+        requires desk { IsDesk X.start self.old }
+        ensures turn { HasTurn X.board (X.ready table.new) (hand_of pass.new self.new.list) }
+        ensures goes_on { MovesOn (X.went table.old table.new)
+            (hand_of pass.old self.old.list) (hand_of pass.new self.new.list) }
+        ensures desk { IsDesk X.start self.new }
         ensures client { self.new.list.client ≡ self.old.list.client }
+        ensures recovers { RecoversOn (entries_of self.old.list.entries)
+            (entries_of self.new.list.entries) }
         ensures asks { AsksIf self.old.list.client self.old.work (bench_of self.old)
             (bench_of self.new) result }
         ensures falls { result ≡ true → calls_of self.new.work < calls_of self.old.work }
@@ -174,24 +167,22 @@ impl Desk {
 
     /// One call. Where it has no work it first takes this id, if there is one. NoMemory: there was
     /// none to take it.
-    pub fn step<N: Named, D: Disk>(
+    pub fn step<X: Transport>(
         &mut self,
         alloc: Global,
-        table: &mut Table<N, D>,
+        table: &mut X,
         pass: &mut Pass<CoreLaw>,
         shared: Option<Tid>,
     ) -> Result<(), NoMemory>
-        requires turn { IsTurn N.board (length N.records)
-            (turn_at table.old pass.old self.old.list) }
-        requires desk { IsDesk (start_of N.records) self.old }
+        requires turn { HasTurn X.board (X.ready table.old) (hand_of pass.old self.old.list) }
+        requires desk { IsDesk X.start self.old }
         requires id { MatchOption shared ⊤ IsTid }
-        ensures turn { IsTurn N.board (length N.records)
-            (turn_at table.new pass.new self.new.list) }
-        ensures goes_on { ExtendsLog (turn_at table.old pass.old self.old.list)
-            (turn_at table.new pass.new self.new.list) }
-        ensures desk { IsDesk (start_of N.records) self.new }
+        ensures turn { HasTurn X.board (X.ready table.new) (hand_of pass.new self.new.list) }
+        ensures goes_on { MovesOn (X.went table.old table.new)
+            (hand_of pass.old self.old.list) (hand_of pass.new self.new.list) }
+        ensures desk { IsDesk X.start self.new }
         ensures does { OnOk result ((es : List Entry) → shared ≡ last_shared (issues_of es)
-            → DoesRstep (length N.records) self.old.list.client es (bench_of self.old)
+            → DoesRstep (start_nodes X.start) self.old.list.client es (bench_of self.old)
             (bench_of self.new)) }
         ensures failed { OnErr result (self.new ≡ self.old) }
     {
@@ -202,24 +193,24 @@ impl Desk {
 
     /// Calls until its recovery ends, or has to wait at a Force. NoMemory: there was none to take
     /// the id, and it made no call.
-    pub fn recover<N: Named, D: Disk>(
+    pub fn recover<X: Transport>(
         &mut self,
         alloc: Global,
-        table: &mut Table<N, D>,
+        table: &mut X,
         pass: &mut Pass<CoreLaw>,
         shared: Option<Tid>,
     ) -> Result<(), NoMemory>
-        requires turn { IsTurn N.board (length N.records)
-            (turn_at table.old pass.old self.old.list) }
-        requires desk { IsDesk (start_of N.records) self.old }
+        requires turn { HasTurn X.board (X.ready table.old) (hand_of pass.old self.old.list) }
+        requires desk { IsDesk X.start self.old }
         requires id { MatchOption shared ⊤ IsTid }
-        ensures turn { IsTurn N.board (length N.records)
-            (turn_at table.new pass.new self.new.list) }
-        ensures goes_on { ExtendsLog (turn_at table.old pass.old self.old.list)
-            (turn_at table.new pass.new self.new.list) }
-        ensures desk { IsDesk (start_of N.records) self.new }
+        ensures turn { HasTurn X.board (X.ready table.new) (hand_of pass.new self.new.list) }
+        ensures goes_on { MovesOn (X.went table.old table.new)
+            (hand_of pass.old self.old.list) (hand_of pass.new self.new.list) }
+        ensures desk { IsDesk X.start self.new }
+        ensures recovers { RecoversOn (entries_of self.old.list.entries)
+            (entries_of self.new.list.entries) }
         ensures does { OnOk result ((es : List Entry) → shared ≡ last_shared (issues_of es)
-            → DoesRecover (length N.records) self.old.list.client es (bench_of self.old)
+            → DoesRecover (start_nodes X.start) self.old.list.client es (bench_of self.old)
             (bench_of self.new) false) }
         ensures failed { OnErr result (self.new ≡ self.old) }
     {

@@ -10,6 +10,7 @@ mod points;
 mod settle;
 mod staging;
 mod table;
+mod transport;
 
 pub use callers::{CALLERS, Callers, FIRST_RECOVERER};
 pub use client::Client;
@@ -18,3 +19,4 @@ pub use ending::{Rooms, end, no_memory, without_log};
 pub use settle::{CLOSER, Closer};
 pub use staging::stations_of;
 pub use table::Table;
+pub use transport::{Transport, put_alone};

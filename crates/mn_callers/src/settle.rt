@@ -25,6 +25,7 @@ ghost use Rattle.mn_callers.specs.Turn.{ExtendsLog, IsTurn, turn_at};
 
 use crate::desk::make_room;
 use crate::table::Table;
+use crate::transport::Transport;
 use mn_actors::Pass;
 use mn_base::{ClientNo, NoMemory, NodeNo, Tid};
 use mn_cell::{Named, RunCause};

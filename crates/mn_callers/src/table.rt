@@ -4,9 +4,9 @@ ghost use Rattle.std.specs.Prelude.{length, true, false};
 ghost use Rattle.mn_cell.specs.Calls.{ObeysStop, MaySend, entry_at, what_said};
 ghost use Rattle.mn_cell.specs.Promises.{IsOwedAt, decided_by};
 ghost use Rattle.mn_mini.specs.Sound.{Fits, IsSoundRequest};
-ghost use Rattle.mn_world.specs.Run.{IsLegalBy, entries_of};
-ghost use Rattle.mn_callers.specs.Turn.{AreStations, ExtendsLog, IsTurn, turn_at};
-ghost use Rattle.mn_callers.specs.Steps.{Adds, KeepsList, own_entry};
+ghost use Rattle.mn_world.specs.Run.{entries_of};
+ghost use Rattle.mn_callers.specs.Turn.{ExtendsLog, IsTurn, turn_at};
+ghost use Rattle.mn_callers.specs.Steps.{Adds, KeepsList};
 ghost use Rattle.mn_callers.specs.Causes.{IsCaused, cause_of};
 ghost use Rattle.mn_callers.specs.Doings.{Halts, HasAnswered, IsAnswer, IsDownAs, OthersStay};
 ghost use Rattle.mn_callers.specs.Doings.{Restarts};
@@ -15,13 +15,14 @@ ghost use Rattle.mn_callers.specs.Failed.{closer};
 ghost use Rattle.mn_world.specs.Protocol.{base_at, start_of};
 ghost use Rattle.mn_cell.specs.declared.trace.RunCause.{RunCause};
 
+use crate::transport::{Transport, put_alone};
 use mn_actors::{Board, Pass};
 use mn_base::{NoMemory, NodeNo, StopAt};
 use mn_cell::{Named, Station};
 use mn_io::Disk;
 use mn_mini::{NodeReply, Request};
 use mn_node::RestartError;
-use mn_world::{ClientList, CoreLaw, Entry, What};
+use mn_world::{ClientList, CoreLaw, What};
 use std::alloc::Global;
 
 /// The board of a run and the stations of its nodes, from number 0 on.
@@ -32,30 +33,6 @@ pub struct Table<N: Named, D: Disk> {
 }
 
 impl<N: Named, D: Disk> Table<N, D> {
-    /// Adds a step that an actor makes by itself, for which its list has room.
-    pub fn add(&mut self, pass: &mut Pass<CoreLaw>, list: &mut ClientList, what: What)
-        requires turn { IsTurn N.board (length N.records) (turn_at self.old pass.old list.old) }
-        requires legal { IsLegalBy (entries_of list.old.entries) (own_entry list.old.client what) }
-        requires room { 0 < list.old.room }
-        ensures turn { IsTurn N.board (length N.records) (turn_at self.new pass.new list.new) }
-        ensures goes_on { ExtendsLog (turn_at self.old pass.old list.old)
-            (turn_at self.new pass.new list.new) }
-        ensures added { Adds (own_entry list.old.client what) list.old list.new }
-        ensures room { list.new.room + 1 ≡ list.old.room }
-        ensures stations { self.new.stations.items ≡ self.old.stations.items }
-    {
-        let client = list.client();
-        // A list with room is no longer than a log may be.
-        let _room = list.room();
-        let entry = Entry {
-            node: None,
-            client: Some(client),
-            what,
-        };
-        let place = self.board.append_ref(pass, &entry, None, Some(client));
-        list.push(place, entry);
-    }
-
     /// Calls a node for an actor, and stops it inside the call where that is asked. NoMemory: there
     /// was none, and there is no entry. It never comes for a decision that is owed, where the list
     /// has room.
@@ -164,13 +141,56 @@ impl<N: Named, D: Disk> Table<N, D> {
             station.made();
         }
     }
+}
 
-    /// How many nodes there are.
-    pub fn nodes(&self) -> u8
-        requires { AreStations (length N.records) self.now.stations.items }
-        ensures count { result ≡ length N.records }
-        ensures few { result ≤ 8 }
-    {
+impl<N: Named, D: Disk> Transport for Table<N, D> {
+    ghost use Rattle.std.specs.Prelude.{length};
+    ghost use Rattle.mn_world.specs.Protocol.{start_of};
+    ghost use Rattle.mn_callers.specs.Turn.{IsTable, StationsWent, seen_of};
+    ghost use Rattle.mn_callers.specs.Stationed.{stations_go_on, stations_stay};
+
+    ghost board = { N.board };
+
+    ghost start = { start_of N.records };
+
+    ghost ready = { λ t. IsTable N.board (length N.records) (seen_of t.board) t.stations.items };
+
+    ghost went = { λ old new own. StationsWent old.stations.items new.stations.items own };
+
+    fn nodes(&self) -> u8 {
         self.stations.len() as u8
     }
+
+    fn put(&mut self, pass: &mut Pass<CoreLaw>, list: &mut ClientList, what: What) {
+        put_alone(&self.board, pass, list, what);
+    }
+
+    fn send(
+        &mut self,
+        alloc: Global,
+        pass: &mut Pass<CoreLaw>,
+        list: &mut ClientList,
+        node: NodeNo,
+        request: Request,
+        stop: Option<StopAt>,
+    ) -> NodeReply {
+        self.call(alloc, pass, list, node, request, stop)
+    }
+
+    fn start_again(
+        &mut self,
+        alloc: Global,
+        pass: &mut Pass<CoreLaw>,
+        list: &mut ClientList,
+        node: NodeNo,
+    ) -> Result<(), RestartError> {
+        self.restart(alloc, pass, list, node)
+    }
+
+    fn pause(&mut self, _list: &ClientList, _died: bool) {}
+
+    ghost stays = { λ s. stations_stay s.stations.items };
+
+    ghost goes_on = { λ a b c own later. stations_go_on a.stations.items b.stations.items
+        c.stations.items own later };
 }

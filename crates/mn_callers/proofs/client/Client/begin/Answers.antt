@@ -1,7 +1,6 @@
 use Rattle.std.proofs.Common.{◌+◌, sym, ◌∙◌}
 use Rattle.mn_world.specs.declared.entry.What.TheVariants.{Begin}
-use Rattle.mn_world.specs.Protocol.{start_of}
-use Rattle.mn_callers.proofs.Turns.{goes_further, goes_nowhere}
+use Rattle.mn_callers.proofs.Hands.{moves_further, moves_nowhere}
 use Rattle.mn_callers.specs.Clients.{past_of}
 use Rattle.mn_callers.specs.Steps.{own_entry}
 use Rattle.mn_callers.proofs.ClientActs.{begins_op}
@@ -11,25 +10,25 @@ use Rattle.mn_callers.proofs.ClientCalls.{begin_allowed, begun_steps, unbegun_ru
 use Rattle.mn_callers.proofs.client.Client.begin.Goals as goal
 
 pub add-requires-clause-may : goal.add-requires-clause-may
-add-requires-clause-may g c = begin_allowed (start_of g.N.Named.records) c.args.points.now c.args.self.now c.in_ok-op.op c.requires.client c.requires.idle c.requires.lives
+add-requires-clause-may g c = begin_allowed g.X.Transport.start c.args.points.now c.args.self.now c.in_ok-op.op c.requires.client c.requires.idle c.requires.lives
 
 pub go_on-requires-clause-steps : goal.go_on-requires-clause-steps
 go_on-requires-clause-steps g c =
-    begun_steps (start_of g.N.Named.records) c.args.points.now c.args.self.now c.add.new.self c.in_ok-asked.asked c.in_ok-op.op c.begin.new.self c.requires.client c.requires.idle c.requires.lives c.add.ensures.same
+    begun_steps g.X.Transport.start c.args.points.now c.args.self.now c.add.new.self c.in_ok-asked.asked c.in_ok-op.op c.begin.new.self c.requires.client c.requires.idle c.requires.lives c.add.ensures.same
     (c.in_ok-op.ensures ∙ sym c.in_ok-asked.ensures) c.in_ok-add.ensures.added (record { is = c.begin.ensures.begun; ready = c.begin.ensures.ready; agrees = c.begin.ensures.agrees })
 
 pub returns-clause-goes_on : goal.returns-clause-goes_on
-returns-clause-goes_on g c = goes_further _ _ _ c.add.ensures.goes_on c.go_on.ensures.goes_on
+returns-clause-goes_on g c = moves_further g.X.Transport.went g.met.X.Transport.goes_on _ _ _ _ _ _ c.add.ensures.goes_on c.go_on.ensures.goes_on
 
 pub returns-in_err-asked-clause-goes_on : goal.returns-in_err-asked-clause-goes_on
-returns-in_err-asked-clause-goes_on g c = goes_nowhere _
+returns-in_err-asked-clause-goes_on g c = moves_nowhere g.X.Transport.went g.met.X.Transport.stays _ _
 
 pub returns-in_err-op-clause-goes_on : goal.returns-in_err-op-clause-goes_on
-returns-in_err-op-clause-goes_on g c = goes_nowhere _
+returns-in_err-op-clause-goes_on g c = moves_nowhere g.X.Transport.went g.met.X.Transport.stays _ _
 
 pub returns-in_err-add-clause-of_run : goal.returns-in_err-add-clause-of_run
 returns-in_err-add-clause-of_run g c =
-    on_error c.from_residual-in_err-add.result _ (unbegun_run (start_of g.N.Named.records) c.args.points.now c.args.self.now c.add.new.self c.add.ensures.same c.in_err-add.ensures.none c.requires.client.run)
+    on_error c.from_residual-in_err-add.result _ (unbegun_run g.X.Transport.start c.args.points.now c.args.self.now c.add.new.self c.add.ensures.same c.in_err-add.ensures.none c.requires.client.run)
 
 pub returns-clause-begins : goal.returns-clause-begins
 returns-clause-begins g c =

@@ -1,11 +1,10 @@
-use Rattle.std.proofs.Common.{◌≡◌, ◌≤◌, ◌<◌, None, is_some, subst, sym, ap, ◌∙◌}
+use Rattle.std.proofs.Common.{◌≤◌, subst, sym, ◌∙◌}
 use Rattle.mn_proxy.specs.Measure.{steps_left}
 use Rattle.mn_proxy.specs.State.{IsOut, ProxyState}
-use Rattle.mn_world.specs.Protocol.{start_of}
 use Rattle.mn_callers.specs.declared.client.Client.{Client}
 use Rattle.mn_callers.specs.Clients.{past_of}
 use Rattle.mn_callers.specs.Going.{work_left}
-use Rattle.mn_callers.proofs.Turns.{goes_further, goes_nowhere}
+use Rattle.mn_callers.proofs.Hands.{moves_further, moves_nowhere}
 use Rattle.mn_callers.proofs.ClientActs.{calls_last, calls_none, calls_on}
 use Rattle.mn_callers.proofs.ClientEnds.{call_falls, idle_calls, no_more, none_rests}
 use Rattle.mn_callers.proofs.ClientSteps.{on_ok}
@@ -13,37 +12,37 @@ use Rattle.mn_callers.proofs.ClientCalls.{dead_client, due_alive, fed_steps, liv
 use Rattle.mn_callers.proofs.client.Client.call.Goals as goal
 
 pub returns-in_default-clause-goes_on : goal.returns-in_default-clause-goes_on
-returns-in_default-clause-goes_on g c = goes_nowhere _
+returns-in_default-clause-goes_on g c = moves_nowhere g.X.Transport.went g.met.X.Transport.stays _ _
 
 pub returns-in_default-clause-client : goal.returns-in_default-clause-client
 returns-in_default-clause-client g c =
-    none_taken (start_of g.N.Named.records) c.args.points.now c.args.self.now c.take.new.self c.requires.client (sym c.take.ensures.value ∙ c.in_default.is) c.take.ensures.after
+    none_taken g.X.Transport.start c.args.points.now c.args.self.now c.take.new.self c.requires.client (sym c.take.ensures.value ∙ c.in_default.is) c.take.ensures.after
 
 pub send-reply-requires-clause-proxy : goal.send-reply-requires-clause-proxy
 send-reply-requires-clause-proxy g c =
-    (due_alive (start_of g.N.Named.records) c.args.points.now c.args.self.now c.in-Some.field-0 c.requires.client (sym c.take.ensures.value ∙ c.in-Some.is)).1
+    (due_alive g.X.Transport.start c.args.points.now c.args.self.now c.in-Some.field-0 c.requires.client (sym c.take.ensures.value ∙ c.in-Some.is)).1
 
 pub send-reply-requires-clause-due : goal.send-reply-requires-clause-due
 send-reply-requires-clause-due g c =
-    (due_alive (start_of g.N.Named.records) c.args.points.now c.args.self.now c.in-Some.field-0 c.requires.client (sym c.take.ensures.value ∙ c.in-Some.is)).2
+    (due_alive g.X.Transport.start c.args.points.now c.args.self.now c.in-Some.field-0 c.requires.client (sym c.take.ensures.value ∙ c.in-Some.is)).2
 
 pub has_died-requires : goal.has_died-requires
 has_died-requires g c = c.send-reply.ensures.run.met
 
 pub returns-then-has_died-clause-client : goal.returns-then-has_died-clause-client
 returns-then-has_died-clause-client g c =
-    dead_client (start_of g.N.Named.records) c.args.points.now c.send-reply.new.self c.send-reply.ensures.run (c.send-reply.ensures.stays.1 ∙ c.take.ensures.after) (sym c.has_died.ensures ∙ c.if-has_died.true)
+    dead_client g.X.Transport.start c.args.points.now c.send-reply.new.self c.send-reply.ensures.run (c.send-reply.ensures.stays.1 ∙ c.take.ensures.after) (sym c.has_died.ensures ∙ c.if-has_died.true)
 
 pub feed-requires : goal.feed-requires
 feed-requires g c =
     let old = c.args.self.now in
     let call = c.in-Some.field-0 in
-    let alive = due_alive (start_of g.N.Named.records) c.args.points.now old call c.requires.client (sym c.take.ensures.value ∙ c.in-Some.is) in
+    let alive = due_alive g.X.Transport.start c.args.points.now old call c.requires.client (sym c.take.ensures.value ∙ c.in-Some.is) in
     record { out = subst (λ (p : ProxyState). IsOut p) (sym c.send-reply.ensures.stays.0) (waits old.proxy.work call.node call.request alive.2.out) }
 
 pub go_on-requires-clause-steps : goal.go_on-requires-clause-steps
 go_on-requires-clause-steps g c =
-    let start = start_of g.N.Named.records in
+    let start = g.X.Transport.start in
     let points = c.args.points.now in
     let old : Client = record c.args.self.now { due = c.take.new.self } in
     let call = c.in-Some.field-0 in
@@ -55,22 +54,22 @@ go_on-requires-clause-steps g c =
     (send.stays.1 ∙ c.take.ensures.after) send.run (lives_by points c.send-reply.new.self (sym c.has_died.ensures ∙ c.if-has_died.false))
 
 pub returns-clause-goes_on : goal.returns-clause-goes_on
-returns-clause-goes_on g c = goes_further _ _ _ c.send-reply.ensures.goes_on c.go_on.ensures.goes_on
+returns-clause-goes_on g c = moves_further g.X.Transport.went g.met.X.Transport.goes_on _ _ _ _ _ _ c.send-reply.ensures.goes_on c.go_on.ensures.goes_on
 
 pub returns-in_default-clause-calls : goal.returns-in_default-clause-calls
 returns-in_default-clause-calls g c = λ ops.
-    calls_none (start_of g.N.Named.records) c.args.points.now c.args.self.now c.requires.client ops (sym c.take.ensures.value ∙ c.in_default.is)
+    calls_none g.X.Transport.start c.args.points.now c.args.self.now c.requires.client ops (sym c.take.ensures.value ∙ c.in_default.is)
 
 pub returns-then-has_died-clause-calls : goal.returns-then-has_died-clause-calls
 returns-then-has_died-clause-calls g c = λ ops.
     let send = c.send-reply.ensures in
-    calls_last (start_of g.N.Named.records) c.args.points.now c.args.self.now c.requires.client c.in-Some.field-0 (sym c.take.ensures.value ∙ c.in-Some.is) c.take.new.self c.send-reply.new.self c.send-reply.result send.run send.client send.answer send.none ops
+    calls_last g.X.Transport.start c.args.points.now c.args.self.now c.requires.client c.in-Some.field-0 (sym c.take.ensures.value ∙ c.in-Some.is) c.take.new.self c.send-reply.new.self c.send-reply.result send.run send.client send.answer send.none ops
 
 pub returns-clause-calls : goal.returns-clause-calls
 returns-clause-calls g c =
     let send = c.send-reply.ensures in
     on_ok c.go_on.result _ _
-    (calls_on (start_of g.N.Named.records) c.args.points.now c.args.self.now c.requires.client c.in-Some.field-0 (sym c.take.ensures.value ∙ c.in-Some.is) c.take.new.self c.send-reply.new.self c.send-reply.result send.run send.client send.answer send.none
+    (calls_on g.X.Transport.start c.args.points.now c.args.self.now c.requires.client c.in-Some.field-0 (sym c.take.ensures.value ∙ c.in-Some.is) c.take.new.self c.send-reply.new.self c.send-reply.result send.run send.client send.answer send.none
     (sym c.has_died.ensures ∙ c.if-has_died.false) (past_of c.go_on.new.self)) c.go_on.ensures.own
 
 pub returns-in_default-clause-falls : goal.returns-in_default-clause-falls

@@ -1,8 +1,7 @@
 use Rattle.std.proofs.Common.{subst, refl, ◌∙◌, arith}
-use Rattle.mn_world.specs.Protocol.{start_of}
 use Rattle.mn_callers.specs.declared.client.Went.{Went}
 use Rattle.mn_callers.specs.Going.{HasFewer, HasGone, work_left}
-use Rattle.mn_callers.proofs.Turns.{goes_further, goes_nowhere}
+use Rattle.mn_callers.proofs.Hands.{moves_further, moves_nowhere}
 use Rattle.mn_callers.proofs.ClientActs.{by_more, by_none}
 use Rattle.mn_proxy.specs.Measure.{steps_left}
 use Rattle.mn_callers.proofs.ClientEnds.{no_more, still_fewer}
@@ -10,30 +9,30 @@ use Rattle.mn_callers.proofs.ClientSteps.{steps_list, steps_rest, still_steps}
 use Rattle.mn_callers.proofs.client.Client.go_on.Goals as goal
 
 pub loop-init : goal.loop-init
-loop-init g c = record { turn = c.requires.turn; goes_on = goes_nowhere _; steps = c.requires.steps; own = by_none _ _; begun = refl; fewer = omega arith }
+loop-init g c = record { turn = c.requires.turn; goes_on = moves_nowhere g.X.Transport.went g.met.X.Transport.stays _ _; steps = c.requires.steps; own = by_none _ _; begun = refl; fewer = omega arith }
 
 pub own_step-requires-clause-list : goal.own_step-requires-clause-list
-own_step-requires-clause-list g c = steps_list (start_of g.N.Named.records) c.args.points.now c.loop.self c.loop.invariant.steps
+own_step-requires-clause-list g c = steps_list g.X.Transport.start c.args.points.now c.loop.self c.loop.invariant.steps
 
 pub returns-in_err-own_step-clause-goes_on : goal.returns-in_err-own_step-clause-goes_on
-returns-in_err-own_step-clause-goes_on g c = goes_further _ _ _ c.loop.invariant.goes_on c.own_step.ensures.goes_on
+returns-in_err-own_step-clause-goes_on g c = moves_further g.X.Transport.went g.met.X.Transport.goes_on _ _ _ _ _ _ c.loop.invariant.goes_on c.own_step.ensures.goes_on
 
 pub returns-in-Rests-clause-goes_on : goal.returns-in-Rests-clause-goes_on
-returns-in-Rests-clause-goes_on g c = goes_further _ _ _ c.loop.invariant.goes_on c.own_step.ensures.goes_on
+returns-in-Rests-clause-goes_on g c = moves_further g.X.Transport.went g.met.X.Transport.goes_on _ _ _ _ _ _ c.loop.invariant.goes_on c.own_step.ensures.goes_on
 
 pub returns-in-Rests-clause-client : goal.returns-in-Rests-clause-client
 returns-in-Rests-clause-client g c =
-    let start = start_of g.N.Named.records in
+    let start = g.X.Transport.start in
     let new = c.own_step.new.self in
     steps_rest start c.args.points.now c.loop.self new c.loop.invariant.steps c.own_step.ensures.list c.own_step.ensures.points (subst (λ (w : Went). HasGone start new w) c.in-Rests.is c.in_ok-own_step.ensures.went)
 
 pub loop-preserved : goal.loop-preserved
 loop-preserved g c =
-    let start = start_of g.N.Named.records in
+    let start = g.X.Transport.start in
     let new = c.own_step.new.self in
     record {
       turn = c.own_step.ensures.turn;
-      goes_on = goes_further _ _ _ c.loop.invariant.goes_on c.own_step.ensures.goes_on;
+      goes_on = moves_further g.X.Transport.went g.met.X.Transport.goes_on _ _ _ _ _ _ c.loop.invariant.goes_on c.own_step.ensures.goes_on;
       steps = still_steps start c.args.points.now c.loop.self new c.loop.invariant.steps c.own_step.ensures.list c.own_step.ensures.points (subst (λ (w : Went). HasGone start new w) c.in-On.is c.in_ok-own_step.ensures.went);
       own = by_more _ _ _ _ _ c.loop.invariant.goes_on.client c.loop.invariant.own c.in_ok-own_step.ensures.own;
       begun = c.own_step.ensures.begun ∙ c.loop.invariant.begun;

@@ -1,14 +1,13 @@
 use Rattle.std.proofs.Common.{◌≡◌, true, false, not, ◌||◌, sym, ◌∙◌}
-use Rattle.mn_world.specs.Protocol.{start_of}
 use Rattle.mn_callers.specs.Acts.{CallsOnce, CallsUntil, CallsWhile, as_role, is_at_work, is_plan_due}
 use Rattle.mn_callers.specs.Clients.{past_of}
 use Rattle.mn_callers.proofs.ClientActs.{calls_more, has_work_as, of_same, plan_goes_on, planned, works_not, works_so}
 use Rattle.mn_callers.proofs.ClientEnds.{unplanned}
-use Rattle.mn_callers.proofs.Turns.{goes_further, goes_nowhere}
+use Rattle.mn_callers.proofs.Hands.{moves_further, moves_nowhere}
 use Rattle.mn_callers.proofs.client.Client.plan.Goals as goal
 
 pub returns-then-not-has_work-clause-goes_on : goal.returns-then-not-has_work-clause-goes_on
-returns-then-not-has_work-clause-goes_on g c = goes_nowhere _
+returns-then-not-has_work-clause-goes_on g c = moves_nowhere g.X.Transport.went g.met.X.Transport.stays _ _
 
 pub returns-then-not-has_work-clause-of_run : goal.returns-then-not-has_work-clause-of_run
 returns-then-not-has_work-clause-of_run g c = c.requires.client.run
@@ -32,7 +31,7 @@ pub returns-clause-of_run : goal.returns-clause-of_run
 returns-clause-of_run g c = c.loop-alloc.invariant.client.run
 
 pub returns-in_err-call-clause-goes_on : goal.returns-in_err-call-clause-goes_on
-returns-in_err-call-clause-goes_on g c = goes_further _ _ _ c.loop-alloc.invariant.goes_on c.call.ensures.goes_on
+returns-in_err-call-clause-goes_on g c = moves_further g.X.Transport.went g.met.X.Transport.goes_on _ _ _ _ _ _ c.loop-alloc.invariant.goes_on c.call.ensures.goes_on
 
 pub returns-in_err-call-clause-of_run : goal.returns-in_err-call-clause-of_run
 returns-in_err-call-clause-of_run g c = c.in_err-call.ensures.of_run
@@ -47,10 +46,10 @@ loop-alloc-preserved g c =
     let role = as_role points old.list.client ops in
     let same = c.loop-alloc.invariant.goes_on.client in
     let goes : (not (is_at_work role (past_of now)) || is_plan_due (past_of now)) ≡ false = of_same (λ r. (not (is_at_work r (past_of now)) || is_plan_due (past_of now)) ≡ false) points now.list.client old.list.client ops same
-    (sym (planned (start_of g.N.Named.records) points now c.loop-alloc.invariant.client ops) ∙ (sym c.is_planned.ensures ∙ c.loop-alloc-test.true)) in
+    (sym (planned g.X.Transport.start points now c.loop-alloc.invariant.client ops) ∙ (sym c.is_planned.ensures ∙ c.loop-alloc-test.true)) in
     record {
       turn = c.call.ensures.turn;
-      goes_on = goes_further _ _ _ c.loop-alloc.invariant.goes_on c.call.ensures.goes_on;
+      goes_on = moves_further g.X.Transport.went g.met.X.Transport.goes_on _ _ _ _ _ _ c.loop-alloc.invariant.goes_on c.call.ensures.goes_on;
       client = c.in_ok-call.ensures.client;
       calls = calls_more role (λ now. not (is_at_work role now) || is_plan_due now) (past_of c.begin_if_idle.new.self) (past_of now) (past_of new) c.loop-alloc.invariant.calls goes (plan_goes_on role (past_of now) goes)
           (of_same (λ r. CallsOnce r (past_of now) (past_of new)) points now.list.client old.list.client ops same (c.in_ok-call.ensures.calls ops));
@@ -60,7 +59,7 @@ pub returns-then-not-has_work-clause-does : goal.returns-then-not-has_work-claus
 returns-then-not-has_work-clause-does g c =
     let old = c.args.self.now in
     let role = as_role c.args.points.now old.list.client c.args.ops.now in
-    works_not role (CallsUntil role (λ now. not (is_at_work role now) || is_plan_due now)) (past_of old) (has_work_as (start_of g.N.Named.records) c.args.points.now c.args.self.now c.requires.client c.args.ops.now c.has_work.result _ c.has_work.ensures.is c.if-not-has_work.true)
+    works_not role (CallsUntil role (λ now. not (is_at_work role now) || is_plan_due now)) (past_of old) (has_work_as g.X.Transport.start c.args.points.now c.args.self.now c.requires.client c.args.ops.now c.has_work.result _ c.has_work.ensures.is c.if-not-has_work.true)
 
 pub returns-clause-does : goal.returns-clause-does
 returns-clause-does g c =
@@ -70,10 +69,10 @@ returns-clause-does g c =
     let points = c.args.points.now in
     let ops = c.args.ops.now in
     let role = as_role points old.list.client ops in
-    works_so role (CallsUntil role (λ now. not (is_at_work role now) || is_plan_due now)) (past_of old) (past_of mid) (past_of now) (has_work_as (start_of g.N.Named.records) c.args.points.now c.args.self.now c.requires.client c.args.ops.now c.has_work.result _ c.has_work.ensures.is c.if-not-has_work.false) c.in_ok-begin_if_idle.ensures.under_way (
+    works_so role (CallsUntil role (λ now. not (is_at_work role now) || is_plan_due now)) (past_of old) (past_of mid) (past_of now) (has_work_as g.X.Transport.start c.args.points.now c.args.self.now c.requires.client c.args.ops.now c.has_work.result _ c.has_work.ensures.is c.if-not-has_work.false) c.in_ok-begin_if_idle.ensures.under_way (
       c.loop-alloc.invariant.calls,
       of_same (λ r. (not (is_at_work r (past_of now)) || is_plan_due (past_of now)) ≡ true) points now.list.client old.list.client ops c.loop-alloc.invariant.goes_on.client
-          (sym (planned (start_of g.N.Named.records) points now c.loop-alloc.invariant.client ops) ∙ (sym c.is_planned.ensures ∙ c.loop-alloc-test.false)),
+          (sym (planned g.X.Transport.start points now c.loop-alloc.invariant.client ops) ∙ (sym c.is_planned.ensures ∙ c.loop-alloc-test.false)),
     )
 
 pub loop-alloc-smaller : goal.loop-alloc-smaller

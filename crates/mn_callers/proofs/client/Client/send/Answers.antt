@@ -1,19 +1,18 @@
 use Rattle.std.proofs.Common.{refl, ap, ◌∙◌}
-use Rattle.mn_world.specs.Protocol.{start_of}
 use Rattle.mn_callers.specs.declared.client.Client.{Client}
-use Rattle.mn_callers.proofs.Turns.{goes_further, goes_same, turn_same}
+use Rattle.mn_callers.proofs.Hands.{moves_further, moves_same, turn_same}
 use Rattle.mn_callers.proofs.ClientCalls.{room_answer, room_due, room_keeps, room_past, room_proxy, room_run}
 use Rattle.mn_callers.proofs.client.Client.send.Goals as goal
 
 pub returns-then-not-make_room : goal.returns-then-not-make_room
 returns-then-not-make_room g c =
-    let start = start_of g.N.Named.records in
+    let start = g.X.Transport.start in
     let old = c.args.self.now in
     let new = c.make_room.new.self in
     let keeps = room_keeps old new c.make_room.ensures in
     record {
-      turn = turn_same _ _ _ c.requires.turn new.list keeps.client keeps.entries;
-      goes_on = goes_same _ new.list keeps.client keeps.entries;
+      turn = turn_same _ c.requires.turn new.list keeps.client keeps.entries;
+      goes_on = moves_same g.X.Transport.went g.met.X.Transport.stays _ _ new.list keeps.client keeps.entries;
       run = room_run start c.args.points.now old new c.make_room.ensures c.requires.run;
       fits = tt;
       answer = λ not. absurd (not refl);
@@ -24,12 +23,12 @@ returns-then-not-make_room g c =
 
 pub ask-requires : goal.ask-requires
 ask-requires g c =
-    let start = start_of g.N.Named.records in
+    let start = g.X.Transport.start in
     let old = c.args.self.now in
     let new = c.make_room.new.self in
     let keeps = room_keeps old new c.make_room.ensures in
     record {
-      turn = turn_same _ _ _ c.requires.turn new.list keeps.client keeps.entries;
+      turn = turn_same _ c.requires.turn new.list keeps.client keeps.entries;
       run = room_run start c.args.points.now old new c.make_room.ensures c.requires.run;
       proxy = room_proxy start old new c.make_room.ensures c.requires.proxy;
       due = room_due start old new (record { node = c.args.node; request = c.args.request }) c.make_room.ensures c.requires.due;
@@ -37,7 +36,7 @@ ask-requires g c =
 
 pub returns : goal.returns
 returns g c =
-    let start = start_of g.N.Named.records in
+    let start = g.X.Transport.start in
     let old = c.args.self.now in
     let mid = c.make_room.new.self in
     let new = c.ask.new.self in
@@ -46,7 +45,7 @@ returns g c =
     let ask = c.ask.ensures in
     record {
       turn = ask.turn;
-      goes_on = goes_further _ _ _ (goes_same _ mid.list keeps.client keeps.entries) ask.goes_on;
+      goes_on = moves_further g.X.Transport.went g.met.X.Transport.goes_on _ _ _ _ _ _ (moves_same g.X.Transport.went g.met.X.Transport.stays _ _ mid.list keeps.client keeps.entries) ask.goes_on;
       run = ask.run;
       fits = ask.fits;
       answer = λ is. room_answer c.args.points.now c.args.node c.args.request c.ask.result old mid new same (ask.answer is);

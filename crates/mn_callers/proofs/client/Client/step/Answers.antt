@@ -1,13 +1,12 @@
-use Rattle.mn_world.specs.Protocol.{start_of}
 use Rattle.mn_callers.specs.Acts.{CallsOnce, as_role}
 use Rattle.mn_callers.specs.Clients.{past_of}
 use Rattle.mn_callers.proofs.ClientActs.{has_work_as, of_same, works_not, works_so}
-use Rattle.mn_callers.proofs.Turns.{goes_further, goes_nowhere}
+use Rattle.mn_callers.proofs.Hands.{moves_further, moves_nowhere}
 use Rattle.mn_callers.proofs.ClientSteps.{in_both, on_ok}
 use Rattle.mn_callers.proofs.client.Client.step.Goals as goal
 
 pub returns-then-not-has_work-clause-goes_on : goal.returns-then-not-has_work-clause-goes_on
-returns-then-not-has_work-clause-goes_on g c = goes_nowhere _
+returns-then-not-has_work-clause-goes_on g c = moves_nowhere g.X.Transport.went g.met.X.Transport.stays _ _
 
 pub returns-then-not-has_work-clause-of_run : goal.returns-then-not-has_work-clause-of_run
 returns-then-not-has_work-clause-of_run g c = c.requires.client.run
@@ -25,7 +24,7 @@ pub returns-in_err-begin_if_idle-clause-of_run : goal.returns-in_err-begin_if_id
 returns-in_err-begin_if_idle-clause-of_run g c = c.in_err-begin_if_idle.ensures.of_run
 
 pub returns-clause-goes_on : goal.returns-clause-goes_on
-returns-clause-goes_on g c = goes_further _ _ _ c.begin_if_idle.ensures.goes_on c.call.ensures.goes_on
+returns-clause-goes_on g c = moves_further g.X.Transport.went g.met.X.Transport.goes_on _ _ _ _ _ _ c.begin_if_idle.ensures.goes_on c.call.ensures.goes_on
 
 pub returns-clause-of_run : goal.returns-clause-of_run
 returns-clause-of_run g c = in_both c.call.result c.call.ensures.client c.call.ensures.of_run (λ is. is.run) (λ run. run)
@@ -34,7 +33,7 @@ pub returns-then-not-has_work-clause-does : goal.returns-then-not-has_work-claus
 returns-then-not-has_work-clause-does g c =
     let old = c.args.self.now in
     let role = as_role c.args.points.now old.list.client c.args.ops.now in
-    works_not role (CallsOnce role) (past_of old) (has_work_as (start_of g.N.Named.records) c.args.points.now c.args.self.now c.requires.client c.args.ops.now c.has_work.result _ c.has_work.ensures.is c.if-not-has_work.true)
+    works_not role (CallsOnce role) (past_of old) (has_work_as g.X.Transport.start c.args.points.now c.args.self.now c.requires.client c.args.ops.now c.has_work.result _ c.has_work.ensures.is c.if-not-has_work.true)
 
 pub returns-clause-does : goal.returns-clause-does
 returns-clause-does g c =
@@ -45,5 +44,5 @@ returns-clause-does g c =
     let ops = c.args.ops.now in
     let role = as_role points old.list.client ops in
     on_ok c.call.result _ _
-    (λ calls. works_so role (CallsOnce role) (past_of old) (past_of mid) (past_of new) (has_work_as (start_of g.N.Named.records) c.args.points.now c.args.self.now c.requires.client c.args.ops.now c.has_work.result _ c.has_work.ensures.is c.if-not-has_work.false) c.in_ok-begin_if_idle.ensures.under_way
+    (λ calls. works_so role (CallsOnce role) (past_of old) (past_of mid) (past_of new) (has_work_as g.X.Transport.start c.args.points.now c.args.self.now c.requires.client c.args.ops.now c.has_work.result _ c.has_work.ensures.is c.if-not-has_work.false) c.in_ok-begin_if_idle.ensures.under_way
     (of_same (λ r. CallsOnce r (past_of mid) (past_of new)) points mid.list.client old.list.client ops c.begin_if_idle.ensures.goes_on.client (calls ops))) c.call.ensures.calls

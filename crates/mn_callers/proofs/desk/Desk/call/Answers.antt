@@ -2,22 +2,28 @@ use Rattle.std.proofs.Common.{MatchOption, Option, refl, ◌∙◌, subst, sym}
 use Rattle.std.specs.Prelude.{⊤}
 use Rattle.mn_recov.specs.Recovery.{Recovery}
 use Rattle.mn_callers.specs.Desks.{IsWork}
-use Rattle.mn_world.specs.Protocol.{start_of}
 use Rattle.mn_callers.proofs.DeskEnds.{call_falls}
 use Rattle.mn_callers.proofs.Recoveries.{asks_last, asks_more, entered_by}
 use Rattle.mn_callers.proofs.Recovering.{work_goes_on}
-use Rattle.mn_callers.proofs.Turns.{goes_nowhere}
+use Rattle.mn_callers.proofs.Hands.{moves_nowhere}
+use Rattle.mn_callers.proofs.Sweeping.{recovers_not}
 use Rattle.mn_callers.proofs.desk.Desk.call.Goals as goal
 
 pub returns-in_default-clause-goes_on : goal.returns-in_default-clause-goes_on
-returns-in_default-clause-goes_on g c = goes_nowhere _
+returns-in_default-clause-goes_on g c = moves_nowhere g.X.Transport.went g.met.X.Transport.stays _ _
 
 pub returns-in_default-next-clause-goes_on : goal.returns-in_default-next-clause-goes_on
-returns-in_default-next-clause-goes_on g c = goes_nowhere _
+returns-in_default-next-clause-goes_on g c = moves_nowhere g.X.Transport.went g.met.X.Transport.stays _ _
+
+pub returns-in_default-clause-recovers : goal.returns-in_default-clause-recovers
+returns-in_default-clause-recovers g c = recovers_not _
+
+pub returns-in_default-next-clause-recovers : goal.returns-in_default-next-clause-recovers
+returns-in_default-next-clause-recovers g c = recovers_not _
 
 pub returns-clause-desk : goal.returns-clause-desk
 returns-clause-desk g c =
-    let start = start_of g.N.Named.records in
+    let start = g.X.Transport.start in
     let old = c.args.self.now.list in
     let work = subst (λ (o : Option Recovery). MatchOption o ⊤ (IsWork start old)) (sym c.in-Some.ensures.value) c.requires.desk.work in record {
       list = c.send-reply.ensures.list;

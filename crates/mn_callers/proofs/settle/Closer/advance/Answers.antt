@@ -22,12 +22,12 @@ call-requires-clause-closing g c =
 pub returns-in_err-reply-clause-goes_on : goal.returns-in_err-reply-clause-goes_on
 returns-in_err-reply-clause-goes_on g c =
     let t = turn_at c.args.table.now c.args.pass.now c.args.self.now.list in
-    goes_further t _ _ (goes_same t _ c.make_room.ensures.client c.make_room.ensures.entries) c.call.ensures.goes_on
+    goes_further t.stations t.stations _ _ _ _ (goes_same t _ c.make_room.ensures.client c.make_room.ensures.entries) c.call.ensures.goes_on
 
 pub returns-clause-goes_on : goal.returns-clause-goes_on
 returns-clause-goes_on g c =
     let t = turn_at c.args.table.now c.args.pass.now c.args.self.now.list in
-    goes_further t _ _ (goes_same t _ c.make_room.ensures.client c.make_room.ensures.entries) c.call.ensures.goes_on
+    goes_further t.stations t.stations _ _ _ _ (goes_same t _ c.make_room.ensures.client c.make_room.ensures.entries) c.call.ensures.goes_on
 
 pub returns-clause-work : goal.returns-clause-work
 returns-clause-work g c =

@@ -22,7 +22,7 @@ returns-in-Some-clause-caused g c =
     let r = c.call-reply.ensures in
     caused_by g.D.Disk.faults g.N.Named.faults g.N.Named.honest c.call-reply.new.self.stations.items c.args.node c.call-reply.result c.in-Some.cause c.in-Some.ensures
     (λ is. r.stopped is refl c.requires.closing.client)
-    (λ is. up_not_down _ c.args.table.now.stations.items c.args.node c.requires.closing.turn.stations c.requires.node c.requires.up (r.was_down is))
+    (λ is. up_not_down _ c.args.table.now.stations.items c.args.node c.requires.closing.turn.ready.stations c.requires.node c.requires.up (r.was_down is))
 
 pub returns-in-None-clause-closes : goal.returns-in-None-clause-closes
 returns-in-None-clause-closes g c =

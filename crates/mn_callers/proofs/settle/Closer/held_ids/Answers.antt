@@ -11,7 +11,7 @@ use Rattle.mn_callers.proofs.settle.Closer.held_ids.Goals as goal
 pub loop-number-init : goal.loop-number-init
 loop-number-init g c = record {
   closing = c.requires.closing;
-  goes_on = goes_nowhere _;
+  goes_on = goes_nowhere _ _;
   closes = closes_nowhere (entries_of c.args.self.now.list.entries);
   up = c.requires.up;
   ids = subst (λ (l : List Tid). AllByRecursion IsTid l) (sym c.new-tids.ensures.items) tt;
@@ -19,14 +19,14 @@ loop-number-init g c = record {
 }
 
 pub returns-in_err-add_held-clause-goes_on : goal.returns-in_err-add_held-clause-goes_on
-returns-in_err-add_held-clause-goes_on g c = goes_further _ _ _ c.loop-number.invariant.goes_on c.add_held.ensures.goes_on
+returns-in_err-add_held-clause-goes_on g c = goes_further _ _ _ _ _ _ c.loop-number.invariant.goes_on c.add_held.ensures.goes_on
 
 pub loop-number-preserved : goal.loop-number-preserved
 loop-number-preserved g c =
     let r = c.in_ok-add_held.ensures in
     record {
       closing = c.add_held.ensures.closing;
-      goes_on = goes_further _ _ _ c.loop-number.invariant.goes_on c.add_held.ensures.goes_on;
+      goes_on = goes_further _ _ _ _ _ _ c.loop-number.invariant.goes_on c.add_held.ensures.goes_on;
       closes = closes_further _ _ _ c.loop-number.invariant.closes r.closes;
       up = r.up;
       ids = r.ids;

@@ -9,7 +9,7 @@ use Rattle.mn_callers.proofs.Turns.{goes_further, goes_nowhere}
 use Rattle.mn_callers.proofs.settle.Closer.recover.Goals as goal
 
 pub returns-in_default-clause-goes_on : goal.returns-in_default-clause-goes_on
-returns-in_default-clause-goes_on g c = goes_nowhere _
+returns-in_default-clause-goes_on g c = goes_nowhere _ _
 
 pub loop-node-init : goal.loop-node-init
 loop-node-init g c =
@@ -20,7 +20,7 @@ loop-node-init g c =
     let first = begins start old tid c.nodes.result c.in-Ok.work (records_at table) c.nodes.ensures.count (c.requires.closing.list.free tid) c.in-Ok.ensures in
     record {
       closing = c.requires.closing;
-      goes_on = goes_nowhere _;
+      goes_on = goes_nowhere _ _;
       closes = closes_nowhere (entries_of old.entries);
       up = c.requires.up;
       extends = λ n. extends_none (records_at table n);
@@ -37,7 +37,7 @@ loop-node-preserved g c =
     let new = c.advance.new.table.stations.items in
     record {
       closing = c.advance.ensures.closing;
-      goes_on = goes_further _ _ _ c.loop-node.invariant.goes_on c.advance.ensures.goes_on;
+      goes_on = goes_further _ _ _ _ _ _ c.loop-node.invariant.goes_on c.advance.ensures.goes_on;
       closes = closes_further _ _ _ c.loop-node.invariant.closes r.closes;
       up = r.up;
       extends = λ n. extends_twice (records_at first n) (records_at old n) (records_at new n) (c.loop-node.invariant.extends n) (r.extends n);
@@ -47,7 +47,7 @@ loop-node-preserved g c =
     }
 
 pub returns-in_err-advance-clause-goes_on : goal.returns-in_err-advance-clause-goes_on
-returns-in_err-advance-clause-goes_on g c = goes_further _ _ _ c.loop-node.invariant.goes_on c.advance.ensures.goes_on
+returns-in_err-advance-clause-goes_on g c = goes_further _ _ _ _ _ _ c.loop-node.invariant.goes_on c.advance.ensures.goes_on
 
 pub returns-clause-done : goal.returns-clause-done
 returns-clause-done g c =

@@ -10,7 +10,7 @@ use Rattle.mn_callers.proofs.settle.Closer.recover_all.Goals as goal
 pub loop-tid-init : goal.loop-tid-init
 loop-tid-init g c = record {
   closing = c.requires.closing;
-  goes_on = goes_nowhere _;
+  goes_on = goes_nowhere _ _;
   closes = closes_nowhere (entries_of c.args.self.now.list.entries);
   up = c.requires.up;
   extends = λ n. extends_none (records_at c.args.table.now.stations.items n);
@@ -18,7 +18,7 @@ loop-tid-init g c = record {
 }
 
 pub returns-in_err-recover-clause-goes_on : goal.returns-in_err-recover-clause-goes_on
-returns-in_err-recover-clause-goes_on g c = goes_further _ _ _ c.loop-tid.invariant.goes_on c.recover.ensures.goes_on
+returns-in_err-recover-clause-goes_on g c = goes_further _ _ _ _ _ _ c.loop-tid.invariant.goes_on c.recover.ensures.goes_on
 
 pub loop-tid-preserved : goal.loop-tid-preserved
 loop-tid-preserved g c =
@@ -28,7 +28,7 @@ loop-tid-preserved g c =
     let new = c.recover.new.table.stations.items in
     record {
       closing = c.recover.ensures.closing;
-      goes_on = goes_further _ _ _ c.loop-tid.invariant.goes_on c.recover.ensures.goes_on;
+      goes_on = goes_further _ _ _ _ _ _ c.loop-tid.invariant.goes_on c.recover.ensures.goes_on;
       closes = closes_further _ _ _ c.loop-tid.invariant.closes r.closes;
       up = r.up;
       extends = λ n. extends_twice (records_at first n) (records_at old n) (records_at new n) (c.loop-tid.invariant.extends n) (r.extends n);

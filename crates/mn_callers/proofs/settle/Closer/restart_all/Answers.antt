@@ -7,21 +7,21 @@ use Rattle.mn_callers.proofs.settle.Closer.restart_all.Goals as goal
 pub loop-number-init : goal.loop-number-init
 loop-number-init g c = record {
   closing = c.requires.closing;
-  goes_on = goes_nowhere _;
+  goes_on = goes_nowhere _ _;
   closes = closes_nowhere (entries_of c.args.self.now.list.entries);
   up = λ k low. absurd (omega arith);
 }
 
 pub returns-in_err-restart-clause-goes_on : goal.returns-in_err-restart-clause-goes_on
-returns-in_err-restart-clause-goes_on g c = goes_further _ _ _ c.loop-number.invariant.goes_on c.restart.ensures.goes_on
+returns-in_err-restart-clause-goes_on g c = goes_further _ _ _ _ _ _ c.loop-number.invariant.goes_on c.restart.ensures.goes_on
 
 pub loop-number-preserved : goal.loop-number-preserved
 loop-number-preserved g c = record {
   closing = c.restart.ensures.closing;
-  goes_on = goes_further _ _ _ c.loop-number.invariant.goes_on c.restart.ensures.goes_on;
+  goes_on = goes_further _ _ _ _ _ _ c.loop-number.invariant.goes_on c.restart.ensures.goes_on;
   closes = closes_further _ _ _ c.loop-number.invariant.closes c.in_ok-restart.ensures.closes;
   up = up_more c.loop-number.table.stations.items c.restart.new.table.stations.items c.loop-number.number c.loop-number.invariant.up c.restart.ensures.others c.in_ok-restart.ensures.up;
 }
 
 pub returns-clause-up : goal.returns-clause-up
-returns-clause-up g c = all_are_up _ c.loop-number.table.stations.items c.loop-number.number c.loop-number.invariant.closing.turn.stations (omega arith) c.loop-number.invariant.up
+returns-clause-up g c = all_are_up _ c.loop-number.table.stations.items c.loop-number.number c.loop-number.invariant.closing.turn.ready.stations (omega arith) c.loop-number.invariant.up

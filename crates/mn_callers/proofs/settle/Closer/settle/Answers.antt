@@ -6,10 +6,10 @@ use Rattle.mn_callers.proofs.Turns.{goes_further}
 use Rattle.mn_callers.proofs.settle.Closer.settle.Goals as goal
 
 pub returns-in_err-tids-clause-goes_on : goal.returns-in_err-tids-clause-goes_on
-returns-in_err-tids-clause-goes_on g c = goes_further _ _ _ c.restart_all.ensures.goes_on c.held_ids.ensures.goes_on
+returns-in_err-tids-clause-goes_on g c = goes_further _ _ _ _ _ _ c.restart_all.ensures.goes_on c.held_ids.ensures.goes_on
 
 pub returns-clause-goes_on : goal.returns-clause-goes_on
-returns-clause-goes_on g c = goes_further _ _ _ (goes_further _ _ _ c.restart_all.ensures.goes_on c.held_ids.ensures.goes_on) c.recover_all.ensures.goes_on
+returns-clause-goes_on g c = goes_further _ _ _ _ _ _ (goes_further _ _ _ _ _ _ c.restart_all.ensures.goes_on c.held_ids.ensures.goes_on) c.recover_all.ensures.goes_on
 
 pub returns-clause-settled : goal.returns-clause-settled
 returns-clause-settled g c =

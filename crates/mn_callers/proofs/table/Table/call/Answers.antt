@@ -11,10 +11,10 @@ use Rattle.mn_callers.proofs.table.Table.call.Goals as goal
 use Rattle.mn_callers.proofs.table.Table.call.Goals.{After-index_mut-station}
 
 there : (g : _) (c : After-index_mut-station g) → slice_get c.args.self.now.stations.items c.from.result ≡ Some c.index_mut-station.result.now
-there g c = read_there c.args.self.now.stations.items c.from.result c.index_mut-station.result.now (is_among c.from.result c.args.node.0 _ _ c.from.ensures c.requires.node c.requires.turn.stations.count) c.index_mut-station.ensures.value
+there g c = read_there c.args.self.now.stations.items c.from.result c.index_mut-station.result.now (is_among c.from.result c.args.node.0 _ _ c.from.ensures c.requires.node c.requires.turn.ready.stations.count) c.index_mut-station.ensures.value
 
 number : (g : _) (c : After-index_mut-station g) → c.index_mut-station.result.now.number ≡ c.args.node
-number g c = its_number _ c.args.self.now.stations.items c.from.result c.args.node c.index_mut-station.result.now c.requires.turn.stations (there g c) c.from.ensures
+number g c = its_number _ c.args.self.now.stations.items c.from.result c.args.node c.index_mut-station.result.now c.requires.turn.ready.stations (there g c) c.from.ensures
 
 pub call-reply-requires-clause-legal : goal.call-reply-requires-clause-legal
 call-reply-requires-clause-legal g c = λ reply.
@@ -34,7 +34,7 @@ returns-clause-goes_on g c =
     let s = c.index_mut-station.result.now in
     if_none c.call-reply.result
     (λ is. goes_still t c.from.result s c.call-reply.new.self (there g at) _ _ _ (c.call-reply.ensures.before is).list (c.call-reply.ensures.pass_before is).0 c.call-reply.ensures.client (c.call-reply.ensures.list_before is))
-    (λ other. goes_called t c.from.result s c.call-reply.new.self (there g at) _ _ _ (what_said c.args.request c.args.stop c.call-reply.result) (c.requires.turn.stations.in_order c.from.result s (there g at)) c.call-reply.ensures.client (c.call-reply.ensures.said other))
+    (λ other. goes_called t c.from.result s c.call-reply.new.self (there g at) _ _ _ (what_said c.args.request c.args.stop c.call-reply.result) (c.requires.turn.ready.stations.in_order c.from.result s (there g at)) c.call-reply.ensures.client (c.call-reply.ensures.said other))
 
 pub returns-clause-said : goal.returns-clause-said
 returns-clause-said g c = λ other.

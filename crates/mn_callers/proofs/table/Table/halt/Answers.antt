@@ -13,10 +13,10 @@ use Rattle.mn_callers.proofs.table.Table.halt.Goals as goal
 use Rattle.mn_callers.proofs.table.Table.halt.Goals.{After-index_mut-station}
 
 there : (g : _) (c : After-index_mut-station g) → slice_get c.args.self.now.stations.items c.from.result ≡ Some c.index_mut-station.result.now
-there g c = read_there c.args.self.now.stations.items c.from.result c.index_mut-station.result.now (is_among c.from.result c.args.node.0 _ _ c.from.ensures c.requires.node c.requires.turn.stations.count) c.index_mut-station.ensures.value
+there g c = read_there c.args.self.now.stations.items c.from.result c.index_mut-station.result.now (is_among c.from.result c.args.node.0 _ _ c.from.ensures c.requires.node c.requires.turn.ready.stations.count) c.index_mut-station.ensures.value
 
 number : (g : _) (c : After-index_mut-station g) → c.index_mut-station.result.now.number ≡ c.args.node
-number g c = its_number _ c.args.self.now.stations.items c.from.result c.args.node c.index_mut-station.result.now c.requires.turn.stations (there g c) c.from.ensures
+number g c = its_number _ c.args.self.now.stations.items c.from.result c.args.node c.index_mut-station.result.now c.requires.turn.ready.stations (there g c) c.from.ensures
 
 pub returns-in_err-halt-clause-goes_on : goal.returns-in_err-halt-clause-goes_on
 returns-in_err-halt-clause-goes_on g c =
@@ -37,7 +37,7 @@ returns-clause-goes_on g c =
     let t = turn_at c.args.self.now c.args.pass.now c.args.list.now in
     let s = c.index_mut-station.result.now in
     by_flag c.in_ok-halt.field-0
-    (λ is. goes_called t c.from.result s c.halt.new.self (there g at) _ _ _ (Stopped None None) (c.requires.turn.stations.in_order c.from.result s (there g at)) c.halt.ensures.client (c.in_ok-halt.ensures.halted is))
+    (λ is. goes_called t c.from.result s c.halt.new.self (there g at) _ _ _ (Stopped None None) (c.requires.turn.ready.stations.in_order c.from.result s (there g at)) c.halt.ensures.client (c.in_ok-halt.ensures.halted is))
     (λ is. let same = c.in_ok-halt.ensures.no_entry is in
     goes_still t c.from.result s c.halt.new.self (there g at) _ _ _ (ap (λ s. s.list) same.0) (ap (λ p. (view_of p).known) same.1) c.halt.ensures.client (ap (λ (l : ClientState). l.entries) same.2))
 

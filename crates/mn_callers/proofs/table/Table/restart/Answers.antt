@@ -16,10 +16,10 @@ use Rattle.mn_callers.proofs.table.Table.restart.Goals as goal
 use Rattle.mn_callers.proofs.table.Table.restart.Goals.{After-index_mut-station}
 
 there : (g : _) (c : After-index_mut-station g) → slice_get c.args.self.now.stations.items c.from.result ≡ Some c.index_mut-station.result.now
-there g c = read_there c.args.self.now.stations.items c.from.result c.index_mut-station.result.now (is_among c.from.result c.args.node.0 _ _ c.from.ensures c.requires.node c.requires.turn.stations.count) c.index_mut-station.ensures.value
+there g c = read_there c.args.self.now.stations.items c.from.result c.index_mut-station.result.now (is_among c.from.result c.args.node.0 _ _ c.from.ensures c.requires.node c.requires.turn.ready.stations.count) c.index_mut-station.ensures.value
 
 number : (g : _) (c : After-index_mut-station g) → c.index_mut-station.result.now.number ≡ c.args.node
-number g c = its_number _ c.args.self.now.stations.items c.from.result c.args.node c.index_mut-station.result.now c.requires.turn.stations (there g c) c.from.ensures
+number g c = its_number _ c.args.self.now.stations.items c.from.result c.args.node c.index_mut-station.result.now c.requires.turn.ready.stations (there g c) c.from.ensures
 
 pub returns-in-Ok-clause-turn : goal.returns-in-Ok-clause-turn
 returns-in-Ok-clause-turn g c =
@@ -44,7 +44,7 @@ returns-in-Ok-clause-goes_on g c =
     let ends = λ (kept : Bool). EndsBoth (view_of c.args.pass.now).known c.restart.new.self.known (view_of c.restart.new.pass).known (entry_at s.number c.args.list.now.client (Restarted kept)) s.list c.restart.new.self.list c.args.list.now.entries c.restart.new.list.entries in
     by_option ends c.in-Ok._kept r.no_entry r.restarted
     (λ same. goes_still t c.from.result s c.restart.new.self (there g at) _ _ _ (ap (λ s. s.list) same.0) (ap (λ p. (view_of p).known) same.1) c.restart.ensures.client (ap (λ (l : ClientState). l.entries) same.2))
-    (λ kept e. goes_called t c.from.result s c.restart.new.self (there g at) _ _ _ (Restarted kept) (c.requires.turn.stations.in_order c.from.result s (there g at)) c.restart.ensures.client e)
+    (λ kept e. goes_called t c.from.result s c.restart.new.self (there g at) _ _ _ (Restarted kept) (c.requires.turn.ready.stations.in_order c.from.result s (there g at)) c.restart.ensures.client e)
 
 pub returns-in-Ok-clause-restarts : goal.returns-in-Ok-clause-restarts
 returns-in-Ok-clause-restarts g c =

@@ -64,5 +64,5 @@ returns-clause-free g c =
     let table = c.settle-done.new.table in
     let after = state_of (record { table = table; rest = c.join.new.into; callers = record { clients = p.callers.clients; desks = p.callers.desks; closer = record { list = c.settle-done.new.self.list } } }) in
     ok_then c.settle-done.result (AreUpAndFree (length g.N.Named.records) table.stations.items) ((past : List Entry) → HasLog after past → AreFreeIfSound (start_of g.N.Named.records) past)
-    (λ settled. free_if_sound g.D.Disk.state g.D.Disk.faults (start_of g.N.Named.records) g.N.Named.faults g.N.Named.honest after c.settle-done.ensures.turn.stations c.made.ensures settled)
+    (λ settled. free_if_sound g.D.Disk.state g.D.Disk.faults (start_of g.N.Named.records) g.N.Named.faults g.N.Named.honest after c.settle-done.ensures.turn.ready.stations c.made.ensures settled)
     c.settle-done.ensures.settled
