@@ -6,3 +6,4 @@ pub mod Made
 pub mod Numbers
 pub mod Running
 pub mod Filled
+pub mod Heard

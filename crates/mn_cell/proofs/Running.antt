@@ -99,14 +99,14 @@ left_own f a (x ∷ log) named same =
     by true false e es is = absurd cc
     by false true e es is = absurd cc
 
-at_same : (n : NodeNo) (x : Line Entry) → NamesActors x → is_at n x.entry ≡ stands_in (Node n) x
+pub at_same : (n : NodeNo) (x : Line Entry) → NamesActors x → is_at n x.entry ≡ stands_in (Node n) x
 at_same n x named = ap (λ (o : Option NodeNo). option_map_or (node_same n) o false) named.0 ∙ by x.node
   where
     by : (o : Option NodeNo) → option_map_or (node_same n) o false ≡ is_node o n
     by None = refl
     by (Some m) = refl
 
-by_same : (c : ClientNo) (x : Line Entry) → NamesActors x → is_by c x.entry ≡ stands_in (Client c) x
+pub by_same : (c : ClientNo) (x : Line Entry) → NamesActors x → is_by c x.entry ≡ stands_in (Client c) x
 by_same c x named = ap (λ (o : Option ClientNo). option_map_or (client_same c) o false) named.1 ∙ by x.client
   where
     by : (o : Option ClientNo) → option_map_or (client_same c) o false ≡ is_client o c

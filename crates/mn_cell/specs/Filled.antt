@@ -1,6 +1,7 @@
 -- Which cells of a run are filled, and the stations that they are made of.
 use Rattle.std.specs.Prelude.{ℕ, ◌+◌, ◌≡◌, Bool, nat_lt, List, [], ◌∷◌, map, Some, slice_get}
-use Rattle.std.specs.Prelude.{if◌then◌else◌}
+use Rattle.std.specs.Prelude.{if◌then◌else◌, is_some}
+use Rattle.mn_cell.specs.declared.cells.Cells.{Cells}
 use Rattle.std.specs.List.{range_with_len}
 use Rattle.mn_cell.specs.Calls.{numbered}
 use Rattle.mn_cell.specs.Station.{StationState}
@@ -8,6 +9,12 @@ use Rattle.mn_cell.specs.Station.{StationState}
 -- whether each of the eight is
 abbrev pub filled_of : Bool → Bool → Bool → Bool → Bool → Bool → Bool → Bool → List Bool
 filled_of c0 c1 c2 c3 c4 c5 c6 c7 = c0 ∷ c1 ∷ c2 ∷ c3 ∷ c4 ∷ c5 ∷ c6 ∷ c7 ∷ []
+
+-- of the cells of a run
+abbrev pub filled_in : {N D : _} → Cells N D → List Bool
+filled_in cells =
+    filled_of (is_some cells.c0) (is_some cells.c1) (is_some cells.c2) (is_some cells.c3)
+    (is_some cells.c4) (is_some cells.c5) (is_some cells.c6) (is_some cells.c7)
 
 -- just the first so many are
 abbrev pub filled_to : ℕ → List Bool

@@ -1,6 +1,6 @@
 -- What is known of a node with its list and its pass, whenever no call of it is under way.
 use Rattle.std.specs.Prelude.{ℕ, ◌+◌, ◌-◌, ◌^◌, ◌≡◌, ◌≤◌, ◌<◌, ◌⊎◌, min, Bool, true, false, List}
-use Rattle.std.specs.Prelude.{[], ◌∷◌, ◌++◌, length, reverse, Option, Some, None, IsSome}
+use Rattle.std.specs.Prelude.{[], ◌∷◌, ◌++◌, reverse, Option, Some, None, IsSome}
 use Rattle.std.specs.Prelude.{slice_index_or, ⊤}
 use Rattle.std.specs.List.{AllByRecursion}
 use Rattle.atomic_table.specs.Seated.{TableId}

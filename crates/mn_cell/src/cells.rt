@@ -11,7 +11,7 @@ ghost use Rattle.mn_world.specs.declared.entry.What.TheVariants.{Stopped, Restar
 ghost use Rattle.mn_world.specs.Run.{entries_of};
 ghost use Rattle.mn_cell.specs.Calls.{EndsList, IsUndamaged, ObeysStop, MaySend, entry_at};
 ghost use Rattle.mn_cell.specs.Calls.{what_said};
-ghost use Rattle.mn_cell.specs.Filled.{AreNumbered, AreNumberedBelow, count_if, filled_of};
+ghost use Rattle.mn_cell.specs.Filled.{AreNumbered, AreNumberedBelow, count_if, filled_in};
 ghost use Rattle.mn_cell.specs.Filled.{filled_to};
 ghost use Rattle.mn_cell.specs.Passes.{IsSameView, OwnsJust};
 ghost use Rattle.mn_cell.specs.Promises.{IsOwedAt, decided_by};
@@ -80,9 +80,7 @@ impl<N: Named, D: Disk> Cells<N, D> {
     pub fn of(stations: &mut Vec<Station<N, D>>) -> Cells<N, D>
         requires few { vec_len stations.old ≤ 8 }
         requires numbers { AreNumbered stations.old.items }
-        ensures filled { filled_of (is_some result.c0) (is_some result.c1) (is_some result.c2)
-            (is_some result.c3) (is_some result.c4) (is_some result.c5) (is_some result.c6)
-            (is_some result.c7) ≡ filled_to (vec_len stations.old) }
+        ensures filled { filled_in result ≡ filled_to (vec_len stations.old) }
         ensures none { stations.new.items ≡ [] }
         ensures room { vec_capacity stations.new ≡ vec_capacity stations.old }
     {
@@ -103,12 +101,8 @@ impl<N: Named, D: Disk> Cells<N, D> {
     pub fn into_stations(self, stations: &mut Vec<Station<N, D>>)
         requires none { stations.old.items ≡ [] }
         requires filled { (count : ℕ) × (count ≤ vec_capacity stations.old)
-            × (filled_of (is_some self.c0) (is_some self.c1) (is_some self.c2) (is_some self.c3)
-            (is_some self.c4) (is_some self.c5) (is_some self.c6) (is_some self.c7)
-            ≡ filled_to count) }
-        ensures count { filled_of (is_some self.c0) (is_some self.c1) (is_some self.c2)
-            (is_some self.c3) (is_some self.c4) (is_some self.c5) (is_some self.c6)
-            (is_some self.c7) ≡ filled_to (vec_len stations.new) }
+            × (filled_in self ≡ filled_to count) }
+        ensures count { filled_in self ≡ filled_to (vec_len stations.new) }
         ensures few { vec_len stations.new ≤ 8 }
         ensures numbers { AreNumbered stations.new.items }
         ensures room { vec_capacity stations.new ≡ vec_capacity stations.old }
@@ -145,9 +139,7 @@ impl<N: Named, D: Disk> Cells<N, D> {
         request: Request,
         stop: Option<StopAt>,
     ) -> NodeReply
-        requires filled { slice_get (is_some self.now.c0 ∷ is_some self.now.c1 ∷ is_some self.now.c2
-            ∷ is_some self.now.c3 ∷ is_some self.now.c4 ∷ is_some self.now.c5 ∷ is_some self.now.c6
-            ∷ is_some self.now.c7 ∷ []) node.0 ≡ Some true }
+        requires filled { slice_get (filled_in self.now) node.0 ≡ Some true }
         requires board { (id_of board.now ≡ N.board) × (board_of pass.old ≡ N.board) }
         requires owns { OwnsJust (view_of pass.old) (Client list.old.client) }
         requires list { held (view_of pass.old) (Client list.old.client) ≡ Some list.old.entries }
@@ -216,9 +208,7 @@ impl<N: Named, D: Disk> Cells<N, D> {
         pass: &mut Pass<CoreLaw>,
         list: &mut ClientList,
     ) -> Result<bool, NoMemory>
-        requires filled { slice_get (is_some self.now.c0 ∷ is_some self.now.c1 ∷ is_some self.now.c2
-            ∷ is_some self.now.c3 ∷ is_some self.now.c4 ∷ is_some self.now.c5 ∷ is_some self.now.c6
-            ∷ is_some self.now.c7 ∷ []) node.0 ≡ Some true }
+        requires filled { slice_get (filled_in self.now) node.0 ≡ Some true }
         requires board { (id_of board.now ≡ N.board) × (board_of pass.old ≡ N.board) }
         requires owns { OwnsJust (view_of pass.old) (Client list.old.client) }
         requires list { held (view_of pass.old) (Client list.old.client) ≡ Some list.old.entries }
@@ -282,9 +272,7 @@ impl<N: Named, D: Disk> Cells<N, D> {
         pass: &mut Pass<CoreLaw>,
         list: &mut ClientList,
     ) -> Result<Option<bool>, RestartError>
-        requires filled { slice_get (is_some self.now.c0 ∷ is_some self.now.c1 ∷ is_some self.now.c2
-            ∷ is_some self.now.c3 ∷ is_some self.now.c4 ∷ is_some self.now.c5 ∷ is_some self.now.c6
-            ∷ is_some self.now.c7 ∷ []) node.0 ≡ Some true }
+        requires filled { slice_get (filled_in self.now) node.0 ≡ Some true }
         requires board { (id_of board.now ≡ N.board) × (board_of pass.old ≡ N.board) }
         requires owns { OwnsJust (view_of pass.old) (Client list.old.client) }
         requires list { held (view_of pass.old) (Client list.old.client) ≡ Some list.old.entries }

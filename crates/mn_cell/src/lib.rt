@@ -6,6 +6,7 @@ mod add;
 mod cell;
 mod cells;
 mod copies;
+mod hearing;
 mod laws;
 mod named;
 mod node_list;
@@ -14,6 +15,7 @@ mod trace;
 
 pub use cell::Cell;
 pub use cells::Cells;
+pub use hearing::hear_all;
 pub use laws::parts_make_run;
 pub use named::Named;
 pub use station::{Refused, Station};

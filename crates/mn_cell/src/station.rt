@@ -31,7 +31,7 @@ pub struct Station<N: Named, D: Disk> {
     pub(crate) node: Node<D>,
     pub(crate) list: NodeList,
     pub(crate) pass: Option<Pass<CoreLaw>>,
-    named: PhantomData<N>,
+    pub(crate) named: PhantomData<N>,
 }
 
 impl<N: Named, D: Disk> Model for Station<N, D> {
