@@ -4,10 +4,12 @@
 mod calls;
 mod changes;
 mod crash;
+mod meet_disk;
 mod memory_disk;
 mod outcome;
 mod overwrite;
 
+pub use meet_disk::{MeetDisk, Meeting};
 pub use memory_disk::MemoryDisk;
 
 #[cfg(test)]
