@@ -26,3 +26,9 @@ pub mod ClientEnds
 pub mod ClientActs
 pub mod OneTrail
 pub mod PlansDue
+pub mod Heard
+pub mod Since
+pub mod Played
+pub mod ClientTurns
+pub mod CloserTurns
+pub mod Opened

@@ -22,31 +22,31 @@ use Rattle.mn_callers.proofs.Trails.{entries_back}
 
 -- Members
 
-abbrev In : ℕ × Entry → List (ℕ × Entry) → Type 0
+abbrev pub In : ℕ × Entry → List (ℕ × Entry) → Type 0
 In x [] = ⊥
 In x (y ∷ l) = (x ≡ y) ⊎ In x l
 
-in_front : (x : ℕ × Entry) (a b : List (ℕ × Entry)) → In x a → In x (a ++ b)
+pub in_front : (x : ℕ × Entry) (a b : List (ℕ × Entry)) → In x a → In x (a ++ b)
 in_front x [] b is = absurd is
 in_front x (y ∷ a) b is = ⊎_elim (λ (e : x ≡ y). inl e) (λ (there : In x a). inr (in_front x a b there)) is
 
-in_back : (x : ℕ × Entry) (a b : List (ℕ × Entry)) → In x b → In x (a ++ b)
+pub in_back : (x : ℕ × Entry) (a b : List (ℕ × Entry)) → In x b → In x (a ++ b)
 in_back x [] b is = is
 in_back x (y ∷ a) b is = inr (in_back x a b is)
 
-reverse_more : (x : ℕ × Entry) (l : List (ℕ × Entry)) → reverse (x ∷ l) ≡ reverse l ++ x ∷ []
+pub reverse_more : (x : ℕ × Entry) (l : List (ℕ × Entry)) → reverse (x ∷ l) ≡ reverse l ++ x ∷ []
 reverse_more x l = reverse-append (x ∷ []) l
 
-in_reverse : (x : ℕ × Entry) (l : List (ℕ × Entry)) → In x l → In x (reverse l)
+pub in_reverse : (x : ℕ × Entry) (l : List (ℕ × Entry)) → In x l → In x (reverse l)
 in_reverse x [] is = absurd is
 in_reverse x (y ∷ l) is =
     subst (λ (k : List (ℕ × Entry)). In x k) (sym (reverse_more y l))
     (⊎_elim (λ (e : x ≡ y). in_back x (reverse l) (y ∷ []) (inl e)) (λ (there : In x l). in_front x (reverse l) (y ∷ []) (in_reverse x l there)) is)
 
-of_reverse : (x : ℕ × Entry) (l : List (ℕ × Entry)) → In x (reverse l) → In x l
+pub of_reverse : (x : ℕ × Entry) (l : List (ℕ × Entry)) → In x (reverse l) → In x l
 of_reverse x l is = subst (λ (k : List (ℕ × Entry)). In x k) (reverse-reverse l) (in_reverse x (reverse l) is)
 
-in_filter : (f : ℕ × Entry → Bool) (x : ℕ × Entry) (l : List (ℕ × Entry)) → In x l → f x ≡ true → In x (filter f l)
+pub in_filter : (f : ℕ × Entry → Bool) (x : ℕ × Entry) (l : List (ℕ × Entry)) → In x l → f x ≡ true → In x (filter f l)
 in_filter f x [] is so = absurd is
 in_filter f x (y ∷ l) is so = ⊎_elim (λ (e : x ≡ y). put (f y) (ap f (sym e) ∙ so) e) (λ (there : In x l). more (f y) (in_filter f x l there so)) is
   where
@@ -58,7 +58,7 @@ in_filter f x (y ∷ l) is so = ⊎_elim (λ (e : x ≡ y). put (f y) (ap f (sym
     put true b e = inl e
     put false b e = absurd cc
 
-of_filter : (f : ℕ × Entry → Bool) (x : ℕ × Entry) (l : List (ℕ × Entry)) → In x (filter f l) → In x l
+pub of_filter : (f : ℕ × Entry → Bool) (x : ℕ × Entry) (l : List (ℕ × Entry)) → In x (filter f l) → In x l
 of_filter f x [] is = is
 of_filter f x (y ∷ l) is = less (f y) (of_filter f x l) is
   where
@@ -68,7 +68,7 @@ of_filter f x (y ∷ l) is = less (f y) (of_filter f x l) is
 
 -- Lists that ascend
 
-abbrev Climb : ℕ → List (ℕ × Entry) → Type 0
+abbrev pub Climb : ℕ → List (ℕ × Entry) → Type 0
 Climb low [] = ⊤
 Climb low (p ∷ l) = (low ≤ p.0) × Climb (p.0 + 1) l
 
@@ -86,7 +86,7 @@ placed_climbs : (p : ℕ) (log : List (Line Entry)) → Climb p (placed_from p l
 placed_climbs p [] = tt
 placed_climbs p (x ∷ log) = (omega arith, placed_climbs (p + 1) log)
 
-abbrev Below : ℕ → List (ℕ × Entry) → Type 0
+abbrev pub Below : ℕ → List (ℕ × Entry) → Type 0
 Below known l = AllByRecursion (λ (q : ℕ × Entry). q.0 < known) l
 
 below_more : (known : ℕ) (l : List (ℕ × Entry)) (x : ℕ × Entry) → Below known l → x.0 < known → Below known (l ++ x ∷ [])
@@ -101,7 +101,7 @@ climbs_more : (low : ℕ) (l : List (ℕ × Entry)) (x : ℕ × Entry) → Climb
 climbs_more low [] x is below le = (le, tt)
 climbs_more low (y ∷ l) x is below le = (is.0, climbs_more (y.0 + 1) l x is.1 below.1 (let lt : y.0 < x.0 = below.0 in omega (arith, lt)))
 
-fall_climbs : (known : ℕ) (trail : List (ℕ × Entry)) → Fall known trail → Climb 0 (reverse trail) × Below known (reverse trail)
+pub fall_climbs : (known : ℕ) (trail : List (ℕ × Entry)) → Fall known trail → Climb 0 (reverse trail) × Below known (reverse trail)
 fall_climbs known [] falls = (tt, tt)
 fall_climbs known (p ∷ trail) falls =
     let rest : Climb 0 (reverse trail) × Below p.0 (reverse trail) = fall_climbs p.0 trail falls.1 in
@@ -111,7 +111,7 @@ fall_climbs known (p ∷ trail) falls =
     )
 
 -- such lists with the same members are one
-same_lists : (low : ℕ) (a b : List (ℕ × Entry)) → Climb low a → Climb low b → ((x : ℕ × Entry) → In x a → In x b) → ((x : ℕ × Entry) → In x b → In x a) → a ≡ b
+pub same_lists : (low : ℕ) (a b : List (ℕ × Entry)) → Climb low a → Climb low b → ((x : ℕ × Entry) → In x a → In x b) → ((x : ℕ × Entry) → In x b → In x a) → a ≡ b
 same_lists low [] [] ca cb to back = refl
 same_lists low [] (y ∷ b) ca cb to back = absurd (back y (inl refl))
 same_lists low (x ∷ a) [] ca cb to back = absurd (to x (inl refl))

@@ -80,7 +80,7 @@ trail_other d c own t other all =
     ∙ (ap (λ (l : List (ℕ × Entry)). trail_by d t ++ reverse l) (kept_none (λ (p : ℕ × Entry). is_by d p.1) own (all_tell d c false other own all))
     ∙ append-nil (trail_by d t))
 
-fall_later : (k m : ℕ) (t : List (ℕ × Entry)) → k ≤ m → Fall k t → Fall m t
+pub fall_later : (k m : ℕ) (t : List (ℕ × Entry)) → k ≤ m → Fall k t → Fall m t
 fall_later k m [] later fall = tt
 fall_later k m (p ∷ t) later fall = let below : p.0 < k = fall.0 in (omega arith, fall.1)
 

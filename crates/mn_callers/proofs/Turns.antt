@@ -1,6 +1,6 @@
 -- The log goes on: by nothing, by one step after another, by a step that the actor makes alone, and
 -- by a call of a station. And the turn stays one.
-use Rattle.std.proofs.Common.{◌≡◌, ℕ, zero, suc, ◌+◌, ◌<◌, ◌≤◌, ◌^◌, max, ◌⊎◌, ◌≢◌, Bool, true, false, List, [], ◌∷◌, ◌++◌, length, reverse, filter, get_or, slice_get, slice_set, option_map, IfNone, IfSome, Option, Some, None, refl, sym, ap, ◌∙◌, subst, inl, inr, ⊎_elim, ne_eqb, arith, if◌then◌else◌}
+use Rattle.std.proofs.Common.{◌≡◌, ℕ, zero, suc, ◌+◌, ◌<◌, ◌≤◌, ◌^◌, max, ◌⊎◌, ◌≢◌, Bool, true, false, List, [], ◌∷◌, ◌++◌, length, reverse, filter, get_or, slice_get, slice_set, option_map, IfNone, IfSome, OnOk, Result, Ok, Err, Option, Some, None, refl, sym, ap, ◌∙◌, subst, inl, inr, ⊎_elim, ne_eqb, arith, if◌then◌else◌}
 use Rattle.std.specs.Option.{option_map_or}
 use Rattle.std.proofs.lemmas.List.{append-nil, reverse-append, length-set}
 use Rattle.atomic_table.specs.Seated.{TableId}
@@ -212,6 +212,11 @@ read_there (y ∷ xs) (suc i) x lt is = read_there xs i x (omega arith) is
 -- an index of a node that there is
 pub is_among : (i n nodes stations : ℕ) → i ≡ n → n < nodes → stations ≡ nodes → i < stations
 is_among i n nodes stations is lt count = omega (arith, is, lt, count)
+
+-- what follows from what is so where there is a result
+pub ok_then : {E : Type 0} (r : Result (Unit {0}) E) (P Q : Type 0) → (P → Q) → OnOk r P → OnOk r Q
+ok_then (Ok u) P Q f p = f p
+ok_then (Err e) P Q f p = tt
 
 -- a reply is NoMemory, or it is another
 pub if_none : {P : Type 0} (reply : NodeReply) → (reply ≡ Say.NoMemory → P) → (reply ≢ Say.NoMemory → P) → P

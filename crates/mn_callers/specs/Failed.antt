@@ -1,4 +1,4 @@
--- Why a replay fails. Lists of entries stand newest first.
+-- Why a run fails. Lists of entries stand newest first.
 use Rattle.std.specs.Prelude.{ℕ, ◌+◌, ◌≡◌, ◌⊎◌, List, [], ◌∷◌, length, reverse, true, Some}
 use Rattle.std.specs.Prelude.{Option, slice_get, if◌then◌else◌}
 use Rattle.mn_base.specs.declared.ids.ClientNo.{ClientNo}
@@ -74,7 +74,7 @@ TellsRun state faults given left log NoMemory =
     (past : List (ℕ × Entry)) × IsRunOn state faults given left past
 TellsRun state faults given left log cause = IsRunOn state faults given left log
 
--- a replay failed so
+-- a run failed so
 pub record FailsSo {D : Type 0} (state : D → DiskState) (faults : D → ℕ)
     (given left : List (NodeState D)) (log : List (ℕ × Entry)) (cause : RunCause) : Type 0 where
   pub count : length left ≡ length given

@@ -18,3 +18,6 @@ pub mod Ended
 pub mod Acts
 pub mod Recoveries
 pub mod Logs
+pub mod Hearing
+pub mod Stages
+pub mod Begun

@@ -1,4 +1,4 @@
--- What a replay comes to. Lists of entries stand newest first.
+-- What a run comes to. Lists of entries stand newest first.
 use Rattle.std.specs.Prelude.{ℕ, ◌≡◌, true, false, List, length, map, reverse, slice_get}
 use Rattle.std.specs.Prelude.{Some}
 use Rattle.mn_base.specs.declared.ids.NodeNo.{NodeNo}

@@ -75,6 +75,13 @@ impl Desk {
         }
     }
 
+    /// Leaves the recovery that it is at, if there is one.
+    pub fn leave(&mut self)
+        ensures { self.new ≡ record self.old { work = None } }
+    {
+        self.work = None;
+    }
+
     /// Where it has no work it takes the recovery of this id, if there is one.
     /// NoMemory: there was none for it.
     fn take_work(&mut self, alloc: Global, shared: Option<Tid>, nodes: u8) -> Result<(), NoMemory>
@@ -97,7 +104,7 @@ impl Desk {
     }
 
     /// Sends a request. NoMemory: there was none for it or for its entries, and there is no entry.
-    fn send<X: Transport>(
+    pub(crate) fn send<X: Transport>(
         &mut self,
         alloc: Global,
         table: &mut X,

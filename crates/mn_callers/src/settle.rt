@@ -414,7 +414,7 @@ impl Closer {
 }
 
 /// Adds the ids of a list. NoMemory: there was none for them.
-fn add_ids(tids: &mut Vec<Tid>, doubts: &Doubts) -> Result<(), NoMemory>
+pub fn add_ids(tids: &mut Vec<Tid>, doubts: &Doubts) -> Result<(), NoMemory>
     ensures { OnOk result (tids.new.items ≡ tids.old.items ++ map (λ d. d.tid) doubts.now) }
 {
     for doubt in doubts.as_slice() {
@@ -424,7 +424,7 @@ fn add_ids(tids: &mut Vec<Tid>, doubts: &Doubts) -> Result<(), NoMemory>
 }
 
 /// Puts ids in order, each once.
-fn sort_ids(tids: &mut Vec<Tid>)
+pub fn sort_ids(tids: &mut Vec<Tid>)
     ensures keeps { (t : Id) → Contains tids.old.items t → Contains tids.new.items t }
     ensures all { (t : Id) → Contains tids.new.items t → Contains tids.old.items t }
 {

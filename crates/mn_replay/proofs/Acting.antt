@@ -1,9 +1,9 @@
--- The turns of clients and of recovery coordinators.
-use Rattle.std.proofs.Common.{◌≡◌, ℕ, zero, suc, ◌+◌, ◌-◌, ◌<◌, Result, Ok, Err, is_err, OnOk, Bool, false, Option, Some, None, List, [], ◌∷◌, ◌++◌, length, map, get_or, refl, sym, ap, ◌∙◌, subst, arith, nat_eq}
+-- The turns of recovery coordinators.
+use Rattle.std.proofs.Common.{◌≡◌, ℕ, zero, suc, ◌+◌, ◌-◌, ◌<◌, Result, Ok, Err, is_err, OnOk, Bool, false, Option, Some, None, List, [], ◌∷◌, ◌++◌, map, refl, sym, ap, ◌∙◌, subst, arith, nat_eq}
 use Rattle.std.specs.Prelude.{slice_get, slice_index_or, slice_set}
 use Rattle.std.specs.List.{AllByRecursion}
 use Rattle.std.specs.Option.{option_map_or}
-use Rattle.std.proofs.lemmas.Bool.{le-ltb, lt-ltb, ne_eqb}
+use Rattle.std.proofs.lemmas.Bool.{le-ltb, ne_eqb}
 use Rattle.std.proofs.lemmas.Option.{slice_get_within}
 use Rattle.atomic_table.specs.Seated.{TableId}
 use Rattle.mn_actors.specs.declared.actor.Actor.TheVariants.{Client as Calls}
@@ -12,38 +12,24 @@ use Rattle.mn_actors.specs.Lists.{IsJoined, IsSplit}
 use Rattle.mn_cell.specs.Runs.{IsIssueOf}
 use Rattle.mn_base.specs.declared.ids.ClientNo.{ClientNo}
 use Rattle.mn_recov.specs.Recovery.{Recovery}
-use Rattle.mn_base.specs.declared.op.Op.{Op}
-use Rattle.mn_script.specs.declared.elements.Point.{Point}
-use Rattle.mn_script.specs.declared.elements.ScriptClient.{ScriptClient}
-use Rattle.mn_script.specs.Script.{Script}
 use Rattle.mn_world.specs.declared.entry.Entry.{Entry}
 use Rattle.mn_world.specs.Calls.{client_entries}
 use Rattle.mn_world.specs.Lists.{ClientState}
 use Rattle.mn_world.specs.Protocol.{Start, start_nodes}
 use Rattle.mn_world.specs.Run.{entries_of}
-use Rattle.mn_callers.specs.declared.client.Client.{Client}
-use Rattle.mn_callers.specs.declared.desk.Desk.{Desk}
 use Rattle.mn_callers.specs.declared.callers.Callers.{Callers}
-use Rattle.mn_callers.specs.Acts.{as_role}
-use Rattle.mn_callers.specs.Clients.{IsOfRun}
-use Rattle.mn_callers.specs.Desks.{IsDesk}
-use Rattle.mn_callers.specs.Plays.{IsAtRest, IsPlay, PlayState, StaysPlay, caller_at, list_by}
-use Rattle.mn_replay.specs.Logs.{GoesAs, played_by}
+use Rattle.mn_callers.specs.declared.desk.Desk.{Desk}
+use Rattle.mn_callers.specs.Desks.{IsDesk, recoverer}
 use Rattle.mn_callers.specs.Logs.{HasLog, works_of}
+use Rattle.mn_callers.specs.Plays.{IsAtRest, PlayState, StaysPlay, caller_at, list_by}
 use Rattle.mn_callers.specs.Recoveries.{Bench, bench_of}
-use Rattle.mn_replay.specs.Schedule.{IsOfClient, IsOfRecoverer}
-use Rattle.mn_callers.specs.Desks.{recoverer}
-use Rattle.mn_callers.specs.Acts.{role_of}
+use Rattle.mn_callers.specs.Stages.{GoesAs, played_by}
 use Rattle.mn_callers.specs.Turn.{ExtendsLog, IsTurn, Turn, callers_count, past_in, trail_by}
-use Rattle.mn_callers.proofs.Handing.{read_at}
+use Rattle.mn_callers.proofs.Replacing.{desk_among, desk_replaced, list_of}
 use Rattle.mn_callers.proofs.Resting.{IsAfter, IsTurnOf, Replaces, turn_after, turn_begins, turn_ends}
-use Rattle.mn_replay.proofs.Scheduled.{client_acts, recoverer_acts}
-use Rattle.mn_callers.proofs.Trails.{list_of_client as list_of_client_in}
-use Rattle.mn_callers.proofs.Replacing.{client_among, client_replaced, desk_among, desk_replaced, list_of}
-
-pub ok_then : {E : Type 0} (r : Result (Unit {0}) E) (P Q : Type 0) → (P → Q) → OnOk r P → OnOk r Q
-ok_then (Ok u) P Q f p = f p
-ok_then (Err e) P Q f p = tt
+use Rattle.mn_callers.proofs.Trails.{list_of_client}
+use Rattle.mn_replay.specs.Schedule.{IsOfRecoverer}
+use Rattle.mn_replay.proofs.Scheduled.{recoverer_acts}
 
 pub ok_so : {E : Type 0} (r : Result (Unit {0}) E) (P : Type 0) → P → OnOk r P
 ok_so (Ok u) P p = p
@@ -52,21 +38,6 @@ ok_so (Err e) P p = tt
 pub not_err : {E : Type 0} (r : Result (Unit {0}) E) (P : Type 0) → is_err r ≡ false → OnOk r P → P
 not_err (Ok u) P is p = p
 not_err (Err e) P is p = absurd cc
-
-pub met_at : {X : Type 0} (xs : List X) (k j : ℕ) (x : X) → k < length xs → j ≡ k → x ≡ get_or xs j x → slice_get xs k ≡ Some x
-met_at xs k j x within same is = read_at xs k x within (is ∙ ap (λ (i : ℕ). get_or xs i x) same)
-
-pub list_of_client : (callers : Callers) (k : ℕ) (c : Client) → k < 16 → slice_get callers.clients.items k ≡ Some c → list_by callers (caller_at k) ≡ c.list.entries
-list_of_client callers k c below there =
-    ap (λ (b : Bool). list_of b (nat_eq k 16) (slice_get callers.clients.items k) callers.closer.list.entries (slice_get callers.desks.items (k - 17))) (lt-ltb k 16 below)
-    ∙ ap (λ (o : Option Client). option_map_or (λ k. k.list.entries) o []) there
-
--- the role of a client, by its number and its operations
-pub role_same : (script : Script) (points : List Point) (c d : ClientNo) (ops : List Op) (k : ScriptClient) → points ≡ script.points → d ≡ c → slice_get script.clients c.0 ≡ Some k → ops ≡ k.ops → as_role points d ops ≡ role_of script c
-role_same script points c d ops k points_is same there ops_is =
-    ap (λ (ps : List Point). as_role ps d ops) points_is
-    ∙ (ap (λ (e : ClientNo). as_role script.points e ops) same
-    ∙ ap (λ (l : List Op). as_role script.points c l) (ops_is ∙ sym (ap (λ (o : Option ScriptClient). option_map_or (λ (x : ScriptClient). x.ops) o []) there)))
 
 list_of_desk : (callers : Callers) (k : ℕ) (d : Desk) → slice_get callers.desks.items k ≡ Some d → list_by callers (caller_at (17 + k)) ≡ d.list.entries
 list_of_desk callers k d there =
@@ -91,73 +62,6 @@ abbrev Acts : {D : Type 0} → PlayState D → (List Entry → Bench → Bench �
 Acts p does client number es later ws = IsOfRecoverer number (does (client_entries client es)) (played_by p es) (record { past = later; works = ws })
 
 module _ {D : Type 0} (board : TableId) (start : Start) (p : PlayState D) (rests : IsAtRest board start p) (k : ℕ) where
-  -- Clients
-
-  module _ (c : Client) (there : slice_get p.callers.clients.items k ≡ Some c) where
-    below : k < 16
-    below = let few = rests.few in let within = slice_get_within p.callers.clients.items k c there in omega arith
-
-    among : k < callers_count
-    among = let low = below in omega arith
-
-    pub client_begins : (w u : View Entry) (at : TableId) → IsSplit p.view (Calls (caller_at k)) w u → at ≡ p.rest
-        → IsTurn board (start_nodes start) (record { table = p.table; stations = p.stations; board = at; view = u; list = c.list })
-    client_begins w u at split is =
-        turn_begins board start p (caller_at k) w u at c.list rests among split (is ∙ rests.passes) (rests.numbers.clients k c there) (sym (list_of_client p.callers k c below there))
-
-    pub client_turn : (q : PlayState D) (w u : View Entry) (at : TableId) (t : Turn D) (c' : Client)
-        → IsSplit p.view (Calls (caller_at k)) w u → IsTurn board (start_nodes start) t
-        → ExtendsLog (record { table = p.table; stations = p.stations; board = at; view = u; list = c.list }) t
-        → IsJoined w t.view q.view → q.rest ≡ p.rest → q.table ≡ t.table → q.stations ≡ t.stations → t.list ≡ c'.list
-        → q.callers.clients.items ≡ slice_set p.callers.clients.items k c' → q.callers.desks.items ≡ p.callers.desks.items → q.callers.closer.list ≡ p.callers.closer.list
-        → AllByRecursion (IsIssueOf start) (entries_of c'.list.entries) → IsTurnOf board start p q (caller_at k) w u q.view at c.list t
-    client_turn q w u at t c' split turn goes joined rest table stations list clients desks closing of_run =
-        record {
-          rests = rests;
-          among = among;
-          split = split;
-          client = rests.numbers.clients k c there;
-          entries = sym (list_of_client p.callers k c below there);
-          turn = turn;
-          goes = goes;
-          joined = joined;
-          passes = rest ∙ rests.passes;
-          table = table;
-          stations = stations;
-          view = refl;
-          replaces = subst (λ (l : ClientState). Replaces (caller_at k) l p.callers q.callers) (sym list)
-              (client_replaced p.callers q.callers k c c' rests.few rests.numbers there clients desks closing (ap (λ (l : ClientState). l.client) (sym list) ∙ goes.client));
-          of_run = subst (λ (l : ClientState). AllByRecursion (IsIssueOf start) (entries_of l.entries)) (sym list) of_run;
-        }
-
-    pub client_ends : (script : Script) → IsPlay board start script p → (q : PlayState D) (w u : View Entry) (at : TableId) (t : Turn D) (c' : Client)
-        → IsTurnOf board start p q (caller_at k) w u q.view at c.list t
-        → q.callers.clients.items ≡ slice_set p.callers.clients.items k c' → q.callers.desks.items ≡ p.callers.desks.items → q.callers.closer.list ≡ p.callers.closer.list
-        → IsOfRun start script.points c' → IsPlay board start script q
-    client_ends script play q w u at t c' of clients desks closing of_run =
-        record {
-          nodes = play.nodes;
-          rests = turn_ends board start p q (caller_at k) w u q.view at c.list t of;
-          callers = client_among start script p.callers q.callers k c c' play.callers there clients desks closing of_run;
-        }
-
-    -- what it does with its own list, its turn does with the log
-    pub client_goes : (does : List Entry → List Entry → Type 0) (q : PlayState D) (w u : View Entry) (at : TableId) (t : Turn D)
-        → IsTurnOf board start p q (caller_at k) w u q.view at c.list t → q.callers.desks.items ≡ p.callers.desks.items
-        → does (entries_of c.list.entries) (entries_of t.list.entries) → GoesAs (IsOfClient (caller_at k) does) p q
-    client_goes does q w u at t of desks so past log =
-        let after = turn_after board start p q (caller_at k) w u q.view at c.list t of log.trail in
-        let acts = client_acts (caller_at k) does after.own log.trail.trail c.list.entries t.list.entries (works_of p.callers) after.was after.is after.by so in
-        let works : works_of q.callers ≡ works_of p.callers = ap (map (λ (d : Desk). d.work)) desks in (
-          past_in after.trail.trail,
-          record { trail = after.trail; past_is = refl },
-          subst (λ (es : List Entry). IsOfClient (caller_at k) does (played_by p es) (played_by q (past_in after.trail.trail))) (sym log.past_is)
-              (subst (λ (l : List (ℕ × Entry)). IsOfClient (caller_at k) does (played_by p (past_in log.trail.trail)) (played_by q (past_in l))) (sym after.trail_is)
-              (subst (λ (ws : List (Option Recovery)). IsOfClient (caller_at k) does (played_by p (past_in log.trail.trail)) (record { past = past_in (after.own ++ log.trail.trail); works = ws })) (sym works) acts)),
-        )
-
-  -- Recovery coordinators
-
   module _ (d : Desk) (there : slice_get p.callers.desks.items k ≡ Some d) where
     among' : 17 + k < callers_count
     among' = let four = rests.four in let within = slice_get_within p.callers.desks.items k d there in omega arith
@@ -215,7 +119,7 @@ module _ {D : Type 0} (board : TableId) (start : Start) (p : PlayState D) (rests
         after = turn_after board start p q (caller_at (17 + k)) w u q.view at d.list t of log.trail
 
         told : entries_of (list_by p.callers client) ≡ client_entries client (past_in log.trail.trail)
-        told = ap (λ (l : List (ℕ × Entry)). entries_of l) (log.trail.by client known) ∙ list_of_client_in client log.trail.trail
+        told = ap (λ (l : List (ℕ × Entry)). entries_of l) (log.trail.by client known) ∙ list_of_client client log.trail.trail
 
         before : suc k - 1 ≡ k
         before = omega arith

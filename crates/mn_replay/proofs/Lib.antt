@@ -1,4 +1,3 @@
-pub mod CloserTurns
-pub mod Acting
 pub mod Scheduled
-pub mod Opened
+pub mod Acting
+pub mod Halting

@@ -1,9 +1,8 @@
 -- How the log of a schedule goes on, act after act.
-use Rattle.std.proofs.Common.{◌≡◌, ◌⊎◌, ⊎_elim, MatchBool, ℕ, ◌-◌, Bool, true, false, Option, Some, None, List, [], ◌∷◌, ◌++◌, replicate, Result, Ok, Err, IfOk, IsOk, OnOk, refl, sym, ap, ◌∙◌, subst}
+use Rattle.std.proofs.Common.{◌≡◌, ◌⊎◌, ⊎_elim, MatchBool, ℕ, ◌-◌, Bool, true, false, Option, Some, None, List, [], ◌∷◌, ◌++◌, replicate, refl, sym, ap, ◌∙◌, subst}
 use Rattle.std.specs.Prelude.{slice_index_or, slice_set}
 use Rattle.std.specs.List.{AllByRecursion}
-use Rattle.std.proofs.lemmas.List.{append-nil, append_assoc, map-append}
-use Rattle.mn_base.specs.declared.ids.ClientNo.{ClientNo}
+use Rattle.std.proofs.lemmas.List.{append-nil}
 use Rattle.mn_recov.specs.Recovery.{Recovery}
 use Rattle.mn_script.specs.declared.elements.Act.{Act}
 use Rattle.mn_script.specs.declared.elements.Act.TheVariants as acts
@@ -14,21 +13,22 @@ use Rattle.mn_world.specs.declared.entry.What.TheVariants.{Restarted, Stopped}
 use Rattle.mn_world.specs.Laws.{RecordsStaySound}
 use Rattle.mn_world.specs.Nodes.{is_down}
 use Rattle.mn_world.specs.OneHistory.{AreFree}
-use Rattle.mn_world.specs.Protocol.{FollowsProtocol, Start}
+use Rattle.mn_world.specs.Protocol.{Start}
 use Rattle.mn_world.specs.Run.{IsRun, RunsFollowProtocol, entries_of}
 use Rattle.mn_cell.specs.Calls.{entry_at}
 use Rattle.mn_callers.specs.Failed.{closer}
 use Rattle.mn_replay.specs.Follows.{Follows, IsPlayed}
-use Rattle.mn_replay.specs.Logs.{AreFreeIfSound, GoesAs, Settles, played_by}
 use Rattle.mn_callers.specs.Logs.{HasLog, IsFresh, works_of}
 use Rattle.mn_callers.specs.Plays.{PlayState}
 use Rattle.mn_callers.specs.Recoveries.{Bench}
 use Rattle.mn_callers.specs.Closing.{AreOfCloser}
-use Rattle.mn_replay.specs.Schedule.{DoesAct, DoesActs, GoesOnBy, IsOfClient, IsOfRecoverer, Played, acts_of, played_from, with_entry}
 use Rattle.mn_callers.specs.Desks.{recoverer}
+use Rattle.mn_callers.specs.Stages.{AreFreeIfSound, GoesAs, Played, Settles, played_by}
 use Rattle.mn_callers.specs.Trace.{StartsSound}
-use Rattle.mn_callers.proofs.Trails.{list_of_client}
 use Rattle.mn_callers.specs.Turn.{past_in, trail_by}
+use Rattle.mn_callers.proofs.Played.{Grows, free_in, goes_by, grows_both, played_at}
+use Rattle.mn_callers.proofs.Trails.{list_of_client}
+use Rattle.mn_replay.specs.Schedule.{DoesAct, DoesActs, IsOfRecoverer, acts_of, played_from, with_entry}
 
 -- One act after another
 
@@ -39,27 +39,10 @@ acts_both script (act ∷ front) back old now new one other = (one.0, one.1, act
 pub acts_more : (script : Script) (front : List Act) (act : Act) (old now new : Played) → DoesActs script front old now → DoesAct script act now new → DoesActs script (front ++ act ∷ []) old new
 acts_more script front act old now new one does = acts_both script front (act ∷ []) old now new one (new, does, refl)
 
--- a play whose acts are done goes on
-pub acts_as : {D : Type 0} (does rest both : Played → Played → Type 0) (p q r : PlayState D) → ((old now new : Played) → does old now → rest now new → both old new)
-    → GoesAs does p q → GoesAs rest q r → GoesAs both p r
-acts_as does rest both p q r join one other past log =
-    let first = one past log in
-    let second = other first.0 first.1 in
-    (second.0, second.1, join (played_by p past) (played_by q first.0) (played_by r second.0) first.2 second.2)
-
 pub no_acts : {D : Type 0} (script : Script) (p : PlayState D) → GoesAs (DoesActs script []) p p
 no_acts script p past log = (past, log, refl)
 
 -- each act's log goes on from the one before
-pub record Grows (old new : List Entry) : Type 0 where
-  pub later : List Entry
-  pub is : new ≡ later ++ old
-
-grows_both : (old now new : List Entry) → Grows old now → Grows now new → Grows old new
-grows_both old now new one other = record {
-  later = other.later ++ one.later;
-  is = other.is ∙ (ap (λ (l : List Entry). other.later ++ l) one.is ∙ sym (append_assoc other.later one.later old));
-}
 
 act_grows : (script : Script) (act : Act) (old new : Played) → DoesAct script act old new → Grows old.past new.past
 act_grows script (acts.Step c) old new does = record { later = does.past.own; is = does.past.past_is }
@@ -124,55 +107,14 @@ played_so says tells script past played turn = record {
   closed = played.closed;
 }
 
-follows_part : (start : Start) (later past : List Entry) → FollowsProtocol start (later ++ past) → FollowsProtocol start past
-follows_part start [] past follows = follows
-follows_part start (e ∷ later) past follows = follows_part start later past follows.0
-
 -- the log of a run whose opening leaves nothing held, if its records fit together
 pub follows_script : (start : Start) (script : Script) (past : List Entry) → RunsFollowProtocol → RecordsStaySound → IsRun start past
     → IsPlayed (AreFreeIfSound start) script past → Follows start script past
 follows_script start script past follow stay run played =
     played_so (AreFreeIfSound start) (λ opening. StartsSound start → AreFree start opening) script past played
-    (λ opening grows free sound.
-    let whole : FollowsProtocol start (grows.later ++ opening) = subst (FollowsProtocol start) grows.is (follow start past run) in
-    let part : FollowsProtocol start opening = follows_part start grows.later opening whole in
-    free part (stay start opening sound part))
+    (λ opening grows free sound. free_in start opening past follow stay run grows free sound)
 
--- where the run is done, its log follows the script
-pub told_follows : {X E F : Type 0} (start : Start) (script : Script) (log_in : X → List (ℕ × Entry)) (result : Result X F) (played : Result (Unit {0}) E) (Has : List Entry → Type 0) (Is : X → Type 0)
-    → RunsFollowProtocol → RecordsStaySound → IfOk result Is → ((t : X) → Is t → IsRun start (entries_of (log_in t)))
-    → IfOk result (λ t. IsOk played) → IfOk result (λ t. (past : List Entry) → Has past → entries_of (log_in t) ≡ past)
-    → OnOk played ((past : List Entry) × Has past × IsPlayed (AreFreeIfSound start) script past) → IfOk result (λ t. Follows start script (entries_of (log_in t)))
-told_follows start script log_in (Err e) played Has Is follow stay is run done log told = tt
-told_follows start script log_in (Ok t) (Err e) Has Is follow stay is run done log told = absurd cc
-told_follows start script log_in (Ok t) (Ok u) Has Is follow stay is run done log told =
-    let same : entries_of (log_in t) ≡ told.0 = log told.0 told.1 in
-    follows_script start script (entries_of (log_in t)) follow stay (run t is) (subst (IsPlayed (AreFreeIfSound start) script) (sym same) told.2)
-
--- An act of one actor
-
-pub by_map : (c : ClientNo) (own : List (ℕ × Entry)) → AllByRecursion (λ (p : ℕ × Entry). p.1.client ≡ Some c) own → AllByRecursion (λ (e : Entry). e.client ≡ Some c) (past_in own)
-by_map c [] all = tt
-by_map c (p ∷ own) all = (all.0, by_map c own all.1)
-
-pub goes_by : (c : ClientNo) (own t : List (ℕ × Entry)) → AllByRecursion (λ (p : ℕ × Entry). p.1.client ≡ Some c) own → GoesOnBy c (past_in t) (past_in (own ++ t))
-goes_by c own t all = record { own = past_in own; past_is = map-append (λ (p : ℕ × Entry). p.1) own t; by = by_map c own all }
-
-abbrev pub played_at : List (ℕ × Entry) → List (Option Recovery) → Played
-played_at t works = record { past = past_in t; works = works }
-
--- a client's own list before and after its act
-pub client_acts : (c : ClientNo) (does : List Entry → List Entry → Type 0) (own t old new : List (ℕ × Entry)) (works : List (Option Recovery))
-    → old ≡ trail_by c t → new ≡ trail_by c (own ++ t) → AllByRecursion (λ (p : ℕ × Entry). p.1.client ≡ Some c) own → does (entries_of old) (entries_of new)
-    → IsOfClient c does (played_at t works) (played_at (own ++ t) works)
-client_acts c does own t old new works was is all so = record {
-  past = goes_by c own t all;
-  so = subst (λ (l : List Entry). does l (client_entries c (past_in (own ++ t)))) (ap entries_of was ∙ list_of_client c t)
-      (subst (λ (l : List Entry). does (entries_of old) l) (ap entries_of is ∙ list_of_client c (own ++ t)) so);
-  works = refl;
-}
-
--- and a recovery coordinator's, with its work
+-- a recovery coordinator's own list and its work before and after its act
 pub recoverer_acts : (number : ℕ) (does : Bench → Bench → Type 0) (own t old new : List (ℕ × Entry)) (works : List (Option Recovery)) (work : Option Recovery)
     → old ≡ trail_by (recoverer number) t → new ≡ trail_by (recoverer number) (own ++ t) → AllByRecursion (λ (p : ℕ × Entry). p.1.client ≡ Some (recoverer number)) own
     → does (record { list = entries_of old; work = slice_index_or works (number - 1) None }) (record { list = entries_of new; work = work })

@@ -1,8 +1,8 @@
 -- What the acts of a schedule make of a log. Lists of entries stand newest first.
-use Rattle.std.specs.Prelude.{ℕ, ◌+◌, ◌-◌, ◌≡◌, ◌⊎◌, Bool, List, [], ◌∷◌, ◌++◌, length, map}
-use Rattle.std.specs.Prelude.{Option, Some, None, slice_index_or, slice_set, MatchBool}
+use Rattle.std.specs.Prelude.{ℕ, ◌-◌, ◌≡◌, ◌⊎◌, Bool, List, [], ◌∷◌, ◌++◌, length, map}
+use Rattle.std.specs.Prelude.{Option, None, slice_index_or, slice_set, MatchBool}
 use Rattle.std.specs.Prelude.{replicate, true, false}
-use Rattle.std.specs.List.{range_with_len, AllByRecursion}
+use Rattle.std.specs.List.{range_with_len}
 use Rattle.mn_base.specs.declared.ids.NodeNo.{NodeNo}
 use Rattle.mn_base.specs.declared.ids.ClientNo.{ClientNo}
 use Rattle.mn_script.specs.declared.elements.Act.{Act}
@@ -14,36 +14,11 @@ use Rattle.mn_world.specs.Calls.{node_entries, client_entries}
 use Rattle.mn_world.specs.Nodes.{is_down}
 use Rattle.mn_cell.specs.Calls.{entry_at}
 use Rattle.mn_recov.specs.Recovery.{Recovery}
-use Rattle.mn_replay.specs.declared.play.Move.{Move}
-use Rattle.mn_replay.specs.declared.play.Move.TheVariants as moves
-use Rattle.mn_callers.specs.Acts.{Role, DoesStep, DoesPlan, DoesGo, DoesAll, role_of}
+use Rattle.mn_callers.specs.Acts.{DoesStep, DoesPlan, DoesGo, DoesAll, role_of}
 use Rattle.mn_callers.specs.Desks.{recoverer}
 use Rattle.mn_callers.specs.Failed.{closer}
 use Rattle.mn_callers.specs.Recoveries.{Bench, DoesRstep, DoesRecover}
-
--- the log so far, and the work of each recovery coordinator
-pub record Played : Type 0 where
-  pub past : List Entry
-  pub works : List (Option Recovery)
-
--- the log went on by entries of one actor
-pub record GoesOnBy (c : ClientNo) (old new : List Entry) : Type 0 where
-  pub own : List Entry
-  pub past_is : new ≡ own ++ old
-  pub by : AllByRecursion (λ e. e.client ≡ Some c) own
-
--- by entries of a client, which make of its own list what the relation says
-pub record IsOfClient (c : ClientNo) (does : List Entry → List Entry → Type 0) (old new : Played)
-    : Type 0 where
-  pub past : GoesOnBy c old.past new.past
-  pub so : does (client_entries c old.past) (client_entries c new.past)
-  pub works : new.works ≡ old.works
-
-abbrev pub DoesMove : Move → Role → List Entry → List Entry → Type 0
-DoesMove moves.Step = DoesStep
-DoesMove moves.Plan = DoesPlan
-DoesMove moves.Go = DoesGo
-DoesMove moves.All = DoesAll
+use Rattle.mn_callers.specs.Stages.{GoesOnBy, IsOfClient, Played}
 
 -- by entries of a recovery coordinator, which make of its list and its work what the relation says
 pub record IsOfRecoverer (number : ℕ) (does : Bench → Bench → Type 0) (old new : Played)

@@ -12,9 +12,10 @@ ghost use Rattle.mn_callers.specs.Plays.{NamesGiven};
 ghost use Rattle.mn_callers.specs.Trace.{IsTrace, MayBegin, start_on};
 ghost use Rattle.mn_callers.specs.Turn.{callers_count};
 
-use crate::play::Play;
+use crate::play::play;
 use mn_actors::{Board, Pass};
-use mn_callers::{CALLERS, Callers, Rooms, Table, end, no_memory, stations_of, without_log};
+use mn_base::OpenGate;
+use mn_callers::{Begun, CALLERS, no_memory};
 use mn_cell::{Named, RunFailed, Trace};
 use mn_io::Disk;
 use mn_node::Node;
@@ -50,29 +51,10 @@ fn play_on<N: Named, D: Disk>(
 {
     runs_follow_protocol();
     records_stay_sound();
-    let mut nodes = nodes;
-    let mut rest = all;
-    let Ok(callers) = Callers::new(alloc, script, run) else {
-        return Err(without_log(alloc, board, rest, nodes));
-    };
-    let Ok(rooms) = Rooms::new(alloc, nodes.len()) else {
-        return Err(without_log(alloc, board, rest, nodes));
-    };
-    let Ok(stations) = stations_of::<N, D>(alloc, &board, &mut rest, &mut nodes) else {
-        return Err(without_log(alloc, board, rest, nodes));
-    };
-    let mut play = Play {
-        table: Table { board, stations },
-        rest,
-        callers,
-    };
-    let played = play.play(alloc, script);
-    let Play {
-        table,
-        rest,
-        callers,
-    } = play;
-    end(alloc, table, rest, callers, nodes, rooms, played)
+    let gate = OpenGate;
+    let mut begun = Begun::<N, D, OpenGate>::new(alloc, &gate, board, all, nodes, script, run)?;
+    let played = play(alloc, &mut begun.stage, script);
+    begun.end(alloc, played)
 }
 
 /// Runs a script on these nodes, one for each that the script says, numbered from 0 in order and
