@@ -11,23 +11,25 @@ use Rattle.mn_top.specs.declared.words.Command.TheVariants.{Replay, Run, Gen, Ch
 use Rattle.mn_world.specs.declared.entry.Entry.{Entry}
 use Rattle.mn_top.specs.Ending.{ComesTo, EndsEarly, IsUntouchedOrRun, Replaying}
 use Rattle.mn_top.specs.Program.{IsDue, IsDueBefore, IsLine}
-use Rattle.mn_top.specs.Words.{AskReplay, Asked, Asks, Text, is_there, replay_on}
+use Rattle.mn_top.specs.Words.{AskFor, AskScript, Asked, Asks, Text, asked_on, is_there, plays_script}
 
 there_asks : (words : List Text) (command : Command) (nodes : ℕ) (number : Option ℕ) (folder : Option Text) → Asks words (record { command = command; nodes = nodes; number = number; folder = folder })
-    → is_there command folder ≡ true → Asks words (replay_on nodes)
-there_asks words Replay nodes None None asks there = asks
+    → is_there command folder ≡ true → AskFor words command nodes
+there_asks words Replay nodes None None asks there = (refl, asks)
 there_asks words Replay nodes (Some n) None asks there = absurd asks.number
-there_asks words Replay nodes number (Some folder) asks there = absurd (false≢true there)
-there_asks words Run nodes number folder asks there = absurd (false≢true there)
-there_asks words Gen nodes number folder asks there = absurd (false≢true there)
-there_asks words Check nodes number folder asks there = absurd (false≢true there)
+there_asks words Run nodes None None asks there = (refl, asks)
+there_asks words Run nodes (Some n) None asks there = absurd asks.number
+there_asks words Gen nodes number None asks there = absurd (false≢true there)
+there_asks words Check nodes number None asks there = absurd (false≢true there)
+there_asks words command nodes number (Some folder) asks there = absurd (false≢true there)
 
--- what can be done is to replay a script on so many disks
-pub asks_replay : (words : List Text) (asked : Asked) (command : Command) (nodes given : ℕ) (folder : Option Text) → Asks words asked → command ≡ asked.command → nodes ≡ asked.nodes → folder ≡ asked.folder
-    → is_there command folder ≡ true → nodes ≡ given → AskReplay words given
-asks_replay words asked command nodes given folder asks of_command of_nodes of_folder there same =
+-- what can be done is to play a script on so many disks
+pub asks_for : (words : List Text) (asked : Asked) (command : Command) (nodes given : ℕ) (folder : Option Text) → Asks words asked → command ≡ asked.command → nodes ≡ asked.nodes → folder ≡ asked.folder
+    → is_there command folder ≡ true → nodes ≡ given → AskFor words command given
+asks_for words asked command nodes given folder asks of_command of_nodes of_folder there same =
     let is = sym (ap (λ (c : Command). is_there c folder) of_command ∙ ap (λ (f : Option Text). is_there asked.command f) of_folder) ∙ there in
-    subst (AskReplay words) (sym of_nodes ∙ same) (there_asks words asked.command asked.nodes asked.number asked.folder asks is)
+    subst (λ (c : Command). AskFor words c given) (sym of_command)
+    (subst (AskFor words asked.command) (sym of_nodes ∙ same) (there_asks words asked.command asked.nodes asked.number asked.folder asks is))
 
 -- a script that is none is not by a fault of the source
 pub due_before : (words : List Text) (known : Option (List ℕ)) (failed : Type 0) (given : ℕ) (due : Due) → IsDueBefore words known ⊥ given due → IsDueBefore words known failed given due
@@ -72,6 +74,7 @@ due_instead : {D : Type 0} (state : D → DiskState) (faults : D → ℕ) (words
     → IsLine due → IsDue state faults words known failed ended given left log due → IsDue state faults words known failed ended given left log NoMemory
 due_instead state faults words known failed ended given left log due line (inl (before, same, none)) = inl (tt, same, none)
 due_instead state faults words known failed ended given left log due line (inr meets) = inr (record {
+  command = meets.command;
   script = meets.script;
   called = meets.called;
   count = meets.count;

@@ -24,6 +24,7 @@ use Rattle.mn_world.specs.Nodes.{NodeAllows, added_by, is_down, node_records, st
 use Rattle.mn_world.specs.Protocol.{FollowsProtocol, Start, base_at, records_of, start_nodes, start_of, start_records}
 use Rattle.mn_world.specs.Run.{RunsFollowProtocol, entries_of}
 use Rattle.mn_script.specs.Script.{Script}
+use Rattle.mn_top.specs.declared.words.Command.{Command}
 use Rattle.mn_top.specs.Crashes.{AreOpenable, HoldStore, StayOpenable, bases}
 use Rattle.mn_top.specs.declared.due.DamageRule.TheVariants.{Log, Votes, Both, Forest, Runs, Kept}
 use Rattle.mn_top.specs.declared.due.Due.{Due}
@@ -168,8 +169,8 @@ module _ {D : Type 0} (state : D → DiskState) (given left : List D) (count : l
     });
   }
 
-  module _ (follow : RunsFollowProtocol) (leave : StopsLeaveOpened) (faults : D → ℕ) (script : Script) (log : List (ℕ × Entry)) where
-    ran : (past : List (ℕ × Entry)) → HasRun state faults (record { script = script; given = given; left = left; log = log }) past → StayOpenable state given left
+  module _ (follow : RunsFollowProtocol) (leave : StopsLeaveOpened) (faults : D → ℕ) (command : Command) (script : Script) (log : List (ℕ × Entry)) where
+    ran : (past : List (ℕ × Entry)) → HasRun state faults (record { command = command; script = script; given = given; left = left; log = log }) past → StayOpenable state given left
     ran past run open' = record {
       honest = λ k new is. let old = given_at k new is in (run.disks k old.0 new old.1 is).honest (open'.honest k old.0 old.1);
       hold = λ images are.
@@ -181,15 +182,15 @@ module _ {D : Type 0} (state : D → DiskState) (given left : List D) (count : l
           (run.disks k old.0 new.0 old.1 new.1).stands (open'.honest k old.0 old.1) image (are.each k new.0 image new.1 is));
     }
 
-    either : IsUntouchedOrRun state faults (record { script = script; given = given; left = left; log = log }) → StayOpenable state given left
+    either : IsUntouchedOrRun state faults (record { command = command; script = script; given = given; left = left; log = log }) → StayOpenable state given left
     either (inl same) = untouched same.0
     either (inr run) = ran log run
 
-    early : EndsEarly state faults (record { script = script; given = given; left = left; log = log }) → StayOpenable state given left
+    early : EndsEarly state faults (record { command = command; script = script; given = given; left = left; log = log }) → StayOpenable state given left
     early (inl same) = untouched same.0
     early (inr run) = ran run.0 run.1
 
-    pub stay : (due : Due) → ComesTo state faults (record { script = script; given = given; left = left; log = log }) due → StayOpenable state given left
+    pub stay : (due : Due) → ComesTo state faults (record { command = command; script = script; given = given; left = left; log = log }) due → StayOpenable state given left
     stay (Report text) done = ran log (record {
       records = done.records;
       shown = done.shown;

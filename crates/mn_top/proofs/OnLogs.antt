@@ -19,6 +19,7 @@ use Rattle.mn_redo.specs.Grammar.{Stands}
 use Rattle.mn_redo.specs.Redo.{RedoState, StandsFor}
 use Rattle.mn_callers.specs.Trace.{MayBegin}
 use Rattle.mn_script.specs.Script.{Script}
+use Rattle.mn_top.specs.declared.words.Command.{Command}
 use Rattle.mn_world.specs.declared.entry.Entry.{Entry}
 use Rattle.mn_world.specs.Opened.{AreSound}
 use Rattle.mn_world.specs.Protocol.{start_of, start_records}
@@ -124,24 +125,24 @@ module _ {D : Type 0} (state : D → DiskState) (faults : D → ℕ) (given : Li
 
   -- Where there is no run
 
-  pub misfit : (script : Script) (left : List D) (log : List (ℕ × Entry)) (due : Due) → AreUnwritten state given left → log ≡ [] → AreJudged records due
-      → ComesTo state faults (record { script = script; given = given; left = left; log = log }) due
-  misfit script left log (Damaged n place Votes) same none judged = ((same, none), (records, shown, judged))
-  misfit script left log (Damaged n place Both) same none judged = ((same, none), (records, shown, judged))
-  misfit script left log (Damaged n place (Forest rule)) same none judged = ((same, none), (records, shown, judged))
-  misfit script left log (Damaged n place Runs) same none judged = ((same, none), (records, shown, judged))
-  misfit script left log (Damaged n place Log) same none judged = absurd judged
-  misfit script left log (Damaged n place Kept) same none judged = absurd judged
-  misfit script left log NoMemory same none judged = inl (same, none)
-  misfit script left log (Report text) same none judged = absurd judged
-  misfit script left log (DiskFault n) same none judged = absurd judged
-  misfit script left log Usage same none judged = absurd judged
-  misfit script left log (Refused row column) same none judged = absurd judged
-  misfit script left log ReadFault same none judged = absurd judged
-  misfit script left log (Disks told wanted) same none judged = absurd judged
-  misfit script left log Unbuilt same none judged = absurd judged
+  pub misfit : (command : Command) (script : Script) (left : List D) (log : List (ℕ × Entry)) (due : Due) → AreUnwritten state given left → log ≡ [] → AreJudged records due
+      → ComesTo state faults (record { command = command; script = script; given = given; left = left; log = log }) due
+  misfit command script left log (Damaged n place Votes) same none judged = ((same, none), (records, shown, judged))
+  misfit command script left log (Damaged n place Both) same none judged = ((same, none), (records, shown, judged))
+  misfit command script left log (Damaged n place (Forest rule)) same none judged = ((same, none), (records, shown, judged))
+  misfit command script left log (Damaged n place Runs) same none judged = ((same, none), (records, shown, judged))
+  misfit command script left log (Damaged n place Log) same none judged = absurd judged
+  misfit command script left log (Damaged n place Kept) same none judged = absurd judged
+  misfit command script left log NoMemory same none judged = inl (same, none)
+  misfit command script left log (Report text) same none judged = absurd judged
+  misfit command script left log (DiskFault n) same none judged = absurd judged
+  misfit command script left log Usage same none judged = absurd judged
+  misfit command script left log (Refused row column) same none judged = absurd judged
+  misfit command script left log ReadFault same none judged = absurd judged
+  misfit command script left log (Disks told wanted) same none judged = absurd judged
+  misfit command script left log Unbuilt same none judged = absurd judged
 
-  module _ (script : Script) (left : List D) (due : Due) (werent : WerentStarted state faults redos left due) (store : Store) (number : ℕ) (made : MakeStart records store number) where
+  module _ (command : Command) (script : Script) (left : List D) (due : Due) (werent : WerentStarted state faults redos left due) (store : Store) (number : ℕ) (made : MakeStart records store number) where
     list_is : (k : ℕ) (list : List Record) → slice_get records k ≡ Some list → list ≡ reverse (start_records (start_of records) (numbered k))
     list_is k list is = sym (get_or_from_slice_get records k list [] is) ∙ sym (reverse-reverse (slice_index_or records k []))
 
@@ -167,10 +168,10 @@ module _ {D : Type 0} (state : D → DiskState) (faults : D → ℕ) (given : Li
           kept = λ h. tt;
         }
 
-    no_run : HasRun state faults (record { script = script; given = given; left = left; log = [] }) []
+    no_run : HasRun state faults (record { command = command; script = script; given = given; left = left; log = [] }) []
     no_run = record { records = records; shown = shown; store = store; opened = made.opened; numbered_so = made.numbered_so; run = record { places = refl; run = tt }; disks = still_at }
 
-    fault_at : (due' : Due) → IsDueAtStart faults redos left due' → ComesTo state faults (record { script = script; given = given; left = left; log = [] }) due'
+    fault_at : (due' : Due) → IsDueAtStart faults redos left due' → ComesTo state faults (record { command = command; script = script; given = given; left = left; log = [] }) due'
     fault_at (DiskFault n) failed =
         let low = within redos n failed.redo failed.was in
         let old = old_at n low in
@@ -192,5 +193,5 @@ module _ {D : Type 0} (state : D → DiskState) (faults : D → ℕ) (given : Li
     fault_at (Disks told wanted) is_told = absurd is_told
     fault_at Unbuilt told = absurd told
 
-    pub not_started : ComesTo state faults (record { script = script; given = given; left = left; log = [] }) due
+    pub not_started : ComesTo state faults (record { command = command; script = script; given = given; left = left; log = [] }) due
     not_started = fault_at due werent.due_is

@@ -16,9 +16,9 @@ use Rattle.mn_node.specs.State.{NodeState}
 use Rattle.mn_node.proofs.Steps.{rose_later}
 use Rattle.mn_redo.specs.Redo.{StandsFor}
 use Rattle.mn_callers.specs.Failed.{FailsSo, HadOther, HasCause, IsRunOn, TellsRun}
-use Rattle.mn_replay.specs.Follows.{Follows}
 use Rattle.mn_callers.specs.Trace.{AreHandedBack, IsHandedBack, IsQuiet, IsTrace, StartsSound, start_on}
 use Rattle.mn_script.specs.Script.{Script}
+use Rattle.mn_top.specs.declared.words.Command.{Command}
 use Rattle.mn_world.specs.declared.entry.Entry.{Entry}
 use Rattle.mn_world.specs.Calls.{node_entries}
 use Rattle.mn_world.specs.Nodes.{added_by, is_down, stopped_request}
@@ -29,7 +29,7 @@ use Rattle.mn_top.specs.declared.due.Due.TheVariants.{Report, Usage, Refused, Re
 use Rattle.mn_top.specs.Ending.{ComesTo, HasRun}
 use Rattle.mn_top.specs.Logs.{AllCloseSo, AreReady, ClosesSo, IsReady, IsToldOf, MakeStart, due_of_failing}
 use Rattle.mn_top.specs.Opening.{Show}
-use Rattle.mn_top.specs.Replayed.{IsLeft, StandsAsLogged, left_behind}
+use Rattle.mn_top.specs.Replayed.{FollowsBy, IsLeft, StandsAsLogged, left_behind}
 use Rattle.mn_top.proofs.Gets.{map_at, mapped_at, there_at, within}
 use Rattle.mn_top.proofs.Starting.{all_at}
 
@@ -113,7 +113,7 @@ module _ {D : Type 0} (state : D → DiskState) (faults : D → ℕ) (given : Li
   start_same : start_on nodes ≡ start_of records
   start_same = ap start_of records_same
 
-  module _ (shown : Show state given records) (after : List (NodeState D)) (left : List D) (script : Script) (count : length after ≡ length nodes) (close : AllCloseSo state after) (is : left ≡ map (λ (w : NodeState D). w.disk) after)
+  module _ (shown : Show state given records) (after : List (NodeState D)) (left : List D) (command : Command) (script : Script) (count : length after ≡ length nodes) (close : AllCloseSo state after) (is : left ≡ map (λ (w : NodeState D). w.disk) after)
       (store : Store) (number : ℕ) (made' : MakeStart (map (λ (m : NodeState D). m.records) nodes) store number) where
     made : MakeStart records store number
     made = subst (λ (l : List (List Record)). MakeStart l store number) records_same made'
@@ -150,13 +150,13 @@ module _ {D : Type 0} (state : D → DiskState) (faults : D → ℕ) (given : Li
     same_run : (past : List (ℕ × Entry)) → IsRunOn state faults nodes after past → IsLogOfRun (start_of records) past × AreHandedBack state faults (start_of records) (entries_of past) nodes after
     same_run past run = subst (λ (s : Start). IsLogOfRun s past × AreHandedBack state faults s (entries_of past) nodes after) start_same run
 
-    has_run : (log past : List (ℕ × Entry)) → IsRunOn state faults nodes after past → HasRun state faults (record { script = script; given = given; left = left; log = log }) past
+    has_run : (log past : List (ℕ × Entry)) → IsRunOn state faults nodes after past → HasRun state faults (record { command = command; script = script; given = given; left = left; log = log }) past
     has_run log past run = let so = same_run past run in
         record { records = records; shown = shown; store = store; opened = made.opened; numbered_so = made.numbered_so; run = so.0; disks = left_at (entries_of past) so.1 }
 
     -- a run that failed
     failed_so : (log : List (ℕ × Entry)) (cause : RunCause) → HasCause state faults nodes after log cause → TellsRun state faults nodes after log cause
-        → ComesTo state faults (record { script = script; given = given; left = left; log = log }) (due_of_failing cause)
+        → ComesTo state faults (record { command = command; script = script; given = given; left = left; log = log }) (due_of_failing cause)
     unfolding has_run
     failed_so log (runs.Disk n) (at, rose) run =
         let old = given_at n.0 at.before at.was in
@@ -185,7 +185,7 @@ module _ {D : Type 0} (state : D → DiskState) (faults : D → ℕ) (given : Li
     failed_so log runs.NoMemory none (past, run) = inr (past, has_run log past run, inr none)
 
     -- a run that is done
-    told_so : (log : List (ℕ × Entry)) → IsTrace state faults nodes after log → Follows (start_on nodes) script (entries_of log) → (due : Due) → IsToldOf (start_of records) store script (entries_of log) due → ComesTo state faults (record { script = script; given = given; left = left; log = log }) due
+    told_so : (log : List (ℕ × Entry)) → IsTrace state faults nodes after log → FollowsBy command (start_on nodes) script (entries_of log) → (due : Due) → IsToldOf (start_of records) store script (entries_of log) due → ComesTo state faults (record { command = command; script = script; given = given; left = left; log = log }) due
     told_so log trace follows (Report text) (report, audit, spelled) =
         let so = same_run log (trace.run, trace.back) in
         let quiet = subst (λ (s : Start). StartsSound s → IsQuiet s (entries_of log)) start_same trace.quiet made.opened.sound in
@@ -196,7 +196,7 @@ module _ {D : Type 0} (state : D → DiskState) (faults : D → ℕ) (given : Li
           opened = made.opened;
           numbered_so = made.numbered_so;
           run = so.0;
-          follows = subst (λ (s : Start). Follows s script (entries_of log)) start_same follows;
+          follows = subst (λ (s : Start). FollowsBy command s script (entries_of log)) start_same follows;
           report = report;
           audit = audit;
           printed = spelled;
@@ -212,8 +212,8 @@ module _ {D : Type 0} (state : D → DiskState) (faults : D → ℕ) (given : Li
     told_so log trace follows (Disks told wanted) is_told = absurd is_told
     told_so log trace follows Unbuilt told = absurd told
 
-    pub played : (log : List (ℕ × Entry)) (due : Due) → IsTrace state faults nodes after log → Follows (start_on nodes) script (entries_of log) → IsToldOf (start_on nodes) store script (entries_of log) due → ComesTo state faults (record { script = script; given = given; left = left; log = log }) due
+    pub played : (log : List (ℕ × Entry)) (due : Due) → IsTrace state faults nodes after log → FollowsBy command (start_on nodes) script (entries_of log) → IsToldOf (start_on nodes) store script (entries_of log) due → ComesTo state faults (record { command = command; script = script; given = given; left = left; log = log }) due
     played log due trace follows told = told_so log trace follows due (subst (λ (s : Start). IsToldOf s store script (entries_of log) due) start_same told)
 
-    pub failed : (log : List (ℕ × Entry)) (cause : RunCause) → FailsSo state faults nodes after log cause → ComesTo state faults (record { script = script; given = given; left = left; log = log }) (due_of_failing cause)
+    pub failed : (log : List (ℕ × Entry)) (cause : RunCause) → FailsSo state faults nodes after log cause → ComesTo state faults (record { command = command; script = script; given = given; left = left; log = log }) (due_of_failing cause)
     failed log cause fails = failed_so log cause fails.cause_is fails.told

@@ -8,6 +8,7 @@ use Rattle.mn_mini.specs.declared.record.Record.{Record}
 use Rattle.mn_redo.specs.Grammar.{Stands}
 use Rattle.mn_redo.specs.Redo.{RedoState}
 use Rattle.mn_script.specs.Script.{Script}
+use Rattle.mn_top.specs.declared.words.Command.{Command}
 use Rattle.mn_top.specs.declared.due.DamageRule.TheVariants.{Log, Votes, Both, Forest, Runs, Kept}
 use Rattle.mn_top.specs.declared.due.Due.{Due}
 use Rattle.mn_top.specs.declared.due.Due.TheVariants.{Report, Usage, Refused, ReadFault, DiskFault, Damaged, NoMemory, Disks, Unbuilt}
@@ -110,8 +111,8 @@ module _ {D : Type 0} (state : D → DiskState) (faults : D → ℕ) (is_disk : 
     left_count = let low = within given (length redos) disk at in
         omega (arith, ap (λ (l : List D). length l) is, length-append (map (λ (r : RedoState D). r.disk) redos) (bad ∷ drop (length redos + 1) given), count, low, length-drop (length redos + 1) given)
 
-    so : (script : Script) (due' : Due) → IsDueOf state faults (length given) (length redos) disk bad due' → ComesTo state faults (record { script = script; given = given; left = left; log = [] }) due'
-    so script (DiskFault n) (here, rose) = record {
+    so : (command : Command) (script : Script) (due' : Due) → IsDueOf state faults (length given) (length redos) disk bad due' → ComesTo state faults (record { command = command; script = script; given = given; left = left; log = [] }) due'
+    so command script (DiskFault n) (here, rose) = record {
       old = disk;
       new = bad;
       was = ap (slice_get given) here ∙ at;
@@ -119,7 +120,7 @@ module _ {D : Type 0} (state : D → DiskState) (faults : D → ℕ) (is_disk : 
       rose = rose;
       log = inl (untouched, refl);
     }
-    so script (Damaged n place Log) (here, bad_log) = (
+    so command script (Damaged n place Log) (here, bad_log) = (
       (untouched, refl),
       record {
         disk = disk;
@@ -128,18 +129,18 @@ module _ {D : Type 0} (state : D → DiskState) (faults : D → ℕ) (is_disk : 
         before = λ m d low is. reads_before m d (subst (λ (k : ℕ). m < k) here low) is;
       },
     )
-    so script NoMemory told = inl (untouched, refl)
-    so script (Damaged n place Votes) told = absurd told
-    so script (Damaged n place Both) told = absurd told
-    so script (Damaged n place (Forest rule)) told = absurd told
-    so script (Damaged n place Runs) told = absurd told
-    so script (Damaged n place Kept) told = absurd told
-    so script (Report text) told = absurd told
-    so script Usage told = absurd told
-    so script (Refused row column) told = absurd told
-    so script ReadFault told = absurd told
-    so script (Disks told wanted) is_told = absurd is_told
-    so script Unbuilt told = absurd told
+    so command script NoMemory told = inl (untouched, refl)
+    so command script (Damaged n place Votes) told = absurd told
+    so command script (Damaged n place Both) told = absurd told
+    so command script (Damaged n place (Forest rule)) told = absurd told
+    so command script (Damaged n place Runs) told = absurd told
+    so command script (Damaged n place Kept) told = absurd told
+    so command script (Report text) told = absurd told
+    so command script Usage told = absurd told
+    so command script (Refused row column) told = absurd told
+    so command script ReadFault told = absurd told
+    so command script (Disks told wanted) is_told = absurd is_told
+    so command script Unbuilt told = absurd told
 
-    pub wasnt_opened : (script : Script) → ComesTo state faults (record { script = script; given = given; left = left; log = [] }) due
-    wasnt_opened script = so script due wasnt.due_is
+    pub wasnt_opened : (command : Command) (script : Script) → ComesTo state faults (record { command = command; script = script; given = given; left = left; log = [] }) due
+    wasnt_opened command script = so command script due wasnt.due_is

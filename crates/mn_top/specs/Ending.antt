@@ -1,4 +1,4 @@
--- What a replay on disks may come to, by what is due.
+-- What a script that is played on disks may come to, by what is due.
 use Rattle.std.specs.Prelude.{ℕ, ◌≡◌, ◌⊎◌, true, List, [], length, slice_get, Some, Option}
 use Rattle.mn_base.specs.Store.{Store}
 use Rattle.mn_cell.specs.Calls.{numbered}
@@ -16,6 +16,7 @@ use Rattle.mn_world.specs.Nodes.{is_down}
 use Rattle.mn_world.specs.Opened.{AreSound, opened_memory}
 use Rattle.mn_world.specs.Protocol.{start_of, start_records}
 use Rattle.mn_world.specs.Run.{IsLogOfRun, entries_of}
+use Rattle.mn_top.specs.declared.words.Command.{Command}
 use Rattle.mn_top.specs.declared.due.DamageRule.{DamageRule}
 use Rattle.mn_top.specs.declared.due.DamageRule.TheVariants.{Log, Votes, Both, Forest, Runs, Kept}
 use Rattle.mn_top.specs.declared.due.Due.{Due}
@@ -23,9 +24,10 @@ use Rattle.mn_top.specs.declared.due.Due.TheVariants.{Report, DiskFault, Damaged
 use Rattle.mn_top.specs.Opening.{AreUnwritten, HasNumber, IsFirstBadLog, IsOpenedAs, Show}
 use Rattle.mn_top.specs.Replayed.{IsLeft, IsReplayed}
 
--- a replay of a script on disks: as they were given and as they are left, and the log, which is
--- empty where none was made
+-- a script that is played on disks by a command: the disks as they were given and as they are left,
+-- and the log, which is empty where none was made
 pub record Replaying (D : Type 0) : Type 0 where
+  pub command : Command
   pub script : Script
   pub given : List D
   pub left : List D
@@ -106,10 +108,10 @@ IsDamage state faults r n place rule =
     IsUntouched state r × ((records : List (List Record)) × Show state r.given records
     × Misfits records n place rule)
 
--- A report comes of a replay that is done. Want of memory is free.
+-- A report comes of a script that was played to its end. Want of memory is free.
 abbrev pub ComesTo : {D : Type 0} → (D → DiskState) → (D → ℕ) → Replaying D → Due → Type 0
 ComesTo state faults r (Report text) =
-    IsReplayed state faults r.script r.given r.left r.log text
+    IsReplayed state faults r.command r.script r.given r.left r.log text
 ComesTo state faults r (DiskFault n) = HasFailed state faults r n
 ComesTo state faults r (Damaged n place rule) = IsDamage state faults r n place rule
 ComesTo state faults r NoMemory = EndsEarly state faults r

@@ -14,9 +14,10 @@ use Rattle.mn_top.specs.declared.due.DamageRule.TheVariants.{Log, Votes, Both, F
 use Rattle.mn_top.specs.declared.due.Due.{Due}
 use Rattle.mn_top.specs.declared.due.Due.TheVariants.{Report, Usage, Refused, ReadFault, DiskFault}
 use Rattle.mn_top.specs.declared.due.Due.TheVariants.{Damaged, NoMemory, Disks, Unbuilt}
+use Rattle.mn_top.specs.declared.words.Command.{Command}
 use Rattle.mn_top.specs.Ending.{ComesTo}
 use Rattle.mn_world.specs.declared.entry.Entry.{Entry}
-use Rattle.mn_top.specs.Words.{Asked, Asks, AskNothing, AskReplay, is_there}
+use Rattle.mn_top.specs.Words.{Asked, Asks, AskFor, AskNothing, AskScript, is_there}
 
 -- What is written
 
@@ -87,39 +88,40 @@ IsTextOf known script = IfSome known (λ text. script_of text ≡ Ok script)
 -- is known, whether the source failed, and how many disks were given
 abbrev pub IsDueBefore : List (List ℕ) → Option (List ℕ) → Type 0 → ℕ → Due → Type 0
 IsDueBefore words known failed given Usage = AskNothing words
-IsDueBefore words known failed given ReadFault = AskReplay words given × failed
+IsDueBefore words known failed given ReadFault = AskScript words given × failed
 IsDueBefore words known failed given (Refused row column) =
-    AskReplay words given × IfSome known (λ text. script_of text ≡ Err (WrongText row column))
+    AskScript words given × IfSome known (λ text. script_of text ≡ Err (WrongText row column))
 IsDueBefore words known failed given (Disks told wanted) =
     (told ≡ given) × (given ≢ wanted)
-    × (AskReplay words wanted ⊎ (AskReplay words given
+    × (AskScript words wanted ⊎ (AskScript words given
     × ((script : Script) × IsTextOf known script × (script.nodes ≡ wanted))))
 IsDueBefore words known failed given Unbuilt =
     (asked : Asked) × Asks words asked × (is_there asked.command asked.folder ≡ false)
 IsDueBefore words known failed given NoMemory = Unit {0}
 IsDueBefore words known failed given due = ⊥
 
--- the words ask to replay a script of as many nodes as there are disks, and the source held it and
--- no more
+-- the words ask to play a script of as many nodes as there are disks by this command, and the
+-- source held it and no more
 pub record IsCalled (words : List (List ℕ)) (known : Option (List ℕ)) (ended : Type 0) (given : ℕ)
-    (script : Script) : Type 0 where
-  pub asked : AskReplay words given
+    (command : Command) (script : Script) : Type 0 where
+  pub asked : AskFor words command given
   pub spelled : IsTextOf known script
   pub nodes : script.nodes ≡ given
   pub whole : ended
 
--- the script was replayed on the disks that were given, and came to this
+-- the script was played on the disks that were given, and came to this
 pub record Meets {D : Type 0} (state : D → DiskState) (faults : D → ℕ) (words : List (List ℕ))
     (known : Option (List ℕ)) (ended : Type 0) (given left : List D) (log : List (ℕ × Entry))
     (due : Due) : Type 0 where
+  pub command : Command
   pub script : Script
-  pub called : IsCalled words known ended (length given) script
+  pub called : IsCalled words known ended (length given) command script
   pub count : length left ≡ length given
   pub so : ComesTo state faults
-      (record { script = script; given = given; left = left; log = log }) due
+      (record { command = command; script = script; given = given; left = left; log = log }) due
 
--- What may be due: without the disks, which are then handed back as they were; or of a replay on
--- them
+-- What may be due: without the disks, which are then handed back as they were; or of a script that
+-- is played on them
 abbrev pub IsDue : {D : Type 0} → (D → DiskState) → (D → ℕ) → List (List ℕ) → Option (List ℕ)
     → Type 0 → Type 0 → List D → List D → List (ℕ × Entry) → Due → Type 0
 IsDue state faults words known failed ended given left log due =

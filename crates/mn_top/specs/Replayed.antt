@@ -1,4 +1,4 @@
--- The headline: what the program has done where it writes the report on a replay.
+-- The headline: what the program has done where it writes the report on a script.
 use Rattle.std.specs.Prelude.{ℕ, ◌≡◌, List, reverse, slice_get, Option, Some, None}
 use Rattle.std.specs.Prelude.{if◌then◌else◌}
 use Rattle.mn_base.specs.Store.{Store}
@@ -23,6 +23,9 @@ use Rattle.mn_world.specs.Nodes.{added_by, is_down, stopped_request}
 use Rattle.mn_world.specs.Protocol.{Start, base_at, records_of, start_nodes, start_of}
 use Rattle.mn_world.specs.Protocol.{start_records}
 use Rattle.mn_world.specs.Run.{IsLogOfRun, entries_of}
+use Rattle.mn_cluster.specs.Follows.{FollowsOnThreads}
+use Rattle.mn_top.specs.declared.words.Command.{Command}
+use Rattle.mn_top.specs.declared.words.Command.TheVariants.{Run}
 use Rattle.mn_top.specs.Opening.{HasNumber, IsOpenedAs, Show}
 
 -- the record that may stand behind those of the node: while it is down, the one that the request
@@ -56,10 +59,15 @@ StandsAsLogged state start past n given left =
     (state given).honest → StandsFor (state left) n.0 (start_nodes start)
     (bodies_of (reverse (records_of start past n)))
 
--- From what the disks showed, a replay of the script has made this log, left these disks, and this
--- is the text of its report.
-pub record IsReplayed {D : Type 0} (state : D → DiskState) (faults : D → ℕ) (script : Script)
-    (given left : List D) (log : List (ℕ × Entry)) (text : List ℕ) : Type 0 where
+-- the log follows the script, act by act or, on threads, by the marks of its clients
+abbrev pub FollowsBy : Command → Start → Script → List Entry → Type 0
+FollowsBy Run start script past = FollowsOnThreads start script past
+FollowsBy command start script past = Follows start script past
+
+-- From what the disks showed, the script was played by the command and has made this log, left
+-- these disks, and this is the text of its report.
+pub record IsReplayed {D : Type 0} (state : D → DiskState) (faults : D → ℕ) (command : Command)
+    (script : Script) (given left : List D) (log : List (ℕ × Entry)) (text : List ℕ) : Type 0 where
   -- shown at opening
   pub records : List (List Record)
   pub shown : Show state given records
@@ -69,7 +77,7 @@ pub record IsReplayed {D : Type 0} (state : D → DiskState) (faults : D → ℕ
   -- however proxies, nodes, crashes, restarts and recovery coordinators interleave
   pub run : IsLogOfRun (start_of records) log
   -- as the script says
-  pub follows : Follows (start_of records) script (entries_of log)
+  pub follows : FollowsBy command (start_of records) script (entries_of log)
   -- the operations that took effect or were replied to are, in commit order, one legal history, and
   -- printed answers are that history's
   pub report : Report

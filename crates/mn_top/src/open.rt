@@ -5,6 +5,7 @@ ghost use Rattle.std.specs.List.{flat_map};
 ghost use Rattle.mn_base.specs.Store.{Store};
 ghost use Rattle.mn_mini.specs.Node.{greatest_run, record_run};
 ghost use Rattle.mn_script.specs.Script.{Script};
+ghost use Rattle.mn_top.specs.declared.words.Command.{Command};
 ghost use Rattle.mn_top.specs.Ending.{ComesTo};
 ghost use Rattle.mn_top.specs.Logs.{AllRead, AreJudged, MakeStart, WasRead, WasRefused};
 ghost use Rattle.mn_top.specs.Logs.{WasntRead};
@@ -122,8 +123,9 @@ pub fn open_all<D: Disk>(alloc: Global, disks: Vec<D>) -> Result<Logs<D>, NotOpe
     ensures room { IfOk result (λ logs. (logs.room.items ≡ [])
         × (length disks.items ≤ vec_capacity logs.room)) }
     ensures count { IfErr result (λ failed. length failed.disks.items ≡ length disks.items) }
-    ensures due { (script : Script) → IfErr result (λ failed.
+    ensures due { (command : Command) (script : Script) → IfErr result (λ failed.
         ComesTo D.state D.faults (record {
+          command = command;
           script = script;
           given = disks.items;
           left = failed.disks.items;

@@ -1,23 +1,28 @@
-//! A replay on disks: they are opened, their nodes started, the script is run, and they are closed.
+//! A script on disks: they are opened, their nodes started, it is replayed or run, and they are
+//! closed.
 ghost use Rattle.std.specs.Prelude.{◌≡◌, ◌≤◌, ◌+◌, ◌++◌, ◌∷◌, [], List, IfOk, IfErr, length, map};
 ghost use Rattle.std.specs.Prelude.{reverse, vec_capacity};
 ghost use Rattle.mn_base.specs.Store.{Store};
 ghost use Rattle.mn_mini.specs.declared.record.Record.{Record};
-ghost use Rattle.mn_callers.specs.Trace.{MayBegin, start_on};
+ghost use Rattle.mn_callers.specs.Failed.{FailsSo};
+ghost use Rattle.mn_callers.specs.Trace.{IsTrace, MayBegin, start_on};
 ghost use Rattle.mn_top.specs.Ending.{ComesTo};
 ghost use Rattle.mn_top.specs.Logs.{AllCloseSo, AllRead, AreReady, AreStarted, IsToldOf, MakeStart};
 ghost use Rattle.mn_top.specs.Logs.{MayAllBeStarted, WerentStarted, due_of_failing};
 ghost use Rattle.mn_top.specs.Opening.{Show};
+ghost use Rattle.mn_top.specs.Replayed.{FollowsBy};
 ghost use Rattle.mn_top.specs.declared.due.Due.TheVariants.{Report};
 ghost use Rattle.mn_world.specs.Meaning.{OpenedRun};
-ghost use Rattle.mn_world.specs.Protocol.{Start};
+ghost use Rattle.mn_world.specs.Protocol.{Start, run_number};
 ghost use Rattle.mn_world.specs.Run.{entries_of};
 
 use crate::damage::due_of_start;
 use crate::due::{DamageRule, Due};
 use crate::open::{Judged, Logs, NotOpened, close_all, judge, open_all};
-use mn_base::{Bytes, NoMemory, NodeNo};
+use crate::words::Command;
+use mn_base::{Bytes, Gate, NoMemory, NodeNo};
 use mn_cell::{RunCause, RunFailed, Trace};
+use mn_cluster::run_threads;
 use mn_hist::audit;
 use mn_io::Disk;
 use mn_node::{Node, StartFailed};
@@ -28,6 +33,8 @@ use mn_report::write_report;
 use mn_script::Script;
 use mn_world::Log;
 use std::alloc::Global;
+use std::sync::Wait;
+use std::thread::Threads;
 
 /// What is due, the disks handed back in order, and the log, which is empty where none was made.
 pub struct Ended<D> {
@@ -185,10 +192,38 @@ fn due_of_cause(cause: RunCause) -> Due
     }
 }
 
-/// Plays the script on the nodes, whose records make this store.
-fn play_on<D: Disk>(
+/// Runs the script on threads, or replays it, as the command says.
+fn run_script<T: Threads + Wait + Sync, D: Disk + Send, G: Gate + Sync>(
+    rt: &T,
     alloc: Global,
+    gate: &G,
+    nodes: Vec<Node<D>>,
+    command: Command,
+    script: &Script,
+    run: u32,
+) -> Result<Trace<D>, RunFailed<D>>
+    requires nodes { MayBegin script.now.nodes nodes.items }
+    requires run { run ≡ run_number (start_on nodes.items) }
+    ensures trace { IfOk result (λ trace. IsTrace D.state D.faults nodes.items trace.nodes.items
+        trace.log) }
+    ensures follows { IfOk result (λ trace. FollowsBy command (start_on nodes.items) script.now
+        (entries_of trace.log)) }
+    ensures failed { IfErr result (λ failed. FailsSo D.state D.faults nodes.items
+        failed.nodes.items failed.log failed.cause) }
+{
+    match command {
+        Command::Run => run_threads(rt, alloc, gate, nodes, script, run),
+        _ => replay(alloc, nodes, script, run),
+    }
+}
+
+/// Plays the script on the nodes, whose records make this store.
+fn play_on<T: Threads + Wait + Sync, D: Disk + Send, G: Gate + Sync>(
+    rt: &T,
+    alloc: Global,
+    gate: &G,
     started: Started<D>,
+    command: Command,
     script: &Script,
     judged: &Judged,
 ) -> Ended<D>
@@ -202,6 +237,7 @@ fn play_on<D: Disk>(
         → Show D.state given records
         → AreReady D.state D.faults given records started.nodes.items
         → ComesTo D.state D.faults (record {
+          command = command;
           script = script.now;
           given = given;
           left = result.disks.items;
@@ -209,7 +245,7 @@ fn play_on<D: Disk>(
         }) result.due }
 {
     let Started { nodes, room } = started;
-    match replay(alloc, nodes, script, judged.run) {
+    match run_script(rt, alloc, gate, nodes, command, script, judged.run) {
         Ok(Trace { nodes, log }) => Ended {
             due: due_of_trace(alloc, &judged.store, &log, script),
             disks: close_nodes(nodes, room),
@@ -224,7 +260,14 @@ fn play_on<D: Disk>(
 }
 
 /// Plays the script on the logs, if their records make a store.
-fn on_logs<D: Disk>(alloc: Global, logs: Logs<D>, script: &Script) -> Ended<D>
+fn on_logs<T: Threads + Wait + Sync, D: Disk + Send, G: Gate + Sync>(
+    rt: &T,
+    alloc: Global,
+    gate: &G,
+    logs: Logs<D>,
+    command: Command,
+    script: &Script,
+) -> Ended<D>
     requires read { (given : List D)
         × AllRead D.state D.faults given logs.redos.items logs.records.items }
     requires nodes { script.now.nodes ≡ length logs.redos.items }
@@ -236,6 +279,7 @@ fn on_logs<D: Disk>(alloc: Global, logs: Logs<D>, script: &Script) -> Ended<D>
     ensures comes_to { (given : List D)
         → AllRead D.state D.faults given logs.redos.items logs.records.items
         → ComesTo D.state D.faults (record {
+          command = command;
           script = script.now;
           given = given;
           left = result.disks.items;
@@ -252,18 +296,26 @@ fn on_logs<D: Disk>(alloc: Global, logs: Logs<D>, script: &Script) -> Ended<D>
         Err(due) => return without_log(alloc, close_all(redos, room), due),
     };
     match start_all(alloc, redos, room) {
-        Ok(started) => play_on(alloc, started, script, &judged),
+        Ok(started) => play_on(rt, alloc, gate, started, command, script, &judged),
         Err(NotOpened { disks, due }) => without_log(alloc, disks, due),
     }
 }
 
 /// Opens the disks, plays the script on them, and tells what is due.
-pub fn play<D: Disk>(alloc: Global, disks: Vec<D>, script: &Script) -> Ended<D>
+pub fn play<T: Threads + Wait + Sync, D: Disk + Send, G: Gate + Sync>(
+    rt: &T,
+    alloc: Global,
+    gate: &G,
+    disks: Vec<D>,
+    command: Command,
+    script: &Script,
+) -> Ended<D>
     requires nodes { script.now.nodes ≡ length disks.items }
     requires some { 1 ≤ length disks.items }
     requires few { length disks.items ≤ 8 }
     ensures count { length result.disks.items ≡ length disks.items }
     ensures comes_to { ComesTo D.state D.faults (record {
+      command = command;
       script = script.now;
       given = disks.items;
       left = result.disks.items;
@@ -271,7 +323,7 @@ pub fn play<D: Disk>(alloc: Global, disks: Vec<D>, script: &Script) -> Ended<D>
     }) result.due }
 {
     match open_all(alloc, disks) {
-        Ok(logs) => on_logs(alloc, logs, script),
+        Ok(logs) => on_logs(rt, alloc, gate, logs, command, script),
         Err(NotOpened { disks, due }) => without_log(alloc, disks, due),
     }
 }

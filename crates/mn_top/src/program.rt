@@ -4,7 +4,7 @@ ghost use Rattle.mn_io.specs.Faults.{Rose};
 ghost use Rattle.mn_script.specs.Reading.{script_of as read_as};
 ghost use Rattle.mn_top.specs.declared.due.Due.{Due};
 ghost use Rattle.mn_top.specs.Crashes.{StayOpenable};
-ghost use Rattle.mn_top.specs.Words.{AskReplay};
+ghost use Rattle.mn_top.specs.Words.{AskScript};
 ghost use Rattle.mn_top.specs.Program.{Finishes, IsCalled, IsDue, IsDueBefore};
 
 use crate::clap_words::read_words;
@@ -12,7 +12,7 @@ use crate::due::Due;
 use crate::finish::finish;
 use crate::outcome::Outcome;
 use crate::play::{Ended, play, without_log};
-use crate::words::Words;
+use crate::words::{Command, Words};
 use mn_base::Gate;
 use mn_io::{Disk, ReadError, Sink, Source, read_all};
 use mn_script::{Script, ScriptError, read_script};
@@ -28,7 +28,7 @@ const MAX_SCRIPT: usize = 4_194_304;
 fn text_of<R: Source>(alloc: Global, source: &mut R) -> Result<mn_io::Bytes, Due>
     ensures text { IfOk result (λ text. IfSome (R.remaining source.old) (λ known. text ≡ known)) }
     ensures whole { IfOk result (λ text. IsAtEnd (R.remaining source.new)) }
-    ensures due { (words : List (List ℕ)) (given : ℕ) → AskReplay words given
+    ensures due { (words : List (List ℕ)) (given : ℕ) → AskScript words given
         → IfErr result (IsDueBefore words (R.remaining source.old)
         (Rose (R.faults source.old) (R.faults source.new)) given) }
 {
@@ -44,7 +44,7 @@ fn text_of<R: Source>(alloc: Global, source: &mut R) -> Result<mn_io::Bytes, Due
 fn script_of(alloc: Global, text: &[u8], given: usize) -> Result<Script, Due>
     ensures spelled { IfOk result (λ script. read_as text.now ≡ Ok script) }
     ensures nodes { IfOk result (λ script. script.nodes ≡ given) }
-    ensures due { (words : List (List ℕ)) (known : Option (List ℕ)) → AskReplay words given
+    ensures due { (words : List (List ℕ)) (known : Option (List ℕ)) → AskScript words given
         → IfSome known (λ told. text.now ≡ told) → IfErr result (IsDueBefore words known ⊥ given) }
 {
     let script = match read_script(alloc, text) {
@@ -61,6 +61,12 @@ fn script_of(alloc: Global, text: &[u8], given: usize) -> Result<Script, Due>
     Ok(script)
 }
 
+/// A script, and the command by which it is played.
+struct Task {
+    command: Command,
+    script: Script,
+}
+
 /// Reads the script that the words ask for, for so many disks, or tells what is due before a disk
 /// is touched.
 fn called<R: Source>(
@@ -68,9 +74,9 @@ fn called<R: Source>(
     words: &Words,
     source: &mut R,
     given: usize,
-) -> Result<Script, Due>
-    ensures called { IfOk result (IsCalled words.now (R.remaining source.old)
-        (IsAtEnd (R.remaining source.new)) given) }
+) -> Result<Task, Due>
+    ensures called { IfOk result (λ task. IsCalled words.now (R.remaining source.old)
+        (IsAtEnd (R.remaining source.new)) given task.command task.script) }
     ensures due { IfErr result (IsDueBefore words.now (R.remaining source.old)
         (Rose (R.faults source.old) (R.faults source.new)) given) }
 {
@@ -86,17 +92,21 @@ fn called<R: Source>(
             wanted: line.nodes,
         });
     }
+    let command = line.command;
     let text = text_of(alloc, source)?;
-    script_of(alloc, text.as_slice(), given)
+    let script = script_of(alloc, text.as_slice(), given)?;
+    Ok(Task { command, script })
 }
 
 /// Opens the disks and plays the script that the words ask for, or tells what is due before a disk
 /// is touched.
-fn ended<R: Source, D: Disk>(
+fn ended<T: Threads + Wait + Sync, R: Source, D: Disk + Send, G: Gate + Sync>(
+    rt: &T,
     alloc: Global,
     words: &Words,
     source: &mut R,
     disks: Vec<D>,
+    gate: &G,
 ) -> Ended<D>
     ensures due { IsDue D.state D.faults words.now (R.remaining source.old)
         (Rose (R.faults source.old) (R.faults source.new))
@@ -106,13 +116,15 @@ fn ended<R: Source, D: Disk>(
     runs_follow_protocol();
     stops_leave_opened();
     match called(alloc, words, source, disks.len()) {
-        Ok(script) => play(alloc, disks, &script),
+        Ok(Task { command, script }) => play(rt, alloc, gate, disks, command, &script),
         Err(due) => without_log(alloc, disks, due),
     }
 }
 
 /// Runs the program: reads the words and the script, opens the disks, plays the script on them, and
-/// writes the report, or one line that says why there is none.
+/// writes the report, or one line that says why there is none. `replay` plays it on one thread, in
+/// the order of its schedule. `run` plays it on threads, by the marks of its clients, whose calls
+/// pass the gate.
 ///
 /// | Status | Written | Comes only where |
 /// |---|---|---|
@@ -134,13 +146,13 @@ fn ended<R: Source, D: Disk>(
 /// There, at 5 and at 7 nothing is written, or each disk is as some run leaves it that began with
 /// what the disks showed.
 pub fn run_program<T: Threads + Wait + Sync, R: Source, W: Sink, D: Disk + Send, G: Gate + Sync>(
-    _rt: &T,
+    rt: &T,
     alloc: Global,
     words: &Words,
     source: &mut R,
     sink: &mut W,
     disks: Vec<D>,
-    _gate: &G,
+    gate: &G,
 ) -> Outcome<D>
     // Something was due, by the words, the text, the ends, the disks and the log; it was written
     // and its status answered, or the sink failed behind a prefix.
@@ -154,7 +166,7 @@ pub fn run_program<T: Threads + Wait + Sync, R: Source, W: Sink, D: Disk + Send,
     // Honest disks of which a crash leaves a store are handed back so, whatever was due.
     ensures crash { StayOpenable D.state disks.items result.disks.items }
 {
-    let Ended { due, disks, log } = ended(alloc, words, source, disks);
+    let Ended { due, disks, log } = ended(rt, alloc, words, source, disks, gate);
     Outcome {
         status: finish(alloc, sink, &due),
         disks,

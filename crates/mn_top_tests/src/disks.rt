@@ -19,7 +19,7 @@ const NOTHING_IS_THERE: &str =
     "a 1 ok -\nhistory 1\n1 a 1\nversion main - writable 0 e3b0c44298fc1c149afbf4c8996fb92427ae41e4649b934ca495991b7852b855\nend\n";
 
 /// One disk with these bytes, whose calls with these numbers fail.
-fn one_disk(alloc: Global, content: &[u8], fails: &[u64]) -> Result<Vec<MemoryDisk>, NoMemory> {
+pub fn one_disk(alloc: Global, content: &[u8], fails: &[u64]) -> Result<Vec<MemoryDisk>, NoMemory> {
     let mut disks = Vec::new(alloc);
     disks.push(disk_of(alloc, content, fails)?)?;
     Ok(disks)

@@ -9,3 +9,5 @@ mod program;
 mod rows;
 #[cfg(test)]
 mod statuses;
+#[cfg(test)]
+mod threads;

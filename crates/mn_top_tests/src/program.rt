@@ -1,9 +1,10 @@
 //! Calls of the program on disks in memory.
-use mn_base::{NoMemory, OpenGate};
-use mn_io::{Bytes, Calls, MemorySink, MemorySource};
+use mn_base::{Gate, NoMemory, OpenGate};
+use mn_io::{Bytes, Calls, Disk, MemorySink, MemorySource};
 use mn_memdisk::MemoryDisk;
 use mn_top::{Outcome, Words, run_program};
 use std::alloc::Global;
+use std::str;
 use std::sync::Wait;
 use std::test::Fail;
 use std::thread::Threads;
@@ -41,6 +42,17 @@ pub struct Given<'a> {
     pub sink_fails: &'a [u64],
 }
 
+impl<'a> Given<'a> {
+    /// A script of which all is read, and all that is due is written.
+    pub fn whole(script: &'a str) -> Given<'a> {
+        Given {
+            script,
+            source_fails: &[],
+            sink_fails: &[],
+        }
+    }
+}
+
 fn source_of(alloc: Global, given: &Given<'_>) -> Result<MemorySource, NoMemory> {
     Ok(MemorySource::new(
         Bytes::from_vec(given.script.as_bytes().to_vec(alloc)?),
@@ -69,10 +81,31 @@ impl Ran {
         }
     }
 
+    /// What was written.
+    pub fn text(&self) -> &str {
+        str::from_utf8(self.sink.written()).unwrap_or("")
+    }
+
     /// Whether it ended with this status and text.
     pub fn ended(&self, status: u8, written: &str) -> bool {
         self.outcome.status == status && self.sink.written() == written.as_bytes()
     }
+}
+
+/// Runs the program with these words, disks and gate. The answer is what came of it, and the sink.
+pub fn run_gated<T: Threads + Wait + Sync + AllocGlobal, D: Disk + Send + Drop, G: Gate + Sync>(
+    rt: &T,
+    words: &[&str],
+    given: &Given<'_>,
+    disks: Vec<D>,
+    gate: &G,
+) -> Result<(Outcome<D>, MemorySink), Fail> {
+    let alloc = rt.alloc();
+    let words = words_of(alloc, words)?;
+    let mut source = source_of(alloc, given)?;
+    let mut sink = sink_of(alloc, given)?;
+    let outcome = run_program(rt, alloc, &words, &mut source, &mut sink, disks, gate);
+    Ok((outcome, sink))
 }
 
 /// Runs the program with these words and disks.
@@ -82,16 +115,12 @@ pub fn run<T: Threads + Wait + Sync + AllocGlobal>(
     given: &Given<'_>,
     disks: Vec<MemoryDisk>,
 ) -> Result<Ran, Fail> {
-    let alloc = rt.alloc();
-    let words = words_of(alloc, words)?;
-    let mut source = source_of(alloc, given)?;
-    let mut sink = sink_of(alloc, given)?;
-    let outcome = run_program(rt, alloc, &words, &mut source, &mut sink, disks, &OpenGate);
+    let (outcome, sink) = run_gated(rt, words, given, disks, &OpenGate)?;
     Ok(Ran { outcome, sink })
 }
 
 /// The word for so many nodes.
-fn nodes_word(nodes: usize) -> &'static str {
+pub fn nodes_word(nodes: usize) -> &'static str {
     match nodes {
         1 => "1",
         2 => "2",
@@ -100,19 +129,27 @@ fn nodes_word(nodes: usize) -> &'static str {
     }
 }
 
+/// The two commands that play a script: on one thread, and on threads.
+pub const COMMANDS: [&str; 2] = ["replay", "run"];
+
+/// Plays a script on these disks, by this command.
+pub fn play<T: Threads + Wait + Sync + AllocGlobal>(
+    rt: &T,
+    command: &'static str,
+    script: &str,
+    disks: Vec<MemoryDisk>,
+) -> Result<Ran, Fail> {
+    let words = [command, nodes_word(disks.len())];
+    run(rt, &words, &Given::whole(script), disks)
+}
+
 /// Replays a script on these disks.
 pub fn replay<T: Threads + Wait + Sync + AllocGlobal>(
     rt: &T,
     script: &str,
     disks: Vec<MemoryDisk>,
 ) -> Result<Ran, Fail> {
-    let words = ["replay", nodes_word(disks.len())];
-    let given = Given {
-        script,
-        source_fails: &[],
-        sink_fails: &[],
-    };
-    run(rt, &words, &given, disks)
+    play(rt, "replay", script, disks)
 }
 
 /// A script for so many fresh disks, and the status and the text with which the program ends.
@@ -123,18 +160,23 @@ pub struct Row {
     pub written: &'static str,
 }
 
-fn prints<T: Threads + Wait + Sync + AllocGlobal>(rt: &T, row: &Row) -> Result<bool, Fail> {
-    let ran = replay(rt, row.script, fresh_disks(rt.alloc(), row.nodes)?)?;
+fn prints<T: Threads + Wait + Sync + AllocGlobal>(
+    rt: &T,
+    command: &'static str,
+    row: &Row,
+) -> Result<bool, Fail> {
+    let ran = play(rt, command, row.script, fresh_disks(rt.alloc(), row.nodes)?)?;
     Ok(ran.ended(row.status, row.written) && ran.outcome.disks.len() == row.nodes)
 }
 
-/// The first of the rows that does not end as it says.
+/// The first of the rows that does not end as it says by this command.
 pub fn first_wrong<T: Threads + Wait + Sync + AllocGlobal>(
     rt: &T,
+    command: &'static str,
     rows: &[Row],
 ) -> Result<Option<usize>, Fail> {
     for (place, row) in rows.iter().enumerate() {
-        if !prints(rt, row)? {
+        if !prints(rt, command, row)? {
             return Ok(Some(place));
         }
     }

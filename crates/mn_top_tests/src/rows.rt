@@ -2,7 +2,7 @@
 use crate::program::{Row, first_wrong};
 use std::test::Fail;
 
-const SCRIPTS_OF_ONE_CLIENT: &[Row] = &[
+pub const SCRIPTS_OF_ONE_CLIENT: &[Row] = &[
     // A put and a get.
     Row {
         nodes: 1,
@@ -177,28 +177,28 @@ const VERSIONS: &[Row] = &[
 
 #[test]
 fn scripts_of_one_client_are_answered(rt: HostRuntime) -> Result<(), Fail> {
-    let wrong = first_wrong(&rt, SCRIPTS_OF_ONE_CLIENT)?;
+    let wrong = first_wrong(&rt, "replay", SCRIPTS_OF_ONE_CLIENT)?;
     assert!(rt; wrong == None, "the row {wrong:?}");
     Ok(())
 }
 
 #[test]
 fn clients_that_race_try_again_or_are_busy(rt: HostRuntime) -> Result<(), Fail> {
-    let wrong = first_wrong(&rt, CLIENTS_THAT_RACE)?;
+    let wrong = first_wrong(&rt, "replay", CLIENTS_THAT_RACE)?;
     assert!(rt; wrong == None, "the row {wrong:?}");
     Ok(())
 }
 
 #[test]
 fn doubts_are_decided_by_recovery(rt: HostRuntime) -> Result<(), Fail> {
-    let wrong = first_wrong(&rt, CRASHES_AND_RECOVERIES)?;
+    let wrong = first_wrong(&rt, "replay", CRASHES_AND_RECOVERIES)?;
     assert!(rt; wrong == None, "the row {wrong:?}");
     Ok(())
 }
 
 #[test]
 fn versions_are_kept_apart(rt: HostRuntime) -> Result<(), Fail> {
-    let wrong = first_wrong(&rt, VERSIONS)?;
+    let wrong = first_wrong(&rt, "replay", VERSIONS)?;
     assert!(rt; wrong == None, "the row {wrong:?}");
     Ok(())
 }

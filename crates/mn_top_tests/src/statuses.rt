@@ -1,5 +1,6 @@
 //! The statuses of the program, by its words, its source and its sink.
-use crate::program::{Given, Row, first_wrong, fresh_disks, run, words_of};
+use crate::disks::one_disk;
+use crate::program::{COMMANDS, Given, Row, first_wrong, fresh_disks, play, run, words_of};
 use mn_top::wanted;
 use std::alloc::Global;
 use std::sync::Wait;
@@ -7,6 +8,10 @@ use std::test::Fail;
 use std::thread::Threads;
 
 const REPLAY: &[&str] = &["replay", "1"];
+
+const RUN: &[&str] = &["run", "1"];
+
+const GET: &str = "nodes 1\nclient a\nget main k\n";
 
 /// Words, how many disks there are, the calls of the source and of the sink that fail, and the
 /// status and the text with which the program ends.
@@ -28,6 +33,9 @@ const WRONG_WORDS: &[End] = &[
     (&["replay", "1", ""], 1, &[], &[], 1, "usage\n"),
     (&["replay", "1", "-d"], 1, &[], &[], 1, "usage\n"),
     (&["replay", "1", "d", "d"], 1, &[], &[], 1, "usage\n"),
+    (&["run"], 1, &[], &[], 1, "usage\n"),
+    (&["run", "0"], 1, &[], &[], 1, "usage\n"),
+    (&["run", "1", "d", "d"], 1, &[], &[], 1, "usage\n"),
     (&["gen", "1"], 1, &[], &[], 1, "usage\n"),
     (&["gen", "1", "07"], 1, &[], &[], 1, "usage\n"),
     (&["gen", "1", "+7"], 1, &[], &[], 1, "usage\n"),
@@ -45,7 +53,7 @@ const WRONG_WORDS: &[End] = &[
 
 const OTHER_ENDS: &[End] = &[
     (&["replay", "1", "d"], 1, &[], &[], 9, "unbuilt\n"),
-    (&["run", "8"], 1, &[], &[], 9, "unbuilt\n"),
+    (&["run", "1", "d"], 1, &[], &[], 9, "unbuilt\n"),
     (
         &["gen", "1", "18446744073709551615"],
         1,
@@ -59,9 +67,15 @@ const OTHER_ENDS: &[End] = &[
     (&["replay", "2"], 1, &[], &[], 8, "disks 1 2\n"),
     (REPLAY, 0, &[], &[], 8, "disks 0 1\n"),
     (&["replay", "2"], 2, &[], &[], 8, "disks 2 1\n"),
+    (&["run", "2"], 1, &[], &[], 8, "disks 1 2\n"),
+    (RUN, 0, &[], &[], 8, "disks 0 1\n"),
+    (&["run", "2"], 2, &[], &[], 8, "disks 2 1\n"),
     (REPLAY, 1, &[0], &[], 3, "read fault\n"),
     (REPLAY, 1, &[1], &[], 3, "read fault\n"),
+    (RUN, 1, &[0], &[], 3, "read fault\n"),
+    (RUN, 1, &[1], &[], 3, "read fault\n"),
     (REPLAY, 1, &[], &[0], 4, ""),
+    (RUN, 1, &[], &[0], 4, ""),
     (&[], 1, &[], &[0], 4, ""),
 ];
 
@@ -75,7 +89,7 @@ fn are_told(alloc: Global, words: &[&str], status: u8) -> Result<bool, Fail> {
 fn ends_so<T: Threads + Wait + Sync + AllocGlobal>(rt: &T, end: &End) -> Result<bool, Fail> {
     let (words, disks, source_fails, sink_fails, status, written) = end;
     let given = Given {
-        script: "nodes 1\nclient a\nget main k\n",
+        script: GET,
         source_fails,
         sink_fails,
     };
@@ -139,7 +153,26 @@ const NO_SCRIPTS: &[Row] = &[
 
 #[test]
 fn scripts_that_are_none_are_told(rt: HostRuntime) -> Result<(), Fail> {
-    let wrong = first_wrong(&rt, NO_SCRIPTS)?;
-    assert!(rt; wrong == None, "the row {wrong:?}");
+    for command in COMMANDS {
+        let wrong = first_wrong(&rt, command, NO_SCRIPTS)?;
+        assert!(rt; wrong == None, "the row {wrong:?} of {command}");
+    }
+    Ok(())
+}
+
+/// Whether a disk whose first call fails is told by this command.
+fn tells_the_disk<T: Threads + Wait + Sync + AllocGlobal>(
+    rt: &T,
+    command: &'static str,
+) -> Result<bool, Fail> {
+    let ran = play(rt, command, GET, one_disk(rt.alloc(), &[], &[0])?)?;
+    Ok(ran.ended(5, "disk fault 0\n"))
+}
+
+#[test]
+fn a_disk_that_fails_at_once_is_told(rt: HostRuntime) -> Result<(), Fail> {
+    for command in COMMANDS {
+        assert!(rt; tells_the_disk(&rt, command)?, "by {command}");
+    }
     Ok(())
 }

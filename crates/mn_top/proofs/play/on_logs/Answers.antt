@@ -15,7 +15,7 @@ returns-in-Err-clause-comes_to g c = λ given all.
     let records = c.args.logs.records.items in
     let left = c.without_log.result.disks.items in
     let closed = c.without_log.ensures.disks ∙ c.close_all.ensures ∙ ap (λ l. map (λ r. r.disk) redos ++ reverse l) c.requires.empty ∙ append-nil (map (λ r. r.disk) redos) in
-    misfit state faults given redos records all c.args.script.now left c.without_log.result.log c.without_log.result.due (closed_unwritten state faults g.D.Disk.is_disk given redos records all.are left closed) c.without_log.ensures.log
+    misfit state faults given redos records all c.args.command c.args.script.now left c.without_log.result.log c.without_log.result.due (closed_unwritten state faults g.D.Disk.is_disk given redos records all.are left closed) c.without_log.ensures.log
     (subst (λ (d : Due). AreJudged records d) (sym c.without_log.ensures.due) (subst (λ (l : List (List Record)). AreJudged l c.in-Err.due) c.deref.ensures.value c.in-Err.ensures.refused))
 
 pub start_all-requires-clause-may : goal.start_all-requires-clause-may
@@ -24,12 +24,12 @@ start_all-requires-clause-may g c =
     may_start g.D.Disk.state g.D.Disk.faults c.requires.read.0 c.args.logs.redos.items c.args.logs.records.items c.requires.read.1 c.requires.some made.opened.sound
 
 pub play_on-requires-clause-nodes : goal.play_on-requires-clause-nodes
-play_on-requires-clause-nodes g c =
+play_on-requires-clause-nodes g c = λ _ _.
     may_begin g.D.Disk.state g.D.Disk.faults c.requires.read.0 c.args.logs.redos.items c.args.logs.records.items c.requires.read.1 c.in-Ok-start_all.started.nodes.items c.in-Ok-start_all.ensures.started c.in-Ok-start_all.ensures.all
     c.args.script.now.nodes c.requires.nodes
 
 pub play_on-requires-clause-start : goal.play_on-requires-clause-start
-play_on-requires-clause-start g c =
+play_on-requires-clause-start g c = λ _ _.
     let state = g.D.Disk.state in
     let faults = g.D.Disk.faults in
     let given = c.requires.read.0 in
@@ -53,4 +53,4 @@ returns-clause-comes_to g c = λ given all.
     let made = subst (λ (l : List (List Record)). MakeStart l c.in-Ok.judged.store c.in-Ok.judged.run) c.deref.ensures.value c.in-Ok.ensures.start in
     let failed = c.in-Err-start_all.field-0 in
     rw (c.without_log-in-Err-start_all.ensures.due, c.without_log-in-Err-start_all.ensures.disks, c.without_log-in-Err-start_all.ensures.log)
-    (not_started g.D.Disk.state g.D.Disk.faults given c.args.logs.redos.items c.args.logs.records.items all c.args.script.now failed.disks.items failed.due c.in-Err-start_all.ensures.failed c.in-Ok.judged.store c.in-Ok.judged.run made)
+    (not_started g.D.Disk.state g.D.Disk.faults given c.args.logs.redos.items c.args.logs.records.items all c.args.command c.args.script.now failed.disks.items failed.due c.in-Err-start_all.ensures.failed c.in-Ok.judged.store c.in-Ok.judged.run made)
