@@ -1,6 +1,8 @@
 -- Versions found by name, and kept versions as versions of a store.
 use Rattle.std.proofs.Common.{◌≡◌, ◌<◌, ℕ, zero, suc, true, false, List, [], ◌∷◌, Some, None, refl, ap, sym, ◌∙◌, subst, bytes_eq, slice_get, set, length, get_or, add-one, arith}
-use Rattle.mn_base.specs.Store.{Store, StoreVersion, heads_of, head_named}
+use Rattle.std.specs.Prelude.{Option, IsSomeAnd, IsTrue}
+use Rattle.mn_base.specs.declared.reply.Pair.{Pair}
+use Rattle.mn_base.specs.Store.{Store, StoreVersion, heads_of, head_named, is_ascending}
 use Rattle.mn_plain.specs.declared.version.Kept.{Kept}
 use Rattle.mn_plain.specs.Kept.{IsNamed, version_of, store_of}
 
@@ -67,3 +69,8 @@ changed_is versions at kept new store version change is within kept_is new_is th
     let old : Some (version_of kept) ≡ Some version = sym (kept_at versions at kept within kept_is) ∙ ap (λ (s : Store). slice_get s at) is ∙ there in
     let same : version_of kept ≡ version = cc in
     set_kept versions at new ∙ ap (λ (s : Store). set s at (version_of new)) is ∙ ap (λ (v : StoreVersion). set store at v) (new_is ∙ ap change same)
+
+-- the pairs of a version are these, which stand in order
+pub some_ascends : (found : Option StoreVersion) (ps : List Pair) → IsTrue (is_ascending ps) → IsSomeAnd found (λ kept. ps ≡ kept.pairs) → IsSomeAnd found (λ kept. IsTrue (is_ascending kept.pairs))
+some_ascends None ps up is = is
+some_ascends (Some kept) ps up is = subst (λ (l : List Pair). IsTrue (is_ascending l)) is up

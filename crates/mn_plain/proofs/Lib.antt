@@ -1,3 +1,4 @@
+pub mod PlaceLemmas
 pub mod PairLemmas
 pub mod StepLemmas
 pub mod KeptLemmas

@@ -4,9 +4,10 @@ use Rattle.mn_base.specs.declared.reply.Pair.{Pair}
 use Rattle.mn_base.specs.declared.op.Step.{Step}
 use Rattle.mn_base.specs.declared.op.Step.TheVariants.{Get, Put, Del, Check}
 use Rattle.mn_base.specs.Order.{key_lt}
-use Rattle.mn_base.specs.Store.{value_at, pairs_with, pairs_without, pairs_after_step, ran_from, noted_by, step_key}
+use Rattle.mn_base.specs.Store.{value_at, is_ascending, pairs_with, pairs_without, pairs_after_step, ran_from, noted_by, step_key}
 use Rattle.mn_base.specs.declared.reply.Reply.TheVariants.{Unmet}
 use Rattle.mn_base.proofs.Keys.{bytes_eq-refl, bytes_eq-true}
+use Rattle.mn_base.proofs.Stores.{after_step}
 use Rattle.mn_plain.specs.Run.{left_by, left_by_all, pairs_after, StepTells}
 
 -- the value of a key, where two keys are compared with a third
@@ -81,3 +82,7 @@ ran_on old steps at values new step split more tells =
     ∙ ap (λ (v : List (Option (List ℕ))). ran_from old (at + 1 + 1) (pairs_after_step before step) v (drop (suc at) steps)) tells.1
     ∙ sym (ap (λ (l : List Step). ran_from old (at + 1) before values l) split
     ∙ ap (λ (b : Bool). if b then record { pairs = old; reply = Unmet (at + 1) (value_at before (step_key step)) } else ran_from old (at + 1 + 1) (pairs_after_step before step) (values ++ noted_by before step) (drop (suc at) steps)) met)
+
+-- pairs in order stay so
+pub still_ascends : (old new : List Pair) (step : Step) → new ≡ pairs_after_step old step → is_ascending old ≡ true → is_ascending new ≡ true
+still_ascends old new step is up = ap is_ascending is ∙ after_step old step up

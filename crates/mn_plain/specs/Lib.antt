@@ -1,3 +1,4 @@
 pub mod Run
 pub mod Digest
 pub mod Kept
+pub mod Places

@@ -1,11 +1,11 @@
-ghost use Rattle.std.specs.Prelude.{◌≡◌, ◌≤◌, ◌<◌, ◌+◌, not, true, false, length, IfOk, OnOk};
+ghost use Rattle.std.specs.Prelude.{◌≡◌, ◌≤◌, ◌<◌, ◌+◌, not, true, false, length, IfOk, IsTrue, OnOk};
 ghost use Rattle.std.specs.Prelude.{OnErr, option_map, bytes_eq, vec_len, vec_capacity};
 ghost use Rattle.std.specs.List.{list_any};
 ghost use Rattle.std.specs.Option.{option_eq};
-ghost use Rattle.mn_base.specs.Store.{ran, is_change, value_at, pairs_after_step};
+ghost use Rattle.mn_base.specs.Store.{ran, is_change, is_ascending, value_at, pairs_after_step};
 ghost use Rattle.mn_plain.specs.Run.{pairs_after, left_by, StepTells, pairs_left};
 
-use crate::pairs::{remove_pair, set_pair, value_of};
+use crate::pairs::{find, remove_pair, set_pair};
 use mn_base::{Founds, Key, NoMemory, Pair, Reply, Step, TryCopy, Value};
 use std::alloc::Global;
 
@@ -33,11 +33,12 @@ fn left<'a>(found: Option<&'a Value>, step: &'a Step, key: &Key) -> Option<&'a V
     }
 }
 
-/// What the pairs have at a key after the steps.
+/// What the pairs, in order of key, have at a key after the steps.
 fn value_after<'a>(pairs: &'a [Pair], steps: &'a [Step], key: &Key) -> Option<&'a Value>
+    requires { IsTrue (is_ascending pairs.now) }
     ensures { option_map (λ v. v.now) result ≡ value_at (pairs_after pairs.now steps.now) key.now }
 {
-    let mut found = value_of(pairs, key);
+    let mut found = find(pairs, key);
     for step in steps {
         found = left(found, step, key);
     }
@@ -64,7 +65,7 @@ fn copy_of(alloc: Global, found: Option<&Value>) -> Result<Option<Value>, NoMemo
 }
 
 /// Notes what a step tells after those before it: a Get what it finds. The answer is what a Check
-/// finds that isn't met.
+/// finds that isn't met. The pairs stand in order of key.
 fn note(
     alloc: Global,
     pairs: &[Pair],
@@ -72,6 +73,7 @@ fn note(
     step: &Step,
     values: &mut Vec<Option<Value>>,
 ) -> Result<Option<Option<Value>>, NoMemory>
+    requires { IsTrue (is_ascending pairs.now) }
     ensures { IfOk result (StepTells
         (pairs_after pairs.now before.now) step.now values.old.items values.new.items) }
 {
@@ -91,9 +93,11 @@ fn note(
     }
 }
 
-/// The reply to a transaction of these steps. The pairs stay as they are.
+/// The reply to a transaction of these steps. The pairs stand in order of key. They stay as they
+/// are.
 pub fn reply_to(alloc: Global, pairs: &[Pair], steps: &[Step]) -> Result<Reply, NoMemory>
-    requires { length steps.now ≤ 16 }
+    requires few { length steps.now ≤ 16 }
+    requires order { IsTrue (is_ascending pairs.now) }
     ensures { IfOk result (λ reply. ran pairs.now steps.now
         ≡ record { pairs = pairs_left pairs.now steps.now reply; reply = reply }) }
 {
@@ -111,9 +115,10 @@ pub fn reply_to(alloc: Global, pairs: &[Pair], steps: &[Step]) -> Result<Reply, 
     })
 }
 
-/// Does a step. There is room for one more pair.
+/// Does a step in pairs in order of key. There is room for one more pair.
 fn take_step(pairs: &mut Vec<Pair>, step: Step)
-    requires { vec_len pairs.old < vec_capacity pairs.old }
+    requires order { IsTrue (is_ascending pairs.old.items) }
+    requires room { vec_len pairs.old < vec_capacity pairs.old }
     ensures pairs { pairs.new.items ≡ pairs_after_step pairs.old.items step }
     ensures len { vec_len pairs.new ≤ vec_len pairs.old + 1 }
     ensures room { vec_capacity pairs.old ≤ vec_capacity pairs.new }
@@ -125,9 +130,11 @@ fn take_step(pairs: &mut Vec<Pair>, step: Step)
     }
 }
 
-/// Does the steps. There is room for a pair of each.
+/// Does the steps in pairs in order of key. There is room for a pair of each.
+#[tactic(auto, using(crate::proofs::StepLemmas::still_ascends))]
 fn take_each(pairs: &mut Vec<Pair>, steps: Vec<Step>)
-    requires { vec_len pairs.old + length steps.items ≤ vec_capacity pairs.old }
+    requires order { IsTrue (is_ascending pairs.old.items) }
+    requires room { vec_len pairs.old + length steps.items ≤ vec_capacity pairs.old }
     ensures { pairs.new.items ≡ pairs_after pairs.old.items steps.items }
 {
     for step in steps {
@@ -135,8 +142,10 @@ fn take_each(pairs: &mut Vec<Pair>, steps: Vec<Step>)
     }
 }
 
-/// Does the steps, or nothing where there is no memory for the pairs that they may add.
+/// Does the steps in pairs in order of key, or nothing where there is no memory for the pairs that
+/// they may add.
 pub fn take_steps(pairs: &mut Vec<Pair>, steps: Vec<Step>) -> Result<(), NoMemory>
+    requires { IsTrue (is_ascending pairs.old.items) }
     ensures taken { OnOk result (pairs.new.items ≡ pairs_after pairs.old.items steps.items) }
     ensures kept { OnErr result (pairs.new.items ≡ pairs.old.items) }
 {

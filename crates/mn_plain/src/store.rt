@@ -133,7 +133,9 @@ fn take_at(
     at: usize,
     steps: &Steps,
 ) -> Result<(), NoMemory>
-    requires { at < length versions.old.items }
+    requires there { at < length versions.old.items }
+    requires order { IsSomeAnd (slice_get (store_of versions.old.items) at)
+        (λ kept. IsTrue (is_ascending kept.pairs)) }
     ensures taken { OnOk result (SetsPairs (λ ps. pairs_after ps steps.now)
         (store_of versions.old.items) at (store_of versions.new.items)) }
     ensures kept { OnErr result (store_of versions.new.items ≡ store_of versions.old.items) }

@@ -16,6 +16,6 @@ returns-clause-taken c =
     on_ok_weaker c.take_steps-taken.result
     (λ taken. λ version there.
     changed_is c.args.versions.now.items c.args.at kept (record kept { pairs = c.from_vec-2.result }) (store_of c.args.versions.now.items) version (λ (v : StoreVersion). record v { pairs = pairs_after v.pairs c.args.steps.now })
-    refl c.requires c.index_mut-version.ensures.value
+    refl c.requires.there c.index_mut-version.ensures.value
     (ap (λ (ps : List Pair). record (version_of kept) { pairs = ps }) (c.from_vec-2.ensures ∙ taken ∙ ap (λ (ps : List Pair). pairs_after ps c.into_vec-steps.result.items) pairs_are ∙ ap (λ (ss : List Step). pairs_after kept.pairs ss) steps_are)) there)
     c.take_steps-taken.ensures.taken

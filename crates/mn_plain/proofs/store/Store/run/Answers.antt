@@ -1,15 +1,15 @@
-use Rattle.std.proofs.Common.{sym, ◌∙◌, ◌≡◌, ◌&&◌, not, ap, subst, Option, List, Bool, true, false, IsSomeAnd}
+use Rattle.std.proofs.Common.{sym, ◌∙◌, ◌≡◌, ◌&&◌, not, ap, subst, Option, List, Bool, true, false, IsSomeAnd, IsTrue, slice_get}
 use Rattle.std.specs.List.{list_any}
 use Rattle.mn_base.specs.declared.op.Step.{Step}
 use Rattle.mn_base.specs.declared.reply.Pair.{Pair}
 use Rattle.mn_base.specs.declared.reply.Reply.{Reply}
-use Rattle.mn_base.specs.Store.{Store, StoreVersion, is_change, ran}
+use Rattle.mn_base.specs.Store.{Store, StoreVersion, is_change, is_ascending, ran}
 use Rattle.mn_base.specs.Stores.{IsStore}
 use Rattle.mn_base.specs.declared.op.Op.TheVariants.{Tx}
 use Rattle.mn_plain.specs.Kept.{store_of, SetsPairs}
 use Rattle.mn_plain.specs.Run.{pairs_after, pairs_left, is_unmet_reply}
 use Rattle.mn_plain.proofs.ApplyLemmas.{named_within, store_left, tx_with_effect, tx_without_effect}
-use Rattle.mn_plain.proofs.KeptLemmas.{within_store}
+use Rattle.mn_plain.proofs.KeptLemmas.{within_store, some_ascends}
 use Rattle.mn_plain.proofs.store.Store.run.Goals as goal
 
 abbrev RanIs : List Pair → List Step → Reply → Type 0
@@ -30,7 +30,13 @@ returns-then-is_without_effect c =
     tx_without_effect c.args.self.now c.args.version.now steps c.in-Some.place.at v reply place.1 allows ran_is without
 
 pub take_at-requires : goal.take_at-requires
-take_at-requires c = let place = c.in-Some.ensures in within_store c.self.inside.versions.items c.args.self.now c.in-Some.place.at c.self.view_is (named_within c.args.self.now c.args.version.now c.in-Some.place.at place.0 place.1)
+take_at-requires c =
+    let place = c.in-Some.ensures in
+    let order = some_ascends (slice_get c.args.self.now c.in-Some.place.at) c.pairs_at.result.now c.pairs_at.ensures.ascend c.pairs_at.ensures.pairs in
+    record {
+      there = within_store c.self.inside.versions.items c.args.self.now c.in-Some.place.at c.self.view_is (named_within c.args.self.now c.args.version.now c.in-Some.place.at place.0 place.1);
+      order = subst (λ (s : Store). IsSomeAnd (slice_get s c.in-Some.place.at) (λ kept. IsTrue (is_ascending kept.pairs))) (sym c.self.view_is) order;
+    }
 
 pub invariant_of-self-2 : goal.invariant_of-self-2
 invariant_of-self-2 c =
