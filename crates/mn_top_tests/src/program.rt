@@ -92,6 +92,22 @@ impl Ran {
     }
 }
 
+/// The words, the source and the sink of a call.
+#[derive(Drop)]
+struct Ends {
+    words: Words,
+    source: MemorySource,
+    sink: MemorySink,
+}
+
+fn ends_of(alloc: Global, words: &[&str], given: &Given<'_>) -> Result<Ends, Fail> {
+    Ok(Ends {
+        words: words_of(alloc, words)?,
+        source: source_of(alloc, given)?,
+        sink: sink_of(alloc, given)?,
+    })
+}
+
 /// Runs the program with these words, disks and gate. The answer is what came of it, and the sink.
 pub fn run_gated<T: Threads + Wait + Sync + AllocGlobal, D: Disk + Send + Drop, G: Gate + Sync>(
     rt: &T,
@@ -101,9 +117,11 @@ pub fn run_gated<T: Threads + Wait + Sync + AllocGlobal, D: Disk + Send + Drop, 
     gate: &G,
 ) -> Result<(Outcome<D>, MemorySink), Fail> {
     let alloc = rt.alloc();
-    let words = words_of(alloc, words)?;
-    let mut source = source_of(alloc, given)?;
-    let mut sink = sink_of(alloc, given)?;
+    let Ends {
+        words,
+        mut source,
+        mut sink,
+    } = ends_of(alloc, words, given)?;
     let outcome = run_program(rt, alloc, &words, &mut source, &mut sink, disks, gate);
     Ok((outcome, sink))
 }
