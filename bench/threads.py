@@ -21,6 +21,8 @@ from urllib.parse import unquote_to_bytes
 
 PROGRAM = Path(os.environ.get(
     "MINUET", Path(__file__).resolve().parent.parent / "crates/minuet/out/minuet"))
+# As scripts/minuet sets it.
+ENVIRONMENT = {"MALLOC_TOP_PAD_": "33554432", **os.environ}
 KEYS = [f"k{number}" for number in range(1, 10)]
 HOT = ["k1", "k2", "k8", "k9"]
 MOST_VERSIONS = 64
@@ -253,7 +255,8 @@ def run(words: list, script: str) -> tuple[str, float, float]:
         given.write(script.encode())
         given.seek(0)
         begun = time.monotonic()
-        made = subprocess.Popen([PROGRAM, *words], stdin=given, stdout=subprocess.PIPE)
+        made = subprocess.Popen(
+            [PROGRAM, *words], stdin=given, stdout=subprocess.PIPE, env=ENVIRONMENT)
         report = made.stdout.read()
         _, status, used = os.wait4(made.pid, 0)
         wall = time.monotonic() - begun
