@@ -10,3 +10,4 @@ pub mod AddedVersion
 pub mod Stores
 pub mod Booleans
 pub mod Naturals
+pub mod Zeros

@@ -1,4 +1,5 @@
-ghost use Rattle.std.specs.Prelude.{◌≡◌, ℕ, List};
+ghost use Rattle.std.specs.Prelude.{◌≡◌, ℕ, List, nat_eq};
+ghost use Rattle.std.specs.List.{list_all};
 
 use crate::{NoMemory, TryCopy};
 use std::alloc::Global;
@@ -43,4 +44,19 @@ impl TryCopy for Bytes {
             bytes: self.bytes.to_vec(alloc)?,
         })
     }
+}
+
+/// How many bytes are compared with zeros at once.
+const BLOCK: usize = 1_024;
+
+const ZEROS: [u8; BLOCK] = [0; BLOCK];
+
+/// Whether each byte is zero.
+pub fn are_zeros(bytes: &[u8]) -> bool
+    ensures { result ≡ list_all (λ b. nat_eq b 0) bytes.now }
+{
+    if bytes.len() > BLOCK {
+        return bytes.iter().all(|byte| *byte == 0);
+    }
+    bytes == &ZEROS[..bytes.len()]
 }

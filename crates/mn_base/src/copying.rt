@@ -1,6 +1,7 @@
 ghost use Rattle.std.specs.Prelude.{◌≡◌, IfOk};
 
 use crate::NoMemory;
+use arrayvec::ArrayVec;
 use std::alloc::Global;
 
 /// A value that takes memory of its own and can be copied where memory is left.
@@ -19,11 +20,20 @@ impl<T: TryCopy> TryCopy for Option<T> {
     }
 }
 
+impl<const N: usize> TryCopy for ArrayVec<u8, N> {
+    fn try_copy(&self, _alloc: Global) -> Result<Self, NoMemory> {
+        match ArrayVec::try_from(self.as_slice()) {
+            Ok(copy) => Ok(copy),
+            Err(_) => Err(NoMemory),
+        }
+    }
+}
+
 /// Equal values in the same order. NoMemory: there was no memory for them.
 pub fn copies_of<T: TryCopy + Drop>(alloc: Global, values: &[T]) -> Result<Vec<T>, NoMemory>
     ensures { IfOk result (λ copies. copies.items ≡ values.now) }
 {
-    let mut copies = Vec::new(alloc);
+    let mut copies = Vec::with_capacity(alloc, values.len())?;
     for value in values {
         copies.push(value.try_copy(alloc)?)?;
     }

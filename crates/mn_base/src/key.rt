@@ -3,6 +3,7 @@ ghost use Rattle.mn_base.specs.Refusal.{RefusesKey};
 ghost use Rattle.mn_base.specs.declared.key.TheConstants.{MAX_KEY};
 
 use crate::{BaseError, NoMemory, TryCopy};
+use arrayvec::ArrayVec;
 use std::alloc::Global;
 use std::marker::Model;
 
@@ -12,7 +13,7 @@ pub const MAX_KEY: usize = 32;
 /// A key: 1 to 32 bytes. Contracts see it as a list.
 #[derive(Debug, Drop)]
 pub struct Key {
-    bytes: Vec<u8>,
+    bytes: ArrayVec<u8, MAX_KEY>,
 }
 
 impl Model for Key {
@@ -34,12 +35,10 @@ impl Key {
         if bytes.is_empty() {
             return Err(BaseError::Empty);
         }
-        if bytes.len() > MAX_KEY {
-            return Err(BaseError::TooLong { n: bytes.len() });
+        match ArrayVec::try_from(bytes) {
+            Ok(bytes) => Ok(Key { bytes }),
+            Err(_) => Err(BaseError::TooLong { n: bytes.len() }),
         }
-        Ok(Key {
-            bytes: bytes.to_vec(alloc)?,
-        })
     }
 
     pub fn as_slice(&self) -> &[u8]
@@ -53,7 +52,7 @@ impl Key {
 impl TryCopy for Key {
     fn try_copy(&self, alloc: Global) -> Result<Self, NoMemory> {
         Ok(Key {
-            bytes: self.bytes.to_vec(alloc)?,
+            bytes: self.bytes.try_copy(alloc)?,
         })
     }
 }

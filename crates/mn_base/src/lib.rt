@@ -18,7 +18,7 @@ mod reply;
 mod value;
 
 pub use answer::{Answer, Busy};
-pub use bytes::Bytes;
+pub use bytes::{Bytes, are_zeros};
 pub use copying::{TryCopy, copies_of};
 pub use error::{BaseError, NoMemory};
 pub use gate::{Gate, OpenGate, StopAt};

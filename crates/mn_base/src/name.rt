@@ -3,6 +3,7 @@ ghost use Rattle.mn_base.specs.Refusal.{RefusesName};
 ghost use Rattle.mn_base.specs.Name.{IsName, name_fault, is_name_place};
 
 use crate::{BaseError, NoMemory, TryCopy};
+use arrayvec::ArrayVec;
 use std::alloc::Global;
 use std::marker::Model;
 
@@ -13,7 +14,7 @@ pub const MAX_NAME: usize = 16;
 /// as a list.
 #[derive(Debug, Drop)]
 pub struct Name {
-    bytes: Vec<u8>,
+    bytes: ArrayVec<u8, MAX_NAME>,
 }
 
 impl Model for Name {
@@ -57,9 +58,10 @@ impl Name {
         if let Some(at) = fault_of(bytes) {
             return Err(BaseError::BadName { at });
         }
-        Ok(Name {
-            bytes: bytes.to_vec(alloc)?,
-        })
+        match ArrayVec::try_from(bytes) {
+            Ok(bytes) => Ok(Name { bytes }),
+            Err(_) => Err(BaseError::NoMemory),
+        }
     }
 
     pub fn as_slice(&self) -> &[u8]
@@ -73,7 +75,7 @@ impl Name {
 impl TryCopy for Name {
     fn try_copy(&self, alloc: Global) -> Result<Self, NoMemory> {
         Ok(Name {
-            bytes: self.bytes.to_vec(alloc)?,
+            bytes: self.bytes.try_copy(alloc)?,
         })
     }
 }

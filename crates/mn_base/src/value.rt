@@ -3,6 +3,7 @@ ghost use Rattle.mn_base.specs.Refusal.{RefusesValue};
 ghost use Rattle.mn_base.specs.declared.value.TheConstants.{MAX_VALUE};
 
 use crate::{BaseError, NoMemory, TryCopy};
+use arrayvec::ArrayVec;
 use std::alloc::Global;
 use std::marker::Model;
 
@@ -12,7 +13,7 @@ pub const MAX_VALUE: usize = 64;
 /// A value: 0 to 64 bytes. Contracts see it as a list.
 #[derive(Debug, Drop)]
 pub struct Value {
-    bytes: Vec<u8>,
+    bytes: ArrayVec<u8, MAX_VALUE>,
 }
 
 impl Model for Value {
@@ -31,12 +32,10 @@ impl Value {
         ensures within { OnOk result (length bytes.now ≤ MAX_VALUE) }
         ensures refused { IfErr result (RefusesValue bytes.now) }
     {
-        if bytes.len() > MAX_VALUE {
-            return Err(BaseError::TooLong { n: bytes.len() });
+        match ArrayVec::try_from(bytes) {
+            Ok(bytes) => Ok(Value { bytes }),
+            Err(_) => Err(BaseError::TooLong { n: bytes.len() }),
         }
-        Ok(Value {
-            bytes: bytes.to_vec(alloc)?,
-        })
     }
 
     pub fn as_slice(&self) -> &[u8]
@@ -50,7 +49,7 @@ impl Value {
 impl TryCopy for Value {
     fn try_copy(&self, alloc: Global) -> Result<Self, NoMemory> {
         Ok(Value {
-            bytes: self.bytes.to_vec(alloc)?,
+            bytes: self.bytes.try_copy(alloc)?,
         })
     }
 }

@@ -10,10 +10,9 @@ ghost use Rattle.mn_page.specs.Reading.{Begins, IsWantOfMemory, IsPlaceWithin, e
 ghost use Rattle.mn_page.specs.Reading.{entry_text, IsNamed};
 
 use crate::fault::{ENTRY, entry_fault};
-use crate::page_scan::are_zeros;
 use crate::scan::{first_addr, first_byte, first_counted, first_seq};
 use crate::{CatEntry, PageError};
-use mn_base::{Addr, BaseError, Name, VersionNo};
+use mn_base::{Addr, BaseError, Name, VersionNo, are_zeros};
 use std::alloc::Global;
 
 /// An entry as it stands in its bytes.

@@ -14,8 +14,8 @@ ghost use Rattle.mn_page.specs.PageFronts.{Judged, count_text, least_keys};
 
 use crate::fault::SLOT;
 use crate::key_room::{Room, ShortKey, filled, has_room, leaves_room, next_key};
-use crate::page_scan::are_zeros;
 use crate::scan::{first_addr, first_byte, first_height, first_seq, first_text, first_versions};
+use mn_base::are_zeros;
 
 // Each function gives what stands behind a field. Err: the bytes end inside the field, or can't
 // begin it; `true` where more bytes make it a field that some page goes on from.

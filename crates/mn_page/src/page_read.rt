@@ -48,7 +48,7 @@ fn high_of(alloc: Global, high: Option<&[u8]>) -> Result<Option<Key>, NoMemory>
 fn pairs_of(alloc: Global, pairs: &[PairRef<'_>]) -> Result<Vec<Pair>, NoMemory>
     ensures { IfOk result (λ found. found.items ≡ map pair_seen pairs.now) }
 {
-    let mut found = Vec::new(alloc);
+    let mut found = Vec::with_capacity(alloc, pairs.len())?;
     for pair in pairs {
         let key = key_of(alloc, pair.key)?;
         let value = value_of(alloc, pair.value)?;
@@ -60,7 +60,7 @@ fn pairs_of(alloc: Global, pairs: &[PairRef<'_>]) -> Result<Vec<Pair>, NoMemory>
 fn children_of(alloc: Global, children: &[ChildRef<'_>]) -> Result<Vec<Child>, NoMemory>
     ensures { IfOk result (λ found. found.items ≡ map child_seen children.now) }
 {
-    let mut found = Vec::new(alloc);
+    let mut found = Vec::with_capacity(alloc, children.len())?;
     for child in children {
         let separator = key_of(alloc, child.separator)?;
         let addr = child.addr;

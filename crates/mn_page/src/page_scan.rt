@@ -1,7 +1,6 @@
-ghost use Rattle.std.specs.Prelude.{◌≡◌, ◌++◌, ℕ, List, Option, Some, None, length, nat_eq};
+ghost use Rattle.std.specs.Prelude.{◌≡◌, ◌++◌, ℕ, List, Option, Some, None, length};
 ghost use Rattle.std.specs.Prelude.{replicate, IfOk, OnErr, IfSome, IsOkAnd, IsSomeAnd};
 ghost use Rattle.std.specs.Prelude.{MatchOption, IsTrue, ◌↔◌};
-ghost use Rattle.std.specs.List.{list_all};
 ghost use Rattle.std.specs.Option.{option_map};
 ghost use Rattle.mn_page.specs.declared.page.Page.{Page};
 ghost use Rattle.mn_page.specs.Grammar.{IsPage, IsFree, SpellsPage, SpellsNoPage};
@@ -11,6 +10,7 @@ use crate::body_scan::first_body;
 use crate::fault::SLOT;
 use crate::page_ref::PageRef;
 use crate::scan::{first_counted, first_head, first_high, is_below};
+use mn_base::are_zeros;
 
 /// The fences, and what follows them.
 fn first_fences(bytes: &[u8]) -> Option<((&[u8], Option<&[u8]>), &[u8])>
@@ -40,13 +40,6 @@ fn first_page(bytes: &[u8]) -> Option<(PageRef<'_>, &[u8])>
     let ((low, high), behind) = first_fences(behind)?;
     let (body, rest) = first_body(head.height, low, high, behind)?;
     Some((PageRef::of_parts(head, low, high, body), rest))
-}
-
-/// Whether each byte is zero.
-pub fn are_zeros(bytes: &[u8]) -> bool
-    ensures { result ≡ list_all (λ b. nat_eq b 0) bytes.now }
-{
-    bytes.iter().all(|byte| *byte == 0)
 }
 
 /// The page that the bytes are, all of them.

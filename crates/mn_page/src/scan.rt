@@ -119,6 +119,9 @@ fn is_in(copied: u64, version: u8) -> bool
 fn are_above(made: u8, copied: u64) -> bool
     ensures { result ≡ are_above made copied }
 {
+    if copied == 0 {
+        return true;
+    }
     (0..64)
         .filter(|version| is_in(copied, *version))
         .all(|version| made < version)
