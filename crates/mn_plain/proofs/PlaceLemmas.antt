@@ -5,6 +5,7 @@ use Rattle.std.specs.List.Sorted.{IsPartitionPoint, IsPartitionedBy}
 use Rattle.mn_base.specs.declared.reply.Pair.{Pair}
 use Rattle.mn_base.specs.Order.{key_lt}
 use Rattle.mn_base.specs.Store.{pairs_with, pairs_without, value_at, is_ascending}
+use Rattle.mn_base.proofs.Booleans.{clash, falsely}
 use Rattle.mn_base.proofs.Keys.{bytes_eq-true, key_lt-trans, key_lt-else, lt_not_same, not_below, turned}
 use Rattle.mn_base.proofs.PairsWith.{AllAbove, all_above, ascending_parts, pair_of}
 use Rattle.mn_plain.specs.Places.{CountsBefore, is_key_at, StandsAt, GoesTo}
@@ -24,14 +25,7 @@ without_above key (p ∷ ps) all =
 -- A pair below a key
 
 below_not_same : (a b : List ℕ) → key_lt a b ≡ true → bytes_eq a b ≡ false
-below_not_same a b low = other (bytes_eq a b) refl
-  where
-    other : (t : Bool) → bytes_eq a b ≡ t → bytes_eq a b ≡ false
-    other true e = let same = bytes_eq-true a b e in let no : key_lt a a ≡ true = ap (λ (k : List ℕ). key_lt a k) same ∙ low in absurd (clash (key_lt a a) no (not_below a))
-      where
-        clash : (c : Bool) → c ≡ true → c ≡ false → ⊥
-        clash c g h = cc
-    other false e = e
+below_not_same a b low = falsely (bytes_eq a b) (λ same. let equal = bytes_eq-true a b same in clash (key_lt a a) (ap (λ (k : List ℕ). key_lt a k) equal ∙ low) (not_below a))
 
 value_past : (p : Pair) (ps : List Pair) (key : List ℕ) → key_lt p.key key ≡ true → value_at ps key ≡ value_at (p ∷ ps) key
 value_past p ps key low = sym (ap (λ b. if b then Some p.value else value_at ps key) (below_not_same p.key key low))
