@@ -1,6 +1,6 @@
-ghost use Rattle.std.specs.Prelude.{◌≡◌, ◌+◌, ◌<◌, ◌≤◌, length, nat_eq, replicate, MatchBool};
+ghost use Rattle.std.specs.Prelude.{◌≡◌, ◌+◌, ◌<◌, ◌≤◌, length, replicate, MatchBool};
 ghost use Rattle.std.specs.Prelude.{MatchOption};
-ghost use Rattle.std.specs.List.{AllByRecursion, list_all};
+ghost use Rattle.std.specs.List.{AllByRecursion};
 ghost use Rattle.mn_mini.specs.Mini.{space_size};
 ghost use Rattle.mn_mini.specs.Flat.{bytes_in};
 ghost use Rattle.mn_page.specs.Space as spot;
@@ -51,18 +51,12 @@ pub fn space_at(spaces: &[Bytes], node: u8) -> &[u8]
     spaces[usize::from(node)].as_slice()
 }
 
-fn all_zero(bytes: &[u8]) -> bool
-    ensures { result ≡ list_all (λ b. nat_eq b 0) bytes.now }
-{
-    bytes.iter().all(|byte| *byte == 0)
-}
-
 /// Whether the bytes are all zero.
 pub fn are_zeros(bytes: &[u8]) -> bool
     ensures { MatchBool result (bytes.now ≡ replicate (length bytes.now) 0)
         (bytes.now ≡ replicate (length bytes.now) 0 → ⊥) }
 {
-    all_zero(bytes)
+    mn_base::are_zeros(bytes)
 }
 
 /// How many slots the node has given out.
