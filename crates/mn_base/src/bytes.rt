@@ -47,7 +47,7 @@ impl TryCopy for Bytes {
 }
 
 /// How many bytes are compared with zeros at once.
-const BLOCK: usize = 1_024;
+const BLOCK: usize = 4_096;
 
 const ZEROS: [u8; BLOCK] = [0; BLOCK];
 

@@ -1,6 +1,12 @@
 -- What the places that were read say of the catalog.
-use Rattle.std.proofs.Common.{◌≡◌, ◌⊎◌, ℕ, zero, suc, ◌+◌, ◌<◌, ◌≤◌, List, [], ◌∷◌, ◌++◌, length, slice_get, Option, Some, None, MatchOption, refl, sym, ap, subst, ◌∙◌, inl, inr, arith, length-append}
+use Rattle.std.proofs.Common.{◌≡◌, ◌⊎◌, ℕ, Bool, true, ◌*◌, ◌-◌, drop, zero, suc, ◌+◌, ◌<◌, ◌≤◌, List, [], ◌∷◌, ◌++◌, length, slice_get, Option, Some, None, MatchOption, refl, sym, ap, subst, ◌∙◌, inl, inr, arith, length-append}
+use Rattle.std.specs.Prelude.{nat_eq}
+use Rattle.std.specs.List.{list_all}
+use Rattle.std.proofs.lemmas.List.{drop-drop, length-drop, length-take-le}
+use Rattle.mn_base.proofs.Booleans.{right_true}
 use Rattle.mn_base.proofs.Naturals.{below_or}
+use Rattle.mn_page.proofs.PageText.{free_zeros}
+use Rattle.mn_page.proofs.Scanned.{all_take}
 use Rattle.mn_page.specs.Grammar.{IsUnused, SpellsEntry, SpellsNoEntry}
 use Rattle.mn_page.specs.declared.entry.CatEntry.{CatEntry}
 use Rattle.mn_catalog.specs.Grammar.{place_bytes, IsAtFault, IsFirstAtFault, SpellsCatalog, SpellsNoCatalog, RefusesCatalog, IsWantOfMemory}
@@ -36,6 +42,33 @@ unused_read bytes m es a r = (omega (arith, a.0), λ w lt. by w lt (below_or w m
     by w lt (inr high) =
         let here : m ≡ w = omega (arith, lt, high) in
         subst (λ k. IsEntryRead (place_bytes k bytes) (slice_get es k)) here (subst (IsEntryRead (place_bytes m bytes)) (sym (past es m a.0)) r)
+
+all_drop : (p : ℕ → Bool) (n : ℕ) (bs : List ℕ) → list_all p bs ≡ true
+    → list_all p (drop n bs) ≡ true
+all_drop p zero bs h = h
+all_drop p (suc n) [] h = h
+all_drop p (suc n) (b ∷ bs) h = all_drop p n bs (right_true (p b) (list_all p bs) h)
+
+rest_unused : (bytes : List ℕ) (m w : ℕ) → length bytes ≡ 4096 → m ≤ w → w < 64
+    → list_all (λ b. nat_eq b 0) (drop (64 * m) bytes) ≡ true → IsUnused (place_bytes w bytes)
+rest_unused bytes m w whole high lt h =
+    let here : 64 * m + 64 * (w - m) ≡ 64 * w = omega (arith, high) in
+    let further = drop-drop (64 * (w - m)) (64 * m) bytes ∙ ap (λ n. drop n bytes) here in
+    let behind = subst (λ (l : List ℕ). list_all (λ b. nat_eq b 0) l ≡ true) further (all_drop (λ b. nat_eq b 0) (64 * (w - m)) (drop (64 * m) bytes) h) in
+    let size = length-take-le 64 (drop (64 * w) bytes) (omega (arith, whole, lt, length-drop (64 * w) bytes)) in
+    (free_zeros 64 (place_bytes w bytes) size).0 (all_take (λ b. nat_eq b 0) 64 (drop (64 * w) bytes) behind)
+
+-- an unused place with nothing but zeros behind it is the end of what is used
+pub rest_read : (bytes : List ℕ) (m : ℕ) (es : List CatEntry) → length bytes ≡ 4096 → m < 64
+    → AreRead m bytes es → IsEntryRead (place_bytes m bytes) None
+    → list_all (λ b. nat_eq b 0) (drop (64 * m) bytes) ≡ true → AreRead 64 bytes es
+rest_read bytes m es whole there a r h = (omega (arith, a.0, there), λ w lt. by w lt (below_or w m))
+  where
+    by : (w : ℕ) → w < 64 → (w < m) ⊎ (m ≤ w) → IsEntryRead (place_bytes w bytes) (slice_get es w)
+    by w lt (inl low) = a.1 w low
+    by w lt (inr high) =
+        let same = rest_unused bytes m m whole (omega arith) there h ∙ sym (rest_unused bytes m w whole high lt h) in
+        subst (IsEntryRead (place_bytes w bytes)) (sym (past es w (omega (arith, a.0, high)))) (subst (λ (p : List ℕ). IsEntryRead p None) same r)
 
 pushed_old : (es : List CatEntry) (e : CatEntry) (w : ℕ) → w < length es
     → slice_get (es ++ e ∷ []) w ≡ slice_get es w

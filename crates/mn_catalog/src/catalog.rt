@@ -1,6 +1,7 @@
+ghost use Rattle.std.specs.List.{list_all};
 ghost use Rattle.std.specs.Prelude.{◌≡◌, ◌≢◌, ◌<◌, ℕ, Option, length, slice_get, option_map, All};
-ghost use Rattle.std.specs.Prelude.{IfOk, IfErr, MatchOption, List};
-ghost use Rattle.mn_page.specs.Space.{catalog_size};
+ghost use Rattle.std.specs.Prelude.{IfOk, IfErr, MatchOption, List, ◌*◌, drop, nat_eq};
+ghost use Rattle.mn_page.specs.Space.{catalog_size, entry_size};
 ghost use Rattle.mn_page.specs.declared.entry.CatEntry.{CatEntry};
 ghost use Rattle.mn_catalog.specs.Grammar.{IsCatalog, SpellsCatalog, SpellsNoCatalog};
 ghost use Rattle.mn_catalog.specs.Grammar.{RefusesCatalog, IsWantOfMemory, IsFirstNamed};
@@ -16,7 +17,7 @@ ghost use Rattle.mn_page.specs.Forest.{heads_in};
 ghost use Rattle.mn_page.specs.Grammar.{IsAddr};
 
 use crate::CatError;
-use mn_base::{Addr, Name, NoMemory, Op, Reply, Steps, TryCopy, VersionNo};
+use mn_base::{Addr, Name, NoMemory, Op, Reply, Steps, TryCopy, VersionNo, are_zeros};
 use mn_page::{CatEntry, Entries, PageError, number_after};
 use std::alloc::Global;
 use std::marker::Model;
@@ -70,6 +71,15 @@ fn entry_at(alloc: Global, bytes: &[u8], version: u16) -> Result<Option<CatEntry
     }
 }
 
+// Whether this place and all behind it are unused.
+fn are_unused_from(bytes: &[u8], version: u16) -> bool
+    requires whole { length bytes.now ≡ catalog_size }
+    requires there { version < max_entries }
+    ensures { result ≡ list_all (λ b. nat_eq b 0) (drop (entry_size * version) bytes.now) }
+{
+    are_zeros(&bytes[ENTRY * usize::from(version)..])
+}
+
 // The used entries.
 fn used_entries(alloc: Global, bytes: &[u8]) -> Result<Vec<CatEntry>, CatError>
     requires whole { length bytes.now ≡ catalog_size }
@@ -80,6 +90,9 @@ fn used_entries(alloc: Global, bytes: &[u8]) -> Result<Vec<CatEntry>, CatError>
     let mut entries = Vec::new(alloc);
     for version in 0..PLACES {
         let Some(entry) = entry_at(alloc, bytes, version)? else {
+            if are_unused_from(bytes, version) {
+                return Ok(entries);
+            }
             continue;
         };
         if entries.len() < usize::from(version) {

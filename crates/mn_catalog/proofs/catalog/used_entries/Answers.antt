@@ -1,8 +1,8 @@
-use Rattle.std.proofs.Common.{rules, ◌≡◌, sym, subst, inl, ◌<◌, ◌≤◌, length, vec_len, arith}
+use Rattle.std.proofs.Common.{rules, ◌≡◌, sym, subst, ◌∙◌, inl, ◌<◌, ◌≤◌, length, vec_len, arith}
 use Rattle.std.proofs.lemmas.Result.{err_from_is_err_and}
 use Rattle.mn_catalog.specs.Places.{IsEntryRead, AreRead}
 use Rattle.mn_catalog.specs.Grammar.{place_bytes, RefusesCatalog, SpellsNoCatalog, IsWantOfMemory}
-use Rattle.mn_catalog.proofs.Faults.{none_read, unused_read, used_read, used_behind, none_behind, refused, outside}
+use Rattle.mn_catalog.proofs.Faults.{none_read, rest_read, unused_read, used_read, used_behind, none_behind, refused, outside}
 use Rattle.mn_catalog.proofs.catalog.used_entries.Goals as goal
 
 pub loop-version-init : goal.loop-version-init
@@ -59,3 +59,10 @@ pub returns-clause-read : goal.returns-clause-read
 returns-clause-read c =
     let all : c.loop-version.version ≡ 64 = omega (arith, c.loop-version-test.false, c.loop-version.auto.version-end) in
     subst (λ m. AreRead m c.args.bytes.now c.loop-version.entries.items) all c.loop-version.invariant
+
+pub returns-then-are_unused_from-clause-read : goal.returns-then-are_unused_from-clause-read
+returns-then-are_unused_from-clause-read c =
+    let place = place_bytes c.loop-version.version c.args.bytes.now in
+    rest_read c.args.bytes.now c.loop-version.version c.loop-version.entries.items c.requires.whole c.loop-version-test.true c.loop-version.invariant
+    (subst (IsEntryRead place) c.in_default.is c.in_ok-entry.ensures.read)
+    (sym c.are_unused_from.ensures ∙ c.if-are_unused_from.true)
