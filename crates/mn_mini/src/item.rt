@@ -1,6 +1,7 @@
 ghost use Rattle.std.specs.Prelude.{◌≡◌};
 
-use mn_base::{Bytes, NoMemory, NodeNo, TryCopy, copies_of};
+use crate::ItemBytes;
+use mn_base::{NoMemory, NodeNo, TryCopy, copies_of};
 use std::alloc::Global;
 use std::marker::Model;
 
@@ -11,7 +12,7 @@ pub enum Item {
     Compare {
         node: NodeNo,
         start: u32,
-        bytes: Bytes,
+        bytes: ItemBytes,
     },
     /// Reads the range.
     Read {
@@ -23,7 +24,7 @@ pub enum Item {
     Write {
         node: NodeNo,
         start: u32,
-        bytes: Bytes,
+        bytes: ItemBytes,
     },
 }
 

@@ -5,6 +5,7 @@
 mod doubt;
 mod error;
 mod item;
+mod item_bytes;
 mod laws;
 mod minitransaction;
 mod part;
@@ -19,6 +20,7 @@ mod spaces;
 pub use doubt::{Doubt, Doubts};
 pub use error::MiniError;
 pub use item::{Item, Items};
+pub use item_bytes::ItemBytes;
 pub use laws::{answers_fit, held_parts_apart, parts_sound};
 pub use minitransaction::{MAX_ITEMS, MAX_NODES, Minitransaction};
 pub use part::{Part, PartItem};

@@ -1,15 +1,16 @@
 ghost use Rattle.std.specs.Prelude.{◌≡◌};
 
-use mn_base::{Bytes, NoMemory, TryCopy, copies_of};
+use crate::ItemBytes;
+use mn_base::{NoMemory, TryCopy, copies_of};
 use std::alloc::Global;
 use std::marker::Model;
 
 /// An item without its node.
 #[derive(Debug)]
 pub enum PartItem {
-    Compare { start: u32, bytes: Bytes },
+    Compare { start: u32, bytes: ItemBytes },
     Read { start: u32, length: u32 },
-    Write { start: u32, bytes: Bytes },
+    Write { start: u32, bytes: ItemBytes },
 }
 
 /// It is let go by a call, which is proved once, and not in place wherever one goes.

@@ -128,6 +128,30 @@ fn push_record(out: &mut Vec<u8>, written: &Record) -> Result<(), AllocError>
     }
 }
 
+/// For how many bytes there is room at once, beside those of the items.
+const FIRST_ROOM: usize = 64;
+
+/// About how many bytes the items take.
+fn room_of(items: &[PartItem]) -> usize {
+    let mut room = FIRST_ROOM;
+    for item in items {
+        if let PartItem::Compare { bytes, .. } | PartItem::Write { bytes, .. } = item {
+            room = room
+                .saturating_add(FIRST_ROOM)
+                .saturating_add(bytes.as_slice().len());
+        }
+    }
+    room
+}
+
+/// About how many bytes a record takes.
+fn room_for(written: &Record) -> usize {
+    match written {
+        Record::Voted { part, .. } | Record::Executed { part, .. } => room_of(part.as_slice()),
+        Record::Decided { .. } | Record::Forced { .. } => FIRST_ROOM,
+    }
+}
+
 impl Record {
     /// Its spelling. Only a record in the grammar has one: an id with a run and a serial from 1 on
     /// and a client from 0 to 20; 2 to 8 participants in order; 1 to 1,024 items, compares before
@@ -137,7 +161,7 @@ impl Record {
         requires { IsRecord self.now }
         ensures { IfOk result (λ bytes. bytes ≡ record_bytes self.now) }
     {
-        let mut out = Vec::new(alloc);
+        let mut out = Vec::with_capacity(alloc, room_for(self))?;
         push_record(&mut out, self)?;
         Ok(Bytes::from_vec(out))
     }

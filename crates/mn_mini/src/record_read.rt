@@ -16,9 +16,9 @@ ghost use Rattle.mn_mini.specs.RecordGrammar.{participants_bytes, range_bytes, n
 
 use crate::minitransaction::MAX_ITEMS;
 use crate::spaces::{MAX_ITEM, SPACE};
-use crate::{Part, PartItem, Record, RecordError};
+use crate::{ItemBytes, Part, PartItem, Record, RecordError};
 use byteorder::{BigEndian, ByteOrder};
-use mn_base::{Bytes, ClientNo, NoMemory, NodeNo, Nodes, Range, Tid};
+use mn_base::{ClientNo, NoMemory, NodeNo, Nodes, Range, Tid};
 use std::alloc::Global;
 
 /// The number in the first four bytes, and what follows them.
@@ -71,7 +71,11 @@ fn first_tid(bytes: &[u8]) -> Option<(Tid, &[u8])>
 }
 
 /// So many bytes, and what follows.
-fn first_data(alloc: Global, bytes: &[u8], length: u32) -> Result<Option<(Bytes, &[u8])>, NoMemory>
+fn first_data(
+    alloc: Global,
+    bytes: &[u8],
+    length: u32,
+) -> Result<Option<(ItemBytes, &[u8])>, NoMemory>
     ensures { IfOk result (λ found.
         MatchOption found (NoneBegins (HasLength length) as_they_stand bytes.now)
         (λ x. Begins (HasLength length) as_they_stand bytes.now x.0 x.1.now)) }
@@ -81,7 +85,7 @@ fn first_data(alloc: Global, bytes: &[u8], length: u32) -> Result<Option<(Bytes,
         return Ok(None);
     }
     let (data, rest) = bytes.split_at(length);
-    Ok(Some((Bytes::from_vec(data.to_vec(alloc)?), rest)))
+    Ok(Some((ItemBytes::new(data.to_vec(alloc)?)?, rest)))
 }
 
 /// The item that the bytes begin with, if it is of this kind or a later one, and what follows.

@@ -6,10 +6,10 @@ ghost use Rattle.mn_redo.specs.declared.redo.Phase.TheVariants.{Closing};
 ghost use Rattle.mn_mini.specs.Sound.{IsSoundRequest};
 ghost use Rattle.mn_node.specs.State.{HoldsPartsApart};
 
-use mn_base::{Bytes, ClientNo, NodeNo, Nodes, StopAt, Tid};
+use mn_base::{ClientNo, NodeNo, Nodes, StopAt, Tid};
 use mn_io::{Bytes as DiskBytes, Calls};
 use mn_memdisk::MemoryDisk;
-use mn_mini::{Part, PartItem, Request};
+use mn_mini::{ItemBytes, Part, PartItem, Request};
 use mn_node::Node;
 use mn_redo::Redo;
 use std::alloc::Global;
@@ -92,7 +92,7 @@ fn write(alloc: Global, start: u32, byte: u8) -> Result<Part, Fail>
     requires { start < space_size }
     ensures { IfOk result IsPart }
 {
-    let bytes = Bytes::from_vec([byte].to_vec(alloc)?);
+    let bytes = ItemBytes::new([byte].to_vec(alloc)?)?;
     part_of(alloc, PartItem::Write { start, bytes })
 }
 
@@ -100,7 +100,7 @@ fn compare(alloc: Global, start: u32, byte: u8) -> Result<Part, Fail>
     requires { start < space_size }
     ensures { IfOk result IsPart }
 {
-    let bytes = Bytes::from_vec([byte].to_vec(alloc)?);
+    let bytes = ItemBytes::new([byte].to_vec(alloc)?)?;
     part_of(alloc, PartItem::Compare { start, bytes })
 }
 
@@ -110,11 +110,11 @@ fn vote_part(alloc: Global) -> Result<Part, Fail>
     let mut items = Vec::new(alloc);
     items.push(PartItem::Compare {
         start: 16,
-        bytes: Bytes::from_vec([0; 8].to_vec(alloc)?),
+        bytes: ItemBytes::new([0; 8].to_vec(alloc)?)?,
     })?;
     items.push(PartItem::Write {
         start: 20_480,
-        bytes: Bytes::from_vec([0x61].to_vec(alloc)?),
+        bytes: ItemBytes::new([0x61].to_vec(alloc)?)?,
     })?;
     Ok(Part::from_vec(items))
 }

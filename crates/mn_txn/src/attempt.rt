@@ -106,6 +106,7 @@ fn read_entry(
 
 /// A transaction that has read all that the try did; of the pages of the read set the leaves alone,
 /// if so wanted.
+#[inline(always)]
 fn tried_txn(alloc: Global, tried: Tried<'_>, leaves: bool) -> Result<Txn, NoMemory>
     ensures { IfOk result (λ txn. txn ≡ tried_state leaves tried.entry) }
 {

@@ -5,7 +5,8 @@ ghost use Rattle.mn_page.specs.Space.{count_size, entry_start, slot_start};
 
 use crate::image::SLOTS_START;
 use byteorder::{BigEndian, ByteOrder};
-use mn_base::{Bytes, NoMemory, NodeNo, VersionNo};
+use mn_base::{NoMemory, NodeNo, VersionNo};
+use mn_mini::ItemBytes;
 use mn_page::{CatEntry, Page};
 use std::alloc::Global;
 
@@ -35,30 +36,30 @@ pub fn slot_start(slot: u16) -> u32
 }
 
 /// The bytes of a page.
-pub fn page_bytes(alloc: Global, page: &Page) -> Result<Bytes, NoMemory>
+pub fn page_bytes(alloc: Global, page: &Page) -> Result<ItemBytes, NoMemory>
     requires few { count_in page.now.body ≤ 8 }
     requires low { length page.now.low ≤ 32 }
     ensures { IfOk result (λ bytes. bytes ≡ page_bytes page.now) }
 {
     let mut bytes = [0u8; 1_024];
     page.write(&mut bytes);
-    Ok(Bytes::from_vec(bytes.to_vec(alloc)?))
+    ItemBytes::new(bytes.to_vec(alloc)?)
 }
 
 /// The bytes of an entry.
-pub fn entry_bytes(alloc: Global, entry: &CatEntry) -> Result<Bytes, NoMemory>
+pub fn entry_bytes(alloc: Global, entry: &CatEntry) -> Result<ItemBytes, NoMemory>
     ensures { IfOk result (λ bytes. bytes ≡ entry_bytes entry.now) }
 {
     let mut bytes = [0u8; 64];
     entry.write(&mut bytes);
-    Ok(Bytes::from_vec(bytes.to_vec(alloc)?))
+    ItemBytes::new(bytes.to_vec(alloc)?)
 }
 
 /// The bytes of a count.
-pub fn count_bytes(alloc: Global, count: u16) -> Result<Bytes, NoMemory>
+pub fn count_bytes(alloc: Global, count: u16) -> Result<ItemBytes, NoMemory>
     ensures { IfOk result (λ bytes. bytes ≡ big_bytes count_size count) }
 {
     let mut bytes = [0u8; 8];
     BigEndian::write_u64(&mut bytes, u64::from(count));
-    Ok(Bytes::from_vec(bytes.to_vec(alloc)?))
+    ItemBytes::new(bytes.to_vec(alloc)?)
 }

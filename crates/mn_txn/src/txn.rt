@@ -13,8 +13,10 @@ use crate::place::Place;
 use crate::{Image, PlanError};
 use byteorder::{BigEndian, ByteOrder};
 use indexmap::IndexMap;
-use mn_base::{Addr, Bytes, NoMemory, NodeNo, TryCopy};
-use mn_mini::{Item, Items, MAX_ITEM, MAX_ITEMS, MAX_NODES, MiniError, Minitransaction, SPACE};
+use mn_base::{Addr, NoMemory, NodeNo, TryCopy};
+use mn_mini::{
+    Item, ItemBytes, Items, MAX_ITEM, MAX_ITEMS, MAX_NODES, MiniError, Minitransaction, SPACE,
+};
 use std::alloc::Global;
 use std::marker::Model;
 
@@ -34,9 +36,9 @@ const FIRST_ROOM: usize = 8;
 #[derive(Drop)]
 pub struct Txn {
     nodes: u8,
-    dirty: IndexMap<Place, Bytes>,
-    reads: IndexMap<Place, Bytes>,
-    writes: IndexMap<Place, Bytes>,
+    dirty: IndexMap<Place, ItemBytes>,
+    reads: IndexMap<Place, ItemBytes>,
+    writes: IndexMap<Place, ItemBytes>,
 }
 
 impl Model for Txn {
@@ -57,11 +59,12 @@ impl Model for Txn {
 }
 
 /// Keeps the bytes of a place, in place of older ones.
+#[inline(always)]
 fn keep(
-    images: &mut IndexMap<Place, Bytes>,
+    images: &mut IndexMap<Place, ItemBytes>,
     node: NodeNo,
     start: u32,
-    bytes: Bytes,
+    bytes: ItemBytes,
 ) -> Result<(), NoMemory>
     ensures kept { OnOk result (images_of images.new.entries
         ≡ joined (images_of images.old.entries) (image node start bytes)) }
@@ -74,7 +77,7 @@ fn keep(
 }
 
 /// Copies of the images, in the order of the items of a plan.
-fn in_order(alloc: Global, images: &IndexMap<Place, Bytes>) -> Result<Vec<Image>, NoMemory>
+fn in_order(alloc: Global, images: &IndexMap<Place, ItemBytes>) -> Result<Vec<Image>, NoMemory>
     ensures { IfOk result (λ ordered. ordered.items
         ≡ in_item_order (images_of images.now.entries)) }
 {
@@ -84,7 +87,7 @@ fn in_order(alloc: Global, images: &IndexMap<Place, Bytes>) -> Result<Vec<Image>
 }
 
 /// Copies of the images, as they joined.
-fn copied(alloc: Global, images: &IndexMap<Place, Bytes>) -> Result<Vec<Image>, NoMemory>
+fn copied(alloc: Global, images: &IndexMap<Place, ItemBytes>) -> Result<Vec<Image>, NoMemory>
     ensures { IfOk result (λ copies. copies.items ≡ images_of images.now.entries) }
 {
     let mut copies = Vec::with_capacity(alloc, images.len())?;
@@ -99,7 +102,7 @@ fn copied(alloc: Global, images: &IndexMap<Place, Bytes>) -> Result<Vec<Image>, 
 }
 
 /// Whether the bytes at a place may be an item's, over so many nodes.
-fn is_inside(nodes: u8, place: &Place, bytes: &Bytes) -> bool
+fn is_inside(nodes: u8, place: &Place, bytes: &ItemBytes) -> bool
     ensures { result ≡ is_inside nodes (image_at (place.now, bytes.now)) }
 {
     let length = bytes.as_slice().len();
@@ -111,7 +114,7 @@ fn is_inside(nodes: u8, place: &Place, bytes: &Bytes) -> bool
 }
 
 /// Whether all images may be items.
-fn are_inside(nodes: u8, images: &IndexMap<Place, Bytes>) -> bool
+fn are_inside(nodes: u8, images: &IndexMap<Place, ItemBytes>) -> bool
     ensures { result ≡ are_inside nodes (images_of images.now.entries) }
 {
     let mut inside = true;
@@ -122,7 +125,7 @@ fn are_inside(nodes: u8, images: &IndexMap<Place, Bytes>) -> bool
 }
 
 /// Whether bytes begin with the last sequence number.
-fn has_last_number(bytes: &Bytes) -> bool
+fn has_last_number(bytes: &ItemBytes) -> bool
     ensures { result ≡ is_last bytes.now }
 {
     let bytes = bytes.as_slice();
@@ -169,6 +172,7 @@ fn no_memory(error: MiniError) -> PlanError
 impl Txn {
     /// A transaction over so many nodes that has read nothing and writes nothing. NoMemory: there
     /// was no memory for it.
+    #[inline(always)]
     pub fn new(alloc: Global, nodes: u8) -> Result<Self, NoMemory>
         ensures { IfOk result (λ txn. txn
             ≡ record { nodes = nodes; dirty = []; reads = []; writes = [] }) }
@@ -194,7 +198,7 @@ impl Txn {
         ensures unchanged { OnErr result (self.new ≡ self.old) }
     {
         let start = SLOTS_START + SLOT_SIZE * u32::from(addr.slot);
-        let bytes = Bytes::from_vec(bytes.to_vec(alloc)?);
+        let bytes = ItemBytes::new(bytes.to_vec(alloc)?)?;
         keep(&mut self.dirty, addr.node, start, bytes)
     }
 
@@ -218,13 +222,13 @@ impl Txn {
             }) }
         ensures unchanged { OnErr result (self.new ≡ self.old) }
     {
-        let bytes = Bytes::from_vec(bytes.to_vec(alloc)?);
+        let bytes = ItemBytes::new(bytes.to_vec(alloc)?)?;
         keep(&mut self.reads, node, start, bytes)
     }
 
     /// Bytes that the plan writes. A place that is written again keeps its turn, with the later
     /// bytes. NoMemory: there was no memory for it, and the transaction is as before.
-    pub fn write(&mut self, node: NodeNo, start: u32, bytes: Bytes) -> Result<(), NoMemory>
+    pub fn write(&mut self, node: NodeNo, start: u32, bytes: ItemBytes) -> Result<(), NoMemory>
         ensures kept { OnOk result (self.new
             ≡ record {
               nodes = self.old.nodes;

@@ -2,9 +2,9 @@
 ghost use Rattle.std.specs.Prelude.{◌≡◌, false, IfOk};
 ghost use Rattle.mn_mini.specs.RecordGrammar.{IsTid};
 
-use mn_base::{Bytes, ClientNo, NodeNo, Tid};
+use mn_base::{ClientNo, NodeNo, Tid};
 use mn_coord::Coordinator;
-use mn_mini::{Item, Items, Minitransaction};
+use mn_mini::{Item, ItemBytes, Items, Minitransaction};
 use mn_recov::{RecovStep, Recoverer};
 use std::alloc::Global;
 use std::test::Fail;
@@ -26,7 +26,7 @@ fn writes(alloc: Global) -> Result<Minitransaction, Fail> {
         items.push(Item::Write {
             node: NodeNo(node),
             start: 20_480,
-            bytes: Bytes::from_vec([97].to_vec(alloc)?),
+            bytes: ItemBytes::new([97].to_vec(alloc)?)?,
         })?;
     }
     Ok(Minitransaction::new(alloc, 2, Items::from_vec(items))?)

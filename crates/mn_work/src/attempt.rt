@@ -100,6 +100,7 @@ fn key_of(step: &Step) -> &Key
 }
 
 /// The try failed.
+#[inline(always)]
 fn fails(cause: Option<Busy>) -> Moved
     ensures { result ≡ moved.Wants (next.Fails cause) }
 {
@@ -342,6 +343,7 @@ impl Attempt {
     }
 
     /// A page comes in, with its bytes. Whether the step that asked for it goes on at it.
+    #[inline(always)]
     fn keep(&mut self, addr: Addr, bytes: Bytes, page: Page) -> Result<bool, NoMemory>
         requires wanted { IsWanted self.old.overlay addr }
         requires page { IsPage page }

@@ -8,8 +8,8 @@ ghost use Rattle.mn_work.specs.Walks.{IsAbove};
 
 use crate::catalog::Kept;
 use crate::next::path_fault;
-use mn_base::{Addr, Busy, Bytes, NoMemory, NodeNo, Tid, TryCopy, VersionNo};
-use mn_mini::{Item, Minitransaction, NodeReply};
+use mn_base::{Addr, Busy, Bytes, NoMemory, NodeNo, Tid, VersionNo};
+use mn_mini::{Item, ItemBytes, Minitransaction, NodeReply};
 use mn_page::PageRef;
 use mn_path::Front;
 use mn_txn::{SeenPage, page_at};
@@ -129,7 +129,7 @@ pub fn fault_among(
 #[derive(Clone, Copy)]
 struct Expected<'a> {
     start: u32,
-    bytes: &'a Bytes,
+    bytes: &'a ItemBytes,
 }
 
 /// What an item compares at a node, if it does.
@@ -187,7 +187,7 @@ pub fn refusal(
             Some(expected) => Ok(Some(Busy::Moved {
                 node,
                 start: expected.start,
-                expected: expected.bytes.try_copy(alloc)?,
+                expected: Bytes::from_vec(expected.bytes.as_slice().to_vec(alloc)?),
                 found,
             })),
             None => Ok(None),

@@ -97,6 +97,7 @@ impl Known {
 
     /// The inner page that is kept of this address, once more. NoMemory: there was no memory for
     /// it.
+    #[inline(always)]
     pub fn kept_page(&mut self, alloc: Global, addr: Addr) -> Result<Option<Page>, NoMemory>
         requires pages { ArePages self.old.cache }
         ensures kept { KeepsKnown self.old self.new }

@@ -18,6 +18,7 @@ pub fn is_leaf(page: &Page) -> bool
 }
 
 /// The page that these bytes spell, or none. NoMemory: there was no memory for it.
+#[inline(always)]
 pub fn page_in(alloc: Global, bytes: &[u8]) -> Result<Option<Page>, NoMemory>
     ensures { IfOk result (TellsPage bytes.now) }
 {

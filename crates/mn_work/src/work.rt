@@ -110,6 +110,7 @@ fn version_of(op: &Op) -> Option<&Name>
 
 impl Work {
     /// An operation that has begun.
+    #[inline(always)]
     pub fn new(op: Op) -> Self
         ensures { result ≡ new_work op }
     {
