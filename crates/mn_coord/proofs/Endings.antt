@@ -2,7 +2,7 @@
 use Rattle.std.proofs.Common.{◌≡◌, ◌⊎◌, inl, inr, ℕ, zero, suc, ◌+◌, ◌<◌, ◌≤◌, Bool, true, false, not, ◌&&◌, ◌||◌, List, [], ◌∷◌, length, Option, Some, None, refl, sym, ap, subst, ◌∙◌, arith, Contains, if◌then◌else◌}
 use Rattle.std.specs.Prelude.{nat_lt, nat_eq, MatchOption, IsTrue, slice_index_or, filter, cond, ⊤}
 use Rattle.std.specs.List.{AllByRecursion, list_any, list_all}
-use Rattle.std.proofs.lemmas.Bool.{eq-eqb, eqb-true, eqb-false, ltb-true, ltb-false, lt-ltb}
+use Rattle.std.proofs.lemmas.Bool.{eq-eqb, eqb-true, ltb-true, ltb-false, lt-ltb}
 use Rattle.mn_base.specs.Ids.{node_same, node_numbers}
 use Rattle.mn_base.specs.declared.ids.NodeNo.{NodeNo}
 use Rattle.mn_base.specs.declared.ids.Tid.{Tid}
@@ -18,7 +18,7 @@ use Rattle.mn_mini.specs.Sound.{Fits}
 use Rattle.mn_world.specs.declared.entry.Entry.{Entry}
 use Rattle.mn_world.specs.Answers.{is_given_up, is_refusal, is_any_decide, is_any_prepare}
 use Rattle.mn_world.specs.Answers.{is_down_cause, is_doubt_cause}
-use Rattle.mn_world.specs.Calls.{Call, calls_of, is_prepare, is_exec, is_try, is_done, is_refused, is_stopped, is_down_reply, is_last_of, was_told, was_told_somewhere, was_done, was_decided, was_abandoned, since_begin}
+use Rattle.mn_world.specs.Calls.{Call, calls_of, is_prepare, is_exec, is_try, is_done, is_refused, is_stopped, is_down_reply, is_last_of, was_told, was_told_somewhere, was_done, was_decided, since_begin}
 use Rattle.mn_world.specs.Clients.{is_over, is_read}
 use Rattle.mn_world.proofs.Meaning.Over.{since_told}
 use Rattle.mn_world.proofs.Reading.Same.{tid_same-refl}
@@ -28,7 +28,7 @@ use Rattle.mn_coord.specs.declared.step.CoordStep.TheVariants.{Committed, Failed
 use Rattle.mn_coord.specs.Coordination.{Coordination, is_stopped_at_last, stage_of, stage_refused, stage_in, participant, try_request, step_at, step_of}
 use Rattle.mn_coord.specs.Legal.{Agrees, IsAnswerOf, answer_of, node_of}
 use Rattle.mn_coord.specs.Endings.{DoneIsSettled, FailedIsGivenUp, DoubtIsShown, issue_for}
-use Rattle.mn_coord.proofs.Order.{Ascending, at, all_at, last_at, participants_ascend}
+use Rattle.mn_coord.proofs.Order.{Ascending, at, last_at, participants_ascend}
 use Rattle.mn_coord.proofs.Tries.{any_there, none_since}
 use Rattle.mn_coord.proofs.Legal.{not_last, try_is}
 

@@ -28,7 +28,7 @@ use Rattle.mn_coord.specs.declared.stage.Stage.TheVariants as At
 use Rattle.mn_coord.specs.declared.step.CoordStep.{CoordStep}
 use Rattle.mn_coord.specs.declared.step.CoordStep.TheVariants.{Send, Abandon, Committed, Failed, Doubt}
 use Rattle.mn_coord.specs.Coordination.{Coordination, is_stopped_at_last, stage_of, stage_in, participant, try_request, step_at, step_of, after_step, after_reply, fed_at}
-use Rattle.mn_coord.specs.Legal.{has_stopped, is_doubtful, Agrees, HasAnswers, IsAnswerOf, TriesAre, answer_of, node_of, MayMake, IsAnswered, StepsAreAllowed, AnswersAgree, NoAnswerAgrees, AbandonedAgrees, names_tid, IssuesAgree}
+use Rattle.mn_coord.specs.Legal.{has_stopped, is_doubtful, Agrees, HasAnswers, answer_of, node_of, MayMake, IsAnswered, StepsAreAllowed, AnswersAgree, NoAnswerAgrees, AbandonedAgrees, names_tid, IssuesAgree}
 use Rattle.mn_coord.proofs.Stages.{asking}
 use Rattle.mn_coord.proofs.Tries.{answered_still, decided_still, tries_fresh, tries_more, tries_same}
 use Rattle.mn_coord.proofs.Order.{participants_ascend, all_of, order_down, told_apart, element, any_at, last_at, below_next, single}

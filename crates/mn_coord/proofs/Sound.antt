@@ -1,5 +1,5 @@
 -- What a coordinator hands out is sound.
-use Rattle.std.proofs.Common.{◌≡◌, ℕ, zero, suc, ◌<◌, ◌≤◌, Bool, true, false, ◌&&◌, not, List, [], ◌∷◌, length, Option, Some, None, refl, sym, subst, arith, if◌then◌else◌, slice_index_or}
+use Rattle.std.proofs.Common.{◌≡◌, ℕ, zero, suc, ◌<◌, ◌≤◌, Bool, true, false, ◌&&◌, not, List, [], ◌∷◌, length, Option, Some, None, refl, arith, if◌then◌else◌, slice_index_or}
 use Rattle.std.specs.Prelude.{nat_lt, nat_eq, MatchOption}
 use Rattle.std.specs.List.{AllByRecursion}
 use Rattle.std.proofs.lemmas.Bool.Decides.{nat_tests}
@@ -9,11 +9,10 @@ use Rattle.mn_mini.specs.declared.request.Request.TheVariants as Ask
 use Rattle.mn_mini.specs.Laws.{TakesPart, PartsAreSound}
 use Rattle.mn_mini.specs.Mini.{Mini, participants_of, part_of}
 use Rattle.mn_mini.specs.Sound.{IsSoundRequest}
-use Rattle.mn_coord.specs.declared.stage.Stage.{Stage}
 use Rattle.mn_coord.specs.declared.stage.Stage.TheVariants as At
 use Rattle.mn_coord.specs.declared.step.CoordStep.TheVariants.{Send}
-use Rattle.mn_coord.specs.declared.coordinator.Coordinator.TheInside.{Inside}
-use Rattle.mn_coord.specs.Coordination.{Coordination, IsSoundCoordination, IsSoundStep, is_stopped_at_last, participant, stage_of, stage_refused, step_at, step_of, try_request}
+use Rattle.mn_coord.specs.declared.machine.Machine.TheInside.{Inside}
+use Rattle.mn_coord.specs.Coordination.{Coordination, IsSoundCoordination, IsSoundStep, is_stopped_at_last, participant, stage_of, step_at, step_of}
 use Rattle.mn_coord.specs.Inside.{view_of, IsSoundInside}
 
 all_at : (P : NodeNo → Type 0) (ns : List NodeNo) (i : ℕ) (n : NodeNo) → AllByRecursion P ns → i < length ns → P (slice_index_or ns i n)

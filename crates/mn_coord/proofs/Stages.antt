@@ -16,7 +16,7 @@ use Rattle.mn_mini.proofs.Parts.{named_takes_part}
 use Rattle.mn_coord.specs.declared.stage.Stage.{Stage}
 use Rattle.mn_coord.specs.declared.stage.Stage.TheVariants as At
 use Rattle.mn_coord.specs.declared.step.CoordStep.TheVariants.{Send}
-use Rattle.mn_coord.specs.declared.coordinator.Coordinator.TheInside.{Inside}
+use Rattle.mn_coord.specs.declared.machine.Machine.TheInside.{Inside}
 use Rattle.mn_coord.specs.Coordination.{Coordination, is_stopped_at_last, stage_of, stage_in, try_request, step_at, step_of, fed_at}
 use Rattle.mn_coord.specs.Tries.{tries_of}
 use Rattle.mn_coord.specs.Inside.{view_of, sent_of, IsSoundInside}

@@ -1,5 +1,5 @@
 -- What else a client's list holds of a minitransaction: its tries and no others, and its decisions.
-use Rattle.std.proofs.Common.{◌≡◌, ◌⊎◌, inl, inr, ℕ, zero, suc, ◌+◌, ◌<◌, ◌≤◌, Bool, true, false, ◌&&◌, ◌||◌, List, [], ◌∷◌, ◌++◌, Option, Some, None, refl, sym, ap, subst, ◌∙◌, arith, Contains}
+use Rattle.std.proofs.Common.{◌≡◌, ◌⊎◌, inl, inr, ℕ, zero, suc, ◌<◌, ◌≤◌, Bool, true, false, ◌&&◌, ◌||◌, List, [], ◌∷◌, ◌++◌, Option, Some, None, refl, sym, ap, subst, ◌∙◌, arith, Contains}
 use Rattle.std.specs.List.{list_any}
 use Rattle.std.proofs.lemmas.List.Folds.{list_any-append}
 use Rattle.std.proofs.lemmas.List.Elements.{Contains-append_cases}
@@ -8,12 +8,11 @@ use Rattle.mn_base.specs.declared.ids.Tid.{Tid}
 use Rattle.mn_base.specs.Ids.{node_same}
 use Rattle.mn_base.proofs.Booleans.{clash, falsely, or_left, or_right}
 use Rattle.mn_mini.specs.declared.reply.NodeReply.{NodeReply}
-use Rattle.mn_mini.specs.declared.reply.NodeReply.TheVariants as Say
 use Rattle.mn_mini.specs.Mini.{Mini}
 use Rattle.mn_world.specs.declared.entry.Entry.{Entry}
 use Rattle.mn_world.specs.Calls.{Call, call_in, calls_of, is_decide, is_done, is_try, was_decided, since_begin}
 use Rattle.mn_world.proofs.Meaning.Over.{since_told}
-use Rattle.mn_coord.specs.Legal.{IsAnswerOf, TriesAre, answer_of, names_tid}
+use Rattle.mn_coord.specs.Legal.{IsAnswerOf, TriesAre, names_tid}
 
 -- Tests of calls
 

@@ -1,5 +1,5 @@
 -- What a client's list shows once a coordinator has ended.
-use Rattle.std.specs.Prelude.{◌≡◌, ◌⊎◌, true, IsTrue, List, Option, Some}
+use Rattle.std.specs.Prelude.{◌≡◌, ◌⊎◌, true, IsTrue, List, Some}
 use Rattle.std.specs.List.{list_any}
 use Rattle.mn_base.specs.declared.ids.NodeNo.{NodeNo}
 use Rattle.mn_mini.specs.declared.reply.NodeReply.{NodeReply}

@@ -6,7 +6,7 @@ use Rattle.mn_mini.specs.Mini.{IsSound, participants_of}
 use Rattle.mn_mini.specs.RecordGrammar.{IsTid}
 use Rattle.mn_coord.specs.Coordination.{Coordination}
 use Rattle.mn_coord.specs.Tries.{tries_of}
-use Rattle.mn_coord.specs.declared.coordinator.Coordinator.TheInside.{Inside}
+use Rattle.mn_coord.specs.declared.machine.Machine.TheInside.{Inside}
 
 abbrev pub view_of : Inside → Coordination
 view_of c =

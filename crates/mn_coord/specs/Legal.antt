@@ -1,5 +1,5 @@
 -- A coordinator makes only entries that the commit protocol allows its client.
-use Rattle.std.specs.Prelude.{◌≡◌, ◌≢◌, ℕ, ◌+◌, ◌<◌, ◌≤◌, Bool, Contains, slice_index_or, true}
+use Rattle.std.specs.Prelude.{◌≡◌, ◌≢◌, ℕ, ◌<◌, ◌≤◌, Bool, Contains, slice_index_or, true}
 use Rattle.std.specs.Prelude.{false, ◌&&◌, ◌⊎◌, nat_lt, nat_eq, List, [], ◌∷◌, length, Option}
 use Rattle.std.specs.Prelude.{Some, None, MatchOption, ⊤}
 use Rattle.std.specs.List.{list_any}

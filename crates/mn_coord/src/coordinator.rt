@@ -6,121 +6,34 @@ ghost use Rattle.mn_mini.specs.RecordGrammar.{IsTid};
 ghost use Rattle.mn_coord.specs.Coordination.{try_request};
 ghost use Rattle.mn_coord.specs.Tries.{tries_of};
 
-use crate::stage::stage_for;
-use crate::{CoordStep, Outcome, Stage};
-use mn_base::{NoMemory, NodeNo, Tid, TryCopy};
-use mn_mini::{Minitransaction, NodeReply, Reads, Request, parts_sound};
+use crate::machine::Machine;
+use crate::{CoordStep, Outcome};
+use mn_base::{NoMemory, Tid};
+use mn_mini::{Minitransaction, NodeReply, Reads, parts_sound};
 use std::alloc::Global;
-use std::collections::VecDeque;
 use std::marker::Model;
 
-/// A minitransaction on its way. Contracts see what it was answered so far.
+/// A minitransaction on its way. Contracts see what it was answered so far. It is moved often, so
+/// what it keeps lies elsewhere.
 #[derive(Debug)]
 pub struct Coordinator {
-    tid: Tid,
-    mini: Minitransaction,
-    /// The Prepares or the Exec that weren't handed out.
-    requests: VecDeque<Request>,
-    /// What each participant read.
-    reads: Vec<Reads>,
-    done: usize,
-    refused: Option<NodeReply>,
-    told: bool,
-    decided: usize,
-    asked: bool,
+    machine: Box<Machine>,
 }
 
 /// It is let go by a call, which is proved once, and not in place wherever one goes.
 impl Drop for Coordinator {
     fn drop(self) {
-        let Coordinator {
-            tid: _tid,
-            mini,
-            requests,
-            reads,
-            done: _done,
-            refused,
-            told: _told,
-            decided: _decided,
-            asked: _asked,
-        } = self;
-        drop(mini);
-        drop(requests);
-        drop(reads);
-        drop(refused);
+        let Coordinator { machine } = self;
+        drop(machine);
     }
 }
 
 impl Model for Coordinator {
     ghost use Rattle.mn_coord.specs.Coordination.{Coordination};
-    ghost use Rattle.mn_coord.specs.Inside.{view_of, IsSoundInside};
 
     ghost Value = { Coordination };
 
-    ghost view = { view_of };
-
-    ghost invariant = { IsSoundInside };
-}
-
-/// How many participants it has. There is one, since it has an item.
-fn participants_in(mini: &Minitransaction) -> usize
-    ensures count { result ≡ length (participants_of mini.now) }
-    ensures some { 1 ≤ result }
-    ensures sound { IsSound mini.now }
-{
-    let _items = mini.items();
-    mini.participants().as_slice().len()
-}
-
-/// The participant of this number.
-fn node_at(mini: &Minitransaction, number: usize) -> NodeNo
-    requires { number < length (participants_of mini.now) }
-    ensures { result ≡ slice_index_or (participants_of mini.now) number (record { 0 = 0 }) }
-{
-    mini.participants().as_slice()[number]
-}
-
-/// The request by which the participant takes part.
-fn try_of(
-    alloc: Global,
-    tid: Tid,
-    mini: &Minitransaction,
-    node: NodeNo,
-) -> Result<Request, NoMemory>
-    ensures { IfOk result (λ request. request ≡ try_request tid mini.now node) }
-{
-    let part = mini.part(alloc, node)?;
-    if mini.participants().as_slice().len() == 1 {
-        Ok(Request::Exec { tid, part })
-    } else {
-        Ok(Request::Prepare {
-            tid,
-            participants: mini.participants().try_copy(alloc)?,
-            part,
-        })
-    }
-}
-
-/// The requests by which the participants take part, in order.
-fn tries_for(alloc: Global, tid: Tid, mini: &Minitransaction) -> Result<VecDeque<Request>, NoMemory>
-    ensures { IfOk result (λ requests. requests.items ≡ tries_of tid mini.now) }
-{
-    let mut requests = VecDeque::new(alloc);
-    for node in mini.participants().as_slice() {
-        requests.push_back(try_of(alloc, tid, mini, *node)?)?;
-    }
-    Ok(requests)
-}
-
-/// Nothing for each participant.
-fn no_reads(alloc: Global, participants: usize) -> Result<Vec<Reads>, NoMemory>
-    ensures { IfOk result (λ reads. reads.items ≡ replicate participants []) }
-{
-    let mut reads = Vec::new(alloc);
-    for _at in 0..participants {
-        reads.push(Reads::from_vec(Vec::new(alloc)))?;
-    }
-    Ok(reads)
+    ghost view = { λ c. c.machine.value };
 }
 
 impl Coordinator {
@@ -152,18 +65,9 @@ impl Coordinator {
         ensures agrees { (es : List Entry) (e : Entry) → IsFresh tid es → e.node ≡ None
             → e.what ≡ is.Issue tid mini → IfOk result (λ c. Agrees (e ∷ es) c) }
     {
-        let requests = tries_for(alloc, tid, &mini)?;
-        let reads = no_reads(alloc, participants_in(&mini))?;
+        let machine = Machine::new(alloc, tid, mini)?;
         Ok(Coordinator {
-            tid,
-            mini,
-            requests,
-            reads,
-            done: 0,
-            refused: None,
-            told: false,
-            decided: 0,
-            asked: false,
+            machine: Box::new(alloc, machine)?,
         })
     }
 
@@ -171,24 +75,30 @@ impl Coordinator {
     fn is_sound(&self)
         ensures { IsSoundCoordination self.now }
     {
-        let _items = self.mini.items();
+        self.machine.is_sound();
     }
 
-    fn stage(&self) -> Stage
-        ensures { result ≡ stage_in self.now }
+    #[inline(always)]
+    fn advance(&mut self) -> CoordStep
+        requires idle { self.old.asked ≡ false }
+        ensures step { result ≡ step_of self.old }
+        ensures after { self.new ≡ after_step self.old result }
     {
-        stage_for(
-            self.mini.participants().as_slice().len(),
-            self.done,
-            self.refused.as_ref(),
-            self.told,
-            self.decided,
-        )
+        self.machine.advance()
+    }
+
+    #[inline(always)]
+    fn take(&mut self, reply: NodeReply)
+        requires { self.old.asked ≡ true }
+        ensures { self.new ≡ fed self.old reply }
+    {
+        self.machine.take(reply);
     }
 
     /// What it wants next. A request is handed out once, and Abandon is told once. It takes no
     /// memory. The client may make it, by the commit protocol, where its list holds the issue and
     /// the calls so far.
+    #[inline(always)]
     pub fn next(&mut self) -> CoordStep
         requires idle { self.old.asked ≡ false }
         ensures step { result ≡ step_of self.old }
@@ -208,55 +118,8 @@ impl Coordinator {
         self.advance()
     }
 
-    fn advance(&mut self) -> CoordStep
-        requires idle { self.old.asked ≡ false }
-        ensures step { result ≡ step_of self.old }
-        ensures after { self.new ≡ after_step self.old result }
-    {
-        match self.stage() {
-            Stage::Ask => {
-                self.asked = true;
-                let node = node_at(&self.mini, self.done);
-                match self.requests.pop_front() {
-                    Some(request) => CoordStep::Send { node, request },
-                    None => unreachable!(),
-                }
-            }
-            Stage::Commit => {
-                self.asked = true;
-                CoordStep::Send {
-                    node: node_at(&self.mini, self.decided),
-                    request: Request::Decide {
-                        tid: self.tid,
-                        yes: true,
-                    },
-                }
-            }
-            Stage::Abandon => {
-                self.told = true;
-                CoordStep::Abandon
-            }
-            Stage::Cancel => {
-                self.asked = true;
-                CoordStep::Send {
-                    node: node_at(&self.mini, self.decided),
-                    request: Request::Decide {
-                        tid: self.tid,
-                        yes: false,
-                    },
-                }
-            }
-            Stage::Committed => CoordStep::Committed,
-            Stage::Failed => CoordStep::Failed {
-                node: node_at(&self.mini, self.done),
-            },
-            Stage::Doubt => CoordStep::Doubt {
-                node: node_at(&self.mini, self.done),
-            },
-        }
-    }
-
     /// The reply to the request that is out. It takes no memory.
+    #[inline(always)]
     pub fn feed(&mut self, reply: NodeReply)
         requires out { self.old.asked ≡ true }
         ensures fed { self.new ≡ fed self.old reply }
@@ -272,58 +135,28 @@ impl Coordinator {
         self.take(reply);
     }
 
-    fn take(&mut self, reply: NodeReply)
-        requires { self.old.asked ≡ true }
-        ensures { self.new ≡ fed self.old reply }
-    {
-        let stage = self.stage();
-        self.asked = false;
-        match (stage, reply) {
-            (Stage::Ask, NodeReply::Done { reads }) => {
-                self.reads[self.done] = reads;
-                self.done += 1;
-            }
-            (Stage::Ask, reply) => self.refused = Some(reply),
-            (Stage::Commit | Stage::Cancel, _) => self.decided += 1,
-            _ => {}
-        }
-    }
-
     /// What each participant read, by participant, where it is committed.
     pub fn reads(&self) -> &[Reads]
         ensures { result.now ≡ self.now.reads }
     {
-        &self.reads
+        self.machine.reads()
     }
 
     /// The reply by which it failed, or is in doubt.
     pub fn reply(&self) -> Option<&NodeReply>
         ensures { option_map (λ r. r.now) result ≡ self.now.refused }
     {
-        self.refused.as_ref()
+        self.machine.reply()
     }
 
     /// What it ends with. It takes no memory.
+    #[inline(always)]
     pub fn into_outcome(self) -> Outcome
         ensures mini { result.mini ≡ self.mini }
         ensures reads { result.reads.items ≡ self.reads }
         ensures reply { result.reply ≡ self.refused }
     {
-        let Coordinator {
-            tid: _tid,
-            mini,
-            requests: _requests,
-            reads,
-            done: _done,
-            refused,
-            told: _told,
-            decided: _decided,
-            asked: _asked,
-        } = self;
-        Outcome {
-            mini,
-            reads,
-            reply: refused,
-        }
+        let Coordinator { machine } = self;
+        Box::into_inner(machine).into_outcome()
     }
 }

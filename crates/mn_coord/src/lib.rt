@@ -5,6 +5,7 @@
 
 mod coordinator;
 mod laws;
+mod machine;
 mod stage;
 mod step;
 

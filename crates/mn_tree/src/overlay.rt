@@ -23,7 +23,8 @@ pub struct Overlay {
     tree: VersionTree,
     version: VersionNo,
     root: Addr,
-    draft: Draft,
+    /// It is moved often with the rest, so it lies elsewhere.
+    draft: Box<Draft>,
     wanted: Option<Wanted>,
 }
 
@@ -37,11 +38,11 @@ impl Model for Overlay {
       parents = o.tree;
       version = o.version;
       root = o.root;
-      draft = drafted o.draft;
+      draft = drafted o.draft.value;
       wanted = o.wanted;
     } };
 
-    ghost invariant = { λ o. (o.version.0 < 64) × (length o.draft.origins.items ≤ 2 ^ 16) };
+    ghost invariant = { λ o. (o.version.0 < 64) × (length o.draft.value.origins.items ≤ 2 ^ 16) };
 }
 
 impl Overlay {
@@ -60,7 +61,7 @@ impl Overlay {
             tree,
             version,
             root,
-            draft: Draft::new(alloc),
+            draft: Box::new(alloc, Draft::new(alloc))?,
             wanted: None,
         })
     }

@@ -42,6 +42,7 @@ fn fence_of(alloc: Global, key: &Key) -> Result<Bytes, NoMemory>
 }
 
 /// An old page with other fences above and another body.
+#[inline(always)]
 fn changed(alloc: Global, page: &Page, high: Option<Key>, body: Body) -> Result<Page, NoMemory>
     ensures { IfOk result (λ made. made ≡ page_with page.now page.now.low high body) }
 {
@@ -56,6 +57,7 @@ fn changed(alloc: Global, page: &Page, high: Option<Key>, body: Body) -> Result<
 }
 
 /// An old page that ends at the separator now, with the left half of its body.
+#[inline(always)]
 fn left_half(alloc: Global, page: &Page, separator: &Key, left: Body) -> Result<Page, NoMemory>
     ensures { IfOk result (λ made. made
         ≡ page_with page.now page.now.low (Some separator.now) left) }
@@ -65,6 +67,7 @@ fn left_half(alloc: Global, page: &Page, separator: &Key, left: Body) -> Result<
 }
 
 /// A page of the first number, made for a version.
+#[inline(always)]
 fn fresh_page(version: VersionNo, low: Bytes, high: Option<Key>, body: Body) -> Page
     ensures { result ≡ new_page version low high body }
 {
@@ -79,6 +82,7 @@ fn fresh_page(version: VersionNo, low: Bytes, high: Option<Key>, body: Body) -> 
 }
 
 /// An old page with the version in its copied set.
+#[inline(always)]
 fn marked(alloc: Global, version: VersionNo, page: &Page) -> Result<Page, NoMemory>
     requires { version.0 < 64 }
     ensures { IfOk result (λ made. made ≡ copied_for version page.now) }
@@ -90,6 +94,7 @@ fn marked(alloc: Global, version: VersionNo, page: &Page) -> Result<Page, NoMemo
 
 impl Writer {
     /// Adds a new page, which was made of the one that was read at `origin`.
+    #[inline(always)]
     fn create(&mut self, page: Page, origin: Addr) -> Result<Addr, NoMemory>
         ensures at { IfOk result (λ addr. addr ≡ new_addr self.old.fresh) }
         ensures writes { OnOk result
@@ -110,6 +115,7 @@ impl Writer {
     }
 
     /// Changes a page where it stands.
+    #[inline(always)]
     fn put(&mut self, addr: Addr, page: Page) -> Result<(), NoMemory>
         ensures writes { OnOk result
             (self.new.writes.items ≡ self.old.writes.items ++ change addr page ∷ []) }
@@ -125,6 +131,7 @@ impl Writer {
     }
 
     /// Changes the body of a page where it stands.
+    #[inline(always)]
     fn put_body(&mut self, alloc: Global, held: &HeldPage, body: Body) -> Result<(), NoMemory>
         ensures writes { OnOk result (self.new.writes.items ≡ self.old.writes.items
             ++ change held.now.addr (page_with held.now.page held.now.page.low held.now.page.high
@@ -138,6 +145,7 @@ impl Writer {
     }
 
     /// Leaves the left half of a page where it stands.
+    #[inline(always)]
     fn put_left(
         &mut self,
         alloc: Global,

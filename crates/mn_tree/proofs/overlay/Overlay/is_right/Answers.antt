@@ -23,4 +23,4 @@ returns-in-Some c =
     (live_is c.self.inside.tree c.self.inside.version.0 c.args.page.now.made.0 c.args.page.now.copied)
     ∙ ap (λ k. serves c.self.inside.tree c.args.page.now.made.0 c.args.page.now.copied c.self.inside.version.0 && (covers_key c.args.page.now.low c.args.page.now.high k && may_stand c.in-Some.wanted.above (height_of c.args.page.now.body))) c.as_slice.ensures.bytes
     ∙ sym (ap (λ (s : TreeState). fits s c.args.page.now) (sym c.self.view_is)
-    ∙ ap (λ (w : Option Wanted). option_map_or (may_come_in (record { parents = c.self.inside.tree; version = c.self.inside.version; root = c.self.inside.root; draft = drafted c.self.inside.draft; wanted = c.self.inside.wanted }) c.args.page.now) w false) c.in-Some.is)
+    ∙ ap (λ (w : Option Wanted). option_map_or (may_come_in (record { parents = c.self.inside.tree; version = c.self.inside.version; root = c.self.inside.root; draft = drafted c.self.inside.draft.value; wanted = c.self.inside.wanted }) c.args.page.now) w false) c.in-Some.is)

@@ -1,7 +1,7 @@
 use Rattle.std.proofs.Common.{◌∙◌, sym, ap}
 use Rattle.mn_coord.specs.Coordination.{Coordination, stage_in, step_of}
 use Rattle.mn_coord.proofs.Stages.{asks}
-use Rattle.mn_coord.proofs.coordinator.Coordinator.advance.Goals as goal
+use Rattle.mn_coord.proofs.machine.Machine.advance.Goals as goal
 
 pub returns-in-Some-clause-step : goal.returns-in-Some-clause-step
 returns-in-Some-clause-step c =

@@ -1,6 +1,6 @@
 use Rattle.std.proofs.Common.{◌≡◌, map, take}
 use Rattle.mn_coord.specs.Coordination.{try_request}
-use Rattle.mn_coord.proofs.coordinator.tries_for.Given as goal
+use Rattle.mn_coord.proofs.machine.tries_for.Given as goal
 
 -- the requests so far
 abbrev pub invariant-loop-node : goal.invariant-loop-node

@@ -1,7 +1,7 @@
 use Rattle.std.proofs.Common.{ℕ, ◌≤◌, ◌∙◌, [], false, length, None, refl, subst, ap}
 use Rattle.std.proofs.lemmas.List.{length-replicate}
 use Rattle.mn_coord.proofs.Legal.{issues_agree}
-use Rattle.mn_coord.proofs.coordinator.Coordinator.new.Goals as goal
+use Rattle.mn_coord.proofs.machine.Machine.new.Goals as goal
 
 pub returns-clause-agrees : goal.returns-clause-agrees
 returns-clause-agrees c = λ es e fresh none what.
