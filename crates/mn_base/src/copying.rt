@@ -12,6 +12,7 @@ pub trait TryCopy: Sized {
 }
 
 impl<T: TryCopy> TryCopy for Option<T> {
+    #[inline(always)]
     fn try_copy(&self, alloc: Global) -> Result<Self, NoMemory> {
         match self {
             Some(value) => Ok(Some(value.try_copy(alloc)?)),
@@ -21,6 +22,7 @@ impl<T: TryCopy> TryCopy for Option<T> {
 }
 
 impl<const N: usize> TryCopy for ArrayVec<u8, N> {
+    #[inline(always)]
     fn try_copy(&self, _alloc: Global) -> Result<Self, NoMemory> {
         match ArrayVec::try_from(self.as_slice()) {
             Ok(copy) => Ok(copy),

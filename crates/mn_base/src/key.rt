@@ -27,6 +27,7 @@ impl Model for Key {
 impl Key {
     /// The key of these bytes. Empty: there is none. TooLong: there are `n`, more than 32.
     /// NoMemory: there was no memory for it.
+    #[inline(always)]
     pub fn new(alloc: Global, bytes: &[u8]) -> Result<Self, BaseError>
         ensures ok { IfOk result (λ key. key ≡ bytes.now) }
         ensures within { OnOk result ((1 ≤ length bytes.now) × (length bytes.now ≤ MAX_KEY)) }
@@ -50,6 +51,7 @@ impl Key {
 }
 
 impl TryCopy for Key {
+    #[inline(always)]
     fn try_copy(&self, alloc: Global) -> Result<Self, NoMemory> {
         Ok(Key {
             bytes: self.bytes.try_copy(alloc)?,

@@ -50,6 +50,7 @@ impl Name {
     /// The name of these bytes. BadName: `at` is the first byte at fault, 16 for the first byte too
     /// many, 0 for no byte. NoMemory: there was no memory for it.
     #[tactic(auto, using(crate::proofs::Names::no_fault_is_name))]
+    #[inline(always)]
     pub fn new(alloc: Global, bytes: &[u8]) -> Result<Self, BaseError>
         ensures ok { IfOk result (λ name. name ≡ bytes.now) }
         ensures right { OnOk result (IsName bytes.now) }
@@ -73,6 +74,7 @@ impl Name {
 }
 
 impl TryCopy for Name {
+    #[inline(always)]
     fn try_copy(&self, alloc: Global) -> Result<Self, NoMemory> {
         Ok(Name {
             bytes: self.bytes.try_copy(alloc)?,

@@ -27,6 +27,7 @@ impl Model for Value {
 impl Value {
     /// The value of these bytes. TooLong: there are `n`, more than 64. NoMemory: there was no
     /// memory for it.
+    #[inline(always)]
     pub fn new(alloc: Global, bytes: &[u8]) -> Result<Self, BaseError>
         ensures ok { IfOk result (λ value. value ≡ bytes.now) }
         ensures within { OnOk result (length bytes.now ≤ MAX_VALUE) }
@@ -47,6 +48,7 @@ impl Value {
 }
 
 impl TryCopy for Value {
+    #[inline(always)]
     fn try_copy(&self, alloc: Global) -> Result<Self, NoMemory> {
         Ok(Value {
             bytes: self.bytes.try_copy(alloc)?,

@@ -201,6 +201,7 @@ impl Client {
 
     /// Adds a step that it makes by itself. NoMemory: its list has no room, and there is no memory
     /// for more; the run ends.
+    #[inline(always)]
     fn add<X: Transport>(
         &mut self,
         table: &mut X,
@@ -224,6 +225,7 @@ impl Client {
     }
 
     /// Makes a step by itself that begins no operation, and issues nothing.
+    #[inline(always)]
     fn make<X: Transport>(
         &mut self,
         table: &mut X,

@@ -104,6 +104,7 @@ impl Desk {
     }
 
     /// Sends a request. NoMemory: there was none for it or for its entries, and there is no entry.
+    #[inline(always)]
     pub(crate) fn send<X: Transport>(
         &mut self,
         alloc: Global,

@@ -27,10 +27,12 @@ impl<'a, X: Transport, G: Gate> Transport for Gated<'a, X, G> {
         self.inner.nodes()
     }
 
+    #[inline(always)]
     fn put(&mut self, pass: &mut Pass<CoreLaw>, list: &mut ClientList, what: What) {
         self.inner.put(pass, list, what);
     }
 
+    #[inline(always)]
     fn send(
         &mut self,
         alloc: Global,

@@ -36,6 +36,7 @@ impl<N: Named, D: Disk> Table<N, D> {
     /// Calls a node for an actor, and stops it inside the call where that is asked. NoMemory: there
     /// was none, and there is no entry. It never comes for a decision that is owed, where the list
     /// has room.
+    #[inline(always)]
     pub fn call(
         &mut self,
         alloc: Global,
@@ -161,10 +162,12 @@ impl<N: Named, D: Disk> Transport for Table<N, D> {
         self.stations.len() as u8
     }
 
+    #[inline(always)]
     fn put(&mut self, pass: &mut Pass<CoreLaw>, list: &mut ClientList, what: What) {
         put_alone(&self.board, pass, list, what);
     }
 
+    #[inline(always)]
     fn send(
         &mut self,
         alloc: Global,

@@ -109,6 +109,7 @@ pub trait Transport {
 }
 
 /// Puts a step on a board that an actor makes by itself.
+#[inline(always)]
 pub fn put_alone(
     board: &Board<CoreLaw>,
     pass: &mut Pass<CoreLaw>,

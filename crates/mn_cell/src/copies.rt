@@ -97,6 +97,7 @@ pub fn copy_of(alloc: Global, reply: &NodeReply, blanks: Vec<Bytes>) -> Result<N
 }
 
 /// The step of a call.
+#[inline(always)]
 pub fn what_of(request: Request, stop: Option<StopAt>, reply: NodeReply) -> What
     ensures { result ≡ what_said request stop reply }
 {

@@ -205,6 +205,7 @@ impl NodeList {
     }
 
     /// Puts an entry at the end. It takes no memory.
+    #[inline(always)]
     pub fn push(&mut self, place: u64, entry: Entry)
         requires place { HasRoomForStep self.old entry.client (decided_in entry.what) }
         ensures { self.new.entries ≡ self.old.entries ++ (place, entry) ∷ [] }

@@ -64,10 +64,12 @@ impl<'a, N: Named, D: Disk, T: Wait> Transport for Wires<'a, N, D, T> {
         self.nodes
     }
 
+    #[inline(always)]
     fn put(&mut self, pass: &mut Pass<CoreLaw>, list: &mut ClientList, what: What) {
         put_alone(self.board, pass, list, what);
     }
 
+    #[inline(always)]
     fn send(
         &mut self,
         alloc: Global,

@@ -161,6 +161,7 @@ impl<'a> Caller<'a> {
     }
 
     /// Notes what an entry of its own at this place has read.
+    #[inline(always)]
     fn note(&mut self, place: usize, entry: &'a Entry) -> Result<(), NoMemory>
         ensures { OnOk result (self.new ≡ with_seen place (seen_at entry.now) self.old) }
     {
@@ -179,6 +180,7 @@ impl<'a> Caller<'a> {
     }
 
     /// Takes an entry of its own at this place.
+    #[inline(always)]
     fn take(&mut self, place: usize, entry: &'a Entry) -> Result<(), NoMemory>
         ensures { OnOk result (self.new
             ≡ state_after place entry.now.what (seen_at entry.now) self.old) }
@@ -255,6 +257,7 @@ fn is_read(mini: &Minitransaction) -> bool
     matches!(mini.items(), [Item::Read { .. }])
 }
 
+#[inline(always)]
 fn same_begun<'a>(begun: &Begun<'a>) -> Begun<'a>
     ensures { result ≡ begun.now }
 {
@@ -331,6 +334,7 @@ pub fn is_standing(standing: &HashSet<OpKey>, client: ClientNo, number: u32) -> 
 
 /// Puts an operation into the empty slot of its place. NoMemory: another stands there, as at no
 /// place of a run.
+#[inline(always)]
 fn put<'a>(slots: &mut Vec<Option<Act<'a>>>, place: usize, act: Act<'a>) -> Result<(), NoMemory>
     ensures { OnOk result (IsPutInto slots.old.items place act.entry slots.new.items) }
 {

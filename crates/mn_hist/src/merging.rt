@@ -9,6 +9,7 @@ use mn_world::{ClientList, Entry, EntryList, Log};
 use std::alloc::Global;
 
 /// Puts an entry into the slot of its place.
+#[inline(always)]
 fn put(slots: &mut Vec<Option<Entry>>, place: u64, entry: Entry) -> Result<(), NoMemory>
     ensures { OnOk result (slots.new.items ≡ put_at place entry slots.old.items) }
 {

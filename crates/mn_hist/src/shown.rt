@@ -60,6 +60,7 @@ fn is_slot(start: u32) -> bool
 }
 
 /// The read that a call brings: one of one read item that was done.
+#[inline(always)]
 fn read_by<'a>(node: NodeNo, request: &Request, reply: &'a NodeReply) -> Option<Read<'a>>
     ensures { option_to_list (option_map as_seen result) ≡ seen_by node request.now reply.now }
 {
@@ -105,6 +106,7 @@ impl<'a> Read<'a> {
 }
 
 /// The catalog that the bytes spell.
+#[inline(always)]
 fn catalog_in(alloc: Global, bytes: &[u8]) -> Result<Option<Catalog>, NoMemory>
     ensures { IfOk result (λ found.
         MatchOption found ((entries : List Head) → SpellsCatalog bytes.now entries → ⊥)
@@ -267,6 +269,7 @@ fn lone_get(steps: &Steps) -> Option<&Key>
 }
 
 /// What a leaf that covers the key has there.
+#[inline(always)]
 fn value_in<'a>(page: &'a Page, key: &Key) -> Option<Option<&'a Value>>
     ensures { option_map (λ found. option_map (λ v. v.now) found) result
         ≡ leaf_value page.now key.now }
@@ -310,6 +313,7 @@ fn is_found(reply: &Reply, value: Option<&Value>) -> bool
 }
 
 /// The page that the bytes spell.
+#[inline(always)]
 fn page_in(alloc: Global, bytes: &[u8]) -> Result<Option<Page>, NoMemory>
     ensures { IfOk result (λ found.
         MatchOption found ((page : Leaf) → SpellsPage bytes.now page → ⊥)

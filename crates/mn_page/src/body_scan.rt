@@ -51,6 +51,7 @@ fn children_ascend(children: &[ChildRef<'_>]) -> bool
 }
 
 /// The pairs of a leaf, so many, and what follows them.
+#[inline(always)]
 fn leaf_pairs<'a>(
     low: &[u8],
     high: Option<&[u8]>,
@@ -76,6 +77,7 @@ fn leaf_pairs<'a>(
 }
 
 /// The children of an inner page, so many after the first, and what follows them.
+#[inline(always)]
 fn inner_children<'a>(
     low: &[u8],
     high: Option<&[u8]>,
@@ -103,6 +105,7 @@ fn inner_children<'a>(
 }
 
 /// A leaf of so many pairs, and what follows it.
+#[inline(always)]
 fn leaf_body<'a>(
     low: &[u8],
     high: Option<&[u8]>,
@@ -134,6 +137,7 @@ fn leaf_body<'a>(
 }
 
 /// An inner page of the first child and so many more, and what follows it.
+#[inline(always)]
 fn inner_body<'a>(
     height: u16,
     low: &[u8],
@@ -167,6 +171,7 @@ fn inner_body<'a>(
 }
 
 /// The body of a page of this height and with these fences, behind its count, and what follows it.
+#[inline(always)]
 pub fn first_body<'a>(
     height: u16,
     low: &[u8],

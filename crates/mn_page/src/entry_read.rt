@@ -26,6 +26,7 @@ struct EntryRef<'a> {
 }
 
 /// Whether the version is frozen, and what follows.
+#[inline(always)]
 fn first_state(bytes: &[u8]) -> Option<(bool, &[u8])>
     ensures found { IfSome result (λ x. bytes.now ≡ state_byte x.0 ∷ x.1.now) }
     ensures only { (frozen : Bool) (more : List ℕ) → bytes.now ≡ state_byte frozen ∷ more
@@ -40,6 +41,7 @@ fn first_state(bytes: &[u8]) -> Option<(bool, &[u8])>
 }
 
 /// The version's parent, and what follows.
+#[inline(always)]
 fn first_parent(bytes: &[u8]) -> Option<(Option<VersionNo>, &[u8])>
     ensures found { IfSome result (λ x. IsParent x.0 × (bytes.now ≡ parent_byte x.0 ∷ x.1.now)) }
     ensures only { (parent : Option VersionNo) (more : List ℕ) → IsParent parent
@@ -57,6 +59,7 @@ fn first_parent(bytes: &[u8]) -> Option<(Option<VersionNo>, &[u8])>
 }
 
 /// The entry that the bytes begin with, whatever its name's bytes are, and what follows it.
+#[inline(always)]
 fn first_entry(bytes: &[u8]) -> Option<(EntryRef<'_>, &[u8])>
     ensures found { IfSome result
         (λ x. Begins IsNamed entry_text bytes.now (entry_seen x.0) x.1.now) }
@@ -81,6 +84,7 @@ fn first_entry(bytes: &[u8]) -> Option<(EntryRef<'_>, &[u8])>
 }
 
 /// The entry that the bytes are, all of them, whatever its name's bytes are.
+#[inline(always)]
 fn whole_entry(bytes: &[u8]) -> Option<EntryRef<'_>>
     ensures found { IfSome result
         (λ x. IsNamed (entry_seen x) × (bytes.now ≡ entry_bytes (entry_seen x))) }

@@ -17,6 +17,7 @@ use mn_base::{Bytes, Key, NoMemory, Pair, Pairs, Value};
 use std::alloc::Global;
 
 /// The key of these bytes.
+#[inline(always)]
 fn key_of(alloc: Global, bytes: &[u8]) -> Result<Key, NoMemory>
     ensures { IfOk result (λ key. key ≡ bytes.now) }
 {
@@ -27,6 +28,7 @@ fn key_of(alloc: Global, bytes: &[u8]) -> Result<Key, NoMemory>
 }
 
 /// The value of these bytes.
+#[inline(always)]
 fn value_of(alloc: Global, bytes: &[u8]) -> Result<Value, NoMemory>
     ensures { IfOk result (λ value. value ≡ bytes.now) }
 {
@@ -36,6 +38,7 @@ fn value_of(alloc: Global, bytes: &[u8]) -> Result<Value, NoMemory>
     }
 }
 
+#[inline(always)]
 fn high_of(alloc: Global, high: Option<&[u8]>) -> Result<Option<Key>, NoMemory>
     ensures { IfOk result (λ found. found ≡ option_map (λ h. h.now) high.entry) }
 {
@@ -69,6 +72,7 @@ fn children_of(alloc: Global, children: &[ChildRef<'_>]) -> Result<Vec<Child>, N
     Ok(found)
 }
 
+#[inline(always)]
 fn body_of(alloc: Global, body: &BodyRef<'_>) -> Result<Body, NoMemory>
     requires pairs { body.now.count ≤ 8 }
     requires rest { 1 ≤ body.now.height → body.now.count ≤ 7 }
@@ -89,6 +93,7 @@ fn body_of(alloc: Global, body: &BodyRef<'_>) -> Result<Body, NoMemory>
 impl<'a> PageRef<'a> {
     /// The page whose bytes these are, or none for a free slot. BadPage: they are neither's; `at`
     /// is how many of the first bytes still begin some page. It takes no memory.
+    #[inline(always)]
     pub fn new(bytes: &'a [u8]) -> Result<Option<PageRef<'a>>, BadPage>
         ensures read { IfOk result (λ found.
             MatchOption found (IsFree bytes.now) (SpellsPage bytes.now)) }
@@ -111,6 +116,7 @@ impl<'a> PageRef<'a> {
     }
 
     /// The same page in memory of its own. NoMemory: there was no memory for it.
+    #[inline(always)]
     pub fn to_page(&self, alloc: Global) -> Result<Page, NoMemory>
         ensures { IfOk result (λ page. page ≡ self.now) }
     {

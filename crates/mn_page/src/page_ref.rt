@@ -66,6 +66,7 @@ impl<'a> Model for PageRef<'a> {
 
 impl<'a> PageRef<'a> {
     /// The page of these parts.
+    #[inline(always)]
     pub(crate) fn of_parts(
         head: Head,
         low: &'a [u8],

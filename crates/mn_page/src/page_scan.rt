@@ -13,6 +13,7 @@ use crate::scan::{first_counted, first_head, first_high, is_below};
 use mn_base::are_zeros;
 
 /// The fences, and what follows them.
+#[inline(always)]
 fn first_fences(bytes: &[u8]) -> Option<((&[u8], Option<&[u8]>), &[u8])>
     ensures found { IfSome result
         (λ x. Begins AreFences fences_text bytes.now
@@ -31,6 +32,7 @@ fn first_fences(bytes: &[u8]) -> Option<((&[u8], Option<&[u8]>), &[u8])>
 }
 
 /// The page that the bytes begin with, and what follows it.
+#[inline(always)]
 fn first_page(bytes: &[u8]) -> Option<(PageRef<'_>, &[u8])>
     ensures found { IfSome result (λ x. Begins IsPage page_text bytes.now x.0 x.1.now) }
     ensures only { (p : Page) (more : List ℕ) → IsPage p → bytes.now ≡ page_text p ++ more
@@ -43,6 +45,7 @@ fn first_page(bytes: &[u8]) -> Option<(PageRef<'_>, &[u8])>
 }
 
 /// The page that the bytes are, all of them.
+#[inline(always)]
 pub fn whole_page(bytes: &[u8]) -> Option<PageRef<'_>>
     ensures found { IfSome result (SpellsPage bytes.now) }
     ensures only { (p : Page) → SpellsPage bytes.now p → IsSomeAnd result (λ x. x ≡ p) }

@@ -10,6 +10,7 @@ use crate::{Body, Child, Page};
 use mn_base::{Key, Pair};
 
 /// Puts the bound above the keys behind the first `at` bytes.
+#[inline(always)]
 fn put_high(into: &mut [u8], at: usize, high: &Option<Key>) -> usize
     requires { at + 34 ≤ length into.old }
     ensures added { Adds into.old into.new at result (high_bytes high.now) }
@@ -24,6 +25,7 @@ fn put_high(into: &mut [u8], at: usize, high: &Option<Key>) -> usize
     }
 }
 
+#[inline(always)]
 fn put_pair(into: &mut [u8], at: usize, pair: &Pair) -> usize
     requires { at + 98 ≤ length into.old }
     ensures added { Adds into.old into.new at result (pair_bytes pair.now) }
@@ -33,6 +35,7 @@ fn put_pair(into: &mut [u8], at: usize, pair: &Pair) -> usize
     put_counted(into, at, pair.value.as_slice())
 }
 
+#[inline(always)]
 fn put_child(into: &mut [u8], at: usize, child: &Child) -> usize
     requires { at + 36 ≤ length into.old }
     ensures added { Adds into.old into.new at result (child_bytes child.now) }

@@ -22,6 +22,7 @@ use byteorder::{BigEndian, ByteOrder};
 use mn_base::{Addr, NodeNo, VersionNo};
 
 /// The first byte, and what follows it.
+#[inline(always)]
 pub fn first_byte(bytes: &[u8]) -> Option<(u8, &[u8])>
     ensures found { IfSome result (λ x. bytes.now ≡ x.0 ∷ x.1.now) }
     ensures only { (byte : ℕ) (more : List ℕ) → bytes.now ≡ byte ∷ more
@@ -34,6 +35,7 @@ pub fn first_byte(bytes: &[u8]) -> Option<(u8, &[u8])>
 }
 
 /// The number in the first two bytes, and what follows them.
+#[inline(always)]
 fn first_u16(bytes: &[u8]) -> Option<(u16, &[u8])>
     ensures found { IfSome result (λ x. bytes.now ≡ big_bytes 2 x.0 ++ x.1.now) }
     ensures only { (n : ℕ) (more : List ℕ) → n < 2 ^ 16 → bytes.now ≡ big_bytes 2 n ++ more
@@ -47,6 +49,7 @@ fn first_u16(bytes: &[u8]) -> Option<(u16, &[u8])>
 
 /// The number in the first eight bytes, and what follows them.
 #[tactic(auto, unfolding(crate::specs::Reading::eight))]
+#[inline(always)]
 fn first_u64(bytes: &[u8]) -> Option<(u64, &[u8])>
     ensures found { IfSome result (λ x. bytes.now ≡ eight x.0 ++ x.1.now) }
     ensures only { (n : ℕ) (more : List ℕ) → n < 2 ^ 64 → bytes.now ≡ eight n ++ more
@@ -60,6 +63,7 @@ fn first_u64(bytes: &[u8]) -> Option<(u64, &[u8])>
 
 /// The first bytes, so many, and what follows them.
 #[tactic(auto, using(crate::proofs::Scanned::are_bytes))]
+#[inline(always)]
 pub fn first_text(bytes: &[u8], length: usize) -> Option<(&[u8], &[u8])>
     ensures found { IfSome result
         (λ x. Begins (HasLength length length) as_they_stand bytes.now x.0.now x.1.now) }
@@ -74,6 +78,7 @@ pub fn first_text(bytes: &[u8], length: usize) -> Option<(&[u8], &[u8])>
 }
 
 /// The bytes behind their length in one byte, where it is within bounds, and what follows them.
+#[inline(always)]
 pub fn first_counted(bytes: &[u8], least: usize, most: usize) -> Option<(&[u8], &[u8])>
     ensures found { IfSome result
         (λ x. Begins (HasLength least most) counted bytes.now x.0.now x.1.now) }
@@ -91,6 +96,7 @@ pub fn first_counted(bytes: &[u8], least: usize, most: usize) -> Option<(&[u8], 
     first_text(rest, length)
 }
 
+#[inline(always)]
 pub fn first_addr(bytes: &[u8]) -> Option<(Addr, &[u8])>
     ensures found { IfSome result (λ x. Begins IsAddr addr_bytes bytes.now x.0 x.1.now) }
     ensures only { (addr : Addr) (more : List ℕ) → IsAddr addr → bytes.now ≡ addr_bytes addr ++ more
@@ -134,6 +140,7 @@ fn kind_at(height: u16) -> u8
 }
 
 /// How often the slot was written, from 1, and what follows.
+#[inline(always)]
 pub fn first_seq(bytes: &[u8]) -> Option<(u64, &[u8])>
     ensures found { IfSome result (λ x. Begins IsSeq eight bytes.now x.0 x.1.now) }
     ensures only { (seq : ℕ) (more : List ℕ) → IsSeq seq → bytes.now ≡ eight seq ++ more
@@ -147,6 +154,7 @@ pub fn first_seq(bytes: &[u8]) -> Option<(u64, &[u8])>
 }
 
 /// The height, behind its kind, and what follows.
+#[inline(always)]
 pub fn first_height(bytes: &[u8]) -> Option<(u16, &[u8])>
     ensures found { IfSome result (λ x. bytes.now ≡ height_text x.0 ++ x.1.now) }
     ensures only { (height : ℕ) (more : List ℕ) → height < 2 ^ 16
@@ -164,6 +172,7 @@ pub fn first_height(bytes: &[u8]) -> Option<(u16, &[u8])>
 }
 
 /// The made version and the versions that the page was copied for, and what follows.
+#[inline(always)]
 pub fn first_versions(bytes: &[u8]) -> Option<((u8, u64), &[u8])>
     ensures found { IfSome result (λ x. Begins AreVersions versions_text bytes.now x.0 x.1.now) }
     ensures only { (v : ℕ × ℕ) (more : List ℕ) → AreVersions v → bytes.now ≡ versions_text v ++ more
@@ -180,6 +189,7 @@ pub fn first_versions(bytes: &[u8]) -> Option<((u8, u64), &[u8])>
 }
 
 /// What stands before the fences, and what follows.
+#[inline(always)]
 pub fn first_head(bytes: &[u8]) -> Option<(Head, &[u8])>
     ensures found { IfSome result (λ x. Begins IsHead head_text bytes.now x.0 x.1.now) }
     ensures only { (head : Head) (more : List ℕ) → IsHead head → bytes.now ≡ head_text head ++ more
@@ -201,6 +211,7 @@ pub fn first_head(bytes: &[u8]) -> Option<(Head, &[u8])>
 }
 
 /// The bound above the keys, and what follows it.
+#[inline(always)]
 pub fn first_high(bytes: &[u8]) -> Option<(Option<&[u8]>, &[u8])>
     ensures found { IfSome result
         (λ x. Begins IsBound high_bytes bytes.now (option_map (λ h. h.now) x.0) x.1.now) }
@@ -219,6 +230,7 @@ pub fn first_high(bytes: &[u8]) -> Option<(Option<&[u8]>, &[u8])>
 }
 
 /// Whether the key is below the bound.
+#[inline(always)]
 pub fn is_below(key: &[u8], high: Option<&[u8]>) -> bool
     ensures { result ≡ below_bound key.now (option_map (λ h. h.now) high.entry) }
 {
@@ -229,6 +241,7 @@ pub fn is_below(key: &[u8], high: Option<&[u8]>) -> bool
 }
 
 /// The pair that the bytes begin with, where it lies within the fences, and what follows.
+#[inline(always)]
 fn first_pair<'a>(
     low: &[u8],
     high: Option<&[u8]>,
@@ -252,6 +265,7 @@ fn first_pair<'a>(
 
 /// The child after the first that the bytes begin with, where its separator lies between the
 /// fences, and what follows.
+#[inline(always)]
 fn first_child<'a>(
     low: &[u8],
     high: Option<&[u8]>,
@@ -279,6 +293,7 @@ pub const NO_ADDR: Addr = Addr {
     slot: 0,
 };
 
+#[inline(always)]
 pub fn no_pairs<'a>() -> [PairRef<'a>; 8] {
     [PairRef {
         key: &[],
@@ -286,6 +301,7 @@ pub fn no_pairs<'a>() -> [PairRef<'a>; 8] {
     }; 8]
 }
 
+#[inline(always)]
 pub fn no_children<'a>() -> [ChildRef<'a>; 7] {
     [ChildRef {
         separator: &[],
@@ -294,6 +310,7 @@ pub fn no_children<'a>() -> [ChildRef<'a>; 7] {
 }
 
 /// So many pairs, and what follows them.
+#[inline(always)]
 pub fn first_pairs<'a>(
     low: &[u8],
     high: Option<&[u8]>,
@@ -320,6 +337,7 @@ pub fn first_pairs<'a>(
 }
 
 /// So many children after the first, and what follows them.
+#[inline(always)]
 pub fn first_children<'a>(
     low: &[u8],
     high: Option<&[u8]>,

@@ -8,6 +8,7 @@ use byteorder::{BigEndian, ByteOrder};
 use mn_base::Addr;
 
 /// Puts bytes behind the first `at` bytes; the answer is how many bytes stand then.
+#[inline(always)]
 pub fn put_bytes(into: &mut [u8], at: usize, bytes: &[u8]) -> usize
     requires { at + length bytes.now ≤ length into.old }
     ensures added { Adds into.old into.new at result bytes.now }
@@ -18,6 +19,7 @@ pub fn put_bytes(into: &mut [u8], at: usize, bytes: &[u8]) -> usize
     end
 }
 
+#[inline(always)]
 pub fn put_byte(into: &mut [u8], at: usize, byte: u8) -> usize
     requires { at + 1 ≤ length into.old }
     ensures added { Adds into.old into.new at result (byte ∷ []) }
@@ -27,6 +29,7 @@ pub fn put_byte(into: &mut [u8], at: usize, byte: u8) -> usize
 }
 
 /// Puts bytes behind their length in one byte.
+#[inline(always)]
 pub fn put_counted(into: &mut [u8], at: usize, bytes: &[u8]) -> usize
     requires short { length bytes.now < 256 }
     requires room { at + 1 + length bytes.now ≤ length into.old }
@@ -38,6 +41,7 @@ pub fn put_counted(into: &mut [u8], at: usize, bytes: &[u8]) -> usize
 }
 
 /// Puts a number in two bytes, the higher first.
+#[inline(always)]
 pub fn put_u16(into: &mut [u8], at: usize, number: u16) -> usize
     requires { at + 2 ≤ length into.old }
     ensures added { Adds into.old into.new at result (big_bytes 2 number) }
@@ -49,6 +53,7 @@ pub fn put_u16(into: &mut [u8], at: usize, number: u16) -> usize
 }
 
 /// Puts a number in eight bytes, the highest first.
+#[inline(always)]
 pub fn put_u64(into: &mut [u8], at: usize, number: u64) -> usize
     requires { at + 8 ≤ length into.old }
     ensures added { Adds into.old into.new at result (big_bytes 8 number) }
@@ -59,6 +64,7 @@ pub fn put_u64(into: &mut [u8], at: usize, number: u64) -> usize
     put_bytes(into, at, &bytes)
 }
 
+#[inline(always)]
 pub fn put_addr(into: &mut [u8], at: usize, addr: Addr) -> usize
     requires { at + 3 ≤ length into.old }
     ensures added { Adds into.old into.new at result (addr_bytes addr) }

@@ -106,12 +106,14 @@ impl Model for Proxy {
     ghost invariant = { IsSoundInside };
 }
 
+#[inline(always)]
 fn goes(step: ProxyStep, work: Work, errand: Errand) -> Turn
     ensures { result ≡ turns.Goes step work errand }
 {
     Turn::Goes { step, work, errand }
 }
 
+#[inline(always)]
 fn ends(answer: Answer) -> Turn
     ensures { result ≡ turns.Ends answer }
 {
@@ -207,6 +209,7 @@ impl Proxy {
     }
 
     /// Goes on with what is on its way.
+    #[inline(always)]
     fn turn(&mut self, alloc: Global, work: Work, errand: Errand) -> Result<Turn, NoMemory>
         requires idle { self.old.work ≡ None }
         requires ready { IsOutIn (Some (work, errand)) → ⊥ }
@@ -279,6 +282,7 @@ impl Proxy {
 }
 
 /// What is on its way, with the reply to its request.
+#[inline(always)]
 fn fed(errand: Errand, reply: NodeReply) -> Errand
     requires out { IsOutFor errand }
     ensures { IsFed errand reply result }

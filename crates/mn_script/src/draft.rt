@@ -125,6 +125,7 @@ impl Draft {
     }
 
     /// Adds an operation, for which there is room, to the last client.
+    #[inline(always)]
     fn push_op(&mut self, op: Op) -> Result<(), LineError>
         requires some { 1 ≤ length self.old.clients }
         requires room { IsTrue (fits_op self.old op) }
@@ -140,6 +141,7 @@ impl Draft {
     }
 
     /// Adds an operation to the last client.
+    #[inline(always)]
     fn add_op(&mut self, op: Op) -> Result<(), LineError>
         requires { 1 ≤ length self.old.clients }
         ensures { GivesDraft result self.new (add_op self.old op) }

@@ -10,6 +10,7 @@ use mn_base::{BaseError, Key, Name, NoMemory, Op, Step, Steps};
 use std::alloc::Global;
 
 /// A transaction of one step.
+#[inline(always)]
 fn one_step(alloc: Global, version: Name, step: Step) -> Result<Op, NoMemory>
     ensures { IfOk result (λ op. op ≡ Op.Tx version (step ∷ [])) }
 {
@@ -26,6 +27,7 @@ fn one_step(alloc: Global, version: Name, step: Step) -> Result<Op, NoMemory>
 }
 
 /// A transaction of one step, whose line ends there.
+#[inline(always)]
 fn lone(alloc: Global, line: &[u8], at: usize, version: Name, step: Step) -> Result<Op, LineError>
     requires { at ≤ length line.now + 1 }
     ensures { Gives result (end_at line.now at (Op.Tx version (step ∷ []))) }
@@ -35,6 +37,7 @@ fn lone(alloc: Global, line: &[u8], at: usize, version: Name, step: Step) -> Res
 }
 
 /// An operation whose line ends there.
+#[inline(always)]
 fn ended(line: &[u8], at: usize, op: Op) -> Result<Op, LineError>
     requires { at ≤ length line.now + 1 }
     ensures { Gives result (end_at line.now at op) }
@@ -69,6 +72,7 @@ fn tx_of(alloc: Global, line: &[u8], at: usize) -> Result<Op, LineError>
 }
 
 #[tactic(auto, unfolding(crate::specs::Lines::put_op))]
+#[inline(always)]
 fn put_of(alloc: Global, line: &[u8], at: usize) -> Result<Op, LineError>
     requires { at ≤ length line.now + 1 }
     ensures { Gives result (put_op line.now at) }
@@ -80,6 +84,7 @@ fn put_of(alloc: Global, line: &[u8], at: usize) -> Result<Op, LineError>
 }
 
 #[tactic(auto, unfolding(crate::specs::Lines::get_op))]
+#[inline(always)]
 fn get_of(alloc: Global, line: &[u8], at: usize) -> Result<Op, LineError>
     requires { at ≤ length line.now + 1 }
     ensures { Gives result (get_op line.now at) }

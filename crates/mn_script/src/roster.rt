@@ -31,6 +31,7 @@ impl Model for Roster {
 }
 
 /// Adds an operation to the last client.
+#[inline(always)]
 fn push_op(clients: &mut Vec<ScriptClient>, op: Op) -> Result<(), LineError>
     requires { 1 ≤ length clients.old.items }
     ensures added { OnOk result (clients.new.items ≡ with_op clients.old.items op) }
@@ -93,6 +94,7 @@ impl Roster {
     }
 
     /// Adds an operation to the last client. After want of memory the clients are as before.
+    #[inline(always)]
     pub fn push_op(&mut self, op: Op) -> Result<(), LineError>
         requires { 1 ≤ length self.old }
         ensures added { OnOk result (self.new ≡ with_op self.old op) }

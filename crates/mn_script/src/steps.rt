@@ -54,6 +54,7 @@ fn want(alloc: Global, line: &[u8], at: &mut usize) -> Result<Option<Value>, Lin
 }
 
 #[tactic(auto, unfolding(crate::specs::Lines::get_step))]
+#[inline(always)]
 pub fn get(alloc: Global, line: &[u8], at: &mut usize) -> Result<Step, LineError>
     requires { at.old ≤ length line.now + 1 }
     ensures said { GivesPart result at.new (get_step line.now at.old) }
@@ -64,6 +65,7 @@ pub fn get(alloc: Global, line: &[u8], at: &mut usize) -> Result<Step, LineError
 }
 
 #[tactic(auto, unfolding(crate::specs::Lines::put_step))]
+#[inline(always)]
 pub fn put(alloc: Global, line: &[u8], at: &mut usize) -> Result<Step, LineError>
     requires { at.old ≤ length line.now + 1 }
     ensures said { GivesPart result at.new (put_step line.now at.old) }

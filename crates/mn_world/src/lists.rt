@@ -178,6 +178,7 @@ impl ClientList {
     }
 
     /// Puts an entry at the end. It takes no memory.
+    #[inline(always)]
     pub fn push(&mut self, place: u64, entry: Entry)
         requires room { 0 < self.old.room }
         ensures client { self.new.client ≡ self.old.client }

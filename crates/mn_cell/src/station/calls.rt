@@ -45,6 +45,7 @@ struct Spare {
 
 /// A second request, and room for two copies of what it may read. NoMemory never comes for a
 /// Decide.
+#[inline(always)]
 fn spare_of(alloc: Global, request: &Request) -> Result<Spare, NoMemory>
     ensures request { IfOk result (λ spare. spare.request ≡ request.now) }
     ensures first { IfOk result (λ spare. lengths_of spare.first.items ≡ lengths_by request.now) }
@@ -92,6 +93,7 @@ fn make_room(
 
 /// Takes all that a call needs: room in both lists, a second request, and room for what is read.
 /// NoMemory never comes for a decision that is owed, where the client's list has room.
+#[inline(always)]
 fn prepare(
     alloc: Global,
     own: &mut NodeList,
@@ -119,6 +121,7 @@ fn prepare(
 
 /// The entry of a call, twice. None: the reply is NoMemory, or there is no memory for a copy of a
 /// reply that comes with no new record.
+#[inline(always)]
 fn two_entries(
     alloc: Global,
     number: NodeNo,
@@ -185,6 +188,7 @@ fn restart_entry(number: NodeNo, client: ClientNo, kept: bool) -> Entry
 
 /// Adds an entry, which is there twice, and puts it at the end of both lists. `own` is the node's
 /// pass, which comes back.
+#[inline(always)]
 fn enter(
     board: &Board<CoreLaw>,
     own: Pass<CoreLaw>,

@@ -76,6 +76,7 @@ fn causes_are_shown()
 
 impl Proxy {
     /// Goes on with what the try wants next.
+    #[inline(always)]
     pub(super) fn advance(&mut self, alloc: Global, work: Work) -> Result<Turn, NoMemory>
         requires idle { self.old.work ≡ None }
         requires few { work.failed < max_tries }
@@ -138,6 +139,7 @@ impl Proxy {
     }
 
     /// Reads the catalog.
+    #[inline(always)]
     pub(super) fn read_catalog(&mut self, alloc: Global, work: Work) -> Result<Turn, NoMemory>
         requires idle { self.old.work ≡ None }
         requires few { work.failed < max_tries }
@@ -158,6 +160,7 @@ impl Proxy {
     }
 
     /// Reads a place, by a Peek or by an Exec.
+    #[inline(always)]
     fn read(
         &mut self,
         alloc: Global,
@@ -197,6 +200,7 @@ impl Proxy {
     }
 
     /// Reads a place by a Peek.
+    #[inline(always)]
     fn peek(&mut self, work: Work, place: Place, purpose: Purpose) -> Result<Turn, NoMemory>
         requires idle { self.old.work ≡ None }
         requires few { work.failed < max_tries }
@@ -230,6 +234,7 @@ impl Proxy {
     }
 
     /// Issues a minitransaction under the next serial.
+    #[inline(always)]
     fn issue(
         &mut self,
         alloc: Global,

@@ -67,6 +67,7 @@ fn failure_of(alloc: Global, tid: Tid, node: NodeNo, outcome: Outcome) -> Result
 
 impl Proxy {
     /// Goes on after a minitransaction that failed by the reply of this node.
+    #[inline(always)]
     pub(super) fn refuse(
         &mut self,
         alloc: Global,
@@ -97,6 +98,7 @@ impl Proxy {
 
     /// Goes on after a try that failed: with a later one, which reads the catalog anew, or with the
     /// answer. Only the first try may fail with no cause: no run shows this of a later one.
+    #[inline(always)]
     pub(super) fn fail(
         &mut self,
         alloc: Global,
@@ -124,6 +126,7 @@ impl Proxy {
     }
 
     /// Begins a later try.
+    #[inline(always)]
     fn retry(&mut self, alloc: Global, work: Work) -> Result<Turn, NoMemory>
         requires idle { self.old.work ≡ None }
         requires few { work.failed + 1 < max_tries }

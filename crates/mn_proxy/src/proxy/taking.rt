@@ -68,6 +68,7 @@ fn taken_for(
 
 impl Proxy {
     /// Goes on after a Peek that was answered.
+    #[inline(always)]
     pub(super) fn take_peeked(
         &mut self,
         alloc: Global,
@@ -108,6 +109,7 @@ impl Proxy {
     }
 
     /// Goes on with the minitransaction that is under way.
+    #[inline(always)]
     pub(super) fn coordinate(
         &mut self,
         alloc: Global,
@@ -169,6 +171,7 @@ impl Proxy {
     }
 
     /// Goes on after a minitransaction that is committed.
+    #[inline(always)]
     fn commit(
         &mut self,
         alloc: Global,
@@ -208,6 +211,7 @@ impl Proxy {
     }
 
     /// Goes on with what was read.
+    #[inline(always)]
     fn take(
         &mut self,
         alloc: Global,
