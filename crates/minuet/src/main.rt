@@ -9,9 +9,9 @@ use mn_io::{Bytes, Calls};
 use mn_memdisk::MemoryDisk;
 use mn_top::{Words, run_program, wanted};
 use std::alloc::Global;
-use std::env;
 use std::process::ExitCode;
 use std::rt::Env;
+use std::{env, mem};
 
 /// The words of the command line.
 fn words_of<T: Env + AllocGlobal>(rt: &T) -> Result<Words, NoMemory> {
@@ -49,5 +49,8 @@ fn main(rt: HostRuntime) -> ExitCode {
     let mut source = StdSource::new(rt.reader());
     let mut sink = StdSink::new(std::io::writer(&rt));
     let outcome = run_program(&rt, alloc, &words, &mut source, &mut sink, disks, &OpenGate);
-    ExitCode::from(outcome.status)
+    let status = outcome.status;
+    // The process ends, and its memory goes back as a whole.
+    mem::forget(outcome);
+    ExitCode::from(status)
 }

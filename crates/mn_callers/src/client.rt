@@ -31,6 +31,7 @@ use mn_hist::{may_stop, none_met};
 use mn_mini::{Item, Minitransaction, NodeReply, Request};
 use mn_proxy::{Proxy, ProxyStep};
 use mn_script::Point;
+use mn_work::Task;
 use mn_world::{ClientList, CoreLaw, What};
 use std::alloc::Global;
 
@@ -425,11 +426,12 @@ impl Client {
         ensures begun { OnOk result (self.new.begun ≡ self.old.begun + 1) }
     {
         let asked = op.try_copy(alloc)?;
+        let work = Task::new(alloc, asked)?;
         let op = op.try_copy(alloc)?;
         let number = self.begun + 1;
         self.add(table, pass, What::Begin { number, op })?;
         self.begun = number;
-        self.proxy.begin(asked);
+        self.proxy.begin(work);
         self.go_on(alloc, table, pass, points)
     }
 

@@ -106,7 +106,7 @@ doubted_by n done (Some reply) told decided e = of reply (by (is_stopped_at_last
     of Say.Down f = absurd cc
     of Say.NoMemory f = absurd cc
 
-committed_at : (c : Coordination) → step_of c ≡ Committed → stage_in c ≡ At.Committed
+pub committed_at : (c : Coordination) → step_of c ≡ Committed → stage_in c ≡ At.Committed
 committed_at c step = by (stage_in c) refl step
   where
     by : (stage : Stage) → stage_in c ≡ stage → step_at c stage ≡ Committed → stage_in c ≡ At.Committed
@@ -118,7 +118,7 @@ committed_at c step = by (stage_in c) refl step
     by At.Failed s f = absurd cc
     by At.Doubt s f = absurd cc
 
-failed_at : (c : Coordination) (node : NodeNo) → step_of c ≡ Failed node → (stage_in c ≡ At.Failed) × (participant c c.done ≡ node)
+pub failed_at : (c : Coordination) (node : NodeNo) → step_of c ≡ Failed node → (stage_in c ≡ At.Failed) × (participant c c.done ≡ node)
 failed_at c node step = by (stage_in c) refl step
   where
     by : (stage : Stage) → stage_in c ≡ stage → step_at c stage ≡ Failed node → (stage_in c ≡ At.Failed) × (participant c c.done ≡ node)

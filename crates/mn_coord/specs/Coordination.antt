@@ -1,7 +1,7 @@
 -- How a coordinator goes on, by what it was answered so far.
 use Rattle.std.specs.Prelude.{ℕ, ◌+◌, ◌<◌, ◌≤◌, Bool, true, false, not, ◌&&◌, nat_lt, nat_eq, List}
 use Rattle.std.specs.Prelude.{length, Option, Some, None, if◌then◌else◌, slice_index_or, slice_set}
-use Rattle.std.specs.Prelude.{⊤}
+use Rattle.std.specs.Prelude.{[], replicate, ⊤}
 use Rattle.mn_base.specs.declared.ids.NodeNo.{NodeNo}
 use Rattle.mn_base.specs.declared.ids.Tid.{Tid}
 use Rattle.mn_mini.specs.declared.request.Request.{Request}
@@ -33,6 +33,19 @@ pub record Coordination : Type 0 where
   pub decided : ℕ
   -- whether a request is out
   pub asked : Bool
+
+-- it was not asked for yet
+abbrev pub new_coordination : Tid → Mini → Coordination
+new_coordination tid mini = record {
+  tid = tid;
+  mini = mini;
+  done = 0;
+  reads = replicate (length (participants_of mini)) [];
+  refused = None;
+  told = false;
+  decided = 0;
+  asked = false;
+}
 
 -- its id and its minitransaction are sound, and no more have answered than take part
 pub record IsSoundCoordination (c : Coordination) : Type 0 where

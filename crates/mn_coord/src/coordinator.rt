@@ -1,10 +1,6 @@
-ghost use Rattle.std.specs.Prelude.{◌≡◌, ◌≢◌, ◌<◌, ◌≤◌, ◌-◌, Bool, true, false, None, List, []};
-ghost use Rattle.std.specs.Prelude.{◌∷◌, length, replicate, slice_index_or, IfOk};
+ghost use Rattle.std.specs.Prelude.{◌≡◌, ◌≢◌, true, false, None, List, ◌∷◌, IfOk};
 ghost use Rattle.std.specs.Option.{option_map};
-ghost use Rattle.mn_mini.specs.Mini.{IsSound, participants_of};
 ghost use Rattle.mn_mini.specs.RecordGrammar.{IsTid};
-ghost use Rattle.mn_coord.specs.Coordination.{try_request};
-ghost use Rattle.mn_coord.specs.Tries.{tries_of};
 
 use crate::machine::Machine;
 use crate::{CoordStep, Outcome};
@@ -42,26 +38,16 @@ impl Coordinator {
     ghost use Rattle.mn_world.specs.declared.entry.Entry.{Entry};
     ghost use Rattle.mn_world.specs.declared.entry.What.TheVariants as is;
     ghost use Rattle.mn_coord.specs.declared.step.CoordStep.TheVariants.{Send, Abandon};
-    ghost use Rattle.mn_coord.specs.Coordination.{IsSoundCoordination, IsSoundStep, stage_in};
-    ghost use Rattle.mn_coord.specs.Coordination.{step_of, after_step, fed};
+    ghost use Rattle.mn_coord.specs.Coordination.{IsSoundCoordination, IsSoundStep};
+    ghost use Rattle.mn_coord.specs.Coordination.{new_coordination, step_of, after_step, fed};
     ghost use Rattle.mn_coord.specs.Legal.{Agrees, IsAsking, IsFresh, IsAnswered, MayMake};
 
     /// The coordinator of the minitransaction under this id, which has a run and a serial from 1 on
     /// and a client from 0 to 20. NoMemory: there was no memory for all that it will need.
+    #[inline(never)]
     pub fn new(alloc: Global, tid: Tid, mini: Minitransaction) -> Result<Self, NoMemory>
         requires id { IsTid tid }
-        ensures starts { IfOk result
-            (λ c. c ≡ record {
-              tid = tid;
-              mini = mini;
-              done = 0;
-              reads = replicate (length (participants_of mini)) [];
-              refused = None;
-              told =
-                  false;
-              decided = 0;
-              asked = false;
-            }) }
+        ensures starts { IfOk result (λ c. c ≡ new_coordination tid mini) }
         ensures agrees { (es : List Entry) (e : Entry) → IsFresh tid es → e.node ≡ None
             → e.what ≡ is.Issue tid mini → IfOk result (λ c. Agrees (e ∷ es) c) }
     {

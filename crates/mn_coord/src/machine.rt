@@ -1,5 +1,5 @@
-ghost use Rattle.std.specs.Prelude.{◌≡◌, ◌≢◌, ◌<◌, ◌≤◌, ◌-◌, Bool, true, false, None, List, []};
-ghost use Rattle.std.specs.Prelude.{◌∷◌, length, replicate, slice_index_or, IfOk};
+ghost use Rattle.std.specs.Prelude.{◌≡◌, ◌<◌, ◌≤◌, ◌-◌, true, false, None, [], length, replicate};
+ghost use Rattle.std.specs.Prelude.{slice_index_or, IfOk, OnOk};
 ghost use Rattle.std.specs.Option.{option_map};
 ghost use Rattle.mn_mini.specs.Mini.{IsSound, participants_of};
 ghost use Rattle.mn_mini.specs.RecordGrammar.{IsTid};
@@ -124,30 +124,15 @@ fn no_reads(alloc: Global, participants: usize) -> Result<Vec<Reads>, NoMemory>
 }
 
 impl Machine {
-    ghost use Rattle.mn_world.specs.declared.entry.Entry.{Entry};
-    ghost use Rattle.mn_world.specs.declared.entry.What.TheVariants as is;
-    ghost use Rattle.mn_coord.specs.Legal.{Agrees, IsFresh};
     ghost use Rattle.mn_coord.specs.Coordination.{IsSoundCoordination, stage_in};
-    ghost use Rattle.mn_coord.specs.Coordination.{step_of, after_step, fed};
+    ghost use Rattle.mn_coord.specs.Coordination.{new_coordination, step_of, after_step, fed};
 
     /// That of a minitransaction that was not asked for yet. NoMemory: there was no memory for all
     /// that it will need.
     pub fn new(alloc: Global, tid: Tid, mini: Minitransaction) -> Result<Self, NoMemory>
         requires id { IsTid tid }
-        ensures starts { IfOk result
-            (λ c. c ≡ record {
-              tid = tid;
-              mini = mini;
-              done = 0;
-              reads = replicate (length (participants_of mini)) [];
-              refused = None;
-              told =
-                  false;
-              decided = 0;
-              asked = false;
-            }) }
-        ensures agrees { (es : List Entry) (e : Entry) → IsFresh tid es → e.node ≡ None
-            → e.what ≡ is.Issue tid mini → IfOk result (λ c. Agrees (e ∷ es) c) }
+        ensures starts { IfOk result (λ c. c ≡ new_coordination tid mini) }
+        ensures some { OnOk result (1 ≤ length (participants_of mini)) }
     {
         let requests = tries_for(alloc, tid, &mini)?;
         let reads = no_reads(alloc, participants_in(&mini))?;

@@ -33,7 +33,7 @@ use Rattle.mn_coord.specs.Legal.{Agrees as CoordAgrees, MayMake}
 use Rattle.mn_coord.specs.declared.stage.Stage.{Stage}
 use Rattle.mn_coord.specs.declared.stage.Stage.TheVariants as At
 use Rattle.mn_coord.specs.declared.step.CoordStep.TheVariants.{Send, Abandon, Committed, Failed, Doubt}
-use Rattle.mn_coord.proofs.Endings.{done_is_settled, doubt_is_shown, failed_is_given_up}
+use Rattle.mn_coord.proofs.Endings.{committed_at, done_is_settled, doubt_is_shown, failed_at, failed_is_given_up}
 use Rattle.mn_proxy.specs.declared.errand.Errand.TheVariants as out
 use Rattle.mn_proxy.specs.declared.errand.Purpose.{Purpose}
 use Rattle.mn_proxy.specs.declared.errand.Purpose.TheVariants as by
@@ -109,31 +109,6 @@ abandon_at c step = by (stage_in c) refl step
     by At.Cancel s f = absurd cc
     by At.Committed s f = absurd cc
     by At.Failed s f = absurd cc
-    by At.Doubt s f = absurd cc
-
-committed_at : (c : Coordination) → step_of c ≡ Committed → stage_in c ≡ At.Committed
-committed_at c step = by (stage_in c) refl step
-  where
-    by : (stage : Stage) → stage_in c ≡ stage → step_at c stage ≡ Committed → stage_in c ≡ At.Committed
-    by At.Ask s f = absurd cc
-    by At.Commit s f = absurd cc
-    by At.Abandon s f = absurd cc
-    by At.Cancel s f = absurd cc
-    by At.Committed s f = s
-    by At.Failed s f = absurd cc
-    by At.Doubt s f = absurd cc
-
-failed_at : (c : Coordination) (node : NodeNo) → step_of c ≡ Failed node
-    → (stage_in c ≡ At.Failed) × (participant c c.done ≡ node)
-failed_at c node step = by (stage_in c) refl step
-  where
-    by : (stage : Stage) → stage_in c ≡ stage → step_at c stage ≡ Failed node → (stage_in c ≡ At.Failed) × (participant c c.done ≡ node)
-    by At.Ask s f = absurd cc
-    by At.Commit s f = absurd cc
-    by At.Abandon s f = absurd cc
-    by At.Cancel s f = absurd cc
-    by At.Committed s f = absurd cc
-    by At.Failed s f = (s, cc)
     by At.Doubt s f = absurd cc
 
 -- A job begins anew

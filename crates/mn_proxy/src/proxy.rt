@@ -30,9 +30,9 @@ ghost use Rattle.mn_work.specs.Works.{new_work};
 
 use crate::errand::Errand;
 use crate::step::ProxyStep;
-use mn_base::{Answer, ClientNo, NoMemory, Op};
+use mn_base::{Answer, ClientNo, NoMemory};
 use mn_mini::NodeReply;
-use mn_work::{Known, Work};
+use mn_work::{Known, Task};
 use std::alloc::Global;
 use std::marker::Model;
 
@@ -50,7 +50,7 @@ enum Turn {
     /// By this step.
     Goes {
         step: ProxyStep,
-        work: Work,
+        work: Task,
         errand: Errand,
     },
     /// It is answered.
@@ -69,7 +69,7 @@ pub struct Proxy {
     peeks: u16,
     known: Known,
     /// The operation under way, and what is on its way for it.
-    work: Option<(Work, Errand)>,
+    work: Option<(Task, Errand)>,
 }
 
 /// It is let go by a call, which is proved once, and not in place wherever one goes.
@@ -107,7 +107,7 @@ impl Model for Proxy {
 }
 
 #[inline(always)]
-fn goes(step: ProxyStep, work: Work, errand: Errand) -> Turn
+fn goes(step: ProxyStep, work: Task, errand: Errand) -> Turn
     ensures { result ≡ turns.Goes step work errand }
 {
     Turn::Goes { step, work, errand }
@@ -142,15 +142,16 @@ impl Proxy {
     }
 
     /// Begins an operation, where none is under way. It takes no memory.
-    pub fn begin(&mut self, op: Op)
+    pub fn begin(&mut self, work: Task)
         requires idle { IsIdle self.old }
-        ensures begun { self.new ≡ begun self.old op }
+        requires new { work ≡ new_work work.op }
+        ensures begun { self.new ≡ begun self.old work.op }
         ensures ready { IsReady self.new }
         ensures agrees { (es : List Entry) (e : Entry) → Agrees es self.old
-            → BeginsNext es self.old.client op e → Agrees (e ∷ es) self.new }
+            → BeginsNext es self.old.client work.op e → Agrees (e ∷ es) self.new }
     {
         self.peeks = PEEKS;
-        self.work = Some((Work::new(op), Errand::Nothing));
+        self.work = Some((work, Errand::Nothing));
     }
 
     /// What it wants next. After Done no operation is under way. NoMemory: there was no memory, and
@@ -210,7 +211,7 @@ impl Proxy {
 
     /// Goes on with what is on its way.
     #[inline(always)]
-    fn turn(&mut self, alloc: Global, work: Work, errand: Errand) -> Result<Turn, NoMemory>
+    fn turn(&mut self, alloc: Global, work: Task, errand: Errand) -> Result<Turn, NoMemory>
         requires idle { self.old.work ≡ None }
         requires ready { IsOutIn (Some (work, errand)) → ⊥ }
         requires sound { IsSoundWork self.old.known work errand }

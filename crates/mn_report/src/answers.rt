@@ -8,7 +8,7 @@ ghost use Rattle.mn_report.specs.Answers.{IsMove, CanTell, CanTellLine};
 use crate::lines::LineAnswer;
 use crate::spelling::{push_hex, push_number, push_spaced_number, push_spelled};
 use mn_base::{Answer, Busy, Name, NodeNo, Pair, Reply, Tid, Value, Version};
-use std::alloc::{AllocError, Global};
+use std::alloc::AllocError;
 
 /// Adds a space and a text.
 pub fn push_spaced(out: &mut Vec<u8>, text: &[u8]) -> Result<(), AllocError>
@@ -65,14 +65,14 @@ pub fn push_state(out: &mut Vec<u8>, frozen: bool) -> Result<(), AllocError>
     }
 }
 
-fn push_id(alloc: Global, out: &mut Vec<u8>, tid: &Tid) -> Result<(), AllocError>
+fn push_id(out: &mut Vec<u8>, tid: &Tid) -> Result<(), AllocError>
     ensures { OnOk result (out.new.items ≡ out.old.items ++ spaced (id_text tid.now)) }
 {
-    push_spaced_number(alloc, out, u64::from(tid.run))?;
+    push_spaced_number(out, u64::from(tid.run))?;
     out.push(b'.')?;
-    push_number(alloc, out, u64::from(tid.client.0))?;
+    push_number(out, u64::from(tid.client.0))?;
     out.push(b'.')?;
-    push_number(alloc, out, u64::from(tid.serial))
+    push_number(out, u64::from(tid.serial))
 }
 
 fn push_pair(out: &mut Vec<u8>, pair: &Pair) -> Result<(), AllocError>
@@ -110,7 +110,7 @@ fn push_versions(out: &mut Vec<u8>, versions: &[Version]) -> Result<(), AllocErr
     Ok(())
 }
 
-fn push_reply(alloc: Global, out: &mut Vec<u8>, reply: &Reply) -> Result<(), AllocError>
+fn push_reply(out: &mut Vec<u8>, reply: &Reply) -> Result<(), AllocError>
     ensures { OnOk result (out.new.items ≡ out.old.items ++ reply_text reply.now) }
 {
     match reply {
@@ -120,18 +120,18 @@ fn push_reply(alloc: Global, out: &mut Vec<u8>, reply: &Reply) -> Result<(), All
         }
         Reply::Unmet { step, found } => {
             out.extend_from_slice(b"unmet")?;
-            push_spaced_number(alloc, out, u64::from(*step))?;
+            push_spaced_number(out, u64::from(*step))?;
             push_found(out, found)
         }
         Reply::Made => out.extend_from_slice(b"made"),
         Reply::Pairs { pairs } => {
             out.extend_from_slice(b"pairs")?;
-            push_spaced_number(alloc, out, pairs.as_slice().len() as u64)?;
+            push_spaced_number(out, pairs.as_slice().len() as u64)?;
             push_pairs(out, pairs.as_slice())
         }
         Reply::Listing { versions } => {
             out.extend_from_slice(b"versions")?;
-            push_spaced_number(alloc, out, versions.as_slice().len() as u64)?;
+            push_spaced_number(out, versions.as_slice().len() as u64)?;
             push_versions(out, versions.as_slice())
         }
         Reply::NoVersion => out.extend_from_slice(b"noversion"),
@@ -177,7 +177,6 @@ fn push_both(out: &mut Vec<u8>, expected: &[u8], found: &[u8], at: usize) -> Res
 
 /// Adds that bytes moved, of which the first that differs is this one.
 fn push_moved_at(
-    alloc: Global,
     out: &mut Vec<u8>,
     node: NodeNo,
     place: u64,
@@ -191,14 +190,13 @@ fn push_moved_at(
         ≡ out.old.items ++ moved_text node.0 place (both_text expected.now found.now at)) }
 {
     out.extend_from_slice(b"busy moved")?;
-    push_spaced_number(alloc, out, u64::from(node.0))?;
-    push_spaced_number(alloc, out, place)?;
+    push_spaced_number(out, u64::from(node.0))?;
+    push_spaced_number(out, place)?;
     push_both(out, expected, found, at)
 }
 
 #[tactic(auto, using(crate::proofs::Moves::same_before_within))]
 fn push_moved(
-    alloc: Global,
     out: &mut Vec<u8>,
     node: NodeNo,
     start: u32,
@@ -211,17 +209,17 @@ fn push_moved(
 {
     let at = count_same(expected, found);
     let place = u64::from(start) + at as u64;
-    push_moved_at(alloc, out, node, place, expected, found, at)
+    push_moved_at(out, node, place, expected, found, at)
 }
 
-fn push_forced(alloc: Global, out: &mut Vec<u8>, tid: &Tid) -> Result<(), AllocError>
+fn push_forced(out: &mut Vec<u8>, tid: &Tid) -> Result<(), AllocError>
     ensures { OnOk result (out.new.items ≡ out.old.items ++ busy_text (Busy.Forced tid.now)) }
 {
     out.extend_from_slice(b"busy forced")?;
-    push_id(alloc, out, tid)
+    push_id(out, tid)
 }
 
-fn push_busy(alloc: Global, out: &mut Vec<u8>, cause: &Busy) -> Result<(), AllocError>
+fn push_busy(out: &mut Vec<u8>, cause: &Busy) -> Result<(), AllocError>
     requires { CanTell (Answer.Busy cause.now) }
     ensures { OnOk result (out.new.items ≡ out.old.items ++ busy_text cause.now) }
 {
@@ -233,75 +231,64 @@ fn push_busy(alloc: Global, out: &mut Vec<u8>, cause: &Busy) -> Result<(), Alloc
             holder,
         } => {
             out.extend_from_slice(b"busy lock")?;
-            push_spaced_number(alloc, out, u64::from(node.0))?;
-            push_spaced_number(alloc, out, u64::from(*start))?;
-            push_spaced_number(alloc, out, u64::from(*length))?;
-            push_id(alloc, out, holder)
+            push_spaced_number(out, u64::from(node.0))?;
+            push_spaced_number(out, u64::from(*start))?;
+            push_spaced_number(out, u64::from(*length))?;
+            push_id(out, holder)
         }
         Busy::Moved {
             node,
             start,
             expected,
             found,
-        } => push_moved(
-            alloc,
-            out,
-            *node,
-            *start,
-            expected.as_slice(),
-            found.as_slice(),
-        ),
-        Busy::Forced { tid } => push_forced(alloc, out, tid),
+        } => push_moved(out, *node, *start, expected.as_slice(), found.as_slice()),
+        Busy::Forced { tid } => push_forced(out, tid),
         Busy::Path { addr, seq } => {
             out.extend_from_slice(b"busy path")?;
-            push_spaced_number(alloc, out, u64::from(addr.node.0))?;
-            push_spaced_number(alloc, out, u64::from(addr.slot))?;
-            push_spaced_number(alloc, out, *seq)
+            push_spaced_number(out, u64::from(addr.node.0))?;
+            push_spaced_number(out, u64::from(addr.slot))?;
+            push_spaced_number(out, *seq)
         }
     }
 }
 
-fn push_answer(alloc: Global, out: &mut Vec<u8>, answer: &Answer) -> Result<(), AllocError>
+fn push_answer(out: &mut Vec<u8>, answer: &Answer) -> Result<(), AllocError>
     requires { CanTell answer.now }
     ensures { OnOk result (out.new.items ≡ out.old.items ++ answer_text answer.now) }
 {
     match answer {
-        Answer::Replied { reply } => push_reply(alloc, out, reply),
-        Answer::Busy { cause } => push_busy(alloc, out, cause),
+        Answer::Replied { reply } => push_reply(out, reply),
+        Answer::Busy { cause } => push_busy(out, cause),
         Answer::Down { node } => {
             out.extend_from_slice(b"down")?;
-            push_spaced_number(alloc, out, u64::from(node.0))
+            push_spaced_number(out, u64::from(node.0))
         }
         Answer::InDoubt { tid, node } => {
             out.extend_from_slice(b"doubt")?;
-            push_id(alloc, out, tid)?;
-            push_spaced_number(alloc, out, u64::from(node.0))
+            push_id(out, tid)?;
+            push_spaced_number(out, u64::from(node.0))
         }
         Answer::Full { need, free } => {
             out.extend_from_slice(b"full")?;
-            push_spaced_number(alloc, out, u64::from(*need))?;
-            push_spaced_number(alloc, out, u64::from(*free))
+            push_spaced_number(out, u64::from(*need))?;
+            push_spaced_number(out, u64::from(*free))
         }
         Answer::Worn { node, start } => {
             out.extend_from_slice(b"worn")?;
-            push_spaced_number(alloc, out, u64::from(node.0))?;
-            push_spaced_number(alloc, out, u64::from(*start))
+            push_spaced_number(out, u64::from(node.0))?;
+            push_spaced_number(out, u64::from(*start))
         }
         Answer::NoMemory => out.extend_from_slice(b"nomemory"),
     }
 }
 
 /// Adds what is said of an operation.
-pub fn push_line_answer(
-    alloc: Global,
-    out: &mut Vec<u8>,
-    answer: &LineAnswer,
-) -> Result<(), AllocError>
+pub fn push_line_answer(out: &mut Vec<u8>, answer: &LineAnswer) -> Result<(), AllocError>
     requires { CanTellLine answer.now }
     ensures { OnOk result (out.new.items ≡ out.old.items ++ line_answer_text answer.now) }
 {
     match answer {
-        LineAnswer::Answered { answer } => push_answer(alloc, out, answer),
+        LineAnswer::Answered { answer } => push_answer(out, answer),
         LineAnswer::Died => out.extend_from_slice(b"died"),
         LineAnswer::Never => out.extend_from_slice(b"never"),
     }

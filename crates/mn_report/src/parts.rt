@@ -11,58 +11,54 @@ use crate::lines::{AnswerLine, DoubtLine, Ranked, VersionLine};
 use crate::spelling::{push_number, push_spaced_number};
 use std::alloc::{AllocError, Global};
 
-fn push_answer_line(alloc: Global, out: &mut Vec<u8>, line: &AnswerLine) -> Result<(), AllocError>
+fn push_answer_line(out: &mut Vec<u8>, line: &AnswerLine) -> Result<(), AllocError>
     requires { CanTellLine line.now.answer }
     ensures { OnOk result (out.new.items ≡ out.old.items ++ answer_line line.now) }
 {
     out.extend_from_slice(line.client.as_slice())?;
-    push_spaced_number(alloc, out, u64::from(line.number))?;
+    push_spaced_number(out, u64::from(line.number))?;
     out.push(b' ')?;
-    push_line_answer(alloc, out, &line.answer)?;
+    push_line_answer(out, &line.answer)?;
     out.push(b'\n')?;
     Ok(())
 }
 
-pub fn push_answer_lines(
-    alloc: Global,
-    out: &mut Vec<u8>,
-    lines: &[AnswerLine],
-) -> Result<(), AllocError>
+pub fn push_answer_lines(out: &mut Vec<u8>, lines: &[AnswerLine]) -> Result<(), AllocError>
     requires { AllByRecursion (λ a. CanTellLine a.answer) lines.now }
     ensures { OnOk result (out.new.items ≡ out.old.items ++ flat_map answer_line lines.now) }
 {
     for line in lines {
-        push_answer_line(alloc, out, line)?;
+        push_answer_line(out, line)?;
     }
     Ok(())
 }
 
-fn push_rank(alloc: Global, out: &mut Vec<u8>, rank: u64, ranked: &Ranked) -> Result<(), AllocError>
+fn push_rank(out: &mut Vec<u8>, rank: u64, ranked: &Ranked) -> Result<(), AllocError>
     ensures { OnOk result (out.new.items ≡ out.old.items ++ rank_lines rank (ranked.now ∷ [])) }
 {
-    push_number(alloc, out, rank)?;
+    push_number(out, rank)?;
     push_spaced(out, ranked.client.as_slice())?;
-    push_spaced_number(alloc, out, u64::from(ranked.number))?;
+    push_spaced_number(out, u64::from(ranked.number))?;
     out.push(b'\n')?;
     Ok(())
 }
 
-fn push_ranks(alloc: Global, out: &mut Vec<u8>, ranks: &[Ranked]) -> Result<(), AllocError>
+fn push_ranks(out: &mut Vec<u8>, ranks: &[Ranked]) -> Result<(), AllocError>
     ensures { OnOk result (out.new.items ≡ out.old.items ++ rank_lines 1 ranks.now) }
 {
     for (at, ranked) in ranks.iter().enumerate() {
-        push_rank(alloc, out, at as u64 + 1, ranked)?;
+        push_rank(out, at as u64 + 1, ranked)?;
     }
     Ok(())
 }
 
-pub fn push_history(alloc: Global, out: &mut Vec<u8>, ranks: &[Ranked]) -> Result<(), AllocError>
+pub fn push_history(out: &mut Vec<u8>, ranks: &[Ranked]) -> Result<(), AllocError>
     ensures { OnOk result (out.new.items ≡ out.old.items ++ history_text ranks.now) }
 {
     out.extend_from_slice(b"history")?;
-    push_spaced_number(alloc, out, ranks.len() as u64)?;
+    push_spaced_number(out, ranks.len() as u64)?;
     out.push(b'\n')?;
-    push_ranks(alloc, out, ranks)
+    push_ranks(out, ranks)
 }
 
 fn push_outcome(out: &mut Vec<u8>, committed: bool) -> Result<(), AllocError>
@@ -76,22 +72,22 @@ fn push_outcome(out: &mut Vec<u8>, committed: bool) -> Result<(), AllocError>
     }
 }
 
-fn push_doubt(alloc: Global, out: &mut Vec<u8>, line: &DoubtLine) -> Result<(), AllocError>
+fn push_doubt(out: &mut Vec<u8>, line: &DoubtLine) -> Result<(), AllocError>
     ensures { OnOk result (out.new.items ≡ out.old.items ++ doubt_line line.now) }
 {
     out.extend_from_slice(b"doubt")?;
     push_spaced(out, line.client.as_slice())?;
-    push_spaced_number(alloc, out, u64::from(line.number))?;
+    push_spaced_number(out, u64::from(line.number))?;
     push_outcome(out, line.committed)?;
     out.push(b'\n')?;
     Ok(())
 }
 
-pub fn push_doubts(alloc: Global, out: &mut Vec<u8>, lines: &[DoubtLine]) -> Result<(), AllocError>
+pub fn push_doubts(out: &mut Vec<u8>, lines: &[DoubtLine]) -> Result<(), AllocError>
     ensures { OnOk result (out.new.items ≡ out.old.items ++ flat_map doubt_line lines.now) }
 {
     for line in lines {
-        push_doubt(alloc, out, line)?;
+        push_doubt(out, line)?;
     }
     Ok(())
 }
@@ -107,21 +103,21 @@ fn push_met(out: &mut Vec<u8>, met: bool) -> Result<(), AllocError>
     }
 }
 
-fn push_point(alloc: Global, out: &mut Vec<u8>, number: u64, met: bool) -> Result<(), AllocError>
+fn push_point(out: &mut Vec<u8>, number: u64, met: bool) -> Result<(), AllocError>
     ensures { OnOk result (out.new.items ≡ out.old.items ++ point_lines number (met ∷ [])) }
 {
     out.extend_from_slice(b"point")?;
-    push_spaced_number(alloc, out, number)?;
+    push_spaced_number(out, number)?;
     push_met(out, met)?;
     out.push(b'\n')?;
     Ok(())
 }
 
-pub fn push_points(alloc: Global, out: &mut Vec<u8>, points: &[bool]) -> Result<(), AllocError>
+pub fn push_points(out: &mut Vec<u8>, points: &[bool]) -> Result<(), AllocError>
     ensures { OnOk result (out.new.items ≡ out.old.items ++ point_lines 1 points.now) }
 {
     for (at, met) in points.iter().enumerate() {
-        push_point(alloc, out, at as u64 + 1, *met)?;
+        push_point(out, at as u64 + 1, *met)?;
     }
     Ok(())
 }
@@ -140,7 +136,7 @@ fn push_version_line(alloc: Global, out: &mut Vec<u8>, line: &VersionLine) -> Re
     push_spaced(out, line.name.as_slice())?;
     push_name(out, &line.parent)?;
     push_state(out, line.frozen)?;
-    push_spaced_number(alloc, out, u64::from(line.count))?;
+    push_spaced_number(out, u64::from(line.count))?;
     push_digest(alloc, out, &line.digest)?;
     out.push(b'\n')?;
     Ok(())

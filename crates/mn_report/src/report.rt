@@ -21,10 +21,10 @@ fn push_report(alloc: Global, out: &mut Vec<u8>, report: &Report) -> Result<(), 
     requires { CanReport report.now }
     ensures { OnOk result (out.new.items ≡ out.old.items ++ report_text report.now) }
 {
-    push_answer_lines(alloc, out, report.answers.as_slice())?;
-    push_history(alloc, out, report.history.as_slice())?;
-    push_doubts(alloc, out, report.doubts.as_slice())?;
-    push_points(alloc, out, report.points.as_slice())?;
+    push_answer_lines(out, report.answers.as_slice())?;
+    push_history(out, report.history.as_slice())?;
+    push_doubts(out, report.doubts.as_slice())?;
+    push_points(out, report.points.as_slice())?;
     push_version_lines(alloc, out, report.versions.as_slice())?;
     out.extend_from_slice(b"end\n")
 }

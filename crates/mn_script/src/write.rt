@@ -36,16 +36,11 @@ fn push_named(out: &mut Vec<u8>, word: &[u8], name: &[u8]) -> Result<(), AllocEr
 }
 
 /// Adds a word and a number, with a space between them.
-fn push_numbered(
-    alloc: Global,
-    out: &mut Vec<u8>,
-    word: &[u8],
-    number: u8,
-) -> Result<(), AllocError>
+fn push_numbered(out: &mut Vec<u8>, word: &[u8], number: u8) -> Result<(), AllocError>
     ensures { OnOk result (out.new.items ≡ out.old.items ++ (word.now ++ spaced_number number)) }
 {
     out.extend_from_slice(word)?;
-    push_spaced_number(alloc, out, u64::from(number))
+    push_spaced_number(out, u64::from(number))
 }
 
 /// Adds a word and a key, with a space between them.
@@ -133,7 +128,6 @@ fn push_family(
 
 /// Adds the bounds of a scan and its limit.
 fn push_range(
-    alloc: Global,
     out: &mut Vec<u8>,
     low: &Option<Key>,
     high: &Option<Key>,
@@ -144,10 +138,10 @@ fn push_range(
 {
     push_bound(out, low)?;
     push_bound(out, high)?;
-    push_spaced_number(alloc, out, u64::from(limit))
+    push_spaced_number(out, u64::from(limit))
 }
 
-fn push_op(alloc: Global, out: &mut Vec<u8>, op: &Op) -> Result<(), AllocError>
+fn push_op(out: &mut Vec<u8>, op: &Op) -> Result<(), AllocError>
     ensures { OnOk result (out.new.items ≡ out.old.items ++ op_text op.now) }
 {
     match op {
@@ -164,18 +158,18 @@ fn push_op(alloc: Global, out: &mut Vec<u8>, op: &Op) -> Result<(), AllocError>
             limit,
         } => {
             push_named(out, b"scan", version.as_slice())?;
-            push_range(alloc, out, low, high, *limit)
+            push_range(out, low, high, *limit)
         }
         Op::Versions => out.extend_from_slice(b"versions"),
     }
 }
 
-fn push_ops(alloc: Global, out: &mut Vec<u8>, ops: &[Op]) -> Result<(), AllocError>
+fn push_ops(out: &mut Vec<u8>, ops: &[Op]) -> Result<(), AllocError>
     ensures { OnOk result (out.new.items
         ≡ out.old.items ++ flat_map (λ op. line (op_text op)) ops.now) }
 {
     for op in ops {
-        push_op(alloc, out, op)?;
+        push_op(out, op)?;
         out.push(b'\n')?;
     }
     Ok(())
@@ -191,25 +185,21 @@ fn push_mark(out: &mut Vec<u8>, mark: Mark) -> Result<(), AllocError>
     }
 }
 
-fn push_client(alloc: Global, out: &mut Vec<u8>, client: &ScriptClient) -> Result<(), AllocError>
+fn push_client(out: &mut Vec<u8>, client: &ScriptClient) -> Result<(), AllocError>
     ensures { OnOk result (out.new.items ≡ out.old.items ++ client_text client.now) }
 {
     out.extend_from_slice(b"client")?;
     push_spaced(out, client.name.as_slice())?;
     push_mark(out, client.mark)?;
     out.push(b'\n')?;
-    push_ops(alloc, out, client.ops.as_slice())
+    push_ops(out, client.ops.as_slice())
 }
 
-fn push_clients(
-    alloc: Global,
-    out: &mut Vec<u8>,
-    clients: &[ScriptClient],
-) -> Result<(), AllocError>
+fn push_clients(out: &mut Vec<u8>, clients: &[ScriptClient]) -> Result<(), AllocError>
     ensures { OnOk result (out.new.items ≡ out.old.items ++ flat_map client_text clients.now) }
 {
     for client in clients {
-        push_client(alloc, out, client)?;
+        push_client(out, client)?;
     }
     Ok(())
 }
@@ -237,24 +227,17 @@ fn push_stop(out: &mut Vec<u8>, at: StopAt) -> Result<(), AllocError>
 }
 
 /// Adds the death of a client.
-fn push_kill(
-    alloc: Global,
-    out: &mut Vec<u8>,
-    client: &[u8],
-    number: u32,
-    votes: u8,
-) -> Result<(), AllocError>
+fn push_kill(out: &mut Vec<u8>, client: &[u8], number: u32, votes: u8) -> Result<(), AllocError>
     ensures { OnOk result (out.new.items ≡ out.old.items ++ (codes "kill" ++ (spaced client.now
         ++ (spaced_number number ++ (codes " votes" ++ spaced_number votes))))) }
 {
     push_named(out, b"kill", client)?;
-    push_spaced_number(alloc, out, u64::from(number))?;
-    push_numbered(alloc, out, b" votes", votes)
+    push_spaced_number(out, u64::from(number))?;
+    push_numbered(out, b" votes", votes)
 }
 
 /// Adds the stop of a node.
 fn push_node_stop(
-    alloc: Global,
     out: &mut Vec<u8>,
     node: u8,
     client: &[u8],
@@ -264,18 +247,13 @@ fn push_node_stop(
     ensures { OnOk result (out.new.items ≡ out.old.items ++ (codes "stop" ++ (spaced_number node
         ++ (spaced client.now ++ (spaced_number number ++ stop_text at))))) }
 {
-    push_numbered(alloc, out, b"stop", node)?;
+    push_numbered(out, b"stop", node)?;
     push_spaced(out, client)?;
-    push_spaced_number(alloc, out, u64::from(number))?;
+    push_spaced_number(out, u64::from(number))?;
     push_stop(out, at)
 }
 
-fn push_point(
-    alloc: Global,
-    out: &mut Vec<u8>,
-    clients: &[ScriptClient],
-    point: &Point,
-) -> Result<(), AllocError>
+fn push_point(out: &mut Vec<u8>, clients: &[ScriptClient], point: &Point) -> Result<(), AllocError>
     ensures { OnOk result (out.new.items ≡ out.old.items ++ point_text clients.now point.now) }
 {
     match point {
@@ -283,18 +261,17 @@ fn push_point(
             client,
             number,
             votes,
-        } => push_kill(alloc, out, name_at(clients, *client), *number, *votes),
+        } => push_kill(out, name_at(clients, *client), *number, *votes),
         Point::Stop {
             node,
             client,
             number,
             at,
-        } => push_node_stop(alloc, out, node.0, name_at(clients, *client), *number, *at),
+        } => push_node_stop(out, node.0, name_at(clients, *client), *number, *at),
     }
 }
 
 fn push_points(
-    alloc: Global,
     out: &mut Vec<u8>,
     clients: &[ScriptClient],
     points: &[Point],
@@ -303,7 +280,7 @@ fn push_points(
         ≡ out.old.items ++ flat_map (λ p. line (point_text clients.now p)) points.now) }
 {
     for point in points {
-        push_point(alloc, out, clients, point)?;
+        push_point(out, clients, point)?;
         out.push(b'\n')?;
     }
     Ok(())
@@ -311,7 +288,6 @@ fn push_points(
 
 /// Adds the first word of an act, the number of a recovery coordinator and the name of a client.
 fn push_recovery(
-    alloc: Global,
     out: &mut Vec<u8>,
     word: &[u8],
     recoverer: u8,
@@ -320,16 +296,11 @@ fn push_recovery(
     ensures { OnOk result (out.new.items
         ≡ out.old.items ++ (word.now ++ (spaced_number recoverer ++ spaced client.now))) }
 {
-    push_numbered(alloc, out, word, recoverer)?;
+    push_numbered(out, word, recoverer)?;
     push_spaced(out, client)
 }
 
-fn push_act(
-    alloc: Global,
-    out: &mut Vec<u8>,
-    clients: &[ScriptClient],
-    act: &Act,
-) -> Result<(), AllocError>
+fn push_act(out: &mut Vec<u8>, clients: &[ScriptClient], act: &Act) -> Result<(), AllocError>
     ensures { OnOk result (out.new.items ≡ out.old.items ++ act_text clients.now act.now) }
 {
     match act {
@@ -337,68 +308,57 @@ fn push_act(
         Act::Plan { client } => push_named(out, b"plan", name_at(clients, *client)),
         Act::Go { client } => push_named(out, b"go", name_at(clients, *client)),
         Act::All { client } => push_named(out, b"all", name_at(clients, *client)),
-        Act::Halt { node } => push_numbered(alloc, out, b"halt", node.0),
-        Act::Restart { node } => push_numbered(alloc, out, b"restart", node.0),
+        Act::Halt { node } => push_numbered(out, b"halt", node.0),
+        Act::Restart { node } => push_numbered(out, b"restart", node.0),
         Act::Rstep { recoverer, client } => {
             let client = name_at(clients, *client);
-            push_recovery(alloc, out, b"rstep", *recoverer, client)
+            push_recovery(out, b"rstep", *recoverer, client)
         }
         Act::Recover { recoverer, client } => {
             let client = name_at(clients, *client);
-            push_recovery(alloc, out, b"recover", *recoverer, client)
+            push_recovery(out, b"recover", *recoverer, client)
         }
     }
 }
 
-fn push_acts(
-    alloc: Global,
-    out: &mut Vec<u8>,
-    clients: &[ScriptClient],
-    acts: &[Act],
-) -> Result<(), AllocError>
+fn push_acts(out: &mut Vec<u8>, clients: &[ScriptClient], acts: &[Act]) -> Result<(), AllocError>
     ensures { OnOk result (out.new.items
         ≡ out.old.items ++ flat_map (λ a. line (act_text clients.now a)) acts.now) }
 {
     for act in acts {
-        push_act(alloc, out, clients, act)?;
+        push_act(out, clients, act)?;
         out.push(b'\n')?;
     }
     Ok(())
 }
 
 /// Adds a word, a number and the end of the line.
-fn push_number_line(
-    alloc: Global,
-    out: &mut Vec<u8>,
-    word: &[u8],
-    number: u8,
-) -> Result<(), AllocError>
+fn push_number_line(out: &mut Vec<u8>, word: &[u8], number: u8) -> Result<(), AllocError>
     ensures { OnOk result (out.new.items
         ≡ out.old.items ++ line (word.now ++ spaced_number number)) }
 {
-    push_numbered(alloc, out, word, number)?;
+    push_numbered(out, word, number)?;
     out.push(b'\n')?;
     Ok(())
 }
 
-fn push_recoverers(alloc: Global, out: &mut Vec<u8>, recoverers: u8) -> Result<(), AllocError>
+fn push_recoverers(out: &mut Vec<u8>, recoverers: u8) -> Result<(), AllocError>
     ensures { OnOk result (out.new.items ≡ out.old.items ++ recoverers_text recoverers) }
 {
     if recoverers == 0 {
         return Ok(());
     }
-    push_number_line(alloc, out, b"recoverers", recoverers)
+    push_number_line(out, b"recoverers", recoverers)
 }
 
-fn push_head(alloc: Global, out: &mut Vec<u8>, nodes: u8, recoverers: u8) -> Result<(), AllocError>
+fn push_head(out: &mut Vec<u8>, nodes: u8, recoverers: u8) -> Result<(), AllocError>
     ensures { OnOk result (out.new.items ≡ out.old.items ++ head_text nodes recoverers) }
 {
-    push_number_line(alloc, out, b"nodes", nodes)?;
-    push_recoverers(alloc, out, recoverers)
+    push_number_line(out, b"nodes", nodes)?;
+    push_recoverers(out, recoverers)
 }
 
 fn push_schedule(
-    alloc: Global,
     out: &mut Vec<u8>,
     clients: &[ScriptClient],
     schedule: &[Act],
@@ -410,18 +370,18 @@ fn push_schedule(
         return Ok(());
     }
     out.extend_from_slice(b"schedule\n")?;
-    push_acts(alloc, out, clients, schedule)
+    push_acts(out, clients, schedule)
 }
 
-fn push_script(alloc: Global, out: &mut Vec<u8>, script: &Script) -> Result<(), AllocError>
+fn push_script(out: &mut Vec<u8>, script: &Script) -> Result<(), AllocError>
     ensures text { OnOk result (out.new.items ≡ out.old.items ++ script_text script.now) }
     ensures right { IsScript script.now }
 {
     let clients = script.clients();
-    push_head(alloc, out, script.nodes(), script.recoverers())?;
-    push_clients(alloc, out, clients)?;
-    push_points(alloc, out, clients, script.points())?;
-    push_schedule(alloc, out, clients, script.schedule())
+    push_head(out, script.nodes(), script.recoverers())?;
+    push_clients(out, clients)?;
+    push_points(out, clients, script.points())?;
+    push_schedule(out, clients, script.schedule())
 }
 
 /// Writes one spelling of a script, without the lines `recoverers` and `schedule` where they can be
@@ -433,6 +393,6 @@ pub fn write_script(alloc: Global, script: &Script) -> Result<Bytes, NoMemory>
         (λ text. length text ≤ 4194304 → script_of text ≡ Ok script.now) }
 {
     let mut out = Vec::new(alloc);
-    push_script(alloc, &mut out, script)?;
+    push_script(&mut out, script)?;
     Ok(Bytes::from_vec(out))
 }

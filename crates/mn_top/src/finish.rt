@@ -48,7 +48,7 @@ fn with_number(alloc: Global, words: &[u8], number: u64) -> Result<Vec<u8>, Allo
     ensures { IfOk result (λ text. text.items ≡ words.now ++ spaced_number number) }
 {
     let mut text = words.to_vec(alloc)?;
-    push_spaced_number(alloc, &mut text, number)?;
+    push_spaced_number(&mut text, number)?;
     Ok(text)
 }
 
@@ -58,7 +58,7 @@ fn with_numbers(alloc: Global, words: &[u8], first: u64, second: u64) -> Result<
         ≡ words.now ++ (spaced_number first ++ spaced_number second)) }
 {
     let mut text = with_number(alloc, words, first)?;
-    push_spaced_number(alloc, &mut text, second)?;
+    push_spaced_number(&mut text, second)?;
     Ok(text)
 }
 

@@ -1,10 +1,11 @@
 //! The opening of the disks: their logs, and the store that the records of all of them make.
 ghost use Rattle.std.specs.Prelude.{◌≡◌, ◌≤◌, ◌+◌, ◌++◌, [], ℕ, List, IfOk, IfErr, length, map};
-ghost use Rattle.std.specs.Prelude.{reverse, vec_capacity};
-ghost use Rattle.std.specs.List.{flat_map};
-ghost use Rattle.mn_base.specs.Store.{Store};
+ghost use Rattle.std.specs.Prelude.{nat_eq, reverse, vec_capacity};
+ghost use Rattle.std.specs.List.{flat_map, list_all};
+ghost use Rattle.mn_base.specs.Store.{Store, empty_store};
 ghost use Rattle.mn_mini.specs.Node.{greatest_run, record_run};
 ghost use Rattle.mn_script.specs.Script.{Script};
+ghost use Rattle.mn_top.specs.declared.due.Due.TheVariants as dues;
 ghost use Rattle.mn_top.specs.declared.words.Command.{Command};
 ghost use Rattle.mn_top.specs.Ending.{ComesTo};
 ghost use Rattle.mn_top.specs.Logs.{AllRead, AreJudged, MakeStart, WasRead, WasRefused};
@@ -209,13 +210,35 @@ fn last_run_of_all(records: &[Records]) -> u32
     greatest
 }
 
-/// The store that the records of all nodes make.
+/// Whether no node has a record.
+fn have_none(records: &[Records]) -> bool
+    ensures { result ≡ list_all (λ list. nat_eq (length list) 0) records.now }
+{
+    records.iter().all(|list| list.as_slice().is_empty())
+}
+
+/// The store of nodes without records.
+fn fresh_store(alloc: Global) -> Result<Store, Due>
+    ensures store { IfOk result (λ store. store ≡ empty_store) }
+    ensures failed { IfErr result (λ due. due ≡ dues.NoMemory) }
+{
+    match Store::new(alloc) {
+        Ok(store) => Ok(store),
+        Err(_) => Err(Due::NoMemory),
+    }
+}
+
+/// The store that the records of all nodes make. That of nodes without records is known, and its
+/// memory isn't made.
 fn store_of(alloc: Global, records: &[Records]) -> Result<Store, Due>
     requires some { 1 ≤ length records.now }
     requires few { length records.now ≤ 8 }
     ensures opened { IfOk result (IsOpenedAs (start_of records.now)) }
     ensures refused { IfErr result (AreJudged records.now) }
 {
+    if have_none(records) {
+        return fresh_store(alloc);
+    }
     let spaces = match flat_of(alloc, records) {
         Ok(spaces) => spaces,
         Err(error) => return Err(due_of_votes(error)),

@@ -15,10 +15,12 @@ mod next;
 mod place;
 mod scan;
 mod seen;
+mod task;
 mod work;
 
 pub use causes::refusal;
 pub use known::Known;
 pub use next::{Next, Taken};
 pub use place::Place;
+pub use task::Task;
 pub use work::Work;

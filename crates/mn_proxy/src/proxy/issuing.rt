@@ -28,10 +28,11 @@ use crate::step::ProxyStep;
 use mn_base::{NoMemory, Tid, TryCopy};
 use mn_coord::Coordinator;
 use mn_mini::{Item, Items, MAX_ITEM, Minitransaction, Request, SPACE};
-use mn_work::{Next, Place, Work};
+use mn_work::{Next, Place, Task};
 use std::alloc::Global;
 
 /// A minitransaction that reads a place. NoMemory: there was no memory for it.
+#[inline(never)]
 fn read_of(alloc: Global, nodes: u8, place: Place) -> Result<Minitransaction, NoMemory>
     ensures { IfOk result (λ mini. mini ≡ read_mini nodes (place_of place)) }
 {
@@ -77,7 +78,7 @@ fn causes_are_shown()
 impl Proxy {
     /// Goes on with what the try wants next.
     #[inline(always)]
-    pub(super) fn advance(&mut self, alloc: Global, work: Work) -> Result<Turn, NoMemory>
+    pub(super) fn advance(&mut self, alloc: Global, work: Task) -> Result<Turn, NoMemory>
         requires idle { self.old.work ≡ None }
         requires few { work.failed < max_tries }
         requires job { IsJobOf self.old.known work }
@@ -113,7 +114,8 @@ impl Proxy {
     }
 
     /// What the try wants next.
-    fn want(&mut self, alloc: Global, work: &mut Work) -> Result<Next, NoMemory>
+    #[inline(never)]
+    fn want(&mut self, alloc: Global, work: &mut Task) -> Result<Next, NoMemory>
         requires idle { self.old.work ≡ None }
         requires job { IsJobOf self.old.known work.old }
         ensures same { self.new ≡ with_known self.old self.new.known }
@@ -127,7 +129,7 @@ impl Proxy {
         ensures few { self.new.known.nodes ≤ 8 }
     {
         self.has_nodes();
-        work.advance(alloc, &mut self.known)
+        work.get_mut().advance(alloc, &mut self.known)
     }
 
     // There are 1 to 8 nodes.
@@ -140,7 +142,7 @@ impl Proxy {
 
     /// Reads the catalog.
     #[inline(always)]
-    pub(super) fn read_catalog(&mut self, alloc: Global, work: Work) -> Result<Turn, NoMemory>
+    pub(super) fn read_catalog(&mut self, alloc: Global, work: Task) -> Result<Turn, NoMemory>
         requires idle { self.old.work ≡ None }
         requires few { work.failed < max_tries }
         requires job { IsJobOf self.old.known work }
@@ -164,7 +166,7 @@ impl Proxy {
     fn read(
         &mut self,
         alloc: Global,
-        work: Work,
+        work: Task,
         place: Place,
         peek: bool,
         purpose: Purpose,
@@ -201,7 +203,7 @@ impl Proxy {
 
     /// Reads a place by a Peek.
     #[inline(always)]
-    fn peek(&mut self, work: Work, place: Place, purpose: Purpose) -> Result<Turn, NoMemory>
+    fn peek(&mut self, work: Task, place: Place, purpose: Purpose) -> Result<Turn, NoMemory>
         requires idle { self.old.work ≡ None }
         requires few { work.failed < max_tries }
         requires waits { WaitsFor self.old.known work purpose }
@@ -238,7 +240,7 @@ impl Proxy {
     fn issue(
         &mut self,
         alloc: Global,
-        work: Work,
+        work: Task,
         mini: Minitransaction,
         purpose: Purpose,
     ) -> Result<Turn, NoMemory>

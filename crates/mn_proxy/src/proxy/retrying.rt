@@ -13,7 +13,7 @@ use super::{Proxy, Turn, ends};
 use mn_base::{Answer, Busy, NoMemory, NodeNo, Tid};
 use mn_coord::Outcome;
 use mn_mini::{Minitransaction, NodeReply};
-use mn_work::{Work, refusal};
+use mn_work::{Task, refusal};
 use std::alloc::Global;
 
 /// The most tries of an operation, and of each leaf of a scan.
@@ -51,6 +51,7 @@ fn failure_by(
 
 /// How a minitransaction failed, by the reply of this node. NoMemory: for want of memory, there or
 /// here.
+#[inline(never)]
 fn failure_of(alloc: Global, tid: Tid, node: NodeNo, outcome: Outcome) -> Result<Failure, NoMemory>
     ensures { IfOk result (FailsSo tid outcome.mini node outcome.reply) }
 {
@@ -71,7 +72,7 @@ impl Proxy {
     pub(super) fn refuse(
         &mut self,
         alloc: Global,
-        work: Work,
+        work: Task,
         tid: Tid,
         node: NodeNo,
         outcome: Outcome,
@@ -102,7 +103,7 @@ impl Proxy {
     pub(super) fn fail(
         &mut self,
         alloc: Global,
-        work: Work,
+        work: Task,
         cause: Option<Busy>,
     ) -> Result<Turn, NoMemory>
         requires idle { self.old.work ≡ None }
@@ -119,15 +120,15 @@ impl Proxy {
             (CatalogTurns None self.old.known.catalog self.new.known.catalog) }
     {
         match cause {
-            None if work.is_later() => Err(NoMemory),
-            Some(cause) if work.failed + 1 >= TRIES => Ok(ends(Answer::Busy { cause })),
+            None if work.get().is_later() => Err(NoMemory),
+            Some(cause) if work.get().failed + 1 >= TRIES => Ok(ends(Answer::Busy { cause })),
             _ => self.retry(alloc, work),
         }
     }
 
     /// Begins a later try.
     #[inline(always)]
-    fn retry(&mut self, alloc: Global, work: Work) -> Result<Turn, NoMemory>
+    fn retry(&mut self, alloc: Global, work: Task) -> Result<Turn, NoMemory>
         requires idle { self.old.work ≡ None }
         requires few { work.failed + 1 < max_tries }
         requires startable { IsStartable work.op (retried_job work.job) }
@@ -142,7 +143,7 @@ impl Proxy {
             (CatalogTurns None self.old.known.catalog self.new.known.catalog) }
     {
         let mut work = work;
-        work.retry();
+        work.get_mut().retry();
         self.known.catalog = None;
         self.read_catalog(alloc, work)
     }

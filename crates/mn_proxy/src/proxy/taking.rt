@@ -26,10 +26,11 @@ use crate::step::ProxyStep;
 use mn_base::{Answer, Bytes, NoMemory, Tid};
 use mn_coord::{CoordStep, Coordinator, Outcome};
 use mn_mini::NodeReply;
-use mn_work::{Known, Place, Taken, Work};
+use mn_work::{Known, Place, Taken, Task};
 use std::alloc::Global;
 
 /// What a minitransaction of one read item has read.
+#[inline(never)]
 fn only_read(outcome: Outcome) -> Option<Bytes>
     ensures { result ≡ read_alone outcome.reads.items }
 {
@@ -44,9 +45,10 @@ fn only_read(outcome: Outcome) -> Option<Bytes>
 }
 
 /// Takes what was read for this purpose.
+#[inline(never)]
 fn taken_for(
     alloc: Global,
-    work: &mut Work,
+    work: &mut Task,
     known: &mut Known,
     purpose: Purpose,
     bytes: Bytes,
@@ -59,9 +61,9 @@ fn taken_for(
     ensures cache { PutsRead (Some (purpose, bytes)) known.old.cache known.new.cache result }
 {
     match purpose {
-        Purpose::Catalog => work.take_catalog(alloc, known, bytes.as_slice()),
-        Purpose::Page { addr } => work.take_page(alloc, known, addr, bytes),
-        Purpose::Count => work.take_count(bytes.as_slice()),
+        Purpose::Catalog => work.get_mut().take_catalog(alloc, known, bytes.as_slice()),
+        Purpose::Page { addr } => work.get_mut().take_page(alloc, known, addr, bytes),
+        Purpose::Count => work.get_mut().take_count(bytes.as_slice()),
         Purpose::Plan { .. } => Err(NoMemory),
     }
 }
@@ -72,7 +74,7 @@ impl Proxy {
     pub(super) fn take_peeked(
         &mut self,
         alloc: Global,
-        work: Work,
+        work: Task,
         place: Place,
         reply: NodeReply,
         purpose: Purpose,
@@ -113,7 +115,7 @@ impl Proxy {
     pub(super) fn coordinate(
         &mut self,
         alloc: Global,
-        work: Work,
+        work: Task,
         tid: Tid,
         coordinator: Coordinator,
         purpose: Purpose,
@@ -175,7 +177,7 @@ impl Proxy {
     fn commit(
         &mut self,
         alloc: Global,
-        work: Work,
+        work: Task,
         outcome: Outcome,
         purpose: Purpose,
     ) -> Result<Turn, NoMemory>
@@ -215,7 +217,7 @@ impl Proxy {
     fn take(
         &mut self,
         alloc: Global,
-        work: Work,
+        work: Task,
         purpose: Purpose,
         bytes: Bytes,
     ) -> Result<Turn, NoMemory>
@@ -242,7 +244,7 @@ impl Proxy {
         match taken_for(alloc, &mut work, &mut self.known, purpose, bytes)? {
             Taken::GoesOn => self.advance(alloc, work),
             Taken::Leaf => {
-                work.failed = 0;
+                work.get_mut().failed = 0;
                 self.advance(alloc, work)
             }
             Taken::Replies { reply } => Ok(ends(Answer::Replied { reply })),

@@ -1,4 +1,6 @@
-use Rattle.std.proofs.Common.{◌+◌, sym, ◌∙◌}
+use Rattle.std.proofs.Common.{◌+◌, ap, subst, sym, ◌∙◌}
+use Rattle.mn_base.specs.declared.op.Op.{Op}
+use Rattle.mn_work.specs.declared.work.Work.{Work}
 use Rattle.mn_world.specs.declared.entry.What.TheVariants.{Begin}
 use Rattle.mn_callers.proofs.Hands.{moves_further, moves_nowhere}
 use Rattle.mn_callers.specs.Clients.{past_of}
@@ -6,7 +8,7 @@ use Rattle.mn_callers.specs.Steps.{own_entry}
 use Rattle.mn_callers.proofs.ClientActs.{begins_op}
 use Rattle.mn_callers.proofs.ClientEnds.{on_any}
 use Rattle.mn_callers.proofs.ClientSteps.{longer, on_error, on_ok}
-use Rattle.mn_callers.proofs.ClientCalls.{begin_allowed, begun_steps, unbegun_run}
+use Rattle.mn_callers.proofs.ClientCalls.{Begins, begin_allowed, begun_steps, unbegun_run}
 use Rattle.mn_callers.proofs.client.Client.begin.Goals as goal
 
 pub add-requires-clause-may : goal.add-requires-clause-may
@@ -15,7 +17,9 @@ add-requires-clause-may g c = begin_allowed g.X.Transport.start c.args.points.no
 pub go_on-requires-clause-steps : goal.go_on-requires-clause-steps
 go_on-requires-clause-steps g c =
     begun_steps g.X.Transport.start c.args.points.now c.args.self.now c.add.new.self c.in_ok-asked.asked c.in_ok-op.op c.begin.new.self c.requires.client c.requires.idle c.requires.lives c.add.ensures.same
-    (c.in_ok-op.ensures ∙ sym c.in_ok-asked.ensures) c.in_ok-add.ensures.added (record { is = c.begin.ensures.begun; ready = c.begin.ensures.ready; agrees = c.begin.ensures.agrees })
+    (c.in_ok-op.ensures ∙ sym c.in_ok-asked.ensures) c.in_ok-add.ensures.added
+    (subst (λ (o : Op). Begins c.add.new.self.proxy o c.begin.new.self) (ap (λ (w : Work). w.op) c.in_ok-work.ensures)
+    (record { is = c.begin.ensures.begun; ready = c.begin.ensures.ready; agrees = c.begin.ensures.agrees }))
 
 pub returns-clause-goes_on : goal.returns-clause-goes_on
 returns-clause-goes_on g c = moves_further g.X.Transport.went g.met.X.Transport.goes_on _ _ _ _ _ _ c.add.ensures.goes_on c.go_on.ensures.goes_on

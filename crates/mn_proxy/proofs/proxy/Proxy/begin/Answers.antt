@@ -8,6 +8,6 @@ use Rattle.mn_proxy.proofs.proxy.Proxy.begin.Goals as goal
 
 pub returns-clause-agrees : goal.returns-clause-agrees
 returns-clause-agrees c = λ es e agrees begins.
-    begins_agree es (the_view c.self.inside) c.args.op e c.new.result c.new.ensures
+    begins_agree es (the_view c.self.inside) c.args.work.op e c.args.work c.requires.new
     (subst (Agrees es) (sym c.self.view_is) agrees)
-    (subst (λ (p : ProxyState). BeginsNext es p.client c.args.op e) (sym c.self.view_is) begins)
+    (subst (λ (p : ProxyState). BeginsNext es p.client c.args.work.op e) (sym c.self.view_is) begins)

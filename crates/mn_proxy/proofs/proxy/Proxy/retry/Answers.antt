@@ -7,6 +7,7 @@ use Rattle.mn_work.specs.declared.known.Known.{Known}
 use Rattle.mn_work.specs.declared.work.Work.{Work}
 use Rattle.mn_proxy.specs.State.{ProxyState}
 use Rattle.mn_work.specs.Walks.{is_later}
+use Rattle.mn_work.specs.Works.{retried}
 use Rattle.mn_proxy.proofs.Kept.{catalog_gone, later_now}
 use Rattle.mn_proxy.proofs.proxy.Proxy.retry.Goals as goal
 
@@ -14,7 +15,7 @@ pub returns-clause-turns : goal.returns-clause-turns
 returns-clause-turns c = λ es own may.
     c.read_catalog.ensures.turns es
     (own_forgotten_as es (the_view c.self.inside) c.args.self.now c.self.view_is own)
-    (retried_as es (the_view c.self.inside) c.args.self.now c.args.work c.retry.new.self c.self.view_is c.retry.ensures c.requires.startable may)
+    (retried_as es (the_view c.self.inside) c.args.self.now c.args.work c.retry.new.self c.self.view_is (c.retry.ensures ∙ ap retried c.get_mut.ensures.same) c.requires.startable may)
 
 pub returns-clause-left : goal.returns-clause-left
 returns-clause-left c = λ es own.
@@ -33,4 +34,4 @@ pub returns-clause-catalog : goal.returns-clause-catalog
 returns-clause-catalog c =
     catalog_gone c.args.self.now.known.catalog c.read_catalog.new.self.known.catalog c.retry.new.self _ c.read_catalog.result
     (ap (λ (k : Known). k.catalog) c.read_catalog.ensures.known)
-    (ap (λ (w : Work). is_later w.failed) c.retry.ensures ∙ later_now c.args.work.failed) c.read_catalog.ensures.reads
+    (ap (λ (w : Work). is_later w.failed) (c.retry.ensures ∙ ap retried c.get_mut.ensures.same) ∙ later_now c.args.work.failed) c.read_catalog.ensures.reads

@@ -5,7 +5,7 @@ use Rattle.mn_proxy.specs.Turns.{IsSoundTurn, TurnAgrees, WaitsFor, with_known}
 use Rattle.mn_proxy.specs.Agrees.{IsOwn}
 use Rattle.mn_work.specs.declared.next.Taken.{Taken}
 use Rattle.mn_proxy.specs.contracts.proxy.Proxy.{the_view}
-use Rattle.mn_proxy.proofs.Taking.{few_as, job_as, kept_as, none_left, none_made, own_left_as, replies_as, sound_left, startable_as, tells_as}
+use Rattle.mn_proxy.proofs.Taking.{TakenTells, few_as, job_as, kept_as, none_left, none_made, own_left_as, replies_as, sound_left, startable_as, tells_as}
 use Rattle.mn_proxy.specs.Measure.{GoesBelow, left_after}
 use Rattle.mn_proxy.proofs.Measure.{same_goes}
 use Rattle.std.proofs.Common.{Some, Ok, Result}
@@ -18,6 +18,8 @@ use Rattle.mn_work.specs.Descents.{values_at}
 use Rattle.mn_proxy.specs.Kept.{CatalogTurns}
 use Rattle.mn_proxy.specs.LeafReads.{shown_by}
 use Rattle.mn_work.specs.Walks.{is_later}
+use Rattle.mn_work.specs.Works.{IsJobOf}
+use Rattle.mn_work.specs.declared.work.Work.{Work}
 use Rattle.mn_proxy.proofs.LeafReads.{leaf_next}
 use Rattle.mn_proxy.proofs.Kept.{cache_last, cache_left, cache_then, came_op, catalog_next, catalog_stays, never_later}
 use Rattle.mn_proxy.proofs.proxy.Proxy.take.Goals as goal
@@ -81,7 +83,8 @@ advance-requires-in-Leaf-clause-few c = lit< tt
 
 pub advance-requires-in-Leaf-clause-job : goal.advance-requires-in-Leaf-clause-job
 advance-requires-in-Leaf-clause-job c =
-    job_as (the_view c.self.inside) c.args.self.now c.self.view_is c.taken_for.new.known c.args.work c.taken_for.new.work c.args.purpose c.args.bytes c.in_ok-taken_for.field-0 c.requires.waits c.in_ok-taken_for.ensures.came (inr c.in-Leaf.is)
+    subst (λ (w : Work). IsJobOf c.taken_for.new.known (record w { failed = 0 })) (sym c.get_mut.ensures.same)
+    (job_as (the_view c.self.inside) c.args.self.now c.self.view_is c.taken_for.new.known c.args.work c.taken_for.new.work c.args.purpose c.args.bytes c.in_ok-taken_for.field-0 c.requires.waits c.in_ok-taken_for.ensures.came (inr c.in-Leaf.is))
 
 pub invariant_of-self-in-Replies-1 : goal.invariant_of-self-in-Replies-1
 invariant_of-self-in-Replies-1 c =
@@ -129,7 +132,8 @@ pub returns-in-Leaf-clause-turns : goal.returns-in-Leaf-clause-turns
 returns-in-Leaf-clause-turns c = λ es own read closed over.
     c.advance-in-Leaf.ensures.turns es
     (own_left_as es (the_view c.self.inside) c.args.self.now c.self.view_is c.taken_for.new.known c.args.work c.args.purpose c.args.bytes own read c.taken_for.ensures.leaves)
-    (tells_as es (the_view c.self.inside) c.args.self.now c.self.view_is c.taken_for.new.known c.args.work c.args.purpose c.args.bytes own read c.taken_for.new.work c.in_ok-taken_for.field-0 Taken.Leaf c.in-Leaf.is c.requires.waits closed over c.in_ok-taken_for.ensures.came)
+    (subst (λ (w : Work). TakenTells es c.taken_for.new.known w Taken.Leaf) (sym c.get_mut.ensures.same)
+    (tells_as es (the_view c.self.inside) c.args.self.now c.self.view_is c.taken_for.new.known c.args.work c.args.purpose c.args.bytes own read c.taken_for.new.work c.in_ok-taken_for.field-0 Taken.Leaf c.in-Leaf.is c.requires.waits closed over c.in_ok-taken_for.ensures.came))
 
 pub returns-in-Leaf-clause-left : goal.returns-in-Leaf-clause-left
 returns-in-Leaf-clause-left c = λ es own read.
