@@ -1,5 +1,7 @@
 -- What the steps of a cache make of its pages, by place inside and by address in its contracts.
 use Rattle.std.proofs.Common.{◌≡◌, ℕ, zero, suc, ◌+◌, ◌-◌, ◌≤◌, Bool, true, false, cond, List, [], ◌∷◌, length, take, Option, Some, None, refl, sym, ap, subst, ◌∙◌, nat_eq, eqb-true, eq-eqb, arith}
+use Rattle.std.specs.Prelude.{IfSome, option_copied}
+use Rattle.std.specs.Borrow.{Bor}
 use Rattle.std.specs.Cmp.{IsEquivalence}
 use Rattle.std.specs.List.{IsDistinct, AllByRecursion, take-map}
 use Rattle.std.specs.Option.{option_map, option_map_or}
@@ -12,9 +14,11 @@ use Rattle.lru.proofs.Pairs.{lookup-lookup_entry}
 use Rattle.mn_base.specs.Ids.{addr_same}
 use Rattle.mn_base.specs.declared.ids.Addr.{Addr}
 use Rattle.mn_base.proofs.Booleans.{both_parts}
+use Rattle.mn_page.specs.Grammar.{page_bytes}
 use Rattle.mn_page.specs.declared.page.Page.{Page}
-use Rattle.mn_cache.specs.Pages.{addr_of, pages_of, page_at, pages_without, pages_used, pages_put, AreKept}
+use Rattle.mn_cache.specs.Pages.{addr_of, pages_of, page_at, pages_without, pages_used, pages_put, AreKept, AreSpelled}
 use Rattle.mn_cache.specs.declared.cache.Place.{Place}
+use Rattle.mn_cache.specs.declared.cache.Spelled.{Spelled}
 
 -- Addresses
 
@@ -93,7 +97,7 @@ distinct_take same zero es d = tt
 distinct_take same (suc n) [] d = tt
 distinct_take same (suc n) (e ∷ es) d = (all_take (λ y. same e.0 y ≡ false) n es (all_entries (λ y. same e.0 y ≡ false) es d.0), distinct_take same n es d.1)
 
-length_pages : (es : List (Place × Page)) → length (pages_of es) ≡ length es
+length_pages : (es : List (Place × Spelled)) → length (pages_of es) ≡ length es
 length_pages [] = refl
 length_pages (e ∷ es) = ap suc (length_pages es)
 
@@ -118,50 +122,59 @@ module _ (addr : Addr) where
   abbrev stands : Place → Bool
   stands place = addr_same addr (addr_of place)
 
-  pub found : (es : List (Place × Page)) → page_at addr (pages_of es) ≡ lookup stands es
+  pub found : (es : List (Place × Spelled)) → page_at addr (pages_of es) ≡ option_map (λ s. s.page) (lookup stands es)
   found [] = refl
-  found (e ∷ es) = ap (cond (stands e.0) (Some e.1)) (found es)
+  found (e ∷ es) = by (stands e.0) (found es)
+    where
+      by : (b : Bool) → page_at addr (pages_of es) ≡ option_map (λ s. s.page) (lookup stands es)
+          → cond b (Some e.1.page) (page_at addr (pages_of es)) ≡ option_map (λ s. s.page) (cond b (Some e.1) (lookup stands es))
+      by true later = refl
+      by false later = later
 
-  pub without : (es : List (Place × Page)) → pages_without addr (pages_of es) ≡ pages_of (remove_entry stands es)
+  pub without : (es : List (Place × Spelled)) → pages_without addr (pages_of es) ≡ pages_of (remove_entry stands es)
   without [] = refl
   without (e ∷ es) = by (stands e.0) (without es)
     where
-      by : (b : Bool) → pages_without addr (pages_of es) ≡ pages_of (remove_entry stands es) → cond b (pages_of es) ((addr_of e.0, e.1) ∷ pages_without addr (pages_of es)) ≡ pages_of (cond b es (e ∷ remove_entry stands es))
+      by : (b : Bool) → pages_without addr (pages_of es) ≡ pages_of (remove_entry stands es) → cond b (pages_of es) ((addr_of e.0, e.1.page) ∷ pages_without addr (pages_of es)) ≡ pages_of (cond b es (e ∷ remove_entry stands es))
       by true later = refl
-      by false later = ap (λ l. (addr_of e.0, e.1) ∷ l) later
+      by false later = ap (λ l. (addr_of e.0, e.1.page) ∷ l) later
 
-  of_addr : (es : List (Place × Page)) (e : Place × Page) → lookup_entry stands es ≡ Some e → addr ≡ addr_of e.0
+  of_addr : (es : List (Place × Spelled)) (e : Place × Spelled) → lookup_entry stands es ≡ Some e → addr ≡ addr_of e.0
   of_addr es e h = tells_apart addr (addr_of e.0) (Contains-lookup_entry stands es e h).1
 
-  page_by : (es : List (Place × Page)) (o : Option (Place × Page)) → lookup_entry stands es ≡ o → page_at addr (pages_of es) ≡ option_map (λ e. e.1) o
-  page_by es o h = found es ∙ sym (lookup-lookup_entry stands es) ∙ ap (option_map (λ e. e.1)) h
+  page_by : (es : List (Place × Spelled)) (o : Option (Place × Spelled)) → lookup_entry stands es ≡ o → page_at addr (pages_of es) ≡ option_map (λ e. e.1.page) o
+  page_by es o h = found es ∙ ap (option_map (λ s. s.page)) (sym (lookup-lookup_entry stands es) ∙ ap (option_map (λ e. e.1)) h) ∙ mapped o
+    where
+      mapped : (o : Option (Place × Spelled)) → option_map (λ s. s.page) (option_map (λ e. e.1) o) ≡ option_map (λ e. e.1.page) o
+      mapped None = refl
+      mapped (Some e) = refl
 
-  pub used : (es : List (Place × Page)) → pages_used addr (pages_of es) ≡ pages_of (promoted stands es)
+  pub used : (es : List (Place × Spelled)) → pages_used addr (pages_of es) ≡ pages_of (promoted stands es)
   used es = by (lookup_entry stands es) refl
     where
-      by : (o : Option (Place × Page)) → lookup_entry stands es ≡ o → pages_used addr (pages_of es) ≡ pages_of (option_map_or (λ e. e ∷ remove_entry stands es) o es)
+      by : (o : Option (Place × Spelled)) → lookup_entry stands es ≡ o → pages_used addr (pages_of es) ≡ pages_of (option_map_or (λ e. e ∷ remove_entry stands es) o es)
       by None h = ap (λ o. option_map_or (λ page. (addr, page) ∷ pages_without addr (pages_of es)) o (pages_of es)) (page_by es None h)
       by (Some e) h =
           ap (λ o. option_map_or (λ page. (addr, page) ∷ pages_without addr (pages_of es)) o (pages_of es)) (page_by es (Some e) h)
-          ∙ ap (λ l. (addr, e.1) ∷ l) (without es)
-          ∙ ap (λ a. (a, e.1) ∷ pages_of (remove_entry stands es)) (of_addr es e h)
+          ∙ ap (λ l. (addr, e.1.page) ∷ l) (without es)
+          ∙ ap (λ a. (a, e.1.page) ∷ pages_of (remove_entry stands es)) (of_addr es e h)
 
-  pub put : (es : List (Place × Page)) (cap : ℕ) (place : Place) (page : Page) → addr_of place ≡ addr → cap ≡ 64 → length (pages_of es) ≤ 64
-      → pages_put addr page (pages_of es) ≡ pages_of (option_map_or (λ e. (e.0, page) ∷ remove_entry stands es) (lookup_entry stands es) ((place, page) ∷ take (cap - 1) es))
-  put es cap place page here most few = by (lookup_entry stands es) refl
+  pub put : (es : List (Place × Spelled)) (cap : ℕ) (place : Place) (kept : Spelled) → addr_of place ≡ addr → cap ≡ 64 → length (pages_of es) ≤ 64
+      → pages_put addr kept.page (pages_of es) ≡ pages_of (option_map_or (λ e. (e.0, kept) ∷ remove_entry stands es) (lookup_entry stands es) ((place, kept) ∷ take (cap - 1) es))
+  put es cap place kept here most few = by (lookup_entry stands es) refl
     where
-      by : (o : Option (Place × Page)) → lookup_entry stands es ≡ o → pages_put addr page (pages_of es) ≡ pages_of (option_map_or (λ e. (e.0, page) ∷ remove_entry stands es) o ((place, page) ∷ take (cap - 1) es))
+      by : (o : Option (Place × Spelled)) → lookup_entry stands es ≡ o → pages_put addr kept.page (pages_of es) ≡ pages_of (option_map_or (λ e. (e.0, kept) ∷ remove_entry stands es) o ((place, kept) ∷ take (cap - 1) es))
       by None h =
-          ap (λ l. (addr, page) ∷ take 63 l) (without es ∙ ap (λ l. pages_of l) (without_none stands es h))
-          ∙ ap (λ l. (addr, page) ∷ l) (take-map (λ (e : Place × Page). (addr_of e.0, e.1)) 63 es)
-          ∙ ap (λ a. (a, page) ∷ pages_of (take 63 es)) (sym here)
-          ∙ ap (λ n. (addr_of place, page) ∷ pages_of (take (n - 1) es)) (sym most)
+          ap (λ l. (addr, kept.page) ∷ take 63 l) (without es ∙ ap (λ l. pages_of l) (without_none stands es h))
+          ∙ ap (λ l. (addr, kept.page) ∷ l) (take-map (λ (e : Place × Spelled). (addr_of e.0, e.1.page)) 63 es)
+          ∙ ap (λ a. (a, kept.page) ∷ pages_of (take 63 es)) (sym here)
+          ∙ ap (λ n. (addr_of place, kept.page) ∷ pages_of (take (n - 1) es)) (sym most)
       by (Some e) h =
           let one = without_one stands es e h in
           let shorter : length (pages_of (remove_entry stands es)) ≤ 63 = omega (arith, few, one, length_pages es, length_pages (remove_entry stands es)) in
-          ap (λ l. (addr, page) ∷ take 63 l) (without es)
-          ∙ ap (λ l. (addr, page) ∷ l) (take_all 63 (pages_of (remove_entry stands es)) shorter)
-          ∙ ap (λ a. (a, page) ∷ pages_of (remove_entry stands es)) (of_addr es e h)
+          ap (λ l. (addr, kept.page) ∷ take 63 l) (without es)
+          ∙ ap (λ l. (addr, kept.page) ∷ l) (take_all 63 (pages_of (remove_entry stands es)) shorter)
+          ∙ ap (λ a. (a, kept.page) ∷ pages_of (remove_entry stands es)) (of_addr es e h)
 
 module _ (addr : Addr) (pages : List (Addr × Page)) (k : AreKept pages) where
   pub gone : page_at addr (pages_without addr pages) ≡ None
@@ -215,3 +228,67 @@ here place addr node slot =
 pub none_kept : AreKept []
 unfolding IsDistinct
 none_kept = (omega arith, tt)
+
+-- Bytes
+
+module _ {K X : Type 0} (test : K → Bool) (P : K × X → Type 0) where
+  pub all_but : (es : List (K × X)) → AllByRecursion P es → AllByRecursion P (remove_entry test es)
+  all_but [] a = tt
+  all_but (e ∷ es) a = by (test e.0) (all_but es a.1)
+    where
+      by : (b : Bool) → AllByRecursion P (remove_entry test es) → AllByRecursion P (cond b es (e ∷ remove_entry test es))
+      by true later = a.1
+      by false later = (a.0, later)
+
+  pub one_of : (es : List (K × X)) (e : K × X) → AllByRecursion P es → lookup_entry test es ≡ Some e → P e
+  one_of [] e a h = absurd cc
+  one_of (x ∷ es) e a h = by (test x.0) h (one_of es e a.1)
+    where
+      same : Some x ≡ Some e → x ≡ e
+      same s = cc
+
+      by : (b : Bool) → cond b (Some x) (lookup_entry test es) ≡ Some e → (lookup_entry test es ≡ Some e → P e) → P e
+      by true at later = subst P (same at) a.0
+      by false at later = later at
+
+first_of : {X : Type 0} (P : X → Type 0) (n : ℕ) (xs : List X) → AllByRecursion P xs → AllByRecursion P (take n xs)
+first_of P zero xs a = tt
+first_of P (suc n) [] a = tt
+first_of P (suc n) (x ∷ xs) a = (a.0, first_of P n xs a.1)
+
+pub spelled_found : (test : Place → Bool) (es : List (Place × Spelled)) → AreSpelled es
+    → IfSome (lookup test es) (λ s. s.bytes ≡ page_bytes s.page)
+spelled_found test [] a = tt
+spelled_found test (e ∷ es) a = by (test e.0) (spelled_found test es a.1)
+  where
+    by : (b : Bool) → IfSome (lookup test es) (λ s. s.bytes ≡ page_bytes s.page)
+        → IfSome (cond b (Some e.1) (lookup test es)) (λ s. s.bytes ≡ page_bytes s.page)
+    by true later = a.0
+    by false later = later
+
+module _ (test : Place → Bool) (es : List (Place × Spelled)) (a : AreSpelled es) where
+  pub spelled_used : AreSpelled (promoted test es)
+  spelled_used = by (lookup_entry test es) refl
+    where
+      by : (o : Option (Place × Spelled)) → lookup_entry test es ≡ o → AreSpelled (option_map_or (λ e. e ∷ remove_entry test es) o es)
+      by None h = a
+      by (Some e) h = (one_of test (λ e. e.1.bytes ≡ page_bytes e.1.page) es e a h, all_but test (λ e. e.1.bytes ≡ page_bytes e.1.page) es a)
+
+  pub spelled_put : (cap : ℕ) (place : Place) (kept : Spelled) → kept.bytes ≡ page_bytes kept.page
+      → AreSpelled (option_map_or (λ e. (e.0, kept) ∷ remove_entry test es) (lookup_entry test es) ((place, kept) ∷ take (cap - 1) es))
+  spelled_put cap place kept is = by (lookup_entry test es)
+    where
+      by : (o : Option (Place × Spelled)) → AreSpelled (option_map_or (λ e. (e.0, kept) ∷ remove_entry test es) o ((place, kept) ∷ take (cap - 1) es))
+      by None = (is, first_of (λ e. e.1.bytes ≡ page_bytes e.1.page) (cap - 1) es a)
+      by (Some e) = (is, all_but test (λ e. e.1.bytes ≡ page_bytes e.1.page) es a)
+
+-- What is lent
+
+pub page_lent : (r : Option (Bor Spelled)) → option_map (λ s. s.now.page) r ≡ option_map (λ s. s.page) (option_copied r)
+page_lent None = refl
+page_lent (Some s) = refl
+
+pub spelled_lent : (r : Option (Bor Spelled)) (o : Option Spelled) → option_copied r ≡ o → IfSome o (λ s. s.bytes ≡ page_bytes s.page)
+    → IfSome r (λ s. s.now.bytes ≡ page_bytes s.now.page)
+spelled_lent None o is spelled = tt
+spelled_lent (Some s) o is spelled = subst (λ (x : Option Spelled). IfSome x (λ t. t.bytes ≡ page_bytes t.page)) (sym is) spelled

@@ -1,12 +1,14 @@
 -- The pages that a cache keeps, each with its address, the most recently used first.
-use Rattle.std.specs.Prelude.{◌≤◌, List, ◌∷◌, length, take, map, Option}
-use Rattle.std.specs.List.{IsDistinct}
+use Rattle.std.specs.Prelude.{◌≡◌, ◌≤◌, List, ◌∷◌, length, take, map, Option}
+use Rattle.std.specs.List.{AllByRecursion, IsDistinct}
 use Rattle.std.specs.Option.{option_map_or}
 use Rattle.std.specs.Map.{keys_of, lookup, remove_entry}
 use Rattle.mn_base.specs.Ids.{addr_same}
 use Rattle.mn_base.specs.declared.ids.Addr.{Addr}
 use Rattle.mn_page.specs.declared.page.Page.{Page}
+use Rattle.mn_page.specs.Grammar.{page_bytes}
 use Rattle.mn_cache.specs.declared.cache.Place.{Place}
+use Rattle.mn_cache.specs.declared.cache.Spelled.{Spelled}
 use Rattle.mn_cache.specs.declared.cache.TheConstants.{CAPACITY}
 
 -- the page that is kept of an address
@@ -31,10 +33,13 @@ pages_put addr page pages = take CAPACITY ((addr, page) ∷ pages_without addr p
 abbrev pub AreKept : List (Addr × Page) → Type 0
 AreKept pages = (length pages ≤ CAPACITY) × IsDistinct addr_same (keys_of pages)
 
--- Inside a cache
+-- Inside a cache, where each page stands with its bytes
 
 abbrev pub addr_of : Place → Addr
 addr_of place = record { node = record { 0 = place.node }; slot = place.slot }
 
-abbrev pub pages_of : List (Place × Page) → List (Addr × Page)
-pages_of entries = map (λ e. (addr_of e.0, e.1)) entries
+abbrev pub pages_of : List (Place × Spelled) → List (Addr × Page)
+pages_of entries = map (λ e. (addr_of e.0, e.1.page)) entries
+
+abbrev pub AreSpelled : List (Place × Spelled) → Type 0
+AreSpelled entries = AllByRecursion (λ e. e.1.bytes ≡ page_bytes e.1.page) entries

@@ -3,7 +3,7 @@
 
 mod cache;
 
-pub use cache::{CAPACITY, Cache};
+pub use cache::{CAPACITY, Cache, Spelled};
 
 #[cfg(test)]
 mod tests;

@@ -121,5 +121,5 @@ pub fn store_in(
 {
     let mut versions = Vec::new(alloc);
     take_versions(alloc, spaces, entries, &mut versions)?;
-    Ok(Store::of_versions(versions))
+    Store::of_versions(alloc, versions)
 }

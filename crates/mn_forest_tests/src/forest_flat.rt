@@ -2,7 +2,7 @@
 use mn_base::{ClientNo, NoMemory, NodeNo, Nodes, Tid};
 use mn_flat::{VoteError, flat_of};
 use mn_forest::base_spaces;
-use mn_mini::{ItemBytes, Part, PartItem, Record, Records, Spaces};
+use mn_mini::{Part, PartItem, Record, Records, SharedBytes, Spaces};
 use std::alloc::Global;
 use std::test::Fail;
 
@@ -22,7 +22,7 @@ fn part(alloc: Global) -> Result<Part, NoMemory> {
     let mut items = Vec::new(alloc);
     items.push(PartItem::Write {
         start: PLACE,
-        bytes: ItemBytes::new([0x61].to_vec(alloc)?)?,
+        bytes: SharedBytes::new([0x61].to_vec(alloc)?)?,
     })?;
     Ok(Part::from_vec(items))
 }

@@ -18,7 +18,6 @@ use Rattle.mn_base.specs.declared.ids.Tid.{Tid}
 use Rattle.mn_base.specs.declared.reply.Reply.{Reply}
 use Rattle.mn_base.proofs.Booleans.{clash}
 use Rattle.mn_base.proofs.Lists.{set_at}
-use Rattle.mn_mini.specs.declared.request.Request.TheVariants as Ask
 use Rattle.mn_mini.specs.Mini.{Mini}
 use Rattle.mn_page.proofs.Alike.{get-set_other}
 use Rattle.mn_world.specs.declared.entry.Entry.{Entry}

@@ -1,10 +1,10 @@
 -- What a reader of a log tells, with one more entry.
-use Rattle.std.proofs.Common.{◌≡◌, suc, ◌+◌, List, [], ◌∷◌, ◌++◌, length, Option, refl, subst, sym, ap, ◌∙◌, arith}
+use Rattle.std.proofs.Common.{◌≡◌, suc, List, [], ◌∷◌, ◌++◌, length, Option, refl, subst, sym, ap, ◌∙◌}
 use Rattle.mn_world.specs.declared.entry.Entry.{Entry}
 use Rattle.mn_world.specs.Commits.{committed_by}
 use Rattle.mn_world.specs.History.{Placed}
 use Rattle.mn_hist.specs.declared.history.HistoryReader.{HistoryReader}
-use Rattle.mn_hist.specs.History.{Act, AreCallerStates, SlotsHoldHistory, KnowsPlanners, StandsInSet, EntryIsInHistory}
+use Rattle.mn_hist.specs.History.{Act, AreCallerStates, SlotsHoldHistory, KnowsPlanners, EntryIsInHistory}
 use Rattle.mn_hist.specs.Told.{ReaderHasRead, ReaderHasTold}
 
 length_last : {X : Type 0} (xs : List X) (x : X) → length (xs ++ x ∷ []) ≡ suc (length xs)

@@ -1,10 +1,9 @@
 -- What is kept of the entries so far to tell the history. Lists of entries and of reads stand
 -- newest first.
-use Rattle.std.specs.Prelude.{ℕ, ◌≡◌, ◌+◌, ◌<◌, Bool, true, false, ◌&&◌, nat_lt, nat_eq, ⊤}
+use Rattle.std.specs.Prelude.{ℕ, ◌≡◌, ◌+◌, ◌<◌, Bool, true, false, ◌&&◌, nat_eq}
 use Rattle.std.specs.Prelude.{List, [], ◌∷◌, ◌++◌, length, map, Option, Some, None}
 use Rattle.std.specs.Prelude.{if◌then◌else◌, slice_get}
 use Rattle.std.specs.List.{AllByRecursion}
-use Rattle.std.specs.Option.{option_map}
 use Rattle.std.specs.HashMap.{HashMap, get}
 use Rattle.std.specs.HashSet.{HashSet, contains}
 use Rattle.std.specs.Prelude.{slice_set}
@@ -18,16 +17,15 @@ use Rattle.mn_base.specs.declared.op.Op.{Op}
 use Rattle.mn_base.specs.declared.op.Op.TheVariants.{Scan}
 use Rattle.mn_base.specs.declared.reply.Reply.{Reply}
 use Rattle.mn_base.specs.declared.reply.Reply.TheVariants.{Pairs}
-use Rattle.mn_mini.specs.Mini.{Mini}
 use Rattle.mn_world.specs.declared.entry.Entry.{Entry}
 use Rattle.mn_world.specs.declared.entry.What.{What}
 use Rattle.mn_world.specs.declared.entry.What.TheVariants.{Begin, Issue, Answered}
 use Rattle.mn_world.specs.Calls.{is_by, client_entries, Issued, issues_of, issue_named, Begun}
 use Rattle.mn_world.specs.Calls.{under_way}
 use Rattle.mn_world.specs.declared.commit_reader.CommittedMini.{CommittedMini}
-use Rattle.mn_world.specs.CommitReader.{HasRead, issued_of}
-use Rattle.mn_world.specs.History.{Placed, has_past, AnswerPuts, EntryPuts, IsHistory}
-use Rattle.mn_world.specs.Shown.{Seen, seen_at, IsCatalogRead}
+use Rattle.mn_world.specs.CommitReader.{issued_of}
+use Rattle.mn_world.specs.History.{Placed, has_past, AnswerPuts, EntryPuts}
+use Rattle.mn_world.specs.Shown.{Seen, seen_at}
 use Rattle.mn_world.specs.Standing.{id_key, keys_same}
 use Rattle.mn_world.specs.declared.flat.IdKey.{IdKey}
 use Rattle.mn_hist.specs.declared.history.OpKey.{OpKey}

@@ -2,14 +2,10 @@
 use Rattle.std.specs.Prelude.{ℕ, ◌≡◌, Bool, true, false, ◌&&◌, nat_eq, List, [], ◌∷◌, Option, Some}
 use Rattle.std.specs.Prelude.{None}
 use Rattle.std.specs.Prelude.{⊤, Contains}
-use Rattle.std.specs.Option.{option_map, option_map_or}
-use Rattle.mn_base.specs.Ids.{node_same}
-use Rattle.mn_base.specs.Order.{covers_key}
 use Rattle.mn_base.specs.Store.{number_named, value_at}
 use Rattle.mn_base.specs.declared.op.Op.{Op}
 use Rattle.mn_base.specs.declared.op.Step.{Step}
 use Rattle.mn_base.specs.declared.op.Step.TheVariants.{Get}
-use Rattle.mn_base.specs.declared.reply.Pair.{Pair}
 use Rattle.mn_base.specs.declared.reply.Reply.{Reply}
 use Rattle.mn_base.specs.declared.reply.Reply.TheVariants as Say
 use Rattle.mn_catalog.specs.Grammar.{SpellsCatalog}

@@ -8,7 +8,7 @@ ghost use Rattle.mn_base.specs.declared.ids.Addr.{Addr as Place};
 ghost use Rattle.mn_base.specs.declared.reply.Reply.TheVariants as Say;
 ghost use Rattle.mn_catalog.specs.Grammar.{SpellsCatalog};
 ghost use Rattle.mn_page.specs.Forest.{entry_head, heads_in};
-ghost use Rattle.mn_page.specs.Grammar.{SpellsPage};
+ghost use Rattle.mn_page.specs.Grammar.{IsPage, SpellsPage};
 ghost use Rattle.mn_page.specs.declared.entry.CatEntry.{CatEntry as Head};
 ghost use Rattle.mn_page.specs.declared.page.Page.{Page as Leaf};
 ghost use Rattle.mn_world.specs.Places.{page_place};
@@ -21,8 +21,8 @@ use mn_base::{Key, Name, NoMemory, NodeNo, Op, Reply, Step, Steps, Value, Versio
 use mn_catalog::{CatError, Catalog};
 use mn_fence::covers;
 use mn_mini::{NodeReply, PartItem, Request};
-use mn_page::{Body, CatEntry, Page, PageError};
-use mn_plain::value_of;
+use mn_page::{CatEntry, PageRef};
+use mn_path::value_in;
 use mn_vtree::VersionTree;
 use mn_world::{Entry, What};
 use std::alloc::Global;
@@ -236,7 +236,7 @@ fn expect_served(
     alloc: Global,
     catalog: Option<&[u8]>,
     name: &Name,
-    page: &Page,
+    page: &PageRef<'_>,
 ) -> Result<(), NoMemory>
     ensures { OnOk result (IsServedByCatalog
         (option_map (λ c. c.now) catalog.entry) name.now page.now) }
@@ -251,7 +251,7 @@ fn expect_served(
         return Err(NoMemory);
     };
     let tree = tree_of(alloc, catalog.entries())?;
-    if tree.serves(page.made, page.copied, version) {
+    if tree.serves(page.made(), page.copied(), version) {
         Ok(())
     } else {
         Err(NoMemory)
@@ -269,37 +269,30 @@ fn lone_get(steps: &Steps) -> Option<&Key>
 }
 
 /// What a leaf that covers the key has there.
-#[inline(always)]
-fn value_in<'a>(page: &'a Page, key: &Key) -> Option<Option<&'a Value>>
+fn found_in<'a>(page: &PageRef<'a>, key: &[u8]) -> Option<Option<&'a [u8]>>
+    requires { IsPage page.now }
     ensures { option_map (λ found. option_map (λ v. v.now) found) result
         ≡ leaf_value page.now key.now }
 {
-    let high = match &page.high {
-        Some(high) => Some(high.as_slice()),
-        None => None,
-    };
-    if !covers(page.low.as_slice(), high, key.as_slice()) {
+    if page.height() > 0 || !covers(page.low(), page.high(), key) {
         return None;
     }
-    match &page.body {
-        Body::Leaf { pairs } => Some(value_of(pairs.as_slice(), key)),
-        Body::Inner { .. } => None,
-    }
+    Some(value_in(page, key))
 }
 
 /// Whether the two are one value, or neither is there.
-fn is_same_value(found: &Option<Value>, value: Option<&Value>) -> bool
+fn is_same_value(found: &Option<Value>, value: Option<&[u8]>) -> bool
     ensures { TestDecides result (found.now ≡ option_map (λ v. v.now) value.entry) }
 {
     match (found, value) {
-        (Some(found), Some(value)) => found.as_slice() == value.as_slice(),
+        (Some(found), Some(value)) => found.as_slice() == value,
         (None, None) => true,
         _ => false,
     }
 }
 
 /// Whether the reply is that of a lone Get which finds this.
-fn is_found(reply: &Reply, value: Option<&Value>) -> bool
+fn is_found(reply: &Reply, value: Option<&[u8]>) -> bool
     ensures { TestDecides result (reply.now
         ≡ Say.Values (option_map (λ v. v.now) value.entry ∷ [])) }
 {
@@ -313,17 +306,14 @@ fn is_found(reply: &Reply, value: Option<&Value>) -> bool
 }
 
 /// The page that the bytes spell.
-#[inline(always)]
-fn page_in(alloc: Global, bytes: &[u8]) -> Result<Option<Page>, NoMemory>
-    ensures { IfOk result (λ found.
-        MatchOption found ((page : Leaf) → SpellsPage bytes.now page → ⊥)
+fn page_in<'a>(bytes: &'a [u8]) -> Option<PageRef<'a>>
+    ensures { MatchOption result ((page : Leaf) → SpellsPage bytes.now page → ⊥)
         (λ page. SpellsPage bytes.now page
-        × ((other : Leaf) → SpellsPage bytes.now other → page ≡ other))) }
+        × ((other : Leaf) → SpellsPage bytes.now other → page ≡ other)) }
 {
-    match Page::read(alloc, bytes) {
-        Ok(found) => Ok(found),
-        Err(PageError::NoMemory) => Err(NoMemory),
-        Err(PageError::BadPage { .. }) => Ok(None),
+    match PageRef::new(bytes) {
+        Ok(found) => found,
+        Err(_) => None,
     }
 }
 
@@ -339,10 +329,10 @@ fn leaf_shows(
     ensures { IfOk result (λ b. TellsLeafBytesShow b
         (option_map (λ c. c.now) catalog.entry) bytes.now version.now key.now reply.now) }
 {
-    let Some(page) = page_in(alloc, bytes)? else {
+    let Some(page) = page_in(bytes) else {
         return Ok(false);
     };
-    let Some(value) = value_in(&page, key) else {
+    let Some(value) = found_in(&page, key.as_slice()) else {
         return Ok(false);
     };
     if !is_found(reply, value) {

@@ -23,7 +23,7 @@ fn pair_count(store: &Store, number: VersionNo) -> Result<u32, NoMemory>
     ensures { IfOk result (λ count.
         IsSomeAnd (slice_get store.now number.0) (λ v. count ≡ length v.pairs)) }
 {
-    match u32::try_from(store.pairs(number).as_slice().len()) {
+    match u32::try_from(store.count(number)) {
         Ok(count) => Ok(count),
         Err(_) => Err(NoMemory),
     }

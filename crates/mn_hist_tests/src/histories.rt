@@ -5,7 +5,7 @@ use mn_base::{
     Step, Steps, StopAt, Tid, Value,
 };
 use mn_hist::{audit, history_of};
-use mn_mini::{Item, ItemBytes, Items, Minitransaction, NodeReply, Reads, Request};
+use mn_mini::{Item, Items, Minitransaction, NodeReply, Reads, Request, SharedBytes};
 use mn_page::CatEntry;
 use mn_plain::Store;
 use mn_report::{LineAnswer, Report};
@@ -66,7 +66,7 @@ fn writes(alloc: Global, nodes: u8) -> Result<Minitransaction, Fail> {
         items.push(Item::Write {
             node: NodeNo(node),
             start: 20_480,
-            bytes: ItemBytes::new([0x61].to_vec(alloc)?)?,
+            bytes: SharedBytes::new([0x61].to_vec(alloc)?)?,
         })?;
     }
     Ok(Minitransaction::new(alloc, 2, Items::from_vec(items))?)

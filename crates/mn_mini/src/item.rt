@@ -1,6 +1,6 @@
 ghost use Rattle.std.specs.Prelude.{◌≡◌};
 
-use crate::ItemBytes;
+use crate::SharedBytes;
 use mn_base::{NoMemory, NodeNo, TryCopy, copies_of};
 use std::alloc::Global;
 use std::marker::Model;
@@ -12,7 +12,7 @@ pub enum Item {
     Compare {
         node: NodeNo,
         start: u32,
-        bytes: ItemBytes,
+        bytes: SharedBytes,
     },
     /// Reads the range.
     Read {
@@ -24,7 +24,7 @@ pub enum Item {
     Write {
         node: NodeNo,
         start: u32,
-        bytes: ItemBytes,
+        bytes: SharedBytes,
     },
 }
 

@@ -5,7 +5,6 @@
 mod doubt;
 mod error;
 mod item;
-mod item_bytes;
 mod laws;
 mod minitransaction;
 mod part;
@@ -15,12 +14,12 @@ mod record_error;
 mod record_read;
 mod reply;
 mod request;
+mod shared_bytes;
 mod spaces;
 
 pub use doubt::{Doubt, Doubts};
 pub use error::MiniError;
 pub use item::{Item, Items};
-pub use item_bytes::ItemBytes;
 pub use laws::{answers_fit, held_parts_apart, parts_sound};
 pub use minitransaction::{MAX_ITEMS, MAX_NODES, Minitransaction};
 pub use part::{Part, PartItem};
@@ -29,4 +28,5 @@ pub use record_bytes::spelled_once;
 pub use record_error::RecordError;
 pub use reply::{NodeReply, Reads};
 pub use request::Request;
+pub use shared_bytes::SharedBytes;
 pub use spaces::{MAX_ITEM, SPACE, Spaces};

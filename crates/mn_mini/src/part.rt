@@ -1,6 +1,6 @@
 ghost use Rattle.std.specs.Prelude.{◌≡◌};
 
-use crate::ItemBytes;
+use crate::SharedBytes;
 use mn_base::{NoMemory, TryCopy, copies_of};
 use std::alloc::Global;
 use std::marker::Model;
@@ -8,9 +8,9 @@ use std::marker::Model;
 /// An item without its node.
 #[derive(Debug)]
 pub enum PartItem {
-    Compare { start: u32, bytes: ItemBytes },
+    Compare { start: u32, bytes: SharedBytes },
     Read { start: u32, length: u32 },
-    Write { start: u32, bytes: ItemBytes },
+    Write { start: u32, bytes: SharedBytes },
 }
 
 /// It is let go by a call, which is proved once, and not in place wherever one goes.

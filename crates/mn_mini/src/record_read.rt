@@ -16,7 +16,7 @@ ghost use Rattle.mn_mini.specs.RecordGrammar.{participants_bytes, range_bytes, n
 
 use crate::minitransaction::MAX_ITEMS;
 use crate::spaces::{MAX_ITEM, SPACE};
-use crate::{ItemBytes, Part, PartItem, Record, RecordError};
+use crate::{Part, PartItem, Record, RecordError, SharedBytes};
 use byteorder::{BigEndian, ByteOrder};
 use mn_base::{ClientNo, NoMemory, NodeNo, Nodes, Range, Tid};
 use std::alloc::Global;
@@ -75,7 +75,7 @@ fn first_data(
     alloc: Global,
     bytes: &[u8],
     length: u32,
-) -> Result<Option<(ItemBytes, &[u8])>, NoMemory>
+) -> Result<Option<(SharedBytes, &[u8])>, NoMemory>
     ensures { IfOk result (λ found.
         MatchOption found (NoneBegins (HasLength length) as_they_stand bytes.now)
         (λ x. Begins (HasLength length) as_they_stand bytes.now x.0 x.1.now)) }
@@ -85,7 +85,7 @@ fn first_data(
         return Ok(None);
     }
     let (data, rest) = bytes.split_at(length);
-    Ok(Some((ItemBytes::new(data.to_vec(alloc)?)?, rest)))
+    Ok(Some((SharedBytes::new(data.to_vec(alloc)?)?, rest)))
 }
 
 /// The item that the bytes begin with, if it is of this kind or a later one, and what follows.

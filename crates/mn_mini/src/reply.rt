@@ -1,6 +1,6 @@
 ghost use Rattle.std.specs.Prelude.{◌≡◌};
 
-use crate::Doubts;
+use crate::{Doubts, SharedBytes};
 use mn_base::{Bytes, NoMemory, Tid, TryCopy, copies_of};
 use std::alloc::Global;
 use std::marker::Model;
@@ -82,7 +82,7 @@ pub enum NodeReply {
     },
     /// To a Peek: the bytes of the range.
     Peeked {
-        bytes: Bytes,
+        bytes: SharedBytes,
     },
     /// The node is down.
     Down,

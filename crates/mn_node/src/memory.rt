@@ -138,6 +138,24 @@ impl Memory {
         has_vote_for(&self.held, tid)
     }
 
+    /// Tests a part for an id, with its ranges.
+    pub fn test(
+        &self,
+        alloc: Global,
+        tid: Tid,
+        part: &[PartItem],
+        ranges: &Ranges,
+    ) -> Result<Tested, NoMemory>
+        requires size { length self.now.space.items ≡ space_size }
+        requires part { IsPart part.now }
+        requires shared { ranges.now.shared.items ≡ shared_of part.now }
+        requires alone { ranges.now.alone.items ≡ alone_of part.now }
+        ensures { IfOk result
+            (IsTested self.now.space.items self.now.locks.holds tid part.now) }
+    {
+        test_part(alloc, &self.space, &self.locks, tid, part, ranges)
+    }
+
     /// Adds a vote whose part conflicts with none that is held.
     pub fn add_vote(
         &mut self,

@@ -5,7 +5,7 @@ ghost use Rattle.mn_mini.specs.Flat.{space_after_part};
 ghost use Rattle.mn_node.specs.Part.{AreInside, IsMismatch, shared_of, alone_of};
 
 use mn_base::{Bytes, NoMemory, Range};
-use mn_mini::{MAX_ITEMS, PartItem};
+use mn_mini::{MAX_ITEMS, PartItem, SharedBytes};
 use std::alloc::Global;
 
 /// A compare item that differs: its number among the compares, and the bytes in place.
@@ -47,6 +47,19 @@ pub fn copy_of(alloc: Global, space: &[u8], start: u32, length: usize) -> Result
 {
     let bytes = range(space, start, length).to_vec(alloc)?;
     Ok(Bytes::from_vec(bytes))
+}
+
+/// A copy of the bytes of a range.
+pub fn shared_copy_of(
+    alloc: Global,
+    space: &[u8],
+    start: u32,
+    length: usize,
+) -> Result<SharedBytes, NoMemory>
+    requires { start + length ≤ Rattle.std.specs.Prelude.length space.now }
+    ensures { IfOk result (λ bytes. bytes ≡ bytes_in space.now start length) }
+{
+    SharedBytes::new(range(space, start, length).to_vec(alloc)?)
 }
 
 /// The first compare item that differs.
@@ -108,8 +121,8 @@ pub fn ranges_of(alloc: Global, items: &[PartItem]) -> Result<Ranges, NoMemory>
     ensures shared { IfOk result (λ ranges. ranges.shared.items ≡ shared_of items.now) }
     ensures alone { IfOk result (λ ranges. ranges.alone.items ≡ alone_of items.now) }
 {
-    let mut shared = Vec::new(alloc);
-    let mut alone = Vec::new(alloc);
+    let mut shared = Vec::with_capacity(alloc, items.len())?;
+    let mut alone = Vec::with_capacity(alloc, items.len())?;
     for item in items {
         match item {
             PartItem::Compare { start, bytes } => shared.push(Range {

@@ -10,6 +10,7 @@ ghost use Rattle.mn_mini.specs.declared.record.Record.{Record};
 ghost use Rattle.mn_mini.specs.RecordGrammar.{IsTid, IsPart, AreParticipants};
 ghost use Rattle.mn_node.specs.Node.{IsNodeUp, IsWithOrWithout, CrashLeavesOnly, LogKeepsDisk};
 ghost use Rattle.mn_node.specs.Node.{KeepsNodeNumbers, Handled, node_answer};
+ghost use Rattle.mn_node.specs.Part.{alone_of, shared_of};
 ghost use Rattle.mn_node.specs.declared.requests.Served.TheVariants.{Replied};
 
 use crate::bodies::{decided_body, forced_body};
@@ -17,7 +18,7 @@ use crate::held::voted;
 use crate::list::doubts;
 use crate::logging::{Logging, append_or_stop, log_bytes, log_record};
 use crate::memory::{Memory, Tested, is_in, test_alone};
-use crate::part::{copy_of, ranges_of, writes};
+use crate::part::{Ranges, ranges_of, shared_copy_of, writes};
 use mn_base::{Nodes, StopAt, Tid, TryCopy};
 use mn_io::Disk;
 use mn_mini::{NodeReply, Part, Reads, Record, Request};
@@ -211,6 +212,7 @@ fn vote_yes<D: Disk>(
     tid: Tid,
     participants: &Nodes,
     part: &Part,
+    ranges: &Ranges,
     reads: Reads,
     stop: Option<StopAt>,
 ) -> Served
@@ -218,6 +220,8 @@ fn vote_yes<D: Disk>(
     requires tid { IsTid tid }
     requires participants { AreParticipants participants.now }
     requires part { IsPart part.now }
+    requires shared { ranges.now.shared.items ≡ shared_of part.now }
+    requires alone { ranges.now.alone.items ≡ alone_of part.now }
     requires free { clash_of (held_parts (reverse memory.old.records.items)) tid part.now ≡ None }
     requires yes { node_answer memory.old (Request.Prepare tid participants.now part.now)
         ≡ record {
@@ -232,11 +236,6 @@ fn vote_yes<D: Disk>(
         (node_answer memory.old (Request.Prepare tid participants.now part.now)).added) }
     ensures same { KeepsNodeNumbers memory.old memory.new }
 {
-    let Ok(ranges) = ranges_of(alloc, part.as_slice()) else {
-        return Served::Replied {
-            reply: NodeReply::NoMemory,
-        };
-    };
     let Ok(nodes) = participants.try_copy(alloc) else {
         return Served::Replied {
             reply: NodeReply::NoMemory,
@@ -259,7 +258,7 @@ fn vote_yes<D: Disk>(
         },
         Logging::Stopped => Served::Stopped { left: vote },
         Logging::Logged => {
-            memory.add_vote(vote, tid, participants, part, &ranges);
+            memory.add_vote(vote, tid, participants, part, ranges);
             Served::Replied {
                 reply: NodeReply::Done { reads },
             }
@@ -294,7 +293,12 @@ pub fn prepare<D: Disk>(
             reply: NodeReply::BadForced,
         };
     }
-    match test_alone(alloc, &memory.space, &memory.locks, tid, part.as_slice()) {
+    let Ok(ranges) = ranges_of(alloc, part.as_slice()) else {
+        return Served::Replied {
+            reply: NodeReply::NoMemory,
+        };
+    };
+    match memory.test(alloc, tid, part.as_slice(), &ranges) {
         Err(_) => Served::Replied {
             reply: NodeReply::NoMemory,
         },
@@ -312,7 +316,17 @@ pub fn prepare<D: Disk>(
             },
         },
         Ok(Tested::Yes { reads }) => {
-            vote_yes(alloc, redo, memory, tid, participants, part, reads, stop)
+            vote_yes(
+                alloc,
+                redo,
+                memory,
+                tid,
+                participants,
+                part,
+                &ranges,
+                reads,
+                stop,
+            )
         }
     }
 }
@@ -353,7 +367,7 @@ pub fn answer<D: Disk>(
                 reply: NodeReply::NoMemory,
             },
         },
-        Request::Peek { start, length } => match copy_of(
+        Request::Peek { start, length } => match shared_copy_of(
             alloc,
             &memory.space,
             *start,

@@ -9,7 +9,7 @@ ghost use Rattle.mn_node.specs.State.{HoldsPartsApart};
 use mn_base::{ClientNo, NodeNo, Nodes, StopAt, Tid};
 use mn_io::{Bytes as DiskBytes, Calls};
 use mn_memdisk::MemoryDisk;
-use mn_mini::{ItemBytes, Part, PartItem, Request};
+use mn_mini::{Part, PartItem, Request, SharedBytes};
 use mn_node::Node;
 use mn_redo::Redo;
 use std::alloc::Global;
@@ -92,7 +92,7 @@ fn write(alloc: Global, start: u32, byte: u8) -> Result<Part, Fail>
     requires { start < space_size }
     ensures { IfOk result IsPart }
 {
-    let bytes = ItemBytes::new([byte].to_vec(alloc)?)?;
+    let bytes = SharedBytes::new([byte].to_vec(alloc)?)?;
     part_of(alloc, PartItem::Write { start, bytes })
 }
 
@@ -100,7 +100,7 @@ fn compare(alloc: Global, start: u32, byte: u8) -> Result<Part, Fail>
     requires { start < space_size }
     ensures { IfOk result IsPart }
 {
-    let bytes = ItemBytes::new([byte].to_vec(alloc)?)?;
+    let bytes = SharedBytes::new([byte].to_vec(alloc)?)?;
     part_of(alloc, PartItem::Compare { start, bytes })
 }
 
@@ -110,11 +110,11 @@ fn vote_part(alloc: Global) -> Result<Part, Fail>
     let mut items = Vec::new(alloc);
     items.push(PartItem::Compare {
         start: 16,
-        bytes: ItemBytes::new([0; 8].to_vec(alloc)?)?,
+        bytes: SharedBytes::new([0; 8].to_vec(alloc)?)?,
     })?;
     items.push(PartItem::Write {
         start: 20_480,
-        bytes: ItemBytes::new([0x61].to_vec(alloc)?)?,
+        bytes: SharedBytes::new([0x61].to_vec(alloc)?)?,
     })?;
     Ok(Part::from_vec(items))
 }
@@ -239,7 +239,10 @@ const IT_IS_DECIDED: &[Said] = &[
         "Listed { doubts: Doubts { doubts: [Doubt { tid: Tid { run: 1, client: ClientNo(0), serial: 1 }, participants: Nodes { nodes: [NodeNo(0), NodeNo(1)] } }] } }",
     ),
     (Decide(0, 1, true), "Decided"),
-    (Peek(20_480, 1), "Peeked { bytes: Bytes { bytes: [97] } }"),
+    (
+        Peek(20_480, 1),
+        "Peeked { bytes: SharedBytes { block: b\"a\" } }",
+    ),
     (
         Prepare(1, 5, Compare(20_480, 0)),
         "BadCompare { item: 0, found: Bytes { bytes: [97] } }",
@@ -293,7 +296,7 @@ const TWO_IDS: &[Said] = &[
 const ONE_HAS_ENDED: &[Said] = &[
     (
         Peek(20_480, 3),
-        "Peeked { bytes: Bytes { bytes: [97, 99, 0] } }",
+        "Peeked { bytes: SharedBytes { block: b\"ac\\0\" } }",
     ),
     (
         List,
@@ -420,8 +423,8 @@ fn comes_back(alloc: Global, stop: StopAt, there: bool, byte: &str) -> Result<bo
 
 #[test]
 fn a_restart_tells_whether_the_record_is_there(rt: HostRuntime) -> Result<(), Fail> {
-    let before = "Peeked { bytes: Bytes { bytes: [0] } }";
-    let after = "Peeked { bytes: Bytes { bytes: [98] } }";
+    let before = "Peeked { bytes: SharedBytes { block: b\"\\0\" } }";
+    let after = "Peeked { bytes: SharedBytes { block: b\"b\" } }";
     for (stop, there, byte) in [
         (StopAt::Before, false, before),
         (StopAt::Half, false, before),

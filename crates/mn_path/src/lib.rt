@@ -2,6 +2,8 @@
 //! which a key goes.
 #![tactic(auto)]
 
+mod values;
 mod walk;
 
+pub use values::value_in;
 pub use walk::{Front, MAX_HEIGHT, child_for, height, is_one_below};

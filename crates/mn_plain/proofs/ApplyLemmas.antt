@@ -22,7 +22,7 @@ free store op e = ap (unless_refused store op) e
 pub named_within : (store : Store) (name : List ℕ) (at : ℕ) (v : StoreVersion) → IsNamed store name at v → at < length store
 named_within store name at v named = slice_get_within store at v named.there
 
-set_same : (store : Store) (at : ℕ) (v : StoreVersion) → slice_get store at ≡ Some v → set store at v ≡ store
+pub set_same : (store : Store) (at : ℕ) (v : StoreVersion) → slice_get store at ≡ Some v → set store at v ≡ store
 set_same [] at v there = absurd cc
 set_same (x ∷ store) zero v there = let same : v ≡ x = cc in ap (λ (y : StoreVersion). y ∷ store) same
 set_same (x ∷ store) (suc at) v there = ap (λ (s : Store). x ∷ s) (set_same store at v there)

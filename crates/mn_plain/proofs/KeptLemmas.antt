@@ -1,10 +1,8 @@
 -- Versions found by name, and kept versions as versions of a store.
 use Rattle.std.proofs.Common.{◌≡◌, ◌<◌, ℕ, zero, suc, true, false, List, [], ◌∷◌, Some, None, refl, ap, sym, ◌∙◌, subst, bytes_eq, slice_get, set, length, get_or, add-one, arith}
-use Rattle.std.specs.Prelude.{Option, IsSomeAnd, IsTrue}
-use Rattle.mn_base.specs.declared.reply.Pair.{Pair}
-use Rattle.mn_base.specs.Store.{Store, StoreVersion, heads_of, head_named, is_ascending}
-use Rattle.mn_plain.specs.declared.version.Kept.{Kept}
-use Rattle.mn_plain.specs.Kept.{IsNamed, version_of, store_of}
+use Rattle.mn_base.specs.Store.{Store, StoreVersion, heads_of, head_named}
+use Rattle.mn_plain.specs.declared.version.Held.{Held}
+use Rattle.mn_plain.specs.Kept.{IsNamed, held_version, held_store}
 
 -- at each place so far stands another name
 abbrev pub Passes : Store → List ℕ → ℕ → Type 0
@@ -44,33 +42,28 @@ no_version [] name passed = refl
 no_version (v ∷ vs) name passed = let t = passed.0 in rw t (no_version vs name passed.1)
 
 -- a kept version as a version of the store
-pub kept_at : (versions : List Kept) (at : ℕ) (kept : Kept) → at < length versions → kept ≡ get_or versions at kept → slice_get (store_of versions) at ≡ Some (version_of kept)
+pub kept_at : (versions : List Held) (at : ℕ) (kept : Held) → at < length versions → kept ≡ get_or versions at kept → slice_get (held_store versions) at ≡ Some (held_version kept)
 kept_at [] at kept within is = absurd (omega arith)
-kept_at (k ∷ ks) zero kept within is = ap (λ (x : Kept). Some (version_of x)) (sym is)
+kept_at (k ∷ ks) zero kept within is = ap (λ (x : Held). Some (held_version x)) (sym is)
 kept_at (k ∷ ks) (suc at) kept within is = kept_at ks at kept (omega arith) is
 
-pub set_kept : (versions : List Kept) (at : ℕ) (kept : Kept) → store_of (set versions at kept) ≡ set (store_of versions) at (version_of kept)
+pub set_kept : (versions : List Held) (at : ℕ) (kept : Held) → held_store (set versions at kept) ≡ set (held_store versions) at (held_version kept)
 set_kept [] at kept = refl
 set_kept (k ∷ ks) zero kept = refl
-set_kept (k ∷ ks) (suc at) kept = ap (λ (l : Store). version_of k ∷ l) (set_kept ks at kept)
+set_kept (k ∷ ks) (suc at) kept = ap (λ (l : Store). held_version k ∷ l) (set_kept ks at kept)
 
-pub length-store_of : (versions : List Kept) → length (store_of versions) ≡ length versions
-length-store_of [] = refl
-length-store_of (k ∷ ks) = ap (λ (n : ℕ). suc n) (length-store_of ks)
+pub length-held_store : (versions : List Held) → length (held_store versions) ≡ length versions
+length-held_store [] = refl
+length-held_store (k ∷ ks) = ap (λ (n : ℕ). suc n) (length-held_store ks)
 
-pub within_store : (versions : List Kept) (store : Store) (at : ℕ) → store_of versions ≡ store → at < length store → at < length versions
-within_store versions store at is within = let same = ap (λ (s : Store). length s) is in omega (arith, length-store_of versions, same)
+pub within_store : (versions : List Held) (store : Store) (at : ℕ) → held_store versions ≡ store → at < length store → at < length versions
+within_store versions store at is within = let same = ap (λ (s : Store). length s) is in omega (arith, length-held_store versions, same)
 
 -- one kept version changed is one version changed
-pub changed_is : (versions : List Kept) (at : ℕ) (kept new : Kept) (store : Store) (version : StoreVersion) (change : StoreVersion → StoreVersion)
-    → store_of versions ≡ store → at < length versions → kept ≡ get_or versions at kept → version_of new ≡ change (version_of kept) → slice_get store at ≡ Some version
-    → store_of (set versions at new) ≡ set store at (change version)
+pub changed_is : (versions : List Held) (at : ℕ) (kept new : Held) (store : Store) (version : StoreVersion) (change : StoreVersion → StoreVersion)
+    → held_store versions ≡ store → at < length versions → kept ≡ get_or versions at kept → held_version new ≡ change (held_version kept) → slice_get store at ≡ Some version
+    → held_store (set versions at new) ≡ set store at (change version)
 changed_is versions at kept new store version change is within kept_is new_is there =
-    let old : Some (version_of kept) ≡ Some version = sym (kept_at versions at kept within kept_is) ∙ ap (λ (s : Store). slice_get s at) is ∙ there in
-    let same : version_of kept ≡ version = cc in
-    set_kept versions at new ∙ ap (λ (s : Store). set s at (version_of new)) is ∙ ap (λ (v : StoreVersion). set store at v) (new_is ∙ ap change same)
-
--- the pairs of a version are these, which stand in order
-pub some_ascends : (found : Option StoreVersion) (ps : List Pair) → IsTrue (is_ascending ps) → IsSomeAnd found (λ kept. ps ≡ kept.pairs) → IsSomeAnd found (λ kept. IsTrue (is_ascending kept.pairs))
-some_ascends None ps up is = is
-some_ascends (Some kept) ps up is = subst (λ (l : List Pair). IsTrue (is_ascending l)) is up
+    let old : Some (held_version kept) ≡ Some version = sym (kept_at versions at kept within kept_is) ∙ ap (λ (s : Store). slice_get s at) is ∙ there in
+    let same : held_version kept ≡ version = cc in
+    set_kept versions at new ∙ ap (λ (s : Store). set s at (held_version new)) is ∙ ap (λ (v : StoreVersion). set store at v) (new_is ∙ ap change same)

@@ -1,5 +1,4 @@
-pub mod PlaceLemmas
-pub mod PairLemmas
+pub mod TableLemmas
 pub mod StepLemmas
 pub mod KeptLemmas
 pub mod ApplyLemmas

@@ -5,7 +5,9 @@ use Rattle.mn_base.specs.declared.reply.Pair.{Pair}
 use Rattle.mn_base.specs.Store.{Store, StoreVersion, heads_of, head_named, number_named}
 use Rattle.mn_base.specs.Store.{pairs_named, with_pairs, with_frozen, frozen_head}
 use Rattle.mn_plain.specs.declared.version.Kept.{Kept}
+use Rattle.mn_plain.specs.declared.version.Held.{Held}
 use Rattle.mn_plain.specs.declared.version.Place.{Place}
+use Rattle.mn_plain.specs.Table.{shown}
 
 abbrev pub version_of : Kept → StoreVersion
 version_of k =
@@ -20,6 +22,20 @@ version_of k =
 
 abbrev pub store_of : List Kept → Store
 store_of versions = map version_of versions
+
+abbrev pub held_version : Held → StoreVersion
+held_version h =
+    record {
+      head = record {
+        name = h.name;
+        parent = option_map (λ p. p.0) h.parent;
+        frozen = h.frozen;
+      };
+      pairs = shown h.table.entries;
+    }
+
+abbrev pub held_store : List Held → Store
+held_store versions = map held_version versions
 
 -- this version, of this number, is the one of this name
 pub record IsNamed (store : Store) (name : List ℕ) (at : ℕ) (version : StoreVersion) : Type 0 where

@@ -1,4 +1,4 @@
 pub mod Run
 pub mod Digest
 pub mod Kept
-pub mod Places
+pub mod Table

@@ -3,9 +3,11 @@
 #![tactic(auto)]
 
 mod digest;
+mod ordered;
 mod pairs;
 mod steps;
 mod store;
+mod table;
 mod version;
 
 pub use digest::digest_of;

@@ -1,12 +1,11 @@
-ghost use Rattle.std.specs.Prelude.{◌≡◌, ◌≤◌, ◌<◌, ◌+◌, not, true, false, length, IfOk, IsTrue, OnOk};
-ghost use Rattle.std.specs.Prelude.{OnErr, option_map, bytes_eq, vec_len, vec_capacity};
-ghost use Rattle.std.specs.List.{list_any};
+ghost use Rattle.std.specs.Prelude.{◌≡◌, ◌≤◌, true, false, length, option_map, bytes_eq, IfOk};
 ghost use Rattle.std.specs.Option.{option_eq};
-ghost use Rattle.mn_base.specs.Store.{ran, is_change, is_ascending, value_at, pairs_after_step};
+ghost use Rattle.mn_base.specs.Store.{ran, value_at};
 ghost use Rattle.mn_plain.specs.Run.{pairs_after, left_by, StepTells, pairs_left};
+ghost use Rattle.mn_plain.specs.Table.{shown};
 
-use crate::pairs::{find, remove_pair, set_pair};
-use mn_base::{Founds, Key, NoMemory, Pair, Reply, Step, TryCopy, Value};
+use crate::table::{Table, find};
+use mn_base::{Founds, Key, NoMemory, Reply, Step, TryCopy, Value};
 use std::alloc::Global;
 
 /// What a key has after a step, when it had this before.
@@ -33,16 +32,21 @@ fn left<'a>(found: Option<&'a Value>, step: &'a Step, key: &Key) -> Option<&'a V
     }
 }
 
-/// What the pairs, in order of key, have at a key after the steps.
-fn value_after<'a>(pairs: &'a [Pair], steps: &'a [Step], key: &Key) -> Option<&'a Value>
-    requires { IsTrue (is_ascending pairs.now) }
-    ensures { option_map (λ v. v.now) result ≡ value_at (pairs_after pairs.now steps.now) key.now }
+/// What the pairs have at a key after the steps.
+fn value_after<'a>(
+    alloc: Global,
+    table: &'a Table,
+    steps: &'a [Step],
+    key: &Key,
+) -> Result<Option<&'a Value>, NoMemory>
+    ensures { IfOk result (λ found. option_map (λ v. v.now) found
+        ≡ value_at (pairs_after (shown table.now.entries) steps.now) key.now) }
 {
-    let mut found = find(pairs, key);
+    let mut found = find(alloc, table, key)?;
     for step in steps {
         found = left(found, step, key);
     }
-    found
+    Ok(found)
 }
 
 fn is_same(found: Option<&Value>, want: &Option<Value>) -> bool
@@ -65,25 +69,25 @@ fn copy_of(alloc: Global, found: Option<&Value>) -> Result<Option<Value>, NoMemo
 }
 
 /// Notes what a step tells after those before it: a Get what it finds. The answer is what a Check
-/// finds that isn't met. The pairs stand in order of key.
+/// finds that isn't met.
 fn note(
     alloc: Global,
-    pairs: &[Pair],
+    table: &Table,
     before: &[Step],
     step: &Step,
     values: &mut Vec<Option<Value>>,
 ) -> Result<Option<Option<Value>>, NoMemory>
-    requires { IsTrue (is_ascending pairs.now) }
-    ensures { IfOk result (StepTells
-        (pairs_after pairs.now before.now) step.now values.old.items values.new.items) }
+    ensures { IfOk result (StepTells (pairs_after (shown table.now.entries) before.now) step.now
+        values.old.items values.new.items) }
 {
     match step {
         Step::Get { key } => {
-            values.push(copy_of(alloc, value_after(pairs, before, key))?)?;
+            let found = value_after(alloc, table, before, key)?;
+            values.push(copy_of(alloc, found)?)?;
             Ok(None)
         }
         Step::Check { key, want } => {
-            let found = value_after(pairs, before, key);
+            let found = value_after(alloc, table, before, key)?;
             if is_same(found, want) {
                 return Ok(None);
             }
@@ -93,17 +97,18 @@ fn note(
     }
 }
 
-/// The reply to a transaction of these steps. The pairs stand in order of key. They stay as they
-/// are.
-pub fn reply_to(alloc: Global, pairs: &[Pair], steps: &[Step]) -> Result<Reply, NoMemory>
-    requires few { length steps.now ≤ 16 }
-    requires order { IsTrue (is_ascending pairs.now) }
-    ensures { IfOk result (λ reply. ran pairs.now steps.now
-        ≡ record { pairs = pairs_left pairs.now steps.now reply; reply = reply }) }
+/// The reply to a transaction of these steps. The pairs stay as they are.
+pub fn reply_to(alloc: Global, table: &Table, steps: &[Step]) -> Result<Reply, NoMemory>
+    requires { length steps.now ≤ 16 }
+    ensures { IfOk result (λ reply. ran (shown table.now.entries) steps.now
+        ≡ record {
+          pairs = pairs_left (shown table.now.entries) steps.now reply;
+          reply = reply;
+        }) }
 {
     let mut values = Vec::new(alloc);
     for (at, step) in steps.iter().enumerate() {
-        if let Some(found) = note(alloc, pairs, &steps[..at], step, &mut values)? {
+        if let Some(found) = note(alloc, table, &steps[..at], step, &mut values)? {
             return Ok(Reply::Unmet {
                 step: (at + 1) as u8,
                 found,
@@ -113,43 +118,4 @@ pub fn reply_to(alloc: Global, pairs: &[Pair], steps: &[Step]) -> Result<Reply, 
     Ok(Reply::Values {
         found: Founds::from_vec(values),
     })
-}
-
-/// Does a step in pairs in order of key. There is room for one more pair.
-fn take_step(pairs: &mut Vec<Pair>, step: Step)
-    requires order { IsTrue (is_ascending pairs.old.items) }
-    requires room { vec_len pairs.old < vec_capacity pairs.old }
-    ensures pairs { pairs.new.items ≡ pairs_after_step pairs.old.items step }
-    ensures len { vec_len pairs.new ≤ vec_len pairs.old + 1 }
-    ensures room { vec_capacity pairs.old ≤ vec_capacity pairs.new }
-{
-    match step {
-        Step::Put { key, value } => set_pair(pairs, Pair { key, value }),
-        Step::Del { key } => remove_pair(pairs, &key),
-        Step::Get { .. } | Step::Check { .. } => {}
-    }
-}
-
-/// Does the steps in pairs in order of key. There is room for a pair of each.
-#[tactic(auto, using(crate::proofs::StepLemmas::still_ascends))]
-fn take_each(pairs: &mut Vec<Pair>, steps: Vec<Step>)
-    requires order { IsTrue (is_ascending pairs.old.items) }
-    requires room { vec_len pairs.old + length steps.items ≤ vec_capacity pairs.old }
-    ensures { pairs.new.items ≡ pairs_after pairs.old.items steps.items }
-{
-    for step in steps {
-        take_step(pairs, step);
-    }
-}
-
-/// Does the steps in pairs in order of key, or nothing where there is no memory for the pairs that
-/// they may add.
-pub fn take_steps(pairs: &mut Vec<Pair>, steps: Vec<Step>) -> Result<(), NoMemory>
-    requires { IsTrue (is_ascending pairs.old.items) }
-    ensures taken { OnOk result (pairs.new.items ≡ pairs_after pairs.old.items steps.items) }
-    ensures kept { OnErr result (pairs.new.items ≡ pairs.old.items) }
-{
-    pairs.reserve(steps.len())?;
-    take_each(pairs, steps);
-    Ok(())
 }

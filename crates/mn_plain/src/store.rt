@@ -1,22 +1,22 @@
 ghost use Rattle.std.specs.Prelude.{◌≡◌, ◌<◌, ◌&&◌, not, length, IfOk, IfNone, IsTrue, OnOk, OnErr};
 ghost use Rattle.std.specs.Prelude.{IsSomeAnd, slice_get, option_map, option_and_then};
+ghost use Rattle.std.specs.List.{AllByRecursion};
 ghost use Rattle.mn_base.specs.Store.{applied, empty_store, main_store, heads_of, is_ascending};
 ghost use Rattle.mn_base.specs.Store.{listed, listing_of, child_refusal, max_versions};
 ghost use Rattle.mn_base.specs.Stores.{IsStore};
 ghost use Rattle.mn_plain.specs.Run.{Does, is_unmet_reply, pairs_after};
 ghost use Rattle.mn_plain.specs.Digest.{pairs_digest};
-ghost use Rattle.mn_plain.specs.Kept.{version_of, store_of, IsPlace, SetsPairs, Freezes, AddsChild};
+ghost use Rattle.mn_plain.specs.Kept.{version_of, store_of, held_version, held_store};
+ghost use Rattle.mn_plain.specs.Kept.{IsPlace, SetsPairs, Freezes, AddsChild};
+ghost use Rattle.mn_plain.specs.Table.{shown};
 
 use crate::digest::digest_of;
-use crate::pairs::within;
-use crate::steps::{reply_to, take_steps};
-use crate::version::{Kept, Place};
-use mn_base::{
-    Key, Listing, Name, NoMemory, Op, Pairs, Reply, Steps, TryCopy, Version, VersionNo, copies_of,
-};
+use crate::steps::reply_to;
+use crate::table::{Table, copy_of, count_of, of_pairs, pairs_of, take_steps, within};
+use crate::version::{Held, Kept, Place};
+use mn_base::{Key, Listing, Name, NoMemory, Op, Pairs, Reply, Steps, TryCopy, Version, VersionNo};
 use std::alloc::Global;
 use std::marker::Model;
-use std::mem;
 
 /// The most versions of a store.
 pub const MAX_VERSIONS: usize = 64;
@@ -25,25 +25,25 @@ pub const MAX_VERSIONS: usize = 64;
 /// names that differ. Contracts see the list that the rules of the store speak of.
 #[derive(Debug, Drop)]
 pub struct Store {
-    versions: Vec<Kept>,
+    versions: Vec<Held>,
 }
 
 impl Model for Store {
     ghost use Rattle.std.specs.Prelude.{List};
     ghost use Rattle.mn_base.specs.Store.{StoreVersion};
     ghost use Rattle.mn_base.specs.Stores.{IsStore};
-    ghost use Rattle.mn_plain.specs.Kept.{store_of};
+    ghost use Rattle.mn_plain.specs.Kept.{held_store};
 
     ghost Value = { List StoreVersion };
 
-    ghost view = { λ s. store_of s.versions.items };
+    ghost view = { λ s. held_store s.versions.items };
 
-    ghost invariant = { λ s. IsStore (store_of s.versions.items) };
+    ghost invariant = { λ s. IsStore (held_store s.versions.items) };
 }
 
 /// Where the version of this name stands.
-fn place_of(versions: &[Kept], name: &Name) -> Option<Place>
-    ensures { IsPlace (store_of versions.now) name.now result }
+fn place_of(versions: &[Held], name: &Name) -> Option<Place>
+    ensures { IsPlace (held_store versions.now) name.now result }
 {
     for (at, version) in versions.iter().enumerate() {
         if version.name.as_slice() == name.as_slice() {
@@ -57,9 +57,9 @@ fn place_of(versions: &[Kept], name: &Name) -> Option<Place>
 }
 
 /// The name of a version.
-fn name_at(versions: &[Kept], at: usize) -> Option<&Name>
+fn name_at(versions: &[Held], at: usize) -> Option<&Name>
     ensures { option_map (λ n. n.now) result
-        ≡ option_map (λ p. p.name) (slice_get (heads_of (store_of versions.now)) at) }
+        ≡ option_map (λ p. p.name) (slice_get (heads_of (held_store versions.now)) at) }
 {
     if at < versions.len() {
         Some(&versions[at].name)
@@ -69,10 +69,10 @@ fn name_at(versions: &[Kept], at: usize) -> Option<&Name>
 }
 
 /// The name of a version's parent.
-fn parent_name(versions: &[Kept], parent: Option<VersionNo>) -> Option<&Name>
+fn parent_name(versions: &[Held], parent: Option<VersionNo>) -> Option<&Name>
     ensures { option_map (λ n. n.now) result
         ≡ option_and_then (λ n. option_map (λ p. p.name)
-        (slice_get (heads_of (store_of versions.now)) n)) (option_map (λ n. n.0) parent) }
+        (slice_get (heads_of (held_store versions.now)) n)) (option_map (λ n. n.0) parent) }
 {
     match parent {
         Some(number) => name_at(versions, usize::from(number.0)),
@@ -90,9 +90,9 @@ fn copy_of_name(alloc: Global, name: Option<&Name>) -> Result<Option<Name>, NoMe
 }
 
 /// What a listing says of a version among these.
-fn listed_of(alloc: Global, versions: &[Kept], version: &Kept) -> Result<Version, NoMemory>
+fn listed_of(alloc: Global, versions: &[Held], version: &Held) -> Result<Version, NoMemory>
     ensures { IfOk result (λ line. line
-        ≡ listed (heads_of (store_of versions.now)) (version_of version.now).head) }
+        ≡ listed (heads_of (held_store versions.now)) (held_version version.now).head) }
 {
     Ok(Version {
         name: version.name.try_copy(alloc)?,
@@ -119,39 +119,33 @@ fn is_without_effect(reply: &Reply, change: bool) -> bool
 }
 
 /// The pairs of a version of these.
-fn pairs_of(versions: &[Kept], at: usize) -> &Pairs
+fn table_of(versions: &[Held], at: usize) -> &Table
     requires { at < length versions.now }
-    ensures { IsSomeAnd (slice_get (store_of versions.now) at) (λ kept. result.now ≡ kept.pairs) }
+    ensures { IsSomeAnd (slice_get (held_store versions.now) at)
+        (λ kept. shown result.now.entries ≡ kept.pairs) }
 {
-    &versions[at].pairs
+    &versions[at].table
 }
 
 /// Does the steps in a version of these.
 fn take_at(
     alloc: Global,
-    versions: &mut Vec<Kept>,
+    versions: &mut Vec<Held>,
     at: usize,
     steps: &Steps,
 ) -> Result<(), NoMemory>
-    requires there { at < length versions.old.items }
-    requires order { IsSomeAnd (slice_get (store_of versions.old.items) at)
-        (λ kept. IsTrue (is_ascending kept.pairs)) }
+    requires { at < length versions.old.items }
     ensures taken { OnOk result (SetsPairs (λ ps. pairs_after ps steps.now)
-        (store_of versions.old.items) at (store_of versions.new.items)) }
-    ensures kept { OnErr result (store_of versions.new.items ≡ store_of versions.old.items) }
+        (held_store versions.old.items) at (held_store versions.new.items)) }
+    ensures kept { OnErr result (held_store versions.new.items ≡ held_store versions.old.items) }
 {
-    let steps = steps.try_copy(alloc)?.into_vec();
-    let version = &mut versions[at];
-    let mut pairs = mem::replace(&mut version.pairs, Pairs::from_vec(Vec::new(alloc))).into_vec();
-    let taken = take_steps(&mut pairs, steps);
-    version.pairs = Pairs::from_vec(pairs);
-    taken
+    take_steps(alloc, &mut versions[at].table, steps.as_slice())
 }
 
 /// Freezes a version of these.
-fn freeze_at(versions: &mut Vec<Kept>, at: usize)
+fn freeze_at(versions: &mut Vec<Held>, at: usize)
     requires { at < length versions.old.items }
-    ensures { Freezes (store_of versions.old.items) at (store_of versions.new.items) }
+    ensures { Freezes (held_store versions.old.items) at (held_store versions.new.items) }
 {
     versions[at].frozen = true;
 }
@@ -159,24 +153,72 @@ fn freeze_at(versions: &mut Vec<Kept>, at: usize)
 /// Adds a writable child of a version of these, with the same pairs.
 fn add_child_of(
     alloc: Global,
-    versions: &mut Vec<Kept>,
+    versions: &mut Vec<Held>,
     at: usize,
     child: &Name,
 ) -> Result<(), NoMemory>
     requires there { at < length versions.old.items }
     requires room { length versions.old.items < max_versions }
-    ensures added { OnOk result (AddsChild (store_of versions.old.items) at child.now
-        (store_of versions.new.items)) }
-    ensures kept { OnErr result (store_of versions.new.items ≡ store_of versions.old.items) }
+    ensures added { OnOk result (AddsChild (held_store versions.old.items) at child.now
+        (held_store versions.new.items)) }
+    ensures kept { OnErr result (held_store versions.new.items ≡ held_store versions.old.items) }
 {
-    let kept = Kept {
+    let held = Held {
         name: child.try_copy(alloc)?,
         parent: Some(VersionNo(at as u8)),
         frozen: false,
-        pairs: pairs_of(versions, at).try_copy(alloc)?,
+        table: copy_of(alloc, table_of(versions, at))?,
     };
-    versions.push(kept)?;
+    versions.push(held)?;
     Ok(())
+}
+
+/// A version as the store holds it. Its pairs stand in order of key.
+fn held_of(alloc: Global, version: Kept) -> Result<Held, NoMemory>
+    requires { IsTrue (is_ascending version.pairs) }
+    ensures { IfOk result (λ held. held_version held ≡ version_of version) }
+{
+    let Kept {
+        name,
+        parent,
+        frozen,
+        pairs,
+    } = version;
+    let table = of_pairs(alloc, pairs.into_vec())?;
+    Ok(Held {
+        name,
+        parent,
+        frozen,
+        table,
+    })
+}
+
+/// The versions as the store holds them. The pairs of each stand in order of key.
+fn all_held(alloc: Global, versions: Vec<Kept>) -> Result<Vec<Held>, NoMemory>
+    requires { AllByRecursion (λ v. IsTrue (is_ascending v.pairs)) (store_of versions.items) }
+    ensures { IfOk result (λ held. held_store held.items ≡ store_of versions.items) }
+{
+    let mut held = Vec::new(alloc);
+    for version in versions {
+        held.push(held_of(alloc, version)?)?;
+    }
+    Ok(held)
+}
+
+/// Copies of these versions.
+fn held_copies(alloc: Global, versions: &[Held]) -> Result<Vec<Held>, NoMemory>
+    ensures { IfOk result (λ copies. held_store copies.items ≡ held_store versions.now) }
+{
+    let mut copies = Vec::new(alloc);
+    for version in versions {
+        copies.push(Held {
+            name: version.name.try_copy(alloc)?,
+            parent: version.parent,
+            frozen: version.frozen,
+            table: copy_of(alloc, &version.table)?,
+        })?;
+    }
+    Ok(copies)
 }
 
 impl Store {
@@ -198,22 +240,24 @@ impl Store {
             return Err(NoMemory);
         };
         let mut versions = Vec::new(alloc);
-        versions.push(Kept {
+        versions.push(Held {
             name,
             parent: None,
             frozen: false,
-            pairs,
+            table: of_pairs(alloc, pairs.into_vec())?,
         })?;
         Ok(Store { versions })
     }
 
     /// The store of these versions, in order of number: a tree of at most 64 versions with names
-    /// that differ, each with its pairs in order of key. It takes no memory.
-    pub fn of_versions(versions: Vec<Kept>) -> Self
+    /// that differ, each with its pairs in order of key. NoMemory: there was no memory for it.
+    pub fn of_versions(alloc: Global, versions: Vec<Kept>) -> Result<Self, NoMemory>
         requires { IsStore (store_of versions.items) }
-        ensures { result ≡ store_of versions.items }
+        ensures { IfOk result (λ store. store ≡ store_of versions.items) }
     {
-        Store { versions }
+        Ok(Store {
+            versions: all_held(alloc, versions)?,
+        })
     }
 
     /// Does the operation and replies to it. After a refusing reply or an unmet Check the store is
@@ -248,12 +292,12 @@ impl Store {
     }
 
     /// The pairs of a version.
-    fn pairs_at(&self, at: usize) -> &Pairs
+    fn table_at(&self, at: usize) -> &Table
         requires { at < length self.now }
-        ensures ascend { IsTrue (is_ascending result.now) }
-        ensures pairs { IsSomeAnd (slice_get self.now at) (λ kept. result.now ≡ kept.pairs) }
+        ensures { IsSomeAnd (slice_get self.now at)
+            (λ kept. shown result.now.entries ≡ kept.pairs) }
     {
-        pairs_of(&self.versions, at)
+        table_of(&self.versions, at)
     }
 
     /// Why no version of this name can be made.
@@ -280,7 +324,7 @@ impl Store {
         if is_shut(place, change) {
             return Ok(Reply::Frozen);
         }
-        let reply = reply_to(alloc, self.pairs_at(place.at).as_slice(), steps.as_slice())?;
+        let reply = reply_to(alloc, self.table_at(place.at), steps.as_slice())?;
         if is_without_effect(&reply, change) {
             return Ok(reply);
         }
@@ -337,7 +381,7 @@ impl Store {
         if !place.frozen {
             return Ok(Reply::NotFrozen);
         }
-        let found = within(alloc, self.pairs_at(place.at).as_slice(), low, high, limit)?;
+        let found = within(alloc, self.table_at(place.at), low, high, limit)?;
         Ok(Reply::Pairs {
             pairs: Pairs::from_vec(found),
         })
@@ -355,13 +399,25 @@ impl Store {
         Ok(Listing::from_vec(lines))
     }
 
-    /// The pairs of a version that is there, in order of key.
-    pub fn pairs(&self, version: VersionNo) -> &Pairs
+    /// The pairs of a version that is there, in order of key. NoMemory: there was no memory for
+    /// them.
+    pub fn pairs(&self, alloc: Global, version: VersionNo) -> Result<Pairs, NoMemory>
         requires { version.0 < length self.now }
-        ensures pairs { IsSomeAnd (slice_get self.now version.0) (λ kept. result.now ≡ kept.pairs) }
-        ensures ascend { IsTrue (is_ascending result.now) }
+        ensures pairs { IfOk result (λ pairs.
+            IsSomeAnd (slice_get self.now version.0) (λ kept. pairs ≡ kept.pairs)) }
+        ensures ascend { IfOk result (λ pairs. IsTrue (is_ascending pairs)) }
     {
-        self.pairs_at(usize::from(version.0))
+        let pairs = pairs_of(alloc, self.table_at(usize::from(version.0)))?;
+        Ok(Pairs::from_vec(pairs))
+    }
+
+    /// How many pairs a version has that is there.
+    pub fn count(&self, version: VersionNo) -> usize
+        requires { version.0 < length self.now }
+        ensures { IsSomeAnd (slice_get self.now version.0)
+            (λ kept. result ≡ length kept.pairs) }
+    {
+        count_of(self.table_at(usize::from(version.0)))
     }
 
     /// The SHA-256 of the pairs of a version that is there: for each pair in order of key the key's
@@ -372,14 +428,14 @@ impl Store {
         ensures { IfOk result (λ digest.
             IsSomeAnd (slice_get self.now version.0) (λ kept. digest ≡ pairs_digest kept.pairs)) }
     {
-        digest_of(alloc, self.pairs(version).as_slice())
+        digest_of(alloc, self.pairs(alloc, version)?.as_slice())
     }
 }
 
 impl TryCopy for Store {
     fn try_copy(&self, alloc: Global) -> Result<Self, NoMemory> {
         Ok(Store {
-            versions: copies_of(alloc, &self.versions)?,
+            versions: held_copies(alloc, &self.versions)?,
         })
     }
 }

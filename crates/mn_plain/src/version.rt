@@ -1,8 +1,8 @@
-use mn_base::{Name, NoMemory, Pairs, TryCopy, VersionNo};
-use std::alloc::Global;
+use crate::table::Table;
+use mn_base::{Name, Pairs, VersionNo};
 
-/// A version as it is kept: its name, its parent's number or none, whether it is frozen, and its
-/// pairs in order of key.
+/// A version: its name, its parent's number or none, whether it is frozen, and its pairs in order
+/// of key.
 #[derive(Debug, Drop)]
 pub struct Kept {
     pub name: Name,
@@ -11,15 +11,13 @@ pub struct Kept {
     pub pairs: Pairs,
 }
 
-impl TryCopy for Kept {
-    fn try_copy(&self, alloc: Global) -> Result<Self, NoMemory> {
-        Ok(Kept {
-            name: self.name.try_copy(alloc)?,
-            parent: self.parent,
-            frozen: self.frozen,
-            pairs: self.pairs.try_copy(alloc)?,
-        })
-    }
+/// A version as the store holds it.
+#[derive(Debug, Drop)]
+pub struct Held {
+    pub name: Name,
+    pub parent: Option<VersionNo>,
+    pub frozen: bool,
+    pub table: Table,
 }
 
 /// Where a version stands, and whether it is frozen.

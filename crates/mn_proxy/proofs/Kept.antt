@@ -249,6 +249,20 @@ pub unread_cache : (read : Option (Purpose × List ℕ)) (later : Bool) (before 
 unread_cache read later before after result none same =
     subst (λ (r : Option (Purpose × List ℕ)). CacheTurns r later before after result) (sym none) (same_turns later before after result same)
 
+-- there was no memory for what was read
+unput : (read : Option (Purpose × List ℕ)) (before : List (Addr × Page)) (none : NoMemory)
+    → let failed : Result Turn NoMemory = Err none in PutsRead read before before failed
+unput None before none = refl
+unput (Some (reads_for.Catalog, bytes)) before none = refl
+unput (Some (reads_for.Page addr, bytes)) before none = inl refl
+unput (Some (reads_for.Count, bytes)) before none = refl
+unput (Some (reads_for.Plan reply, bytes)) before none = refl
+
+pub unput_cache : (read : Option (Purpose × List ℕ)) (later : Bool) (before : List (Addr × Page)) (none : NoMemory)
+    → CacheTurns read later before before (Err none)
+unput_cache read later before none =
+    record { put = before; puts = unput read before none; used = before; are_used = none_used before; leaves = inl refl }
+
 pub unread_catalog : {E : Type 0} (read : Option (Purpose × List ℕ)) (before after : Option (List CatEntry)) (result : Result Turn E)
     → read ≡ None → IfOk result (CatalogTurns None before after) → IfOk result (CatalogTurns read before after)
 unread_catalog read before after result none goes =

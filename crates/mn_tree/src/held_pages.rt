@@ -9,6 +9,9 @@ use mn_base::{Addr, NoMemory};
 use std::alloc::Global;
 use std::marker::Model;
 
+/// For how many pages there is room at once: for those of a path in a tree of some size.
+const FIRST_ROOM: usize = 7;
+
 /// The pages that are held, by address. Contracts see them as a list, in the order in which they
 /// joined, with the room for more.
 #[derive(Debug, Drop)]
@@ -41,7 +44,11 @@ impl HeldPages {
         ensures room { OnOk result (more ≤ self.new.room) }
         ensures same { self.new.items ≡ self.old.items }
     {
-        self.pages.reserve(more)?;
+        if self.pages.is_empty() {
+            self.pages.reserve(more.max(FIRST_ROOM))?;
+        } else {
+            self.pages.reserve(more)?;
+        }
         Ok(())
     }
 

@@ -23,7 +23,7 @@ use crate::{
     PlanError, Txn, attempts_stand_in_order, done_is_planned, done_may_be_planned,
     unmet_is_planned, unmet_may_be_planned, worn_is_changed,
 };
-use mn_base::{Addr, NoMemory, NodeNo, Steps, VersionNo};
+use mn_base::{Addr, NoMemory, NodeNo, Steps, TryCopy, VersionNo};
 use mn_mini::Minitransaction;
 use mn_page::{CatEntry, Page, Pages};
 use std::alloc::Global;
@@ -61,12 +61,10 @@ fn read_page(
         ≡ with_reads txn.old (page_read leaves addr (seen_at pages.now addr))) }
 {
     match page_at(pages, addr) {
-        Some(page) if !leaves || page.leaf => txn.read(
-            alloc,
-            addr.node,
-            slot_start(addr.slot),
-            page.bytes.as_slice(),
-        ),
+        Some(page) if !leaves || page.leaf => {
+            let bytes = page.bytes.try_copy(alloc)?;
+            txn.read(addr.node, slot_start(addr.slot), bytes)
+        }
         _ => Ok(()),
     }
 }
@@ -101,7 +99,7 @@ fn read_entry(
         return Ok(());
     }
     let bytes = entry_bytes(alloc, entry)?;
-    txn.read(alloc, CATALOG_NODE, entry_start(version), bytes.as_slice())
+    txn.read(CATALOG_NODE, entry_start(version), bytes)
 }
 
 /// A transaction that has read all that the try did; of the pages of the read set the leaves alone,
@@ -170,7 +168,7 @@ fn change_count(
         return Ok(());
     }
     let old = count_bytes(alloc, count)?;
-    txn.read(alloc, node, COUNT_START, old.as_slice())?;
+    txn.read(node, COUNT_START, old)?;
     let new = count_bytes(alloc, count + given)?;
     txn.write(node, COUNT_START, new)
 }

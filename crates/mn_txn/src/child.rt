@@ -12,7 +12,9 @@ ghost use Rattle.mn_txn.specs.ChildPlan.{IsChildPlan, IsChildState, MayPlanChild
 ghost use Rattle.mn_txn.specs.ChildPlan.{read_state, with_count, with_entries, with_pages};
 
 use crate::image::COUNT_START;
-use crate::spelled::{CATALOG_NODE, count_bytes, entry_bytes, entry_start, page_bytes, slot_start};
+use crate::spelled::{
+    CATALOG_NODE, count_bytes, entry_bytes, entry_start, no_entry_bytes, page_bytes, slot_start,
+};
 use crate::{PlanError, Txn, branch_is_planned, children_stand_in_order, snapshot_is_planned};
 use mn_base::{Addr, Name, NoMemory, VersionNo};
 use mn_catalog::Catalog;
@@ -38,12 +40,13 @@ fn read_for(
     let mut txn = Txn::new(alloc, nodes)?;
     let page = page_bytes(alloc, root)?;
     let start = slot_start(entry.root.slot);
-    txn.read(alloc, entry.root.node, start, page.as_slice())?;
+    txn.read(entry.root.node, start, page)?;
     let bytes = entry_bytes(alloc, entry)?;
-    txn.read(alloc, CATALOG_NODE, entry_start(version), bytes.as_slice())?;
-    txn.read(alloc, CATALOG_NODE, entry_start(number), &[0u8; 64])?;
+    txn.read(CATALOG_NODE, entry_start(version), bytes)?;
+    let unused = no_entry_bytes(alloc)?;
+    txn.read(CATALOG_NODE, entry_start(number), unused)?;
     let count = count_bytes(alloc, slot.slot)?;
-    txn.read(alloc, slot.node, COUNT_START, count.as_slice())?;
+    txn.read(slot.node, COUNT_START, count)?;
     Ok(txn)
 }
 

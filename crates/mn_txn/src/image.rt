@@ -1,7 +1,7 @@
 ghost use Rattle.std.specs.Prelude.{◌≡◌};
 
 use mn_base::NodeNo;
-use mn_mini::ItemBytes;
+use mn_mini::SharedBytes;
 
 /// The bytes of a page, an entry or a count, with the place in a node's space at which they stand
 /// or are to stand.
@@ -9,7 +9,7 @@ use mn_mini::ItemBytes;
 pub struct Image {
     pub node: NodeNo,
     pub start: u32,
-    pub bytes: ItemBytes,
+    pub bytes: SharedBytes,
 }
 
 /// The turn of a place among the compares or the writes of a plan: pages come first and are alike,

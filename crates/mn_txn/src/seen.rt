@@ -2,13 +2,14 @@ ghost use Rattle.std.specs.Prelude.{◌≡◌};
 ghost use Rattle.std.specs.Option.{option_map};
 ghost use Rattle.mn_txn.specs.Seen.{seen_at};
 
-use mn_base::{Addr, Bytes};
+use mn_base::Addr;
+use mn_mini::SharedBytes;
 
 /// A page as a try read it, or had kept it: where it stands, its bytes, and whether it is a leaf.
 #[derive(Debug, Drop)]
 pub struct SeenPage {
     pub addr: Addr,
-    pub bytes: Bytes,
+    pub bytes: SharedBytes,
     pub leaf: bool,
 }
 

@@ -1,4 +1,4 @@
-ghost use Rattle.std.specs.Prelude.{◌≡◌, ◌≤◌, IfOk, length};
+ghost use Rattle.std.specs.Prelude.{◌≡◌, ◌≤◌, IfOk, length, replicate};
 ghost use Rattle.byteorder.specs.Endian.{big_bytes};
 ghost use Rattle.mn_page.specs.Grammar.{count_in, entry_bytes, page_bytes};
 ghost use Rattle.mn_page.specs.Space.{count_size, entry_start, slot_start};
@@ -6,7 +6,7 @@ ghost use Rattle.mn_page.specs.Space.{count_size, entry_start, slot_start};
 use crate::image::SLOTS_START;
 use byteorder::{BigEndian, ByteOrder};
 use mn_base::{NoMemory, NodeNo, VersionNo};
-use mn_mini::ItemBytes;
+use mn_mini::SharedBytes;
 use mn_page::{CatEntry, Page};
 use std::alloc::Global;
 
@@ -36,30 +36,37 @@ pub fn slot_start(slot: u16) -> u32
 }
 
 /// The bytes of a page.
-pub fn page_bytes(alloc: Global, page: &Page) -> Result<ItemBytes, NoMemory>
+pub fn page_bytes(alloc: Global, page: &Page) -> Result<SharedBytes, NoMemory>
     requires few { count_in page.now.body ≤ 8 }
     requires low { length page.now.low ≤ 32 }
     ensures { IfOk result (λ bytes. bytes ≡ page_bytes page.now) }
 {
     let mut bytes = [0u8; 1_024];
     page.write(&mut bytes);
-    ItemBytes::new(bytes.to_vec(alloc)?)
+    SharedBytes::new(bytes.to_vec(alloc)?)
 }
 
 /// The bytes of an entry.
-pub fn entry_bytes(alloc: Global, entry: &CatEntry) -> Result<ItemBytes, NoMemory>
+pub fn entry_bytes(alloc: Global, entry: &CatEntry) -> Result<SharedBytes, NoMemory>
     ensures { IfOk result (λ bytes. bytes ≡ entry_bytes entry.now) }
 {
     let mut bytes = [0u8; 64];
     entry.write(&mut bytes);
-    ItemBytes::new(bytes.to_vec(alloc)?)
+    SharedBytes::new(bytes.to_vec(alloc)?)
+}
+
+/// The bytes of an unused entry.
+pub fn no_entry_bytes(alloc: Global) -> Result<SharedBytes, NoMemory>
+    ensures { IfOk result (λ bytes. bytes ≡ replicate 64 0) }
+{
+    SharedBytes::new([0u8; 64].to_vec(alloc)?)
 }
 
 /// The bytes of a count.
-pub fn count_bytes(alloc: Global, count: u16) -> Result<ItemBytes, NoMemory>
+pub fn count_bytes(alloc: Global, count: u16) -> Result<SharedBytes, NoMemory>
     ensures { IfOk result (λ bytes. bytes ≡ big_bytes count_size count) }
 {
     let mut bytes = [0u8; 8];
     BigEndian::write_u64(&mut bytes, u64::from(count));
-    ItemBytes::new(bytes.to_vec(alloc)?)
+    SharedBytes::new(bytes.to_vec(alloc)?)
 }

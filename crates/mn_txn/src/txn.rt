@@ -15,7 +15,7 @@ use byteorder::{BigEndian, ByteOrder};
 use indexmap::IndexMap;
 use mn_base::{Addr, NoMemory, NodeNo, TryCopy};
 use mn_mini::{
-    Item, ItemBytes, Items, MAX_ITEM, MAX_ITEMS, MAX_NODES, MiniError, Minitransaction, SPACE,
+    Item, Items, MAX_ITEM, MAX_ITEMS, MAX_NODES, MiniError, Minitransaction, SPACE, SharedBytes,
 };
 use std::alloc::Global;
 use std::marker::Model;
@@ -27,7 +27,7 @@ const SLOT_SIZE: u32 = 1_024;
 /// first.
 const NUMBER_SIZE: usize = 8;
 
-/// For how many places there is room at once.
+/// For how many places that are compared or written there is room at once.
 const FIRST_ROOM: usize = 8;
 
 /// What a try of an operation has read and is to write, over so many nodes: the pages that it read
@@ -36,9 +36,9 @@ const FIRST_ROOM: usize = 8;
 #[derive(Drop)]
 pub struct Txn {
     nodes: u8,
-    dirty: IndexMap<Place, ItemBytes>,
-    reads: IndexMap<Place, ItemBytes>,
-    writes: IndexMap<Place, ItemBytes>,
+    dirty: IndexMap<Place, SharedBytes>,
+    reads: IndexMap<Place, SharedBytes>,
+    writes: IndexMap<Place, SharedBytes>,
 }
 
 impl Model for Txn {
@@ -61,10 +61,10 @@ impl Model for Txn {
 /// Keeps the bytes of a place, in place of older ones.
 #[inline(always)]
 fn keep(
-    images: &mut IndexMap<Place, ItemBytes>,
+    images: &mut IndexMap<Place, SharedBytes>,
     node: NodeNo,
     start: u32,
-    bytes: ItemBytes,
+    bytes: SharedBytes,
 ) -> Result<(), NoMemory>
     ensures kept { OnOk result (images_of images.new.entries
         ≡ joined (images_of images.old.entries) (image node start bytes)) }
@@ -77,7 +77,7 @@ fn keep(
 }
 
 /// Copies of the images, in the order of the items of a plan.
-fn in_order(alloc: Global, images: &IndexMap<Place, ItemBytes>) -> Result<Vec<Image>, NoMemory>
+fn in_order(alloc: Global, images: &IndexMap<Place, SharedBytes>) -> Result<Vec<Image>, NoMemory>
     ensures { IfOk result (λ ordered. ordered.items
         ≡ in_item_order (images_of images.now.entries)) }
 {
@@ -87,7 +87,7 @@ fn in_order(alloc: Global, images: &IndexMap<Place, ItemBytes>) -> Result<Vec<Im
 }
 
 /// Copies of the images, as they joined.
-fn copied(alloc: Global, images: &IndexMap<Place, ItemBytes>) -> Result<Vec<Image>, NoMemory>
+fn copied(alloc: Global, images: &IndexMap<Place, SharedBytes>) -> Result<Vec<Image>, NoMemory>
     ensures { IfOk result (λ copies. copies.items ≡ images_of images.now.entries) }
 {
     let mut copies = Vec::with_capacity(alloc, images.len())?;
@@ -102,7 +102,7 @@ fn copied(alloc: Global, images: &IndexMap<Place, ItemBytes>) -> Result<Vec<Imag
 }
 
 /// Whether the bytes at a place may be an item's, over so many nodes.
-fn is_inside(nodes: u8, place: &Place, bytes: &ItemBytes) -> bool
+fn is_inside(nodes: u8, place: &Place, bytes: &SharedBytes) -> bool
     ensures { result ≡ is_inside nodes (image_at (place.now, bytes.now)) }
 {
     let length = bytes.as_slice().len();
@@ -114,7 +114,7 @@ fn is_inside(nodes: u8, place: &Place, bytes: &ItemBytes) -> bool
 }
 
 /// Whether all images may be items.
-fn are_inside(nodes: u8, images: &IndexMap<Place, ItemBytes>) -> bool
+fn are_inside(nodes: u8, images: &IndexMap<Place, SharedBytes>) -> bool
     ensures { result ≡ are_inside nodes (images_of images.now.entries) }
 {
     let mut inside = true;
@@ -125,7 +125,7 @@ fn are_inside(nodes: u8, images: &IndexMap<Place, ItemBytes>) -> bool
 }
 
 /// Whether bytes begin with the last sequence number.
-fn has_last_number(bytes: &ItemBytes) -> bool
+fn has_last_number(bytes: &SharedBytes) -> bool
     ensures { result ≡ is_last bytes.now }
 {
     let bytes = bytes.as_slice();
@@ -179,7 +179,7 @@ impl Txn {
     {
         Ok(Txn {
             nodes,
-            dirty: IndexMap::with_capacity(alloc, FIRST_ROOM)?,
+            dirty: IndexMap::new(alloc),
             reads: IndexMap::with_capacity(alloc, FIRST_ROOM)?,
             writes: IndexMap::with_capacity(alloc, FIRST_ROOM)?,
         })
@@ -198,37 +198,30 @@ impl Txn {
         ensures unchanged { OnErr result (self.new ≡ self.old) }
     {
         let start = SLOTS_START + SLOT_SIZE * u32::from(addr.slot);
-        let bytes = ItemBytes::new(bytes.to_vec(alloc)?)?;
+        let bytes = SharedBytes::new(bytes.to_vec(alloc)?)?;
         keep(&mut self.dirty, addr.node, start, bytes)
     }
 
     /// Bytes that were read join the read set, which the plan compares. A place that is read again
     /// keeps its turn, with the later bytes. NoMemory: there was no memory for it, and the
     /// transaction is as before.
-    pub fn read(
-        &mut self,
-        alloc: Global,
-        node: NodeNo,
-        start: u32,
-        bytes: &[u8],
-    ) -> Result<(), NoMemory>
+    pub fn read(&mut self, node: NodeNo, start: u32, bytes: SharedBytes) -> Result<(), NoMemory>
         ensures kept { OnOk result (self.new
             ≡ record {
               nodes = self.old.nodes;
               dirty = self.old.dirty;
-              reads = joined self.old.reads (image node start bytes.now);
+              reads = joined self.old.reads (image node start bytes);
               writes =
                   self.old.writes;
             }) }
         ensures unchanged { OnErr result (self.new ≡ self.old) }
     {
-        let bytes = ItemBytes::new(bytes.to_vec(alloc)?)?;
         keep(&mut self.reads, node, start, bytes)
     }
 
     /// Bytes that the plan writes. A place that is written again keeps its turn, with the later
     /// bytes. NoMemory: there was no memory for it, and the transaction is as before.
-    pub fn write(&mut self, node: NodeNo, start: u32, bytes: ItemBytes) -> Result<(), NoMemory>
+    pub fn write(&mut self, node: NodeNo, start: u32, bytes: SharedBytes) -> Result<(), NoMemory>
         ensures kept { OnOk result (self.new
             ≡ record {
               nodes = self.old.nodes;

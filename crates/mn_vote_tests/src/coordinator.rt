@@ -4,7 +4,9 @@ ghost use Rattle.mn_mini.specs.RecordGrammar.{IsTid};
 
 use mn_base::{Bytes, ClientNo, NodeNo, Nodes, Tid};
 use mn_coord::{CoordStep, Coordinator};
-use mn_mini::{Item, ItemBytes, Items, Minitransaction, NodeReply, Reads, Request, SPACE, Spaces};
+use mn_mini::{
+    Item, Items, Minitransaction, NodeReply, Reads, Request, SPACE, SharedBytes, Spaces,
+};
 use mn_world::{Entry, Log, What, flat_after};
 use std::alloc::Global;
 use std::test::Fail;
@@ -28,7 +30,7 @@ fn writes(alloc: Global, nodes: &[u8], start: u32, byte: u8) -> Result<Minitrans
         items.push(Item::Write {
             node: NodeNo(*node),
             start,
-            bytes: ItemBytes::new([byte].to_vec(alloc)?)?,
+            bytes: SharedBytes::new([byte].to_vec(alloc)?)?,
         })?;
     }
     Ok(Minitransaction::new(alloc, 2, Items::from_vec(items))?)

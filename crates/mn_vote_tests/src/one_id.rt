@@ -4,7 +4,7 @@ ghost use Rattle.mn_mini.specs.RecordGrammar.{IsTid};
 
 use mn_base::{ClientNo, NodeNo, Tid};
 use mn_coord::Coordinator;
-use mn_mini::{Item, ItemBytes, Items, Minitransaction};
+use mn_mini::{Item, Items, Minitransaction, SharedBytes};
 use mn_recov::{RecovStep, Recoverer};
 use std::alloc::Global;
 use std::test::Fail;
@@ -26,7 +26,7 @@ fn writes(alloc: Global) -> Result<Minitransaction, Fail> {
         items.push(Item::Write {
             node: NodeNo(node),
             start: 20_480,
-            bytes: ItemBytes::new([97].to_vec(alloc)?)?,
+            bytes: SharedBytes::new([97].to_vec(alloc)?)?,
         })?;
     }
     Ok(Minitransaction::new(alloc, 2, Items::from_vec(items))?)

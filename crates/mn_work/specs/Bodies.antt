@@ -1,10 +1,8 @@
 -- What a page as it stands in its bytes tells of a key.
 use Rattle.std.specs.Prelude.{ℕ, ◌≡◌, List, Option, Some, None, drop}
-use Rattle.mn_base.specs.Store.{value_at}
 use Rattle.mn_base.specs.declared.ids.Addr.{Addr}
 use Rattle.mn_page.specs.declared.page.Body.{Body}
 use Rattle.mn_page.specs.declared.page.Body.TheVariants.{Leaf, Inner}
-use Rattle.mn_page.specs.Holds.{pairs_in}
 use Rattle.mn_path.specs.Walk.{child_from}
 
 -- the child of an inner page that the key goes to
@@ -17,7 +15,3 @@ abbrev pub ChildSoFar : Body → ℕ → Addr → List ℕ → Type 0
 ChildSoFar (Leaf pairs) i found key = ⊥
 ChildSoFar (Inner height first rest) i found key =
     child_from found (drop i rest) key ≡ child_from first rest key
-
--- so far the key has no value
-abbrev pub NoValueSoFar : Body → ℕ → List ℕ → Type 0
-NoValueSoFar body i key = value_at (drop i (pairs_in body)) key ≡ value_at (pairs_in body) key

@@ -29,12 +29,13 @@ use crate::causes::{LEVELS, fault_among};
 use crate::counts::take_count;
 use crate::known::Known;
 use crate::next::{Next, Taken, full, worn};
-use crate::seen::{is_leaf, page_bytes, page_in};
+use crate::seen::{is_leaf, page_in};
 use mn_alloc::{AllocError, plan_slots};
 use mn_base::{
-    Addr, Busy, Bytes, Counts, Founds, Key, NoMemory, NodeNo, Reply, Step, Steps, TryCopy, Value,
+    Addr, Busy, Counts, Founds, Key, NoMemory, NodeNo, Reply, Step, Steps, TryCopy, Value,
     VersionNo,
 };
+use mn_mini::SharedBytes;
 use mn_page::{CatEntry, Page};
 use mn_tree::{AddError, Overlay, Stepped};
 use mn_txn::{Placing, PlanError, SeenPage, Tried, done_plan, page_at, unmet_plan};
@@ -329,13 +330,12 @@ impl Attempt {
         ensures further { IfOk result (MovesFurther self.old self.new) }
     {
         pages_are_known();
-        let Some(page) = known.kept_page(alloc, addr)? else {
+        let Some(kept) = known.kept_page(alloc, addr)? else {
             return Ok(Moved::Wants {
                 next: Next::Page { addr, peek: true },
             });
         };
-        let bytes = page_bytes(alloc, &page)?;
-        if self.keep(addr, bytes, page)? {
+        if self.keep(addr, kept.bytes, kept.page)? {
             Ok(Moved::Came)
         } else {
             Ok(fails(None))
@@ -344,7 +344,7 @@ impl Attempt {
 
     /// A page comes in, with its bytes. Whether the step that asked for it goes on at it.
     #[inline(always)]
-    fn keep(&mut self, addr: Addr, bytes: Bytes, page: Page) -> Result<bool, NoMemory>
+    fn keep(&mut self, addr: Addr, bytes: SharedBytes, page: Page) -> Result<bool, NoMemory>
         requires wanted { IsWanted self.old.overlay addr }
         requires page { IsPage page }
         requires bytes { bytes ≡ page_bytes page }
@@ -367,7 +367,7 @@ impl Attempt {
         known: &mut Known,
         steps: &Steps,
         addr: Addr,
-        bytes: Bytes,
+        bytes: SharedBytes,
         later: bool,
     ) -> Result<Taken, NoMemory>
         requires way { IsOnItsWay known.old steps.now self.old }
@@ -393,7 +393,7 @@ impl Attempt {
                 cause: self.fault(known, key, later),
             });
         };
-        known.keep_inner(alloc, addr, &page)?;
+        known.keep_inner(alloc, addr, &page, &bytes)?;
         if self.keep(addr, bytes, page)? {
             Ok(Taken::GoesOn)
         } else {

@@ -9,7 +9,7 @@ ghost use Rattle.mn_work.specs.Walks.{IsAbove};
 use crate::catalog::Kept;
 use crate::next::path_fault;
 use mn_base::{Addr, Busy, Bytes, NoMemory, NodeNo, Tid, VersionNo};
-use mn_mini::{Item, ItemBytes, Minitransaction, NodeReply};
+use mn_mini::{Item, Minitransaction, NodeReply, SharedBytes};
 use mn_page::PageRef;
 use mn_path::Front;
 use mn_txn::{SeenPage, page_at};
@@ -129,7 +129,7 @@ pub fn fault_among(
 #[derive(Clone, Copy)]
 struct Expected<'a> {
     start: u32,
-    bytes: &'a ItemBytes,
+    bytes: &'a SharedBytes,
 }
 
 /// What an item compares at a node, if it does.

@@ -17,7 +17,7 @@ use crate::seen::page_in;
 use mn_alloc::{AllocError, plan_slots};
 use mn_base::{Addr, Answer, Counts, NoMemory, NodeNo, Op, Reply, TryCopy, VersionNo};
 use mn_catalog::Catalog;
-use mn_mini::Minitransaction;
+use mn_mini::{Minitransaction, SharedBytes};
 use mn_page::Page;
 use mn_path::Front;
 use mn_txn::{PlanError, branch_plan, snapshot_plan};
@@ -142,19 +142,19 @@ impl Child {
         &mut self,
         alloc: Global,
         known: &mut Known,
-        bytes: &[u8],
+        bytes: &SharedBytes,
     ) -> Result<Taken, NoMemory>
         ensures kept { KeepsKnown known.old known.new }
         ensures cache { Puts self.old.root bytes.now known.old.cache known.new.cache result }
         ensures taken { IfOk result (TakesRootBytes known.old.catalog self.old bytes.now self.new) }
         ensures stays { KeepsTry self.old self.new }
     {
-        let Some(page) = page_in(alloc, bytes)? else {
+        let Some(page) = page_in(alloc, bytes.as_slice())? else {
             return Ok(Taken::Fails {
                 cause: fault_at(self.root, 0),
             });
         };
-        known.keep_inner(alloc, self.root, &page)?;
+        known.keep_inner(alloc, self.root, &page, bytes)?;
         Ok(self.keep(known, page))
     }
 
@@ -251,7 +251,7 @@ impl Child {
         ensures wants { IfOk result (WantsRoot known.old false self.old self.new) }
     {
         let page = match known.cache.get(self.root) {
-            Some(page) => page.try_copy(alloc)?,
+            Some(spelled) => spelled.page.try_copy(alloc)?,
             None => {
                 return Ok(Some(Next::Page {
                     addr: self.root,

@@ -1,8 +1,5 @@
 ghost use Rattle.std.specs.Prelude.{◌≡◌, ◌≢◌, ◌<◌, ◌≤◌, false, true, IfOk, OnErr, OnOk, None, Some};
-ghost use Rattle.std.specs.Option.{option_map};
-ghost use Rattle.mn_base.specs.Store.{value_at};
-ghost use Rattle.mn_page.specs.Grammar.{IsPage, height_of};
-ghost use Rattle.mn_page.specs.Holds.{pairs_in};
+ghost use Rattle.mn_page.specs.Grammar.{IsPage, height_of, page_bytes};
 ghost use Rattle.mn_work.specs.Cached.{AreUsed, Puts, Walks, with_inner};
 ghost use Rattle.mn_work.specs.Descents.{FailsOff, DescentGoesOn, TakesPageBy, WantsPage};
 ghost use Rattle.mn_work.specs.Descents.{goes_by_kept};
@@ -16,9 +13,11 @@ use crate::causes::LEVELS;
 use crate::known::Known;
 use crate::next::{Next, Taken, fault_at};
 use crate::seen::is_leaf;
-use mn_base::{Addr, Founds, Key, NoMemory, Reply, Value, VersionNo};
+use mn_base::{Addr, Founds, Key, NoMemory, Reply, TryCopy, Value, VersionNo};
+use mn_cache::Spelled;
+use mn_mini::SharedBytes;
 use mn_page::{Body, Page, PageRef};
-use mn_path::{Front, child_for};
+use mn_path::{Front, child_for, value_in};
 use std::alloc::Global;
 
 /// A lone Get on its way down the tree of its version. The read of its leaf is all that has to be
@@ -41,20 +40,6 @@ enum Passed {
     Missing,
     /// The page is at fault.
     Fault { seq: u64 },
-}
-
-/// The value of a key in a leaf.
-fn value_in<'a>(leaf: &PageRef<'a>, key: &[u8]) -> Option<&'a [u8]>
-    requires page { IsPage leaf.now }
-    requires leaf { height_of leaf.now.body ≡ 0 }
-    ensures { option_map (λ v. v.now) result ≡ value_at (pairs_in leaf.now.body) key.now }
-{
-    for i in 0..leaf.count() {
-        if leaf.key(i) == key {
-            return Some(leaf.value(i));
-        }
-    }
-    None
 }
 
 fn value_of(alloc: Global, bytes: &[u8]) -> Result<Value, NoMemory>
@@ -173,9 +158,10 @@ impl Descent {
         let Some(kept) = &known.catalog else {
             return Passed::Missing;
         };
-        let Some(page) = known.cache.get(self.addr) else {
+        let Some(spelled) = known.cache.get(self.addr) else {
             return Passed::Missing;
         };
+        let page = &spelled.page;
         let front = Front::of_page(page);
         if !front.is_on_path(kept.tree(), self.version, key, self.above) {
             return Passed::Fault { seq: page.seq };
@@ -280,7 +266,7 @@ impl Descent {
         alloc: Global,
         known: &mut Known,
         key: &Key,
-        bytes: &[u8],
+        bytes: &SharedBytes,
     ) -> Result<Taken, NoMemory>
         requires pages { ArePages known.old.cache }
         requires above { IsAbove self.old.above }
@@ -291,14 +277,17 @@ impl Descent {
         ensures taken { DescentGoesOn known.old.catalog self.old key.now bytes.now self.new result }
     {
         let key = key.as_slice();
-        let Ok(Some(page)) = PageRef::new(bytes) else {
+        let Ok(Some(page)) = PageRef::new(bytes.as_slice()) else {
             return Ok(Taken::Fails {
                 cause: fault_at(self.addr, 0),
             });
         };
         if page.height() > 0 {
-            let inner = page.to_page(alloc)?;
-            return self.take_inner(alloc, known, key, inner);
+            let inner = Spelled {
+                page: page.to_page(alloc)?,
+                bytes: bytes.try_copy(alloc)?,
+            };
+            return self.take_inner(known, key, inner);
         }
         if !self.is_on_way(known, key, &Front::of_ref(&page)) {
             return Ok(Taken::Fails {
@@ -323,28 +312,28 @@ impl Descent {
     /// Takes the inner page that it needed, which is kept then.
     fn take_inner(
         &mut self,
-        alloc: Global,
         known: &mut Known,
         key: &[u8],
-        inner: Page,
+        inner: Spelled,
     ) -> Result<Taken, NoMemory>
-        requires page { IsPage inner }
-        requires high { 1 ≤ height_of inner.body }
+        requires page { IsPage inner.page }
+        requires spelled { inner.bytes ≡ page_bytes inner.page }
+        requires high { 1 ≤ height_of inner.page.body }
         requires pages { ArePages known.old.cache }
         requires above { IsAbove self.old.above }
         ensures kept { KeepsKnown known.old known.new }
         ensures put { OnOk result
-            (known.new.cache ≡ with_inner self.old.addr inner known.old.cache) }
+            (known.new.cache ≡ with_inner self.old.addr inner.page known.old.cache) }
         ensures left { OnErr result (known.new.cache ≡ known.old.cache) }
         ensures above { IsAbove self.new.above }
         ensures version { self.new.version ≡ self.old.version }
-        ensures taken { TakesPageBy known.old.catalog self.old key.now inner self.new result }
+        ensures taken { TakesPageBy known.old.catalog self.old key.now inner.page self.new result }
     {
         let addr = self.addr;
-        let seq = inner.seq;
-        let goes = self.is_on_way(known, key, &Front::of_page(&inner));
-        let below = self.below(&inner, key);
-        known.cache.put(alloc, addr, inner)?;
+        let seq = inner.page.seq;
+        let goes = self.is_on_way(known, key, &Front::of_page(&inner.page));
+        let below = self.below(&inner.page, key);
+        known.cache.put(addr, inner)?;
         if !goes {
             return Ok(Taken::Fails {
                 cause: fault_at(addr, seq),

@@ -1,6 +1,6 @@
 ghost use Rattle.std.specs.Prelude.{◌≡◌, IfOk, IfSome, OnErr, OnOk, nat_lt};
 ghost use Rattle.std.specs.Option.{option_map};
-ghost use Rattle.mn_page.specs.Grammar.{IsPage};
+ghost use Rattle.mn_page.specs.Grammar.{IsPage, page_bytes};
 ghost use Rattle.mn_work.specs.Cached.{AreUsed, with_inner};
 ghost use Rattle.mn_work.specs.Catalogs.{found, refusal_by, root_by};
 ghost use Rattle.mn_work.specs.Knows.{ArePages, KeepsKnown, LearnsFrom, lacks_catalog, new_known};
@@ -8,7 +8,8 @@ ghost use Rattle.mn_work.specs.Knows.{ArePages, KeepsKnown, LearnsFrom, lacks_ca
 use crate::catalog::{Kept, kept_of};
 use crate::seen::is_leaf;
 use mn_base::{Addr, Name, NoMemory, Op, Reply, TryCopy, VersionNo};
-use mn_cache::Cache;
+use mn_cache::{Cache, Spelled};
+use mn_mini::SharedBytes;
 use mn_page::Page;
 use std::alloc::Global;
 
@@ -81,9 +82,16 @@ impl Known {
         addr.node.0 < self.nodes
     }
 
-    /// Puts an inner page that was read into the cache.
-    pub fn keep_inner(&mut self, alloc: Global, addr: Addr, page: &Page) -> Result<(), NoMemory>
+    /// Puts an inner page that was read into the cache, with its bytes.
+    pub fn keep_inner(
+        &mut self,
+        alloc: Global,
+        addr: Addr,
+        page: &Page,
+        bytes: &SharedBytes,
+    ) -> Result<(), NoMemory>
         requires page { IsPage page.now }
+        requires bytes { bytes.now ≡ page_bytes page.now }
         ensures kept { KeepsKnown self.old self.new }
         ensures put { OnOk result (self.new.cache ≡ with_inner addr page.now self.old.cache) }
         ensures left { OnErr result (self.new.cache ≡ self.old.cache) }
@@ -91,21 +99,24 @@ impl Known {
         if is_leaf(page) {
             return Ok(());
         }
-        self.cache.put(alloc, addr, page.try_copy(alloc)?)?;
+        let page = page.try_copy(alloc)?;
+        let bytes = bytes.try_copy(alloc)?;
+        self.cache.put(addr, Spelled { page, bytes })?;
         Ok(())
     }
 
-    /// The inner page that is kept of this address, once more. NoMemory: there was no memory for
-    /// it.
+    /// The inner page that is kept of this address, once more, with its bytes. NoMemory: there was
+    /// no memory for it.
     #[inline(always)]
-    pub fn kept_page(&mut self, alloc: Global, addr: Addr) -> Result<Option<Page>, NoMemory>
+    pub fn kept_page(&mut self, alloc: Global, addr: Addr) -> Result<Option<Spelled>, NoMemory>
         requires pages { ArePages self.old.cache }
         ensures kept { KeepsKnown self.old self.new }
         ensures used { AreUsed self.old.cache self.new.cache }
-        ensures page { IfOk result (λ page. IfSome page IsPage) }
+        ensures page { IfOk result (λ kept. IfSome kept (λ s. IsPage s.page)) }
+        ensures spelled { IfOk result (λ kept. IfSome kept (λ s. s.bytes ≡ page_bytes s.page)) }
     {
         match self.cache.get(addr) {
-            Some(page) => Ok(Some(page.try_copy(alloc)?)),
+            Some(spelled) => Ok(Some(spelled.try_copy(alloc)?)),
             None => Ok(None),
         }
     }

@@ -13,6 +13,7 @@ use crate::known::Known;
 use crate::next::{Next, Taken, fault_at};
 use crate::seen::{is_leaf, page_in};
 use mn_base::{Addr, Busy, Name, NoMemory, TryCopy};
+use mn_mini::SharedBytes;
 use mn_page::Page;
 use mn_path::Front;
 use mn_scan::{ScanError, ScanRun, ScanStep};
@@ -97,7 +98,7 @@ fn pass_kept(
     ensures missing { IfOk result (IsUnmoved scan.old scan.new) }
 {
     let page = match known.cache.get(addr) {
-        Some(page) => page.try_copy(alloc)?,
+        Some(spelled) => spelled.page.try_copy(alloc)?,
         None => return Ok(Passage::Missing),
     };
     let taken = keep(scan, known, name, addr, page)?;
@@ -191,7 +192,7 @@ pub fn take_page(
     known: &mut Known,
     name: &Name,
     addr: Addr,
-    bytes: &[u8],
+    bytes: &SharedBytes,
 ) -> Result<Taken, NoMemory>
     requires needed { IsNeeded scan.old addr }
     requires above { IsAbove scan.old.above }
@@ -201,11 +202,11 @@ pub fn take_page(
     ensures taken { IfOk result (ScanGoesOn known.old name.now scan.old addr bytes.now scan.new) }
     ensures stays { IfOk result (StaysBefore scan.old scan.new) }
 {
-    let Some(page) = page_in(alloc, bytes)? else {
+    let Some(page) = page_in(alloc, bytes.as_slice())? else {
         return Ok(Taken::Fails {
             cause: fault_at(addr, 0),
         });
     };
-    known.keep_inner(alloc, addr, &page)?;
+    known.keep_inner(alloc, addr, &page, bytes)?;
     keep(scan, known, name, addr, page)
 }

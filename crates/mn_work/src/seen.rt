@@ -1,9 +1,8 @@
 ghost use Rattle.std.specs.Prelude.{◌≡◌, nat_eq, IfOk};
-ghost use Rattle.mn_page.specs.Grammar.{IsPage, height_of, page_bytes};
+ghost use Rattle.mn_page.specs.Grammar.{IsPage, height_of};
 ghost use Rattle.mn_work.specs.Seen.{TellsPage};
 
-use crate::place::SLOT_SIZE;
-use mn_base::{Bytes, NoMemory};
+use mn_base::NoMemory;
 use mn_page::{Body, Page, PageError};
 use std::alloc::Global;
 
@@ -27,14 +26,4 @@ pub fn page_in(alloc: Global, bytes: &[u8]) -> Result<Option<Page>, NoMemory>
         Err(PageError::BadPage { .. }) => Ok(None),
         Err(PageError::NoMemory) => Err(NoMemory),
     }
-}
-
-/// The bytes of a page.
-pub fn page_bytes(alloc: Global, page: &Page) -> Result<Bytes, NoMemory>
-    requires { IsPage page.now }
-    ensures { IfOk result (λ bytes. bytes ≡ page_bytes page.now) }
-{
-    let mut bytes = vec![in alloc; 0; SLOT_SIZE as usize]?;
-    page.write(&mut bytes);
-    Ok(Bytes::from_vec(bytes))
 }

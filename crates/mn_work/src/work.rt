@@ -27,9 +27,8 @@ use crate::known::Known;
 use crate::next::{Next, Taken, fault_at};
 use crate::place::CATALOG_NODE;
 use crate::scan;
-use mn_base::{
-    Addr, Answer, Bytes, Key, Name, NoMemory, Op, Reply, Step, Steps, TryCopy, VersionNo,
-};
+use mn_base::{Addr, Answer, Key, Name, NoMemory, Op, Reply, Step, Steps, TryCopy, VersionNo};
+use mn_mini::SharedBytes;
 use mn_scan::ScanRun;
 use std::alloc::Global;
 use std::mem;
@@ -361,7 +360,7 @@ impl Work {
         alloc: Global,
         known: &mut Known,
         addr: Addr,
-        bytes: Bytes,
+        bytes: SharedBytes,
     ) -> Result<Taken, NoMemory>
         requires pages { ArePages known.old.cache }
         requires job { IsJobOf known.old self.old }
@@ -374,15 +373,15 @@ impl Work {
         let later = self.is_later();
         match (&mut self.job, &self.op) {
             (Job::Get { descent }, Op::Tx { steps, .. }) => match lone_get(steps) {
-                Some(key) => descent.take_page(alloc, known, key, bytes.as_slice()),
+                Some(key) => descent.take_page(alloc, known, key, &bytes),
                 None => unreachable!(),
             },
             (Job::Transaction { attempt }, Op::Tx { steps, .. }) => {
                 attempt.take_page(alloc, known, steps, addr, bytes, later)
             }
-            (Job::Child { child }, _) => child.take_page(alloc, known, bytes.as_slice()),
+            (Job::Child { child }, _) => child.take_page(alloc, known, &bytes),
             (Job::Scan { scan }, Op::Scan { version, .. }) => {
-                scan::take_page(alloc, scan, known, version, addr, bytes.as_slice())
+                scan::take_page(alloc, scan, known, version, addr, &bytes)
             }
             _ => unreachable!(),
         }

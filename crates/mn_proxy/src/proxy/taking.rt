@@ -25,7 +25,7 @@ use crate::errand::{Errand, Purpose};
 use crate::step::ProxyStep;
 use mn_base::{Answer, Bytes, NoMemory, Tid};
 use mn_coord::{CoordStep, Coordinator, Outcome};
-use mn_mini::NodeReply;
+use mn_mini::{NodeReply, SharedBytes};
 use mn_work::{Known, Place, Taken, Task};
 use std::alloc::Global;
 
@@ -51,7 +51,7 @@ fn taken_for(
     work: &mut Task,
     known: &mut Known,
     purpose: Purpose,
-    bytes: Bytes,
+    bytes: SharedBytes,
 ) -> Result<Taken, NoMemory>
     requires pages { ArePages known.old.cache }
     requires waits { WaitsFor known.old work.old purpose }
@@ -206,7 +206,10 @@ impl Proxy {
         match purpose {
             Purpose::Plan { reply } => Ok(ends(Answer::Replied { reply })),
             purpose => match only_read(outcome) {
-                Some(bytes) => self.take(alloc, work, purpose, bytes),
+                Some(bytes) => match SharedBytes::new(bytes.into_vec()) {
+                    Ok(bytes) => self.take(alloc, work, purpose, bytes),
+                    Err(_) => Err(NoMemory),
+                },
                 None => Err(NoMemory),
             },
         }
@@ -219,7 +222,7 @@ impl Proxy {
         alloc: Global,
         work: Task,
         purpose: Purpose,
-        bytes: Bytes,
+        bytes: SharedBytes,
     ) -> Result<Turn, NoMemory>
         requires idle { self.old.work ≡ None }
         requires few { work.failed < max_tries }

@@ -1,6 +1,6 @@
 use Rattle.std.proofs.Common.{◌≡◌, ap, sym, ◌∙◌}
 use Rattle.mn_hist.specs.History.{Planner, begun_by, caller_state}
-use Rattle.mn_hist.proofs.Joining.{begun_there, no_issue, one_issue}
+use Rattle.mn_hist.proofs.Joining.{begun_there, one_issue}
 use Rattle.mn_hist.proofs.Putting.{on_ok}
 use Rattle.mn_hist.proofs.history.note_issue.Goals.{in-Some, in-None}
 use Rattle.mn_hist.proofs.history.note_issue.Goals as goal

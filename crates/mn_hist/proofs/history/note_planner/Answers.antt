@@ -1,5 +1,4 @@
-use Rattle.std.proofs.Common.{◌≡◌, Some, cond, ap, ◌∙◌}
-use Rattle.std.specs.HashMap.{get}
+use Rattle.std.proofs.Common.{Some, cond, ap, ◌∙◌}
 use Rattle.mn_world.specs.declared.flat.IdKey.{IdKey}
 use Rattle.mn_world.specs.Standing.{id_key, keys_same}
 use Rattle.mn_hist.specs.History.{planner_kept}

@@ -1,4 +1,4 @@
-use Rattle.std.proofs.Common.{List, [], length, take, ap, subst, sym}
+use Rattle.std.proofs.Common.{List, [], take, ap, subst, sym}
 use Rattle.mn_world.specs.declared.entry.Entry.{Entry}
 use Rattle.mn_world.specs.History.{Placed}
 use Rattle.mn_world.specs.Run.{IsRun, entries_of}

@@ -1,5 +1,4 @@
 use Rattle.std.proofs.Common.{List, take}
-use Rattle.mn_world.specs.declared.entry.Entry.{Entry}
 use Rattle.mn_world.specs.History.{Placed}
 use Rattle.mn_world.specs.Protocol.{Start}
 use Rattle.mn_world.specs.Run.{IsRun, entries_of}

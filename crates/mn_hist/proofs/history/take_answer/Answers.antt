@@ -1,9 +1,7 @@
-use Rattle.std.proofs.Common.{◌≡◌, ◌<◌, true, false, List, length, Option, Some, None, reverse, ap, subst, sym, ◌∙◌, arith}
-use Rattle.std.specs.Prelude.{slice_get, slice_set}
+use Rattle.std.proofs.Common.{◌≡◌, ◌<◌, List, length, Some, reverse, ap, subst, sym, ◌∙◌, arith}
 use Rattle.mn_base.specs.declared.answer.Answer.{Answer}
 use Rattle.mn_world.specs.Calls.{Begun}
-use Rattle.mn_world.specs.History.{AnswerPuts}
-use Rattle.mn_hist.specs.History.{Act, CallerState, Note, IsNotedPlace, AnswerIsInHistory, caller_state}
+use Rattle.mn_hist.specs.History.{CallerState, Note, IsNotedPlace, AnswerIsInHistory, caller_state}
 use Rattle.mn_hist.proofs.Putting.{on_ok, at_index, length_set, puts_none, idle_puts, stands_already, puts_read}
 use Rattle.mn_hist.proofs.history.take_answer.Goals as goal
 

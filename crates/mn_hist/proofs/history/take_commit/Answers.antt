@@ -1,4 +1,4 @@
-use Rattle.std.proofs.Common.{◌≡◌, ℕ, ◌&&◌, ◌||◌, nat_eq, length, Some, ap, subst, sym, ◌∙◌}
+use Rattle.std.proofs.Common.{◌≡◌, ℕ, ◌&&◌, ◌||◌, nat_eq, length, ap, subst, sym, ◌∙◌}
 use Rattle.mn_base.specs.Ids.{client_same}
 use Rattle.mn_base.specs.declared.ids.ClientNo.{ClientNo}
 use Rattle.mn_base.specs.declared.reply.Reply.TheVariants as Say

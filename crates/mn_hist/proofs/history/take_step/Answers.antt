@@ -1,4 +1,4 @@
-use Rattle.std.proofs.Common.{◌≡◌, ◌∷◌, Some, None, ap, sym, ◌∙◌}
+use Rattle.std.proofs.Common.{◌≡◌, Some, None, sym, ◌∙◌}
 use Rattle.mn_hist.proofs.Joining.{quiet_puts, takes_answer, takes_none}
 use Rattle.mn_hist.proofs.Putting.{on_ok}
 use Rattle.mn_hist.proofs.history.take_step.Goals as goal

@@ -1,6 +1,5 @@
-use Rattle.std.proofs.Common.{◌≡◌, List, length, map, take, refl, sym, ap, ◌∙◌, arith}
+use Rattle.std.proofs.Common.{List, map, sym, ap, ◌∙◌, arith}
 use Rattle.mn_base.specs.Store.{listed}
-use Rattle.mn_base.specs.declared.reply.Version.{Version}
 use Rattle.mn_page.specs.Forest.{entry_head, heads_in}
 use Rattle.mn_page.specs.declared.entry.CatEntry.{CatEntry}
 use Rattle.std.proofs.lemmas.List.{take_all}

@@ -1,4 +1,4 @@
-use Rattle.std.proofs.Common.{Bool, Option, Some, ap, sym, ◌∙◌}
+use Rattle.std.proofs.Common.{ap, sym, ◌∙◌}
 use Rattle.std.specs.Option.{option_map}
 use Rattle.mn_hist.specs.Shown.{as_seen}
 use Rattle.mn_hist.proofs.Leaves.{if_ok, catalog_tells, page_unshown, leaf_tells}

@@ -1,5 +1,4 @@
-use Rattle.std.proofs.Common.{◌≡◌, ap, ◌∙◌, map, Option, List, arith}
-use Rattle.mn_base.specs.declared.ids.VersionNo.{VersionNo}
+use Rattle.std.proofs.Common.{ap, ◌∙◌, map, List}
 use Rattle.mn_page.specs.declared.entry.CatEntry.{CatEntry}
 use Rattle.mn_vtree.specs.Parents.{numbers_of}
 use Rattle.std.proofs.lemmas.List.{take_all}

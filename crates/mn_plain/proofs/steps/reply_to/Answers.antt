@@ -2,12 +2,13 @@ use Rattle.std.proofs.Common.{rules, ◌≡◌, ◌∙◌, ◌++◌, ◌∷◌, 
 use Rattle.std.proofs.lemmas.List.{take_more}
 use Rattle.mn_base.specs.declared.op.Step.{Step}
 use Rattle.mn_plain.specs.Run.{pairs_after, StepTells}
+use Rattle.mn_plain.specs.Table.{shown}
 use Rattle.mn_plain.proofs.StepLemmas.{ran_on}
 use Rattle.mn_plain.proofs.steps.reply_to.Goals as goal
 
 pub loop-at-preserved : goal.loop-at-preserved
 loop-at-preserved c =
-    let ps = c.args.pairs.now in
+    let ps = shown c.args.table.now.entries in
     let steps = c.args.steps.now in
     let at = c.loop-at.at in
     let step = c.index-steps-at.result in

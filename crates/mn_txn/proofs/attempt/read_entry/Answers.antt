@@ -12,8 +12,8 @@ returns c =
     let t = c.args.txn.now in
     let v = c.args.version in
     let e = c.args.entry.now in
-    on_ok_weaker {P = c.read.new.self ≡ read_in t (node_no 0) c.entry_start.result c.as_slice.result.now}
+    on_ok_weaker {P = c.read.new.self ≡ read_in t (node_no 0) c.entry_start.result c.in_ok-bytes.bytes}
     {Q = c.read.new.self ≡ with_reads t (entry_read c.args.steps.now v e)} c.read.result
-    (λ kept. read_on c.read.new.self t t (node_no 0) c.entry_start.result (64 + 64 * v.0) c.as_slice.result.now (entry_bytes e) kept refl
-    c.entry_start.ensures (c.as_slice.ensures ∙ c.in_ok-bytes.ensures)
+    (λ kept. read_on c.read.new.self t t (node_no 0) c.entry_start.result (64 + 64 * v.0) c.in_ok-bytes.bytes (entry_bytes e) kept refl
+    c.entry_start.ensures c.in_ok-bytes.ensures
     ∙ ap (λ (b : Bool). with_reads t (if b then entry_image v e ∷ [] else [])) (sym c.if-not-has_change.false ∙ c.has_change.ensures)) c.read.ensures.kept

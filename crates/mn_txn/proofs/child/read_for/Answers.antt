@@ -1,4 +1,4 @@
-use Rattle.std.proofs.Common.{[], replicate, refl, ◌+◌, ◌*◌, ◌∙◌}
+use Rattle.std.proofs.Common.{[], replicate, refl, ◌+◌, ◌*◌}
 use Rattle.byteorder.specs.Endian.{big_bytes}
 use Rattle.mn_page.specs.Grammar.{page_bytes, entry_bytes}
 use Rattle.mn_world.specs.Growth.{node_no}
@@ -17,11 +17,11 @@ returns c =
     let one = read_in none e.root.node root (page_bytes c.args.root.now) in
     let two = read_in one (node_no 0) version (entry_bytes e) in
     let three = read_in two (node_no 0) number (replicate 64 0) in
-    read_on c.read-4.new.self c.read-3.new.self three s.node 16 16 c.as_slice-3.result.now (big_bytes 8 s.slot) c.in_ok-read-4.ensures.kept
-    (read_on c.read-3.new.self c.read-2.new.self two (node_no 0) c.entry_start-2.result number (replicate 64 0) (replicate 64 0) c.in_ok-read-3.ensures.kept
-    (read_on c.read-2.new.self c.read.new.self one (node_no 0) c.entry_start.result version c.as_slice-2.result.now (entry_bytes e) c.in_ok-read-2.ensures.kept
-    (read_on c.read.new.self c.in_ok-txn.txn none e.root.node c.slot_start-start.result root c.as_slice.result.now (page_bytes c.args.root.now) c.in_ok-read.ensures.kept
-    c.in_ok-txn.ensures c.slot_start-start.ensures (c.as_slice.ensures ∙ c.in_ok-page.ensures))
-    c.entry_start.ensures (c.as_slice-2.ensures ∙ c.in_ok-bytes.ensures))
-    c.entry_start-2.ensures refl)
-    refl (c.as_slice-3.ensures ∙ c.in_ok-count.ensures)
+    read_on c.read-4.new.self c.read-3.new.self three s.node 16 16 c.in_ok-count.count (big_bytes 8 s.slot) c.in_ok-read-4.ensures.kept
+    (read_on c.read-3.new.self c.read-2.new.self two (node_no 0) c.entry_start-2.result number c.in_ok-unused.unused (replicate 64 0) c.in_ok-read-3.ensures.kept
+    (read_on c.read-2.new.self c.read.new.self one (node_no 0) c.entry_start.result version c.in_ok-bytes.bytes (entry_bytes e) c.in_ok-read-2.ensures.kept
+    (read_on c.read.new.self c.in_ok-txn.txn none e.root.node c.slot_start-start.result root c.in_ok-page.page (page_bytes c.args.root.now) c.in_ok-read.ensures.kept
+    c.in_ok-txn.ensures c.slot_start-start.ensures c.in_ok-page.ensures)
+    c.entry_start.ensures c.in_ok-bytes.ensures)
+    c.entry_start-2.ensures c.in_ok-unused.ensures)
+    refl c.in_ok-count.ensures

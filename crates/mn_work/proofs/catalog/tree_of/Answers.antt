@@ -8,7 +8,7 @@ use Rattle.mn_vtree.specs.declared.error.TreeError.{TreeError}
 use Rattle.mn_vtree.specs.declared.error.TreeError.TheVariants.{BadParent, NoMemory}
 use Rattle.mn_world.specs.Answers.{ParentsAreBelow}
 use Rattle.mn_work.specs.Catalogs.{RefusesTree}
-use Rattle.mn_work.proofs.Bodies.{none_left}
+use Rattle.mn_path.proofs.Pairs.{none_left}
 use Rattle.mn_work.proofs.Versions.{below, none_below, parents_are}
 use Rattle.mn_work.proofs.catalog.tree_of.Goals as goal
 

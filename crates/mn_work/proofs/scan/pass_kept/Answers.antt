@@ -1,5 +1,5 @@
 use Rattle.std.proofs.Common.{◌∙◌, ◌≤◌, ap, refl, subst, sym}
-use Rattle.std.specs.Option.{option_copied}
+use Rattle.std.specs.Option.{option_map}
 use Rattle.mn_page.specs.Grammar.{IsPage, height_of}
 use Rattle.mn_page.specs.declared.page.Page.{Page}
 use Rattle.mn_work.specs.Knows.{ArePages}
@@ -14,7 +14,7 @@ returns-in_err-page-in-Some-clause-kept c =
 pub keep-requires-clause-page : goal.keep-requires-clause-page
 keep-requires-clause-page c =
     subst IsPage (sym c.in_ok-page-in-Some.ensures)
-    (found c.args.addr c.args.known.now.cache c.in-Some.page.now c.requires.pages (sym c.get.ensures.found ∙ ap option_copied c.in-Some.is)).0
+    (found c.args.addr c.args.known.now.cache c.in-Some.spelled.now.page c.requires.pages (sym c.get.ensures.found ∙ ap (option_map (λ s. s.now.page)) c.in-Some.is)).0
 
 pub returns-in_err-taken-clause-kept : goal.returns-in_err-taken-clause-kept
 returns-in_err-taken-clause-kept c =
@@ -28,7 +28,7 @@ pub returns-clause-alike : goal.returns-clause-alike
 returns-clause-alike c =
     let high : 1 ≤ height_of c.in_ok-page-in-Some.page.body =
     subst (λ (p : Page). 1 ≤ height_of p.body) (sym c.in_ok-page-in-Some.ensures)
-    (found c.args.addr c.args.known.now.cache c.in-Some.page.now c.requires.pages (sym c.get.ensures.found ∙ ap option_copied c.in-Some.is)).1 in
+    (found c.args.addr c.args.known.now.cache c.in-Some.spelled.now.page c.requires.pages (sym c.get.ensures.found ∙ ap (option_map (λ s. s.now.page)) c.in-Some.is)).1 in
     stays_alike c.args.known.now.catalog c.args.name.now c.args.scan.now c.keep.new.scan c.args.addr c.in_ok-page-in-Some.page c.in_ok-taken.taken high c.in_ok-taken.ensures.taken c.in_ok-taken.ensures.stays
 
 pub returns-clause-missing : goal.returns-clause-missing

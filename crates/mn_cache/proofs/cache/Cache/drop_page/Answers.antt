@@ -1,6 +1,6 @@
 use Rattle.std.proofs.Common.{◌≡◌, sym, ap, subst, ◌∙◌}
-use Rattle.mn_cache.specs.Pages.{pages_of, addr_of, pages_without, page_at, AreKept}
-use Rattle.mn_cache.proofs.Kept.{here, without, gone, kept_without}
+use Rattle.mn_cache.specs.Pages.{pages_of, addr_of, pages_without, page_at, AreKept, AreSpelled}
+use Rattle.mn_cache.proofs.Kept.{all_but, here, without, gone, kept_without}
 use Rattle.mn_cache.proofs.cache.Cache.drop_page.Goals as goal
 
 -- the pages inside, when one is out
@@ -13,6 +13,7 @@ pub invariant_of-self : goal.invariant_of-self
 invariant_of-self c = (
   ap (λ p. p.cap) c.pop.ensures.entries ∙ c.self.invariant.0,
   subst AreKept (sym (dropped c)) (kept_without c.args.addr _ c.self.invariant.1),
+  subst (λ p. AreSpelled p.entries) (sym c.pop.ensures.entries) (all_but _ _ c.self.inside.pages.entries c.self.invariant.2),
 )
 
 pub returns-clause-pages : goal.returns-clause-pages

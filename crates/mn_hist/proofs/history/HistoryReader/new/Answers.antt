@@ -1,4 +1,4 @@
-use Rattle.std.proofs.Common.{rules, length, refl, ap, ◌∙◌}
+use Rattle.std.proofs.Common.{rules, length, refl, ap}
 use Rattle.mn_hist.proofs.Joining.{all_idle}
 use Rattle.mn_hist.proofs.history.HistoryReader.new.Goals as goal
 

@@ -1,7 +1,7 @@
-use Rattle.std.proofs.Common.{refl, subst, sym, ◌∙◌}
+use Rattle.std.proofs.Common.{◌≡◌, refl, subst, sym, ◌∙◌}
 use Rattle.mn_proxy.specs.Agrees.{MayWant}
 use Rattle.mn_proxy.specs.Measure.{GoesBelow, left_after}
-use Rattle.mn_proxy.specs.Turns.{IsCommitted, IsSoundTurn, TurnAgrees}
+use Rattle.mn_proxy.specs.Turns.{IsCommitted, IsSoundTurn, TurnAgrees, read_alone}
 use Rattle.mn_proxy.proofs.Coordinating.{committed_read, done_read, on_err, plan_answered, read_may_want}
 use Rattle.std.proofs.Common.{Err, Ok, Result, Some, ap}
 use Rattle.mn_base.specs.declared.error.NoMemory.{NoMemory}
@@ -9,7 +9,7 @@ use Rattle.mn_proxy.specs.declared.errand.Purpose.{Purpose}
 use Rattle.mn_proxy.specs.declared.proxy.Turn.{Turn}
 use Rattle.mn_proxy.specs.Kept.{read_for}
 use Rattle.mn_work.specs.Walks.{is_later}
-use Rattle.mn_proxy.proofs.Kept.{cache_as, catalog_as, catalog_stays, leaf_as, read_none, read_some, unread_cache, unread_catalog, unread_leaf}
+use Rattle.mn_proxy.proofs.Kept.{cache_as, catalog_as, catalog_stays, leaf_as, read_none, read_some, unput_cache, unread_cache, unread_catalog, unread_leaf}
 use Rattle.mn_proxy.proofs.proxy.Proxy.commit.Goals as goal
 
 pub take-requires : goal.take-requires
@@ -48,29 +48,31 @@ returns-in-Plan-clause-leaf c = λ leaf.
     absurd (unread_leaf c.args.self.now.known c.args.work (read_for c.args.purpose c.args.outcome.reads.items)
     (ap (λ (p : Purpose). read_for p c.args.outcome.reads.items) c.in-Plan.is) leaf)
 
-pub returns-in-Some : goal.returns-in-Some
-returns-in-Some c = record {
-  sound = c.take.ensures.sound;
-  turns = λ es own is.
-      let d = committed_read es c.args.self.now.known c.args.work c.args.outcome.reads.items c.args.purpose c.in_default.not-Plan is in
-      c.take.ensures.turns es own (done_read es c.args.self.now.known c.args.work c.args.outcome.reads.items c.args.purpose c.in-Some.bytes d (sym c.only_read.ensures ∙ c.in-Some.is)) d.closed d.over;
-  want = λ es own is.
-      let d = committed_read es c.args.self.now.known c.args.work c.args.outcome.reads.items c.args.purpose c.in_default.not-Plan is in
-      on_err c.take.result (MayWant es) (read_may_want es c.args.self.now.known c.args.work c.args.outcome.reads.items c.args.purpose d);
-  left = λ es own is.
-      let d = committed_read es c.args.self.now.known c.args.work c.args.outcome.reads.items c.args.purpose c.in_default.not-Plan is in
-      c.take.ensures.left es own (done_read es c.args.self.now.known c.args.work c.args.outcome.reads.items c.args.purpose c.in-Some.bytes d (sym c.only_read.ensures ∙ c.in-Some.is));
-  kept = c.take.ensures.kept;
-  falls = c.take.ensures.falls;
-  cache = cache_as (read_for c.args.purpose c.args.outcome.reads.items) (Some (c.args.purpose, c.in-Some.bytes)) (is_later c.args.work.failed)
-      c.args.self.now.known.cache c.take.new.self.known.cache c.take.result
-      (read_some c.args.purpose c.args.outcome.reads.items c.in-Some.bytes c.in_default.not-Plan (sym c.only_read.ensures ∙ c.in-Some.is)) c.take.ensures.cache;
-  catalog = catalog_as (read_for c.args.purpose c.args.outcome.reads.items) (Some (c.args.purpose, c.in-Some.bytes))
-      c.args.self.now.known.catalog c.take.new.self.known.catalog c.take.result
-      (read_some c.args.purpose c.args.outcome.reads.items c.in-Some.bytes c.in_default.not-Plan (sym c.only_read.ensures ∙ c.in-Some.is)) c.take.ensures.catalog;
-  leaf = leaf_as c.args.self.now.known c.args.work (read_for c.args.purpose c.args.outcome.reads.items) (Some (c.args.purpose, c.in-Some.bytes)) c.take.result
-      (read_some c.args.purpose c.args.outcome.reads.items c.in-Some.bytes c.in_default.not-Plan (sym c.only_read.ensures ∙ c.in-Some.is)) c.take.ensures.leaf;
-}
+pub returns-in-Ok : goal.returns-in-Ok
+returns-in-Ok c =
+    let same = c.in-Ok.ensures ∙ c.into_vec.ensures in
+    let whole : read_alone c.args.outcome.reads.items ≡ Some c.in-Ok.bytes = sym c.only_read.ensures ∙ (c.in-Some.is ∙ ap Some (sym same)) in record {
+      sound = c.take.ensures.sound;
+      turns = λ es own is.
+          let d = committed_read es c.args.self.now.known c.args.work c.args.outcome.reads.items c.args.purpose c.in_default.not-Plan is in
+          c.take.ensures.turns es own (done_read es c.args.self.now.known c.args.work c.args.outcome.reads.items c.args.purpose c.in-Ok.bytes d whole) d.closed d.over;
+      want = λ es own is.
+          let d = committed_read es c.args.self.now.known c.args.work c.args.outcome.reads.items c.args.purpose c.in_default.not-Plan is in
+          on_err c.take.result (MayWant es) (read_may_want es c.args.self.now.known c.args.work c.args.outcome.reads.items c.args.purpose d);
+      left = λ es own is.
+          let d = committed_read es c.args.self.now.known c.args.work c.args.outcome.reads.items c.args.purpose c.in_default.not-Plan is in
+          c.take.ensures.left es own (done_read es c.args.self.now.known c.args.work c.args.outcome.reads.items c.args.purpose c.in-Ok.bytes d whole);
+      kept = c.take.ensures.kept;
+      falls = c.take.ensures.falls;
+      cache = cache_as (read_for c.args.purpose c.args.outcome.reads.items) (Some (c.args.purpose, c.in-Ok.bytes)) (is_later c.args.work.failed)
+          c.args.self.now.known.cache c.take.new.self.known.cache c.take.result
+          (read_some c.args.purpose c.args.outcome.reads.items c.in-Ok.bytes c.in_default.not-Plan whole) c.take.ensures.cache;
+      catalog = catalog_as (read_for c.args.purpose c.args.outcome.reads.items) (Some (c.args.purpose, c.in-Ok.bytes))
+          c.args.self.now.known.catalog c.take.new.self.known.catalog c.take.result
+          (read_some c.args.purpose c.args.outcome.reads.items c.in-Ok.bytes c.in_default.not-Plan whole) c.take.ensures.catalog;
+      leaf = leaf_as c.args.self.now.known c.args.work (read_for c.args.purpose c.args.outcome.reads.items) (Some (c.args.purpose, c.in-Ok.bytes)) c.take.result
+          (read_some c.args.purpose c.args.outcome.reads.items c.in-Ok.bytes c.in_default.not-Plan whole) c.take.ensures.leaf;
+    }
 
 pub returns-in-None : goal.returns-in-None
 returns-in-None c = record {
@@ -83,6 +85,20 @@ returns-in-None c = record {
   falls = tt;
   cache = unread_cache (read_for c.args.purpose c.args.outcome.reads.items) (is_later c.args.work.failed) c.args.self.now.known.cache c.args.self.now.known.cache (Err _)
       (read_none c.args.purpose c.args.outcome.reads.items (sym c.only_read.ensures ∙ c.in-None.is)) refl;
+  catalog = tt;
+  leaf = λ leaf. tt;
+}
+
+pub returns-in-Err : goal.returns-in-Err
+returns-in-Err c = record {
+  sound = tt;
+  turns = λ es own is. tt;
+  want = λ es own is. read_may_want es c.args.self.now.known c.args.work c.args.outcome.reads.items c.args.purpose
+      (committed_read es c.args.self.now.known c.args.work c.args.outcome.reads.items c.args.purpose c.in_default.not-Plan is);
+  left = λ es own is. own;
+  kept = ((refl, refl, refl), c.requires.idle);
+  falls = tt;
+  cache = unput_cache (read_for c.args.purpose c.args.outcome.reads.items) (is_later c.args.work.failed) c.args.self.now.known.cache _;
   catalog = tt;
   leaf = λ leaf. tt;
 }

@@ -1,8 +1,5 @@
-use Rattle.std.proofs.Common.{◌<◌, refl, sym, subst, ℕ, length, Option}
-use Rattle.std.specs.Prelude.{IfSome}
+use Rattle.std.proofs.Common.{◌<◌, refl, sym, subst, ℕ, length}
 use Rattle.std.proofs.lemmas.Option.{slice_get_within}
-use Rattle.mn_page.specs.declared.page.Page.{Page}
-use Rattle.mn_page.specs.Grammar.{IsPage}
 use Rattle.mn_work.specs.Attempts.{ComesIn}
 use Rattle.mn_work.proofs.Attempts.{by_kept, comes_on}
 use Rattle.mn_work.proofs.attempt.Attempt.reach_kept.Goals as goal
@@ -12,11 +9,11 @@ returns-then-branch-clause-moved c = (
   refl,
   subst (λ (n : ℕ). n < length c.args.steps.now) (sym c.in_ok-keep.ensures.stays.2)
       (slice_get_within c.args.steps.now c.args.self.now.done c.requires.asks.step c.requires.asks.next),
-  by_kept c.args.known.now c.kept_page.new.self c.args.steps.now c.in_ok-page.ensures.kept c.args.self.now c.keep.new.self
+  by_kept c.args.known.now c.kept_page.new.self c.args.steps.now c.in_ok-kept.ensures.kept c.args.self.now c.keep.new.self
       (λ entries is way.
-      comes_on c.args.known.now.nodes entries c.args.steps.now c.args.self.now c.keep.new.self way c.args.addr c.requires.asks c.requires.node c.in-Some.page
-      (subst (λ (o : Option Page). IfSome o IsPage) c.in-Some.is c.in_ok-page.ensures.page)
+      comes_on c.args.known.now.nodes entries c.args.steps.now c.args.self.now c.keep.new.self way c.args.addr c.requires.asks c.requires.node c.in-Some.kept.page
+      (rw c.in-Some.is at c.in_ok-kept.ensures.page)
       c.pages_are_known.ensures.pages c.pages_are_known.ensures.slots c.pages_are_known.ensures.come c.in_ok-keep.ensures.stays
-      (subst (ComesIn c.args.self.now c.args.addr c.in-Some.page c.keep.new.self) c.if-branch.true c.in_ok-keep.ensures.comes))
+      (subst (ComesIn c.args.self.now c.args.addr c.in-Some.kept.page c.keep.new.self) c.if-branch.true c.in_ok-keep.ensures.comes))
       c.requires.way,
 )

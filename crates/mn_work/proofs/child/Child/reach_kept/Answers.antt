@@ -1,5 +1,5 @@
 use Rattle.std.proofs.Common.{◌∙◌, false, Option, ap, refl, subst, sym}
-use Rattle.std.specs.Option.{option_copied}
+use Rattle.std.specs.Option.{option_map}
 use Rattle.mn_page.specs.Grammar.{IsPage}
 use Rattle.mn_work.specs.declared.next.Next.{Next}
 use Rattle.mn_work.specs.Children.{WantsRoot}
@@ -15,7 +15,7 @@ returns-in_err-page-in-Some-clause-kept c =
 pub keep-taken-requires : goal.keep-taken-requires
 keep-taken-requires c = record {
   page = subst IsPage (sym c.in_ok-page-in-Some.ensures)
-      (found c.args.self.now.root c.args.known.now.cache c.in-Some.page.now c.requires.pages (sym c.get.ensures.found ∙ ap option_copied c.in-Some.is)).0;
+      (found c.args.self.now.root c.args.known.now.cache c.in-Some.spelled.now.page c.requires.pages (sym c.get.ensures.found ∙ ap (option_map (λ s. s.now.page)) c.in-Some.is)).0;
 }
 
 pub returns-clause-kept : goal.returns-clause-kept
@@ -26,7 +26,7 @@ pub returns-clause-wants : goal.returns-clause-wants
 returns-clause-wants c =
     let is : IsPage c.in_ok-page-in-Some.page =
     subst IsPage (sym c.in_ok-page-in-Some.ensures)
-    (found c.args.self.now.root c.args.known.now.cache c.in-Some.page.now c.requires.pages (sym c.get.ensures.found ∙ ap option_copied c.in-Some.is)).0 in
+    (found c.args.self.now.root c.args.known.now.cache c.in-Some.spelled.now.page c.requires.pages (sym c.get.ensures.found ∙ ap (option_map (λ s. s.now.page)) c.in-Some.is)).0 in
     subst (λ (next : Option Next). WantsRoot c.args.known.now false c.args.self.now c.keep-taken.new.self next) (sym c.failing.ensures)
     (takes_kept c.args.known.now c.args.self.now c.keep-taken.new.self c.in_ok-page-in-Some.page c.keep-taken.result is c.requires.node c.keep-taken.ensures.taken)
 

@@ -15,15 +15,15 @@ pub returns-clause-kept : goal.returns-clause-kept
 returns-clause-kept c =
     let high : 1 ≤ height_of c.args.page.now.body =
     some_height (height_of c.args.page.now.body) (c.if-is_leaf.ensures c.requires.page) in
-    let same = c.in_ok-try_copy.ensures in (
+    let same = c.in_ok-page.ensures in (
       refl,
       refl,
       λ are. subst ArePages (sym c.in_ok-put.ensures.pages)
-          (put c.args.addr c.in_ok-try_copy.field-0 c.args.self.now.cache (subst IsPage (sym same) c.requires.page) (subst (λ (p : Page). 1 ≤ height_of p.body) (sym same) high) are),
+          (put c.args.addr c.in_ok-page.page c.args.self.now.cache (subst IsPage (sym same) c.requires.page) (subst (λ (p : Page). 1 ≤ height_of p.body) (sym same) high) are),
     )
 
 pub returns-clause-put : goal.returns-clause-put
 returns-clause-put c =
     let cache = c.args.self.now.cache in
     subst (λ (b : Bool). c.put.new.self ≡ (if b then cache else pages_put c.args.addr c.args.page.now cache)) (c.if-is_leaf.ensures c.requires.page)
-    (c.in_ok-put.ensures.pages ∙ ap (λ (p : Page). pages_put c.args.addr p cache) c.in_ok-try_copy.ensures)
+    (c.in_ok-put.ensures.pages ∙ ap (λ (p : Page). pages_put c.args.addr p cache) c.in_ok-page.ensures)

@@ -63,7 +63,7 @@ returns-in-Some-clause-taken c =
     (get_takes c.args.known.now c.in-Get-Tx.descent c.take_page.new.self key c.args.bytes c.take_page.result
     (get_kept c.args.known.now c.args.self.now.op c.args.self.now.job _ c.in-Get-Tx.steps c.in-Get-Tx.descent c.in-Get-Tx.is-1 c.in-Get-Tx.is-0 c.requires.job)
     c.take_page.ensures.above c.take_page.ensures.version
-    (subst (λ (b : List ℕ). DescentGoesOn c.args.known.now.catalog c.in-Get-Tx.descent key b c.take_page.new.self c.take_page.result) c.as_slice.ensures c.take_page.ensures.taken))
+    c.take_page.ensures.taken)
 
 -- a Snapshot or a Branch stays on its way with its root page, or where it failed
 child_takes : (known : Known) (op : Op) (bytes : List ℕ) (c d : Child) (taken : Taken)
@@ -144,7 +144,7 @@ returns-in-Child-default-clause-taken c =
           (child_takes known op c.args.bytes child after taken (child_way known op c.args.self.now.job child c.in-Child-default.is-0 c.requires.job) c.take_page-in-Child-default.ensures.stays
           (subst (λ (a : Addr). a.node.0 < known.nodes) (sym asks.0) asks.2) asks.1 takes),
     ))
-    (subst (λ (b : List ℕ). IfOk c.take_page-in-Child-default.result (TakesRootBytes known.catalog child b after)) c.as_slice-in-Child-default.ensures c.take_page-in-Child-default.ensures.taken)
+    c.take_page-in-Child-default.ensures.taken
 
 -- a scan goes on, or stands before the same leaf
 
@@ -169,5 +169,5 @@ returns-in-Scan-Scan-clause-taken c =
     IfOk-weaker c.take_page-in-Scan-Scan.result (ScanTakes c.args.known.now name c.args.addr c.args.bytes scan after) _
     (λ taken takes. (refl, of_scan c.args.known.now _ c.args.addr c.args.bytes c.args.self.now.op c.args.self.now.job name _ _ _ scan after taken c.in-Scan-Scan.is-1 c.in-Scan-Scan.is-0 takes))
     (scan_takes c.args.known.now name c.args.addr c.args.bytes scan after c.take_page-in-Scan-Scan.result c.take_page-in-Scan-Scan.ensures.above
-    (subst (λ (b : List ℕ). IfOk c.take_page-in-Scan-Scan.result (ScanGoesOn c.args.known.now name scan c.args.addr b after)) c.as_slice-in-Scan-Scan.ensures c.take_page-in-Scan-Scan.ensures.taken)
+    c.take_page-in-Scan-Scan.ensures.taken
     c.take_page-in-Scan-Scan.ensures.stays)

@@ -5,25 +5,25 @@ use mn_base::{NoMemory, TryCopy};
 use std::alloc::Global;
 use std::marker::Model;
 
-/// The bytes that an item compares or writes. Copies share one memory. Contracts see them as a
-/// list.
+/// Bytes that an item compares or writes, or that a Peek has read. Copies share one memory.
+/// Contracts see them as a list.
 #[derive(Debug, Drop)]
-pub struct ItemBytes {
+pub struct SharedBytes {
     block: Block,
 }
 
-impl Model for ItemBytes {
+impl Model for SharedBytes {
     ghost Value = { List ℕ };
 
     ghost view = { λ b. b.block };
 }
 
-impl ItemBytes {
+impl SharedBytes {
     /// These bytes, which are not copied. NoMemory: there was no memory to count their owners.
     pub fn new(bytes: Vec<u8>) -> Result<Self, NoMemory>
         ensures { IfOk result (λ b. b ≡ bytes.items) }
     {
-        Ok(ItemBytes {
+        Ok(SharedBytes {
             block: Block::from_vec(bytes)?,
         })
     }
@@ -35,9 +35,9 @@ impl ItemBytes {
     }
 }
 
-impl TryCopy for ItemBytes {
+impl TryCopy for SharedBytes {
     fn try_copy(&self, _alloc: Global) -> Result<Self, NoMemory> {
-        Ok(ItemBytes {
+        Ok(SharedBytes {
             block: self.block.clone()?,
         })
     }

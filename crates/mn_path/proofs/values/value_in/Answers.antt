@@ -1,6 +1,6 @@
 use Rattle.std.proofs.Common.{sym, ◌∙◌, arith}
-use Rattle.mn_work.proofs.Bodies.{has_none, has_other, has_value, is_leaf, leaf_counts}
-use Rattle.mn_work.proofs.get.value_in.Goals as goal
+use Rattle.mn_path.proofs.Pairs.{has_none, has_other, has_value, is_leaf, leaf_counts}
+use Rattle.mn_path.proofs.values.value_in.Goals as goal
 
 pub key-requires : goal.key-requires
 key-requires c =
