@@ -575,8 +575,9 @@ no_call n what e = ap (λ (m : Option NodeNo). call_in m what) e
 same_calls : (es : List Entry) (e : Entry) → e.node ≡ None → calls_of (e ∷ es) ≡ calls_of es
 same_calls es e none = ap (λ (cs : List Call). cs ++ calls_of es) (no_call e.node e.what none)
 
-abandons : (c : Coordination) → step_of c ≡ Abandon → stage_in c ≡ At.Abandon
-abandons c step = by (stage_in c) refl step
+-- a step that tells of giving up is the stage of it
+pub abandon_at : (c : Coordination) → step_of c ≡ Abandon → stage_in c ≡ At.Abandon
+abandon_at c step = by (stage_in c) refl step
   where
     by : (stage : Stage) → stage_in c ≡ stage → step_at c stage ≡ Abandon → stage_in c ≡ At.Abandon
     by At.Ask s f = absurd cc
@@ -594,7 +595,7 @@ abandoned_agrees es e c a step none what = record {
   ever = ap (issue_named c.tid) (same_issues es e (ap issue_in what)) ∙ a.ever;
   some = a.some;
   within = a.within;
-  untold = λ o. absurd (let r = ((refusing (count c) c.done c.refused c.told c.decided At.Abandon (abandons c step)).0 refl).0 in let both : Some r.reply ≡ None = sym r.is ∙ o in cc);
+  untold = λ o. absurd (let r = ((refusing (count c) c.done c.refused c.told c.decided At.Abandon (abandon_at c step)).0 refl).0 in let both : Some r.reply ≡ None = sym r.is ∙ o in cc);
   told = ap (λ (w : What). is_abandonment c.tid w || was_abandoned c.tid es) what ∙ ap (λ b. b || was_abandoned c.tid es) (tid_same-refl c.tid);
   done = λ i l. ap (list_any (λ (k : Call). node_same k.node (participant c i) && (is_try c.tid k.request && is_done k.reply))) (same_calls es e none) ∙ a.done i l;
   votes = λ two i l below. ap (list_any (λ (k : Call). node_same k.node (participant c i) && (is_prepare c.tid k.request && is_done k.reply))) (same_calls es e none) ∙ a.votes two i l below;

@@ -34,7 +34,7 @@ pub record Coordination : Type 0 where
   -- whether a request is out
   pub asked : Bool
 
--- it was not asked for yet
+-- a coordinator that has just begun
 abbrev pub new_coordination : Tid → Mini → Coordination
 new_coordination tid mini = record {
   tid = tid;

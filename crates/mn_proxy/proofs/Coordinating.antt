@@ -33,6 +33,7 @@ use Rattle.mn_coord.specs.Legal.{Agrees as CoordAgrees, MayMake}
 use Rattle.mn_coord.specs.declared.stage.Stage.{Stage}
 use Rattle.mn_coord.specs.declared.stage.Stage.TheVariants as At
 use Rattle.mn_coord.specs.declared.step.CoordStep.TheVariants.{Send, Abandon, Committed, Failed, Doubt}
+use Rattle.mn_coord.proofs.Legal.{abandon_at}
 use Rattle.mn_coord.proofs.Endings.{committed_at, done_is_settled, doubt_is_shown, failed_at, failed_is_given_up}
 use Rattle.mn_proxy.specs.declared.errand.Errand.TheVariants as out
 use Rattle.mn_proxy.specs.declared.errand.Purpose.{Purpose}
@@ -97,19 +98,6 @@ commits_unrefused n done (Some reply) told decided e = absurd (all (is_stopped_a
     all false false true d f = absurd cc
     all false false false true f = absurd cc
     all false false false false f = absurd cc
-
--- what a step tells of the stage
-abandon_at : (c : Coordination) → step_of c ≡ Abandon → stage_in c ≡ At.Abandon
-abandon_at c step = by (stage_in c) refl step
-  where
-    by : (stage : Stage) → stage_in c ≡ stage → step_at c stage ≡ Abandon → stage_in c ≡ At.Abandon
-    by At.Ask s f = absurd cc
-    by At.Commit s f = absurd cc
-    by At.Abandon s f = s
-    by At.Cancel s f = absurd cc
-    by At.Committed s f = absurd cc
-    by At.Failed s f = absurd cc
-    by At.Doubt s f = absurd cc
 
 -- A job begins anew
 

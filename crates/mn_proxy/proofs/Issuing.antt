@@ -8,7 +8,7 @@ use Rattle.mn_base.specs.declared.ids.Tid.{Tid}
 use Rattle.mn_base.specs.declared.op.Op.{Op}
 use Rattle.mn_base.specs.declared.op.Op.TheVariants.{Tx, Snapshot, Branch, Scan, Versions}
 use Rattle.mn_base.specs.declared.reply.Reply.{Reply}
-use Rattle.mn_coord.specs.Coordination.{Coordination}
+use Rattle.mn_coord.specs.Coordination.{Coordination, new_coordination}
 use Rattle.mn_coord.specs.Legal.{Agrees as CoordAgrees, IsFresh}
 use Rattle.mn_mini.specs.declared.item.Item.TheVariants.{Read}
 use Rattle.mn_mini.specs.Mini.{IsSound, Mini}
@@ -40,7 +40,7 @@ use Rattle.mn_proxy.specs.Issues.{are_closed, tid_of}
 use Rattle.mn_proxy.specs.Jobs.{ReadsShow, ScanShown}
 use Rattle.mn_proxy.specs.State.{ProxyState}
 use Rattle.mn_proxy.specs.Tries.{IsTrying}
-use Rattle.mn_proxy.specs.Turns.{ComparesFor, MayIssue, TurnAgrees, new_coordination, read_mini}
+use Rattle.mn_proxy.specs.Turns.{ComparesFor, MayIssue, TurnAgrees, read_mini}
 use Rattle.mn_work.specs.Walks.{IfLater}
 use Rattle.mn_work.specs.Works.{IsStartable, new_work}
 use Rattle.mn_proxy.proofs.Issues.{GoesOn, closed_are_settled, closed_follow, closed_none, closed_since, fresh_begun, fresh_next}

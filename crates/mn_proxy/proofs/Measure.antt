@@ -3,7 +3,7 @@ use Rattle.std.proofs.Common.{◌≡◌, ℕ, suc, ◌+◌, ◌-◌, ◌*◌, �
 use Rattle.std.specs.Prelude.{filter, IfOk, nat_lt, nat_eq}
 use Rattle.std.proofs.lemmas.Bool.{ltb-true}
 use Rattle.std.proofs.lemmas.List.FromFn.{length-map-range_with_len}
-use Rattle.mn_coord.specs.Coordination.{Coordination, after_reply, after_step, fed, fed_at, is_stopped_at_last, stage_in, stage_of, stage_refused, step_at, step_of}
+use Rattle.mn_coord.specs.Coordination.{Coordination, after_reply, after_step, fed, fed_at, is_stopped_at_last, new_coordination, stage_in, stage_of, stage_refused, step_at, step_of}
 use Rattle.mn_coord.specs.declared.stage.Stage.{Stage}
 use Rattle.mn_coord.specs.declared.stage.Stage.TheVariants as At
 use Rattle.mn_coord.specs.declared.step.CoordStep.TheVariants.{Send, Abandon}
@@ -27,7 +27,7 @@ use Rattle.mn_proxy.specs.declared.step.ProxyStep.{ProxyStep}
 use Rattle.mn_proxy.specs.declared.step.ProxyStep.TheVariants as steps
 use Rattle.mn_work.specs.declared.work.Work.{Work}
 use Rattle.mn_proxy.specs.State.{IsOutIn, ProxyState}
-use Rattle.mn_proxy.specs.Turns.{IsFed, IsOutFor, new_coordination, with_known, with_work}
+use Rattle.mn_proxy.specs.Turns.{IsFed, IsOutFor, with_known, with_work}
 use Rattle.mn_proxy.proofs.Opens.{with_serial}
 
 -- Serials and Peeks

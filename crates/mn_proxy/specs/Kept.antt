@@ -9,7 +9,7 @@ use Rattle.mn_base.specs.declared.ids.NodeNo.{NodeNo}
 use Rattle.mn_base.specs.declared.ids.Tid.{Tid}
 use Rattle.mn_base.specs.declared.error.NoMemory.{NoMemory}
 use Rattle.mn_cache.specs.Pages.{pages_without}
-use Rattle.mn_coord.specs.Coordination.{Coordination, after_step, step_of}
+use Rattle.mn_coord.specs.Coordination.{Coordination, after_step, new_coordination, step_of}
 use Rattle.mn_coord.specs.declared.step.CoordStep.{CoordStep}
 use Rattle.mn_coord.specs.declared.step.CoordStep.TheVariants.{Committed, Send}
 use Rattle.mn_mini.specs.Mini.{Mini}
@@ -29,7 +29,7 @@ use Rattle.mn_work.specs.declared.work.Work.{Work}
 use Rattle.mn_work.specs.Cached.{AreUsed, Puts}
 use Rattle.mn_work.specs.Catalogs.{TellsVersions}
 use Rattle.mn_proxy.specs.State.{ProxyState}
-use Rattle.mn_proxy.specs.Turns.{new_coordination, read_alone, with_work}
+use Rattle.mn_proxy.specs.Turns.{read_alone, with_work}
 use Rattle.mn_work.specs.Walks.{is_later}
 
 -- What was read

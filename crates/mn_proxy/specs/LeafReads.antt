@@ -6,7 +6,7 @@ use Rattle.mn_base.specs.declared.answer.Answer.TheVariants as answers
 use Rattle.mn_base.specs.declared.error.NoMemory.{NoMemory}
 use Rattle.mn_base.specs.declared.op.Op.{Op}
 use Rattle.mn_base.specs.declared.ids.Tid.{Tid}
-use Rattle.mn_coord.specs.Coordination.{Coordination, after_step, fed, step_of}
+use Rattle.mn_coord.specs.Coordination.{Coordination, after_step, fed, new_coordination, step_of}
 use Rattle.mn_coord.specs.declared.step.CoordStep.TheVariants.{Committed, Send}
 use Rattle.mn_mini.specs.declared.part.PartItem.TheVariants as Bare
 use Rattle.mn_mini.specs.declared.reply.NodeReply.TheVariants as Say
@@ -32,7 +32,7 @@ use Rattle.mn_work.specs.Descents.{is_on_way, values_at}
 use Rattle.mn_work.specs.Paths.{GetsAt}
 use Rattle.mn_proxy.specs.Kept.{Issues, read_by}
 use Rattle.mn_proxy.specs.State.{ProxyState}
-use Rattle.mn_proxy.specs.Turns.{new_coordination, read_mini}
+use Rattle.mn_proxy.specs.Turns.{read_mini}
 
 -- it has read its leaf, which serves its version, covers its key, and stands where a leaf may
 pub record HasLeaf (known : Known) (w : Work) (read : Option (Purpose × List ℕ)) : Type 0 where

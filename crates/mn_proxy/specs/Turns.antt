@@ -1,20 +1,20 @@
 -- How an operation goes on in the hands of its proxy: what is so of it whatever its client's list
 -- holds, and what its turn leaves.
 use Rattle.std.specs.Prelude.{ℕ, ◌≡◌, ◌+◌, ◌<◌, ◌≤◌, ◌⊎◌, ◌≢◌, true, false, IsTrue, List, [], ◌∷◌}
-use Rattle.std.specs.Prelude.{length, replicate, Option, Some, None, ⊤, MatchOption}
+use Rattle.std.specs.Prelude.{length, Option, Some, None, ⊤, MatchOption}
 use Rattle.std.specs.List.{list_any}
 use Rattle.mn_base.specs.declared.answer.Busy.{Busy}
 use Rattle.mn_base.specs.declared.ids.NodeNo.{NodeNo}
 use Rattle.mn_base.specs.declared.ids.Tid.{Tid}
 use Rattle.mn_base.specs.declared.op.Op.{Op}
-use Rattle.mn_coord.specs.Coordination.{Coordination, fed, step_of}
+use Rattle.mn_coord.specs.Coordination.{Coordination, fed, new_coordination, step_of}
 use Rattle.mn_coord.specs.Legal.{Agrees as CoordAgrees, IsAnswered, IsAsking}
 use Rattle.mn_coord.specs.declared.step.CoordStep.TheVariants.{Send}
 use Rattle.mn_mini.specs.declared.item.Item.TheVariants.{Read}
 use Rattle.mn_mini.specs.declared.reply.NodeReply.{NodeReply}
 use Rattle.mn_mini.specs.declared.reply.NodeReply.TheVariants as Say
 use Rattle.mn_mini.specs.declared.request.Request.{Request}
-use Rattle.mn_mini.specs.Mini.{Mini, participants_of}
+use Rattle.mn_mini.specs.Mini.{Mini}
 use Rattle.mn_world.specs.declared.entry.Entry.{Entry}
 use Rattle.mn_world.specs.Answers.{LastPlanReplies, MeetsFault, are_given_up, are_settled}
 use Rattle.mn_world.specs.Answers.{is_down_cause, is_refusal}
@@ -194,19 +194,6 @@ abbrev pub read_mini : ℕ → Place → Mini
 read_mini nodes place = record {
   nodes = nodes;
   items = Read place.node place.start place.length ∷ [];
-}
-
--- a coordinator that has just begun
-abbrev pub new_coordination : Tid → Mini → Coordination
-new_coordination tid mini = record {
-  tid = tid;
-  mini = mini;
-  done = 0;
-  reads = replicate (length (participants_of mini)) [];
-  refused = None;
-  told = false;
-  decided = 0;
-  asked = false;
 }
 
 -- the compares of a plan are shown

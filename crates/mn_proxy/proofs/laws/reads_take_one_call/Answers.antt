@@ -7,7 +7,7 @@ use Rattle.std.proofs.lemmas.List.{length-replicate}
 use Rattle.mn_base.specs.Ids.{node_same}
 use Rattle.mn_base.specs.declared.ids.NodeNo.{NodeNo}
 use Rattle.mn_base.specs.declared.ids.Tid.{Tid}
-use Rattle.mn_coord.specs.Coordination.{Coordination, fed_at, participant, stage_in, stage_of, step_at, step_of, try_request}
+use Rattle.mn_coord.specs.Coordination.{Coordination, fed_at, new_coordination, participant, stage_in, stage_of, step_at, step_of, try_request}
 use Rattle.mn_coord.specs.declared.stage.Stage.{Stage}
 use Rattle.mn_coord.specs.declared.stage.Stage.TheVariants as At
 use Rattle.mn_coord.specs.declared.step.CoordStep.TheVariants.{Committed, Send}
@@ -17,7 +17,7 @@ use Rattle.mn_mini.proofs.Parts.{named_takes_part}
 use Rattle.mn_mini.specs.declared.reply.NodeReply.TheVariants as Say
 use Rattle.mn_world.specs.Places.{Place}
 use Rattle.mn_proxy.specs.LeafReads.{read_request, with_bytes}
-use Rattle.mn_proxy.specs.Turns.{new_coordination, read_mini}
+use Rattle.mn_proxy.specs.Turns.{read_mini}
 use Rattle.mn_proxy.proofs.Feeding.{asks_read, only_reads, read_few}
 use Rattle.mn_proxy.proofs.laws.reads_take_one_call.Goals as goal
 
