@@ -101,16 +101,27 @@ fn front_bytes(alloc: Global, node: u8, nodes: u8) -> Result<Vec<u8>, AllocError
     Ok(front)
 }
 
-/// The space that this node, of so many, begins with: the header, the count, and on node 0 the
-/// entry of `main` and its empty leaf. NoMemory: there was no memory for it.
+/// What the space of this node, of so many, begins with: the header, the count, and on node 0 the
+/// entry of `main` and its empty leaf. What follows in the space is zeros. NoMemory: there was no
+/// memory for it.
+pub fn base_bytes(alloc: Global, node: u8, nodes: u8) -> Result<Vec<u8>, NoMemory>
+    requires { 0 < nodes }
+    ensures space { IfOk result (λ bytes. padded space_length bytes.items ≡ base_of nodes node) }
+    ensures short { IfOk result (λ bytes. length bytes.items ≤ space_length) }
+{
+    let mut bytes = front_bytes(alloc, node, nodes)?;
+    let slots = slot_bytes(alloc, node)?;
+    bytes.extend_from_slice(&slots)?;
+    Ok(bytes)
+}
+
+/// The space that this node, of so many, begins with. NoMemory: there was no memory for it.
 pub fn base_space(alloc: Global, node: u8, nodes: u8) -> Result<Vec<u8>, NoMemory>
     requires { 0 < nodes }
     ensures space { IfOk result (λ space. space.items ≡ base_of nodes node) }
     ensures whole { IfOk result (λ space. length space.items ≡ space_length) }
 {
-    let mut space = front_bytes(alloc, node, nodes)?;
-    let slots = slot_bytes(alloc, node)?;
-    space.extend_from_slice(&slots)?;
+    let mut space = base_bytes(alloc, node, nodes)?;
     pad(&mut space, SPACE)?;
     Ok(space)
 }

@@ -23,7 +23,7 @@ mod write;
 
 pub use entry::{CatEntry, Entries};
 pub use error::{BadPage, PageError};
-pub use fresh::base_space;
+pub use fresh::{base_bytes, base_space};
 pub use laws::{
     base_holds_empty_store, child_is_shown, copies_are_pages, leaf_tells, leaf_tells_get,
     none_too_high,
