@@ -1,4 +1,4 @@
-mod Places
+mod Lists
 mod Ways
 mod Changes
 mod Children

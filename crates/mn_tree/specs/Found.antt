@@ -1,9 +1,6 @@
 -- What the code's walk finds, in the words of the walk over lists.
-use Rattle.std.specs.Prelude.{◌≡◌, ℕ, ◌+◌, true, List, [], ◌∷◌, map, Option, Some, if◌then◌else◌, ⊤}
+use Rattle.std.specs.Prelude.{◌≡◌, ℕ, ◌+◌, true, List, ◌∷◌, map, Option, Some, ⊤}
 use Rattle.std.specs.Borrow.{Bor}
-use Rattle.mn_base.specs.Order.{key_lt}
-use Rattle.mn_base.specs.declared.ids.Addr.{Addr}
-use Rattle.mn_page.specs.declared.page.Child.{Child}
 use Rattle.mn_page.specs.Overlay.{Held}
 use Rattle.mn_tree.specs.declared.held.HeldPage.{HeldPage}
 use Rattle.mn_tree.specs.declared.walk.Next.{Next}

@@ -4,7 +4,7 @@ pub mod State
 pub mod Found
 pub mod Asks
 pub mod Parts
-pub mod Places
+pub mod Lists
 pub mod Effects
 pub mod Room
 pub mod Order

@@ -3,29 +3,32 @@ ghost use Rattle.std.specs.List.{list_any};
 ghost use Rattle.mn_base.specs.Ids.{addr_same};
 ghost use Rattle.mn_tree.specs.Writes.{joined};
 
-use crate::held::is_unplaced;
-use crate::place::Place;
-use indexmap::IndexMap;
+use crate::held::{is_same, is_unplaced};
 use mn_base::{Addr, NoMemory};
 use std::alloc::Global;
 use std::marker::Model;
 
+/// For how many addresses there is room at once.
+const FIRST_ROOM: usize = 4;
+
 /// Addresses of old pages. Contracts see them as a list, in the order in which they joined, with
-/// the room for more.
+/// the room for more. They are no more than the pages that were read, so they are searched one
+/// after another too.
 #[derive(Debug, Drop)]
 pub struct Addrs {
-    addrs: IndexMap<Place, Addr>,
+    addrs: Vec<Addr>,
 }
 
 impl Model for Addrs {
-    ghost use Rattle.std.specs.HashMap.{spare, values};
-    ghost use Rattle.mn_tree.specs.Places.{AddrList, AreTheirOwn};
+    ghost use Rattle.std.specs.Prelude.{◌-◌, vec_len, vec_capacity};
+    ghost use Rattle.mn_tree.specs.Lists.{AddrList};
 
     ghost Value = { AddrList };
 
-    ghost view = { λ a. record { items = values a.addrs; room = spare a.addrs } };
-
-    ghost invariant = { λ a. AreTheirOwn a.addrs.entries };
+    ghost view = { λ a. record {
+      items = a.addrs.items;
+      room = vec_capacity a.addrs - vec_len a.addrs;
+    } };
 }
 
 impl Addrs {
@@ -33,7 +36,7 @@ impl Addrs {
         ensures { result.items ≡ [] }
     {
         Addrs {
-            addrs: IndexMap::new(alloc),
+            addrs: Vec::new(alloc),
         }
     }
 
@@ -42,7 +45,11 @@ impl Addrs {
         ensures room { OnOk result (more ≤ self.new.room) }
         ensures same { self.new.items ≡ self.old.items }
     {
-        self.addrs.reserve(more)?;
+        if self.addrs.is_empty() {
+            self.addrs.reserve(more.max(FIRST_ROOM))?;
+        } else {
+            self.addrs.reserve(more)?;
+        }
         Ok(())
     }
 
@@ -50,14 +57,19 @@ impl Addrs {
     pub fn as_slice(&self) -> &[Addr]
         ensures { result.now ≡ self.now.items }
     {
-        self.addrs.values().as_slice()
+        &self.addrs
     }
 
     /// Whether the address is one of these.
     pub fn contains(&self, addr: Addr) -> bool
         ensures { result ≡ list_any (λ a. addr_same a addr) self.now.items }
     {
-        self.addrs.contains_key(&Place::new(addr))
+        for other in &self.addrs {
+            if is_same(*other, addr) {
+                return true;
+            }
+        }
+        false
     }
 
     /// Puts the address of an old page behind the others, if it isn't there. There is room for one.
@@ -66,8 +78,9 @@ impl Addrs {
         ensures addrs { self.new.items ≡ joined self.old.items addr }
         ensures room { self.old.room ≤ self.new.room + 1 }
     {
-        if !is_unplaced(addr) {
-            self.addrs.insert(Place::new(addr), addr).unwrap();
+        if is_unplaced(addr) || self.contains(addr) {
+            return;
         }
+        self.addrs.push_reserved(addr);
     }
 }

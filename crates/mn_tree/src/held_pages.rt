@@ -1,10 +1,10 @@
-ghost use Rattle.std.specs.Prelude.{◌≡◌, ◌≤◌, ◌<◌, ◌+◌, [], option_map, IfSome, OnOk};
+ghost use Rattle.std.specs.Prelude.{◌≡◌, ◌≤◌, ◌<◌, ◌+◌, ◌++◌, ◌∷◌, [], length, take, drop};
+ghost use Rattle.std.specs.Prelude.{option_map, IfSome, OnOk};
+ghost use Rattle.mn_page.specs.declared.page.Page.{Page};
 ghost use Rattle.mn_page.specs.Overlay.{held_at, held_with};
-ghost use Rattle.mn_tree.specs.Walk.{helds};
+ghost use Rattle.mn_tree.specs.Walk.{held, helds};
 
-use crate::held::HeldPage;
-use crate::place::Place;
-use indexmap::IndexMap;
+use crate::held::{HeldPage, is_same};
 use mn_base::{Addr, NoMemory};
 use std::alloc::Global;
 use std::marker::Model;
@@ -12,22 +12,38 @@ use std::marker::Model;
 /// For how many pages there is room at once: for those of a path in a tree of some size.
 const FIRST_ROOM: usize = 7;
 
-/// The pages that are held, by address. Contracts see them as a list, in the order in which they
-/// joined, with the room for more.
+/// The pages that are held. Contracts see them as a list, in the order in which they joined, with
+/// the room for more. They are searched one after another: a transaction has at most 16 steps and
+/// a path at most 15 pages, and mostly there are the pages of one path, so no map would save time.
 #[derive(Debug, Drop)]
 pub struct HeldPages {
-    pages: IndexMap<Place, HeldPage>,
+    pages: Vec<HeldPage>,
 }
 
 impl Model for HeldPages {
-    ghost use Rattle.std.specs.HashMap.{spare};
-    ghost use Rattle.mn_tree.specs.Places.{PageList, pages_of, AreAtHome};
+    ghost use Rattle.std.specs.Prelude.{◌-◌, vec_len, vec_capacity};
+    ghost use Rattle.mn_tree.specs.Lists.{PageList};
 
     ghost Value = { PageList };
 
-    ghost view = { λ h. record { items = pages_of h.pages.entries; room = spare h.pages } };
+    ghost view = { λ h. record {
+      items = h.pages.items;
+      room = vec_capacity h.pages - vec_len h.pages;
+    } };
+}
 
-    ghost invariant = { λ h. AreAtHome h.pages.entries };
+/// Where the first page at an address stands, or how many there are.
+fn position(pages: &[HeldPage], addr: Addr) -> usize
+    ensures within { result ≤ length pages.now }
+    ensures place { (page : Page) → held_with (helds pages.now) addr page
+        ≡ helds (take result pages.now) ++ held addr page ∷ helds (drop (result + 1) pages.now) }
+{
+    for (at, page) in pages.iter().enumerate() {
+        if is_same(page.addr, addr) {
+            return at;
+        }
+    }
+    pages.len()
 }
 
 impl HeldPages {
@@ -35,7 +51,7 @@ impl HeldPages {
         ensures { result.items ≡ [] }
     {
         HeldPages {
-            pages: IndexMap::new(alloc),
+            pages: Vec::new(alloc),
         }
     }
 
@@ -57,7 +73,12 @@ impl HeldPages {
         ensures page { option_map (λ h. h.now.page) result ≡ held_at (helds self.now.items) addr }
         ensures there { IfSome result (λ h. h.now.addr ≡ addr) }
     {
-        self.pages.get(&Place::new(addr))
+        for held in &self.pages {
+            if is_same(held.addr, addr) {
+                return Some(held);
+            }
+        }
+        None
     }
 
     /// Puts a page in the place of the one at its address, or behind all. There is room for one.
@@ -66,6 +87,11 @@ impl HeldPages {
         ensures put { helds self.new.items ≡ held_with (helds self.old.items) held.addr held.page }
         ensures room { self.old.room ≤ self.new.room + 1 }
     {
-        self.pages.insert(Place::new(held.addr), held).unwrap();
+        let at = position(&self.pages, held.addr);
+        if at < self.pages.len() {
+            self.pages[at] = held;
+        } else {
+            self.pages.push_reserved(held);
+        }
     }
 }

@@ -13,7 +13,6 @@ mod laws;
 mod order;
 mod overlay;
 mod pairs;
-mod place;
 mod stepped;
 mod walk;
 mod write;
