@@ -1,30 +1,43 @@
--- The images of a transaction, by place inside and as lists in its contracts.
-use Rattle.std.proofs.Common.{◌≡◌, ℕ, Bool, true, false, cond, not, ◌&&◌, nat_eq, eqb-true, List, [], ◌∷◌, Some, None, refl, sym, ap, ◌∙◌}
-use Rattle.std.specs.List.{AllByRecursion}
-use Rattle.std.specs.Map.{lookup}
+-- The images of a transaction, as they join and as they are looked for.
+use Rattle.std.proofs.Common.{◌≡◌, ℕ, suc, ◌+◌, ◌<◌, Bool, true, false, cond, not, ◌&&◌, nat_eq, List, [], ◌∷◌, ◌++◌, length, get_or, set, Some, None, refl, sym, ap, subst, ◌∙◌, arith}
+use Rattle.std.specs.List.{AllByRecursion, position_or_len}
 use Rattle.std.proofs.lemmas.Cmp.{nat_eq_equiv}
-use Rattle.indexmap.specs.IndexMap.{insert_entry}
 use Rattle.mn_base.specs.declared.ids.NodeNo.{NodeNo}
 use Rattle.mn_txn.specs.declared.image.Image.{Image}
-use Rattle.mn_txn.specs.declared.place.Place.{Place}
-use Rattle.mn_txn.specs.State.{State, image, is_at, joined, bytes_at, ImagesAreApart, place_of, image_at, images_of}
+use Rattle.mn_txn.specs.State.{State, image, is_at, joined, bytes_at, ImagesAreApart}
 use Rattle.mn_txn.specs.Plan.{is_last, is_last_read, is_worn}
 
-abbrev pub same : Place → Place → Bool
-same a b = nat_eq a.node b.node && nat_eq a.start b.start
+-- Bytes that are kept
 
-pub inserted : (node : NodeNo) (start : ℕ) (bytes : List ℕ) (es : List (Place × List ℕ)) → images_of (insert_entry same es (place_of node start) bytes) ≡ joined (images_of es) (image node start bytes)
-inserted node start bytes [] = refl
-inserted node start bytes (e ∷ es) = by (same (place_of node start) e.0) (inserted node start bytes es)
-  where
-    by : (b : Bool) → images_of (insert_entry same es (place_of node start) bytes) ≡ joined (images_of es) (image node start bytes)
-        → images_of (cond b ((e.0, bytes) ∷ es) (e ∷ insert_entry same es (place_of node start) bytes)) ≡ cond b (image_at (e.0, bytes) ∷ images_of es) (image_at e ∷ joined (images_of es) (image node start bytes))
-    by true later = refl
-    by false later = ap (λ l. image_at e ∷ l) later
+module _ (node : NodeNo) (start : ℕ) (bytes : List ℕ) where
+  abbrev place : List Image → ℕ
+  place xs = position_or_len (is_at node start) xs
 
-pub found : (node : NodeNo) (start : ℕ) (es : List (Place × List ℕ)) → lookup (same (place_of node start)) es ≡ bytes_at node start (images_of es)
-found node start [] = refl
-found node start (e ∷ es) = ap (cond (same (place_of node start) e.0) (Some e.1)) (found node start es)
+  -- they take the place of older ones
+  joined_there : (xs : List Image) (d : Image) → place xs < length xs → joined xs (image node start bytes) ≡ set xs (place xs) (record (get_or xs (place xs) d) { bytes = bytes })
+  joined_there [] d l = absurd (omega arith)
+  joined_there (x ∷ xs) d l = by (is_at node start x) (joined_there xs d) l
+    where
+      by : (b : Bool) → (place xs < length xs → joined xs (image node start bytes) ≡ set xs (place xs) (record (get_or xs (place xs) d) { bytes = bytes })) → cond (not b) (1 + place xs) 0 < length (x ∷ xs)
+          → cond b (image x.node x.start bytes ∷ xs) (x ∷ joined xs (image node start bytes)) ≡ set (x ∷ xs) (cond (not b) (1 + place xs) 0) (record (get_or (x ∷ xs) (cond (not b) (1 + place xs) 0) d) { bytes = bytes })
+      by true later l = refl
+      by false later l = let next : 1 + place xs ≡ suc (place xs) = omega arith in rw next (ap (λ ys. x ∷ ys) (later (omega arith)))
+
+  pub kept_there : (xs : List Image) (at : ℕ) (kept : Image) → at ≡ place xs → at < length xs → kept ≡ get_or xs at kept → set xs at (record kept { bytes = bytes }) ≡ joined xs (image node start bytes)
+  kept_there xs at kept e l k =
+      ap (λ (x : Image). set xs at (record x { bytes = bytes })) k
+      ∙ ap (λ (n : ℕ). set xs n (record (get_or xs n kept) { bytes = bytes })) e
+      ∙ sym (joined_there xs kept (subst (λ (n : ℕ). n < length xs) e l))
+
+  -- or else they come last
+  pub joined_last : (xs : List Image) → (place xs < length xs → ⊥) → joined xs (image node start bytes) ≡ xs ++ image node start bytes ∷ []
+  joined_last [] past = refl
+  joined_last (x ∷ xs) past = by (is_at node start x) (joined_last xs) past
+    where
+      by : (b : Bool) → ((place xs < length xs → ⊥) → joined xs (image node start bytes) ≡ xs ++ image node start bytes ∷ []) → (cond (not b) (1 + place xs) 0 < length (x ∷ xs) → ⊥)
+          → cond b (image x.node x.start bytes ∷ xs) (x ∷ joined xs (image node start bytes)) ≡ x ∷ (xs ++ image node start bytes ∷ [])
+      by true later past = absurd (past (omega arith))
+      by false later past = ap (λ ys. x ∷ ys) (later (λ l. past (omega (arith, l))))
 
 -- Images apart
 
@@ -49,22 +62,12 @@ apart_joined (x ∷ xs) i a = by (is_at i.node i.start x) refl (apart_joined xs 
 
 -- The last number
 
-pub differ : (m n : ℕ) → (m ≡ n → ⊥) → nat_eq m n ≡ false
-differ m n h = by (nat_eq m n) refl
-  where
-    by : (b : Bool) → nat_eq m n ≡ b → b ≡ false
-    by true t = absurd (h (eqb-true m n t))
-    by false f = refl
-
 module _ (t : State) (i : Image) (f : nat_eq i.start 16 ≡ false) where
   not_count : (b : Bool) → b ≡ (not (nat_eq i.start 16) && b)
   not_count b = ap (λ c. not c && b) (sym f)
 
   pub worn_read : (bytes : List ℕ) → bytes_at i.node i.start t.reads ≡ Some bytes → is_last bytes ≡ is_worn t i
   worn_read bytes h = ap (λ o. is_last_read o (is_last_read (bytes_at i.node i.start t.dirty) false)) (sym h) ∙ not_count _
-
-  pub worn_dirty : (bytes : List ℕ) → bytes_at i.node i.start t.reads ≡ None → bytes_at i.node i.start t.dirty ≡ Some bytes → is_last bytes ≡ is_worn t i
-  worn_dirty bytes h k = ap (λ o. is_last_read o false) (sym k) ∙ ap (λ o. is_last_read o (is_last_read (bytes_at i.node i.start t.dirty) false)) (sym h) ∙ not_count _
 
   pub worn_unread : bytes_at i.node i.start t.reads ≡ None → bytes_at i.node i.start t.dirty ≡ None → false ≡ is_worn t i
   worn_unread h k = ap (λ o. is_last_read o false) (sym k) ∙ ap (λ o. is_last_read o (is_last_read (bytes_at i.node i.start t.dirty) false)) (sym h) ∙ not_count _

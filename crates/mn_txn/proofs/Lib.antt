@@ -1,7 +1,6 @@
 pub mod Turns
 pub mod Images
 pub mod Sound
-pub mod Inside
 pub mod Plans
 mod Lists
 mod Attempts

@@ -74,3 +74,9 @@ first_worn t (i ∷ is) = if is_worn t i then Some (i.node, i.start) else first_
 abbrev pub RefusesPlan : State → PlanError → Type 0
 RefusesPlan t (Worn node start) = first_worn t (in_item_order t.writes) ≡ Some (node, start)
 RefusesPlan t NoMemory = Unit {0}
+
+-- Inside a transaction
+
+-- one that has read no more than this
+abbrev pub only_read : List Image → List Image → State
+only_read dirty reads = record { nodes = 0; dirty = dirty; reads = reads; writes = [] }

@@ -1,10 +1,9 @@
 -- What a transaction has read and is to write.
-use Rattle.std.specs.Prelude.{◌≡◌, ℕ, Bool, false, ◌&&◌, nat_eq, List, [], ◌∷◌, map, Option, Some}
+use Rattle.std.specs.Prelude.{◌≡◌, ℕ, Bool, false, ◌&&◌, nat_eq, List, [], ◌∷◌, Option, Some}
 use Rattle.std.specs.Prelude.{None, ⊤, if◌then◌else◌}
 use Rattle.std.specs.List.{AllByRecursion}
 use Rattle.mn_base.specs.declared.ids.NodeNo.{NodeNo}
 use Rattle.mn_txn.specs.declared.image.Image.{Image}
-use Rattle.mn_txn.specs.declared.place.Place.{Place}
 
 -- over so many nodes: the pages that were read dirty, the read set, and the writes, each in the
 -- order in which its places came in
@@ -37,14 +36,3 @@ abbrev pub ImagesAreApart : List Image → Type 0
 ImagesAreApart [] = ⊤
 ImagesAreApart (x ∷ xs) =
     AllByRecursion (λ y. is_at x.node x.start y ≡ false) xs × ImagesAreApart xs
-
--- Inside a transaction
-
-abbrev pub place_of : NodeNo → ℕ → Place
-place_of node start = record { node = node.0; start = start }
-
-abbrev pub image_at : Place × List ℕ → Image
-image_at e = image (record { 0 = e.0.node }) e.0.start e.1
-
-abbrev pub images_of : List (Place × List ℕ) → List Image
-images_of entries = map image_at entries

@@ -29,6 +29,14 @@ pub const SLOTS_START: u32 = 20_480;
 
 impl Image {
     ghost use Rattle.mn_txn.specs.Order.{turn_of};
+    ghost use Rattle.mn_txn.specs.State.{is_at};
+
+    /// Whether it stands at a place.
+    pub fn is_at(&self, node: NodeNo, start: u32) -> bool
+        ensures { result ≡ is_at node start self.now }
+    {
+        node == self.node && start == self.start
+    }
 
     /// Its turn.
     pub fn turn(&self) -> Turn

@@ -6,7 +6,6 @@ mod child;
 mod error;
 mod image;
 mod laws;
-mod place;
 mod seen;
 mod spelled;
 mod tries;

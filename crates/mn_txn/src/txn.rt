@@ -1,19 +1,18 @@
-ghost use Rattle.std.specs.Prelude.{◌≡◌, ◌++◌, [], map, Some, None, IfOk, IfErr, OnOk, OnErr};
-ghost use Rattle.std.specs.Prelude.{IsTrue};
+ghost use Rattle.std.specs.Prelude.{◌≡◌, ◌++◌, [], map, None, IfOk, IfErr, OnOk, OnErr, IsTrue};
+ghost use Rattle.std.specs.List.{position_or_len};
 ghost use Rattle.mn_mini.specs.declared.error.MiniError.TheVariants as mini;
 ghost use Rattle.mn_page.specs.Space.{slot_start};
 ghost use Rattle.mn_txn.specs.declared.error.PlanError.TheVariants as plan;
-ghost use Rattle.mn_txn.specs.State.{image, joined, image_at, images_of, ImagesAreApart};
+ghost use Rattle.mn_txn.specs.State.{image, is_at, joined, bytes_at, ImagesAreApart};
 ghost use Rattle.mn_txn.specs.Order.{in_item_order};
 ghost use Rattle.mn_txn.specs.Plan.{plan_of, compare_of, write_of, is_inside, are_inside, can_plan};
-ghost use Rattle.mn_txn.specs.Plan.{is_last, is_worn, first_worn, RefusesPlan};
+ghost use Rattle.mn_txn.specs.Plan.{is_last, is_last_read, is_worn, first_worn, only_read};
+ghost use Rattle.mn_txn.specs.Plan.{RefusesPlan};
 
 use crate::image::{COUNT_START, SLOTS_START};
-use crate::place::Place;
 use crate::{Image, PlanError};
 use byteorder::{BigEndian, ByteOrder};
-use indexmap::IndexMap;
-use mn_base::{Addr, NoMemory, NodeNo, TryCopy};
+use mn_base::{Addr, NoMemory, NodeNo};
 use mn_mini::{
     Item, Items, MAX_ITEM, MAX_ITEMS, MAX_NODES, MiniError, Minitransaction, SPACE, SharedBytes,
 };
@@ -28,100 +27,103 @@ const SLOT_SIZE: u32 = 1_024;
 const NUMBER_SIZE: usize = 8;
 
 /// For how many places that are compared or written there is room at once.
-const FIRST_ROOM: usize = 8;
+const FIRST_ROOM: usize = 4;
 
 /// What a try of an operation has read and is to write, over so many nodes: the pages that it read
 /// dirty, the read set, which the plan compares, and the writes, each in the order in which its
 /// places came in. Contracts see these as lists.
+///
+/// A place is looked for in a list one after another: a plan reads and writes few of them, at most
+/// 16 leaves and the pages that their splits write.
 #[derive(Drop)]
 pub struct Txn {
     nodes: u8,
-    dirty: IndexMap<Place, SharedBytes>,
-    reads: IndexMap<Place, SharedBytes>,
-    writes: IndexMap<Place, SharedBytes>,
+    dirty: Vec<Image>,
+    reads: Vec<Image>,
+    writes: Vec<Image>,
 }
 
 impl Model for Txn {
-    ghost use Rattle.mn_txn.specs.State.{State, images_of, ImagesAreApart};
+    ghost use Rattle.mn_txn.specs.State.{State, ImagesAreApart};
 
     ghost Value = { State };
 
     ghost view = { λ t. record {
       nodes = t.nodes;
-      dirty = images_of t.dirty.entries;
-      reads = images_of t.reads.entries;
-      writes = images_of t.writes.entries;
+      dirty = t.dirty.items;
+      reads = t.reads.items;
+      writes = t.writes.items;
     } };
 
-    ghost invariant = { λ t. ImagesAreApart (images_of t.dirty.entries)
-        × ImagesAreApart (images_of t.reads.entries)
-        × ImagesAreApart (images_of t.writes.entries) };
+    ghost invariant = { λ t. ImagesAreApart t.dirty.items
+        × ImagesAreApart t.reads.items
+        × ImagesAreApart t.writes.items };
+}
+
+/// The number of the image that stands at a place, or that of all images where none does.
+fn position(images: &[Image], node: NodeNo, start: u32) -> usize
+    ensures { result ≡ position_or_len (is_at node start) images.now }
+{
+    for (at, image) in images.iter().enumerate() {
+        if image.is_at(node, start) {
+            return at;
+        }
+    }
+    images.len()
 }
 
 /// Keeps the bytes of a place, in place of older ones.
 #[inline(always)]
 fn keep(
-    images: &mut IndexMap<Place, SharedBytes>,
+    images: &mut Vec<Image>,
     node: NodeNo,
     start: u32,
     bytes: SharedBytes,
 ) -> Result<(), NoMemory>
-    ensures kept { OnOk result (images_of images.new.entries
-        ≡ joined (images_of images.old.entries) (image node start bytes)) }
-    ensures unchanged { OnErr result (images_of images.new.entries ≡ images_of images.old.entries) }
-    ensures apart { ImagesAreApart (images_of images.old.entries)
-        → ImagesAreApart (images_of images.new.entries) }
+    ensures kept { OnOk result (images.new.items
+        ≡ joined images.old.items (image node start bytes)) }
+    ensures unchanged { OnErr result (images.new.items ≡ images.old.items) }
+    ensures apart { ImagesAreApart images.old.items → ImagesAreApart images.new.items }
 {
-    images.insert(Place::new(node, start), bytes)?;
+    let at = position(images, node, start);
+    if at < images.len() {
+        images[at].bytes = bytes;
+        return Ok(());
+    }
+    images.push(Image { node, start, bytes })?;
     Ok(())
 }
 
-/// Copies of the images, in the order of the items of a plan.
-fn in_order(alloc: Global, images: &IndexMap<Place, SharedBytes>) -> Result<Vec<Image>, NoMemory>
-    ensures { IfOk result (λ ordered. ordered.items
-        ≡ in_item_order (images_of images.now.entries)) }
+/// Puts the images in the order of the items of a plan.
+fn put_in_order(images: &mut Vec<Image>) -> Result<(), NoMemory>
+    ensures { OnOk result (images.new.items ≡ in_item_order images.old.items) }
 {
-    let mut ordered = copied(alloc, images)?;
-    ordered.sort_by_key(|image| image.turn())?;
-    Ok(ordered)
-}
-
-/// Copies of the images, as they joined.
-fn copied(alloc: Global, images: &IndexMap<Place, SharedBytes>) -> Result<Vec<Image>, NoMemory>
-    ensures { IfOk result (λ copies. copies.items ≡ images_of images.now.entries) }
-{
-    let mut copies = Vec::with_capacity(alloc, images.len())?;
-    for (place, bytes) in images {
-        copies.push(Image {
-            node: NodeNo(place.node),
-            start: place.start,
-            bytes: bytes.try_copy(alloc)?,
-        })?;
-    }
-    Ok(copies)
+    images.sort_by_key(|image| image.turn())?;
+    Ok(())
 }
 
 /// Whether the bytes at a place may be an item's, over so many nodes.
-fn is_inside(nodes: u8, place: &Place, bytes: &SharedBytes) -> bool
-    ensures { result ≡ is_inside nodes (image_at (place.now, bytes.now)) }
+fn is_inside(nodes: u8, image: &Image) -> bool
+    ensures { result ≡ is_inside nodes image.now }
 {
-    let length = bytes.as_slice().len();
-    place.node < nodes
-        && place.node < MAX_NODES
+    let length = image.bytes.as_slice().len();
+    image.node.0 < nodes
+        && image.node.0 < MAX_NODES
         && length >= 1
         && length <= MAX_ITEM as usize
-        && place.start as usize + length <= SPACE as usize
+        && image.start as usize + length <= SPACE as usize
 }
 
 /// Whether all images may be items.
-fn are_inside(nodes: u8, images: &IndexMap<Place, SharedBytes>) -> bool
-    ensures { result ≡ are_inside nodes (images_of images.now.entries) }
+fn are_inside(nodes: u8, images: &[Image]) -> bool
+    ensures { result ≡ are_inside nodes images.now }
 {
-    let mut inside = true;
-    for (place, bytes) in images {
-        inside = inside && is_inside(nodes, place, bytes);
+    for image in images {
+        if !is_inside(nodes, image) {
+            return false;
+        }
     }
-    inside
+    true
 }
 
 /// Whether bytes begin with the last sequence number.
@@ -132,32 +134,75 @@ fn has_last_number(bytes: &SharedBytes) -> bool
     bytes.len() >= NUMBER_SIZE && BigEndian::read_u64(bytes) == u64::MAX
 }
 
-/// Adds the compare of each image.
-fn push_compares(alloc: Global, items: &mut Vec<Item>, images: &[Image]) -> Result<(), NoMemory>
-    ensures { OnOk result (items.new.items ≡ items.old.items ++ map compare_of images.now) }
+/// Whether the bytes that were read at the image's place begin with the last sequence number; where
+/// none were, as otherwise.
+fn is_last_read(reads: &[Image], image: &Image, otherwise: bool) -> bool
+    ensures { result
+        ≡ is_last_read (bytes_at image.now.node image.now.start reads.now) otherwise }
+{
+    for read in reads {
+        if read.is_at(image.node, image.start) {
+            return has_last_number(&read.bytes);
+        }
+    }
+    otherwise
+}
+
+/// Whether a place was read with the last sequence number: by its bytes in the read set, or else by
+/// those that were read dirty.
+fn is_worn(dirty: &[Image], reads: &[Image], image: &Image) -> bool
+    ensures { result ≡ is_worn (only_read dirty.now reads.now) image.now }
+{
+    if image.start == COUNT_START {
+        return false;
+    }
+    let otherwise = is_last_read(dirty, image, false);
+    is_last_read(reads, image, otherwise)
+}
+
+/// The first of the images whose place was read with the last sequence number.
+fn first_worn(dirty: &[Image], reads: &[Image], images: &[Image]) -> Option<(NodeNo, u32)>
+    ensures { result ≡ first_worn (only_read dirty.now reads.now) images.now }
 {
     for image in images {
-        items.push(Item::Compare {
-            node: image.node,
-            start: image.start,
-            bytes: image.bytes.try_copy(alloc)?,
-        })?;
+        if is_worn(dirty, reads, image) {
+            return Some((image.node, image.start));
+        }
+    }
+    None
+}
+
+/// Adds the compare of each image.
+fn push_compares(items: &mut Vec<Item>, images: Vec<Image>) -> Result<(), NoMemory>
+    ensures { OnOk result (items.new.items ≡ items.old.items ++ map compare_of images.items) }
+{
+    for image in images {
+        let Image { node, start, bytes } = image;
+        items.push(Item::Compare { node, start, bytes })?;
     }
     Ok(())
 }
 
 /// Adds the write of each image.
-fn push_writes(alloc: Global, items: &mut Vec<Item>, images: &[Image]) -> Result<(), NoMemory>
-    ensures { OnOk result (items.new.items ≡ items.old.items ++ map write_of images.now) }
+fn push_writes(items: &mut Vec<Item>, images: Vec<Image>) -> Result<(), NoMemory>
+    ensures { OnOk result (items.new.items ≡ items.old.items ++ map write_of images.items) }
 {
     for image in images {
-        items.push(Item::Write {
-            node: image.node,
-            start: image.start,
-            bytes: image.bytes.try_copy(alloc)?,
-        })?;
+        let Image { node, start, bytes } = image;
+        items.push(Item::Write { node, start, bytes })?;
     }
     Ok(())
+}
+
+/// The items that compare these images and write those.
+fn items_of(alloc: Global, reads: Vec<Image>, writes: Vec<Image>) -> Result<Items, NoMemory>
+    ensures { IfOk result (λ items. items
+        ≡ map compare_of reads.items ++ map write_of writes.items) }
+{
+    let mut items = Vec::with_capacity(alloc, reads.len() + writes.len())?;
+    push_compares(&mut items, reads)?;
+    push_writes(&mut items, writes)?;
+    Ok(Items::from_vec(items))
 }
 
 /// The answer where the items are sound and there is none yet.
@@ -179,9 +224,9 @@ impl Txn {
     {
         Ok(Txn {
             nodes,
-            dirty: IndexMap::new(alloc),
-            reads: IndexMap::with_capacity(alloc, FIRST_ROOM)?,
-            writes: IndexMap::with_capacity(alloc, FIRST_ROOM)?,
+            dirty: Vec::new(alloc),
+            reads: Vec::with_capacity(alloc, FIRST_ROOM)?,
+            writes: Vec::with_capacity(alloc, FIRST_ROOM)?,
         })
     }
 
@@ -246,59 +291,33 @@ impl Txn {
             && are_inside(self.nodes, &self.writes)
     }
 
-    /// Whether a place was read with the last sequence number: by its bytes in the read set, or
-    /// else by those that were read dirty.
-    fn is_worn(&self, image: &Image) -> bool
-        ensures { result ≡ is_worn self.now image.now }
-    {
-        if image.start == COUNT_START {
-            return false;
-        }
-        let place = Place::new(image.node, image.start);
-        match self.reads.get(&place) {
-            Some(bytes) => has_last_number(bytes),
-            None => match self.dirty.get(&place) {
-                Some(bytes) => has_last_number(bytes),
-                None => false,
-            },
-        }
-    }
-
-    /// The first of the images whose place was read with the last sequence number.
-    fn first_worn(&self, images: &[Image]) -> Option<(NodeNo, u32)>
-        ensures { result ≡ first_worn self.now images.now }
-    {
-        for image in images {
-            if self.is_worn(image) {
-                return Some((image.node, image.start));
-            }
-        }
-        None
-    }
-
     /// The minitransaction that compares the read set and makes the writes, in this order: the
     /// compares of pages as they joined the read set, of catalog entries by number, of counts by
     /// node, and then the writes of pages as they came in, of entries, of counts (Sinfonia, SOSP
     /// 2007; Minuet, PVLDB 2012). Worn: the place is the first in this order at which a page or an
     /// entry is to be written and was read with the last sequence number. NoMemory: there was no
     /// memory for it.
-    pub fn plan(&self, alloc: Global) -> Result<Minitransaction, PlanError>
-        requires { IsTrue (can_plan self.now) }
-        ensures planned { IfOk result (λ mini. mini ≡ plan_of self.now) }
-        ensures unworn { OnOk result (first_worn self.now (in_item_order self.now.writes) ≡ None) }
-        ensures refused { IfErr result (RefusesPlan self.now) }
-        ensures reads_apart { ImagesAreApart self.now.reads }
-        ensures writes_apart { ImagesAreApart self.now.writes }
+    pub fn plan(self, alloc: Global) -> Result<Minitransaction, PlanError>
+        requires { IsTrue (can_plan self) }
+        ensures planned { IfOk result (λ mini. mini ≡ plan_of self) }
+        ensures unworn { OnOk result (first_worn self (in_item_order self.writes) ≡ None) }
+        ensures refused { IfErr result (RefusesPlan self) }
+        ensures reads_apart { ImagesAreApart self.reads }
+        ensures writes_apart { ImagesAreApart self.writes }
     {
-        let writes = in_order(alloc, &self.writes)?;
-        if let Some((node, start)) = self.first_worn(&writes) {
+        let Txn {
+            nodes,
+            dirty,
+            mut reads,
+            mut writes,
+        } = self;
+        put_in_order(&mut writes)?;
+        if let Some((node, start)) = first_worn(&dirty, &reads, &writes) {
             return Err(PlanError::Worn { node, start });
         }
-        let reads = in_order(alloc, &self.reads)?;
-        let mut items = Vec::with_capacity(alloc, reads.len() + writes.len())?;
-        push_compares(alloc, &mut items, &reads)?;
-        push_writes(alloc, &mut items, &writes)?;
-        match Minitransaction::new(alloc, self.nodes, Items::from_vec(items)) {
+        put_in_order(&mut reads)?;
+        let items = items_of(alloc, reads, writes)?;
+        match Minitransaction::new(alloc, nodes, items) {
             Ok(mini) => Ok(mini),
             Err(error) => Err(no_memory(error)),
         }

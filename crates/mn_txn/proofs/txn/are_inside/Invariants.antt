@@ -1,9 +1,7 @@
-use Rattle.std.proofs.Common.{◌≡◌, map}
-use Rattle.std.specs.Map.Iter.{deref_pair}
-use Rattle.mn_txn.specs.State.{images_of}
+use Rattle.std.proofs.Common.{◌≡◌, drop}
 use Rattle.mn_txn.specs.Plan.{are_inside}
 use Rattle.mn_txn.proofs.txn.are_inside.Given as goal
 
--- those so far
-abbrev pub invariant-loop-place : goal.invariant-loop-place
-invariant-loop-place l = l.inside ≡ are_inside l.nodes (images_of (map deref_pair l.yielded))
+-- those before are
+abbrev pub invariant-loop-image : goal.invariant-loop-image
+invariant-loop-image l = are_inside l.nodes l.images ≡ are_inside l.nodes (drop l.image-index l.images)

@@ -1,7 +1,8 @@
-use Rattle.std.proofs.Common.{◌≡◌, ◌++◌, map, drop}
+use Rattle.std.proofs.Common.{◌≡◌, ◌++◌, map}
+use Rattle.std.specs.Vec.Iter.{into_iter_items}
 use Rattle.mn_txn.specs.Plan.{write_of}
 use Rattle.mn_txn.proofs.txn.push_writes.Given as goal
 
 -- what is left is still to come
 abbrev pub invariant-loop-image : goal.invariant-loop-image
-invariant-loop-image l = l.initial.items.items ++ map write_of l.images ≡ l.items.items ++ map write_of (drop l.image-index l.images)
+invariant-loop-image l = l.items.items ++ map write_of (into_iter_items l.image-iterator) ≡ l.fn.items.items ++ map write_of l.fn.images.items
