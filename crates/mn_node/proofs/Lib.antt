@@ -1,4 +1,4 @@
-pub mod Space
+pub mod Spaces
 pub mod Tids
 pub mod Votes
 pub mod Ties

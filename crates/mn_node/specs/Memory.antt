@@ -37,7 +37,7 @@ pub record IsMadeByRecords (base : List ℕ) (records : List Record) (space : Li
 
 abbrev pub IsMemory : Memory → Type 0
 IsMemory m =
-    IsMadeByRecords (base_of m.nodes m.node) m.records.items m.space.items m.locks.holds
+    IsMadeByRecords (base_of m.nodes m.node) m.records.items m.space m.locks.holds
     m.forced.items
     m.held.items
 

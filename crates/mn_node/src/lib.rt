@@ -12,9 +12,9 @@ mod part;
 mod replay;
 mod requests;
 mod restart;
+mod space;
 mod start;
 
 pub use node::{Node, StartFailed};
-pub use replay::space_after;
 pub use restart::RestartError;
 pub use start::{StartCause, records_of};

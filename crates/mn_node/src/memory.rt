@@ -15,6 +15,7 @@ ghost use Rattle.mn_node.specs.Memory.{IsMemory, HasDecisionRoom, IsTested, is_a
 
 use crate::held::{Vote, forget, has_vote_for, is_same, part_of};
 use crate::part::{Mismatch, Ranges, first_mismatch, ranges_of, reads_of, write_items};
+use crate::space::Space;
 use mn_base::{NoMemory, Nodes, Tid};
 use mn_locks::{Held, LockTable};
 use mn_mini::{Part, PartItem, Reads, Record};
@@ -27,7 +28,7 @@ pub struct Memory {
     pub node: u8,
     pub nodes: u8,
     pub records: Vec<Record>,
-    pub space: Vec<u8>,
+    pub space: Space,
     pub locks: LockTable,
     pub forced: Vec<Tid>,
     /// The votes whose parts are held, the oldest first.
@@ -57,7 +58,7 @@ pub fn is_in(tids: &[Tid], tid: Tid) -> bool
 /// Tests a part for an id: first its locks, then its compares.
 pub fn test_part(
     alloc: Global,
-    space: &[u8],
+    space: &Space,
     locks: &LockTable,
     tid: Tid,
     part: &[PartItem],
@@ -82,7 +83,7 @@ pub fn test_part(
 /// Tests a part for an id, with its ranges made for it.
 pub fn test_alone(
     alloc: Global,
-    space: &[u8],
+    space: &Space,
     locks: &LockTable,
     tid: Tid,
     part: &[PartItem],
@@ -96,13 +97,14 @@ pub fn test_alone(
 }
 
 /// Makes the writes of a vote's part, if the vote is for the id.
-fn write_vote(records: &[Record], vote: &Vote, space: &mut [u8], tid: Tid)
+fn write_vote(records: &[Record], vote: &Vote, space: &mut Space, tid: Tid)
     requires size { length space.old ≡ space_size }
     requires sound { AllByRecursion IsRecord records.now }
     requires vote { IsVote records.now vote.now }
-    ensures { (h : HeldPart) → IsVoteFor records.now vote.now h
+    ensures space { (h : HeldPart) → IsVoteFor records.now vote.now h
         → space.new ≡ (if tid_same h.tid tid then space_after_part space.old h.part
         else space.old) }
+    ensures whole { length space.new ≡ space_size }
 {
     if !is_same(vote.tid, tid) {
         return;
@@ -112,13 +114,14 @@ fn write_vote(records: &[Record], vote: &Vote, space: &mut [u8], tid: Tid)
 
 /// Makes the writes of each part that is held for an id, the oldest first, where the decision is
 /// yes.
-pub fn write_decided(records: &[Record], held: &[Vote], space: &mut [u8], tid: Tid, yes: bool)
+pub fn write_decided(records: &[Record], held: &[Vote], space: &mut Space, tid: Tid, yes: bool)
     requires size { length space.old ≡ space_size }
     requires sound { AllByRecursion IsRecord records.now }
     requires held { AreHeldVotes records.now held.now }
-    ensures { space.new ≡ (if yes
+    ensures space { space.new ≡ (if yes
         then with_held (λ t. tid_same t tid) space.old (held_parts (reverse records.now))
         else space.old) }
+    ensures whole { length space.new ≡ space_size }
 {
     if !yes {
         return;
@@ -146,12 +149,12 @@ impl Memory {
         part: &[PartItem],
         ranges: &Ranges,
     ) -> Result<Tested, NoMemory>
-        requires size { length self.now.space.items ≡ space_size }
+        requires size { length self.now.space ≡ space_size }
         requires part { IsPart part.now }
         requires shared { ranges.now.shared.items ≡ shared_of part.now }
         requires alone { ranges.now.alone.items ≡ alone_of part.now }
         ensures { IfOk result
-            (IsTested self.now.space.items self.now.locks.holds tid part.now) }
+            (IsTested self.now.space self.now.locks.holds tid part.now) }
     {
         test_part(alloc, &self.space, &self.locks, tid, part, ranges)
     }

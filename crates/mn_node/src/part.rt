@@ -4,6 +4,7 @@ ghost use Rattle.mn_mini.specs.Flat.{bytes_in, overwritten, part_mismatch_from, 
 ghost use Rattle.mn_mini.specs.Flat.{space_after_part};
 ghost use Rattle.mn_node.specs.Part.{AreInside, IsMismatch, shared_of, alone_of};
 
+use crate::space::Space;
 use mn_base::{Bytes, NoMemory, Range};
 use mn_mini::{MAX_ITEMS, PartItem, SharedBytes};
 use std::alloc::Global;
@@ -22,50 +23,31 @@ pub struct Ranges {
     pub alone: Vec<Range>,
 }
 
-/// The bytes of a range.
-fn range(space: &[u8], start: u32, length: usize) -> &[u8]
-    requires { start + length ≤ Rattle.std.specs.Prelude.length space.now }
-    ensures { result.now ≡ bytes_in space.now start length }
-{
-    let start = start as usize;
-    &space[start..start + length]
-}
-
-/// Puts bytes over a range.
-fn overwrite(space: &mut [u8], start: u32, bytes: &[u8])
-    requires { start + length bytes.now ≤ length space.old }
-    ensures { space.new ≡ overwritten space.old start bytes.now }
-{
-    let start = start as usize;
-    space[start..start + bytes.len()].copy_from_slice(bytes);
-}
-
 /// A copy of the bytes of a range.
-pub fn copy_of(alloc: Global, space: &[u8], start: u32, length: usize) -> Result<Bytes, NoMemory>
+pub fn copy_of(alloc: Global, space: &Space, start: u32, length: usize) -> Result<Bytes, NoMemory>
     requires { start + length ≤ Rattle.std.specs.Prelude.length space.now }
     ensures { IfOk result (λ bytes. bytes ≡ bytes_in space.now start length) }
 {
-    let bytes = range(space, start, length).to_vec(alloc)?;
-    Ok(Bytes::from_vec(bytes))
+    Ok(Bytes::from_vec(space.copy_of(alloc, start, length)?))
 }
 
 /// A copy of the bytes of a range.
 pub fn shared_copy_of(
     alloc: Global,
-    space: &[u8],
+    space: &Space,
     start: u32,
     length: usize,
 ) -> Result<SharedBytes, NoMemory>
     requires { start + length ≤ Rattle.std.specs.Prelude.length space.now }
     ensures { IfOk result (λ bytes. bytes ≡ bytes_in space.now start length) }
 {
-    SharedBytes::new(range(space, start, length).to_vec(alloc)?)
+    SharedBytes::new(space.copy_of(alloc, start, length)?)
 }
 
 /// The first compare item that differs.
 pub fn first_mismatch(
     alloc: Global,
-    space: &[u8],
+    space: &Space,
     items: &[PartItem],
 ) -> Result<Option<Mismatch>, NoMemory>
     requires inside { AreInside items.now }
@@ -77,7 +59,7 @@ pub fn first_mismatch(
     for compare in items {
         if let PartItem::Compare { start, bytes } = compare {
             let bytes = bytes.as_slice();
-            if range(space, *start, bytes.len()) != bytes {
+            if !space.holds(*start, bytes) {
                 let found = copy_of(alloc, space, *start, bytes.len())?;
                 return Ok(Some(Mismatch { item, found }));
             }
@@ -88,7 +70,7 @@ pub fn first_mismatch(
 }
 
 /// The bytes of the read items.
-pub fn reads_of(alloc: Global, space: &[u8], items: &[PartItem]) -> Result<Vec<Bytes>, NoMemory>
+pub fn reads_of(alloc: Global, space: &Space, items: &[PartItem]) -> Result<Vec<Bytes>, NoMemory>
     requires inside { AreInside items.now }
     requires whole { length space.now ≡ space_size }
     ensures { IfOk result (λ reads. reads.items ≡ part_reads space.now items.now) }
@@ -103,14 +85,15 @@ pub fn reads_of(alloc: Global, space: &[u8], items: &[PartItem]) -> Result<Vec<B
 }
 
 /// Puts the write items in place.
-pub fn write_items(space: &mut [u8], items: &[PartItem])
+pub fn write_items(space: &mut Space, items: &[PartItem])
     requires inside { AreInside items.now }
     requires whole { length space.old ≡ space_size }
-    ensures { space.new ≡ space_after_part space.old items.now }
+    ensures space { space.new ≡ space_after_part space.old items.now }
+    ensures whole { length space.new ≡ space_size }
 {
     for item in items {
         if let PartItem::Write { start, bytes } = item {
-            overwrite(space, *start, bytes.as_slice());
+            space.put(*start, bytes.as_slice());
         }
     }
 }

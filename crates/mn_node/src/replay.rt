@@ -15,10 +15,10 @@ ghost use Rattle.mn_node.specs.Part.{alone_of, holds_by, part_holds, shared_of};
 use crate::held::{Vote, forget, part_of};
 use crate::memory::{Memory, write_decided};
 use crate::part::{ranges_of, write_items};
+use crate::space::Space;
 use mn_base::{NoMemory, Tid};
 use mn_locks::LockTable;
 use mn_mini::{PartItem, Record};
-use mn_page::base_space;
 use std::alloc::Global;
 
 /// Makes what a record writes, which stands behind these, and notes what it changes in their held
@@ -27,7 +27,7 @@ fn apply(
     before: &[Record],
     next: &Record,
     held: &mut Vec<Vote>,
-    space: &mut [u8],
+    space: &mut Space,
 ) -> Result<(), NoMemory>
     requires size { length space.old ≡ space_size }
     requires sound { AllByRecursion IsRecord before.now }
@@ -35,6 +35,7 @@ fn apply(
     requires held { AreHeldVotes before.now held.old.items }
     ensures space { OnOk result ((base : List ℕ) → space.old ≡ space_of base (reverse before.now)
         → space.new ≡ space_of base (next.now ∷ reverse before.now)) }
+    ensures whole { length space.new ≡ space_size }
     ensures held { OnOk result (AreHeldVotes (before.now ++ next.now ∷ []) held.new.items) }
 {
     match next {
@@ -58,10 +59,11 @@ fn apply(
 
 /// Makes what records write, one after the other, and tells the votes whose parts they hold at
 /// their end.
-fn write_all(alloc: Global, records: &[Record], space: &mut [u8]) -> Result<Vec<Vote>, NoMemory>
+fn write_all(alloc: Global, records: &[Record], space: &mut Space) -> Result<Vec<Vote>, NoMemory>
     requires size { length space.old ≡ space_size }
     requires sound { AllByRecursion IsRecord records.now }
     ensures space { OnOk result (space.new ≡ space_of space.old (reverse records.now)) }
+    ensures whole { length space.new ≡ space_size }
     ensures held { IfOk result (λ held. AreHeldVotes records.now held.items) }
 {
     let mut held = Vec::new(alloc);
@@ -153,7 +155,7 @@ fn lock_held(
 /// What records make of a node's space, its locks, the ids that may not vote, and the held votes.
 #[derive(Drop)]
 struct Made {
-    space: Vec<u8>,
+    space: Space,
     locks: LockTable,
     forced: Vec<Tid>,
     held: Vec<Vote>,
@@ -165,11 +167,11 @@ fn made_of(alloc: Global, node: u8, nodes: u8, records: &[Record]) -> Result<Mad
     requires sound { AllByRecursion IsRecord records.now }
     requires apart { PartsAreApart (held_parts (reverse records.now)) }
     ensures { IfOk result (λ made.
-        IsMadeByRecords (base_of nodes node) records.now made.space.items made.locks.holds
+        IsMadeByRecords (base_of nodes node) records.now made.space made.locks.holds
         made.forced.items
         made.held.items) }
 {
-    let mut space = base_space(alloc, node, nodes)?;
+    let mut space = Space::base(alloc, node, nodes)?;
     let held = write_all(alloc, records, &mut space)?;
     let forced = forced_of(alloc, records)?;
     let mut locks = LockTable::new(alloc)?;
@@ -180,24 +182,6 @@ fn made_of(alloc: Global, node: u8, nodes: u8, records: &[Record]) -> Result<Mad
         forced,
         held,
     })
-}
-
-/// The space of a node of so many with these records.
-pub fn space_after(
-    alloc: Global,
-    node: u8,
-    nodes: u8,
-    records: &[Record],
-) -> Result<Vec<u8>, NoMemory>
-    requires nodes { 0 < nodes }
-    requires sound { AllByRecursion IsRecord records.now }
-    ensures space { IfOk result (λ space. space.items
-        ≡ space_of (base_of nodes node) (reverse records.now)) }
-    ensures whole { IfOk result (λ space. length space.items ≡ space_size) }
-{
-    let mut space = base_space(alloc, node, nodes)?;
-    write_all(alloc, records, &mut space)?;
-    Ok(space)
 }
 
 /// What a node of so many keeps in memory with these records, and the room for a decision of each

@@ -11,12 +11,12 @@ pub loop-vote-preserved : goal.loop-vote-preserved
 loop-vote-preserved c =
     let next = next_held c.args.records.now c.args.held.now c.loop-vote.vote-index _ c.requires.held c.loop-vote-test.true in
     record {
-      size = c.write_vote.auto.space ∙ c.loop-vote.invariant.size;
-      written = next_written c.args.records.now c.loop-vote.vote-index _ c.args.tid c.args.space.now c.loop-vote.space c.write_vote.new.space next c.write_vote.ensures c.loop-vote.invariant.written;
+      size = c.write_vote.ensures.whole;
+      written = next_written c.args.records.now c.loop-vote.vote-index _ c.args.tid c.args.space.now c.loop-vote.space c.write_vote.new.space next c.write_vote.ensures.space c.loop-vote.invariant.written;
     }
 
-pub returns : goal.returns
-returns c =
+pub returns-clause-space : goal.returns-clause-space
+returns-clause-space c =
     let yes : c.args.yes ≡ true = search rules in
     let all = all_held c.args.records.now c.args.held.now c.loop-vote.vote-index c.requires.held (omega (arith, c.loop-vote-test.false)) in
     c.loop-vote.invariant.written ∙ ap (λ (hs : List HeldPart). with_held (λ t. tid_same t c.args.tid) c.args.space.now hs) all

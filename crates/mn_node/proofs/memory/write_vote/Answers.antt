@@ -9,13 +9,13 @@ use Rattle.mn_node.proofs.memory.write_vote.Goals as goal
 pub write_items-requires-clause-inside : goal.write_items-requires-clause-inside
 write_items-requires-clause-inside c = (vote_sound c.args.records.now c.args.vote.now c.part_of.result.now c.requires.sound c.requires.vote c.part_of.ensures).inside
 
-pub returns-then-not-is_same : goal.returns-then-not-is_same
-returns-then-not-is_same c = λ h is.
+pub returns-then-not-is_same-clause-space : goal.returns-then-not-is_same-clause-space
+returns-then-not-is_same-clause-space c = λ h is.
     let off : tid_same h.tid c.args.tid ≡ false = ap (λ (t : Tid). tid_same t c.args.tid) (sym is.tid) ∙ sym c.is_same.ensures ∙ c.if-not-is_same.true in
     sym (ap (λ (b : Bool). if b then space_after_part c.args.space.now h.part else c.args.space.now) off)
 
-pub returns : goal.returns
-returns c = λ h is.
+pub returns-clause-space : goal.returns-clause-space
+returns-clause-space c = λ h is.
     let own : tid_same h.tid c.args.tid ≡ true = ap (λ (t : Tid). tid_same t c.args.tid) (sym is.tid) ∙ sym c.is_same.ensures ∙ c.if-not-is_same.false in
-    c.write_items.ensures ∙ ap (λ (l : List PartItem). space_after_part c.args.space.now l) (c.part_of.ensures h is)
+    c.write_items.ensures.space ∙ ap (λ (l : List PartItem). space_after_part c.args.space.now l) (c.part_of.ensures h is)
     ∙ sym (ap (λ (b : Bool). if b then space_after_part c.args.space.now h.part else c.args.space.now) own)

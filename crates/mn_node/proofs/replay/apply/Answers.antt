@@ -36,5 +36,5 @@ returns-in-Decided-clause-held c =
 pub returns-in-Decided-clause-space : goal.returns-in-Decided-clause-space
 returns-in-Decided-clause-space c = λ base e.
     let before = reverse c.args.before.now in
-    space_decided base before c.args.space.now c.write_decided.new.space c.in-Decided.tid c.in-Decided.yes c.write_decided.ensures e
+    space_decided base before c.args.space.now c.write_decided.new.space c.in-Decided.tid c.in-Decided.yes c.write_decided.ensures.space e
     ∙ sym (ap (λ (r : Record). space_of base (r ∷ before)) c.in-Decided.is)

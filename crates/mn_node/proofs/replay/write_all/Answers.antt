@@ -13,7 +13,7 @@ loop-number-preserved c =
     let r = c.index-records-number.result in
     let more : take (n + 1) records ≡ take n records ++ r ∷ [] = take_more records n r c.loop-number-test.true ∙ ap (λ (x : Record). take n records ++ x ∷ []) (sym c.index-records-number.is) in
     record {
-      size = c.apply.auto.space ∙ c.loop-number.invariant.size;
+      size = c.apply.ensures.whole;
       written = c.in_ok-apply.ensures.space c.args.space.now c.loop-number.invariant.written ∙ sym (ap (λ (l : List Record). space_of c.args.space.now l) (next_record records n r c.loop-number-test.true c.index-records-number.is));
       held = subst (λ (l : List Record). AreHeldVotes l c.apply.new.held.items) (sym more) c.in_ok-apply.ensures.held;
     }

@@ -9,4 +9,4 @@ vote_yes-requires-clause-free g c =
     let hs = held_parts (reverse c.args.memory.now.records.items) in
     let tested = rw c.in-Ok-Yes.field-0-is at c.in-Ok-Yes.ensures in
     ap (λ (l : List PartItem). clash_of hs c.args.tid l) (sym c.as_slice-2.ensures)
-    ∙ free_of c.args.memory.now.space.items c.args.memory.now.locks.holds c.args.tid c.as_slice-2.result.now c.in-Ok-Yes.reads hs tested c.requires.up.memory.holds_are
+    ∙ free_of c.args.memory.now.space c.args.memory.now.locks.holds c.args.tid c.as_slice-2.result.now c.in-Ok-Yes.reads hs tested c.requires.up.memory.holds_are

@@ -47,6 +47,16 @@ returns-clause-moments g c =
     let listed = subst (λ (l : List Record). AreBodiesWithOrWithout mid.bodies l pending there) c.deref.ensures.value c.in-Ok.ensures.listed in
     λ honest. woken g.D.Disk.state old mid c.wake_found.new.redo.disk records pending there c.reopen.ensures.node c.reopen.ensures.nodes listed (c.requires.stands honest) (c.reopen.ensures.unwritten honest) (c.wake_found.ensures.moments (c.reopen.ensures.honest honest))
 
+pub returns-in_err-wake_found-clause-stands : goal.returns-in_err-wake_found-clause-stands
+returns-in_err-wake_found-clause-stands g c =
+    let old = c.args.redo.now in
+    let mid = c.reopen.new.self in
+    let records = c.args.memory.now.records.items in
+    let pending = c.args.pending.now in
+    let there = c.in-Ok.there in
+    let listed = subst (λ (l : List Record). AreBodiesWithOrWithout mid.bodies l pending there) c.deref.ensures.value c.in-Ok.ensures.listed in
+    λ honest l image. moved mid.node old.node mid.nodes old.nodes records records pending c.reopen.ensures.node c.reopen.ensures.nodes refl l (listed_stands mid.node mid.nodes mid.bodies records pending there listed l (c.wake_found.ensures.stands honest l image))
+
 pub returns-clause-stands : goal.returns-clause-stands
 returns-clause-stands g c =
     let old = c.args.redo.now in

@@ -1,7 +1,6 @@
-use Rattle.std.proofs.Common.{◌≡◌, ◌+◌, ◌<◌, ◌++◌, ◌∷◌, [], ℕ, List, true, length, reverse, take, drop, ap, subst, sym, ◌∙◌, arith, vec_len, vec_capacity, if◌then◌else◌}
+use Rattle.std.proofs.Common.{◌≡◌, ◌+◌, ◌<◌, ◌++◌, ◌∷◌, [], List, true, length, reverse, ap, subst, sym, ◌∙◌, arith, vec_len, vec_capacity, if◌then◌else◌}
 use Rattle.std.specs.List.{list_any}
 use Rattle.mn_base.specs.Ids.{tid_same}
-use Rattle.std.proofs.lemmas.List.{take_at}
 use Rattle.mn_mini.specs.declared.record.Record.{Record}
 use Rattle.mn_mini.specs.declared.record.Record.TheVariants.{Decided}
 use Rattle.mn_mini.specs.Node.{held_parts, with_held}
@@ -19,16 +18,13 @@ pub returns-clause-memory : goal.returns-clause-memory
 returns-clause-memory c =
     let m = c.args.self.now in
     let items : c.push.new.self.items ≡ m.records.items ++ Decided c.args.tid c.args.yes ∷ [] = rw c.unwrap.ensures at c.push.ensures.items in
-    let same : length c.write_decided.new.space ≡ m.space.len = grind arith in
-    let whole : take m.space.len (c.write_decided.new.space ++ drop (length c.write_decided.new.space) m.space.items) ≡ c.write_decided.new.space = take_at c.write_decided.new.space (drop (length c.write_decided.new.space) m.space.items) m.space.len same in
-    let written : c.write_decided.new.space ≡ (if c.args.yes then with_held (λ t. tid_same t c.args.tid) m.space.items (held_parts (reverse m.records.items)) else m.space.items) =
-    c.write_decided.ensures
-    ∙ (λ i. if c.args.yes then with_held (λ t. tid_same t c.args.tid) (c.deref_mut.ensures.value i) (held_parts (reverse (c.deref.ensures.value i))) else c.deref_mut.ensures.value i) in
-    let built = built_decided (base_of m.nodes m.node) m.records.items m.space.items c.write_decided.new.space m.locks.holds m.forced.items m.held.items c.args.tid c.args.yes c.requires.memory c.requires.decision written (grind arith) in
+    let written : c.write_decided.new.space ≡ (if c.args.yes then with_held (λ t. tid_same t c.args.tid) m.space (held_parts (reverse m.records.items)) else m.space) =
+    c.write_decided.ensures.space
+    ∙ (λ i. if c.args.yes then with_held (λ t. tid_same t c.args.tid) m.space (held_parts (reverse (c.deref.ensures.value i))) else m.space) in
+    let built = built_decided (base_of m.nodes m.node) m.records.items m.space c.write_decided.new.space m.locks.holds m.forced.items m.held.items c.args.tid c.args.yes c.requires.memory c.requires.decision written c.write_decided.ensures.whole in
     let with_records = subst (λ (l : List Record). IsMadeByRecords (base_of m.nodes m.node) l c.write_decided.new.space (without c.args.tid m.locks.holds) m.forced.items (votes_of_others c.args.tid m.held.items)) (sym items) built in
     let with_holds = subst (λ (l : List Hold). IsMadeByRecords (base_of m.nodes m.node) c.push.new.self.items c.write_decided.new.space l m.forced.items (votes_of_others c.args.tid m.held.items)) (sym c.release.ensures.left) with_records in
-    let with_votes = subst (λ (l : List Vote). IsMadeByRecords (base_of m.nodes m.node) c.push.new.self.items c.write_decided.new.space c.release.new.self.holds m.forced.items l) (sym c.forget.ensures) with_holds in
-    subst (λ (l : List ℕ). IsMadeByRecords (base_of m.nodes m.node) c.push.new.self.items l c.release.new.self.holds m.forced.items c.forget.new.held.items) (sym whole) with_votes
+    subst (λ (l : List Vote). IsMadeByRecords (base_of m.nodes m.node) c.push.new.self.items c.write_decided.new.space c.release.new.self.holds m.forced.items l) (sym c.forget.ensures) with_holds
 
 pub returns-clause-held : goal.returns-clause-held
 returns-clause-held c =

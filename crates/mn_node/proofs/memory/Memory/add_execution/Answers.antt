@@ -1,5 +1,5 @@
-use Rattle.std.proofs.Common.{◌≡◌, ◌++◌, ◌∷◌, [], ℕ, List, length, take, drop, ap, sym, ◌∙◌, subst, arith}
-use Rattle.std.proofs.lemmas.List.{take_at}
+use Rattle.std.proofs.Common.{◌≡◌, ◌++◌, ◌∷◌, [], List, ap, sym, ◌∙◌, subst}
+use Rattle.mn_mini.specs.declared.part.PartItem.{PartItem}
 use Rattle.mn_mini.specs.declared.record.Record.{Record}
 use Rattle.mn_mini.specs.declared.record.Record.TheVariants.{Executed}
 use Rattle.mn_mini.specs.Flat.{space_after_part}
@@ -17,9 +17,6 @@ returns-clause-memory c =
     let new = c.write_items.new.space in
     let items : c.push.new.self.items ≡ m.records.items ++ c.args.executed ∷ [] = rw c.unwrap.ensures at c.push.ensures.items in
     let records : c.push.new.self.items ≡ m.records.items ++ Executed c.args.tid part ∷ [] = items ∙ ap (λ (r : Record). m.records.items ++ r ∷ []) c.requires.same in
-    let same : length new ≡ m.space.len = grind arith in
-    let whole : take m.space.len (new ++ drop (length new) m.space.items) ≡ new = take_at new (drop (length new) m.space.items) m.space.len same in
-    let written : new ≡ space_after_part m.space.items part = c.write_items.ensures ∙ (λ i. space_after_part (c.deref_mut.ensures.value i) (c.as_slice.ensures i)) in
-    let built = built_executed base m.records.items m.space.items new m.locks.holds m.forced.items m.held.items c.args.tid part c.requires.memory (subst IsRecord c.requires.same c.requires.execution) written (grind arith) in
-    let with_records = subst (λ (l : List Record). IsMadeByRecords base l new m.locks.holds m.forced.items m.held.items) (sym records) built in
-    subst (λ (l : List ℕ). IsMadeByRecords base c.push.new.self.items l m.locks.holds m.forced.items m.held.items) (sym whole) with_records
+    let written : new ≡ space_after_part m.space part = c.write_items.ensures.space ∙ ap (λ (p : List PartItem). space_after_part m.space p) c.as_slice.ensures in
+    let built = built_executed base m.records.items m.space new m.locks.holds m.forced.items m.held.items c.args.tid part c.requires.memory (subst IsRecord c.requires.same c.requires.execution) written c.write_items.ensures.whole in
+    subst (λ (l : List Record). IsMadeByRecords base l new m.locks.holds m.forced.items m.held.items) (sym records) built

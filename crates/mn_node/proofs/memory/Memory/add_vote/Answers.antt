@@ -35,7 +35,7 @@ returns-clause-memory c =
     let votes : c.push.new.self.items ≡ m.held.items ++ v ∷ [] = rw c.unwrap-2.ensures at c.push.ensures.items in
     let items : c.push-2.new.self.items ≡ m.records.items ++ c.args.vote ∷ [] = rw c.unwrap-3.ensures at c.push-2.ensures.items in
     let records : c.push-2.new.self.items ≡ m.records.items ++ Voted c.args.tid ps part ∷ [] = items ∙ ap (λ (r : Record). m.records.items ++ r ∷ []) c.requires.same in
-    let built = built_voted base m.records.items m.space.items m.locks.holds m.forced.items m.held.items c.args.tid ps part c.len-place.result (c.len-place.ensures ∙ m.records.ok.0) c.requires.memory (subst IsRecord c.requires.same c.requires.vote) in
-    let with_holds = subst (λ (l : List Hold). IsMadeByRecords base (m.records.items ++ Voted c.args.tid ps part ∷ []) m.space.items l m.forced.items (m.held.items ++ v ∷ [])) (sym holds) built in
-    let with_votes = subst (λ (l : List Vote). IsMadeByRecords base (m.records.items ++ Voted c.args.tid ps part ∷ []) m.space.items c.try_lock.new.self.holds m.forced.items l) (sym votes) with_holds in
-    subst (λ (l : List Record). IsMadeByRecords base l m.space.items c.try_lock.new.self.holds m.forced.items c.push.new.self.items) (sym records) with_votes
+    let built = built_voted base m.records.items m.space m.locks.holds m.forced.items m.held.items c.args.tid ps part c.len-place.result (c.len-place.ensures ∙ m.records.ok.0) c.requires.memory (subst IsRecord c.requires.same c.requires.vote) in
+    let with_holds = subst (λ (l : List Hold). IsMadeByRecords base (m.records.items ++ Voted c.args.tid ps part ∷ []) m.space l m.forced.items (m.held.items ++ v ∷ [])) (sym holds) built in
+    let with_votes = subst (λ (l : List Vote). IsMadeByRecords base (m.records.items ++ Voted c.args.tid ps part ∷ []) m.space c.try_lock.new.self.holds m.forced.items l) (sym votes) with_holds in
+    subst (λ (l : List Record). IsMadeByRecords base l m.space c.try_lock.new.self.holds m.forced.items c.push.new.self.items) (sym records) with_votes

@@ -1,0 +1,87 @@
+ghost use Rattle.std.specs.Prelude.{◌≡◌, ◌≤◌, ◌<◌, ◌+◌, length, bytes_eq, IfOk};
+ghost use Rattle.mn_mini.specs.Flat.{bytes_in, overwritten};
+ghost use Rattle.mn_page.specs.Base.{base_of};
+ghost use Rattle.mn_page.specs.Grammar.{padded};
+
+use mn_base::{NoMemory, are_zeros};
+use mn_mini::SPACE;
+use mn_page::base_bytes;
+use std::alloc::Global;
+use std::marker::Model;
+
+/// The space of a node. Contracts see all its bytes. The zeros behind the last byte that was
+/// written aren't kept, so a node uses memory for what it holds alone; but there is room for them,
+/// so a write takes none.
+#[derive(Drop)]
+pub struct Space {
+    kept: Vec<u8>,
+}
+
+impl Model for Space {
+    ghost use Rattle.std.specs.Prelude.{◌≤◌, List, ℕ, length, vec_capacity};
+    ghost use Rattle.mn_mini.specs.Mini.{space_size};
+    ghost use Rattle.mn_page.specs.Grammar.{padded};
+
+    ghost Value = { List ℕ };
+
+    ghost view = { λ s. padded space_size s.kept.items };
+
+    ghost invariant = { λ s. (length s.kept.items ≤ space_size)
+        × (space_size ≤ vec_capacity s.kept) };
+}
+
+impl Space {
+    /// The space that this node, of so many, begins with. NoMemory: there was no memory for it.
+    pub fn base(alloc: Global, node: u8, nodes: u8) -> Result<Self, NoMemory>
+        requires { 0 < nodes }
+        ensures { IfOk result (λ space. space ≡ base_of nodes node) }
+    {
+        let mut kept = base_bytes(alloc, node, nodes)?;
+        kept.reserve(SPACE as usize - kept.len())?;
+        Ok(Space { kept })
+    }
+
+    /// What is kept of a range. What is missing is zeros.
+    fn kept_in(&self, start: u32, length: usize) -> &[u8]
+        requires { start + length ≤ Rattle.std.specs.Prelude.length self.now }
+        ensures bytes { padded length result.now ≡ bytes_in self.now start length }
+        ensures short { Rattle.std.specs.Prelude.length result.now ≤ length }
+    {
+        let start = start as usize;
+        let from = self.kept.len().min(start);
+        let to = self.kept.len().min(start + length);
+        &self.kept[from..to]
+    }
+
+    /// Whether these bytes stand there.
+    pub fn holds(&self, start: u32, bytes: &[u8]) -> bool
+        requires { start + length bytes.now ≤ length self.now }
+        ensures { result ≡ bytes_eq (bytes_in self.now start (length bytes.now)) bytes.now }
+    {
+        let kept = self.kept_in(start, bytes.len());
+        kept == &bytes[..kept.len()] && are_zeros(&bytes[kept.len()..])
+    }
+
+    /// A copy of the bytes of a range. NoMemory: there was no memory for it.
+    pub fn copy_of(&self, alloc: Global, start: u32, length: usize) -> Result<Vec<u8>, NoMemory>
+        requires { start + length ≤ Rattle.std.specs.Prelude.length self.now }
+        ensures { IfOk result (λ copy. copy.items ≡ bytes_in self.now start length) }
+    {
+        let mut copy = self.kept_in(start, length).to_vec(alloc)?;
+        copy.resize(length, 0)?;
+        Ok(copy)
+    }
+
+    /// Puts bytes over a range. It takes no memory.
+    pub fn put(&mut self, start: u32, bytes: &[u8])
+        requires { start + length bytes.now ≤ length self.old }
+        ensures bytes { self.new ≡ overwritten self.old start bytes.now }
+        ensures whole { length self.new ≡ length self.old }
+    {
+        let start = start as usize;
+        let end = start + bytes.len();
+        let length = self.kept.len().max(end);
+        self.kept.resize(length, 0).unwrap();
+        self.kept[start..end].copy_from_slice(bytes);
+    }
+}
