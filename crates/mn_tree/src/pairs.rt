@@ -98,7 +98,7 @@ pub fn with_pair(
 ) -> Result<Vec<Pair>, NoMemory>
     ensures { IfOk result (λ found. found.items ≡ pairs_with pairs.now key.now value.now) }
 {
-    let mut found = Vec::new(alloc);
+    let mut found = Vec::with_capacity(alloc, pairs.len().saturating_add(1))?;
     push_pairs_with(alloc, &mut found, pairs, key, value)?;
     Ok(found)
 }

@@ -43,6 +43,9 @@ use mn_vtree::VersionTree;
 use std::alloc::Global;
 use std::mem;
 
+/// For how many pages there is room at once: for those of a path in a tree of some size.
+const FIRST_ROOM: usize = 7;
+
 /// A try of a transaction: its steps on the pages that it read.
 #[derive(Debug)]
 pub struct Attempt {
@@ -149,7 +152,7 @@ impl Attempt {
             version,
             root,
             overlay: Overlay::new(alloc, tree, version, root)?,
-            pages: Vec::new(alloc),
+            pages: Vec::with_capacity(alloc, FIRST_ROOM)?,
             found: Vec::new(alloc),
             done: 0,
             counts: Vec::new(alloc),
