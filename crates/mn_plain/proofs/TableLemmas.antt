@@ -133,6 +133,22 @@ set_shown (e ∷ es) key value sorted = step (set_shown es key value (sorted_tai
     step rest Equal same = subst (λ (k : List ℕ). shown_before e.0 value (shown es) ≡ pairs_set (shown (e ∷ es)) k value) (sym (equal_is key e.0 same)) (set_same e.0 e.1 value (shown es) above)
     step rest Greater high = ap (λ (ps : List Pair). shown_before e.0 e.1 ps) rest ∙ set_past e.0 e.1 (shown es) key value (greater_is key e.0 high)
 
+-- what is left without a key
+pub remove_shown : (es : List (List ℕ × Option (List ℕ))) (key : List ℕ) → IsStrictlySortedBy key_cmp (keys_of es)
+    → shown (remove_entry (is_at (key_cmp key)) es) ≡ pairs_without (shown es) key
+remove_shown [] key sorted = refl
+remove_shown (e ∷ es) key sorted = step (remove_shown es key (sorted_tail key_cmp e.0 (keys_of es) sorted)) (key_cmp key e.0) refl
+  where
+    other : (o : Option (List ℕ)) → bytes_eq e.0 key ≡ false → shown_before e.0 o (pairs_without (shown es) key) ≡ pairs_without (shown_before e.0 o (shown es)) key
+    other None apart = refl
+    other (Some v) apart = sym (ap (λ b. cond (not b) (pair_of e.0 v ∷ pairs_without (shown es) key) (pairs_without (shown es) key)) apart)
+
+    step : shown (remove_entry (is_at (key_cmp key)) es) ≡ pairs_without (shown es) key → (r : Ordering) → key_cmp key e.0 ≡ r
+        → shown (cond (is_eq r) es (e ∷ remove_entry (is_at (key_cmp key)) es)) ≡ pairs_without (shown (e ∷ es)) key
+    step rest Equal same = subst (λ (k : List ℕ). shown es ≡ pairs_without (shown (e ∷ es)) k) (sym (equal_is key e.0 same)) (set_same e.0 e.1 None (shown es) (above_shown e.0 es (sorted_head key_cmp e.0 (keys_of es) sorted)))
+    step rest Less low = ap (λ (ps : List Pair). shown_before e.0 e.1 ps) rest ∙ other e.1 (lt_not_same key e.0 (ap is_lt low))
+    step rest Greater high = ap (λ (ps : List Pair). shown_before e.0 e.1 ps) rest ∙ other e.1 (below_not_same e.0 key (greater_is key e.0 high))
+
 -- what is found at a key
 pub find_shown : (es : List (List ℕ × Option (List ℕ))) (key : List ℕ) → IsStrictlySortedBy key_cmp (keys_of es)
     → value_at (shown es) key ≡ option_and_then (λ x. x) (lookup (is_at (key_cmp key)) es)

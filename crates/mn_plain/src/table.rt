@@ -3,7 +3,8 @@ ghost use Rattle.std.specs.Prelude.{option_and_then, IfOk, IsTrue, OnOk, OnErr};
 ghost use Rattle.std.specs.BTreeMap.{ContainsKey, get};
 ghost use Rattle.std.specs.List.{AllByRecursion};
 ghost use Rattle.mn_base.specs.Order.{key_cmp};
-ghost use Rattle.mn_base.specs.Store.{pairs_within, value_at, is_ascending, pairs_after_step};
+ghost use Rattle.mn_base.specs.Store.{pairs_within, pairs_without, value_at, is_ascending};
+ghost use Rattle.mn_base.specs.Store.{pairs_after_step};
 ghost use Rattle.mn_plain.specs.Run.{pairs_after};
 ghost use Rattle.mn_plain.specs.Table.{shown, pairs_set, KeepsPlaces, HasPlace, from_low, to_high};
 ghost use Rattle.mn_plain.specs.Table.{are_turned};
@@ -151,15 +152,49 @@ fn clear_place(alloc: Global, table: &mut Table, key: &Key)
     }
 }
 
-/// Removes the places without a value among those of the keys that the steps change.
-fn clear_places(alloc: Global, table: &mut Table, steps: &[Step])
+/// Removes the places without a value among those of the keys that the steps change. Where they
+/// were taken, a Put has left a value, or a Del of its key stands behind it.
+fn clear_places(alloc: Global, table: &mut Table, steps: &[Step], taken: bool)
     ensures { shown table.new.entries ≡ shown table.old.entries }
 {
     for step in steps {
         match step {
-            Step::Put { key, .. } | Step::Del { key } => clear_place(alloc, table, key),
+            Step::Put { key, .. } => {
+                if !taken {
+                    clear_place(alloc, table, key);
+                }
+            }
+            Step::Del { key } => clear_place(alloc, table, key),
             Step::Get { .. } | Step::Check { .. } => {}
         }
+    }
+}
+
+/// Removes what stands at a key.
+fn remove(table: &mut Table, key: &OrderedKey)
+    ensures { shown table.new.entries ≡ pairs_without (shown table.old.entries) key.now }
+{
+    // Its clause says that the keys ascend.
+    let _len = table.len();
+    table.remove(key);
+}
+
+/// Does a step alone, with one search, or nothing where there is no memory for it.
+fn take_lone(alloc: Global, table: &mut Table, step: &Step) -> Result<(), NoMemory>
+    ensures taken { OnOk result (shown table.new.entries
+        ≡ pairs_after_step (shown table.old.entries) step.now) }
+    ensures kept { OnErr result (shown table.new.entries ≡ shown table.old.entries) }
+{
+    match step {
+        Step::Put { key, value } => {
+            let value = value.try_copy(alloc)?;
+            set(table, OrderedKey::copy_of(alloc, key)?, Some(value))
+        }
+        Step::Del { key } => {
+            remove(table, &OrderedKey::copy_of(alloc, key)?);
+            Ok(())
+        }
+        Step::Get { .. } | Step::Check { .. } => Ok(()),
     }
 }
 
@@ -169,8 +204,11 @@ pub fn take_steps(alloc: Global, table: &mut Table, steps: &[Step]) -> Result<()
         ≡ pairs_after (shown table.old.entries) steps.now) }
     ensures kept { OnErr result (shown table.new.entries ≡ shown table.old.entries) }
 {
+    if let [step] = steps {
+        return take_lone(alloc, table, step);
+    }
     let taken = take_in_places(alloc, table, steps);
-    clear_places(alloc, table, steps);
+    clear_places(alloc, table, steps, taken.is_ok());
     taken
 }
 
