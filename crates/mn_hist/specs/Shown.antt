@@ -3,6 +3,7 @@ use Rattle.std.specs.Prelude.{ℕ, ◌≡◌, Bool, true, false, ◌&&◌, nat_e
 use Rattle.std.specs.Prelude.{None}
 use Rattle.std.specs.Prelude.{⊤, Contains}
 use Rattle.mn_base.specs.Store.{number_named, value_at}
+use Rattle.mn_base.specs.Tree.{parents_of}
 use Rattle.mn_base.specs.declared.op.Op.{Op}
 use Rattle.mn_base.specs.declared.op.Step.{Step}
 use Rattle.mn_base.specs.declared.op.Step.TheVariants.{Get}
@@ -90,6 +91,12 @@ abbrev pub CatalogServes : List ℕ → List ℕ → Page → Type 0
 CatalogServes bytes name page =
     (entries : List CatEntry) × SpellsCatalog bytes entries × (v : ℕ)
     × (number_named (heads_in entries) name ≡ Some v) × (page_serves entries v page ≡ true)
+
+-- what is known of a catalog's bytes is what they spell, with the tree of its versions
+abbrev pub IsKnownOf : List ℕ → Option (List CatEntry × List (Option ℕ)) → Type 0
+IsKnownOf bytes None = ⊤
+IsKnownOf bytes (Some known) =
+    SpellsCatalog bytes known.0 × (known.1 ≡ parents_of (heads_in known.0))
 
 abbrev pub IsServedByCatalog : Option (List ℕ) → List ℕ → Page → Type 0
 IsServedByCatalog None name page = ⊥

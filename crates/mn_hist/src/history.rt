@@ -32,7 +32,7 @@ ghost use Rattle.mn_world.specs.Meaning.{OpenedRun};
 ghost use Rattle.mn_world.specs.OneHistory.{IsOneHistory};
 ghost use Rattle.mn_world.specs.Run.{entries_of};
 
-use crate::shown::{Read, shows};
+use crate::shown::{KnownCatalog, Read, shows};
 use mn_base::{Answer, ClientNo, History, NoMemory, Op, Past, Reply, Tid, TryCopy};
 use mn_mini::{Item, Minitransaction};
 use mn_plain::Store;
@@ -42,14 +42,14 @@ use mn_world::{
 use std::alloc::Global;
 use std::collections::{HashMap, HashSet};
 use std::marker::Model;
+use std::rc::Rc;
 
-/// A read of a client with its place, and the bytes of the catalog that the client had read last
-/// before it.
+/// A read of a client with its place, and the catalog that the client had read last before it.
 #[derive(Drop)]
 struct Noted<'a> {
     place: usize,
     read: Read<'a>,
-    catalog: Option<&'a [u8]>,
+    catalog: Option<Rc<KnownCatalog<'a>>>,
 }
 
 impl<'a> Model for Noted<'a> {
@@ -62,7 +62,7 @@ impl<'a> Model for Noted<'a> {
     ghost view = { λ n. record {
       place = n.place;
       seen = as_seen n.read;
-      catalog = option_map (λ c. c.now) n.catalog;
+      catalog = option_map (λ c. c.value) n.catalog;
     } };
 }
 
@@ -87,7 +87,7 @@ impl<'a> Model for Begun<'a> {
 struct Caller<'a> {
     begun: Option<Begun<'a>>,
     notes: Vec<Noted<'a>>,
-    catalog: Option<&'a [u8]>,
+    catalog: Option<Rc<KnownCatalog<'a>>>,
 }
 
 impl<'a> Model for Caller<'a> {
@@ -100,8 +100,30 @@ impl<'a> Model for Caller<'a> {
     ghost view = { λ c. record {
       begun = c.begun;
       notes = reverse c.notes.items;
-      catalog = option_map (λ b. b.now) c.catalog;
+      catalog = option_map (λ b. b.value) c.catalog;
     } };
+}
+
+/// The catalog, for one more owner.
+fn shared<'a>(
+    catalog: &Option<Rc<KnownCatalog<'a>>>,
+) -> Result<Option<Rc<KnownCatalog<'a>>>, NoMemory>
+    ensures { IfOk result (λ copy.
+        option_map (λ c. c.value) copy ≡ option_map (λ c. c.value) catalog.now) }
+{
+    match catalog {
+        Some(catalog) => Ok(Some(catalog.clone()?)),
+        None => Ok(None),
+    }
+}
+
+fn lent<'b, 'a>(catalog: &'b Option<Rc<KnownCatalog<'a>>>) -> Option<&'b KnownCatalog<'a>>
+    ensures { option_map (λ c. c.now) result ≡ option_map (λ c. c.value) catalog.now }
+{
+    match catalog {
+        Some(catalog) => Some(catalog.as_ref()),
+        None => None,
+    }
 }
 
 /// The place of the first read of the catalog. `notes` stand oldest first.
@@ -130,7 +152,7 @@ fn last_shown(
     while left > 0 {
         left -= 1;
         let note = &notes[left];
-        if shows(alloc, &note.read, note.catalog, op, reply)? {
+        if shows(alloc, &note.read, lent(&note.catalog), op, reply)? {
             return Ok(Some(note.place));
         }
     }
@@ -162,18 +184,18 @@ impl<'a> Caller<'a> {
 
     /// Notes what an entry of its own at this place has read.
     #[inline(always)]
-    fn note(&mut self, place: usize, entry: &'a Entry) -> Result<(), NoMemory>
+    fn note(&mut self, alloc: Global, place: usize, entry: &'a Entry) -> Result<(), NoMemory>
         ensures { OnOk result (self.new ≡ with_seen place (seen_at entry.now) self.old) }
     {
         if let Some(read) = Read::of(entry) {
-            let catalog = self.catalog;
+            let catalog = shared(&self.catalog)?;
             self.notes.push(Noted {
                 place,
                 read,
                 catalog,
             })?;
             if read.is_catalog() {
-                self.catalog = Some(read.bytes);
+                self.catalog = Some(Rc::new(alloc, KnownCatalog::new(alloc, read.bytes)?)?);
             }
         }
         Ok(())
@@ -181,7 +203,7 @@ impl<'a> Caller<'a> {
 
     /// Takes an entry of its own at this place.
     #[inline(always)]
-    fn take(&mut self, place: usize, entry: &'a Entry) -> Result<(), NoMemory>
+    fn take(&mut self, alloc: Global, place: usize, entry: &'a Entry) -> Result<(), NoMemory>
         ensures { OnOk result (self.new
             ≡ state_after place entry.now.what (seen_at entry.now) self.old) }
     {
@@ -199,7 +221,7 @@ impl<'a> Caller<'a> {
                 self.notes.clear();
                 Ok(())
             }
-            _ => self.note(place, entry),
+            _ => self.note(alloc, place, entry),
         }
     }
 }
@@ -431,6 +453,7 @@ fn note_issue<'a>(
 
 /// Notes what the entry of this client at this place tells of it.
 fn note_own<'a>(
+    alloc: Global,
     callers: &mut [Caller<'a>],
     client: ClientNo,
     place: usize,
@@ -442,18 +465,23 @@ fn note_own<'a>(
         → entry.now.client ≡ Some client → AreCallerStates callers.old past
         → AreCallerStates callers.new (entry.now ∷ past)) }
 {
-    callers[usize::from(client.0)].take(place, entry)
+    callers[usize::from(client.0)].take(alloc, place, entry)
 }
 
 /// Notes what the entry at this place tells of its client.
-fn note_step<'a>(callers: &mut [Caller<'a>], place: usize, entry: &'a Entry) -> Result<(), NoMemory>
+fn note_step<'a>(
+    alloc: Global,
+    callers: &mut [Caller<'a>],
+    place: usize,
+    entry: &'a Entry,
+) -> Result<(), NoMemory>
     requires { length callers.old ≡ 256 }
     ensures long { length callers.new ≡ 256 }
     ensures tells { OnOk result ((past : List Step) → place ≡ length past
         → AreCallerStates callers.old past → AreCallerStates callers.new (entry.now ∷ past)) }
 {
     match entry.client {
-        Some(client) => note_own(callers, client, place, entry),
+        Some(client) => note_own(alloc, callers, client, place, entry),
         None => Ok(()),
     }
 }
@@ -572,7 +600,7 @@ impl<'a> HistoryReader<'a> {
             committed,
         )?;
         note_issue(&self.callers, &mut self.plans, entry)?;
-        note_step(&mut self.callers, self.slots.len(), entry)?;
+        note_step(alloc, &mut self.callers, self.slots.len(), entry)?;
         self.slots.push(act)?;
         Ok(())
     }

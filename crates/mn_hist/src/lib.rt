@@ -15,4 +15,4 @@ pub use history::history_of;
 pub use lists::{ClientLists, Lists, NodeLists};
 pub use merging::merge;
 pub use points::{Step, asked_in, may_stop, meet, none_met, voted_id};
-pub use shown::{Read, shows};
+pub use shown::{KnownCatalog, Read, shows};

@@ -14,7 +14,7 @@ ghost use Rattle.mn_page.specs.declared.page.Page.{Page as Leaf};
 ghost use Rattle.mn_world.specs.Places.{page_place};
 ghost use Rattle.mn_world.specs.Shown.{seen_by, seen_at, CatalogReplies};
 ghost use Rattle.mn_hist.specs.Shown.{as_seen, TestDecides, is_of_catalog, TellsShown};
-ghost use Rattle.mn_hist.specs.Shown.{CatalogBytesShow};
+ghost use Rattle.mn_hist.specs.Shown.{CatalogBytesShow, CatalogServes, IsKnownOf};
 ghost use Rattle.mn_hist.specs.Shown.{TellsLeafBytesShow, lone_key, leaf_value, IsServedByCatalog};
 
 use mn_base::{Key, Name, NoMemory, NodeNo, Op, Reply, Step, Steps, Value, Version};
@@ -23,9 +23,10 @@ use mn_fence::covers;
 use mn_mini::{NodeReply, PartItem, Request};
 use mn_page::{CatEntry, PageRef};
 use mn_path::value_in;
-use mn_vtree::VersionTree;
+use mn_vtree::{TreeError, VersionTree};
 use mn_world::{Entry, What};
 use std::alloc::Global;
+use std::marker::Model;
 
 /// The node of the catalog, its place there, and how many bytes it has.
 const CATALOG_NODE: NodeNo = NodeNo(0);
@@ -217,41 +218,92 @@ fn catalog_shows(alloc: Global, bytes: &[u8], op: &Op, reply: &Reply) -> Result<
 }
 
 /// The tree of the versions of these entries, if each parent has a lower number.
-fn tree_of(alloc: Global, entries: &[CatEntry]) -> Result<VersionTree, NoMemory>
-    ensures { IfOk result (λ tree. tree ≡ parents_of (heads_in entries.now)) }
+fn tree_of(alloc: Global, entries: &[CatEntry]) -> Result<Option<VersionTree>, NoMemory>
+    ensures { IfOk result (λ found.
+        MatchOption found ⊤ (λ tree. tree ≡ parents_of (heads_in entries.now))) }
 {
     let mut parents = Vec::with_capacity(alloc, entries.len())?;
     for entry in entries {
         parents.push(entry.parent)?;
     }
     match VersionTree::new(alloc, &parents) {
-        Ok(tree) => Ok(tree),
-        Err(_) => Err(NoMemory),
+        Ok(tree) => Ok(Some(tree)),
+        Err(TreeError::BadParent { .. }) => Ok(None),
+        Err(TreeError::NoMemory) => Err(NoMemory),
     }
 }
 
-/// Finds that the page serves the version of this name, by the catalog that these bytes spell.
-/// NoMemory: there was no memory to tell, or it doesn't.
+/// The catalog that the bytes spell, with the tree of its versions.
+fn known_in(alloc: Global, bytes: &[u8]) -> Result<Option<(Catalog, VersionTree)>, NoMemory>
+    ensures { IfOk result (λ known. IsKnownOf bytes.now known) }
+{
+    let Some(catalog) = catalog_in(alloc, bytes)? else {
+        return Ok(None);
+    };
+    let Some(tree) = tree_of(alloc, catalog.entries())? else {
+        return Ok(None);
+    };
+    Ok(Some((catalog, tree)))
+}
+
+/// A catalog that was read: its bytes, and what is known of them, so that they are parsed once.
+/// Contracts see the bytes.
+#[derive(Drop)]
+pub struct KnownCatalog<'a> {
+    bytes: &'a [u8],
+    known: Option<(Catalog, VersionTree)>,
+}
+
+impl<'a> Model for KnownCatalog<'a> {
+    ghost use Rattle.std.specs.Prelude.{ℕ, List};
+    ghost use Rattle.mn_hist.specs.Shown.{IsKnownOf};
+
+    ghost Value = { List ℕ };
+
+    ghost view = { λ c. c.bytes.now };
+
+    ghost invariant = { λ c. IsKnownOf c.bytes.now c.known };
+}
+
+impl<'a> KnownCatalog<'a> {
+    /// NoMemory: there was no memory for it.
+    pub fn new(alloc: Global, bytes: &'a [u8]) -> Result<KnownCatalog<'a>, NoMemory>
+        ensures { IfOk result (λ known. known ≡ bytes.now) }
+    {
+        Ok(KnownCatalog {
+            bytes,
+            known: known_in(alloc, bytes)?,
+        })
+    }
+
+    /// Whether the page serves the version of this name by it. No: also where the bytes spell no
+    /// catalog with a tree of versions.
+    fn serves(&self, name: &Name, page: &PageRef<'_>) -> bool
+        ensures { result ≡ true → CatalogServes self.now name.now page.now }
+    {
+        let Some((catalog, tree)) = &self.known else {
+            return false;
+        };
+        let Some(version) = catalog.find(name) else {
+            return false;
+        };
+        tree.serves(page.made(), page.copied(), version)
+    }
+}
+
+/// Finds that the page serves the version of this name by the catalog. NoMemory: it doesn't.
 fn expect_served(
-    alloc: Global,
-    catalog: Option<&[u8]>,
+    catalog: Option<&KnownCatalog<'_>>,
     name: &Name,
     page: &PageRef<'_>,
 ) -> Result<(), NoMemory>
     ensures { OnOk result (IsServedByCatalog
         (option_map (λ c. c.now) catalog.entry) name.now page.now) }
 {
-    let Some(bytes) = catalog else {
+    let Some(catalog) = catalog else {
         return Err(NoMemory);
     };
-    let Some(catalog) = catalog_in(alloc, bytes)? else {
-        return Err(NoMemory);
-    };
-    let Some(version) = catalog.find(name) else {
-        return Err(NoMemory);
-    };
-    let tree = tree_of(alloc, catalog.entries())?;
-    if tree.serves(page.made(), page.copied(), version) {
+    if catalog.serves(name, page) {
         Ok(())
     } else {
         Err(NoMemory)
@@ -319,9 +371,8 @@ fn page_in<'a>(bytes: &'a [u8]) -> Option<PageRef<'a>>
 
 /// Whether the leaf that the bytes spell shows what a lone Get of the key finds in the version.
 fn leaf_shows(
-    alloc: Global,
     bytes: &[u8],
-    catalog: Option<&[u8]>,
+    catalog: Option<&KnownCatalog<'_>>,
     version: &Name,
     key: &Key,
     reply: &Reply,
@@ -338,7 +389,7 @@ fn leaf_shows(
     if !is_found(reply, value) {
         return Ok(false);
     }
-    expect_served(alloc, catalog, version, &page)?;
+    expect_served(catalog, version, &page)?;
     Ok(true)
 }
 
@@ -349,7 +400,7 @@ fn leaf_shows(
 pub fn shows(
     alloc: Global,
     read: &Read<'_>,
-    catalog: Option<&[u8]>,
+    catalog: Option<&KnownCatalog<'_>>,
     op: &Op,
     reply: &Reply,
 ) -> Result<bool, NoMemory>
@@ -368,5 +419,5 @@ pub fn shows(
     if !read.is_page() {
         return Ok(false);
     }
-    leaf_shows(alloc, read.bytes, catalog, version, key, reply)
+    leaf_shows(read.bytes, catalog, version, key, reply)
 }

@@ -1,4 +1,4 @@
-use Rattle.std.proofs.Common.{◌≡◌, ℕ, ◌+◌, ◌-◌, ◌<◌, ap, subst, arith, take, drop, reverse}
+use Rattle.std.proofs.Common.{◌≡◌, ℕ, ◌+◌, ◌-◌, ◌<◌, List, Option, ap, subst, arith, take, drop, reverse}
 use Rattle.std.specs.List.{AllByRecursion}
 use Rattle.std.specs.Option.{option_map}
 use Rattle.mn_node.proofs.Built.{all-reverse}
@@ -30,7 +30,8 @@ returns-then-branch c =
       split = reverse_at c.args.notes.now (c.loop-left.left - 1) c.index-notes-left.result (omega (arith, within)) c.index-notes-left.is;
       is_place = ap (λ (n : Note). n.place) c.note.view_is;
       shown = subst (λ (n : Note). IsShownBy n.catalog n.seen c.args.op.now c.args.reply.now) c.note.view_is
-          (subst (λ b. TellsShown b (option_map (λ x. x.now) c.note.inside.catalog) (as_seen c.note.inside.read) c.args.op.now c.args.reply.now) c.if-branch.true c.in_ok-shows.ensures);
+          (subst (λ (o : Option (List ℕ)). IsShownBy o (as_seen c.note.inside.read) c.args.op.now c.args.reply.now) c.lent.ensures
+          (subst (λ b. TellsShown b (option_map (λ x. x.now) c.lent.result) (as_seen c.note.inside.read) c.args.op.now c.args.reply.now) c.if-branch.true c.in_ok-shows.ensures));
       none = all-reverse unshown (drop (c.loop-left.left - 1 + 1) c.args.notes.now) (subst (λ k. AllByRecursion unshown (drop k c.args.notes.now)) (back c.loop-left.left c.loop-left-test.true) c.loop-left.invariant.none);
     }
 
@@ -42,5 +43,5 @@ loop-left-preserved c =
       within = omega (arith, within);
       none = all_drop unshown c.args.notes.now (c.loop-left.left - 1) c.index-notes-left.result (omega (arith, within)) c.index-notes-left.is
           (subst (λ k. AllByRecursion unshown (drop k c.args.notes.now)) (back c.loop-left.left c.loop-left-test.true) c.loop-left.invariant.none)
-          (subst unshown c.note.view_is (subst (λ b. TellsShown b (option_map (λ x. x.now) c.note.inside.catalog) (as_seen c.note.inside.read) c.args.op.now c.args.reply.now) c.if-branch.false c.in_ok-shows.ensures));
+          (subst unshown c.note.view_is (subst (λ b. TellsShown b (option_map (λ x. x.now) c.lent.result) (as_seen c.note.inside.read) c.args.op.now c.args.reply.now) c.if-branch.false c.in_ok-shows.ensures));
     }
