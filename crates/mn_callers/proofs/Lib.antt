@@ -10,6 +10,7 @@ pub mod Handing
 pub mod Merging
 pub mod Staged
 pub mod Opening
+pub mod Ordered
 pub mod Stations
 pub mod Recovering
 pub mod Recoveries

@@ -1,10 +1,12 @@
 -- What the coordinator that opens and closes does to the records of the nodes. Lists of records
 -- stand newest first.
 use Rattle.std.specs.Prelude.{ℕ, ◌+◌, ◌-◌, ◌≡◌, ◌≤◌, ◌<◌, ◌⊎◌, Bool, true, false, List, ◌++◌}
+use Rattle.std.specs.Prelude.{[], ◌∷◌}
 use Rattle.std.specs.Prelude.{length}
 use Rattle.std.specs.Prelude.{Option, Some, None, Contains, nat_lt, ⊤}
 use Rattle.std.specs.List.{AllByRecursion, list_all}
 use Rattle.atomic_table.specs.Seated.{TableId}
+use Rattle.mn_base.specs.Ids.{tid_lt}
 use Rattle.mn_base.specs.declared.ids.NodeNo.{NodeNo}
 use Rattle.mn_base.specs.declared.ids.Tid.{Tid}
 use Rattle.mn_cell.specs.Station.{StationState}
@@ -60,6 +62,11 @@ AllExtend old new = (n : NodeNo) → Extends (records_at old n) (records_at new 
 -- the ids that are held are among these
 abbrev pub AreHeldIn : List Tid → List Record → Type 0
 AreHeldIn tids records = AllByRecursion (λ h. Contains tids h.tid) (held_parts records)
+
+-- ids in order, each once
+abbrev pub AreInOrder : List Tid → Type 0
+AreInOrder [] = ⊤
+AreInOrder (t ∷ ts) = AllByRecursion (λ u. tid_lt t u ≡ true) ts × AreInOrder ts
 
 -- Recoveries
 

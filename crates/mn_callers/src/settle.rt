@@ -14,8 +14,8 @@ ghost use Rattle.mn_world.specs.Clients.{Sends};
 ghost use Rattle.mn_world.specs.Protocol.{base_at, start_of};
 ghost use Rattle.mn_world.specs.Run.{entries_of};
 ghost use Rattle.mn_callers.specs.Causes.{IsCaused, cause_of};
-ghost use Rattle.mn_callers.specs.Closing.{AllExtend, AreHeldIn, IsClosing, IsDone, IsDoneTo};
-ghost use Rattle.mn_callers.specs.Closing.{ClosesOn, calls_left, failure_of};
+ghost use Rattle.mn_callers.specs.Closing.{AllExtend, AreHeldIn, AreInOrder, IsClosing, IsDone};
+ghost use Rattle.mn_callers.specs.Closing.{IsDoneTo, ClosesOn, calls_left, failure_of};
 ghost use Rattle.mn_callers.specs.Desks.{IsOfRecovery, IsRecoveryCall, IsWork};
 ghost use Rattle.mn_callers.specs.Doings.{HasAnswered, IsAnswer, IsDownAs, OthersStay};
 ghost use Rattle.mn_callers.specs.Failed.{closer};
@@ -261,6 +261,7 @@ impl Closer {
         ensures held { IfOk result (λ tids. (n : Numbered) → n.0 < length N.records
             → AreHeldIn tids.items (records_at table.new.stations.items n)) }
         ensures ids { IfOk result (λ tids. AllByRecursion IsTid tids.items) }
+        ensures order { IfOk result (λ tids. AreInOrder tids.items) }
         ensures caused { IfErr result
             (IsCaused D.faults N.faults N.honest table.new.stations.items) }
     {
@@ -427,6 +428,7 @@ pub fn add_ids(tids: &mut Vec<Tid>, doubts: &Doubts) -> Result<(), NoMemory>
 pub fn sort_ids(tids: &mut Vec<Tid>)
     ensures keeps { (t : Id) → Contains tids.old.items t → Contains tids.new.items t }
     ensures all { (t : Id) → Contains tids.new.items t → Contains tids.old.items t }
+    ensures order { AreInOrder tids.new.items }
 {
     tids.sort_unstable();
     tids.dedup();

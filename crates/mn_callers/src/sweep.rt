@@ -4,6 +4,7 @@ ghost use Rattle.std.specs.List.{AllByRecursion};
 ghost use Rattle.mn_mini.specs.RecordGrammar.{IsTid};
 ghost use Rattle.mn_world.specs.Protocol.{start_nodes};
 ghost use Rattle.mn_world.specs.Run.{entries_of};
+ghost use Rattle.mn_callers.specs.Closing.{AreInOrder};
 ghost use Rattle.mn_callers.specs.Desks.{IsDesk, RecoversOn};
 ghost use Rattle.mn_callers.specs.Hands.{HasTurn, MovesOn, hand_of};
 
@@ -84,6 +85,7 @@ impl Desk {
         ensures recovers { RecoversOn (entries_of self.old.list.entries)
             (entries_of self.new.list.entries) }
         ensures ids { IfOk result (λ tids. AllByRecursion IsTid tids.items) }
+        ensures order { IfOk result (λ tids. AreInOrder tids.items) }
     {
         let mut tids = Vec::new(alloc);
         for number in 0..table.nodes() {

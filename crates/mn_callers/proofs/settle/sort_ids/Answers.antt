@@ -1,11 +1,12 @@
 use Rattle.std.proofs.Common.{◌≡◌, Bool, true, false, refl, sym, ap, subst}
 use Rattle.std.specs.Cmp.{IsEquivalence}
 use Rattle.std.proofs.lemmas.List.Filters.{dedup_is}
-use Rattle.std.proofs.lemmas.List.Kept.{Contains-dedup, Contains-from_dedup}
+use Rattle.std.proofs.lemmas.List.Kept.{Contains-dedup, Contains-from_dedup, IsStrictlySortedBy-dedup}
 use Rattle.std.proofs.lemmas.List.Sorted.{Contains-permutation, IsPermutation-sym}
 use Rattle.mn_base.specs.Ids.{tid_same}
 use Rattle.mn_base.specs.declared.ids.Tid.{Tid}
 use Rattle.mn_world.proofs.Reading.Same.{tid_same-refl, tid_same-true}
+use Rattle.mn_callers.proofs.Ordered.{ids_tie, ids_total, in_order}
 use Rattle.mn_callers.proofs.settle.sort_ids.Goals as goal
 
 both_ways : (x y : Bool) → (x ≡ true → y ≡ true) → (y ≡ true → x ≡ true) → x ≡ y
@@ -32,3 +33,8 @@ pub returns-clause-all : goal.returns-clause-all
 returns-clause-all c = λ t h.
     let is = dedup_is tid_same _ _ c.dedup.ensures.filtered in
     Contains-permutation _ _ t (IsPermutation-sym _ _ c.sort_unstable.ensures.permutation) (Contains-from_dedup tid_same _ t (rw is at h))
+
+pub returns-clause-order : goal.returns-clause-order
+returns-clause-order c =
+    let is = dedup_is tid_same _ _ c.dedup.ensures.filtered in
+    rw is (in_order _ (IsStrictlySortedBy-dedup ids_total ids_tie _ c.sort_unstable.ensures.sorted))
