@@ -68,7 +68,7 @@ fn failure_of(alloc: Global, tid: Tid, node: NodeNo, outcome: Outcome) -> Result
 
 impl Proxy {
     /// Goes on after a minitransaction that failed by the reply of this node.
-    #[inline(always)]
+    #[inline(never)]
     pub(super) fn refuse(
         &mut self,
         alloc: Global,
@@ -99,7 +99,7 @@ impl Proxy {
 
     /// Goes on after a try that failed: with a later one, which reads the catalog anew, or with the
     /// answer. Only the first try may fail with no cause: no run shows this of a later one.
-    #[inline(always)]
+    #[inline(never)]
     pub(super) fn fail(
         &mut self,
         alloc: Global,
