@@ -15,3 +15,4 @@ pub mod Said
 pub mod Lines
 pub mod Moved
 pub mod Reported
+pub mod Following

@@ -28,6 +28,7 @@ use Rattle.mn_world.specs.Calls.{client_entries}
 use Rattle.mn_world.specs.History.{Placed, pasts_of, has_past, IsHistory}
 use Rattle.mn_world.specs.OneHistory.{IsOneHistory}
 use Rattle.mn_world.specs.Protocol.{Start}
+use Rattle.mn_hist.specs.History.{Act}
 use Rattle.mn_hist.specs.Points.{points_met}
 
 -- Answers
@@ -70,6 +71,10 @@ client_name clients c = option_map_or (λ client. client.name) (slice_get client
 
 abbrev pub ranked_as : List ScriptClient → Past → Ranked
 ranked_as clients p = record { client = client_name clients p.client; number = p.number }
+
+-- the same of one whose reply isn't told
+abbrev pub ranked_act : List ScriptClient → Act → Ranked
+ranked_act clients a = record { client = client_name clients a.client; number = a.number }
 
 -- Doubts
 

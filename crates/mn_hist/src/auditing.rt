@@ -4,13 +4,14 @@ ghost use Rattle.mn_report.specs.Report.{CanReport};
 ghost use Rattle.mn_world.specs.Meaning.{OpenedRun};
 ghost use Rattle.mn_world.specs.Protocol.{Start};
 ghost use Rattle.mn_world.specs.Run.{entries_of};
-ghost use Rattle.mn_hist.specs.Audit.{client_name, ranked_as, IsAudit};
+ghost use Rattle.mn_hist.specs.Audit.{client_name, ranked_act, IsAudit};
+ghost use Rattle.mn_hist.specs.History.{acts_in};
 
 use crate::answers::{answers_of, doubts_of, said_in};
-use crate::history::ending_of;
+use crate::history::{Act, ending_of};
 use crate::points::points_met;
 use crate::versions::versions_of;
-use mn_base::{ClientNo, Name, NoMemory, Past, TryCopy};
+use mn_base::{ClientNo, Name, NoMemory, TryCopy};
 use mn_plain::Store;
 use mn_report::{Flags, Ranked, Ranks, Report};
 use mn_script::{Script, ScriptClient};
@@ -28,15 +29,21 @@ fn client_name(alloc: Global, clients: &[ScriptClient], client: ClientNo) -> Res
 }
 
 /// The operations of the history, by the names of their clients.
-fn ranks_of(alloc: Global, clients: &[ScriptClient], history: &[Past]) -> Result<Ranks, NoMemory>
-    ensures { IfOk result (λ ranks. ranks ≡ map (ranked_as clients.now) history.now) }
+fn ranks_of(
+    alloc: Global,
+    clients: &[ScriptClient],
+    slots: &[Option<Act<'_>>],
+) -> Result<Ranks, NoMemory>
+    ensures { IfOk result (λ ranks. ranks ≡ map (ranked_act clients.now) (acts_in slots.now)) }
 {
     let mut ranks = Vec::new(alloc);
-    for past in history {
-        ranks.push(Ranked {
-            client: client_name(alloc, clients, past.client)?,
-            number: past.number,
-        })?;
+    for slot in slots {
+        if let Some(act) = slot {
+            ranks.push(Ranked {
+                client: client_name(alloc, clients, act.client)?,
+                number: act.number,
+            })?;
+        }
     }
     Ok(Ranks::from_vec(ranks))
 }
@@ -60,7 +67,7 @@ pub fn audit(alloc: Global, start: &Store, log: &Log, script: &Script) -> Result
     let ending = ending_of(alloc, start, log)?;
     let said = said_in(alloc, entries)?;
     let answers = answers_of(alloc, &said, clients)?;
-    let history = ranks_of(alloc, clients, ending.history.as_slice())?;
+    let history = ranks_of(alloc, clients, &ending.slots)?;
     let doubts = doubts_of(alloc, &said, &ending.standing, clients)?;
     let points = points_met(alloc, script.points(), entries)?;
     let versions = versions_of(alloc, &ending.store)?;

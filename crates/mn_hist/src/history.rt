@@ -1,7 +1,7 @@
 //! The operations of a log in order of place.
 ghost use Rattle.std.specs.Option.{option_map};
 ghost use Rattle.std.specs.Prelude.{◌≡◌, ◌<◌, ◌∷◌, [], ℕ, List, Some, None, length, replicate};
-ghost use Rattle.std.specs.Prelude.{slice_get};
+ghost use Rattle.std.specs.Prelude.{false, slice_get};
 ghost use Rattle.std.specs.Prelude.{IfOk, OnOk, if◌then◌else◌, ◌||◌, ◌&&◌, nat_eq, MatchOption, ⊤};
 ghost use Rattle.std.specs.Prelude.{reverse};
 ghost use Rattle.mn_base.specs.Ids.{client_same, tid_same};
@@ -24,7 +24,7 @@ ghost use Rattle.mn_hist.specs.History.{EntryIsInHistory, done_by, done_from, ac
 ghost use Rattle.mn_hist.specs.Told.{ReaderHasRead, ReaderHasTold};
 ghost use Rattle.mn_hist.specs.Ending.{IsEndingOf};
 ghost use Rattle.mn_base.specs.History.{store_after};
-ghost use Rattle.mn_base.specs.Store.{applied};
+ghost use Rattle.mn_base.specs.Store.{applied, Store as Versions};
 ghost use Rattle.mn_world.specs.CommitReader.{issued_of};
 ghost use Rattle.mn_world.specs.Commits.{committed_by};
 ghost use Rattle.mn_world.specs.History.{IsHistory, pasts_of};
@@ -641,6 +641,41 @@ fn all_done(
     Ok(History::from_vec(history))
 }
 
+/// Whether the operation may change a store: a refused one doesn't.
+fn may_change(op: &Op) -> bool
+    ensures { result ≡ false → (store : Versions) → (applied store op.now).store ≡ store }
+{
+    match op {
+        Op::Tx { steps, .. } => steps.has_change(),
+        Op::Snapshot { .. } | Op::Branch { .. } => true,
+        Op::Scan { .. } => false,
+        Op::Versions => false,
+    }
+}
+
+/// Does the operation. NoMemory: there was no memory for it, and the store is as it was.
+fn follow(alloc: Global, store: &mut Store, op: &Op) -> Result<(), NoMemory>
+    ensures { OnOk result (store.new ≡ (applied store.old op.now).store) }
+{
+    if may_change(op) {
+        let _reply = store.apply(alloc, op)?;
+    }
+    Ok(())
+}
+
+/// Does the operations in these slots one after another.
+fn follow_all(alloc: Global, store: &mut Store, slots: &[Option<Act<'_>>]) -> Result<(), NoMemory>
+    ensures { OnOk result (store.new
+        ≡ store_after store.old (done_from store.old (acts_in slots.now))) }
+{
+    for slot in slots {
+        if let Some(act) = slot {
+            follow(alloc, store, act.op)?;
+        }
+    }
+    Ok(())
+}
+
 /// What the entries of a log tell of the history.
 fn read_log<'a>(alloc: Global, log: &'a [(u64, Entry)]) -> Result<HistoryReader<'a>, NoMemory>
     ensures { IfOk result (λ reader. (start : Start) → IsRun start (entries_of log.now)
@@ -653,16 +688,17 @@ fn read_log<'a>(alloc: Global, log: &'a [(u64, Entry)]) -> Result<HistoryReader<
     Ok(reader)
 }
 
-/// What a log comes to: its history, the operations of that, and the store after them.
+/// What a log comes to: the operations of its history in order of place, some slots without one;
+/// the same to look up; and the store after them.
 #[derive(Drop)]
-pub struct Ending {
-    pub history: History,
+pub struct Ending<'a> {
+    pub slots: Vec<Option<Act<'a>>>,
     pub standing: HashSet<OpKey>,
     pub store: Store,
 }
 
 /// What the log comes to, from `start` on. NoMemory: as for `history_of`.
-pub fn ending_of(alloc: Global, start: &Store, log: &Log) -> Result<Ending, NoMemory>
+pub fn ending_of<'a>(alloc: Global, start: &Store, log: &'a Log) -> Result<Ending<'a>, NoMemory>
     ensures { (from : Start) → OpenedRun from start.now (entries_of log.now)
         → IfOk result (λ ending. (placed : List Placed)
         × IsEndingOf ending from start.now (entries_of log.now) placed) }
@@ -670,9 +706,9 @@ pub fn ending_of(alloc: Global, start: &Store, log: &Log) -> Result<Ending, NoMe
     runs_are_one_history();
     let reader = read_log(alloc, log.as_slice())?;
     let mut store = start.try_copy(alloc)?;
-    let history = all_done(alloc, &mut store, &reader.slots)?;
+    follow_all(alloc, &mut store, &reader.slots)?;
     Ok(Ending {
-        history,
+        slots: reader.slots,
         standing: reader.standing,
         store,
     })
@@ -695,5 +731,9 @@ pub fn history_of(alloc: Global, start: &Store, log: &Log) -> Result<History, No
         → IfOk result (λ history. (placed : List Placed)
         × IsOneHistory from start.now (entries_of log.now) placed × (history ≡ pasts_of placed)) }
 {
-    Ok(ending_of(alloc, start, log)?.history)
+    runs_are_one_history();
+    let reader = read_log(alloc, log.as_slice())?;
+    let mut store = start.try_copy(alloc)?;
+    let history = all_done(alloc, &mut store, &reader.slots)?;
+    Ok(history)
 }

@@ -16,14 +16,14 @@ returns c = λ from run.
     let start = c.args.start.now in
     let one = c.runs_are_one_history.ensures from start (entries_of c.args.log.now) told.0 (record { opened = run; history = told.1.history }) in
     let slots = c.deref.result.now in
-    let done : done_from start (acts_in slots) ≡ pasts_of told.0 =
-    ap (λ l. done_from start (acts_in l)) c.deref.ensures.value ∙ told_whole start c.in_ok-reader.reader.slots.items told.0 told.1.fills one.legal in (
+    let done : done_from start (acts_in c.in_ok-reader.reader.slots.items) ≡ pasts_of told.0 = told_whole start c.in_ok-reader.reader.slots.items told.0 told.1.fills one.legal in
+    let whole : done_from start (acts_in slots) ≡ pasts_of told.0 = ap (λ l. done_from start (acts_in l)) c.deref.ensures.value ∙ done in (
       told.0,
       record {
         is = told.1.history;
         one = one;
-        history = c.in_ok-history.ensures.history ∙ (ap (λ (s : Store). done_from s (acts_in slots)) c.in_ok-store.ensures ∙ done);
+        history = done;
         standing = told.1.stands;
-        after = c.in_ok-history.ensures.store ∙ (ap (λ (s : Store). store_after s (done_from s (acts_in slots))) c.in_ok-store.ensures ∙ ap (store_after start) done);
+        after = c.in_ok-follow_all.ensures ∙ (ap (λ (s : Store). store_after s (done_from s (acts_in slots))) c.in_ok-store.ensures ∙ ap (store_after start) whole);
       },
     )
