@@ -1,5 +1,6 @@
 mod Lists
 mod Ways
+mod Stays
 mod Changes
 mod Children
 mod Runs

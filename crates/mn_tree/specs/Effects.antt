@@ -1,9 +1,9 @@
 -- What a step does, as the code says it.
-use Rattle.std.specs.Prelude.{◌≡◌, ◌+◌, ◌≤◌, ◌^◌, List, ◌∷◌, length}
+use Rattle.std.specs.Prelude.{◌≡◌, ◌+◌, ◌≤◌, ◌^◌, List, ◌∷◌, length, None, ⊤}
 use Rattle.mn_base.specs.declared.ids.Addr.{Addr}
 use Rattle.mn_base.specs.declared.ids.VersionNo.{VersionNo}
 use Rattle.mn_base.specs.declared.op.Step.{Step}
-use Rattle.mn_page.specs.Overlay.{Held, path_pairs}
+use Rattle.mn_page.specs.Overlay.{Held, held_at, path_pairs}
 use Rattle.mn_tree.specs.declared.draft.Draft.{Draft}
 use Rattle.mn_tree.specs.declared.effect.Effect.{Effect}
 use Rattle.mn_tree.specs.declared.effect.Progress.{Progress}
@@ -26,3 +26,9 @@ IsProgress v d step walk (come.Wrong addr) = walk ≡ Wrong addr
 IsProgress v d step walk (come.Runs leaf effect) =
     (h : Held) × (above : List Held) × (h.addr ≡ leaf) × (walk ≡ Reached (h ∷ above))
     × IsEffect v d.origins.items h above step effect
+
+-- the page that a step needs isn't held
+abbrev pub StopsAt : List Held → Progress → Type 0
+StopsAt pages (come.Missing addr above) = held_at pages addr ≡ None
+StopsAt pages (come.Wrong addr) = ⊤
+StopsAt pages (come.Runs leaf effect) = ⊤

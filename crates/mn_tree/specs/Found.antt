@@ -1,33 +1,53 @@
 -- What the code's walk finds, in the words of the walk over lists.
-use Rattle.std.specs.Prelude.{◌≡◌, ℕ, ◌+◌, true, List, ◌∷◌, map, Option, Some, ⊤}
-use Rattle.std.specs.Borrow.{Bor}
-use Rattle.mn_page.specs.Overlay.{Held}
+use Rattle.std.specs.Prelude.{◌≡◌, ℕ, ◌<◌, true, false, List, [], ◌∷◌, Option, Some}
+use Rattle.std.specs.Prelude.{None, ⊤}
+use Rattle.std.specs.Option.{option_map_or}
+use Rattle.mn_base.specs.declared.ids.Addr.{Addr}
+use Rattle.mn_page.specs.declared.page.Page.{Page}
+use Rattle.mn_page.specs.Grammar.{height_of}
+use Rattle.mn_page.specs.Overlay.{Held, held_at}
 use Rattle.mn_tree.specs.declared.held.HeldPage.{HeldPage}
-use Rattle.mn_tree.specs.declared.walk.Next.{Next}
-use Rattle.mn_tree.specs.declared.walk.Next.TheVariants as next
+use Rattle.mn_tree.specs.declared.walk.Found.{Found}
+use Rattle.mn_tree.specs.declared.walk.Found.TheVariants as found
 use Rattle.mn_tree.specs.declared.walk.Walked.{Walked}
 use Rattle.mn_tree.specs.declared.walk.Walked.TheVariants as end
-use Rattle.mn_tree.specs.Walk.{held_of, goes_on, Walk, Missing, Wrong, Reached, walk_down}
+use Rattle.mn_tree.specs.declared.way.Way.{Way}
+use Rattle.mn_tree.specs.Walk.{held, held_of, Walk, Missing, Wrong, Reached}
+use Rattle.mn_tree.specs.Way.{may_follow}
 
--- how a walk goes on behind a page that is one higher than `left`
-abbrev pub walk_after : List (Option ℕ) → ℕ → List Held → List ℕ → ℕ → Held → List Held → Next
-    → Walk
-walk_after parents v pages key left h above (next.Missing addr) = Missing addr (Some (left + 1))
-walk_after parents v pages key left h above (next.Wrong addr) = Wrong addr
-walk_after parents v pages key left h above (next.Down held) =
-    walk_down parents v left pages key (held_of held.now) (h ∷ above)
+-- a page is held where the way of the key goes on, and the walk goes on at it
+pub record IsMet (parents : List (Option ℕ)) (v : ℕ) (pages : List Held) (key : List ℕ) (way : Way)
+    (h : HeldPage) : Type 0 where
+  pub addr : h.addr ≡ way.next
+  pub there : held_at pages way.next ≡ Some h.page
+  pub follows : may_follow parents v key way.above h.page ≡ true
 
--- a page that a walk goes down to
-abbrev pub IsOnTheWay : List (Option ℕ) → ℕ → ℕ → List ℕ → Next → Type 0
-IsOnTheWay parents v left key (next.Missing addr) = ⊤
-IsOnTheWay parents v left key (next.Wrong addr) = ⊤
-IsOnTheWay parents v left key (next.Down held) = goes_on parents v left key held.now.page ≡ true
+-- what a walk finds where its way goes on
+abbrev pub IsFound : List (Option ℕ) → ℕ → List Held → List ℕ → Way → Found → Type 0
+IsFound parents v pages key way found.Missing = held_at pages way.next ≡ None
+IsFound parents v pages key way found.Wrong =
+    (p : Page) × (held_at pages way.next ≡ Some p)
+    × (may_follow parents v key way.above p ≡ false)
+IsFound parents v pages key way (found.Leaf h) =
+    IsMet parents v pages key way h.now × (height_of h.now.page.body ≡ 0)
+IsFound parents v pages key way (found.Inner h) =
+    IsMet parents v pages key way h.now × (0 < height_of h.now.page.body)
 
--- pages as they are lent
-abbrev pub lents : List (Bor HeldPage) → List Held
-lents rs = map (λ r. held_of r.now) rs
+-- those that are held at these addresses; where none is, the one before it stands again
+abbrev pub those_at : List Held → Held → List Addr → List Held
+those_at pages at [] = []
+those_at pages at (addr ∷ addrs) =
+    let next = option_map_or (held addr) (held_at pages addr) at in next ∷ those_at pages next addrs
 
-abbrev pub seen_walk : Walked → Walk
-seen_walk (end.Missing addr above) = Missing addr above
-seen_walk (end.Wrong addr) = Wrong addr
-seen_walk (end.Reached leaf above) = Reached (held_of leaf.now ∷ lents above.items)
+-- where a walk ended that passed the pages at these addresses
+abbrev pub seen_walk : List Held → List Addr → Walked → Walk
+seen_walk pages passed (end.Missing addr above) = Missing addr above
+seen_walk pages passed (end.Wrong addr) = Wrong addr
+seen_walk pages passed (end.Reached leaf) =
+    let h = held_of leaf.now in Reached (h ∷ those_at pages h passed)
+
+-- the page before which a walk stops isn't held
+abbrev pub StopsBefore : List Held → Walked → Type 0
+StopsBefore pages (end.Missing addr above) = held_at pages addr ≡ None
+StopsBefore pages (end.Wrong addr) = ⊤
+StopsBefore pages (end.Reached leaf) = ⊤

@@ -1,7 +1,9 @@
 pub mod Walk
+pub mod Way
 pub mod Writes
 pub mod State
 pub mod Found
+pub mod Kept
 pub mod Asks
 pub mod Parts
 pub mod Lists

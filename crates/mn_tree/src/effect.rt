@@ -1,8 +1,9 @@
 ghost use Rattle.std.specs.Prelude.{◌≡◌, ◌≤◌, ◌<◌, ◌+◌, ◌^◌, [], length, IfOk};
 ghost use Rattle.mn_base.specs.Store.{step_key};
 ghost use Rattle.mn_tree.specs.Walk.{held_of, helds, walk};
-ghost use Rattle.mn_tree.specs.Found.{lents};
-ghost use Rattle.mn_tree.specs.Effects.{IsEffect, IsProgress};
+ghost use Rattle.mn_tree.specs.Found.{those_at};
+ghost use Rattle.mn_tree.specs.Way.{CameTo};
+ghost use Rattle.mn_tree.specs.Effects.{IsEffect, IsProgress, StopsAt};
 ghost use Rattle.mn_tree.specs.Writes.{origins_in, writes_up};
 ghost use Rattle.mn_tree.specs.declared.stepped.Stepped.TheVariants.{Changed};
 ghost use Rattle.mn_page.specs.declared.page.Body.TheVariants.{Leaf};
@@ -13,6 +14,7 @@ use crate::draft::Draft;
 use crate::held::HeldPage;
 use crate::pairs::{copy_of, is_found, value_of, with_pair, without_pair};
 use crate::walk::{Walked, walk_to};
+use crate::way::Way;
 use crate::write::Write;
 use crate::writer::raise;
 use mn_base::{Addr, Key, NoMemory, Pair, Step, VersionNo};
@@ -60,40 +62,42 @@ fn unwritten(alloc: Global, answer: Stepped) -> Effect
 fn rewritten(
     alloc: Global,
     version: VersionNo,
-    origins: &[Addr],
+    draft: &Draft,
     leaf: &HeldPage,
-    above: &[&HeldPage],
+    above: &[Addr],
     pairs: Vec<Pair>,
 ) -> Result<Effect, NoMemory>
     requires version { version.0 < 64 }
-    requires bound { length origins.now ≤ 2 ^ 16 }
+    requires bound { length draft.now.origins.items ≤ 2 ^ 16 }
     ensures answer { IfOk result (λ effect. effect.answer ≡ Changed) }
     ensures writes { IfOk result (λ effect. effect.writes.items
-        ≡ writes_up version (length origins.now) origins.now (held_of leaf.now)
-        (lents above.now) (Leaf pairs.items)) }
+        ≡ writes_up version (length draft.now.origins.items) draft.now.origins.items
+        (held_of leaf.now) (those_at (helds draft.now.pages.items) (held_of leaf.now) above.now)
+        (Leaf pairs.items)) }
     ensures bound { IfOk result (λ effect.
-        length origins.now + length (origins_in effect.writes.items) ≤ 2 ^ 16) }
+        length draft.now.origins.items + length (origins_in effect.writes.items) ≤ 2 ^ 16) }
 {
-    let writes = raise(alloc, version, origins, leaf, above, leaf_of(pairs))?;
+    let writes = raise(alloc, version, draft, leaf, above, leaf_of(pairs))?;
     Ok(Effect {
         answer: Stepped::Changed,
         writes,
     })
 }
 
-/// What a step does on the leaf of its key, where the pages above it lead up to the root.
+/// What a step does on the leaf of its key, where the pages at these addresses lead from above it
+/// up to the root.
 fn effect_on(
     alloc: Global,
     version: VersionNo,
-    origins: &[Addr],
+    draft: &Draft,
     leaf: &HeldPage,
-    above: &[&HeldPage],
+    above: &[Addr],
     step: &Step,
 ) -> Result<Effect, NoMemory>
     requires version { version.0 < 64 }
-    requires bound { length origins.now ≤ 2 ^ 16 }
-    ensures { IfOk result (IsEffect version origins.now (held_of leaf.now)
-        (lents above.now) step.now) }
+    requires bound { length draft.now.origins.items ≤ 2 ^ 16 }
+    ensures { IfOk result (IsEffect version draft.now.origins.items (held_of leaf.now)
+        (those_at (helds draft.now.pages.items) (held_of leaf.now) above.now) step.now) }
 {
     let pairs = pairs_of(&leaf.page.body);
     match step {
@@ -103,14 +107,14 @@ fn effect_on(
         }
         Step::Put { key, value } => {
             let pairs = with_pair(alloc, pairs, key, value)?;
-            rewritten(alloc, version, origins, leaf, above, pairs)
+            rewritten(alloc, version, draft, leaf, above, pairs)
         }
         Step::Del { key } => {
             if value_of(pairs, key).is_none() {
                 return Ok(unwritten(alloc, Stepped::Same));
             }
             let pairs = without_pair(alloc, pairs, key)?;
-            rewritten(alloc, version, origins, leaf, above, pairs)
+            rewritten(alloc, version, draft, leaf, above, pairs)
         }
         Step::Check { key, want } => {
             let found = value_of(pairs, key);
@@ -123,25 +127,29 @@ fn effect_on(
     }
 }
 
-/// How far a step comes on these pages.
+/// How far a step comes on these pages. It goes on where an earlier one of its key has come to.
 pub fn come_down(
     alloc: Global,
     tree: &VersionTree,
     version: VersionNo,
     root: Addr,
     draft: &Draft,
+    way: &mut Way,
     step: &Step,
 ) -> Result<Progress, NoMemory>
     requires version { version.0 < 64 }
     requires bound { length draft.now.origins.items ≤ 2 ^ 16 }
-    ensures { IfOk result (IsProgress version draft.now step.now
+    requires way { CameTo tree.now version.0 root (helds draft.now.pages.items) way.old }
+    ensures progress { IfOk result (IsProgress version draft.now step.now
         (walk tree.now version.0 (helds draft.now.pages.items) root (step_key step.now))) }
+    ensures stops { IfOk result (StopsAt (helds draft.now.pages.items)) }
+    ensures came { CameTo tree.now version.0 root (helds draft.now.pages.items) way.new }
 {
-    match walk_to(alloc, tree, version, &draft.pages, root, key_of(step))? {
+    match walk_to(alloc, tree, version, &draft.pages, root, way, key_of(step))? {
         Walked::Missing { addr, above } => Ok(Progress::Missing { addr, above }),
         Walked::Wrong { addr } => Ok(Progress::Wrong { addr }),
-        Walked::Reached { leaf, above } => {
-            let effect = effect_on(alloc, version, &draft.origins, leaf, &above, step)?;
+        Walked::Reached { leaf } => {
+            let effect = effect_on(alloc, version, draft, leaf, &way.passed, step)?;
             Ok(Progress::Runs {
                 leaf: leaf.addr,
                 effect,

@@ -1,8 +1,9 @@
 ghost use Rattle.std.specs.Prelude.{◌≡◌, ◌≤◌, ◌<◌, ◌+◌, ◌++◌, ◌∷◌, [], length, take, drop};
 ghost use Rattle.std.specs.Prelude.{option_map, IfSome, OnOk};
+ghost use Rattle.std.specs.Option.{option_map_or};
 ghost use Rattle.mn_page.specs.declared.page.Page.{Page};
 ghost use Rattle.mn_page.specs.Overlay.{held_at, held_with};
-ghost use Rattle.mn_tree.specs.Walk.{held, helds};
+ghost use Rattle.mn_tree.specs.Walk.{held, held_of, helds};
 
 use crate::held::{HeldPage, is_same};
 use mn_base::{Addr, NoMemory};
@@ -79,6 +80,17 @@ impl HeldPages {
             }
         }
         None
+    }
+
+    /// The page at an address, or this one where there is none.
+    pub fn get_or<'a>(&'a self, addr: Addr, other: &'a HeldPage) -> &'a HeldPage
+        ensures { held_of result.now ≡ option_map_or (held addr)
+            (held_at (helds self.now.items) addr) (held_of other.now) }
+    {
+        match self.get(addr) {
+            Some(held) => held,
+            None => other,
+        }
     }
 
     /// Puts a page in the place of the one at its address, or behind all. There is room for one.

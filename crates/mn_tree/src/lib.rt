@@ -9,12 +9,14 @@ mod effect;
 mod error;
 mod held;
 mod held_pages;
+mod kept;
 mod laws;
 mod order;
 mod overlay;
 mod pairs;
 mod stepped;
 mod walk;
+mod way;
 mod write;
 mod writer;
 

@@ -3,12 +3,10 @@ ghost use Rattle.mn_tree.specs.Order.{placed};
 ghost use Rattle.mn_tree.specs.State.{new_state, fits, IsWanted, with_page, RefusesPage, stepped};
 ghost use Rattle.mn_tree.specs.State.{AsksFor};
 
-use crate::draft::Draft;
-use crate::effect::{Progress, come_down, key_of};
-use crate::held::{Wanted, resolved};
+use crate::kept::Kept;
 use crate::order::{by_number, order_of, push_changed, push_new};
 use crate::{AddError, Stepped};
-use mn_base::{Addr, NoMemory, Step, TryCopy, VersionNo};
+use mn_base::{Addr, NoMemory, Step, VersionNo};
 use mn_page::{Page, Pages};
 use mn_path::Front;
 use mn_vtree::VersionTree;
@@ -24,25 +22,19 @@ pub struct Overlay {
     version: VersionNo,
     root: Addr,
     /// It is moved often with the rest, so it lies elsewhere.
-    draft: Box<Draft>,
-    wanted: Option<Wanted>,
+    kept: Box<Kept>,
 }
 
 impl Model for Overlay {
-    ghost use Rattle.std.specs.Prelude.{length, ◌<◌, ◌≤◌, ◌^◌};
-    ghost use Rattle.mn_tree.specs.State.{TreeState, drafted};
+    ghost use Rattle.std.specs.Prelude.{◌<◌};
+    ghost use Rattle.mn_tree.specs.State.{TreeState};
+    ghost use Rattle.mn_tree.specs.Kept.{IsKept, state_of};
 
     ghost Value = { TreeState };
 
-    ghost view = { λ o. record {
-      parents = o.tree;
-      version = o.version;
-      root = o.root;
-      draft = drafted o.draft.value;
-      wanted = o.wanted;
-    } };
+    ghost view = { λ o. state_of o.tree o.version o.root o.kept.value };
 
-    ghost invariant = { λ o. (o.version.0 < 64) × (length o.draft.value.origins.items ≤ 2 ^ 16) };
+    ghost invariant = { λ o. (o.version.0 < 64) × IsKept o.tree o.version.0 o.root o.kept.value };
 }
 
 impl Overlay {
@@ -61,8 +53,7 @@ impl Overlay {
             tree,
             version,
             root,
-            draft: Box::new(alloc, Draft::new(alloc))?,
-            wanted: None,
+            kept: Box::new(alloc, Kept::new(alloc, root))?,
         })
     }
 
@@ -70,7 +61,7 @@ impl Overlay {
     fn is_right(&self, page: &Page) -> bool
         ensures { result ≡ fits self.now page.now }
     {
-        match &self.wanted {
+        match &self.kept.wanted {
             Some(wanted) => {
                 let front = Front::of_page(page);
                 front.is_on_path(
@@ -98,8 +89,7 @@ impl Overlay {
         if !self.is_right(&page) {
             return Err(AddError::BadPath { addr });
         }
-        self.draft.add(addr, page)?;
-        self.wanted = None;
+        self.kept.add(addr, page)?;
         Ok(())
     }
 
@@ -111,37 +101,15 @@ impl Overlay {
         ensures wanted { IfOk result (AsksFor self.new) }
         ensures unchanged { OnErr result (self.new ≡ self.old) }
     {
-        match come_down(
-            alloc,
-            &self.tree,
-            self.version,
-            self.root,
-            &self.draft,
-            step,
-        )? {
-            Progress::Missing { addr, above } => {
-                let key = key_of(step).try_copy(alloc)?;
-                self.wanted = Some(Wanted { addr, key, above });
-                Ok(Stepped::Need { addr })
-            }
-            Progress::Wrong { addr } => {
-                let addr = resolved(&self.draft.origins, addr);
-                self.wanted = None;
-                Ok(Stepped::BadPath { addr })
-            }
-            Progress::Runs { leaf, effect } => {
-                self.draft.commit(leaf, effect.writes)?;
-                self.wanted = None;
-                Ok(effect.answer)
-            }
-        }
+        self.kept
+            .step(alloc, &self.tree, self.version, self.root, step)
     }
 
     /// How many new pages there are, up to 65,536.
     pub fn new_pages(&self) -> u32
         ensures { result ≡ self.now.draft.overlay.fresh }
     {
-        self.draft.origins.len() as u32
+        self.kept.draft.origins.len() as u32
     }
 
     /// Where the old pages of the read set stand, in the order in which they joined: a leaf when a
@@ -149,7 +117,7 @@ impl Overlay {
     pub fn read_set(&self) -> &[Addr]
         ensures { result.now ≡ self.now.draft.read }
     {
-        self.draft.read.as_slice()
+        self.kept.draft.read.as_slice()
     }
 
     /// What the steps write, once the new pages have these slots: the changed pages in the order in
@@ -162,7 +130,7 @@ impl Overlay {
         ensures placed { IfOk result (λ pages. pages ≡ placed slots.now self.old.draft) }
         ensures unchanged { self.new ≡ self.old }
     {
-        let draft = &self.draft;
+        let draft = &self.kept.draft;
         let count = draft.origins.len();
         let order = order_of(alloc, &draft.pages, count)?;
         let by = by_number(alloc, &order, slots, count)?;

@@ -1,16 +1,17 @@
 ghost use Rattle.std.specs.Prelude.{◌≡◌, ◌≤◌, ◌<◌, ◌+◌, ◌^◌, ◌++◌, ◌∷◌, [], Some, length, IfOk};
 ghost use Rattle.std.specs.Prelude.{OnOk};
 ghost use Rattle.mn_page.specs.Overlay.{halves_of, new_addr, page_with, new_page, copied_for};
-ghost use Rattle.mn_tree.specs.Walk.{held_of};
+ghost use Rattle.mn_tree.specs.Walk.{held_of, helds};
 ghost use Rattle.mn_tree.specs.Writes.{change, creation, origins_in, own_writes, own_asks};
 ghost use Rattle.mn_tree.specs.Writes.{other_writes, other_asks, root_writes, page_writes};
 ghost use Rattle.mn_tree.specs.Writes.{page_asks, writes_up};
 ghost use Rattle.mn_tree.specs.Asks.{seen_asked};
-ghost use Rattle.mn_tree.specs.Found.{lents};
+ghost use Rattle.mn_tree.specs.Found.{those_at};
 ghost use Rattle.mn_page.specs.Overlay.{placed_addr};
 ghost use Rattle.mn_page.specs.declared.page.Body.TheVariants.{Inner};
 
 use crate::body::{Parts, parts_of, with_children};
+use crate::draft::Draft;
 use crate::held::{HeldPage, new_place, resolved};
 use crate::write::Write;
 use mn_base::{Addr, Bytes, Key, NoMemory, TryCopy, VersionNo};
@@ -433,24 +434,26 @@ fn root_over(alloc: Global, below: u16, first: Addr, second: Child) -> Result<Bo
     })
 }
 
-/// The writes after which the leaf of a path has this body, where the pages above it lead up to the
-/// root.
+/// The writes after which the leaf of a path has this body, where the pages at these addresses lead
+/// from above it up to the root. They are looked up as far as the change goes.
 pub fn raise(
     alloc: Global,
     version: VersionNo,
-    origins: &[Addr],
+    draft: &Draft,
     leaf: &HeldPage,
-    above: &[&HeldPage],
+    above: &[Addr],
     body: Body,
 ) -> Result<Vec<Write>, NoMemory>
     requires version { version.0 < 64 }
-    requires bound { length origins.now ≤ 2 ^ 16 }
+    requires bound { length draft.now.origins.items ≤ 2 ^ 16 }
     ensures writes { IfOk result (λ writes. writes.items
-        ≡ writes_up version (length origins.now) origins.now (held_of leaf.now)
-        (lents above.now) body) }
-    ensures bound { IfOk result (λ writes. length origins.now + length (origins_in writes.items)
-        ≤ 2 ^ 16) }
+        ≡ writes_up version (length draft.now.origins.items) draft.now.origins.items
+        (held_of leaf.now) (those_at (helds draft.now.pages.items) (held_of leaf.now) above.now)
+        body) }
+    ensures bound { IfOk result (λ writes.
+        length draft.now.origins.items + length (origins_in writes.items) ≤ 2 ^ 16) }
 {
+    let origins = draft.origins.as_slice();
     let mut writer = Writer {
         version,
         fresh: origins.len(),
@@ -458,7 +461,8 @@ pub fn raise(
     };
     let mut at = leaf;
     let mut body = body;
-    for parent in above {
+    for addr in above {
+        let parent = draft.pages.get_or(*addr, at);
         let origin = resolved(origins, at.addr);
         let Ask::Child { now, more } = writer.change_page(alloc, at, origin, body)? else {
             return Ok(writer.writes);

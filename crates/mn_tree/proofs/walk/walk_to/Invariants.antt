@@ -1,17 +1,14 @@
-use Rattle.std.proofs.Common.{◌≡◌, true}
-use Rattle.mn_page.specs.Grammar.{height_of}
-use Rattle.mn_page.specs.Holds.{page_covers}
-use Rattle.mn_tree.specs.Walk.{held_of, helds, walk, walk_down}
-use Rattle.mn_tree.specs.Found.{lents}
+use Rattle.std.proofs.Common.{◌≡◌, Some}
+use Rattle.mn_tree.specs.Walk.{helds}
+use Rattle.mn_tree.specs.Way.{IsWay, left_above}
 use Rattle.mn_tree.proofs.walk.walk_to.Given as goal
 
--- the walk has come to this page, of this height, which covers the key
-abbrev pub invariant-loop-left : goal.invariant-loop-left
-invariant-loop-left l = record {
-  way : walk_down l.tree l.version.0 l.left (helds l.pages.items) l.key (held_of l.at) (lents l.above.items) ≡ walk l.tree l.version.0 (helds l.pages.items) l.fn.root l.key;
-  height : height_of l.at.page.body ≡ l.left;
-  covers : page_covers l.key l.at.page ≡ true;
+-- the walk has come this far
+abbrev pub invariant-loop-held : goal.invariant-loop-held
+invariant-loop-held l = record {
+  comes : IsWay l.tree l.version.0 l.fn.root (helds l.pages.items) l.key l.way;
+  of_key : l.way.key ≡ Some l.key;
 }
 
-abbrev pub decreases-loop-left : goal.decreases-loop-left
-decreases-loop-left l = l.left
+abbrev pub decreases-loop-held : goal.decreases-loop-held
+decreases-loop-held l = left_above l.way.above
