@@ -22,7 +22,7 @@ ghost use Rattle.mn_world.specs.Run.{IsRun};
 ghost use Rattle.mn_hist.specs.History.{planner_kept, planner_for, op_key, stands, IsPutInto};
 ghost use Rattle.mn_hist.specs.History.{EntryIsInHistory, done_by, done_from, acts_in};
 ghost use Rattle.mn_hist.specs.Told.{ReaderHasRead, ReaderHasTold};
-ghost use Rattle.mn_hist.specs.Ending.{IsEndingOf};
+ghost use Rattle.mn_hist.specs.Ending.{IsEndingOf, TellsHistory};
 ghost use Rattle.mn_base.specs.History.{store_after};
 ghost use Rattle.mn_base.specs.Store.{applied, Store as Versions};
 ghost use Rattle.mn_world.specs.CommitReader.{issued_of};
@@ -653,7 +653,7 @@ fn may_change(op: &Op) -> bool
     }
 }
 
-/// Does the operation. NoMemory: there was no memory for it, and the store is as it was.
+/// Does the operation. NoMemory: there was no memory for it.
 fn follow(alloc: Global, store: &mut Store, op: &Op) -> Result<(), NoMemory>
     ensures { OnOk result (store.new ≡ (applied store.old op.now).store) }
 {
@@ -688,6 +688,16 @@ fn read_log<'a>(alloc: Global, log: &'a [(u64, Entry)]) -> Result<HistoryReader<
     Ok(reader)
 }
 
+/// The reader of a whole log.
+fn reader_of<'a>(alloc: Global, log: &'a Log) -> Result<HistoryReader<'a>, NoMemory>
+    ensures { (from : Start) (store : Versions) → OpenedRun from store (entries_of log.now)
+        → IfOk result (λ reader. (placed : List Placed) × TellsHistory reader.slots.items
+        reader.standing from store (entries_of log.now) placed) }
+{
+    runs_are_one_history();
+    read_log(alloc, log.as_slice())
+}
+
 /// What a log comes to: the operations of its history in order of place, some slots without one;
 /// the same to look up; and the store after them.
 #[derive(Drop)]
@@ -703,8 +713,7 @@ pub fn ending_of<'a>(alloc: Global, start: &Store, log: &'a Log) -> Result<Endin
         → IfOk result (λ ending. (placed : List Placed)
         × IsEndingOf ending from start.now (entries_of log.now) placed) }
 {
-    runs_are_one_history();
-    let reader = read_log(alloc, log.as_slice())?;
+    let reader = reader_of(alloc, log)?;
     let mut store = start.try_copy(alloc)?;
     follow_all(alloc, &mut store, &reader.slots)?;
     Ok(Ending {
@@ -731,8 +740,7 @@ pub fn history_of(alloc: Global, start: &Store, log: &Log) -> Result<History, No
         → IfOk result (λ history. (placed : List Placed)
         × IsOneHistory from start.now (entries_of log.now) placed × (history ≡ pasts_of placed)) }
 {
-    runs_are_one_history();
-    let reader = read_log(alloc, log.as_slice())?;
+    let reader = reader_of(alloc, log)?;
     let mut store = start.try_copy(alloc)?;
     let history = all_done(alloc, &mut store, &reader.slots)?;
     Ok(history)

@@ -25,13 +25,13 @@ returns-clause-audit c = λ from h.
     let stood = λ (k : ClientNo) (n : ℕ). has_past k n ends.0 in
     record {
       placed = ends.0;
-      history = ends.1.is;
-      one = ends.1.one;
+      history = ends.1.told.is;
+      one = ends.1.told.one;
       told = report_is c.args.start.now script past ends.0
           (record { answers = c.in_ok-answers.answers; history = c.in_ok-history.history; doubts = c.in_ok-doubts.doubts; points = c.from_vec.result; versions = c.in_ok-versions.versions })
           (c.in_ok-answers.ensures ∙ (answers_same (said_kept said) (said_by past) says 0 clients ∙ ap (answers_from (said_by past) 0) c.clients-clients.ensures.value))
-          (c.in_ok-history.ensures ∙ (ap (λ l. map (ranked_act clients) (acts_in l)) c.deref.ensures.value ∙ sym (ranked_same clients c.args.start.now (acts_in c.in_ok-ending.ending.slots.items)) ∙ ap (map (ranked_as clients)) ends.1.history ∙ ap (λ (l : List ScriptClient). map (ranked_as l) (pasts_of ends.0)) c.clients-clients.ensures.value))
-          (c.in_ok-doubts.ensures ∙ (doubts_same (said_kept said) (said_by past) (stands c.in_ok-ending.ending.standing) stood says ends.1.standing 0 clients ∙ ap (doubts_from (said_by past) stood 0) c.clients-clients.ensures.value))
+          (c.in_ok-history.ensures ∙ (ap (λ l. map (ranked_act clients) (acts_in l)) c.deref.ensures.value ∙ sym (ranked_same clients c.args.start.now (acts_in c.in_ok-ending.ending.slots.items)) ∙ ap (map (ranked_as clients)) ends.1.told.history ∙ ap (λ (l : List ScriptClient). map (ranked_as l) (pasts_of ends.0)) c.clients-clients.ensures.value))
+          (c.in_ok-doubts.ensures ∙ (doubts_same (said_kept said) (said_by past) (stands c.in_ok-ending.ending.standing) stood says ends.1.told.stands 0 clients ∙ ap (doubts_from (said_by past) stood 0) c.clients-clients.ensures.value))
           (c.from_vec.ensures ∙ (c.in_ok-points.ensures ∙ (ap (λ (l : List Point). points_met l (entries_of c.as_slice-entries.result.now)) c.points.ensures.value ∙ ap (λ (l : List (ℕ × Entry)). points_met script.points (entries_of l)) c.as_slice-entries.ensures)))
           (c.in_ok-versions.ensures ∙ ap versions_told ends.1.after);
     }
