@@ -1,7 +1,7 @@
 -- The call that a proxy has out is a Prepare or an Exec of a plan just where its client's own list
 -- shows that such a call is due.
 use Rattle.std.proofs.Common.{◌≡◌, ℕ, zero, suc, ◌<◌, ◌≤◌, Bool, true, false, not, ◌&&◌, ◌||◌, nat_lt, nat_eq, IsTrue, Option, Some, None, List, [], ◌∷◌, ◌++◌, length, refl, sym, ap, ◌∙◌, arith, if◌then◌else◌, slice_index_or, ⊎_elim}
-use Rattle.std.proofs.lemmas.Bool.{ltb-false, lt-ltb, le-ltb}
+use Rattle.std.proofs.lemmas.Bool.{lt-ltb, le-ltb}
 use Rattle.std.specs.List.{list_all, list_any}
 use Rattle.mn_base.specs.declared.ids.NodeNo.{NodeNo}
 use Rattle.mn_base.specs.declared.ids.Tid.{Tid}
@@ -16,6 +16,7 @@ use Rattle.mn_coord.specs.declared.stage.Stage.TheVariants as At
 use Rattle.mn_coord.specs.declared.step.CoordStep.TheVariants.{Send}
 use Rattle.mn_coord.specs.Coordination.{Coordination, is_stopped_at_last, participant, stage_in, stage_of, step_at, step_of, try_request}
 use Rattle.mn_coord.specs.Legal.{Agrees as CoordAgrees, IsAnswerOf}
+use Rattle.mn_coord.proofs.Legal.{commits}
 use Rattle.mn_coord.proofs.Stages.{asking}
 use Rattle.mn_coord.proofs.Tries.{none_since}
 use Rattle.mn_hist.specs.Points.{may_stop}
@@ -134,21 +135,6 @@ told_none n done (Some reply) told decided e = other (is_stopped_at_last n done 
     other false false false d g = absurd cc
     other false false true d g = refl
 
-committing : (n done : ℕ) (refused : Option NodeReply) (told : Bool) (decided : ℕ) → stage_of n done refused told decided ≡ At.Commit → (refused ≡ None) × (n ≤ done)
-committing n done None told decided e = (refl, first (nat_lt done n) refl e)
-  where
-    first : (b : Bool) → nat_lt done n ≡ b → (if b then At.Ask else (if nat_lt 1 n && nat_lt decided n then At.Commit else At.Committed)) ≡ At.Commit → n ≤ done
-    first true f g = absurd cc
-    first false f g = ltb-false done n f
-committing n done (Some reply) told decided e = absurd (other (is_stopped_at_last n done reply) (nat_eq n 1) (not told) (nat_lt decided done) e)
-  where
-    other : (a b c d : Bool) → (if a then At.Doubt else (if b then At.Failed else (if c then At.Abandon else (if d then At.Cancel else At.Failed)))) ≡ At.Commit → ⊥
-    other true b c d f = absurd cc
-    other false true c d f = absurd cc
-    other false false true d f = absurd cc
-    other false false false true f = absurd cc
-    other false false false false f = absurd cc
-
 module _ (es : List Entry) (c : Coordination) (a : CoordAgrees es c) where
   abbrev now : List Entry
   now = since_begin es
@@ -219,9 +205,9 @@ module _ (es : List Entry) (c : Coordination) (a : CoordAgrees es c) where
       by x y false false false false any e f g h i = absurd cc
       by x y false false false true false e f g h i = absurd cc
   due_by unread At.Commit n r at step =
-      let done : (c.refused ≡ None) × (length (participants_of c.mini) ≤ c.done) = committing (length (participants_of c.mini)) c.done c.refused c.told c.decided at in
+      let facts = commits (length (participants_of c.mini)) c.done c.refused c.told c.decided at in
       let request : Ask.Decide c.tid true ≡ r = cc in
-      ap may_stop (sym request) ∙ sym (by (is_read c.mini.items) (is_over now this || was_abandoned c.tid now) (list_all (λ m. not (was_sent c.tid m es) || was_done c.tid m es) (participants_of c.mini)) _ (none_is_left done.0 done.1))
+      ap may_stop (sym request) ∙ sym (by (is_read c.mini.items) (is_over now this || was_abandoned c.tid now) (list_all (λ m. not (was_sent c.tid m es) || was_done c.tid m es) (participants_of c.mini)) _ (none_is_left facts.0 facts.1))
     where
       by : (p q s any : Bool) → any ≡ false → (not p && (not q && (s && any))) ≡ false
       by true q s any e = refl

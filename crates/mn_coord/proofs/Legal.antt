@@ -38,7 +38,8 @@ count c = length (participants_of c.mini)
 
 -- What the stages say
 
-commits : (n done : ℕ) (refused : Option NodeReply) (told : Bool) (decided : ℕ) → stage_of n done refused told decided ≡ At.Commit → (refused ≡ None) × (n ≤ done) × (2 ≤ n)
+-- a Commit is due only when all have answered, none refused, and there is more than one
+pub commits : (n done : ℕ) (refused : Option NodeReply) (told : Bool) (decided : ℕ) → stage_of n done refused told decided ≡ At.Commit → (refused ≡ None) × (n ≤ done) × (2 ≤ n)
 commits n done None told decided e = (refl, first (nat_lt done n) refl e, second (nat_lt done n) (nat_lt 1 n) refl e)
   where
     first : (b : Bool) → nat_lt done n ≡ b → (if b then At.Ask else (if nat_lt 1 n && nat_lt decided n then At.Commit else At.Committed)) ≡ At.Commit → n ≤ done

@@ -1,5 +1,5 @@
 -- How the minitransaction that is on its way goes on, and ends, in the client's own list.
-use Rattle.std.proofs.Common.{◌≡◌, ◌⊎◌, inl, inr, ℕ, zero, suc, ◌<◌, ◌≤◌, Bool, true, false, not, ◌&&◌, List, [], ◌∷◌, length, Option, Some, None, refl, sym, ap, subst, ◌∙◌, arith, Err, IfOk, Ok, OnErr, Result}
+use Rattle.std.proofs.Common.{◌≡◌, ◌⊎◌, inl, inr, ℕ, ◌<◌, ◌≤◌, Bool, true, false, not, ◌&&◌, List, [], ◌∷◌, length, Option, Some, None, refl, sym, ap, subst, ◌∙◌, arith, Err, IfOk, Ok, OnErr, Result}
 use Rattle.std.specs.Prelude.{MatchOption, if◌then◌else◌, nat_eq, nat_lt, ⊤}
 use Rattle.std.specs.Result.{IsErr}
 use Rattle.std.specs.List.{flat_map, list_all, list_any}
@@ -58,7 +58,7 @@ use Rattle.mn_proxy.specs.Turns.{HasFailed, IsSoundTurn, IsSoundWork, TurnAgrees
 use Rattle.mn_work.specs.Walks.{IfLater}
 use Rattle.mn_work.specs.Works.{IsJobIn, IsStartable, retried_job}
 use Rattle.mn_proxy.proofs.Answered.{answered_own, may_answer, may_want}
-use Rattle.mn_proxy.proofs.Feeding.{failed_on, id_issued, mini_on, mini_same, own_as, read_few}
+use Rattle.mn_proxy.proofs.Feeding.{failed_on, id_issued, later_told, mini_on, mini_same, own_as, read_few}
 use Rattle.mn_proxy.proofs.Issues.{IsLater, abandoned_later, called_later, closed_are_given_up, closed_are_settled, closed_plan, closed_read, closed_with, ended_given_up, ended_settled, fresh_abandoned, last_tid, own_calls_none, own_recovers_none, own_tries_none}
 use Rattle.mn_proxy.proofs.Opens.{own_on, under_way_still}
 use Rattle.mn_proxy.proofs.Retrying.{shown_again}
@@ -216,14 +216,6 @@ abandons_soundly known w tid c d purpose is quiet work =
 -- its issue, by the id that it has there
 abbrev pub issue_under : Tid → Coordination → Issued
 issue_under tid c = record { tid = tid; mini = c.mini }
-
-later_told : (failed : ℕ) (P : Type 0) → P → IfLater failed P
-later_told zero P p = tt
-later_told (suc n) P p = p
-
-later_by : (failed : ℕ) (P Q : Type 0) → (P → Q) → IfLater failed P → IfLater failed Q
-later_by zero P Q f p = tt
-later_by (suc n) P Q f p = f p
 
 over_nodes : (es : List Entry) (p : ProxyState) (w : Work) (tid : Tid) (c : Coordination)
     (purpose : Purpose) → IsOwn es p → MiniAgrees es p.known w tid c purpose

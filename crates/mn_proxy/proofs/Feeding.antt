@@ -68,17 +68,18 @@ use Rattle.mn_proxy.specs.Turns.{OwesNoneIn, WaitsFor, with_work}
 use Rattle.mn_work.specs.Works.{AsksCountFor, AsksPageFor, IsStartable}
 use Rattle.mn_work.specs.Walks.{IfLater}
 use Rattle.mn_proxy.proofs.Issues.{GoesOn, IsLater, TriesNone, called_later, closed_later, closed_since, earlier_differ, fresh_peeked, fresh_step, last_stays, last_tid, no_issue, peek_recovers_none, peek_tries_none, since_on, step_recovers_none, step_tries_none}
+use Rattle.mn_proxy.proofs.Issuing.{own_with}
 use Rattle.mn_proxy.proofs.Opens.{IsQuiet, asked_on, open_on, own_on, scan_shown_quiet, under_way_still}
 use Rattle.mn_proxy.proofs.Tries.{NoPeek, decided_on, refused_on}
 use Rattle.mn_work.proofs.Works.{startable}
 
 -- Later tries
 
-later_told : (failed : ℕ) (P : Type 0) → P → IfLater failed P
+pub later_told : (failed : ℕ) (P : Type 0) → P → IfLater failed P
 later_told zero P p = tt
 later_told (suc n) P p = p
 
-later_by : (failed : ℕ) (P Q : Type 0) → (P → Q) → IfLater failed P → IfLater failed Q
+pub later_by : (failed : ℕ) (P Q : Type 0) → (P → Q) → IfLater failed P → IfLater failed Q
 later_by zero P Q f p = tt
 later_by (suc n) P Q f p = f p
 
@@ -997,13 +998,7 @@ peek_answered es e known w purpose place Say.NoMemory rest for first may a = pee
 -- it goes on with other work
 pub own_as : (es : List Entry) (p : ProxyState) (w : Work) (errand : Errand) → IsOwn es p
     → IsOwn es (with_work p w errand)
-own_as es p w errand own = record {
-  issues = own.issues;
-  issued = own.issued;
-  fresh = own.fresh;
-  catalog = own.catalog;
-  recovers = own.recovers;
-}
+own_as es p w errand own = own_with es p (Some (w, errand)) own
 
 -- the id of what is on its way was issued
 pub id_issued : (es : List Entry) (p : ProxyState) (w : Work) (tid : Tid) (c : Coordination)

@@ -88,18 +88,7 @@ begins_open es e number op known is = record {
     trying : IsTrying known.nodes op 0 (since_begin (e ∷ es)) []
     trying = subst (λ (l : List Entry). IsTrying known.nodes op 0 l []) (sym since) (begins_trying known.nodes op).0
 
--- whatever else is under way
-pub own_with : (es : List Entry) (p : ProxyState) (work : Option (Work × Errand)) → IsOwn es p
-    → IsOwn es (record p { work = work })
-own_with es p work own = record {
-  issues = own.issues;
-  issued = own.issued;
-  fresh = own.fresh;
-  catalog = own.catalog;
-  recovers = own.recovers;
-}
-
--- and whatever Peeks may come
+-- whatever Peeks may come, and whatever is under way
 pub own_peeks : (es : List Entry) (p : ProxyState) (peeks : ℕ) (work : Option (Work × Errand)) → IsOwn es p
     → IsOwn es (record p { peeks = peeks; work = work })
 own_peeks es p peeks work own = record {
@@ -109,6 +98,11 @@ own_peeks es p peeks work own = record {
   catalog = own.catalog;
   recovers = own.recovers;
 }
+
+-- and with as many Peeks as before
+pub own_with : (es : List Entry) (p : ProxyState) (work : Option (Work × Errand)) → IsOwn es p
+    → IsOwn es (record p { work = work })
+own_with es p work own = own_peeks es p p.peeks work own
 
 -- an operation begins
 pub begins_agree : (es : List Entry) (p : ProxyState) (op : Op) (e : Entry) (w : Work)
