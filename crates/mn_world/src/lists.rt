@@ -13,6 +13,10 @@ const LONGEST: usize = 1 << 57;
 #[derive(Debug, Drop)]
 pub struct Log {
     entries: Vec<(u64, Entry)>,
+    /// The entries that stood in two lists, a second time. They are let go with the log: so many
+    /// small pieces, freed before more memory is asked for, cost the allocator more than all of a
+    /// log's reading.
+    twins: Option<Vec<Vec<(u64, Entry)>>>,
 }
 
 impl Model for Log {
@@ -29,7 +33,21 @@ impl Log {
     pub fn from_vec(entries: Vec<(u64, Entry)>) -> Self
         ensures { result ≡ entries.items }
     {
-        Log { entries }
+        Log {
+            entries,
+            twins: None,
+        }
+    }
+
+    /// The log of these entries, with the lists from which they were taken and what was left in
+    /// those. It takes no memory.
+    pub fn with_twins(entries: Vec<(u64, Entry)>, twins: Vec<Vec<(u64, Entry)>>) -> Self
+        ensures { result ≡ entries.items }
+    {
+        Log {
+            entries,
+            twins: Some(twins),
+        }
     }
 
     pub fn into_vec(self) -> Vec<(u64, Entry)>
