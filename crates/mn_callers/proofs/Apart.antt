@@ -25,10 +25,6 @@ pub get_middle : {X : Type 0} (front rest : List X) (x : X) → slice_get (front
 get_middle [] rest x = refl
 get_middle (y ∷ front) rest x = get_middle front rest x
 
-pub no_items : {X : Type 0} (xs : List X) → length xs ≡ 0 → xs ≡ []
-no_items [] is = refl
-no_items (x ∷ xs) is = absurd (omega arith)
-
 not_last : {X : Type 0} (xs : List X) (y : X) (j : ℕ) → (j ≡ length xs → ⊥) → slice_get (xs ++ y ∷ []) j ≡ slice_get xs j
 not_last {X} xs y j other = by (ltb j (length xs)) refl
   where

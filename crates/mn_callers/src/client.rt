@@ -81,6 +81,7 @@ fn is_read(mini: &Minitransaction) -> bool
 /// and what follows it, else that of the call and the steps that follow.
 fn entries_ahead(node: NodeNo, request: &Request) -> usize
     requires { IsSoundRequest request.now }
+    ensures { 1 ≤ result }
 {
     match request {
         Request::Prepare { participants, .. } => {
@@ -97,7 +98,8 @@ fn entries_ahead(node: NodeNo, request: &Request) -> usize
 
 /// Whether the request is a decision.
 fn is_decide(request: &Request) -> bool
-    ensures { result ≡ false → IsDecide request.now → ⊥ }
+    ensures is { result ≡ true → IsDecide request.now }
+    ensures is_none { result ≡ false → IsDecide request.now → ⊥ }
 {
     matches!(request, Request::Decide { .. })
 }
@@ -500,7 +502,9 @@ impl Client {
     /// Makes room for a call and what follows it, if there is memory. A decision goes without.
     fn make_room(&mut self, node: NodeNo, request: &Request) -> bool
         requires { IsSoundRequest request.now }
-        ensures { IsSameButRoom self.old self.new }
+        ensures same { IsSameButRoom self.old self.new }
+        ensures room { result ≡ true → (IsDecide request.now → ⊥) → 1 ≤ self.new.list.room }
+        ensures refused { result ≡ false → IsDecide request.now → ⊥ }
     {
         let room = self.list.reserve(entries_ahead(node, request));
         room.is_ok() || is_decide(request)

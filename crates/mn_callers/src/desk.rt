@@ -3,12 +3,13 @@ ghost use Rattle.std.specs.Prelude.{◌≡◌, ◌≢◌, ◌≤◌, ◌<◌, �
 ghost use Rattle.std.specs.Prelude.{MatchOption, None, OnErr, OnOk, ⊤};
 ghost use Rattle.mn_cell.specs.Calls.{entry_at, what_said};
 ghost use Rattle.mn_mini.specs.RecordGrammar.{IsTid};
-ghost use Rattle.mn_mini.specs.Sound.{Fits, IsSoundRequest};
+ghost use Rattle.mn_mini.specs.Sound.{Fits, IsDecide, IsSoundRequest};
 ghost use Rattle.mn_world.specs.declared.entry.Entry.{Entry};
 ghost use Rattle.mn_world.specs.Calls.{issues_of};
 ghost use Rattle.mn_world.specs.Clients.{Sends};
 ghost use Rattle.mn_world.specs.Protocol.{Start, start_nodes};
 ghost use Rattle.mn_world.specs.Run.{entries_of};
+ghost use Rattle.mn_callers.specs.declared.desk.TheConstants.{ENTRIES_AHEAD};
 ghost use Rattle.mn_callers.specs.Clients.{last_shared};
 ghost use Rattle.mn_callers.specs.Closing.{calls_of};
 ghost use Rattle.mn_callers.specs.Desks.{IsDesk, IsOfRecovery, IsRecoveryCall, RecoversOn};
@@ -40,6 +41,8 @@ pub struct Desk {
 pub fn make_room(list: &mut ClientList, request: &Request) -> Result<(), NoMemory>
     ensures client { list.new.client ≡ list.old.client }
     ensures entries { list.new.entries ≡ list.old.entries }
+    ensures room { OnOk result ((IsDecide request.now → ⊥) → ENTRIES_AHEAD ≤ list.new.room) }
+    ensures refused { OnErr result (IsDecide request.now → ⊥) }
 {
     if matches!(request, Request::Decide { .. }) {
         return Ok(());

@@ -1,6 +1,6 @@
 -- Entries in the slots of their places.
-use Rattle.std.proofs.Common.{◌≡◌, ℕ, zero, suc, ◌+◌, ◌<◌, ◌≤◌, ◌⊎◌, Bool, true, false, Option, Some, None, List, [], ◌∷◌, ◌++◌, length, map, refl, sym, ap, ◌∙◌, subst, inl, inr, arith, length-append, if◌then◌else◌}
-use Rattle.std.specs.Prelude.{slice_get, slice_set}
+use Rattle.std.proofs.Common.{◌≡◌, ℕ, zero, suc, ◌+◌, ◌<◌, ◌≤◌, ◌⊎◌, Bool, true, false, Option, Some, None, List, [], ◌∷◌, ◌++◌, length, map, take, refl, sym, ap, ◌∙◌, subst, inl, inr, arith, length-append, if◌then◌else◌}
+use Rattle.std.specs.Prelude.{slice_get, slice_index_or, slice_set}
 use Rattle.std.proofs.lemmas.Option.{same_Some}
 use Rattle.mn_actors.specs.declared.actor.Actor.{Actor}
 use Rattle.mn_actors.specs.declared.actor.Actor.TheVariants.{Node, Client}
@@ -9,7 +9,7 @@ use Rattle.mn_actors.specs.Log.{entries_from}
 use Rattle.mn_world.specs.declared.entry.Entry.{Entry}
 use Rattle.mn_world.specs.Lists.{ClientState}
 use Rattle.mn_cell.specs.Runs.{placed_from}
-use Rattle.mn_hist.specs.Merging.{AreOneLog, filled_from, put_at, put_list, put_lists}
+use Rattle.mn_hist.specs.Merging.{AreOneLog, Hold, put_at, put_list, put_lists}
 
 -- Loops
 
@@ -20,14 +20,55 @@ put_empty zero e (s ∷ slots) le = absurd (omega (arith, le))
 put_empty (suc at) e [] le = refl
 put_empty (suc at) e (s ∷ slots) le = ap (λ (l : List (Option Entry)). s ∷ l) (put_empty at e slots (omega (arith, le)))
 
-pub put_there : (at : ℕ) (e : Entry) (slots : List (Option Entry)) → at < length slots → slice_set slots at (Some e) ≡ put_at at e slots
-put_there at e [] lt = absurd (omega (arith, lt))
-put_there zero e (s ∷ slots) lt = refl
-put_there (suc at) e (s ∷ slots) lt = ap (λ (l : List (Option Entry)). s ∷ l) (put_there at e slots (omega (arith, lt)))
+-- there are as many slots
+pub as_long : (p : ℕ) (slots : List (ℕ × Entry)) (filled : List (Option Entry)) → Hold p slots filled → length slots ≡ length filled
+as_long p [] [] hold = refl
+as_long p [] (f ∷ filled) hold = absurd hold
+as_long p (x ∷ slots) [] hold = absurd hold
+as_long p (x ∷ slots) (None ∷ filled) hold = ap suc (as_long (p + 1) slots filled hold)
+as_long p (x ∷ slots) (Some e ∷ filled) hold = ap suc (as_long (p + 1) slots filled hold.1)
 
-pub put_last : (l : List (ℕ × Entry)) (p : ℕ) (e : Entry) (slots : List (Option Entry)) → put_list (l ++ (p, e) ∷ []) slots ≡ put_list l (put_at p e slots)
-put_last [] p e slots = refl
-put_last (x ∷ l) p e slots = ap (λ (s : List (Option Entry)). put_at x.0 x.1 s) (put_last l p e slots)
+-- an empty slot more
+pub hold_empty : (p : ℕ) (slots : List (ℕ × Entry)) (filled : List (Option Entry)) (x : ℕ × Entry) → Hold p slots filled → Hold p (slots ++ x ∷ []) (filled ++ None ∷ [])
+hold_empty p [] [] x hold = tt
+hold_empty p [] (f ∷ filled) x hold = absurd hold
+hold_empty p (y ∷ slots) [] x hold = absurd hold
+hold_empty p (y ∷ slots) (None ∷ filled) x hold = hold_empty (p + 1) slots filled x hold
+hold_empty p (y ∷ slots) (Some e ∷ filled) x hold = (hold.0, hold_empty (p + 1) slots filled x hold.1)
+
+-- an entry in the slot of its place
+pub hold_put : (p at : ℕ) (x : ℕ × Entry) (slots : List (ℕ × Entry)) (filled : List (Option Entry)) → Hold p slots filled → at < length slots → x.0 ≡ p + at → Hold p (slice_set slots at x) (put_at at x.1 filled)
+hold_put p at x [] filled hold lt is = absurd (omega (arith, lt))
+hold_put p at x (y ∷ slots) [] hold lt is = absurd hold
+hold_put p zero x (y ∷ slots) (None ∷ filled) hold lt is = (ap (λ (n : ℕ). (n, x.1)) (is ∙ no_more p), hold)
+  where
+    no_more : (p : ℕ) → p + 0 ≡ p
+    no_more p = omega arith
+hold_put p zero x (y ∷ slots) (Some e ∷ filled) hold lt is = (ap (λ (n : ℕ). (n, x.1)) (is ∙ no_more p), hold.1)
+  where
+    no_more : (p : ℕ) → p + 0 ≡ p
+    no_more p = omega arith
+hold_put p (suc at) x (y ∷ slots) (None ∷ filled) hold lt is = hold_put (p + 1) at x slots filled hold (omega (arith, lt)) (omega (arith, is))
+hold_put p (suc at) x (y ∷ slots) (Some e ∷ filled) hold lt is = (hold.0, hold_put (p + 1) at x slots filled hold.1 (omega (arith, lt)) (omega (arith, is)))
+
+-- the entries in front of a place, and that of the place
+put_next : (l : List (ℕ × Entry)) (i : ℕ) (x : ℕ × Entry) (slots : List (Option Entry)) → i < length l → x ≡ slice_index_or l i x → put_list (take (suc i) l) slots ≡ put_list (take i l) (put_at x.0 x.1 slots)
+put_next [] i x slots lt is = absurd (omega (arith, lt))
+put_next (y ∷ l) zero x slots lt is = ap (λ (z : ℕ × Entry). put_at z.0 z.1 slots) (sym is)
+put_next (y ∷ l) (suc i) x slots lt is = ap (λ (s : List (Option Entry)). put_at y.0 y.1 s) (put_next l i x slots (omega (arith, lt)) is)
+
+pub put_last : (l : List (ℕ × Entry)) (i : ℕ) (x : ℕ × Entry) (slots : List (Option Entry)) → i < length l → x ≡ slice_index_or l i x → put_list (take (i + 1) l) slots ≡ put_list (take i l) (put_at x.0 x.1 slots)
+put_last l i x slots lt is = subst (λ (n : ℕ). put_list (take n l) slots ≡ put_list (take i l) (put_at x.0 x.1 slots)) (plus_one i) (put_next l i x slots lt is)
+  where
+    plus_one : (i : ℕ) → suc i ≡ i + 1
+    plus_one i = omega arith
+
+-- what stands in front of a place that changes
+pub take_in_front : {X : Type 0} (l : List X) (n i : ℕ) (x : X) → n ≤ i → take n (slice_set l i x) ≡ take n l
+take_in_front [] n i x le = refl
+take_in_front (y ∷ l) zero i x le = refl
+take_in_front (y ∷ l) (suc n) zero x le = absurd (omega (arith, le))
+take_in_front (y ∷ l) (suc n) (suc i) x le = ap (λ (m : List _). y ∷ m) (take_in_front l n i x (omega (arith, le)))
 
 pub put_last_list : (ls : List (List (ℕ × Entry))) (l : List (ℕ × Entry)) (slots : List (Option Entry)) → put_lists (ls ++ l ∷ []) slots ≡ put_lists ls (put_list l slots)
 put_last_list [] l slots = refl
@@ -159,12 +200,16 @@ lists_are log (l ∷ ls) actor each =
 
 -- All slots filled with the entries of the lines
 
-whole : (p : ℕ) (log : List (Line Entry)) (slots : List (Option Entry)) → SlotsAreOfLog log slots → ((q : ℕ) → q < length log → is_full q slots ≡ true) → filled_from p slots ≡ placed_from p log
-whole p [] [] under full = refl
-whole p [] (s ∷ slots) under full = absurd under
-whole p (x ∷ log) [] under full = let no = full 0 (omega arith) in absurd (cc)
-whole p (x ∷ log) (None ∷ slots) under full = let no = full 0 (omega arith) in absurd (cc)
-whole p (x ∷ log) (Some e ∷ slots) under full = ap (λ (f : Entry). (p, f) ∷ filled_from (p + 1) slots) under.0 ∙ ap (λ (l : List (ℕ × Entry)). (p, x.entry) ∷ l) (whole (p + 1) log slots under.1 (λ q lt. full (suc q) (omega (arith, lt))))
+whole : (p : ℕ) (log : List (Line Entry)) (slots : List (ℕ × Entry)) (filled : List (Option Entry)) → SlotsAreOfLog log filled → ((q : ℕ) → q < length log → is_full q filled ≡ true) → Hold p slots filled → slots ≡ placed_from p log
+whole p [] [] [] under full hold = refl
+whole p [] (x ∷ slots) [] under full hold = absurd hold
+whole p [] slots (f ∷ filled) under full hold = absurd under
+whole p (x ∷ log) slots [] under full hold = let no = full 0 (omega arith) in absurd (cc)
+whole p (x ∷ log) slots (None ∷ filled) under full hold = let no = full 0 (omega arith) in absurd (cc)
+whole p (x ∷ log) [] (Some e ∷ filled) under full hold = absurd hold
+whole p (x ∷ log) (y ∷ slots) (Some e ∷ filled) under full hold =
+    ap (λ (z : ℕ × Entry). z ∷ slots) (hold.0 ∙ ap (λ (f : Entry). (p, f)) under.0)
+    ∙ ap (λ (l : List (ℕ × Entry)). (p, x.entry) ∷ l) (whole (p + 1) log slots filled under.1 (λ q lt. full (suc q) (omega (arith, lt))) hold.1)
 
 as_many : (clients : List ClientState) → length (map (λ (l : ClientState). l.entries) clients) ≡ length clients
 as_many [] = refl
@@ -202,5 +247,5 @@ module _ (nodes : List (List (ℕ × Entry))) (clients : List ClientState) (cloc
       full_by manned.some_actor.0 q at.0 at.1 manned.some_actor.1 (manned.on_board manned.some_actor.0 manned.some_actor.1)
 
   -- the lists of one log, put together, are that log
-  pub merged_whole : filled_from 0 (put_lists (map (λ (l : ClientState). l.entries) clients) (put_lists nodes [])) ≡ placed_from 0 one.log
-  merged_whole = whole 0 one.log (put_lists (map (λ (l : ClientState). l.entries) clients) (put_lists nodes [])) all_under all_full
+  pub merged_whole : (slots : List (ℕ × Entry)) → Hold 0 slots (put_lists (map (λ (l : ClientState). l.entries) clients) (put_lists nodes [])) → slots ≡ placed_from 0 one.log
+  merged_whole slots hold = whole 0 one.log slots (put_lists (map (λ (l : ClientState). l.entries) clients) (put_lists nodes [])) all_under all_full hold

@@ -1,5 +1,5 @@
 -- The lists of a run's actors, and the log that they are.
-use Rattle.std.specs.Prelude.{ℕ, zero, suc, ◌+◌, List, [], ◌∷◌, length, map, Option, Some, None}
+use Rattle.std.specs.Prelude.{◌≡◌, ℕ, zero, suc, ◌+◌, List, [], ◌∷◌, length, map, Option, Some, None}
 use Rattle.std.specs.Prelude.{slice_get}
 use Rattle.mn_actors.specs.declared.actor.Actor.{Actor}
 use Rattle.mn_actors.specs.declared.actor.Actor.TheVariants.{Node, Client}
@@ -36,8 +36,10 @@ abbrev pub put_lists : List (List (ℕ × Entry)) → List (Option Entry) → Li
 put_lists [] slots = slots
 put_lists (l ∷ ls) slots = put_list l (put_lists ls slots)
 
--- the slots that are filled, with their places
-abbrev pub filled_from : ℕ → List (Option Entry) → List (ℕ × Entry)
-filled_from p [] = []
-filled_from p (None ∷ slots) = filled_from (p + 1) slots
-filled_from p (Some e ∷ slots) = (p, e) ∷ filled_from (p + 1) slots
+-- how the slots from a place on hold them: those that are filled, each with its place
+abbrev pub Hold : ℕ → List (ℕ × Entry) → List (Option Entry) → Type 0
+Hold p [] [] = Unit {0}
+Hold p [] (f ∷ filled) = ⊥
+Hold p (x ∷ slots) [] = ⊥
+Hold p (x ∷ slots) (None ∷ filled) = Hold (p + 1) slots filled
+Hold p (x ∷ slots) (Some e ∷ filled) = (x ≡ (p, e)) × Hold (p + 1) slots filled

@@ -1,83 +1,101 @@
 //! Lists merged by place.
-ghost use Rattle.std.specs.Prelude.{◌≡◌, ℕ, map, IfOk, OnOk};
+ghost use Rattle.std.specs.Prelude.{◌≡◌, ℕ, List, Option, map, IfOk, OnOk};
 ghost use Rattle.mn_cell.specs.Runs.{placed_from};
-ghost use Rattle.mn_hist.specs.Merging.{AreOneLog, filled_from, put_at, put_list, put_lists};
+ghost use Rattle.mn_world.specs.declared.entry.Entry.{Entry as Step};
+ghost use Rattle.mn_hist.specs.Merging.{AreOneLog, Hold, put_at, put_list, put_lists};
 
 use crate::lists::Lists;
 use mn_base::NoMemory;
-use mn_world::{ClientList, Entry, EntryList, Log};
+use mn_world::{ClientList, Entry, EntryList, Log, What};
 use std::alloc::Global;
+use std::mem::swap;
 
-/// Puts an entry into the slot of its place.
+/// The slot of a place before its entry comes: what it holds tells of nothing.
+fn empty(place: usize) -> (u64, Entry) {
+    let entry = Entry {
+        node: None,
+        client: None,
+        what: What::Restarted { kept: false },
+    };
+    (place as u64, entry)
+}
+
+/// Swaps an entry with what the slot of its place holds.
 #[inline(always)]
-fn put(slots: &mut Vec<Option<Entry>>, place: u64, entry: Entry) -> Result<(), NoMemory>
-    ensures { OnOk result (slots.new.items ≡ put_at place entry slots.old.items) }
+fn put(slots: &mut Vec<(u64, Entry)>, entry: &mut (u64, Entry)) -> Result<(), NoMemory>
+    ensures { OnOk result ((filled : List (Option Step)) → Hold 0 slots.old.items filled
+        → Hold 0 slots.new.items (put_at entry.old.0 entry.old.1 filled)) }
 {
-    let at = place as usize;
+    let at = entry.0 as usize;
     while slots.len() <= at {
-        slots.push(None)?;
+        slots.push(empty(slots.len()))?;
     }
-    slots[at] = Some(entry);
+    swap(&mut slots[at], entry);
     Ok(())
 }
 
-/// Puts each entry of a list into the slot of its place.
-fn put_entries(slots: &mut Vec<Option<Entry>>, entries: Vec<(u64, Entry)>) -> Result<(), NoMemory>
-    ensures { OnOk result (slots.new.items ≡ put_list entries.items slots.old.items) }
+/// Swaps each entry of a list with what the slot of its place holds.
+fn put_entries(
+    slots: &mut Vec<(u64, Entry)>,
+    entries: &mut Vec<(u64, Entry)>,
+) -> Result<(), NoMemory>
+    ensures { OnOk result ((filled : List (Option Step)) → Hold 0 slots.old.items filled
+        → Hold 0 slots.new.items (put_list entries.old.items filled)) }
 {
-    let mut left = entries;
-    while let Some((place, entry)) = left.pop() {
-        put(slots, place, entry)?;
+    let mut left = entries.len();
+    while left > 0 {
+        left -= 1;
+        put(slots, &mut entries[left])?;
     }
     Ok(())
 }
 
-/// The same for each list of a node.
-fn put_nodes(slots: &mut Vec<Option<Entry>>, lists: Vec<EntryList>) -> Result<(), NoMemory>
-    ensures { OnOk result (slots.new.items ≡ put_lists lists.items slots.old.items) }
+/// The same for each list of a node; what is left of the lists goes to `twins`.
+fn put_nodes(
+    slots: &mut Vec<(u64, Entry)>,
+    twins: &mut Vec<Vec<(u64, Entry)>>,
+    lists: Vec<EntryList>,
+) -> Result<(), NoMemory>
+    ensures { OnOk result ((filled : List (Option Step)) → Hold 0 slots.old.items filled
+        → Hold 0 slots.new.items (put_lists lists.items filled)) }
 {
     let mut left = lists;
     while let Some(list) = left.pop() {
-        put_entries(slots, list.into_vec())?;
+        let mut entries = list.into_vec();
+        put_entries(slots, &mut entries)?;
+        twins.push(entries)?;
     }
     Ok(())
 }
 
 /// The same for each list of a client.
-fn put_clients(slots: &mut Vec<Option<Entry>>, lists: Vec<ClientList>) -> Result<(), NoMemory>
-    ensures { OnOk result (slots.new.items
-        ≡ put_lists (map (λ l. l.entries) lists.items) slots.old.items) }
+fn put_clients(
+    slots: &mut Vec<(u64, Entry)>,
+    twins: &mut Vec<Vec<(u64, Entry)>>,
+    lists: Vec<ClientList>,
+) -> Result<(), NoMemory>
+    ensures { OnOk result ((filled : List (Option Step)) → Hold 0 slots.old.items filled
+        → Hold 0 slots.new.items (put_lists (map (λ l. l.entries) lists.items) filled)) }
 {
     let mut left = lists;
     while let Some(list) = left.pop() {
-        put_entries(slots, list.into_vec())?;
+        let mut entries = list.into_vec();
+        put_entries(slots, &mut entries)?;
+        twins.push(entries)?;
     }
     Ok(())
 }
 
-/// The slots that are filled, with their places.
-fn filled(alloc: Global, slots: Vec<Option<Entry>>) -> Result<Vec<(u64, Entry)>, NoMemory>
-    ensures { IfOk result (λ log. log.items ≡ filled_from 0 slots.items) }
-{
-    let mut slots = slots;
-    let mut log = Vec::with_capacity(alloc, slots.len())?;
-    for at in 0..slots.len() {
-        if let Some(entry) = slots[at].take() {
-            log.push((at as u64, entry))?;
-        }
-    }
-    Ok(log)
-}
-
 /// The whole log of a run, from the lists of all its actors: each place once, in order. It takes
-/// time linear in the entries.
+/// time linear in the entries, and lets none of them go.
 pub fn merge(alloc: Global, lists: Lists) -> Result<Log, NoMemory>
     requires { (clock : ℕ) × AreOneLog lists.nodes lists.clients clock }
     ensures { (clock : ℕ) (one : AreOneLog lists.nodes lists.clients clock)
         → IfOk result (λ log. log ≡ placed_from 0 one.log) }
 {
     let mut slots = Vec::new(alloc);
-    put_nodes(&mut slots, lists.nodes.into_vec())?;
-    put_clients(&mut slots, lists.clients.into_vec())?;
-    Ok(Log::from_vec(filled(alloc, slots)?))
+    let mut twins = Vec::new(alloc);
+    put_nodes(&mut slots, &mut twins, lists.nodes.into_vec())?;
+    put_clients(&mut slots, &mut twins, lists.clients.into_vec())?;
+    Ok(Log::with_twins(slots, twins))
 }

@@ -1,11 +1,12 @@
 use Rattle.std.proofs.Common.{◌≡◌, ℕ, List, [], ◌∷◌, ◌++◌, length, sym, ap, ◌∙◌, subst}
 use Rattle.mn_actors.specs.Sight.{view_of}
 use Rattle.mn_cell.specs.Station.{StationState}
+use Rattle.mn_cell.proofs.Filled.{none_left}
 use Rattle.mn_node.specs.State.{NodeState}
 use Rattle.mn_world.specs.declared.entry.Entry.{Entry}
 use Rattle.mn_world.specs.Protocol.{start_of}
 use Rattle.mn_callers.specs.Ended.{HoldsNodes}
-use Rattle.mn_callers.proofs.Apart.{IsTaking, callers_then, holds_more, no_items, same_callers, taken_at, taken_ends, takes}
+use Rattle.mn_callers.proofs.Apart.{IsTaking, callers_then, holds_more, same_callers, taken_at, taken_ends, takes}
 use Rattle.mn_callers.proofs.ending.take_apart.Goals as goal
 
 pub loop-station-preserved : goal.loop-station-preserved
@@ -37,5 +38,5 @@ loop-station-preserved g c =
 
 pub returns-clause-made : goal.returns-clause-made
 returns-clause-made g c =
-    let none = no_items c.loop-station.left.items (sym c.loop-station.left.ok.0 ∙ c.in_default.ensures.cases.0) in
+    let none = none_left c.loop-station.left.items (sym c.loop-station.left.ok.0 ∙ c.in_default.ensures.cases.0) in
     (taken_ends g.D.Disk.state g.D.Disk.faults (start_of g.N.Named.records) g.N.Named.faults g.N.Named.honest c.args.stations.items c.loop-station.left.items c.loop-station.nodes.items c.loop-station.lists.items c.loop-station.invariant.taking none).2

@@ -49,7 +49,7 @@ go_on-requires-clause-steps g c =
     let alive = due_alive start points c.args.self.now call c.requires.client (sym c.take.ensures.value ∙ c.in-Some.is) in
     let send = c.send-reply.ensures in
     fed_steps start points old c.send-reply.new.self c.feed.new.self call.node call.request c.send-reply.result alive.1 alive.2 send.stays.0 send.client send.fits send.answer send.none
-    (λ none decide. c.is_decide-is_decide.ensures (c.is_lost.ensures c.if-is_lost.false none) decide)
+    (λ none decide. c.is_decide-is_decide.ensures.is_none (c.is_lost.ensures c.if-is_lost.false none) decide)
     (record { ready = c.feed.ensures.ready; agrees = c.feed.ensures.agrees; no_entry = c.feed.ensures.no_entry; kept = c.feed.ensures.kept })
     (send.stays.1 ∙ c.take.ensures.after) send.run (lives_by points c.send-reply.new.self (sym c.has_died.ensures ∙ c.if-has_died.false))
 

@@ -9,16 +9,16 @@ returns-then-not-make_room g c =
     let start = g.X.Transport.start in
     let old = c.args.self.now in
     let new = c.make_room.new.self in
-    let keeps = room_keeps old new c.make_room.ensures in
+    let keeps = room_keeps old new c.make_room.ensures.same in
     record {
       turn = turn_same _ c.requires.turn new.list keeps.client keeps.entries;
       goes_on = moves_same g.X.Transport.went g.met.X.Transport.stays _ _ new.list keeps.client keeps.entries;
-      run = room_run start c.args.points.now old new c.make_room.ensures c.requires.run;
+      run = room_run start c.args.points.now old new c.make_room.ensures.same c.requires.run;
       fits = tt;
       answer = λ not. absurd (not refl);
-      none = λ is. room_past old new c.make_room.ensures;
+      none = λ is. room_past old new c.make_room.ensures.same;
       client = keeps.client;
-      stays = (ap (λ (k : Client). k.proxy) c.make_room.ensures, ap (λ (k : Client). k.due) c.make_room.ensures, ap (λ (k : Client). k.begun) c.make_room.ensures);
+      stays = (ap (λ (k : Client). k.proxy) c.make_room.ensures.same, ap (λ (k : Client). k.due) c.make_room.ensures.same, ap (λ (k : Client). k.begun) c.make_room.ensures.same);
     }
 
 pub ask-requires : goal.ask-requires
@@ -26,12 +26,12 @@ ask-requires g c =
     let start = g.X.Transport.start in
     let old = c.args.self.now in
     let new = c.make_room.new.self in
-    let keeps = room_keeps old new c.make_room.ensures in
+    let keeps = room_keeps old new c.make_room.ensures.same in
     record {
       turn = turn_same _ c.requires.turn new.list keeps.client keeps.entries;
-      run = room_run start c.args.points.now old new c.make_room.ensures c.requires.run;
-      proxy = room_proxy start old new c.make_room.ensures c.requires.proxy;
-      due = room_due start old new (record { node = c.args.node; request = c.args.request }) c.make_room.ensures c.requires.due;
+      run = room_run start c.args.points.now old new c.make_room.ensures.same c.requires.run;
+      proxy = room_proxy start old new c.make_room.ensures.same c.requires.proxy;
+      due = room_due start old new (record { node = c.args.node; request = c.args.request }) c.make_room.ensures.same c.requires.due;
     }
 
 pub returns : goal.returns
@@ -40,7 +40,7 @@ returns g c =
     let old = c.args.self.now in
     let mid = c.make_room.new.self in
     let new = c.ask.new.self in
-    let same = c.make_room.ensures in
+    let same = c.make_room.ensures.same in
     let keeps = room_keeps old mid same in
     let ask = c.ask.ensures in
     record {
