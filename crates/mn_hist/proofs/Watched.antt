@@ -1,5 +1,5 @@
 -- What one more entry makes of what is kept to tell which crash points were met.
-use Rattle.std.proofs.Common.{◌≡◌, ℕ, zero, suc, ◌+◌, ◌<◌, true, false, ◌&&◌, List, ◌∷◌, length, filter, replicate, Option, Some, None, if◌then◌else◌, refl, subst, sym, ap, ◌∙◌, arith}
+use Rattle.std.proofs.Common.{◌≡◌, ℕ, zero, suc, ◌+◌, ◌<◌, true, false, ◌&&◌, List, [], ◌∷◌, length, filter, replicate, Option, Some, None, if◌then◌else◌, refl, subst, sym, ap, ◌∙◌, arith}
 use Rattle.std.specs.Prelude.{nat_eq, slice_get, slice_set}
 use Rattle.std.specs.HashMap.{HashMap}
 use Rattle.std.proofs.lemmas.Bool.Decides.{nat_tests}
@@ -157,3 +157,10 @@ watched_none watch points past e none watches = record {
   numbers = numbers_kept watch.numbers.items past e none watches.numbers;
   votes = votes_same watch.votes past e none watches.votes;
 }
+
+-- No points
+
+pub meets_none : (points : List Point) (es : List Entry) → length points ≡ 0 → points_met points es ≡ []
+meets_none [] [] none = refl
+meets_none [] (e ∷ es) none = meets_none [] es refl
+meets_none (p ∷ points) es none = absurd (omega (arith, none))

@@ -287,8 +287,8 @@ impl Watch {
 }
 
 /// Which of these crash points the log met, in order of number. It takes time linear in the
-/// entries, and beside that looks at the points at each yes vote and each stop that was asked for.
-/// NoMemory: there was no memory for it.
+/// entries, if there are points, and beside that looks at the points at each yes vote and each stop
+/// that was asked for. NoMemory: there was no memory for it.
 pub fn points_met(
     alloc: Global,
     points: &[Point],
@@ -296,6 +296,9 @@ pub fn points_met(
 ) -> Result<Vec<bool>, NoMemory>
     ensures { IfOk result (λ met. met.items ≡ points_met points.now (entries_of log.now)) }
 {
+    if points.is_empty() {
+        return Ok(Vec::new(alloc));
+    }
     let mut watch = Watch::new(alloc, points)?;
     for (_, entry) in log {
         watch.note(points, entry)?;

@@ -1,7 +1,10 @@
+ghost use Rattle.mn_proxy.specs.Turns.{IsFed, IsOutFor};
+
 use mn_base::{Addr, Reply, Tid};
 use mn_coord::Coordinator;
 use mn_mini::NodeReply;
 use mn_work::Place;
+use std::mem;
 
 /// What a minitransaction or a Peek is for.
 #[derive(Debug, Drop)]
@@ -38,4 +41,25 @@ pub enum Errand {
         coordinator: Coordinator,
         purpose: Purpose,
     },
+}
+
+impl Errand {
+    /// Takes the reply to the request that is out for it. It stays where it lies: only what was a
+    /// Peek is moved.
+    pub fn feed(&mut self, reply: NodeReply)
+        requires out { IsOutFor self.old }
+        ensures { IsFed self.old reply self.new }
+    {
+        if let Errand::Mini { coordinator, .. } = self {
+            coordinator.feed(reply);
+            return;
+        }
+        if let Errand::Peek { place, purpose } = mem::replace(self, Errand::Nothing) {
+            *self = Errand::Peeked {
+                place,
+                reply,
+                purpose,
+            };
+        }
+    }
 }

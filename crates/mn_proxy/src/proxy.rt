@@ -23,7 +23,7 @@ ghost use Rattle.mn_work.specs.Paths.{HasCurrentPath};
 ghost use Rattle.mn_proxy.specs.LeafReads.{LeafGoes, LeafTurns, ReadsLeaf};
 ghost use Rattle.mn_proxy.specs.LeafReads.{StepReadsLeaf};
 ghost use Rattle.mn_proxy.specs.State.{IsIdle, IsOut, IsOutIn, IsReady, begun, new_proxy};
-ghost use Rattle.mn_proxy.specs.Turns.{IsFed, IsOutFor, IsSoundTurn, IsSoundWork, KeepsSelf};
+ghost use Rattle.mn_proxy.specs.Turns.{IsSoundTurn, IsSoundWork, KeepsSelf};
 ghost use Rattle.mn_proxy.specs.Turns.{OwesNoDecide, TurnAgrees, with_work};
 ghost use Rattle.mn_work.specs.Walks.{is_later};
 ghost use Rattle.mn_work.specs.Works.{new_work};
@@ -275,38 +275,9 @@ impl Proxy {
             → (self.old.work ≡ Some (work, errands.Mini tid c purpose))
             → self.new.work ≡ Some (work, errands.Mini tid (fed_by c reply) purpose) }
     {
-        let Some((work, errand)) = self.work.take() else {
+        let Some((_, errand)) = &mut self.work else {
             return;
         };
-        self.work = Some((work, fed(errand, reply)));
-    }
-}
-
-/// What is on its way, with the reply to its request.
-#[inline(always)]
-fn fed(errand: Errand, reply: NodeReply) -> Errand
-    requires out { IsOutFor errand }
-    ensures { IsFed errand reply result }
-{
-    match errand {
-        Errand::Peek { place, purpose } => Errand::Peeked {
-            place,
-            reply,
-            purpose,
-        },
-        Errand::Mini {
-            tid,
-            coordinator,
-            purpose,
-        } => {
-            let mut coordinator = coordinator;
-            coordinator.feed(reply);
-            Errand::Mini {
-                tid,
-                coordinator,
-                purpose,
-            }
-        }
-        errand => errand,
+        errand.feed(reply);
     }
 }

@@ -1,10 +1,16 @@
-use Rattle.std.proofs.Common.{List, take, ap, subst, sym, ◌∙◌}
+use Rattle.std.proofs.Common.{◌≡◌, List, length, take, ap, subst, sym, ◌∙◌, rules}
 use Rattle.mn_world.specs.declared.entry.Entry.{Entry}
 use Rattle.mn_world.specs.Run.{entries_of}
 use Rattle.mn_hist.specs.Points.{points_met}
 use Rattle.mn_hist.specs.Watching.{TellsPointsMet}
 use Rattle.mn_hist.proofs.Joining.{one_more, take_whole}
+use Rattle.mn_hist.proofs.Watched.{meets_none}
 use Rattle.mn_hist.proofs.points.points_met.Goals as goal
+
+pub returns-then-is_empty : goal.returns-then-is_empty
+returns-then-is_empty c =
+    let none : length c.args.points.now ≡ 0 = search rules in
+    c.new.ensures.items ∙ sym (meets_none c.args.points.now (entries_of c.args.log.now) none)
 
 pub loop-entry-init : goal.loop-entry-init
 loop-entry-init c = record { is = c.in_ok-watch.ensures.is; watches = c.in_ok-watch.ensures.watches }

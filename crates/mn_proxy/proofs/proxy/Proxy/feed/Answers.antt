@@ -21,12 +21,12 @@ invariant_of-self-2 c = record {
   run = c.self.invariant.run;
   nodes = c.self.invariant.nodes;
   pages = c.self.invariant.pages;
-  work = fed_work c.self.inside.known c.in-Some.work c.in-Some.errand c.fed.result c.args.reply
-      (sound_of c.self.inside.known c.self.inside.work c.in-Some.work c.in-Some.errand (sym c.take.ensures.value ∙ c.in-Some.is) c.self.invariant.work) c.fed.ensures;
+  work = fed_work c.self.inside.known c.in-Some.field-0-0 c.in-Some.errand c.feed.new.self c.args.reply
+      (sound_of c.self.inside.known c.self.inside.work c.in-Some.field-0-0 c.in-Some.errand c.in-Some.is c.self.invariant.work) c.feed.ensures;
 }
 
 pub returns-clause-ready : goal.returns-clause-ready
-returns-clause-ready c = (λ none. absurd cc, fed_in c.in-Some.work c.in-Some.errand c.fed.result c.args.reply c.fed.ensures)
+returns-clause-ready c = (λ none. absurd cc, fed_in c.in-Some.field-0-0 c.in-Some.errand c.feed.new.self c.args.reply c.feed.ensures)
 
 pub returns-clause-agrees : goal.returns-clause-agrees
 returns-clause-agrees c = λ es e node request a has fits is.
@@ -39,7 +39,7 @@ returns-clause-agrees c = λ es e node request a has fits is.
       work = c.self.inside.work;
     } in
     let same : c.args.self.now ≡ p = sym c.self.view_is in
-    feed_agrees p c.in-Some.work c.in-Some.errand c.fed.result c.args.reply (sym c.take.ensures.value ∙ c.in-Some.is) c.self.invariant.work c.fed.ensures es e node request
+    feed_agrees p c.in-Some.field-0-0 c.in-Some.errand c.feed.new.self c.args.reply c.in-Some.is c.self.invariant.work c.feed.ensures es e node request
     (subst (Agrees es) same a) (subst (λ (q : ProxyState). HasOut q node request) same has) fits is
 
 pub returns-clause-no_entry : goal.returns-clause-no_entry
@@ -53,14 +53,14 @@ returns-clause-no_entry c = λ es a none owes.
       work = c.self.inside.work;
     } in
     let same : c.args.self.now ≡ p = sym c.self.view_is in
-    feed_unanswered p c.in-Some.work c.in-Some.errand c.fed.result c.args.reply (sym c.take.ensures.value ∙ c.in-Some.is) c.self.invariant.work c.fed.ensures es
+    feed_unanswered p c.in-Some.field-0-0 c.in-Some.errand c.feed.new.self c.args.reply c.in-Some.is c.self.invariant.work c.feed.ensures es
     (subst (Agrees es) same a) none (subst OwesNoDecide same owes)
 
 pub returns-clause-falls : goal.returns-clause-falls
 returns-clause-falls c =
-    subst (λ (q : ProxyState). steps_left (with_work (the_view c.self.inside) c.in-Some.work c.fed.result) ≤ steps_left q) c.self.view_is
-    (feed_falls (the_view c.self.inside) c.in-Some.work c.in-Some.errand c.fed.result c.args.reply
-    (sym c.take.ensures.value ∙ c.in-Some.is) (subst IsOut (sym c.self.view_is) c.requires.out) c.fed.ensures)
+    subst (λ (q : ProxyState). steps_left (with_work (the_view c.self.inside) c.in-Some.field-0-0 c.feed.new.self) ≤ steps_left q) c.self.view_is
+    (feed_falls (the_view c.self.inside) c.in-Some.field-0-0 c.in-Some.errand c.feed.new.self c.args.reply
+    c.in-Some.is (subst IsOut (sym c.self.view_is) c.requires.out) c.feed.ensures)
 
 -- What is on its way
 
@@ -69,8 +69,8 @@ returns-clause-known c = ap (λ (p : ProxyState). p.known) c.self.view_is
 
 pub returns-clause-fed : goal.returns-clause-fed
 returns-clause-fed c = λ work tid x purpose under.
-    let begun = under_as (the_view c.self.inside) c.args.self.now c.self.view_is c.in-Some.work c.in-Some.errand (sym c.take.ensures.value ∙ c.in-Some.is) work (out.Mini tid x purpose) under in
-    let d = subst (λ (e : Errand). IsFed e c.args.reply c.fed.result) begun.1 c.fed.ensures in
-    ap (λ (w : Work). Some (w, c.fed.result)) begun.0
+    let begun = under_as (the_view c.self.inside) c.args.self.now c.self.view_is c.in-Some.field-0-0 c.in-Some.errand c.in-Some.is work (out.Mini tid x purpose) under in
+    let d = subst (λ (e : Errand). IsFed e c.args.reply c.feed.new.self) begun.1 c.feed.ensures in
+    ap (λ (w : Work). Some (w, c.feed.new.self)) begun.0
     ∙ (ap (λ (e : Errand). Some (work, e)) d.1
     ∙ ap (λ (y : Coordination). Some (work, out.Mini tid y purpose)) d.2.fed_is)

@@ -2,7 +2,7 @@ use Rattle.std.proofs.Common.{refl, subst, sym}
 use Rattle.mn_proxy.specs.declared.errand.Errand.{Errand}
 use Rattle.mn_proxy.specs.declared.errand.Errand.TheVariants as out
 use Rattle.mn_proxy.specs.Turns.{IsFed}
-use Rattle.mn_proxy.proofs.proxy.fed.Goals as goal
+use Rattle.mn_proxy.proofs.errand.Errand.feed.Goals as goal
 
 pub returns-in-Mini : goal.returns-in-Mini
 returns-in-Mini c =
