@@ -133,6 +133,10 @@ pub record Act : Type 0 where
   pub number : ℕ
   pub op : Op
 
+-- the operation leaves every store as it is
+abbrev pub ChangesNothing : Op → Type 0
+ChangesNothing op = (store : Store) → (applied store op).store ≡ store
+
 abbrev pub act_of : Past → Act
 act_of p = record { client = p.client; number = p.number; op = p.op }
 

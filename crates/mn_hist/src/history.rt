@@ -9,7 +9,7 @@ ghost use Rattle.mn_base.specs.declared.ids.ClientNo.{ClientNo as Who};
 ghost use Rattle.mn_base.specs.declared.ids.Tid.{Tid as Id};
 ghost use Rattle.mn_world.specs.Clients.{is_read};
 ghost use Rattle.mn_world.specs.Shown.{seen_at};
-ghost use Rattle.mn_hist.specs.History.{CallerState, idle, with_seen, state_after};
+ghost use Rattle.mn_hist.specs.History.{CallerState, ChangesNothing, idle, with_seen, state_after};
 ghost use Rattle.mn_world.specs.History.{Placed};
 ghost use Rattle.mn_world.specs.declared.entry.Entry.{Entry as Step};
 ghost use Rattle.mn_hist.specs.History.{IsLastNote, IsFirstNote, IsNotedPlace, StandsInSet};
@@ -247,14 +247,31 @@ pub struct Act<'a> {
     pub client: ClientNo,
     pub number: u32,
     pub op: &'a Op,
+    /// Where it is false, the operation changes no store.
+    may_change: bool,
 }
 
 impl<'a> Model for Act<'a> {
-    ghost use Rattle.mn_hist.specs.History.{Act};
+    ghost use Rattle.std.specs.Prelude.{◌≡◌, false};
+    ghost use Rattle.mn_hist.specs.History.{Act, ChangesNothing};
 
     ghost Value = { Act };
 
     ghost view = { λ a. record { client = a.client; number = a.number; op = a.op.now } };
+
+    ghost invariant = { λ a. a.may_change ≡ false → ChangesNothing a.op.now };
+}
+
+/// Whether the operation may change a store: a refused one doesn't.
+fn may_change(op: &Op) -> bool
+    ensures { result ≡ false → ChangesNothing op.now }
+{
+    match op {
+        Op::Tx { steps, .. } => steps.has_change(),
+        Op::Snapshot { .. } | Op::Branch { .. } => true,
+        Op::Scan { .. } => false,
+        Op::Versions => false,
+    }
 }
 
 /// An operation as it is looked up.
@@ -330,6 +347,7 @@ fn planned<'a>(plans: &HashMap<IdKey, Planner<'a>>, tid: Tid) -> Result<Act<'a>,
         client,
         number: begun.number,
         op: begun.op,
+        may_change: true,
     })
 }
 
@@ -401,6 +419,7 @@ fn take_answer<'a>(
         client,
         number: begun.number,
         op: begun.op,
+        may_change: may_change(begun.op),
     };
     put(slots, place, act)?;
     note_standing(standing, client, begun.number)
@@ -641,24 +660,12 @@ fn all_done(
     Ok(History::from_vec(history))
 }
 
-/// Whether the operation may change a store: a refused one doesn't.
-fn may_change(op: &Op) -> bool
-    ensures { result ≡ false → (store : Versions) → (applied store op.now).store ≡ store }
-{
-    match op {
-        Op::Tx { steps, .. } => steps.has_change(),
-        Op::Snapshot { .. } | Op::Branch { .. } => true,
-        Op::Scan { .. } => false,
-        Op::Versions => false,
-    }
-}
-
 /// Does the operation. NoMemory: there was no memory for it.
-fn follow(alloc: Global, store: &mut Store, op: &Op) -> Result<(), NoMemory>
-    ensures { OnOk result (store.new ≡ (applied store.old op.now).store) }
+fn follow(alloc: Global, store: &mut Store, act: &Act<'_>) -> Result<(), NoMemory>
+    ensures { OnOk result (store.new ≡ (applied store.old act.now.op).store) }
 {
-    if may_change(op) {
-        let _reply = store.apply(alloc, op)?;
+    if act.may_change {
+        let _reply = store.apply(alloc, act.op)?;
     }
     Ok(())
 }
@@ -670,7 +677,7 @@ fn follow_all(alloc: Global, store: &mut Store, slots: &[Option<Act<'_>>]) -> Re
 {
     for slot in slots {
         if let Some(act) = slot {
-            follow(alloc, store, act.op)?;
+            follow(alloc, store, act)?;
         }
     }
     Ok(())
