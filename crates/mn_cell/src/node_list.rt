@@ -7,6 +7,7 @@ ghost use Rattle.mn_cell.specs.Promises.{is_owed_to, owed_after, owes, voted_by,
 ghost use Rattle.mn_cell.specs.Promises.{owed_without};
 
 use mn_base::{ClientNo, NoMemory, Tid};
+use mn_io::make_room;
 use mn_mini::{NodeReply, Request};
 use mn_world::{Entry, EntryList, What};
 use std::alloc::Global;
@@ -17,6 +18,9 @@ const LONGEST: usize = 1 << 57;
 
 /// Room that a new list has at once.
 const FIRST_ROOM: usize = 64;
+
+/// For how many entries there is room at once, where there was too little.
+const ENTRIES_AT_ONCE: usize = 1 << 13;
 
 /// A decision that a client will send, of an id whose vote it got.
 #[derive(Clone, Copy, Debug)]
@@ -199,7 +203,7 @@ impl NodeList {
         if size >= LONGEST - 2 || count >= LONGEST - 2 - size {
             return Err(NoMemory);
         }
-        self.entries.reserve(count + 2)?;
+        make_room(&mut self.entries, count + 2, ENTRIES_AT_ONCE)?;
         self.owed.reserve(1)?;
         Ok(())
     }

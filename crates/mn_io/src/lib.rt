@@ -8,6 +8,7 @@ mod disk;
 mod error;
 mod memory_sink;
 mod memory_source;
+mod room;
 mod sink;
 mod source;
 
@@ -17,6 +18,7 @@ pub use disk::Disk;
 pub use error::{Failed, Fault, NoMemory, ReadError};
 pub use memory_sink::MemorySink;
 pub use memory_source::MemorySource;
+pub use room::make_room;
 pub use sink::{Sink, write_all};
 pub use source::{Source, read_all};
 

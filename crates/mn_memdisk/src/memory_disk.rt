@@ -1,34 +1,17 @@
-ghost use Rattle.std.specs.Prelude.{◌≡◌, ◌≤◌, ◌+◌, if◌then◌else◌, OnOk, vec_capacity, vec_len};
+ghost use Rattle.std.specs.Prelude.{◌≡◌, if◌then◌else◌};
 
 use crate::calls::CallCount;
 use crate::changes::Change;
 use crate::crash::image_after;
 use crate::overwrite::overwrite;
-use mn_io::{Bytes, Calls, Disk, Failed, NoMemory};
+use mn_io::{Bytes, Calls, Disk, Failed, NoMemory, make_room};
 use std::alloc::Global;
 use std::marker::Model;
 
-/// For how many bytes and changes there is room at once. Memory that isn't written to costs
-/// nothing, and a list that grows often is copied often.
+/// For how many bytes and changes there is room at once.
 const ROOM_FOR_BYTES: usize = 1 << 20;
 
 const ROOM_FOR_CHANGES: usize = 1 << 14;
-
-/// Makes room for so many more; where there was too little, for at least `at_once`, if there is
-/// memory for it. NoMemory: there was none for so many more.
-fn make_room_in<T>(list: &mut Vec<T>, more: usize, at_once: usize) -> Result<(), NoMemory>
-    ensures room { OnOk result (vec_len list.new + more ≤ vec_capacity list.new) }
-    ensures items { list.new.items ≡ list.old.items }
-    ensures no_less { vec_capacity list.old ≤ vec_capacity list.new }
-{
-    if list.capacity() - list.len() >= more {
-        return Ok(());
-    }
-    if list.reserve(more.max(at_once)).is_err() {
-        list.reserve(more)?;
-    }
-    Ok(())
-}
 
 /// A disk in memory. A call of it fails exactly where its number is in a list; `make_room` isn't
 /// counted among the calls. It keeps what happened to it, so that a crash may be tried at any
@@ -336,9 +319,9 @@ impl Disk for MemoryDisk {
             self.first = self.content.to_vec(*self.content.allocator())?;
             self.is_kept = true;
         }
-        make_room_in(&mut self.changes, changes as usize, ROOM_FOR_CHANGES)?;
-        make_room_in(&mut self.pieces, bytes, ROOM_FOR_BYTES)?;
-        make_room_in(&mut self.content, bytes, ROOM_FOR_BYTES)?;
+        make_room(&mut self.changes, changes as usize, ROOM_FOR_CHANGES)?;
+        make_room(&mut self.pieces, bytes, ROOM_FOR_BYTES)?;
+        make_room(&mut self.content, bytes, ROOM_FOR_BYTES)?;
         Ok(())
     }
 }

@@ -17,9 +17,13 @@ use crate::held::{Vote, forget, has_vote_for, is_same, part_of};
 use crate::part::{Mismatch, Ranges, first_mismatch, ranges_of, reads_of, write_items};
 use crate::space::Space;
 use mn_base::{NoMemory, Nodes, Tid};
+use mn_io::make_room;
 use mn_locks::{Held, LockTable};
 use mn_mini::{Part, PartItem, Reads, Record};
 use std::alloc::Global;
+
+/// For how many records there is room at once.
+const RECORDS_AT_ONCE: usize = 1 << 12;
 
 /// What a node keeps in memory: its records, and what they make of its space, its locks and the ids
 /// that may not vote. It has room for a decision of each held part.
@@ -277,7 +281,7 @@ impl Memory {
         if self.held.len() >= 4_294_967_294 {
             return Err(NoMemory);
         }
-        self.records.reserve(self.held.len() + 2)?;
+        make_room(&mut self.records, self.held.len() + 2, RECORDS_AT_ONCE)?;
         self.held.reserve(1)?;
         self.forced.reserve(1)?;
         self.locks.reserve(ranges)?;

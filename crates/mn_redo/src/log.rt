@@ -6,12 +6,17 @@ ghost use Rattle.mn_redo.specs.Grammar.{header, behind_gate, IsLog, IsLogBeforeO
 ghost use Rattle.mn_redo.specs.Log.{IsReady, HasPromisedRoom, BytesAreKept, listed, listed_in};
 
 use crate::change::{change, stage};
-use mn_io::{Disk, Failed, NoMemory};
+use mn_io::{Disk, Failed, NoMemory, make_room};
 
 /// More than these is refused like want of memory, so that no sum wraps.
 const MOST_BODIES: u32 = 1_000_000_000;
 
 const MOST_BYTES: usize = 1_000_000_000_000;
+
+/// For how many bytes and gates there is room at once.
+const BYTES_AT_ONCE: usize = 1 << 20;
+
+const GATES_AT_ONCE: usize = 1 << 12;
 
 /// Writes the record of a body behind the closed gate, which stays closed, with a closed gate
 /// behind it.
@@ -135,8 +140,8 @@ impl<D: Disk> Log<D> {
         // A body is two writes and two syncs, of its bytes and six more; a header is eight changes
         // of 18 bytes.
         self.disk.make_room(4 * bodies + 8, bytes + 6 * count + 18)?;
-        self.gates.reserve(count)?;
-        self.bytes.reserve(bytes + 5 * count)?;
+        make_room(&mut self.gates, count, GATES_AT_ONCE)?;
+        make_room(&mut self.bytes, bytes + 5 * count, BYTES_AT_ONCE)?;
         self.spare_bodies = bodies;
         self.spare_bytes = bytes;
         Ok(())
