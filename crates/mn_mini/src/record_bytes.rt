@@ -161,9 +161,21 @@ impl Record {
         requires { IsRecord self.now }
         ensures { IfOk result (λ bytes. bytes ≡ record_bytes self.now) }
     {
-        let mut out = Vec::with_capacity(alloc, room_for(self))?;
-        push_record(&mut out, self)?;
+        let mut out = Vec::new(alloc);
+        self.write_to(&mut out)?;
         Ok(Bytes::from_vec(out))
+    }
+
+    /// Puts its spelling, as `write` gives it, in place of what the list holds. NoMemory: there was
+    /// no memory for it; what the list holds then is not told.
+    pub fn write_to(&self, out: &mut Vec<u8>) -> Result<(), NoMemory>
+        requires { IsRecord self.now }
+        ensures { OnOk result (out.new.items ≡ record_bytes self.now) }
+    {
+        out.clear();
+        out.reserve(room_for(self))?;
+        push_record(out, self)?;
+        Ok(())
     }
 }
 

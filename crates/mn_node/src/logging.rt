@@ -15,7 +15,6 @@ use mn_base::{NoMemory, StopAt};
 use mn_io::Disk;
 use mn_mini::Record;
 use mn_redo::Redo;
-use std::alloc::Global;
 
 /// Makes room for one record more, of so many bytes, and so many ranges, beside a decision of each
 /// held part.
@@ -119,11 +118,12 @@ pub fn log_bytes<D: Disk>(
     Logging::Logged
 }
 
-/// Makes room for a record and so many ranges, and puts it into the log.
+/// Makes room for a record and so many ranges, and puts it into the log. It is spelled in `line`,
+/// in place of what that holds, so that its bytes lie where those of the last one lay.
 pub fn log_record<D: Disk>(
-    alloc: Global,
     redo: &mut Redo<D>,
     memory: &mut Memory,
+    line: &mut Vec<u8>,
     added: &Record,
     ranges: usize,
     stop: Option<StopAt>,
@@ -138,8 +138,8 @@ pub fn log_record<D: Disk>(
         (IsWithOrWithout redo.old.node redo.old.nodes memory.old.records.items (Some added.now)) }
     ensures same { KeepsNodeNumbers memory.old memory.new }
 {
-    let Ok(body) = added.write(alloc) else {
+    let Ok(()) = added.write_to(line) else {
         return Logging::NoRoom;
     };
-    log_bytes(redo, memory, body.as_slice(), ranges, stop)
+    log_bytes(redo, memory, line, ranges, stop)
 }

@@ -37,6 +37,8 @@ use std::marker::Model;
 pub struct Node<D: Disk> {
     redo: Box<Redo<D>>,
     memory: Memory,
+    /// The room in which records are spelled, one after another.
+    line: Vec<u8>,
     is_down: bool,
     /// While it is down: the record of the request inside which it stopped.
     pending: Option<Record>,
@@ -131,6 +133,7 @@ impl<D: Disk> Node<D> {
             Ok(memory) => Ok(Node {
                 redo,
                 memory,
+                line: Vec::new(alloc),
                 is_down: false,
                 pending: None,
             }),
@@ -169,7 +172,14 @@ impl<D: Disk> Node<D> {
         if self.is_down {
             return NodeReply::Down;
         }
-        match answer(alloc, &mut self.redo, &mut self.memory, request, stop) {
+        match answer(
+            alloc,
+            &mut self.redo,
+            &mut self.memory,
+            &mut self.line,
+            request,
+            stop,
+        ) {
             Served::Replied { reply } => reply,
             Served::Stopped { left } => {
                 self.is_down = true;

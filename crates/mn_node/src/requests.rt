@@ -117,6 +117,7 @@ fn execute<D: Disk>(
     alloc: Global,
     redo: &mut Redo<D>,
     memory: &mut Memory,
+    line: &mut Vec<u8>,
     tid: Tid,
     part: &Part,
     reads: Reads,
@@ -149,7 +150,7 @@ fn execute<D: Disk>(
         };
     };
     let executed = Record::Executed { tid, part: copy };
-    match log_record(alloc, redo, memory, &executed, 0, stop) {
+    match log_record(redo, memory, line, &executed, 0, stop) {
         Logging::NoRoom => Served::Replied {
             reply: NodeReply::NoMemory,
         },
@@ -168,6 +169,7 @@ pub fn exec<D: Disk>(
     alloc: Global,
     redo: &mut Redo<D>,
     memory: &mut Memory,
+    line: &mut Vec<u8>,
     tid: Tid,
     part: &Part,
     stop: Option<StopAt>,
@@ -200,7 +202,7 @@ pub fn exec<D: Disk>(
                 found: differs.found,
             },
         },
-        Ok(Tested::Yes { reads }) => execute(alloc, redo, memory, tid, part, reads, stop),
+        Ok(Tested::Yes { reads }) => execute(alloc, redo, memory, line, tid, part, reads, stop),
     }
 }
 
@@ -209,6 +211,7 @@ fn vote_yes<D: Disk>(
     alloc: Global,
     redo: &mut Redo<D>,
     memory: &mut Memory,
+    line: &mut Vec<u8>,
     tid: Tid,
     participants: &Nodes,
     part: &Part,
@@ -252,7 +255,7 @@ fn vote_yes<D: Disk>(
         participants: nodes,
         part: copy,
     };
-    match log_record(alloc, redo, memory, &vote, count, stop) {
+    match log_record(redo, memory, line, &vote, count, stop) {
         Logging::NoRoom => Served::Replied {
             reply: NodeReply::NoMemory,
         },
@@ -271,6 +274,7 @@ pub fn prepare<D: Disk>(
     alloc: Global,
     redo: &mut Redo<D>,
     memory: &mut Memory,
+    line: &mut Vec<u8>,
     tid: Tid,
     participants: &Nodes,
     part: &Part,
@@ -320,6 +324,7 @@ pub fn prepare<D: Disk>(
                 alloc,
                 redo,
                 memory,
+                line,
                 tid,
                 participants,
                 part,
@@ -336,6 +341,7 @@ pub fn answer<D: Disk>(
     alloc: Global,
     redo: &mut Redo<D>,
     memory: &mut Memory,
+    line: &mut Vec<u8>,
     request: &Request,
     stop: Option<StopAt>,
 ) -> Served
@@ -355,8 +361,8 @@ pub fn answer<D: Disk>(
             tid,
             participants,
             part,
-        } => prepare(alloc, redo, memory, *tid, participants, part, stop),
-        Request::Exec { tid, part } => exec(alloc, redo, memory, *tid, part, stop),
+        } => prepare(alloc, redo, memory, line, *tid, participants, part, stop),
+        Request::Exec { tid, part } => exec(alloc, redo, memory, line, *tid, part, stop),
         Request::Decide { tid, yes } => decide(redo, memory, *tid, *yes, stop),
         Request::Force { tid } => force(redo, memory, *tid, stop),
         Request::List => match doubts(alloc, &memory.records, &memory.held) {
