@@ -55,7 +55,7 @@ fn swap(alloc: Global, value: &[u8]) -> Result<Op, Fail> {
     })?;
     Ok(Op::Tx {
         version: Name::new(alloc, b"main")?,
-        steps: Steps::new(steps)?,
+        steps: Steps::new(alloc, steps)?,
     })
 }
 

@@ -16,7 +16,7 @@ fn one_step(alloc: Global, version: Name, step: Step) -> Result<Op, NoMemory>
 {
     let mut steps = Vec::new(alloc);
     steps.push(step)?;
-    match Steps::new(steps) {
+    match Steps::new(alloc, steps) {
         Ok(steps) => Ok(Op::Tx { version, steps }),
         Err(BaseError::BadSteps { .. }) => unreachable!(),
         Err(BaseError::Empty) => unreachable!(),
@@ -47,10 +47,10 @@ fn ended(line: &[u8], at: usize, op: Op) -> Result<Op, LineError>
 }
 
 /// A transaction of these steps, of which there is at least one.
-fn transaction(version: Name, steps: Vec<Step>) -> Result<Op, LineError>
+fn transaction(alloc: Global, version: Name, steps: Vec<Step>) -> Result<Op, LineError>
     ensures { Gives result (few_steps version steps.items) }
 {
-    match Steps::new(steps) {
+    match Steps::new(alloc, steps) {
         Ok(steps) => Ok(Op::Tx { version, steps }),
         Err(BaseError::BadSteps { .. }) => Err(LineError::Wrong { column: 1 }),
         Err(BaseError::Empty) => unreachable!(),
@@ -68,7 +68,7 @@ fn tx_of(alloc: Global, line: &[u8], at: usize) -> Result<Op, LineError>
     let mut at = at;
     let version = name(alloc, line, &mut at)?;
     let steps = steps(alloc, line, at)?;
-    transaction(version, steps)
+    transaction(alloc, version, steps)
 }
 
 #[tactic(auto, unfolding(crate::specs::Lines::put_op))]
