@@ -2,9 +2,9 @@ ghost use Rattle.std.specs.Prelude.{◌≡◌, IfOk};
 ghost use Rattle.mn_page.specs.Grammar.{page_bytes};
 
 use crate::{Cache, Spelled};
-use mn_base::{Addr, Bytes, NoMemory, NodeNo, Pairs, VersionNo};
+use mn_base::{Addr, NoMemory, NodeNo, Pairs, VersionNo};
 use mn_mini::SharedBytes;
-use mn_page::{Body, Page};
+use mn_page::{Body, Low, Page};
 use std::alloc::Global;
 
 fn empty_leaf(alloc: Global) -> Result<Spelled, NoMemory>
@@ -14,7 +14,7 @@ fn empty_leaf(alloc: Global) -> Result<Spelled, NoMemory>
         seq: 1,
         made: VersionNo(0),
         copied: 0,
-        low: Bytes::from_vec(Vec::new(alloc)),
+        low: Low::new(b"").ok_or(NoMemory)?,
         high: None,
         body: Body::Leaf {
             pairs: Pairs::from_vec(Vec::new(alloc)),

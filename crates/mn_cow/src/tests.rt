@@ -1,6 +1,6 @@
 use crate::copy_for;
-use mn_base::{Bytes, Pairs, VersionNo};
-use mn_page::{Body, Page};
+use mn_base::{NoMemory, Pairs, VersionNo};
+use mn_page::{Body, Low, Page};
 use std::test::Fail;
 
 #[test]
@@ -9,7 +9,7 @@ fn a_leaf_is_copied_for_two_versions(rt: HostRuntime) -> Result<(), Fail> {
         seq: 1,
         made: VersionNo(0),
         copied: 0,
-        low: Bytes::from_vec(Vec::new(rt.alloc())),
+        low: Low::new(b"").ok_or(NoMemory)?,
         high: None,
         body: Body::Leaf {
             pairs: Pairs::from_vec(Vec::new(rt.alloc())),

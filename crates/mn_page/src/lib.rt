@@ -11,6 +11,7 @@ mod fault;
 mod fresh;
 mod key_room;
 mod laws;
+mod low;
 mod page;
 mod page_front;
 mod page_read;
@@ -28,6 +29,7 @@ pub use laws::{
     base_holds_empty_store, child_is_shown, copies_are_pages, leaf_tells, leaf_tells_get,
     none_too_high,
 };
+pub use low::Low;
 pub use page::{Body, Branches, Child, Page, number_after};
 pub use page_ref::PageRef;
 pub use pages::Pages;

@@ -1,9 +1,11 @@
-ghost use Rattle.std.specs.Prelude.{◌≡◌};
+ghost use Rattle.std.specs.Prelude.{◌≡◌, IfOk};
 ghost use Rattle.mn_page.specs.Overlay.{next_number};
 
-use mn_base::{Addr, Bytes, Key, NoMemory, Pairs, TryCopy, VersionNo, copies_of};
+use crate::Low;
+use mn_base::{Addr, Key, NoMemory, Pairs, TryCopy, VersionNo, copies_of};
 use std::alloc::Global;
 use std::marker::Model;
+use std::sync::Arc;
 
 /// The sequence number of the next write of a page or an entry. The last number stays, which tells
 /// a plan that the place is worn.
@@ -22,8 +24,8 @@ pub struct Page {
     pub made: VersionNo,
     /// The versions that it was copied for: bit w for version w.
     pub copied: u64,
-    /// The least bound of its keys, of 0 to 32 bytes; no byte for the least of all.
-    pub low: Bytes,
+    /// The least bound of its keys; no byte for the least of all.
+    pub low: Low,
     /// The bound above its keys, or none.
     pub high: Option<Key>,
     pub body: Body,
@@ -51,10 +53,11 @@ pub struct Child {
     pub addr: Addr,
 }
 
-/// The children of a page after the first, in order. Contracts see them as a list.
+/// The children of a page after the first, in order. Copies share one memory. Contracts see them
+/// as a list.
 #[derive(Debug, Drop)]
 pub struct Branches {
-    children: Vec<Child>,
+    children: Arc<Vec<Child>>,
 }
 
 impl Model for Branches {
@@ -63,27 +66,33 @@ impl Model for Branches {
 
     ghost Value = { List Child };
 
-    ghost view = { λ b. b.children.items };
+    ghost view = { λ b. b.children.value.items };
 }
 
 impl Branches {
-    /// It takes no memory.
-    pub fn from_vec(children: Vec<Child>) -> Self
-        ensures { result ≡ children.items }
+    /// These children. NoMemory: there was no memory to count their owners.
+    pub fn from_vec(alloc: Global, children: Vec<Child>) -> Result<Self, NoMemory>
+        ensures { IfOk result (λ b. b ≡ children.items) }
     {
-        Branches { children }
+        Ok(Branches {
+            children: Arc::new(alloc, children)?,
+        })
     }
 
-    pub fn into_vec(self) -> Vec<Child>
-        ensures { result.items ≡ self }
+    /// The children, copied where others have them too. NoMemory: there was no memory for that.
+    pub fn into_vec(self, alloc: Global) -> Result<Vec<Child>, NoMemory>
+        ensures { IfOk result (λ children. children.items ≡ self) }
     {
-        self.children
+        match Arc::try_unwrap(self.children) {
+            Ok(children) => Ok(children),
+            Err(children) => copies_of(alloc, children.as_slice()),
+        }
     }
 
     pub fn as_slice(&self) -> &[Child]
         ensures { result.now ≡ self.now }
     {
-        &self.children
+        self.children.as_slice()
     }
 }
 
@@ -129,9 +138,9 @@ impl TryCopy for Child {
 }
 
 impl TryCopy for Branches {
-    fn try_copy(&self, alloc: Global) -> Result<Self, NoMemory> {
+    fn try_copy(&self, _alloc: Global) -> Result<Self, NoMemory> {
         Ok(Branches {
-            children: copies_of(alloc, &self.children)?,
+            children: Arc::try_clone(&self.children)?,
         })
     }
 }

@@ -12,8 +12,8 @@ ghost use Rattle.mn_page.specs.Reading.{IsPlaceWithin};
 use crate::fault::page_fault;
 use crate::page_ref::{BodyRef, ChildRef, PairRef};
 use crate::page_scan::{is_free, whole_page};
-use crate::{BadPage, Body, Branches, Child, Page, PageError, PageRef};
-use mn_base::{Bytes, Key, NoMemory, Pair, Pairs, Value};
+use crate::{BadPage, Body, Branches, Child, Low, Page, PageError, PageRef};
+use mn_base::{Key, NoMemory, Pair, Pairs, Value};
 use std::alloc::Global;
 
 /// The key of these bytes.
@@ -35,6 +35,17 @@ fn value_of(alloc: Global, bytes: &[u8]) -> Result<Value, NoMemory>
     match Value::new(alloc, bytes) {
         Ok(value) => Ok(value),
         Err(_) => Err(NoMemory),
+    }
+}
+
+/// The bound of these bytes. So many that there is none count as want of memory.
+#[inline(always)]
+fn low_of(bytes: &[u8]) -> Result<Low, NoMemory>
+    ensures { IfOk result (λ low. low ≡ bytes.now) }
+{
+    match Low::new(bytes) {
+        Some(low) => Ok(low),
+        None => Err(NoMemory),
     }
 }
 
@@ -82,7 +93,8 @@ fn body_of(alloc: Global, body: &BodyRef<'_>) -> Result<Body, NoMemory>
         let pairs = Pairs::from_vec(pairs_of(alloc, &body.pairs[..body.count])?);
         return Ok(Body::Leaf { pairs });
     }
-    let rest = Branches::from_vec(children_of(alloc, &body.rest[..body.count])?);
+    let children = children_of(alloc, &body.rest[..body.count])?;
+    let rest = Branches::from_vec(alloc, children)?;
     Ok(Body::Inner {
         height: body.height,
         first: body.first,
@@ -124,7 +136,7 @@ impl<'a> PageRef<'a> {
             seq: self.head.seq,
             made: self.head.made,
             copied: self.head.copied,
-            low: Bytes::from_vec(self.low.to_vec(alloc)?),
+            low: low_of(self.low)?,
             high: high_of(alloc, self.high)?,
             body: body_of(alloc, &self.body)?,
         })

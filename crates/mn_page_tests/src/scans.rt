@@ -1,5 +1,5 @@
-use mn_base::{Addr, Bytes, Key, NoMemory, NodeNo, Pair, Pairs, TryCopy, Value, VersionNo};
-use mn_page::{Body, Branches, Child, Page};
+use mn_base::{Addr, Key, NoMemory, NodeNo, Pair, Pairs, TryCopy, Value, VersionNo};
+use mn_page::{Body, Branches, Child, Low, Page};
 use mn_scan::{ScanError, ScanRun, ScanStep};
 use mn_vtree::VersionTree;
 use std::alloc::Global;
@@ -53,7 +53,7 @@ fn leaf(
         seq: 1,
         made: VersionNo(made),
         copied: 0,
-        low: Bytes::from_vec(low.to_vec(alloc)?),
+        low: Low::new(low).ok_or(NoMemory)?,
         high: bound(alloc, high)?,
         body: Body::Leaf {
             pairs: pairs_of(alloc, keys)?,
@@ -74,7 +74,7 @@ fn root(alloc: Global, made: u8, height: u16) -> Result<Page, NoMemory> {
         body: Body::Inner {
             height,
             first: at(1),
-            rest: Branches::from_vec(rest),
+            rest: Branches::from_vec(alloc, rest)?,
         },
         ..leaf(alloc, made, b"", b"", &[])?
     })

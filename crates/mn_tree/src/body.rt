@@ -65,7 +65,7 @@ fn split_leaf(alloc: Global, pairs: Vec<Pair>) -> Result<Parts, NoMemory>
 }
 
 /// The halves of an inner page, which has too many children.
-fn split_inner(height: u16, first: Addr, rest: Vec<Child>) -> Result<Parts, NoMemory>
+fn split_inner(alloc: Global, height: u16, first: Addr, rest: Vec<Child>) -> Result<Parts, NoMemory>
     requires { 8 ≤ length rest.items }
     ensures { IfOk result (AreHalves (inner_halves height first rest.items)) }
 {
@@ -76,13 +76,13 @@ fn split_inner(height: u16, first: Addr, rest: Vec<Child>) -> Result<Parts, NoMe
         left: Body::Inner {
             height,
             first,
-            rest: Branches::from_vec(left),
+            rest: Branches::from_vec(alloc, left)?,
         },
         separator,
         right: Body::Inner {
             height,
             first: addr,
-            rest: Branches::from_vec(right),
+            rest: Branches::from_vec(alloc, right)?,
         },
     })
 }
@@ -106,9 +106,7 @@ pub fn parts_of(alloc: Global, body: Body) -> Result<Parts, NoMemory>
             first,
             rest,
         } => {
-            let rest = rest.into_vec();
-            if rest.len() < MOST {
-                let rest = Branches::from_vec(rest);
+            if rest.as_slice().len() < MOST {
                 return Ok(Parts::Whole {
                     body: Body::Inner {
                         height,
@@ -117,7 +115,7 @@ pub fn parts_of(alloc: Global, body: Body) -> Result<Parts, NoMemory>
                     },
                 });
             }
-            split_inner(height, first, rest)
+            split_inner(alloc, height, first, rest.into_vec(alloc)?)
         }
     }
 }
@@ -233,14 +231,14 @@ pub fn with_children(
                 return Ok(Body::Inner {
                     height: *height,
                     first: now,
-                    rest: Branches::from_vec(children),
+                    rest: Branches::from_vec(alloc, children)?,
                 });
             }
             push_rest_with(alloc, &mut children, rest.as_slice(), addr, now, more)?;
             Ok(Body::Inner {
                 height: *height,
                 first: *first,
-                rest: Branches::from_vec(children),
+                rest: Branches::from_vec(alloc, children)?,
             })
         }
     }

@@ -11,8 +11,8 @@ ghost use Rattle.mn_tree.specs.Order.{slots_by_number, is_changed, old_pages, ne
 use crate::addrs::Addrs;
 use crate::held::{UNPLACED, resolved};
 use crate::held_pages::HeldPages;
-use mn_base::{Addr, Bytes, NoMemory, NodeNo, TryCopy};
-use mn_page::{Body, Branches, Child, Page, number_after};
+use mn_base::{Addr, NoMemory, NodeNo, TryCopy};
+use mn_page::{Body, Branches, Child, Low, Page, number_after};
 use mn_path::height;
 use std::alloc::Global;
 
@@ -35,7 +35,7 @@ fn is_first(page: &Page, other: &Page) -> bool
     at < other_at || at == other_at && is_left(&page.low, &other.low)
 }
 
-fn is_left(low: &Bytes, other: &Bytes) -> bool
+fn is_left(low: &Low, other: &Low) -> bool
     ensures { result ≡ key_lt low.now other.now }
 {
     low.as_slice().cmp(other.as_slice()).is_lt()
@@ -151,7 +151,7 @@ fn body_in(alloc: Global, by: &[Addr], body: &Body) -> Result<Body, NoMemory>
         } => Ok(Body::Inner {
             height: *height,
             first: resolved(by, *first),
-            rest: Branches::from_vec(placed_children(alloc, by, rest.as_slice())?),
+            rest: Branches::from_vec(alloc, placed_children(alloc, by, rest.as_slice())?)?,
         }),
     }
 }

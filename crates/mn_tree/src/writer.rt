@@ -14,8 +14,8 @@ use crate::body::{Parts, parts_of, with_children};
 use crate::draft::Draft;
 use crate::held::{HeldPage, new_place, resolved};
 use crate::write::Write;
-use mn_base::{Addr, Bytes, Key, NoMemory, TryCopy, VersionNo};
-use mn_page::{Body, Branches, Child, Page};
+use mn_base::{Addr, Key, NoMemory, TryCopy, VersionNo};
+use mn_page::{Body, Branches, Child, Low, Page};
 use mn_path::height;
 use std::alloc::Global;
 
@@ -35,11 +35,14 @@ pub struct Writer {
     pub writes: Vec<Write>,
 }
 
-/// The bytes of a key, as a low fence.
-fn fence_of(alloc: Global, key: &Key) -> Result<Bytes, NoMemory>
+/// The bytes of a key, as a low fence. So many that there is none count as want of memory.
+fn fence_of(key: &Key) -> Result<Low, NoMemory>
     ensures { IfOk result (λ fence. fence ≡ key.now) }
 {
-    Ok(Bytes::from_vec(key.as_slice().to_vec(alloc)?))
+    match Low::new(key.as_slice()) {
+        Some(low) => Ok(low),
+        None => Err(NoMemory),
+    }
 }
 
 /// An old page with other fences above and another body.
@@ -69,7 +72,7 @@ fn left_half(alloc: Global, page: &Page, separator: &Key, left: Body) -> Result<
 
 /// A page of the first number, made for a version.
 #[inline(always)]
-fn fresh_page(version: VersionNo, low: Bytes, high: Option<Key>, body: Body) -> Page
+fn fresh_page(version: VersionNo, low: Low, high: Option<Key>, body: Body) -> Page
     ensures { result ≡ new_page version low high body }
 {
     Page {
@@ -236,7 +239,7 @@ impl Writer {
         ensures bound { OnOk result (self.new.fresh ≤ 2 ^ 16) }
         ensures version { self.new.version ≡ self.old.version }
     {
-        let low = fence_of(alloc, separator)?;
+        let low = fence_of(separator)?;
         let high = page.high.try_copy(alloc)?;
         self.create(fresh_page(self.version, low, high, right), origin)
     }
@@ -430,7 +433,7 @@ fn root_over(alloc: Global, below: u16, first: Addr, second: Child) -> Result<Bo
     Ok(Body::Inner {
         height,
         first,
-        rest: Branches::from_vec(rest),
+        rest: Branches::from_vec(alloc, rest)?,
     })
 }
 

@@ -2,7 +2,8 @@ use Rattle.std.proofs.Common.{◌∙◌, ap, refl, subst, sym}
 use Rattle.mn_work.specs.declared.get.Descent.{Descent}
 use Rattle.mn_work.specs.Knows.{ArePages}
 use Rattle.mn_work.proofs.Cached.{put}
-use Rattle.mn_work.proofs.Descents.{gone_version}
+use Rattle.mn_work.specs.Walks.{IsAbove}
+use Rattle.mn_work.proofs.Descents.{gone_above, gone_version}
 use Rattle.mn_work.proofs.get.Descent.take_inner.Goals as goal
 
 pub returns-then-not-goes-clause-kept : goal.returns-then-not-goes-clause-kept
@@ -16,3 +17,8 @@ returns-clause-kept c =
 pub returns-clause-version : goal.returns-clause-version
 returns-clause-version c =
     ap (λ (d : Descent). d.version) c.below-below.ensures ∙ gone_version c.args.self.now c.args.inner.page c.args.key.now
+
+pub returns-clause-above : goal.returns-clause-above
+returns-clause-above c =
+    subst (λ (d : Descent). IsAbove d.above) (sym c.below-below.ensures)
+    (gone_above c.args.self.now c.args.inner.page c.args.key.now c.requires.page c.requires.above)
