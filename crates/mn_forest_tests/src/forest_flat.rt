@@ -24,7 +24,7 @@ fn part(alloc: Global) -> Result<Part, NoMemory> {
         start: PLACE,
         bytes: SharedBytes::new([0x61].to_vec(alloc)?)?,
     })?;
-    Ok(Part::from_vec(items))
+    Ok(Part::from_vec(alloc, items)?)
 }
 
 /// A vote of id 1 for two nodes.

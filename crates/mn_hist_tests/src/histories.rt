@@ -69,7 +69,7 @@ fn writes(alloc: Global, nodes: u8) -> Result<Minitransaction, Fail> {
             bytes: SharedBytes::new([0x61].to_vec(alloc)?)?,
         })?;
     }
-    Ok(Minitransaction::new(alloc, 2, Items::from_vec(items))?)
+    Ok(Minitransaction::new(alloc, 2, Items::from_vec(alloc, items)?)?)
 }
 
 /// A read of the catalog.
@@ -80,7 +80,7 @@ fn reads(alloc: Global) -> Result<Minitransaction, Fail> {
         start: 64,
         length: 4_096,
     })?;
-    Ok(Minitransaction::new(alloc, 2, Items::from_vec(items))?)
+    Ok(Minitransaction::new(alloc, 2, Items::from_vec(alloc, items)?)?)
 }
 
 /// Asks for the vote of client 0's plan on a node.

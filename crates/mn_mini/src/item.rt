@@ -1,9 +1,10 @@
-ghost use Rattle.std.specs.Prelude.{◌≡◌};
+ghost use Rattle.std.specs.Prelude.{◌≡◌, IfOk};
 
 use crate::SharedBytes;
-use mn_base::{NoMemory, NodeNo, TryCopy, copies_of};
+use mn_base::{NoMemory, NodeNo, TryCopy};
 use std::alloc::Global;
 use std::marker::Model;
+use std::sync::Arc;
 
 /// An item of a minitransaction, at a range of one node's space: 1 to 4,096 bytes from `start` on.
 #[derive(Debug)]
@@ -92,10 +93,10 @@ impl TryCopy for Item {
     }
 }
 
-/// Items in the order given. Contracts see them as a list.
+/// Items in the order given. Copies share one memory. Contracts see them as a list.
 #[derive(Debug, Drop)]
 pub struct Items {
-    items: Vec<Item>,
+    items: Arc<Vec<Item>>,
 }
 
 impl Model for Items {
@@ -104,34 +105,30 @@ impl Model for Items {
 
     ghost Value = { List Item };
 
-    ghost view = { λ s. s.items.items };
+    ghost view = { λ s. s.items.value.items };
 }
 
 impl Items {
-    /// It takes no memory.
-    pub fn from_vec(items: Vec<Item>) -> Self
-        ensures { result ≡ items.items }
+    /// These items. NoMemory: there was no memory to count their owners.
+    pub fn from_vec(alloc: Global, items: Vec<Item>) -> Result<Self, NoMemory>
+        ensures { IfOk result (λ list. list ≡ items.items) }
     {
-        Items { items }
-    }
-
-    pub fn into_vec(self) -> Vec<Item>
-        ensures { result.items ≡ self }
-    {
-        self.items
+        Ok(Items {
+            items: Arc::new(alloc, items)?,
+        })
     }
 
     pub fn as_slice(&self) -> &[Item]
         ensures { result.now ≡ self.now }
     {
-        &self.items
+        self.items.as_slice()
     }
 }
 
 impl TryCopy for Items {
-    fn try_copy(&self, alloc: Global) -> Result<Self, NoMemory> {
+    fn try_copy(&self, _alloc: Global) -> Result<Self, NoMemory> {
         Ok(Items {
-            items: copies_of(alloc, &self.items)?,
+            items: Arc::try_clone(&self.items)?,
         })
     }
 }

@@ -219,7 +219,7 @@ impl Minitransaction {
         push_compares(alloc, &mut part, self.items.as_slice(), node)?;
         push_reads(&mut part, self.items.as_slice(), node)?;
         push_writes(alloc, &mut part, self.items.as_slice(), node)?;
-        Ok(Part::from_vec(part))
+        Part::from_vec(alloc, part)
     }
 }
 

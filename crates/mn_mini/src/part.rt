@@ -1,9 +1,10 @@
-ghost use Rattle.std.specs.Prelude.{◌≡◌};
+ghost use Rattle.std.specs.Prelude.{◌≡◌, IfOk};
 
 use crate::SharedBytes;
-use mn_base::{NoMemory, TryCopy, copies_of};
+use mn_base::{NoMemory, TryCopy};
 use std::alloc::Global;
 use std::marker::Model;
+use std::sync::Arc;
 
 /// An item without its node.
 #[derive(Debug)]
@@ -52,11 +53,11 @@ impl TryCopy for PartItem {
     }
 }
 
-/// A node's items: compares, then reads, then writes, each in the order given. Contracts see them
-/// as a list.
+/// A node's items: compares, then reads, then writes, each in the order given. Copies share one
+/// memory. Contracts see them as a list.
 #[derive(Debug, Drop)]
 pub struct Part {
-    items: Vec<PartItem>,
+    items: Arc<Vec<PartItem>>,
 }
 
 impl Model for Part {
@@ -65,34 +66,30 @@ impl Model for Part {
 
     ghost Value = { List PartItem };
 
-    ghost view = { λ p. p.items.items };
+    ghost view = { λ p. p.items.value.items };
 }
 
 impl Part {
-    /// It takes no memory.
-    pub fn from_vec(items: Vec<PartItem>) -> Self
-        ensures { result ≡ items.items }
+    /// These items. NoMemory: there was no memory to count their owners.
+    pub fn from_vec(alloc: Global, items: Vec<PartItem>) -> Result<Self, NoMemory>
+        ensures { IfOk result (λ part. part ≡ items.items) }
     {
-        Part { items }
-    }
-
-    pub fn into_vec(self) -> Vec<PartItem>
-        ensures { result.items ≡ self }
-    {
-        self.items
+        Ok(Part {
+            items: Arc::new(alloc, items)?,
+        })
     }
 
     pub fn as_slice(&self) -> &[PartItem]
         ensures { result.now ≡ self.now }
     {
-        &self.items
+        self.items.as_slice()
     }
 }
 
 impl TryCopy for Part {
-    fn try_copy(&self, alloc: Global) -> Result<Self, NoMemory> {
+    fn try_copy(&self, _alloc: Global) -> Result<Self, NoMemory> {
         Ok(Part {
-            items: copies_of(alloc, &self.items)?,
+            items: Arc::try_clone(&self.items)?,
         })
     }
 }

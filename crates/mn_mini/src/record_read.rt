@@ -168,7 +168,7 @@ fn first_part(alloc: Global, bytes: &[u8]) -> Result<Option<(Part, &[u8])>, NoMe
         return Ok(None);
     }
     match first_items(alloc, &bytes[2..], count)? {
-        Some((items, rest)) => Ok(Some((Part::from_vec(items), rest))),
+        Some((items, rest)) => Ok(Some((Part::from_vec(alloc, items)?, rest))),
         None => Ok(None),
     }
 }

@@ -85,7 +85,7 @@ fn part_of(alloc: Global, item: PartItem) -> Result<Part, Fail>
 {
     let mut items = Vec::new(alloc);
     items.push(item)?;
-    Ok(Part::from_vec(items))
+    Ok(Part::from_vec(alloc, items)?)
 }
 
 fn write(alloc: Global, start: u32, byte: u8) -> Result<Part, Fail>
@@ -116,7 +116,7 @@ fn vote_part(alloc: Global) -> Result<Part, Fail>
         start: 20_480,
         bytes: SharedBytes::new([0x61].to_vec(alloc)?)?,
     })?;
-    Ok(Part::from_vec(items))
+    Ok(Part::from_vec(alloc, items)?)
 }
 
 fn made(alloc: Global, piece: Piece) -> Result<Part, Fail>

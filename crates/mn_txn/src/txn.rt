@@ -202,7 +202,7 @@ fn items_of(alloc: Global, reads: Vec<Image>, writes: Vec<Image>) -> Result<Item
     let mut items = Vec::with_capacity(alloc, reads.len() + writes.len())?;
     push_compares(&mut items, reads)?;
     push_writes(&mut items, writes)?;
-    Ok(Items::from_vec(items))
+    Items::from_vec(alloc, items)
 }
 
 /// The answer where the items are sound and there is none yet.

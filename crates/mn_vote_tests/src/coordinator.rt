@@ -33,7 +33,7 @@ fn writes(alloc: Global, nodes: &[u8], start: u32, byte: u8) -> Result<Minitrans
             bytes: SharedBytes::new([byte].to_vec(alloc)?)?,
         })?;
     }
-    Ok(Minitransaction::new(alloc, 2, Items::from_vec(items))?)
+    Ok(Minitransaction::new(alloc, 2, Items::from_vec(alloc, items)?)?)
 }
 
 fn done(alloc: Global) -> NodeReply {

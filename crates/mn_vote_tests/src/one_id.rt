@@ -29,7 +29,7 @@ fn writes(alloc: Global) -> Result<Minitransaction, Fail> {
             bytes: SharedBytes::new([97].to_vec(alloc)?)?,
         })?;
     }
-    Ok(Minitransaction::new(alloc, 2, Items::from_vec(items))?)
+    Ok(Minitransaction::new(alloc, 2, Items::from_vec(alloc, items)?)?)
 }
 
 /// The coordinator of a write at both nodes.

@@ -42,7 +42,7 @@ fn read_of(alloc: Global, nodes: u8, place: Place) -> Result<Minitransaction, No
         start: place.start,
         length: place.length,
     })?;
-    match Minitransaction::new(alloc, nodes, Items::from_vec(items)) {
+    match Minitransaction::new(alloc, nodes, Items::from_vec(alloc, items)?) {
         Ok(mini) => Ok(mini),
         Err(_) => Err(NoMemory),
     }
