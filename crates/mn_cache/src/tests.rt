@@ -22,7 +22,7 @@ fn empty_leaf(alloc: Global) -> Result<Spelled, NoMemory>
     };
     let mut bytes = vec![in alloc; 0; 1_024]?;
     page.write(&mut bytes);
-    let bytes = SharedBytes::new(bytes)?;
+    let bytes = SharedBytes::new(alloc, bytes)?;
     Ok(Spelled { page, bytes })
 }
 

@@ -66,7 +66,7 @@ fn writes(alloc: Global, nodes: u8) -> Result<Minitransaction, Fail> {
         items.push(Item::Write {
             node: NodeNo(node),
             start: 20_480,
-            bytes: SharedBytes::new([0x61].to_vec(alloc)?)?,
+            bytes: SharedBytes::new(alloc, [0x61].to_vec(alloc)?)?,
         })?;
     }
     Ok(Minitransaction::new(alloc, 2, Items::from_vec(alloc, items)?)?)

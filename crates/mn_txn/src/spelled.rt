@@ -41,9 +41,9 @@ pub fn page_bytes(alloc: Global, page: &Page) -> Result<SharedBytes, NoMemory>
     requires low { length page.now.low ≤ 32 }
     ensures { IfOk result (λ bytes. bytes ≡ page_bytes page.now) }
 {
-    let mut bytes = [0u8; 1_024];
+    let mut bytes = vec![in alloc; 0u8; 1_024]?;
     page.write(&mut bytes);
-    SharedBytes::new(bytes.to_vec(alloc)?)
+    SharedBytes::new(alloc, bytes)
 }
 
 /// The bytes of an entry.
@@ -52,14 +52,14 @@ pub fn entry_bytes(alloc: Global, entry: &CatEntry) -> Result<SharedBytes, NoMem
 {
     let mut bytes = [0u8; 64];
     entry.write(&mut bytes);
-    SharedBytes::new(bytes.to_vec(alloc)?)
+    SharedBytes::new(alloc, bytes.to_vec(alloc)?)
 }
 
 /// The bytes of an unused entry.
 pub fn no_entry_bytes(alloc: Global) -> Result<SharedBytes, NoMemory>
     ensures { IfOk result (λ bytes. bytes ≡ replicate 64 0) }
 {
-    SharedBytes::new([0u8; 64].to_vec(alloc)?)
+    SharedBytes::new(alloc, [0u8; 64].to_vec(alloc)?)
 }
 
 /// The bytes of a count.
@@ -68,5 +68,5 @@ pub fn count_bytes(alloc: Global, count: u16) -> Result<SharedBytes, NoMemory>
 {
     let mut bytes = [0u8; 8];
     BigEndian::write_u64(&mut bytes, u64::from(count));
-    SharedBytes::new(bytes.to_vec(alloc)?)
+    SharedBytes::new(alloc, bytes.to_vec(alloc)?)
 }

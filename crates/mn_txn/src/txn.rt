@@ -243,7 +243,7 @@ impl Txn {
         ensures unchanged { OnErr result (self.new ≡ self.old) }
     {
         let start = SLOTS_START + SLOT_SIZE * u32::from(addr.slot);
-        let bytes = SharedBytes::new(bytes.to_vec(alloc)?)?;
+        let bytes = SharedBytes::new(alloc, bytes.to_vec(alloc)?)?;
         keep(&mut self.dirty, addr.node, start, bytes)
     }
 

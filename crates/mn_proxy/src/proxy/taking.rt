@@ -206,7 +206,7 @@ impl Proxy {
         match purpose {
             Purpose::Plan { reply } => Ok(ends(Answer::Replied { reply })),
             purpose => match only_read(outcome) {
-                Some(bytes) => match SharedBytes::new(bytes.into_vec()) {
+                Some(bytes) => match SharedBytes::new(alloc, bytes.into_vec()) {
                     Ok(bytes) => self.take(alloc, work, purpose, bytes),
                     Err(_) => Err(NoMemory),
                 },
