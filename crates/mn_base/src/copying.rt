@@ -21,7 +21,7 @@ impl<T: TryCopy> TryCopy for Option<T> {
     }
 }
 
-impl<const N: usize> TryCopy for ArrayVec<u8, N> {
+impl<T: Copy + Default, const N: usize> TryCopy for ArrayVec<T, N> {
     #[inline(always)]
     fn try_copy(&self, _alloc: Global) -> Result<Self, NoMemory> {
         match ArrayVec::try_from(self.as_slice()) {

@@ -1,5 +1,5 @@
 /// The number of a memory node, from 0.
-#[derive(Clone, Copy, Debug, PartialEq, Eq, PartialOrd, Ord)]
+#[derive(Clone, Copy, Debug, Default, PartialEq, Eq, PartialOrd, Ord)]
 pub struct NodeNo(pub u8);
 
 /// The number of an actor that calls nodes: a client (0 to 15), the coordinator that opens and

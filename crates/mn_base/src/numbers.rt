@@ -1,13 +1,17 @@
-ghost use Rattle.std.specs.Prelude.{◌≡◌};
+ghost use Rattle.std.specs.Prelude.{◌≡◌, ◌<◌, [], ◌∷◌, ◌++◌, length, IsOk, OnOk, OnErr};
 
 use crate::{Addr, NoMemory, NodeNo, TryCopy};
+use arrayvec::ArrayVec;
 use std::alloc::Global;
 use std::marker::Model;
 
-/// Numbers of nodes. Contracts see them as a list.
+/// The most numbers in a list of nodes: there are no more nodes.
+const MOST: usize = 8;
+
+/// Numbers of nodes, at most 8, which lie in the value itself. Contracts see them as a list.
 #[derive(Debug, Drop)]
 pub struct Nodes {
-    nodes: Vec<NodeNo>,
+    nodes: ArrayVec<NodeNo, MOST>,
 }
 
 impl Model for Nodes {
@@ -20,17 +24,26 @@ impl Model for Nodes {
 }
 
 impl Nodes {
-    /// It takes no memory.
-    pub fn from_vec(nodes: Vec<NodeNo>) -> Self
-        ensures { result ≡ nodes.items }
+    /// None. It takes no memory.
+    pub fn new() -> Self
+        ensures { result ≡ [] }
     {
-        Nodes { nodes }
+        Nodes {
+            nodes: ArrayVec::new(),
+        }
     }
 
-    pub fn into_vec(self) -> Vec<NodeNo>
-        ensures { result.items ≡ self }
+    /// Adds a node behind the others. NoMemory: there are 8 already. It takes no memory.
+    #[inline(always)]
+    pub fn push(&mut self, node: NodeNo) -> Result<(), NoMemory>
+        ensures ok { OnOk result (self.new ≡ self.old ++ node ∷ []) }
+        ensures room { length self.old < 8 → IsOk result }
+        ensures err { OnErr result (self.new ≡ self.old) }
     {
-        self.nodes
+        match self.nodes.try_push(node) {
+            Ok(()) => Ok(()),
+            Err(_) => Err(NoMemory),
+        }
     }
 
     pub fn as_slice(&self) -> &[NodeNo]
@@ -41,9 +54,10 @@ impl Nodes {
 }
 
 impl TryCopy for Nodes {
+    #[inline(always)]
     fn try_copy(&self, alloc: Global) -> Result<Self, NoMemory> {
         Ok(Nodes {
-            nodes: self.nodes.to_vec(alloc)?,
+            nodes: self.nodes.try_copy(alloc)?,
         })
     }
 }

@@ -29,9 +29,12 @@ fn part(alloc: Global) -> Result<Part, NoMemory> {
 
 /// A vote of id 1 for two nodes.
 fn voted(alloc: Global, one: u8, other: u8) -> Result<Record, NoMemory> {
+    let mut participants = Nodes::new();
+    participants.push(NodeNo(one))?;
+    participants.push(NodeNo(other))?;
     Ok(Record::Voted {
         tid: tid(1),
-        participants: Nodes::from_vec([NodeNo(one), NodeNo(other)].to_vec(alloc)?),
+        participants,
         part: part(alloc)?,
     })
 }

@@ -85,9 +85,12 @@ fn reads(alloc: Global) -> Result<Minitransaction, Fail> {
 
 /// Asks for the vote of client 0's plan on a node.
 fn prepare(alloc: Global, node: u8) -> Result<Request, Fail> {
+    let mut participants = Nodes::new();
+    participants.push(NodeNo(0))?;
+    participants.push(NodeNo(1))?;
     Ok(Request::Prepare {
         tid: tid(0),
-        participants: Nodes::from_vec([NodeNo(0), NodeNo(1)].to_vec(alloc)?),
+        participants,
         part: writes(alloc, 2)?.part(alloc, NodeNo(node))?,
     })
 }

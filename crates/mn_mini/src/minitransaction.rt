@@ -83,17 +83,17 @@ fn is_named_by(items: &[Item], node: NodeNo) -> bool
 
 /// The nodes, out of so many, that some item is at, in order.
 #[tactic(auto, using(std::proofs::lemmas::List::FromFn::filter_of_map_range_with_len_more))]
-fn participants_among(alloc: Global, nodes: u8, items: &[Item]) -> Result<Nodes, NoMemory>
+fn participants_among(nodes: u8, items: &[Item]) -> Result<Nodes, NoMemory>
     ensures { IfOk result (λ participants. participants
         ≡ filter (is_named items.now) (node_numbers nodes)) }
 {
-    let mut participants = Vec::new(alloc);
+    let mut participants = Nodes::new();
     for number in 0..nodes {
         if is_named_by(items, NodeNo(number)) {
             participants.push(NodeNo(number))?;
         }
     }
-    Ok(Nodes::from_vec(participants))
+    Ok(participants)
 }
 
 /// Adds the node's compares, in the order given.
@@ -180,7 +180,7 @@ impl Minitransaction {
         if let Some(item) = first_outside(nodes, items.as_slice()) {
             return Err(MiniError::OutOfSpace { item });
         }
-        let participants = participants_among(alloc, nodes, items.as_slice())?;
+        let participants = participants_among(nodes, items.as_slice())?;
         Ok(Minitransaction {
             nodes,
             items,

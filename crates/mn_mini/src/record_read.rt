@@ -190,18 +190,18 @@ fn ascend(numbers: &[u8]) -> bool
 }
 
 /// Nodes of these numbers.
-fn nodes_of(alloc: Global, numbers: &[u8]) -> Result<Nodes, NoMemory>
+fn nodes_of(numbers: &[u8]) -> Result<Nodes, NoMemory>
     ensures { IfOk result (λ nodes. numbers_of nodes ≡ numbers.now) }
 {
-    let mut nodes = Vec::new(alloc);
+    let mut nodes = Nodes::new();
     for number in numbers {
         nodes.push(NodeNo(*number))?;
     }
-    Ok(Nodes::from_vec(nodes))
+    Ok(nodes)
 }
 
 /// The participants that the bytes begin with, and what follows.
-fn first_participants(alloc: Global, bytes: &[u8]) -> Result<Option<(Nodes, &[u8])>, NoMemory>
+fn first_participants(bytes: &[u8]) -> Result<Option<(Nodes, &[u8])>, NoMemory>
     ensures { IfOk result (λ found.
         MatchOption found (NoneBegins AreParticipants participants_bytes bytes.now)
         (λ x. Begins AreParticipants participants_bytes bytes.now x.0 x.1.now)) }
@@ -217,7 +217,7 @@ fn first_participants(alloc: Global, bytes: &[u8]) -> Result<Option<(Nodes, &[u8
     if !ascend(numbers) {
         return Ok(None);
     }
-    Ok(Some((nodes_of(alloc, numbers)?, rest)))
+    Ok(Some((nodes_of(numbers)?, rest)))
 }
 
 /// Some item writes.
@@ -237,7 +237,7 @@ fn read_voted(alloc: Global, tid: Tid, bytes: &[u8]) -> Result<Option<Record>, N
     ensures { IfOk result (λ found.
         MatchOption found (NoneGoesOn 1 tid bytes.now) (BodyFollows 1 tid bytes.now)) }
 {
-    let Some((participants, behind)) = first_participants(alloc, bytes)? else {
+    let Some((participants, behind)) = first_participants(bytes)? else {
         return Ok(None);
     };
     let Some((part, rest)) = first_part(alloc, behind)? else {

@@ -140,7 +140,9 @@ fn prepare(alloc: Global, tid: Tid, part: Part) -> Result<Request, Fail>
     requires part { IsPart part }
     ensures { IfOk result IsSoundRequest }
 {
-    let participants = Nodes::from_vec([NodeNo(0), NodeNo(1)].to_vec(alloc)?);
+    let mut participants = Nodes::new();
+    participants.push(NodeNo(0))?;
+    participants.push(NodeNo(1))?;
     Ok(Request::Prepare {
         tid,
         participants,

@@ -177,9 +177,12 @@ fn second(alloc: Global) -> Result<Minitransaction, Fail> {
 
 /// The Prepare of the first at a node.
 fn prepare(alloc: Global, node: u8) -> Result<Request, Fail> {
+    let mut participants = Nodes::new();
+    participants.push(NodeNo(0))?;
+    participants.push(NodeNo(1))?;
     Ok(Request::Prepare {
         tid: tid(0, 1),
-        participants: Nodes::from_vec([NodeNo(0), NodeNo(1)].to_vec(alloc)?),
+        participants,
         part: first(alloc)?.part(alloc, NodeNo(node))?,
     })
 }

@@ -23,8 +23,11 @@ const NOTHING: OneId = OneId {
     decided: None,
 };
 
-fn both(alloc: Global) -> Result<Nodes, Fail> {
-    Ok(Nodes::from_vec([NodeNo(0), NodeNo(1)].to_vec(alloc)?))
+fn both() -> Result<Nodes, Fail> {
+    let mut nodes = Nodes::new();
+    nodes.push(NodeNo(0))?;
+    nodes.push(NodeNo(1))?;
+    Ok(nodes)
 }
 
 fn listed(alloc: Global, held: bool) -> Result<NodeReply, Fail> {
@@ -32,7 +35,7 @@ fn listed(alloc: Global, held: bool) -> Result<NodeReply, Fail> {
     if held {
         doubts.push(Doubt {
             tid: tid(),
-            participants: both(alloc)?,
+            participants: both()?,
         })?;
     }
     Ok(NodeReply::Listed {

@@ -6,4 +6,4 @@ use Rattle.mn_mini.proofs.minitransaction.participants_among.Given as goal
 
 -- the participants so far
 abbrev pub invariant-loop-number : goal.invariant-loop-number
-invariant-loop-number l = l.participants.items ≡ filter (is_named l.items) (node_numbers l.number)
+invariant-loop-number l = l.participants ≡ filter (is_named l.items) (node_numbers l.number)

@@ -8,5 +8,5 @@ invariant_of-self c =
     let old = c.self.inside in
     record {
       id = c.self.invariant.id;
-      found = subst (NodesAreBelow old.nodes) (sym c.listed.ensures) (listed_below old.tid old.nodes c.in-Looking.node c.args.reply);
+      found = subst (NodesAreBelow old.nodes) (sym c.listed-self-inside.ensures) (listed_below old.tid old.nodes c.in-Looking.node c.args.reply);
     }
