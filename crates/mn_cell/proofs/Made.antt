@@ -10,6 +10,7 @@ use Rattle.mn_io.specs.DiskModel.{DiskState}
 use Rattle.mn_io.specs.Faults.{Rose}
 use Rattle.mn_mini.specs.declared.part.PartItem.{PartItem}
 use Rattle.mn_mini.specs.declared.record.Record.{Record}
+use Rattle.mn_mini.specs.declared.record.Record.TheVariants.{Executed}
 use Rattle.mn_mini.specs.declared.request.Request.{Request}
 use Rattle.mn_mini.specs.declared.request.Request.TheVariants as Ask
 use Rattle.mn_mini.specs.declared.reply.NodeReply.{NodeReply}
@@ -34,7 +35,7 @@ use Rattle.mn_world.specs.declared.entry.What.TheVariants.{Begin, Issue, Called,
 use Rattle.mn_world.specs.Nodes.{NodeAllows, added_by, is_down, node_records, stopped_request}
 use Rattle.mn_world.specs.Protocol.{Start, base_at, start_nodes, start_records, start_of}
 use Rattle.mn_world.proofs.Bytes.Bases.{base_there}
-use Rattle.mn_cell.specs.Calls.{AddsNoRecord, IsLarge, IsUndamaged, ObeysStop, entry_at, what_said}
+use Rattle.mn_cell.specs.Calls.{AddsNoRecord, IsLarge, IsUndamaged, ObeysStop, entry_at, lengths_by, read_lengths, what_said}
 use Rattle.mn_cell.specs.Station.{HasMadeEntries, IsNodeAtStart, IsRecordKeptAsAsked, StepKeepsRecordAsAsked, RestartsKeepRecordsAsAsked, RoseBy, DiskStandsAsAsked, StopsWhereItWouldAdd, asked_or, last_asked, unasked, unasked_in}
 
 -- The base space of a node
@@ -46,23 +47,34 @@ base_is records n low = base_there (start_of records) n low
 
 -- A large reply comes with no new record
 
-large_compares : (space : List ℕ) (part : List PartItem) (added : Option Record) (m : Option Mismatched) → IsLarge (after_compares space part added m).reply → (after_compares space part added m).added ≡ None
-large_compares space part added (Some at) large = refl
-large_compares space part added None large = absurd large
+some_none : {A : Type 0} (x : A) → Some x ≡ None → ⊥
+some_none x is = absurd (cc)
 
-large_locks : (space : List ℕ) (part : List PartItem) (added : Option Record) (clash : Option Clash) → IsLarge (after_locks space part added clash).reply → (after_locks space part added clash).added ≡ None
-large_locks space part added (Some clash) large = absurd large
-large_locks space part added None large = large_compares space part added (part_mismatch_from space 0 part) large
+module _ (lengths : Option (List ℕ)) where
+  large_compares : (space : List ℕ) (part : List PartItem) (added : Option Record) (m : Option Mismatched) → (lengths ≡ None → added ≡ None) → IsLarge lengths (after_compares space part added m).reply → (after_compares space part added m).added ≡ None
+  large_compares space part added (Some at) bare large = refl
+  large_compares space part added None bare large = bare large
 
-large_if : (b : Bool) (r s : Response) → (IsLarge r.reply → r.added ≡ None) → (IsLarge s.reply → s.added ≡ None) → IsLarge (if b then r else s).reply → (if b then r else s).added ≡ None
-large_if true r s one two large = one large
-large_if false r s one two large = two large
+  large_locks : (space : List ℕ) (part : List PartItem) (added : Option Record) (clash : Option Clash) → (lengths ≡ None → added ≡ None) → IsLarge lengths (after_locks space part added clash).reply → (after_locks space part added clash).added ≡ None
+  large_locks space part added (Some clash) bare large = absurd large
+  large_locks space part added None bare large = large_compares space part added (part_mismatch_from space 0 part) bare large
 
-large_none : (base : List ℕ) (records : List Record) (request : Request) → IsLarge (answer base records request).reply → (answer base records request).added ≡ None
-large_none base records (Ask.Prepare tid participants part) large = large_if (has_forced records tid) _ _ (λ l. absurd l) (large_locks (space_of base records) part _ (clash_of (held_parts records) tid part)) large
-large_none base records (Ask.Exec tid part) large = large_locks (space_of base records) part _ (clash_of (held_parts records) tid part) large
+  large_if : (b : Bool) (r s : Response) → (IsLarge lengths r.reply → r.added ≡ None) → (IsLarge lengths s.reply → s.added ≡ None) → IsLarge lengths (if b then r else s).reply → (if b then r else s).added ≡ None
+  large_if true r s one two large = one large
+  large_if false r s one two large = two large
+
+-- where nothing is kept ready, no record is added
+no_write : (w : Bool) (lengths : List ℕ) (r : Record) → (if w then Some lengths else None) ≡ None → (if w then Some r else None) ≡ None
+no_write true lengths r is = absurd (some_none lengths is)
+no_write false lengths r is = refl
+
+large_none : (base : List ℕ) (records : List Record) (request : Request) → IsLarge (lengths_by request) (answer base records request).reply → (answer base records request).added ≡ None
+large_none base records (Ask.Prepare tid participants part) large =
+    let lengths = read_lengths part in
+    large_if (Some lengths) (has_forced records tid) _ _ (λ l. absurd l) (large_locks (Some lengths) (space_of base records) part _ (clash_of (held_parts records) tid part) (λ is. absurd (some_none lengths is))) large
+large_none base records (Ask.Exec tid part) large = large_locks (lengths_by (Ask.Exec tid part)) (space_of base records) part _ (clash_of (held_parts records) tid part) (no_write (has_write part) (read_lengths part) (Executed tid part)) large
 large_none base records (Ask.Decide tid verdict) large = absurd large
-large_none base records (Ask.Force tid) large = large_if (has_voted records tid) _ _ (λ l. absurd l) (λ l. absurd l) large
+large_none base records (Ask.Force tid) large = large_if None (has_voted records tid) _ _ (λ l. absurd l) (λ l. absurd l) large
 large_none base records Ask.List large = refl
 large_none base records (Ask.Peek start size) large = refl
 
@@ -296,13 +308,13 @@ module _ {D : Type 0} (state : D → DiskState) (faults : D → ℕ) (start : St
     up_still : old.down ≡ false → new.down ≡ false → new.records ≡ old.records → IsUpAsBefore
     up_still up up' records = (records, up' ∙ sym up, up')
 
-    large_still : (request : Request) (reply : NodeReply) → IsLarge reply → old.down ≡ false → new.down ≡ false → (response_to old request).reply ≡ reply → new.records ≡ added_to old.records (response_to old request).added → IsUpAsBefore
+    large_still : (request : Request) (reply : NodeReply) → IsLarge (lengths_by request) reply → old.down ≡ false → new.down ≡ false → (response_to old request).reply ≡ reply → new.records ≡ added_to old.records (response_to old request).added → IsUpAsBefore
     large_still request reply large up up' says records =
-        let none = large_none (base_of old.nodes old.node) (reverse old.records) request (subst IsLarge (sym says) large) in
+        let none = large_none (base_of old.nodes old.node) (reverse old.records) request (subst (IsLarge (lengths_by request)) (sym says) large) in
         up_still up up' (records ∙ ap (λ (a : Option Record). added_to old.records a) none)
 
     -- a call that finds no memory leaves the node as it was
-    unchanged : (request : Request) (stop : Option StopAt) (reply : NodeReply) → Answers state faults old request stop reply new → (reply ≡ Say.NoMemory) ⊎ IsLarge reply → IsUpAsBefore
+    unchanged : (request : Request) (stop : Option StopAt) (reply : NodeReply) → Answers state faults old request stop reply new → (reply ≡ Say.NoMemory) ⊎ IsLarge (lengths_by request) reply → IsUpAsBefore
     unchanged request stop Say.NoMemory told why = up_still told.0 told.1 told.2
     unchanged request stop (Say.BadCompare item found) told why = large_still request (Say.BadCompare item found) tt told.0 told.1 told.2 told.3
     unchanged request stop (Say.Listed doubts) told why = large_still request (Say.Listed doubts) tt told.0 told.1 told.2 told.3
@@ -312,7 +324,7 @@ module _ {D : Type 0} (state : D → DiskState) (faults : D → ℕ) (start : St
     unchanged request stop Say.Down told (inl is) = absurd (cc)
     unchanged request stop Say.Down told (inr is) = absurd is
     unchanged request stop (Say.Done reads) told (inl is) = absurd (cc)
-    unchanged request stop (Say.Done reads) told (inr is) = absurd is
+    unchanged request stop (Say.Done reads) told (inr is) = large_still request (Say.Done reads) is told.0 told.1 told.2 told.3
     unchanged request stop (Say.BadLock start size holder) told (inl is) = absurd (cc)
     unchanged request stop (Say.BadLock start size holder) told (inr is) = absurd is
     unchanged request stop Say.BadForced told (inl is) = absurd (cc)
@@ -322,7 +334,7 @@ module _ {D : Type 0} (state : D → DiskState) (faults : D → ℕ) (start : St
     unchanged request stop Say.Decided told (inl is) = absurd (cc)
     unchanged request stop Say.Decided told (inr is) = absurd is
 
-    pub made_unchanged : (request : Request) (stop : Option StopAt) (reply : NodeReply) → Answers state faults old request stop reply new → (reply ≡ Say.NoMemory) ⊎ IsLarge reply → HasMadeEntries state faults start number before honest es new
+    pub made_unchanged : (request : Request) (stop : Option StopAt) (reply : NodeReply) → Answers state faults old request stop reply new → (reply ≡ Say.NoMemory) ⊎ IsLarge (lengths_by request) reply → HasMadeEntries state faults start number before honest es new
     made_unchanged request stop reply told why =
         let still = unchanged request stop reply told why in
         made_still still.0 still.1 (λ is. let no : true ≡ false = sym is ∙ still.2 in absurd (cc)) (none_left (last_asked es) still.2)
@@ -370,9 +382,6 @@ module _ {D : Type 0} (state : D → DiskState) (faults : D → ℕ) (start : St
         restarted c kept old.pending down up (sym (made.pending down)) restarts (λ h. restart_keeps (last_asked es) kept old.pending restarts finds (goes.no_better h) (made.left down))
 
 -- Stops that were asked for
-
-some_none : {A : Type 0} (x : A) → Some x ≡ None → ⊥
-some_none x is = absurd (cc)
 
 done_compares : (space : List ℕ) (part : List PartItem) (r : Record) (m : Option Mismatched) (reads : List (List ℕ)) → (after_compares space part (Some r) m).reply ≡ Say.Done reads → (after_compares space part (Some r) m).added ≡ None → ⊥
 done_compares space part r (Some at) reads says none = absurd (cc)

@@ -1,6 +1,6 @@
 -- What a call of a node says, and what it takes before the node is asked.
 use Rattle.std.specs.Prelude.{ℕ, ◌+◌, ◌≡◌, ◌≤◌, false, List, [], ◌∷◌, ◌++◌, length, map, Option}
-use Rattle.std.specs.Prelude.{Some, ⊤}
+use Rattle.std.specs.Prelude.{Some, None, ⊤, if◌then◌else◌}
 use Rattle.mn_base.specs.declared.ids.NodeNo.{NodeNo}
 use Rattle.mn_base.specs.declared.ids.ClientNo.{ClientNo}
 use Rattle.mn_base.specs.declared.gate.StopAt.{StopAt}
@@ -80,13 +80,6 @@ IsUndamaged NoMemory = ⊤
 
 -- Copies of replies
 
--- a reply that may be large, and comes with no new record
-abbrev pub IsLarge : NodeReply → Type 0
-IsLarge (Say.BadCompare item found) = ⊤
-IsLarge (Say.Listed doubts) = ⊤
-IsLarge (Say.Peeked bytes) = ⊤
-IsLarge reply = ⊥
-
 -- the lengths of what the read items ask for, in order
 abbrev pub read_lengths : List PartItem → List ℕ
 read_lengths [] = []
@@ -94,15 +87,30 @@ read_lengths (Compare start bytes ∷ part) = read_lengths part
 read_lengths (Read start size ∷ part) = size ∷ read_lengths part
 read_lengths (Write start bytes ∷ part) = read_lengths part
 
-abbrev pub lengths_by : Request → List ℕ
-lengths_by (Ask.Prepare tid participants part) = read_lengths part
-lengths_by (Ask.Exec tid part) = read_lengths part
-lengths_by request = []
+-- the lengths of what is kept ready for a copy of what the request may read, if it may add a record
+abbrev pub lengths_by : Request → Option (List ℕ)
+lengths_by (Ask.Prepare tid participants part) = Some (read_lengths part)
+lengths_by (Ask.Exec tid part) = if has_write part then Some (read_lengths part) else None
+lengths_by request = None
 
 abbrev pub lengths_of : List (List ℕ) → List ℕ
 lengths_of reads = map (λ bytes. length bytes) reads
 
+-- the reads have these lengths, if there are some
+abbrev pub HaveLengths : List (List ℕ) → Option (List ℕ) → Type 0
+HaveLengths reads None = ⊤
+HaveLengths reads (Some lengths) = lengths_of reads ≡ lengths
+
 -- where the reply has reads, they have these lengths
-abbrev pub HasLengths : List ℕ → NodeReply → Type 0
-HasLengths lengths (Say.Done reads) = lengths_of reads ≡ lengths
+abbrev pub HasLengths : Option (List ℕ) → NodeReply → Type 0
+HasLengths lengths (Say.Done reads) = HaveLengths reads lengths
 HasLengths lengths reply = ⊤
+
+-- a reply that may be large, and comes with no new record: so do reads for which nothing is kept
+-- ready
+abbrev pub IsLarge : Option (List ℕ) → NodeReply → Type 0
+IsLarge lengths (Say.Done reads) = lengths ≡ None
+IsLarge lengths (Say.BadCompare item found) = ⊤
+IsLarge lengths (Say.Listed doubts) = ⊤
+IsLarge lengths (Say.Peeked bytes) = ⊤
+IsLarge lengths reply = ⊥

@@ -1,14 +1,35 @@
-//! Copies of requests and replies. What a reply that comes with a new record needs is taken before
-//! the node is asked.
+//! Copies of requests and replies. What the copy of a reply needs that comes with a new record is
+//! taken before the node is asked.
 ghost use Rattle.std.specs.Prelude.{◌≡◌, ℕ, length, IfOk, OnErr};
+ghost use Rattle.mn_mini.specs.declared.reply.NodeReply.TheVariants.{Done};
 ghost use Rattle.mn_cell.specs.Calls.{HasLengths, IsLarge, lengths_by, lengths_of, read_lengths};
 ghost use Rattle.mn_cell.specs.Calls.{what_said};
 
 use mn_base::{Bytes, NoMemory, StopAt, TryCopy};
-use mn_mini::{NodeReply, PartItem, Reads, Request};
+use mn_mini::{NodeReply, PartItem, ReadBytes, Reads, Request};
 use mn_world::What;
 use std::alloc::Global;
-use std::mem;
+use std::marker::Model;
+
+/// Room for a copy of what a request reads. Contracts see the lengths of its byte strings.
+#[derive(Drop)]
+pub struct Blanks {
+    /// Byte strings as long as those to be copied.
+    bytes: Vec<Bytes>,
+    /// Empty, with room for as many.
+    reads: Vec<ReadBytes>,
+}
+
+impl Model for Blanks {
+    ghost use Rattle.std.specs.Prelude.{◌≡◌, ◌≤◌, ℕ, List, [], length, vec_capacity};
+    ghost use Rattle.mn_cell.specs.Calls.{lengths_of};
+
+    ghost Value = { List ℕ };
+
+    ghost view = { λ b. lengths_of b.bytes.items };
+
+    ghost invariant = { λ b. (b.reads.items ≡ []) × (length b.bytes.items ≤ vec_capacity b.reads) };
+}
 
 /// So many bytes.
 fn zeros(alloc: Global, size: u32) -> Result<Bytes, NoMemory>
@@ -18,62 +39,96 @@ fn zeros(alloc: Global, size: u32) -> Result<Bytes, NoMemory>
 }
 
 /// As many byte strings as a part has read items, as long as these ask for.
-fn blanks(alloc: Global, part: &[PartItem]) -> Result<Vec<Bytes>, NoMemory>
-    ensures { IfOk result (λ blanks. lengths_of blanks.items ≡ read_lengths part.now) }
+fn zeros_for(alloc: Global, part: &[PartItem]) -> Result<Vec<Bytes>, NoMemory>
+    ensures { IfOk result (λ zeros. lengths_of zeros.items ≡ read_lengths part.now) }
 {
-    let mut blanks = Vec::new(alloc);
+    let mut all = Vec::new(alloc);
     for item in part {
         if let PartItem::Read { length, .. } = item {
-            blanks.push(zeros(alloc, *length)?)?;
+            all.push(zeros(alloc, *length)?)?;
         }
     }
-    Ok(blanks)
-}
-
-/// As many byte strings as the request may read, as long as it asks for.
-pub fn blanks_for(alloc: Global, request: &Request) -> Result<Vec<Bytes>, NoMemory>
-    ensures { IfOk result (λ blanks. lengths_of blanks.items ≡ lengths_by request.now) }
-{
-    match request {
-        Request::Prepare { part, .. } => blanks(alloc, part.as_slice()),
-        Request::Exec { part, .. } => blanks(alloc, part.as_slice()),
-        _ => Ok(Vec::new(alloc)),
-    }
+    Ok(all)
 }
 
 /// The bytes, in place of as many others.
-fn filled(blank: Bytes, bytes: &Bytes) -> Bytes
+fn filled(blank: Bytes, bytes: &[u8]) -> ReadBytes
     requires { length blank ≡ length bytes.now }
     ensures { result ≡ bytes.now }
 {
     let mut row = blank.into_vec();
-    row.copy_from_slice(bytes.as_slice());
-    Bytes::from_vec(row)
+    row.copy_from_slice(bytes);
+    ReadBytes::own(Bytes::from_vec(row))
 }
 
-/// The byte strings, in place of others of their lengths.
-fn fill(alloc: Global, blanks: Vec<Bytes>, reads: &[Bytes]) -> Reads
-    requires { lengths_of blanks.items ≡ lengths_of reads.now }
-    ensures { result ≡ reads.now }
-{
-    let mut blanks = blanks;
-    for i in 0..reads.len() {
-        let blank = mem::replace(&mut blanks[i], Bytes::from_vec(Vec::new(alloc)));
-        blanks[i] = filled(blank, &reads[i]);
+impl Blanks {
+    /// Room for what a part reads.
+    fn of(alloc: Global, part: &[PartItem]) -> Result<Self, NoMemory>
+        ensures { IfOk result (λ blanks. blanks ≡ read_lengths part.now) }
+    {
+        let bytes = zeros_for(alloc, part)?;
+        let reads = Vec::with_capacity(alloc, bytes.len())?;
+        Ok(Blanks { bytes, reads })
     }
-    Reads::from_vec(blanks)
+
+    /// The byte strings, in place of others of their lengths. It takes no memory.
+    fn fill(self, reads: &[ReadBytes]) -> Reads
+        requires { self ≡ lengths_of reads.now }
+        ensures { result ≡ reads.now }
+    {
+        let mut copies = self.reads;
+        for blank in self.bytes {
+            let bytes = reads[copies.len()].as_slice();
+            copies.push_reserved(filled(blank, bytes));
+        }
+        Reads::from_vec(copies)
+    }
 }
 
-/// An equal reply, whose reads, if it has some, take the place of byte strings of their lengths.
-/// NoMemory comes only for a reply that comes with no new record.
-pub fn copy_of(alloc: Global, reply: &NodeReply, blanks: Vec<Bytes>) -> Result<NodeReply, NoMemory>
-    requires { HasLengths (lengths_of blanks.items) reply.now }
+/// Room for a copy of what the request may read. None: it adds no record, whatever is answered, so
+/// a copy shares what was read, for which there may be no memory.
+pub fn blanks_for(alloc: Global, request: &Request) -> Result<Option<Blanks>, NoMemory>
+    ensures { IfOk result (λ blanks. blanks ≡ lengths_by request.now) }
+{
+    match request {
+        Request::Prepare { part, .. } => Ok(Some(Blanks::of(alloc, part.as_slice())?)),
+        Request::Exec { part, .. } => {
+            if part.writes() {
+                Ok(Some(Blanks::of(alloc, part.as_slice())?))
+            } else {
+                Ok(None)
+            }
+        }
+        _ => Ok(None),
+    }
+}
+
+/// The same byte strings, in the room for them. NoMemory comes only where there is none.
+fn copy_reads(alloc: Global, reads: &Reads, blanks: Option<Blanks>) -> Result<Reads, NoMemory>
+    requires { HasLengths blanks (Done reads.now) }
+    ensures same { IfOk result (λ copy. copy ≡ reads.now) }
+    ensures large { OnErr result (IsLarge blanks (Done reads.now)) }
+{
+    match blanks {
+        Some(blanks) => Ok(blanks.fill(reads.as_slice())),
+        None => reads.try_copy(alloc),
+    }
+}
+
+/// An equal reply, whose reads, if it has some, stand in the room for them. NoMemory comes only for
+/// a reply that comes with no new record.
+pub fn copy_of(
+    alloc: Global,
+    reply: &NodeReply,
+    blanks: Option<Blanks>,
+) -> Result<NodeReply, NoMemory>
+    requires { HasLengths blanks reply.now }
     ensures same { IfOk result (λ copy. copy ≡ reply.now) }
-    ensures large { OnErr result (IsLarge reply.now) }
+    ensures large { OnErr result (IsLarge blanks reply.now) }
 {
     match reply {
         NodeReply::Done { reads } => Ok(NodeReply::Done {
-            reads: fill(alloc, blanks, reads.as_slice()),
+            reads: copy_reads(alloc, reads, blanks)?,
         }),
         NodeReply::BadLock {
             start,

@@ -5,7 +5,7 @@ use mn_base::{
     Step, Steps, StopAt, Tid, Value,
 };
 use mn_hist::{audit, history_of};
-use mn_mini::{Item, Items, Minitransaction, NodeReply, Reads, Request, SharedBytes};
+use mn_mini::{Item, Items, Minitransaction, NodeReply, ReadBytes, Reads, Request, SharedBytes};
 use mn_page::CatEntry;
 use mn_plain::Store;
 use mn_report::{LineAnswer, Report};
@@ -30,7 +30,7 @@ fn own(client: u8, what: What) -> Entry {
     }
 }
 
-fn called(node: u8, client: u8, request: Request, reads: Vec<Bytes>) -> Entry {
+fn called(node: u8, client: u8, request: Request, reads: Vec<ReadBytes>) -> Entry {
     Entry {
         node: Some(NodeNo(node)),
         client: Some(ClientNo(client)),
@@ -230,7 +230,7 @@ fn restarted(kept: bool) -> Entry {
 
 /// Client 2 reads the catalog on node 0.
 fn catalog_read(alloc: Global) -> Result<Entry, Fail> {
-    let reads = Vec::from_array(alloc, [catalog(alloc)?])?;
+    let reads = Vec::from_array(alloc, [ReadBytes::own(catalog(alloc)?)])?;
     Ok(called(0, 2, exec(alloc, 2)?, reads))
 }
 

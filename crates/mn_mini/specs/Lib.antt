@@ -1,4 +1,5 @@
 pub mod Mini
+pub mod ReadBytes
 pub mod Refusal
 pub mod Flat
 pub mod Node

@@ -70,6 +70,8 @@ impl Model for Part {
 }
 
 impl Part {
+    ghost use Rattle.mn_mini.specs.Mini.{has_write};
+
     /// These items. NoMemory: there was no memory to count their owners.
     pub fn from_vec(alloc: Global, items: Vec<PartItem>) -> Result<Self, NoMemory>
         ensures { IfOk result (λ part. part ≡ items.items) }
@@ -83,6 +85,19 @@ impl Part {
         ensures { result.now ≡ self.now }
     {
         self.items.as_slice()
+    }
+
+    /// Some item writes.
+    pub fn writes(&self) -> bool
+        ensures { result ≡ has_write self.now }
+    {
+        let items = self.as_slice();
+        for item in items {
+            if let PartItem::Write { .. } = item {
+                return true;
+            }
+        }
+        false
     }
 }
 

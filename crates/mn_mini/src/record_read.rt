@@ -5,7 +5,6 @@ ghost use Rattle.byteorder.specs.Endian.{big_bytes};
 ghost use Rattle.mn_base.specs.declared.ids.NodeNo.{NodeNo};
 ghost use Rattle.mn_mini.specs.declared.part.PartItem.{PartItem};
 ghost use Rattle.mn_mini.specs.declared.record.Record.{Record};
-ghost use Rattle.mn_mini.specs.Mini.{has_write};
 ghost use Rattle.mn_mini.specs.declared.record_error.RecordError.{RecordError};
 ghost use Rattle.mn_mini.specs.RecordGrammar.{IsRecord, IsTid, IsRange, IsPart, IsPartItem};
 ghost use Rattle.mn_mini.specs.RecordGrammar.{IsItemFrom, AreParticipants, AreItems, HasLength};
@@ -220,18 +219,6 @@ fn first_participants(bytes: &[u8]) -> Result<Option<(Nodes, &[u8])>, NoMemory>
     Ok(Some((nodes_of(numbers)?, rest)))
 }
 
-/// Some item writes.
-fn writes(items: &[PartItem]) -> bool
-    ensures { result ≡ has_write items.now }
-{
-    for item in items {
-        if let PartItem::Write { .. } = item {
-            return true;
-        }
-    }
-    false
-}
-
 /// The vote that the bytes behind its id spell.
 fn read_voted(alloc: Global, tid: Tid, bytes: &[u8]) -> Result<Option<Record>, NoMemory>
     ensures { IfOk result (λ found.
@@ -264,7 +251,7 @@ fn read_executed(alloc: Global, tid: Tid, bytes: &[u8]) -> Result<Option<Record>
     if !rest.is_empty() {
         return Ok(None);
     }
-    if !writes(part.as_slice()) {
+    if !part.writes() {
         return Ok(None);
     }
     Ok(Some(Record::Executed { tid, part }))

@@ -1,6 +1,6 @@
 ghost use Rattle.std.specs.Prelude.{◌≡◌};
 
-use crate::{Doubts, SharedBytes};
+use crate::{Doubts, ReadBytes, SharedBytes};
 use mn_base::{Bytes, NoMemory, Tid, TryCopy, copies_of};
 use std::alloc::Global;
 use std::marker::Model;
@@ -8,7 +8,7 @@ use std::marker::Model;
 /// What the read items read, in order. Contracts see them as a list.
 #[derive(Debug, Drop)]
 pub struct Reads {
-    reads: Vec<Bytes>,
+    reads: Vec<ReadBytes>,
 }
 
 impl Model for Reads {
@@ -21,19 +21,19 @@ impl Model for Reads {
 
 impl Reads {
     /// It takes no memory.
-    pub fn from_vec(reads: Vec<Bytes>) -> Self
+    pub fn from_vec(reads: Vec<ReadBytes>) -> Self
         ensures { result ≡ reads.items }
     {
         Reads { reads }
     }
 
-    pub fn into_vec(self) -> Vec<Bytes>
+    pub fn into_vec(self) -> Vec<ReadBytes>
         ensures { result.items ≡ self }
     {
         self.reads
     }
 
-    pub fn as_slice(&self) -> &[Bytes]
+    pub fn as_slice(&self) -> &[ReadBytes]
         ensures { result.now ≡ self.now }
     {
         &self.reads

@@ -5,7 +5,7 @@ use std::alloc::Global;
 use std::marker::Model;
 use std::sync::Arc;
 
-/// Bytes that an item compares or writes, or that a Peek has read. Copies share one memory.
+/// Bytes that an item compares or writes, or that a node has read. Copies share one memory.
 /// Contracts see them as a list.
 #[derive(Debug, Drop)]
 pub struct SharedBytes {

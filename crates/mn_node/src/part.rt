@@ -1,12 +1,12 @@
 ghost use Rattle.std.specs.Prelude.{◌≡◌, ◌≤◌, ◌+◌, length, IfOk, IfSome};
-ghost use Rattle.mn_mini.specs.Mini.{has_write, space_size};
+ghost use Rattle.mn_mini.specs.Mini.{space_size};
 ghost use Rattle.mn_mini.specs.Flat.{bytes_in, overwritten, part_mismatch_from, part_reads};
 ghost use Rattle.mn_mini.specs.Flat.{space_after_part};
 ghost use Rattle.mn_node.specs.Part.{AreInside, IsMismatch, shared_of, alone_of};
 
 use crate::space::Space;
 use mn_base::{Bytes, NoMemory, Range};
-use mn_mini::{MAX_ITEMS, PartItem, SharedBytes};
+use mn_mini::{MAX_ITEMS, PartItem, ReadBytes, SharedBytes};
 use std::alloc::Global;
 
 /// A compare item that differs: its number among the compares, and the bytes in place.
@@ -69,8 +69,12 @@ pub fn first_mismatch(
     Ok(None)
 }
 
-/// The bytes of the read items.
-pub fn reads_of(alloc: Global, space: &Space, items: &[PartItem]) -> Result<Vec<Bytes>, NoMemory>
+/// The bytes of the read items, which copies share.
+pub fn reads_of(
+    alloc: Global,
+    space: &Space,
+    items: &[PartItem],
+) -> Result<Vec<ReadBytes>, NoMemory>
     requires inside { AreInside items.now }
     requires whole { length space.now ≡ space_size }
     ensures { IfOk result (λ reads. reads.items ≡ part_reads space.now items.now) }
@@ -78,7 +82,8 @@ pub fn reads_of(alloc: Global, space: &Space, items: &[PartItem]) -> Result<Vec<
     let mut reads = Vec::new(alloc);
     for item in items {
         if let PartItem::Read { start, length } = item {
-            reads.push(copy_of(alloc, space, *start, *length as usize)?)?;
+            let bytes = shared_copy_of(alloc, space, *start, *length as usize)?;
+            reads.push(ReadBytes::shared(bytes))?;
         }
     }
     Ok(reads)
@@ -123,16 +128,4 @@ pub fn ranges_of(alloc: Global, items: &[PartItem]) -> Result<Ranges, NoMemory>
         }
     }
     Ok(Ranges { shared, alone })
-}
-
-/// Some item writes.
-pub fn writes(items: &[PartItem]) -> bool
-    ensures { result ≡ has_write items.now }
-{
-    for item in items {
-        if let PartItem::Write { .. } = item {
-            return true;
-        }
-    }
-    false
 }

@@ -18,7 +18,7 @@ use crate::held::voted;
 use crate::list::doubts;
 use crate::logging::{Logging, append_or_stop, log_bytes, log_record};
 use crate::memory::{Memory, Tested, is_in, test_alone};
-use crate::part::{Ranges, ranges_of, shared_copy_of, writes};
+use crate::part::{Ranges, ranges_of, shared_copy_of};
 use mn_base::{Nodes, StopAt, Tid, TryCopy};
 use mn_io::Disk;
 use mn_mini::{NodeReply, Part, Reads, Record, Request};
@@ -139,7 +139,7 @@ fn execute<D: Disk>(
         (node_answer memory.old (Request.Exec tid part.now)).added) }
     ensures same { KeepsNodeNumbers memory.old memory.new }
 {
-    if !writes(part.as_slice()) {
+    if !part.writes() {
         return Served::Replied {
             reply: NodeReply::Done { reads },
         };

@@ -224,7 +224,7 @@ const A_VOTE: &[Said] = &[
     (Prepare(1, 1, Write(20, 1)), COUNT_IS_LOCKED),
     (
         Exec(1, 2, Read(16, 8)),
-        "Done { reads: Reads { reads: [Bytes { bytes: [0, 0, 0, 0, 0, 0, 0, 0] }] } }",
+        "Done { reads: Reads { reads: [ReadBytes { held: Shared { bytes: SharedBytes { bytes: [0, 0, 0, 0, 0, 0, 0, 0] } } }] } }",
     ),
 ];
 

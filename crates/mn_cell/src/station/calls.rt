@@ -15,19 +15,18 @@ ghost use Rattle.mn_world.specs.declared.entry.What.TheVariants.{Stopped, Restar
 ghost use Rattle.mn_world.specs.declared.entry.Entry.{Entry};
 ghost use Rattle.mn_world.specs.Run.{IsLegalBy, entries_of};
 ghost use Rattle.mn_cell.specs.Calls.{EndsBoth, HasLengths, IsLarge, IsLegalLine, IsUndamaged};
-ghost use Rattle.mn_cell.specs.Calls.{ObeysStop, MaySend, entry_at, lengths_by, lengths_of};
-ghost use Rattle.mn_cell.specs.Calls.{what_said};
+ghost use Rattle.mn_cell.specs.Calls.{ObeysStop, MaySend, entry_at, lengths_by, what_said};
 ghost use Rattle.mn_cell.specs.Passes.{AreOfOneLog, IsSameView, OwnsJust};
 ghost use Rattle.mn_cell.specs.Promises.{HasRoomForStep, IsOwed, IsOwedAt, decided_by, decided_in};
 ghost use Rattle.mn_cell.specs.Station.{IsAsBefore, RoseBy, unasked};
 
 use super::Station;
 use crate::add::{add, compare};
-use crate::copies::{blanks_for, copy_of, what_of};
+use crate::copies::{Blanks, blanks_for, copy_of, what_of};
 use crate::named::Named;
 use crate::node_list::{NodeList, decided_id};
 use mn_actors::{Board, Pass};
-use mn_base::{Bytes, ClientNo, NoMemory, NodeNo, StopAt, Tid, TryCopy};
+use mn_base::{ClientNo, NoMemory, NodeNo, StopAt, Tid, TryCopy};
 use mn_io::Disk;
 use mn_mini::{NodeReply, Request};
 use mn_node::RestartError;
@@ -35,21 +34,21 @@ use mn_world::{ClientList, CoreLaw, Entry, What};
 use std::alloc::Global;
 
 /// What a call takes before the node is asked: a second request, and room for two copies of what is
-/// read.
+/// read, if the request may add a record.
 #[derive(Drop)]
 struct Spare {
     request: Request,
-    first: Vec<Bytes>,
-    second: Vec<Bytes>,
+    first: Option<Blanks>,
+    second: Option<Blanks>,
 }
 
-/// A second request, and room for two copies of what it may read. NoMemory never comes for a
-/// Decide.
+/// A second request, and room for two copies of what it may read, if it may add a record. NoMemory
+/// never comes for a Decide.
 #[inline(always)]
 fn spare_of(alloc: Global, request: &Request) -> Result<Spare, NoMemory>
     ensures request { IfOk result (λ spare. spare.request ≡ request.now) }
-    ensures first { IfOk result (λ spare. lengths_of spare.first.items ≡ lengths_by request.now) }
-    ensures second { IfOk result (λ spare. lengths_of spare.second.items ≡ lengths_by request.now) }
+    ensures first { IfOk result (λ spare. spare.first ≡ lengths_by request.now) }
+    ensures second { IfOk result (λ spare. spare.second ≡ lengths_by request.now) }
     ensures failed { OnErr result (decided_by request.now ≡ None) }
 {
     match request {
@@ -58,8 +57,8 @@ fn spare_of(alloc: Global, request: &Request) -> Result<Spare, NoMemory>
                 tid: *tid,
                 yes: *yes,
             },
-            first: Vec::new(alloc),
-            second: Vec::new(alloc),
+            first: None,
+            second: None,
         }),
         _ => Ok(Spare {
             request: request.try_copy(alloc)?,
@@ -91,8 +90,9 @@ fn make_room(
     own.make_place(list.client(), decided)
 }
 
-/// Takes all that a call needs: room in both lists, a second request, and room for what is read.
-/// NoMemory never comes for a decision that is owed, where the client's list has room.
+/// Takes all that a call needs: room in both lists, a second request, and room for what is read, if
+/// the request may add a record. NoMemory never comes for a decision that is owed, where the
+/// client's list has room.
 #[inline(always)]
 fn prepare(
     alloc: Global,
@@ -101,8 +101,8 @@ fn prepare(
     request: &Request,
 ) -> Result<Spare, NoMemory>
     ensures request { IfOk result (λ spare. spare.request ≡ request.now) }
-    ensures first { IfOk result (λ spare. lengths_of spare.first.items ≡ lengths_by request.now) }
-    ensures second { IfOk result (λ spare. lengths_of spare.second.items ≡ lengths_by request.now) }
+    ensures first { IfOk result (λ spare. spare.first ≡ lengths_by request.now) }
+    ensures second { IfOk result (λ spare. spare.second ≡ lengths_by request.now) }
     ensures place { OnOk result (HasRoomForStep own.new (Some list.old.client)
         (decided_by request.now)) }
     ensures short { OnOk result ((length own.new.entries < 2 ^ 58)
@@ -132,21 +132,26 @@ fn two_entries(
     spare: Spare,
 ) -> Option<(Entry, Entry)>
     requires request { spare.request ≡ request }
-    requires first { lengths_of spare.first.items ≡ lengths_by request }
-    requires second { lengths_of spare.second.items ≡ lengths_by request }
+    requires first { spare.first ≡ lengths_by request }
+    requires second { spare.second ≡ lengths_by request }
     requires lengths { HasLengths (lengths_by request) reply.now }
     ensures one { IfSome result (λ made. made.0
         ≡ entry_at number client (what_said request stop reply.now)) }
     ensures two { IfSome result (λ made. made.1
         ≡ entry_at number client (what_said request stop reply.now)) }
     ensures some { OnSome result (reply.now ≢ Reply.NoMemory) }
-    ensures none { IfNone result ((reply.now ≡ Reply.NoMemory) ⊎ IsLarge reply.now) }
+    ensures none { IfNone result ((reply.now ≡ Reply.NoMemory)
+        ⊎ IsLarge (lengths_by request) reply.now) }
 {
     if matches!(reply, NodeReply::NoMemory) {
         return None;
     }
-    let first = copy_of(alloc, reply, spare.first).ok()?;
-    let second = copy_of(alloc, reply, spare.second).ok()?;
+    let Ok(first) = copy_of(alloc, reply, spare.first) else {
+        return None;
+    };
+    let Ok(second) = copy_of(alloc, reply, spare.second) else {
+        return None;
+    };
     Some((
         Entry {
             node: Some(number),

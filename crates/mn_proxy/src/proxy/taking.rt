@@ -23,15 +23,15 @@ ghost use Rattle.mn_work.specs.Walks.{is_later};
 use super::{Proxy, Turn, ends, goes};
 use crate::errand::{Errand, Purpose};
 use crate::step::ProxyStep;
-use mn_base::{Answer, Bytes, NoMemory, Tid};
+use mn_base::{Answer, NoMemory, Tid};
 use mn_coord::{CoordStep, Coordinator, Outcome};
-use mn_mini::{NodeReply, SharedBytes};
+use mn_mini::{NodeReply, ReadBytes, SharedBytes};
 use mn_work::{Known, Place, Taken, Task};
 use std::alloc::Global;
 
 /// What a minitransaction of one read item has read.
 #[inline(never)]
-fn only_read(outcome: Outcome) -> Option<Bytes>
+fn only_read(outcome: Outcome) -> Option<ReadBytes>
     ensures { result ≡ read_alone outcome.reads.items }
 {
     let mut reads = outcome.reads;
@@ -206,7 +206,7 @@ impl Proxy {
         match purpose {
             Purpose::Plan { reply } => Ok(ends(Answer::Replied { reply })),
             purpose => match only_read(outcome) {
-                Some(bytes) => match SharedBytes::new(alloc, bytes.into_vec()) {
+                Some(bytes) => match bytes.into_shared(alloc) {
                     Ok(bytes) => self.take(alloc, work, purpose, bytes),
                     Err(_) => Err(NoMemory),
                 },

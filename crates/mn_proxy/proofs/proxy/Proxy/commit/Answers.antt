@@ -50,8 +50,7 @@ returns-in-Plan-clause-leaf c = λ leaf.
 
 pub returns-in-Ok : goal.returns-in-Ok
 returns-in-Ok c =
-    let same = c.in-Ok.ensures ∙ c.into_vec.ensures in
-    let whole : read_alone c.args.outcome.reads.items ≡ Some c.in-Ok.bytes = sym c.only_read.ensures ∙ (c.in-Some.is ∙ ap Some (sym same)) in record {
+    let whole : read_alone c.args.outcome.reads.items ≡ Some c.in-Ok.bytes = sym c.only_read.ensures ∙ (c.in-Some.is ∙ ap Some (sym c.in-Ok.ensures)) in record {
       sound = c.take.ensures.sound;
       turns = λ es own is.
           let d = committed_read es c.args.self.now.known c.args.work c.args.outcome.reads.items c.args.purpose c.in_default.not-Plan is in

@@ -1,7 +1,7 @@
 use Rattle.std.proofs.Common.{◌≡◌, ◌++◌, drop}
 use Rattle.mn_cell.specs.Calls.{lengths_of, read_lengths}
-use Rattle.mn_cell.proofs.copies.blanks.Given as goal
+use Rattle.mn_cell.proofs.copies.zeros_for.Given as goal
 
 -- what was made so far, and the rest
 abbrev pub invariant-loop-item : goal.invariant-loop-item
-invariant-loop-item l = lengths_of l.blanks.items ++ read_lengths (drop l.item-index l.part) ≡ read_lengths l.part
+invariant-loop-item l = lengths_of l.all.items ++ read_lengths (drop l.item-index l.part) ≡ read_lengths l.part

@@ -1,0 +1,90 @@
+ghost use Rattle.std.specs.Prelude.{◌≡◌, IfOk};
+
+use crate::SharedBytes;
+use mn_base::{Bytes, NoMemory, TryCopy};
+use std::alloc::Global;
+use std::marker::Model;
+
+/// Where the bytes are.
+#[derive(Debug)]
+enum Held {
+    Own { bytes: Bytes },
+    Shared { bytes: SharedBytes },
+}
+
+/// Bytes that a read item has read: its own, or such as copies share. Contracts see them as a list.
+#[derive(Debug)]
+pub struct ReadBytes {
+    held: Held,
+}
+
+impl Model for ReadBytes {
+    ghost use Rattle.std.specs.Prelude.{ℕ, List};
+
+    ghost Value = { List ℕ };
+
+    ghost use Rattle.mn_mini.specs.ReadBytes.{bytes_of};
+
+    ghost view = { λ r. bytes_of r.held };
+}
+
+/// It is let go by a call, which is proved once, and not in place wherever one goes.
+impl Drop for ReadBytes {
+    fn drop(self) {
+        let ReadBytes { held } = self;
+        match held {
+            Held::Own { bytes } => drop(bytes),
+            Held::Shared { bytes } => drop(bytes),
+        }
+    }
+}
+
+impl ReadBytes {
+    /// Bytes that are copied with it. It takes no memory.
+    pub fn own(bytes: Bytes) -> Self
+        ensures { result ≡ bytes }
+    {
+        ReadBytes {
+            held: Held::Own { bytes },
+        }
+    }
+
+    /// Bytes that copies share. It takes no memory.
+    pub fn shared(bytes: SharedBytes) -> Self
+        ensures { result ≡ bytes }
+    {
+        ReadBytes {
+            held: Held::Shared { bytes },
+        }
+    }
+
+    pub fn as_slice(&self) -> &[u8]
+        ensures { result.now ≡ self.now }
+    {
+        match &self.held {
+            Held::Own { bytes } => bytes.as_slice(),
+            Held::Shared { bytes } => bytes.as_slice(),
+        }
+    }
+
+    /// The bytes, which are not copied, for copies to share. NoMemory: there was no memory to count
+    /// their owners.
+    pub fn into_shared(self, alloc: Global) -> Result<SharedBytes, NoMemory>
+        ensures { IfOk result (λ bytes. bytes ≡ self) }
+    {
+        let ReadBytes { held } = self;
+        match held {
+            Held::Own { bytes } => SharedBytes::new(alloc, bytes.into_vec()),
+            Held::Shared { bytes } => Ok(bytes),
+        }
+    }
+}
+
+impl TryCopy for ReadBytes {
+    fn try_copy(&self, alloc: Global) -> Result<Self, NoMemory> {
+        match &self.held {
+            Held::Own { bytes } => Ok(ReadBytes::own(bytes.try_copy(alloc)?)),
+            Held::Shared { bytes } => Ok(ReadBytes::shared(bytes.try_copy(alloc)?)),
+        }
+    }
+}
