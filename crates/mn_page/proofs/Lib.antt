@@ -14,6 +14,7 @@ pub mod Copied
 pub mod Base
 pub mod Examples
 pub mod Scanned
+pub mod Fences
 pub mod PageText
 pub mod Lent
 pub mod EntryText

@@ -1,9 +1,9 @@
 -- What is read from the front of bytes.
-use Rattle.std.specs.Prelude.{◌≡◌, ℕ, ◌^◌, ◌<◌, ◌≤◌, Bool, nat_lt, nat_eq, IsTrue, List, [], ◌∷◌}
-use Rattle.std.specs.Prelude.{◌++◌, map, take, length, Option, if◌then◌else◌, ⊤}
+use Rattle.std.specs.Prelude.{◌≡◌, ℕ, ◌^◌, ◌<◌, ◌≤◌, Bool, true, ◌&&◌, nat_lt, nat_eq, IsTrue}
+use Rattle.std.specs.Prelude.{List, [], ◌∷◌, ◌++◌, map, take, length, Option, if◌then◌else◌, ⊤}
 use Rattle.std.specs.List.{flat_map, list_all, AllByRecursion}
 use Rattle.byteorder.specs.Endian.{big_bytes}
-use Rattle.mn_base.specs.Order.{key_lt, below_bound, covers_key}
+use Rattle.mn_base.specs.Order.{key_lt, key_le, below_bound, covers_key}
 use Rattle.mn_base.specs.Store.{is_ascending}
 use Rattle.mn_base.specs.Tree.{versions_in}
 use Rattle.mn_base.specs.declared.ids.Addr.{Addr}
@@ -105,6 +105,13 @@ IsChildWithin low high c =
     IsKey c.separator × IsAddr c.addr × IsTrue (key_lt low c.separator)
     × IsTrue (below_bound c.separator high)
 
+-- a pair and a child of a page with any fences
+abbrev pub IsPair : Pair → Type 0
+IsPair p = IsKey p.key × IsValue p.value
+
+abbrev pub IsChild : Child → Type 0
+IsChild c = IsKey c.separator × IsAddr c.addr
+
 -- so many of them
 abbrev pub AreMany : {X : Type 0} → (X → Type 0) → ℕ → List X → Type 0
 AreMany Is count xs = (length xs ≡ count) × AllByRecursion Is xs
@@ -126,6 +133,16 @@ abbrev pub AreChildrenOf : List ℕ → Option (List ℕ) → ℕ → Addr × Li
 AreChildrenOf low high count children =
     (length children.1 ≡ count) × (1 ≤ count) × (count ≤ 7) × IsAddr children.0
     × IsTrue (are_ascending children.1) × AllByRecursion (IsChildWithin low high) children.1
+
+-- the key and those behind it ascend, and the last is below the bound
+abbrev pub ascends_to : List ℕ → List (List ℕ) → Option (List ℕ) → Bool
+ascends_to key [] high = below_bound key high
+ascends_to key (next ∷ keys) high = key_lt key next && ascends_to next keys high
+
+-- the pairs ascend from the low fence to the high one
+abbrev pub pairs_fit : List ℕ → Option (List ℕ) → List Pair → Bool
+pairs_fit low high [] = true
+pairs_fit low high (p ∷ ps) = key_le low p.key && ascends_to p.key (map (λ q. q.key) ps) high
 
 abbrev pub children_text : Addr × List Child → List ℕ
 children_text children = addr_bytes children.0 ++ flat_map child_bytes children.1

@@ -1,53 +1,61 @@
 ghost use Rattle.std.specs.Prelude.{◌≡◌, ◌≤◌, ◌++◌, ℕ, List, length, map, IfSome, IsSomeAnd};
 ghost use Rattle.std.specs.List.{flat_map};
 ghost use Rattle.std.specs.Option.{option_map};
-ghost use Rattle.mn_base.specs.Store.{is_ascending};
 ghost use Rattle.mn_base.specs.declared.ids.Addr.{Addr};
 ghost use Rattle.mn_base.specs.declared.reply.Pair.{Pair};
 ghost use Rattle.mn_page.specs.declared.page.Body.{Body};
 ghost use Rattle.mn_page.specs.declared.page.Body.TheVariants.{Leaf, Inner};
 ghost use Rattle.mn_page.specs.declared.page.Child.{Child};
-ghost use Rattle.mn_page.specs.Grammar.{are_ascending, pair_bytes};
+ghost use Rattle.mn_page.specs.Grammar.{pair_bytes};
 ghost use Rattle.mn_page.specs.Reading.{Begins, pair_seen, child_seen, pairs_seen, children_seen};
 ghost use Rattle.mn_page.specs.Reading.{body_seen, ArePairsOf, AreChildrenOf, children_text};
-ghost use Rattle.mn_page.specs.Reading.{IsBodyAt, body_text, HasCounted};
+ghost use Rattle.mn_page.specs.Reading.{IsBodyAt, body_text, HasCounted, pairs_fit, ascends_to};
 
 use crate::page_ref::{BodyRef, ChildRef, PairRef};
 use crate::scan::{
-    NO_ADDR, first_addr, first_byte, first_children, first_pairs, no_children, no_pairs,
+    NO_ADDR, first_addr, first_byte, first_children, first_pairs, is_below, no_children, no_pairs,
 };
 use mn_base::Addr;
 
-/// Whether each key is below the next.
-fn pairs_ascend(pairs: &[PairRef<'_>]) -> bool
-    ensures { result ≡ is_ascending (map pair_seen pairs.now) }
+/// Whether the pairs ascend from the low fence to the high one. The first and the last tell it for
+/// those between them.
+fn pairs_fit(low: &[u8], high: Option<&[u8]>, pairs: &[PairRef<'_>]) -> bool
+    ensures { result
+        ≡ pairs_fit low.now (option_map (λ h. h.now) high.entry) (map pair_seen pairs.now) }
 {
-    let mut rest = pairs;
-    while let [a, behind @ ..] = rest {
-        if let [b, ..] = behind {
-            if !a.key.cmp(b.key).is_lt() {
-                return false;
-            }
+    let [first, rest @ ..] = pairs else {
+        return true;
+    };
+    if first.key.cmp(low).is_lt() {
+        return false;
+    }
+    let mut last = first.key;
+    let mut rest = rest;
+    while let [pair, behind @ ..] = rest {
+        if !last.cmp(pair.key).is_lt() {
+            return false;
         }
+        last = pair.key;
         rest = behind;
     }
-    true
+    is_below(last, high)
 }
 
-/// Whether each separator is below the next.
-fn children_ascend(children: &[ChildRef<'_>]) -> bool
-    ensures { result ≡ are_ascending (map child_seen children.now) }
+/// Whether the separators ascend from the low fence, which is below them, to the high one.
+fn children_fit(low: &[u8], high: Option<&[u8]>, children: &[ChildRef<'_>]) -> bool
+    ensures { result ≡ ascends_to low.now (map (λ c. c.separator) (map child_seen children.now))
+        (option_map (λ h. h.now) high.entry) }
 {
+    let mut above = low;
     let mut rest = children;
-    while let [a, behind @ ..] = rest {
-        if let [b, ..] = behind {
-            if !a.separator.cmp(b.separator).is_lt() {
-                return false;
-            }
+    while let [child, behind @ ..] = rest {
+        if !above.cmp(child.separator).is_lt() {
+            return false;
         }
+        above = child.separator;
         rest = behind;
     }
-    true
+    is_below(above, high)
 }
 
 /// The pairs of a leaf, so many, and what follows them.
@@ -69,8 +77,8 @@ fn leaf_pairs<'a>(
     if count > 8 {
         return None;
     }
-    let (pairs, rest) = first_pairs(low, high, bytes, count)?;
-    if !pairs_ascend(&pairs[..count]) {
+    let (pairs, rest) = first_pairs(bytes, count)?;
+    if !pairs_fit(low, high, &pairs[..count]) {
         return None;
     }
     Some((pairs, rest))
@@ -97,8 +105,8 @@ fn inner_children<'a>(
         return None;
     }
     let (first, behind) = first_addr(bytes)?;
-    let (rest, behind) = first_children(low, high, behind, count)?;
-    if !children_ascend(&rest[..count]) {
+    let (rest, behind) = first_children(behind, count)?;
+    if !children_fit(low, high, &rest[..count]) {
         return None;
     }
     Some((first, rest, behind))

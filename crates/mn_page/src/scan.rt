@@ -3,7 +3,7 @@ ghost use Rattle.std.specs.Prelude.{IfSome, IfNone, IsSomeAnd, IsTrue, nat_lt};
 ghost use Rattle.std.specs.List.{flat_map, list_all};
 ghost use Rattle.std.specs.Option.{option_map};
 ghost use Rattle.byteorder.specs.Endian.{big_bytes};
-ghost use Rattle.mn_base.specs.Order.{key_lt, covers_key, below_bound};
+ghost use Rattle.mn_base.specs.Order.{below_bound};
 ghost use Rattle.mn_base.specs.Tree.{has_version, versions_in};
 ghost use Rattle.mn_base.specs.declared.ids.Addr.{Addr};
 ghost use Rattle.mn_base.specs.declared.reply.Pair.{Pair};
@@ -14,7 +14,7 @@ ghost use Rattle.mn_page.specs.Grammar.{high_bytes, pair_bytes, child_bytes};
 ghost use Rattle.mn_page.specs.Reading.{Begins, HasLength, as_they_stand, head_text, IsHead};
 ghost use Rattle.mn_page.specs.Reading.{kind_at, eight, are_above, IsSeq, height_text};
 ghost use Rattle.mn_page.specs.Reading.{versions_text, AreVersions, pair_seen, child_seen};
-ghost use Rattle.mn_page.specs.Reading.{pairs_seen, children_seen, IsPairWithin, IsChildWithin};
+ghost use Rattle.mn_page.specs.Reading.{pairs_seen, children_seen, IsPair, IsChild};
 ghost use Rattle.mn_page.specs.Reading.{AreMany};
 
 use crate::page_ref::{ChildRef, Head, PairRef};
@@ -240,50 +240,30 @@ pub fn is_below(key: &[u8], high: Option<&[u8]>) -> bool
     }
 }
 
-/// The pair that the bytes begin with, where it lies within the fences, and what follows.
+/// The pair that the bytes begin with, and what follows.
 #[inline(always)]
-fn first_pair<'a>(
-    low: &[u8],
-    high: Option<&[u8]>,
-    bytes: &'a [u8],
-) -> Option<(PairRef<'a>, &'a [u8])>
+fn first_pair(bytes: &[u8]) -> Option<(PairRef<'_>, &[u8])>
     ensures found { IfSome result
-        (λ x. Begins (IsPairWithin low.now (option_map (λ h. h.now) high.entry)) pair_bytes
-        bytes.now (pair_seen x.0) x.1.now) }
-    ensures only { (pair : Pair) (more : List ℕ)
-        → IsPairWithin low.now (option_map (λ h. h.now) high.entry) pair
-        → bytes.now ≡ pair_bytes pair ++ more
+        (λ x. Begins IsPair pair_bytes bytes.now (pair_seen x.0) x.1.now) }
+    ensures only { (pair : Pair) (more : List ℕ) → IsPair pair → bytes.now ≡ pair_bytes pair ++ more
         → IsSomeAnd result (λ x. (pair_seen x.0 ≡ pair) × (x.1.now ≡ more)) }
 {
     let (key, behind) = first_counted(bytes, 1, 32)?;
     let (value, rest) = first_counted(behind, 0, 64)?;
-    if key.cmp(low).is_lt() || !is_below(key, high) {
-        return None;
-    }
     Some((PairRef { key, value }, rest))
 }
 
-/// The child after the first that the bytes begin with, where its separator lies between the
-/// fences, and what follows.
+/// The child after the first that the bytes begin with, and what follows.
 #[inline(always)]
-fn first_child<'a>(
-    low: &[u8],
-    high: Option<&[u8]>,
-    bytes: &'a [u8],
-) -> Option<(ChildRef<'a>, &'a [u8])>
+fn first_child(bytes: &[u8]) -> Option<(ChildRef<'_>, &[u8])>
     ensures found { IfSome result
-        (λ x. Begins (IsChildWithin low.now (option_map (λ h. h.now) high.entry)) child_bytes
-        bytes.now (child_seen x.0) x.1.now) }
-    ensures only { (child : Child) (more : List ℕ)
-        → IsChildWithin low.now (option_map (λ h. h.now) high.entry) child
+        (λ x. Begins IsChild child_bytes bytes.now (child_seen x.0) x.1.now) }
+    ensures only { (child : Child) (more : List ℕ) → IsChild child
         → bytes.now ≡ child_bytes child ++ more
         → IsSomeAnd result (λ x. (child_seen x.0 ≡ child) × (x.1.now ≡ more)) }
 {
     let (separator, behind) = first_counted(bytes, 1, 32)?;
     let (addr, rest) = first_addr(behind)?;
-    if !low.cmp(separator).is_lt() || !is_below(separator, high) {
-        return None;
-    }
     Some((ChildRef { separator, addr }, rest))
 }
 
@@ -311,25 +291,19 @@ pub fn no_children<'a>() -> [ChildRef<'a>; 7] {
 
 /// So many pairs, and what follows them.
 #[inline(always)]
-pub fn first_pairs<'a>(
-    low: &[u8],
-    high: Option<&[u8]>,
-    bytes: &'a [u8],
-    count: usize,
-) -> Option<([PairRef<'a>; 8], &'a [u8])>
+pub fn first_pairs(bytes: &[u8], count: usize) -> Option<([PairRef<'_>; 8], &[u8])>
     requires { count ≤ 8 }
     ensures found { IfSome result
-        (λ x. Begins (AreMany (IsPairWithin low.now (option_map (λ h. h.now) high.entry)) count)
-        (flat_map pair_bytes) bytes.now (pairs_seen count x.0) x.1.now) }
-    ensures only { (pairs : List Pair) (more : List ℕ)
-        → AreMany (IsPairWithin low.now (option_map (λ h. h.now) high.entry)) count pairs
+        (λ x. Begins (AreMany IsPair count) (flat_map pair_bytes) bytes.now
+        (pairs_seen count x.0) x.1.now) }
+    ensures only { (pairs : List Pair) (more : List ℕ) → AreMany IsPair count pairs
         → bytes.now ≡ flat_map pair_bytes pairs ++ more
         → IsSomeAnd result (λ x. (pairs_seen count x.0 ≡ pairs) × (x.1.now ≡ more)) }
 {
     let mut pairs = no_pairs();
     let mut rest = bytes;
     for i in 0..count {
-        let (pair, behind) = first_pair(low, high, rest)?;
+        let (pair, behind) = first_pair(rest)?;
         pairs[i] = pair;
         rest = behind;
     }
@@ -338,25 +312,19 @@ pub fn first_pairs<'a>(
 
 /// So many children after the first, and what follows them.
 #[inline(always)]
-pub fn first_children<'a>(
-    low: &[u8],
-    high: Option<&[u8]>,
-    bytes: &'a [u8],
-    count: usize,
-) -> Option<([ChildRef<'a>; 7], &'a [u8])>
+pub fn first_children(bytes: &[u8], count: usize) -> Option<([ChildRef<'_>; 7], &[u8])>
     requires { count ≤ 7 }
     ensures found { IfSome result
-        (λ x. Begins (AreMany (IsChildWithin low.now (option_map (λ h. h.now) high.entry)) count)
-        (flat_map child_bytes) bytes.now (children_seen count x.0) x.1.now) }
-    ensures only { (children : List Child) (more : List ℕ)
-        → AreMany (IsChildWithin low.now (option_map (λ h. h.now) high.entry)) count children
+        (λ x. Begins (AreMany IsChild count) (flat_map child_bytes) bytes.now
+        (children_seen count x.0) x.1.now) }
+    ensures only { (children : List Child) (more : List ℕ) → AreMany IsChild count children
         → bytes.now ≡ flat_map child_bytes children ++ more
         → IsSomeAnd result (λ x. (children_seen count x.0 ≡ children) × (x.1.now ≡ more)) }
 {
     let mut children = no_children();
     let mut rest = bytes;
     for i in 0..count {
-        let (child, behind) = first_child(low, high, rest)?;
+        let (child, behind) = first_child(rest)?;
         children[i] = child;
         rest = behind;
     }
