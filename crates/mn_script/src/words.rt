@@ -156,7 +156,7 @@ pub fn key(alloc: Global, line: &[u8], at: &mut usize) -> Result<Key, LineError>
     let Some(bytes) = string_of(alloc, word(line, *at))? else {
         return Err(wrong(line, *at));
     };
-    match Key::new(alloc, &bytes) {
+    match Key::new(alloc, bytes.as_slice()) {
         Ok(key) => {
             *at = next(line, *at);
             Ok(key)
@@ -179,7 +179,7 @@ pub fn value(alloc: Global, line: &[u8], at: &mut usize) -> Result<Value, LineEr
     let Some(bytes) = string_of(alloc, word(line, *at))? else {
         return Err(wrong(line, *at));
     };
-    match Value::new(alloc, &bytes) {
+    match Value::new(alloc, bytes.as_slice()) {
         Ok(value) => {
             *at = next(line, *at);
             Ok(value)
