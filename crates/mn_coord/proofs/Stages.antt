@@ -1,8 +1,9 @@
 -- What a stage says, and which request is the next one.
-use Rattle.std.proofs.Common.{◌≡◌, ℕ, zero, suc, ◌<◌, ◌≤◌, Bool, true, false, ◌&&◌, ◌||◌, not, List, [], ◌∷◌, length, map, drop, Option, Some, None, refl, sym, ap, subst, ◌∙◌, arith, if◌then◌else◌, slice_index_or}
+use Rattle.std.proofs.Common.{◌≡◌, ℕ, zero, suc, ◌+◌, ◌<◌, ◌≤◌, Bool, true, false, ◌&&◌, ◌||◌, not, List, [], ◌∷◌, length, map, drop, Option, Some, None, refl, sym, ap, subst, ◌∙◌, arith, if◌then◌else◌, slice_index_or}
 use Rattle.std.specs.Prelude.{nat_lt, nat_eq}
 use Rattle.std.specs.List.{list_any}
-use Rattle.std.proofs.lemmas.Bool.{ltb-true, eq-eqb}
+use Rattle.std.proofs.lemmas.Bool.{lt-ltb, ltb-true, eq-eqb}
+use Rattle.std.proofs.lemmas.List.{drop-drop}
 use Rattle.mn_base.specs.Ids.{node_same}
 use Rattle.mn_base.specs.declared.ids.NodeNo.{NodeNo}
 use Rattle.mn_base.specs.declared.ids.Tid.{Tid}
@@ -68,15 +69,36 @@ first_left tid mini [] (suc i) request rest e = absurd cc
 first_left tid mini (p ∷ ps) zero request rest e = cc
 first_left tid mini (p ∷ ps) (suc i) request rest e = first_left tid mini ps i request rest e
 
-pub asks : (c : Inside) → IsSoundInside c → c.asked ≡ false → stage_in (view_of c) ≡ At.Ask → (request : Request) (rest : List Request) → c.requests.items ≡ request ∷ rest
+-- where none is out, as many were asked as have answered
+idle_sent : (c : Inside) → c.asked ≡ false → c.refused ≡ None → sent_of (length (participants_of c.mini)) c.done c.refused c.asked ≡ c.done
+idle_sent c idle none =
+    ap (λ (r : Option NodeReply). sent_of (length (participants_of c.mini)) c.done r c.asked) none ∙ ap (λ b. sent_of (length (participants_of c.mini)) c.done None b) idle
+
+pub asks : (c : Inside) → IsSoundInside c → c.asked ≡ false → stage_in (view_of c) ≡ At.Ask → (request : Request) (rest : List Request) → c.requests ≡ request ∷ rest
     → (node : NodeNo) → node ≡ slice_index_or (participants_of c.mini) c.done (record { 0 = 0 }) → Send node request ≡ step_of (view_of c)
 asks c is idle stage request rest first node at =
     let facts = asking (length (participants_of c.mini)) c.done c.refused c.told c.decided stage in
-    let sent : sent_of (length (participants_of c.mini)) c.done c.refused c.asked ≡ c.done =
-    ap (λ (r : Option NodeReply). sent_of (length (participants_of c.mini)) c.done r c.asked) facts.0 ∙ ap (λ b. sent_of (length (participants_of c.mini)) c.done None b) idle in
-    let left : drop c.done (tries_of c.tid c.mini) ≡ request ∷ rest = ap (λ k. drop k (tries_of c.tid c.mini)) (sym sent) ∙ (sym is.left ∙ first) in
+    let left : drop c.done (tries_of c.tid c.mini) ≡ request ∷ rest = ap (λ k. drop k (tries_of c.tid c.mini)) (sym (idle_sent c idle facts.0)) ∙ (sym is.left ∙ first) in
     let request_is = first_left c.tid c.mini (participants_of c.mini) c.done request rest left in
     ap (λ (m : NodeNo). Send m request) at ∙ (ap (λ (r : Request). Send (slice_index_or (participants_of c.mini) c.done (record { 0 = 0 })) r) request_is ∙ sym (ap (step_at (view_of c)) stage))
+
+-- once the next one is asked, the others are left
+pub asked_left : (c : Inside) → IsSoundInside c → c.asked ≡ false → stage_in (view_of c) ≡ At.Ask → (rest : List Request) → rest ≡ drop 1 c.requests → IsSoundInside (record c { requests = rest; asked = true })
+asked_left c is idle stage rest next =
+    let n = length (participants_of c.mini) in
+    let tries = tries_of c.tid c.mini in
+    let facts = asking n c.done c.refused c.told c.decided stage in
+    let sent : sent_of n c.done c.refused true ≡ c.done + 1 =
+    ap (λ (r : Option NodeReply). sent_of n c.done r true) facts.0 ∙ ap (λ (b : Bool). if b then c.done + 1 else c.done) (lt-ltb c.done n facts.1) in
+    record {
+      id = is.id;
+      mini = is.mini;
+      some = is.some;
+      done = is.done;
+      reads = is.reads;
+      left = next ∙ ap (λ (l : List Request). drop 1 l) (is.left ∙ ap (λ (k : ℕ). drop k tries) (idle_sent c idle facts.0))
+          ∙ (drop-drop 1 c.done tries ∙ ap (λ (k : ℕ). drop k tries) (sym sent));
+    }
 
 -- Replies
 

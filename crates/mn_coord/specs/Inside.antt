@@ -14,7 +14,7 @@ view_of c =
       tid = c.tid;
       mini = c.mini;
       done = c.done;
-      reads = c.reads.items;
+      reads = c.reads;
       refused = c.refused;
       told = c.told;
       decided = c.decided;
@@ -34,6 +34,6 @@ pub record IsSoundInside (c : Inside) : Type 0 where
   pub some : 1 ≤ length (participants_of c.mini)
   pub done : MatchOption c.refused (c.done ≤ length (participants_of c.mini))
       (λ reply. c.done < length (participants_of c.mini))
-  pub reads : length c.reads.items ≡ length (participants_of c.mini)
-  pub left : c.requests.items ≡ drop
+  pub reads : length c.reads ≡ length (participants_of c.mini)
+  pub left : c.requests ≡ drop
       (sent_of (length (participants_of c.mini)) c.done c.refused c.asked) (tries_of c.tid c.mini)

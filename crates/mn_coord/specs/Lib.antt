@@ -3,3 +3,4 @@ pub mod Tries
 pub mod Inside
 pub mod Legal
 pub mod Endings
+pub mod AllReads

@@ -139,7 +139,7 @@ impl Coordinator {
     #[inline(always)]
     pub fn into_outcome(self) -> Outcome
         ensures mini { result.mini ≡ self.mini }
-        ensures reads { result.reads.items ≡ self.reads }
+        ensures reads { result.reads ≡ self.reads }
         ensures reply { result.reply ≡ self.refused }
     {
         let Coordinator { machine } = self;

@@ -3,12 +3,15 @@
 //! (Sinfonia, SOSP 2007).
 #![tactic(auto)]
 
+mod all_reads;
 mod coordinator;
 mod laws;
 mod machine;
+mod requests;
 mod stage;
 mod step;
 
+pub use all_reads::AllReads;
 pub use coordinator::Coordinator;
 pub use laws::{done_is_settled, doubt_is_shown, failed_is_given_up};
 pub use stage::Stage;

@@ -1,17 +1,15 @@
-ghost use Rattle.std.specs.Prelude.{◌≡◌, ◌<◌, ◌≤◌, ◌-◌, true, false, None, [], length, replicate};
-ghost use Rattle.std.specs.Prelude.{slice_index_or, IfOk, OnOk};
+ghost use Rattle.std.specs.Prelude.{◌≡◌, ◌<◌, ◌≤◌, true, false, length, slice_index_or};
+ghost use Rattle.std.specs.Prelude.{IfOk, OnOk};
 ghost use Rattle.std.specs.Option.{option_map};
 ghost use Rattle.mn_mini.specs.Mini.{IsSound, participants_of};
 ghost use Rattle.mn_mini.specs.RecordGrammar.{IsTid};
-ghost use Rattle.mn_coord.specs.Coordination.{try_request};
-ghost use Rattle.mn_coord.specs.Tries.{tries_of};
 
+use crate::requests::Requests;
 use crate::stage::stage_for;
-use crate::{CoordStep, Outcome, Stage};
-use mn_base::{NoMemory, NodeNo, Tid, TryCopy};
+use crate::{AllReads, CoordStep, Outcome, Stage};
+use mn_base::{NoMemory, NodeNo, Tid};
 use mn_mini::{Minitransaction, NodeReply, Reads, Request};
 use std::alloc::Global;
-use std::collections::VecDeque;
 use std::marker::Model;
 
 /// What a coordinator keeps. Contracts see what it was answered so far.
@@ -19,10 +17,8 @@ use std::marker::Model;
 pub struct Machine {
     tid: Tid,
     mini: Minitransaction,
-    /// The Prepares or the Exec that weren't handed out.
-    requests: VecDeque<Request>,
-    /// What each participant read.
-    reads: Vec<Reads>,
+    requests: Requests,
+    reads: AllReads,
     done: usize,
     refused: Option<NodeReply>,
     told: bool,
@@ -80,49 +76,6 @@ fn node_at(mini: &Minitransaction, number: usize) -> NodeNo
     mini.participants().as_slice()[number]
 }
 
-/// The request by which the participant takes part.
-fn try_of(
-    alloc: Global,
-    tid: Tid,
-    mini: &Minitransaction,
-    node: NodeNo,
-) -> Result<Request, NoMemory>
-    ensures { IfOk result (λ request. request ≡ try_request tid mini.now node) }
-{
-    let part = mini.part(alloc, node)?;
-    if mini.participants().as_slice().len() == 1 {
-        Ok(Request::Exec { tid, part })
-    } else {
-        Ok(Request::Prepare {
-            tid,
-            participants: mini.participants().try_copy(alloc)?,
-            part,
-        })
-    }
-}
-
-/// The requests by which the participants take part, in order.
-fn tries_for(alloc: Global, tid: Tid, mini: &Minitransaction) -> Result<VecDeque<Request>, NoMemory>
-    ensures { IfOk result (λ requests. requests.items ≡ tries_of tid mini.now) }
-{
-    let mut requests = VecDeque::new(alloc);
-    for node in mini.participants().as_slice() {
-        requests.push_back(try_of(alloc, tid, mini, *node)?)?;
-    }
-    Ok(requests)
-}
-
-/// Nothing for each participant.
-fn no_reads(alloc: Global, participants: usize) -> Result<Vec<Reads>, NoMemory>
-    ensures { IfOk result (λ reads. reads.items ≡ replicate participants []) }
-{
-    let mut reads = Vec::new(alloc);
-    for _at in 0..participants {
-        reads.push(Reads::from_vec(Vec::new(alloc)))?;
-    }
-    Ok(reads)
-}
-
 impl Machine {
     ghost use Rattle.mn_coord.specs.Coordination.{IsSoundCoordination, stage_in};
     ghost use Rattle.mn_coord.specs.Coordination.{new_coordination, step_of, after_step, fed};
@@ -134,8 +87,8 @@ impl Machine {
         ensures starts { IfOk result (λ c. c ≡ new_coordination tid mini) }
         ensures some { OnOk result (1 ≤ length (participants_of mini)) }
     {
-        let requests = tries_for(alloc, tid, &mini)?;
-        let reads = no_reads(alloc, participants_in(&mini))?;
+        let requests = Requests::new(alloc, tid, &mini)?;
+        let reads = AllReads::new(alloc, participants_in(&mini))?;
         Ok(Machine {
             tid,
             mini,
@@ -226,7 +179,7 @@ impl Machine {
         self.asked = false;
         match (stage, reply) {
             (Stage::Ask, NodeReply::Done { reads }) => {
-                self.reads[self.done] = reads;
+                self.reads.put(self.done, reads);
                 self.done += 1;
             }
             (Stage::Ask, reply) => self.refused = Some(reply),
@@ -239,7 +192,7 @@ impl Machine {
     pub fn reads(&self) -> &[Reads]
         ensures { result.now ≡ self.now.reads }
     {
-        &self.reads
+        self.reads.as_slice()
     }
 
     /// The reply by which it failed, or is in doubt.
@@ -253,7 +206,7 @@ impl Machine {
     #[inline(always)]
     pub fn into_outcome(self) -> Outcome
         ensures mini { result.mini ≡ self.mini }
-        ensures reads { result.reads.items ≡ self.reads }
+        ensures reads { result.reads ≡ self.reads }
         ensures reply { result.reply ≡ self.refused }
     {
         let Machine {

@@ -1,5 +1,6 @@
+use crate::AllReads;
 use mn_base::NodeNo;
-use mn_mini::{Minitransaction, NodeReply, Reads, Request};
+use mn_mini::{Minitransaction, NodeReply, Request};
 
 /// What a coordinator wants next.
 #[derive(Debug, Drop)]
@@ -23,7 +24,7 @@ pub enum CoordStep {
 pub struct Outcome {
     pub mini: Minitransaction,
     /// What each participant read, by participant, where it is committed.
-    pub reads: Vec<Reads>,
+    pub reads: AllReads,
     /// The reply by which it failed, or is in doubt.
     pub reply: Option<NodeReply>,
 }

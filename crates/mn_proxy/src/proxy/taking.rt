@@ -32,14 +32,10 @@ use std::alloc::Global;
 /// What a minitransaction of one read item has read.
 #[inline(never)]
 fn only_read(outcome: Outcome) -> Option<ReadBytes>
-    ensures { result ≡ read_alone outcome.reads.items }
+    ensures { result ≡ read_alone outcome.reads }
 {
-    let mut reads = outcome.reads;
-    let read = reads.pop()?;
-    if !reads.is_empty() {
-        return None;
-    }
-    let mut items = read.into_vec();
+    let reads = outcome.reads;
+    let mut items = reads.into_only()?.into_vec();
     let bytes = items.pop()?;
     if items.is_empty() { Some(bytes) } else { None }
 }
@@ -186,22 +182,22 @@ impl Proxy {
         requires waits { WaitsFor self.old.known work purpose }
         ensures sound { IfOk result (IsSoundTurn self.new.known) }
         ensures turns { (es : List Entry) → IsOwn es self.old
-            → IsCommitted es self.old.known work outcome.reads.items purpose
+            → IsCommitted es self.old.known work outcome.reads purpose
             → IfOk result (TurnAgrees es self.new) }
         ensures want { (es : List Entry) → IsOwn es self.old
-            → IsCommitted es self.old.known work outcome.reads.items purpose
+            → IsCommitted es self.old.known work outcome.reads purpose
             → OnErr result (MayWant es) }
         ensures left { (es : List Entry) → IsOwn es self.old
-            → IsCommitted es self.old.known work outcome.reads.items purpose
+            → IsCommitted es self.old.known work outcome.reads purpose
             → OnErr result (IsOwn es self.new) }
         ensures kept { KeepsSelf self.old self.new × (self.new.work ≡ None) }
         ensures falls { IfOk result (GoesBelow (left_after self.old) self.new) }
-        ensures cache { CacheTurns (read_for purpose outcome.reads.items) (is_later work.failed)
+        ensures cache { CacheTurns (read_for purpose outcome.reads) (is_later work.failed)
             self.old.known.cache self.new.known.cache result }
         ensures catalog { IfOk result
-            (CatalogTurns (read_for purpose outcome.reads.items)
+            (CatalogTurns (read_for purpose outcome.reads)
             self.old.known.catalog self.new.known.catalog) }
-        ensures leaf { LeafTurns self.old.known work (read_for purpose outcome.reads.items) result }
+        ensures leaf { LeafTurns self.old.known work (read_for purpose outcome.reads) result }
     {
         match purpose {
             Purpose::Plan { reply } => Ok(ends(Answer::Replied { reply })),

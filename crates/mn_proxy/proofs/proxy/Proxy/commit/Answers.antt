@@ -21,8 +21,8 @@ returns-in-Plan-clause-sound c = subst (IsSoundTurn c.args.self.now.known) (sym 
 pub returns-in-Plan-clause-turns : goal.returns-in-Plan-clause-turns
 returns-in-Plan-clause-turns c = λ es own is.
     subst (TurnAgrees es c.args.self.now) (sym c.ends.ensures)
-    (plan_answered es c.args.self.now c.args.work c.args.outcome.reads.items c.in-Plan.reply own
-    (subst (IsCommitted es c.args.self.now.known c.args.work c.args.outcome.reads.items) c.in-Plan.is is))
+    (plan_answered es c.args.self.now c.args.work c.args.outcome.reads c.in-Plan.reply own
+    (subst (IsCommitted es c.args.self.now.known c.args.work c.args.outcome.reads) c.in-Plan.is is))
 
 pub returns-in-Plan-clause-kept : goal.returns-in-Plan-clause-kept
 returns-in-Plan-clause-kept c = ((refl, refl, refl), c.requires.idle)
@@ -33,57 +33,57 @@ returns-in-Plan-clause-falls c =
 
 pub returns-in-Plan-clause-cache : goal.returns-in-Plan-clause-cache
 returns-in-Plan-clause-cache c =
-    unread_cache (read_for c.args.purpose c.args.outcome.reads.items) (is_later c.args.work.failed) c.args.self.now.known.cache c.args.self.now.known.cache (Ok c.ends.result)
-    (ap (λ (p : Purpose). read_for p c.args.outcome.reads.items) c.in-Plan.is) refl
+    unread_cache (read_for c.args.purpose c.args.outcome.reads) (is_later c.args.work.failed) c.args.self.now.known.cache c.args.self.now.known.cache (Ok c.ends.result)
+    (ap (λ (p : Purpose). read_for p c.args.outcome.reads) c.in-Plan.is) refl
 
 pub returns-in-Plan-clause-catalog : goal.returns-in-Plan-clause-catalog
 returns-in-Plan-clause-catalog c =
     let result : Result Turn NoMemory = Ok c.ends.result in
-    unread_catalog (read_for c.args.purpose c.args.outcome.reads.items) c.args.self.now.known.catalog c.args.self.now.known.catalog result
-    (ap (λ (p : Purpose). read_for p c.args.outcome.reads.items) c.in-Plan.is)
+    unread_catalog (read_for c.args.purpose c.args.outcome.reads) c.args.self.now.known.catalog c.args.self.now.known.catalog result
+    (ap (λ (p : Purpose). read_for p c.args.outcome.reads) c.in-Plan.is)
     (catalog_stays c.args.self.now.known.catalog c.args.self.now.known.catalog result refl)
 
 pub returns-in-Plan-clause-leaf : goal.returns-in-Plan-clause-leaf
 returns-in-Plan-clause-leaf c = λ leaf.
-    absurd (unread_leaf c.args.self.now.known c.args.work (read_for c.args.purpose c.args.outcome.reads.items)
-    (ap (λ (p : Purpose). read_for p c.args.outcome.reads.items) c.in-Plan.is) leaf)
+    absurd (unread_leaf c.args.self.now.known c.args.work (read_for c.args.purpose c.args.outcome.reads)
+    (ap (λ (p : Purpose). read_for p c.args.outcome.reads) c.in-Plan.is) leaf)
 
 pub returns-in-Ok : goal.returns-in-Ok
 returns-in-Ok c =
-    let whole : read_alone c.args.outcome.reads.items ≡ Some c.in-Ok.bytes = sym c.only_read.ensures ∙ (c.in-Some.is ∙ ap Some (sym c.in-Ok.ensures)) in record {
+    let whole : read_alone c.args.outcome.reads ≡ Some c.in-Ok.bytes = sym c.only_read.ensures ∙ (c.in-Some.is ∙ ap Some (sym c.in-Ok.ensures)) in record {
       sound = c.take.ensures.sound;
       turns = λ es own is.
-          let d = committed_read es c.args.self.now.known c.args.work c.args.outcome.reads.items c.args.purpose c.in_default.not-Plan is in
-          c.take.ensures.turns es own (done_read es c.args.self.now.known c.args.work c.args.outcome.reads.items c.args.purpose c.in-Ok.bytes d whole) d.closed d.over;
+          let d = committed_read es c.args.self.now.known c.args.work c.args.outcome.reads c.args.purpose c.in_default.not-Plan is in
+          c.take.ensures.turns es own (done_read es c.args.self.now.known c.args.work c.args.outcome.reads c.args.purpose c.in-Ok.bytes d whole) d.closed d.over;
       want = λ es own is.
-          let d = committed_read es c.args.self.now.known c.args.work c.args.outcome.reads.items c.args.purpose c.in_default.not-Plan is in
-          on_err c.take.result (MayWant es) (read_may_want es c.args.self.now.known c.args.work c.args.outcome.reads.items c.args.purpose d);
+          let d = committed_read es c.args.self.now.known c.args.work c.args.outcome.reads c.args.purpose c.in_default.not-Plan is in
+          on_err c.take.result (MayWant es) (read_may_want es c.args.self.now.known c.args.work c.args.outcome.reads c.args.purpose d);
       left = λ es own is.
-          let d = committed_read es c.args.self.now.known c.args.work c.args.outcome.reads.items c.args.purpose c.in_default.not-Plan is in
-          c.take.ensures.left es own (done_read es c.args.self.now.known c.args.work c.args.outcome.reads.items c.args.purpose c.in-Ok.bytes d whole);
+          let d = committed_read es c.args.self.now.known c.args.work c.args.outcome.reads c.args.purpose c.in_default.not-Plan is in
+          c.take.ensures.left es own (done_read es c.args.self.now.known c.args.work c.args.outcome.reads c.args.purpose c.in-Ok.bytes d whole);
       kept = c.take.ensures.kept;
       falls = c.take.ensures.falls;
-      cache = cache_as (read_for c.args.purpose c.args.outcome.reads.items) (Some (c.args.purpose, c.in-Ok.bytes)) (is_later c.args.work.failed)
+      cache = cache_as (read_for c.args.purpose c.args.outcome.reads) (Some (c.args.purpose, c.in-Ok.bytes)) (is_later c.args.work.failed)
           c.args.self.now.known.cache c.take.new.self.known.cache c.take.result
-          (read_some c.args.purpose c.args.outcome.reads.items c.in-Ok.bytes c.in_default.not-Plan whole) c.take.ensures.cache;
-      catalog = catalog_as (read_for c.args.purpose c.args.outcome.reads.items) (Some (c.args.purpose, c.in-Ok.bytes))
+          (read_some c.args.purpose c.args.outcome.reads c.in-Ok.bytes c.in_default.not-Plan whole) c.take.ensures.cache;
+      catalog = catalog_as (read_for c.args.purpose c.args.outcome.reads) (Some (c.args.purpose, c.in-Ok.bytes))
           c.args.self.now.known.catalog c.take.new.self.known.catalog c.take.result
-          (read_some c.args.purpose c.args.outcome.reads.items c.in-Ok.bytes c.in_default.not-Plan whole) c.take.ensures.catalog;
-      leaf = leaf_as c.args.self.now.known c.args.work (read_for c.args.purpose c.args.outcome.reads.items) (Some (c.args.purpose, c.in-Ok.bytes)) c.take.result
-          (read_some c.args.purpose c.args.outcome.reads.items c.in-Ok.bytes c.in_default.not-Plan whole) c.take.ensures.leaf;
+          (read_some c.args.purpose c.args.outcome.reads c.in-Ok.bytes c.in_default.not-Plan whole) c.take.ensures.catalog;
+      leaf = leaf_as c.args.self.now.known c.args.work (read_for c.args.purpose c.args.outcome.reads) (Some (c.args.purpose, c.in-Ok.bytes)) c.take.result
+          (read_some c.args.purpose c.args.outcome.reads c.in-Ok.bytes c.in_default.not-Plan whole) c.take.ensures.leaf;
     }
 
 pub returns-in-None : goal.returns-in-None
 returns-in-None c = record {
   sound = tt;
   turns = λ es own is. tt;
-  want = λ es own is. read_may_want es c.args.self.now.known c.args.work c.args.outcome.reads.items c.args.purpose
-      (committed_read es c.args.self.now.known c.args.work c.args.outcome.reads.items c.args.purpose c.in_default.not-Plan is);
+  want = λ es own is. read_may_want es c.args.self.now.known c.args.work c.args.outcome.reads c.args.purpose
+      (committed_read es c.args.self.now.known c.args.work c.args.outcome.reads c.args.purpose c.in_default.not-Plan is);
   left = λ es own is. own;
   kept = ((refl, refl, refl), c.requires.idle);
   falls = tt;
-  cache = unread_cache (read_for c.args.purpose c.args.outcome.reads.items) (is_later c.args.work.failed) c.args.self.now.known.cache c.args.self.now.known.cache (Err _)
-      (read_none c.args.purpose c.args.outcome.reads.items (sym c.only_read.ensures ∙ c.in-None.is)) refl;
+  cache = unread_cache (read_for c.args.purpose c.args.outcome.reads) (is_later c.args.work.failed) c.args.self.now.known.cache c.args.self.now.known.cache (Err _)
+      (read_none c.args.purpose c.args.outcome.reads (sym c.only_read.ensures ∙ c.in-None.is)) refl;
   catalog = tt;
   leaf = λ leaf. tt;
 }
@@ -92,12 +92,12 @@ pub returns-in-Err : goal.returns-in-Err
 returns-in-Err c = record {
   sound = tt;
   turns = λ es own is. tt;
-  want = λ es own is. read_may_want es c.args.self.now.known c.args.work c.args.outcome.reads.items c.args.purpose
-      (committed_read es c.args.self.now.known c.args.work c.args.outcome.reads.items c.args.purpose c.in_default.not-Plan is);
+  want = λ es own is. read_may_want es c.args.self.now.known c.args.work c.args.outcome.reads c.args.purpose
+      (committed_read es c.args.self.now.known c.args.work c.args.outcome.reads c.args.purpose c.in_default.not-Plan is);
   left = λ es own is. own;
   kept = ((refl, refl, refl), c.requires.idle);
   falls = tt;
-  cache = unput_cache (read_for c.args.purpose c.args.outcome.reads.items) (is_later c.args.work.failed) c.args.self.now.known.cache _;
+  cache = unput_cache (read_for c.args.purpose c.args.outcome.reads) (is_later c.args.work.failed) c.args.self.now.known.cache _;
   catalog = tt;
   leaf = λ leaf. tt;
 }

@@ -188,21 +188,21 @@ read_as c purpose step is = ap (λ (s : CoordStep). read_when s c.reads purpose)
 
 pub returns-in-Committed-clause-cache : goal.returns-in-Committed-clause-cache
 returns-in-Committed-clause-cache c =
-    cache_as (read_when (step_of c.args.coordinator) c.args.coordinator.reads c.args.purpose) (read_for c.args.purpose c.into_outcome.result.reads.items) (is_later c.args.work.failed) c.args.self.now.known.cache c.commit.new.self.known.cache c.commit.result
+    cache_as (read_when (step_of c.args.coordinator) c.args.coordinator.reads c.args.purpose) (read_for c.args.purpose c.into_outcome.result.reads) (is_later c.args.work.failed) c.args.self.now.known.cache c.commit.new.self.known.cache c.commit.result
     (read_as c.args.coordinator c.args.purpose Committed (sym c.next.ensures.step ∙ c.in-Committed.is)
     ∙ ap (read_for c.args.purpose) (sym (c.into_outcome.ensures.reads ∙ ap (λ (x : Coordination). x.reads) (c.next.ensures.after ∙ ap (after_step c.args.coordinator) c.in-Committed.is))))
     c.commit.ensures.cache
 
 pub returns-in-Committed-clause-catalog : goal.returns-in-Committed-clause-catalog
 returns-in-Committed-clause-catalog c =
-    catalog_as (read_when (step_of c.args.coordinator) c.args.coordinator.reads c.args.purpose) (read_for c.args.purpose c.into_outcome.result.reads.items) c.args.self.now.known.catalog c.commit.new.self.known.catalog c.commit.result
+    catalog_as (read_when (step_of c.args.coordinator) c.args.coordinator.reads c.args.purpose) (read_for c.args.purpose c.into_outcome.result.reads) c.args.self.now.known.catalog c.commit.new.self.known.catalog c.commit.result
     (read_as c.args.coordinator c.args.purpose Committed (sym c.next.ensures.step ∙ c.in-Committed.is)
     ∙ ap (read_for c.args.purpose) (sym (c.into_outcome.ensures.reads ∙ ap (λ (x : Coordination). x.reads) (c.next.ensures.after ∙ ap (after_step c.args.coordinator) c.in-Committed.is))))
     c.commit.ensures.catalog
 
 pub returns-in-Committed-clause-leaf : goal.returns-in-Committed-clause-leaf
 returns-in-Committed-clause-leaf c =
-    leaf_as c.args.self.now.known c.args.work (read_when (step_of c.args.coordinator) c.args.coordinator.reads c.args.purpose) (read_for c.args.purpose c.into_outcome.result.reads.items) c.commit.result
+    leaf_as c.args.self.now.known c.args.work (read_when (step_of c.args.coordinator) c.args.coordinator.reads c.args.purpose) (read_for c.args.purpose c.into_outcome.result.reads) c.commit.result
     (read_as c.args.coordinator c.args.purpose Committed (sym c.next.ensures.step ∙ c.in-Committed.is)
     ∙ ap (read_for c.args.purpose) (sym (c.into_outcome.ensures.reads ∙ ap (λ (x : Coordination). x.reads) (c.next.ensures.after ∙ ap (after_step c.args.coordinator) c.in-Committed.is))))
     c.commit.ensures.leaf

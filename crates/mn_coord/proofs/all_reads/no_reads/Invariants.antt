@@ -1,5 +1,5 @@
 use Rattle.std.proofs.Common.{◌≡◌, [], replicate}
-use Rattle.mn_coord.proofs.machine.no_reads.Given as goal
+use Rattle.mn_coord.proofs.all_reads.no_reads.Given as goal
 
 -- one for each participant so far
 abbrev pub invariant-loop-at : goal.invariant-loop-at

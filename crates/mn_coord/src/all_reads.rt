@@ -1,0 +1,112 @@
+ghost use Rattle.std.specs.Prelude.{◌≡◌, ◌≢◌, ◌<◌, ◌^◌, [], ◌∷◌, length, replicate, slice_set};
+ghost use Rattle.std.specs.Prelude.{IfOk, IfSome, IfNone};
+
+use mn_base::NoMemory;
+use mn_mini::Reads;
+use std::alloc::Global;
+use std::marker::Model;
+use std::slice;
+
+/// What each participant read, by participant. Contracts see it as a list. What a lone one read
+/// lies in place.
+#[derive(Debug)]
+pub struct AllReads {
+    kept: Kept,
+}
+
+#[derive(Debug, Drop)]
+enum Kept {
+    One(Reads),
+    Several(Vec<Reads>),
+}
+
+/// It is let go by a call, which is proved once, and not in place wherever one goes.
+impl Drop for AllReads {
+    fn drop(self) {
+        let AllReads { kept } = self;
+        drop(kept);
+    }
+}
+
+impl Model for AllReads {
+    ghost use Rattle.std.specs.Prelude.{ℕ, List};
+    ghost use Rattle.mn_coord.specs.AllReads.{reads_in};
+
+    ghost Value = { List (List (List ℕ)) };
+
+    ghost view = { λ r. reads_in r.kept };
+}
+
+/// Nothing for each of so many participants.
+fn no_reads(alloc: Global, participants: usize) -> Result<Vec<Reads>, NoMemory>
+    ensures { IfOk result (λ reads. reads.items ≡ replicate participants []) }
+{
+    let mut reads = Vec::with_capacity(alloc, participants)?;
+    for _at in 0..participants {
+        reads.push(Reads::from_vec(Vec::new(alloc)))?;
+    }
+    Ok(reads)
+}
+
+/// The one of a list that has no other.
+fn only_of(mut several: Vec<Reads>) -> Option<Reads>
+    ensures only { IfSome result (λ reads. several.items ≡ reads ∷ []) }
+    ensures others { IfNone result (length several.items ≢ 1) }
+{
+    let reads = several.pop()?;
+    if several.is_empty() {
+        Some(reads)
+    } else {
+        None
+    }
+}
+
+impl AllReads {
+    /// Nothing for each of so many participants. NoMemory: there was no memory for it.
+    pub(crate) fn new(alloc: Global, participants: usize) -> Result<Self, NoMemory>
+        ensures { IfOk result (λ reads. reads ≡ replicate participants []) }
+    {
+        if participants == 1 {
+            return Ok(AllReads {
+                kept: Kept::One(Reads::from_vec(Vec::new(alloc))),
+            });
+        }
+        let reads = no_reads(alloc, participants)?;
+        Ok(AllReads {
+            kept: Kept::Several(reads),
+        })
+    }
+
+    /// Puts what the participant of this number read.
+    pub(crate) fn put(&mut self, at: usize, reads: Reads)
+        requires { at < length self.old }
+        ensures put { self.new ≡ slice_set self.old at reads }
+        ensures fits { length self.old < 2 ^ 64 }
+    {
+        match &mut self.kept {
+            Kept::One(one) => *one = reads,
+            Kept::Several(several) => several[at] = reads,
+        }
+    }
+
+    pub fn as_slice(&self) -> &[Reads]
+        ensures { result.now ≡ self.now }
+    {
+        match &self.kept {
+            Kept::One(one) => slice::from_ref(one),
+            Kept::Several(several) => several,
+        }
+    }
+
+    /// What the participant read, if there is one alone. It takes no memory.
+    pub fn into_only(self) -> Option<Reads>
+        ensures only { IfSome result (λ reads. self ≡ reads ∷ []) }
+        ensures others { IfNone result (length self ≢ 1) }
+    {
+        let AllReads { kept } = self;
+        match kept {
+            Kept::One(reads) => Some(reads),
+            Kept::Several(several) => only_of(several),
+        }
+    }
+}
