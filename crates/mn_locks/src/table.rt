@@ -1,5 +1,5 @@
 ghost use Rattle.std.specs.Prelude.{◌≡◌, ◌≤◌, ◌<◌, ◌+◌, ◌++◌, [], length, map, IfOk, OnOk, OnErr};
-ghost use Rattle.std.specs.Prelude.{MatchResult, Some, None, vec_len, vec_capacity};
+ghost use Rattle.std.specs.Prelude.{◌↔◌, IsTrue, MatchResult, Some, None, vec_len, vec_capacity};
 ghost use Rattle.mn_base.specs.Ids.{tid_same, tid_lt};
 ghost use Rattle.mn_base.specs.Ranges.{ranges_meet, least_tid, lesser_tid};
 ghost use Rattle.mn_locks.specs.Locks.{conflicts, holders, first_held, held_of, hold_of, holds_of};
@@ -151,6 +151,13 @@ impl LockTable {
         ensures { result.now ≡ self.now.holds }
     {
         &self.holds
+    }
+
+    /// Whether nothing is held.
+    pub fn is_empty(&self) -> bool
+        ensures { IsTrue result ↔ (self.now.holds ≡ []) }
+    {
+        self.holds.is_empty()
     }
 
     /// Takes ranges for an id, `reads` to be shared and `writes` alone, besides those that it holds

@@ -1,5 +1,6 @@
 -- What the test of a part tells.
-use Rattle.std.proofs.Common.{◌≡◌, ℕ, List, Option, Some, None, Result, Ok, Err, IsOk, MatchResult, refl, ap, sym, subst, ◌∙◌}
+use Rattle.std.proofs.Common.{◌≡◌, ℕ, Bool, true, false, List, [], ◌∷◌, Option, Some, None, Result, Ok, Err, IsOk, IfOk, MatchResult, refl, ap, sym, subst, ◌∙◌}
+use Rattle.mn_base.specs.declared.error.NoMemory.{NoMemory}
 use Rattle.mn_base.specs.declared.ids.Tid.{Tid}
 use Rattle.mn_base.specs.declared.ids.Range.{Range}
 use Rattle.mn_mini.specs.declared.part.PartItem.{PartItem}
@@ -10,10 +11,11 @@ use Rattle.mn_mini.specs.Node.{HeldPart, Clash, clash_of, only_reply, after_lock
 use Rattle.mn_mini.specs.RecordGrammar.{IsPart}
 use Rattle.mn_locks.specs.declared.hold.Hold.{Hold}
 use Rattle.mn_locks.specs.declared.hold.Held.{Held}
-use Rattle.mn_locks.specs.Locks.{held_of}
+use Rattle.mn_locks.specs.Locks.{first_held, held_of}
 use Rattle.mn_node.specs.declared.part.Mismatch.{Mismatch}
+use Rattle.mn_node.specs.declared.memory.Tested.{Tested}
 use Rattle.mn_node.specs.declared.memory.Tested.TheVariants.{Yes}
-use Rattle.mn_node.specs.Memory.{IsTested}
+use Rattle.mn_node.specs.Memory.{IsTested, IsTestedFree}
 use Rattle.mn_node.specs.Part.{shared_of, alone_of, holds_by, as_clash, IsMismatch}
 use Rattle.mn_node.proofs.Ties.{tie}
 
@@ -40,6 +42,27 @@ done_is space part added m found reads is e same = of m (let P : Option Mismatch
     of : (m : Option Mismatched) → IsMismatch m None → after_compares space part added m ≡ record { reply = Say.Done reads; added = added }
     of None is = ap (λ (l : List (List ℕ)). let r : Response = record { reply = Say.Done l; added = added } in r) (sym same)
     of (Some at) is = absurd is
+
+-- Parts that conflict with none that is held
+
+-- where nothing is held no range conflicts
+none_first : (tid : Tid) (alone : Bool) (ranges : List Range) (rest : Option Held) → first_held [] tid alone ranges rest ≡ rest
+none_first tid alone [] rest = refl
+none_first tid alone (range ∷ ranges) rest = none_first tid alone ranges rest
+
+none_held : (tid : Tid) (reads writes : List Range) → held_of [] tid reads writes ≡ None
+none_held tid reads writes = none_first tid false reads (first_held [] tid true writes None) ∙ none_first tid true writes None
+
+pub none_clash : (hs : List HeldPart) (holds : List Hold) (tid : Tid) (part : List PartItem) → IsPart part → holds ≡ [] → holds ≡ holds_by hs → clash_of hs tid part ≡ None
+none_clash hs holds tid part is none h =
+    let told = ap (λ (l : List Hold). held_of l tid (shared_of part) (alone_of part)) none ∙ none_held tid (shared_of part) (alone_of part) in
+    clash_is hs holds tid part (shared_of part) (alone_of part) None is refl refl told h
+
+-- there the compares tell alone
+pub free_tested : (space : List ℕ) (holds : List Hold) (tid : Tid) (part : List PartItem) (r : Result Tested NoMemory)
+    → ((hs : List HeldPart) → holds ≡ holds_by hs → clash_of hs tid part ≡ None) → IfOk r (IsTestedFree space part) → IfOk r (IsTested space holds tid part)
+free_tested space holds tid part (Ok tested) free is = λ hs h added. ap (λ (x : Option Clash). after_locks space part added x) (free hs h) ∙ is added
+free_tested space holds tid part (Err e) free is = tt
 
 none_is_some : (clash : Clash) → Some clash ≡ None → ⊥
 none_is_some clash e = cc

@@ -1,6 +1,6 @@
 -- What a node keeps in memory.
-use Rattle.std.specs.Prelude.{◌≡◌, ◌≤◌, ℕ, ◌+◌, Bool, List, length, reverse, Option, vec_len}
-use Rattle.std.specs.Prelude.{vec_capacity}
+use Rattle.std.specs.Prelude.{◌≡◌, ◌≤◌, ℕ, ◌+◌, Bool, List, length, reverse, Option, None}
+use Rattle.std.specs.Prelude.{vec_len, vec_capacity}
 use Rattle.std.specs.List.{list_any, AllByRecursion}
 use Rattle.mn_base.specs.Ids.{tid_same}
 use Rattle.mn_base.specs.declared.ids.Tid.{Tid}
@@ -57,3 +57,8 @@ abbrev pub IsTested : List ℕ → List Hold → Tid → List PartItem → Teste
 IsTested space holds tid part tested =
     (hs : List HeldPart) → holds ≡ holds_by hs → (added : Option Record)
     → after_locks space part added (clash_of hs tid part) ≡ response_of tested added
+
+-- where the part conflicts with none that is held, the test tells what the compares say of it
+abbrev pub IsTestedFree : List ℕ → List PartItem → Tested → Type 0
+IsTestedFree space part tested =
+    (added : Option Record) → after_locks space part added None ≡ response_of tested added

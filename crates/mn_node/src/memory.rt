@@ -11,7 +11,7 @@ ghost use Rattle.mn_mini.specs.Node.{clash_of, is_held, with_held};
 ghost use Rattle.mn_mini.specs.RecordGrammar.{IsPart, IsRecord};
 ghost use Rattle.mn_node.specs.Part.{shared_of, alone_of};
 ghost use Rattle.mn_node.specs.Held.{AreHeldVotes, IsVote, IsVoteFor};
-ghost use Rattle.mn_node.specs.Memory.{IsMemory, HasDecisionRoom, IsTested, is_among};
+ghost use Rattle.mn_node.specs.Memory.{IsMemory, HasDecisionRoom, IsTested, IsTestedFree, is_among};
 
 use crate::held::{Vote, forget, has_vote_for, is_same, part_of};
 use crate::part::{Mismatch, Ranges, first_mismatch, ranges_of, reads_of, write_items};
@@ -59,6 +59,19 @@ pub fn is_in(tids: &[Tid], tid: Tid) -> bool
     false
 }
 
+/// Tests the compares of a part that conflicts with none that is held.
+fn test_compares(alloc: Global, space: &Space, part: &[PartItem]) -> Result<Tested, NoMemory>
+    requires size { length space.now ≡ space_size }
+    requires part { IsPart part.now }
+    ensures { IfOk result (IsTestedFree space.now part.now) }
+{
+    if let Some(differs) = first_mismatch(alloc, space, part)? {
+        return Ok(Tested::Differs { differs });
+    }
+    let reads = Reads::from_vec(reads_of(alloc, space, part)?);
+    Ok(Tested::Yes { reads })
+}
+
 /// Tests a part for an id: first its locks, then its compares.
 pub fn test_part(
     alloc: Global,
@@ -77,14 +90,10 @@ pub fn test_part(
     if let Err(held) = locks.test(tid, &ranges.shared, &ranges.alone) {
         return Ok(Tested::Locked { held });
     }
-    if let Some(differs) = first_mismatch(alloc, space, part)? {
-        return Ok(Tested::Differs { differs });
-    }
-    let reads = Reads::from_vec(reads_of(alloc, space, part)?);
-    Ok(Tested::Yes { reads })
+    test_compares(alloc, space, part)
 }
 
-/// Tests a part for an id, with its ranges made for it.
+/// Tests a part for an id, with its ranges made for it, if there is a lock that they could meet.
 pub fn test_alone(
     alloc: Global,
     space: &Space,
@@ -96,6 +105,9 @@ pub fn test_alone(
     requires part { IsPart part.now }
     ensures { IfOk result (IsTested space.now locks.now.holds tid part.now) }
 {
+    if locks.is_empty() {
+        return test_compares(alloc, space, part);
+    }
     let ranges = ranges_of(alloc, part)?;
     test_part(alloc, space, locks, tid, part, &ranges)
 }
