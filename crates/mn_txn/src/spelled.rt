@@ -43,7 +43,7 @@ pub fn page_bytes(alloc: Global, page: &Page) -> Result<SharedBytes, NoMemory>
 {
     let mut bytes = vec![in alloc; 0u8; 1_024]?;
     page.write(&mut bytes);
-    SharedBytes::new(alloc, bytes)
+    Ok(SharedBytes::new(alloc, bytes)?)
 }
 
 /// The bytes of an entry.
