@@ -251,7 +251,7 @@ impl Client {
         self.add(table, pass, what)
     }
 
-    /// KeepsList what it has to know of a minitransaction that it has issued.
+    /// Keeps what it has to know of a minitransaction that it has issued.
     fn keep_issue(&mut self, tid: Tid, is_shared: bool, is_plan: bool)
         requires shared { MatchOption self.old.shared ⊤ IsTid }
         requires run { 1 ≤ tid.run }

@@ -11,7 +11,7 @@ ghost use Rattle.mn_hist.specs.Audit.{doubt_lines, doubts_from};
 ghost use Rattle.mn_hist.specs.History.{stands};
 ghost use Rattle.mn_hist.specs.Saying.{said_kept, TellsAnswers};
 
-use crate::history::{OpKey, is_standing, op_key};
+use crate::history::{ENTRIES, OpKey, is_standing, op_key};
 use mn_base::{Answer, ClientNo, Name, NoMemory, TryCopy};
 use mn_report::{AnswerLine, AnswerLines, DoubtLine, LineAnswer, Outcomes};
 use mn_script::ScriptClient;
@@ -75,7 +75,7 @@ pub fn said_in<'a>(
 ) -> Result<HashMap<OpKey, Said<'a>>, NoMemory>
     ensures { IfOk result (λ said. TellsAnswers said (entries_of log.now)) }
 {
-    let mut said = HashMap::new(alloc);
+    let mut said = HashMap::with_capacity(alloc, log.len() / ENTRIES)?;
     for (_, entry) in log {
         note_entry(&mut said, entry)?;
     }

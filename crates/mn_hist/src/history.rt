@@ -505,6 +505,10 @@ fn note_step<'a>(
     }
 }
 
+/// How many entries stand in a log for an operation or an issue, mostly: for as many as that makes
+/// there is room at once.
+pub const ENTRIES: usize = 4;
+
 /// How many numbers of clients there are.
 const CLIENT_NUMBERS: usize = 256;
 
@@ -585,16 +589,16 @@ struct HistoryReader<'a> {
 }
 
 impl<'a> HistoryReader<'a> {
-    /// No entry has come. NoMemory: there was no memory for it.
-    fn new(alloc: Global) -> Result<HistoryReader<'a>, NoMemory>
+    /// No entry has come of so many. NoMemory: there was no memory for it.
+    fn new(alloc: Global, entries: usize) -> Result<HistoryReader<'a>, NoMemory>
         ensures { IfOk result (λ reader. ReaderHasTold reader [] []) }
     {
         Ok(HistoryReader {
             commits: CommitReader::new(alloc)?,
             callers: idle_callers(alloc)?,
-            plans: HashMap::new(alloc),
-            standing: HashSet::new(alloc),
-            slots: Vec::new(alloc),
+            plans: HashMap::with_capacity(alloc, entries / ENTRIES)?,
+            standing: HashSet::with_capacity(alloc, entries / ENTRIES)?,
+            slots: Vec::with_capacity(alloc, entries)?,
         })
     }
 
@@ -688,7 +692,7 @@ fn read_log<'a>(alloc: Global, log: &'a [(u64, Entry)]) -> Result<HistoryReader<
     ensures { IfOk result (λ reader. (start : Start) → IsRun start (entries_of log.now)
         → (placed : List Placed) × ReaderHasTold reader (entries_of log.now) placed) }
 {
-    let mut reader = HistoryReader::new(alloc)?;
+    let mut reader = HistoryReader::new(alloc, log.len())?;
     for (_, entry) in log {
         reader.follow(alloc, entry)?;
     }
