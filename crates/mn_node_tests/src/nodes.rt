@@ -243,7 +243,7 @@ const IT_IS_DECIDED: &[Said] = &[
     (Decide(0, 1, true), "Decided"),
     (
         Peek(20_480, 1),
-        "Peeked { bytes: SharedBytes { block: b\"a\" } }",
+        "Peeked { bytes: SharedBytes { bytes: [97] } }",
     ),
     (
         Prepare(1, 5, Compare(20_480, 0)),
@@ -298,7 +298,7 @@ const TWO_IDS: &[Said] = &[
 const ONE_HAS_ENDED: &[Said] = &[
     (
         Peek(20_480, 3),
-        "Peeked { bytes: SharedBytes { block: b\"ac\\0\" } }",
+        "Peeked { bytes: SharedBytes { bytes: [97, 99, 0] } }",
     ),
     (
         List,
@@ -425,8 +425,8 @@ fn comes_back(alloc: Global, stop: StopAt, there: bool, byte: &str) -> Result<bo
 
 #[test]
 fn a_restart_tells_whether_the_record_is_there(rt: HostRuntime) -> Result<(), Fail> {
-    let before = "Peeked { bytes: SharedBytes { block: b\"\\0\" } }";
-    let after = "Peeked { bytes: SharedBytes { block: b\"b\" } }";
+    let before = "Peeked { bytes: SharedBytes { bytes: [0] } }";
+    let after = "Peeked { bytes: SharedBytes { bytes: [98] } }";
     for (stop, there, byte) in [
         (StopAt::Before, false, before),
         (StopAt::Half, false, before),
