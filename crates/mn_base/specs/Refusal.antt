@@ -35,7 +35,7 @@ RefusesSteps count Empty = ⊥
 RefusesSteps count (TooLong n) = ⊥
 RefusesSteps count (BadName at) = ⊥
 RefusesSteps count (BadSteps n) = (n ≡ count) × ((n ≡ 0) ⊎ (16 < n))
-RefusesSteps count NoMemory = Unit {0}
+RefusesSteps count NoMemory = ⊥
 
 -- the number of a refusal; want of memory has none and gives 0
 abbrev pub code_of : BaseError → ℕ

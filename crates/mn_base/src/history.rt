@@ -1,6 +1,6 @@
 ghost use Rattle.std.specs.Prelude.{◌≡◌};
 
-use crate::{ClientNo, Op, Reply};
+use crate::{ClientNo, Reply, SharedOp};
 use std::marker::Model;
 
 /// An operation that took effect or was replied to: who asked for it, its number among this
@@ -9,7 +9,7 @@ use std::marker::Model;
 pub struct Past {
     pub client: ClientNo,
     pub number: u32,
-    pub op: Op,
+    pub op: SharedOp,
     pub reply: Reply,
 }
 

@@ -1,3 +1,6 @@
+ghost use Rattle.std.specs.Prelude.{◌≡◌};
+ghost use Rattle.mn_base.specs.Ids.{tid_lt};
+
 /// The number of a memory node, from 0.
 #[derive(Clone, Copy, Debug, Default, PartialEq, Eq, PartialOrd, Ord)]
 pub struct NodeNo(pub u8);
@@ -26,6 +29,21 @@ pub struct Tid {
     pub run: u32,
     pub client: ClientNo,
     pub serial: u32,
+}
+
+impl Tid {
+    /// It comes before the other.
+    pub fn precedes(self, other: Tid) -> bool
+        ensures { result ≡ tid_lt self other }
+    {
+        if self.run != other.run {
+            return self.run < other.run;
+        }
+        if self.client.0 != other.client.0 {
+            return self.client.0 < other.client.0;
+        }
+        self.serial < other.serial
+    }
 }
 
 /// Bytes of a node's space: the place of the first, and how many.

@@ -15,6 +15,7 @@ mod name;
 mod numbers;
 mod op;
 mod reply;
+mod shared_op;
 mod value;
 
 pub use answer::{Answer, Busy};
@@ -29,5 +30,6 @@ pub use laws::{frozen_stays, history_goes_on, store_stays};
 pub use name::{MAX_NAME, Name};
 pub use numbers::{Counts, Nodes, Slots};
 pub use op::{MAX_STEPS, Op, Step, Steps};
-pub use reply::{Founds, Listing, Pair, Pairs, Reply, Version};
+pub use reply::{Found, Founds, Listing, Pair, Pairs, Reply, Version};
+pub use shared_op::SharedOp;
 pub use value::{MAX_VALUE, Value};

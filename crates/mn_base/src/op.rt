@@ -3,10 +3,9 @@ ghost use Rattle.std.specs.List.{list_any};
 ghost use Rattle.mn_base.specs.Refusal.{RefusesSteps};
 ghost use Rattle.mn_base.specs.Store.{is_change};
 
-use crate::{BaseError, Key, Name, NoMemory, TryCopy, Value};
+use crate::{BaseError, Key, Name, NoMemory, TryCopy, Value, copies_of};
 use std::alloc::Global;
 use std::marker::Model;
-use std::sync::Arc;
 
 /// One step of a transaction on the pairs of a version.
 #[derive(Debug, Drop)]
@@ -58,10 +57,10 @@ impl Step {
 /// The most steps of a transaction.
 pub const MAX_STEPS: usize = 16;
 
-/// The steps of a transaction, 1 to 16. Copies share one memory. Contracts see them as a list.
+/// The steps of a transaction, 1 to 16. Contracts see them as a list.
 #[derive(Debug, Drop)]
 pub struct Steps {
-    steps: Arc<Vec<Step>>,
+    steps: Vec<Step>,
 }
 
 impl Model for Steps {
@@ -71,16 +70,14 @@ impl Model for Steps {
 
     ghost Value = { List Step };
 
-    ghost view = { λ s. s.steps.value.items };
+    ghost view = { λ s. s.steps.items };
 
-    ghost invariant = { λ s. (1 ≤ length s.steps.value.items)
-        × (length s.steps.value.items ≤ MAX_STEPS) };
+    ghost invariant = { λ s. (1 ≤ length s.steps.items) × (length s.steps.items ≤ MAX_STEPS) };
 }
 
 impl Steps {
-    /// These steps. BadSteps: there are `n`, which is 0 or above 16. NoMemory: there was no memory
-    /// to count their owners.
-    pub fn new(alloc: Global, steps: Vec<Step>) -> Result<Self, BaseError>
+    /// These steps. BadSteps: there are `n`, which is 0 or above 16. It takes no memory.
+    pub fn new(steps: Vec<Step>) -> Result<Self, BaseError>
         ensures ok { IfOk result (λ list. list ≡ steps.items) }
         ensures within { OnOk result ((1 ≤ length steps.items) × (length steps.items ≤ MAX_STEPS)) }
         ensures refused { IfErr result (RefusesSteps (length steps.items)) }
@@ -89,16 +86,14 @@ impl Steps {
         if n == 0 || n > MAX_STEPS {
             return Err(BaseError::BadSteps { n });
         }
-        Ok(Steps {
-            steps: Arc::new(alloc, steps)?,
-        })
+        Ok(Steps { steps })
     }
 
     pub fn as_slice(&self) -> &[Step]
         ensures steps { result.now ≡ self.now }
         ensures within { (1 ≤ length self.now) × (length self.now ≤ MAX_STEPS) }
     {
-        self.steps.as_slice()
+        &self.steps
     }
 
     /// Whether some step is a Put or a Del.
@@ -116,9 +111,9 @@ impl Steps {
 }
 
 impl TryCopy for Steps {
-    fn try_copy(&self, _alloc: Global) -> Result<Self, NoMemory> {
+    fn try_copy(&self, alloc: Global) -> Result<Self, NoMemory> {
         Ok(Steps {
-            steps: Arc::try_clone(&self.steps)?,
+            steps: copies_of(alloc, &self.steps)?,
         })
     }
 }

@@ -1,4 +1,4 @@
-ghost use Rattle.std.specs.Prelude.{◌≡◌};
+ghost use Rattle.std.specs.Prelude.{◌≡◌, option_map, IfOk};
 
 use crate::{Key, Name, NoMemory, TryCopy, Value, copies_of};
 use std::alloc::Global;
@@ -35,6 +35,55 @@ impl TryCopy for Version {
             parent: self.parent.try_copy(alloc)?,
             frozen: self.frozen,
         })
+    }
+}
+
+/// The value that a Check found, or none. It lies in memory of its own, since a reply that has one
+/// is rare. Contracts see it as an option.
+#[derive(Debug, Drop)]
+pub struct Found {
+    value: Option<Box<Value>>,
+}
+
+impl Model for Found {
+    ghost use Rattle.std.specs.Prelude.{ℕ, List, Option, option_map};
+
+    ghost Value = { Option (List ℕ) };
+
+    ghost view = { λ f. option_map (λ b. b.value) f.value };
+}
+
+impl Found {
+    /// NoMemory: there was no memory for the value.
+    pub fn new(alloc: Global, value: Option<Value>) -> Result<Self, NoMemory>
+        ensures { IfOk result (λ found. found ≡ value) }
+    {
+        match value {
+            Some(value) => Ok(Found {
+                value: Some(Box::new(alloc, value)?),
+            }),
+            None => Ok(Found { value: None }),
+        }
+    }
+
+    pub fn get(&self) -> Option<&Value>
+        ensures { option_map (λ v. v.now) result ≡ self.now }
+    {
+        match &self.value {
+            Some(value) => Some(value),
+            None => None,
+        }
+    }
+}
+
+impl TryCopy for Found {
+    fn try_copy(&self, alloc: Global) -> Result<Self, NoMemory> {
+        match &self.value {
+            Some(value) => Ok(Found {
+                value: Some(Box::new(alloc, value.try_copy(alloc)?)?),
+            }),
+            None => Ok(Found { value: None }),
+        }
     }
 }
 
@@ -175,7 +224,7 @@ pub enum Reply {
     /// A transaction ran; what its Gets found.
     Values { found: Founds },
     /// Step `step` (from 1) was the first Check that wasn't met; nothing has changed.
-    Unmet { step: u8, found: Option<Value> },
+    Unmet { step: u8, found: Found },
     /// The child was made.
     Made,
     Pairs { pairs: Pairs },

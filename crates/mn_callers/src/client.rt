@@ -26,7 +26,7 @@ ghost use Rattle.mn_callers.specs.Steps.{Adds, KeepsList, own_entry};
 use crate::points::{has_met_kill, note, stop_due};
 use crate::transport::Transport;
 use mn_actors::Pass;
-use mn_base::{Answer, ClientNo, NoMemory, NodeNo, Op, Tid, TryCopy};
+use mn_base::{Answer, ClientNo, NoMemory, NodeNo, SharedOp, Tid, TryCopy};
 use mn_hist::{may_stop, none_met};
 use mn_mini::{Item, Minitransaction, NodeReply, Request};
 use mn_proxy::{Proxy, ProxyStep};
@@ -181,7 +181,7 @@ impl Client {
     }
 
     /// Whether an operation is under way or left, and the client lives.
-    fn has_work(&self, points: &[Point], ops: &[Op]) -> bool
+    fn has_work(&self, points: &[Point], ops: &[SharedOp]) -> bool
         requires { self.now.met.items ≡ points_met points.now (past_of self.now) }
         ensures left { result ≡ true → self.now.due ≡ None → self.now.begun < length ops.now }
         ensures lives { result ≡ true → self.now.due ≡ None
@@ -411,7 +411,7 @@ impl Client {
         table: &mut X,
         pass: &mut Pass<CoreLaw>,
         points: &[Point],
-        op: &Op,
+        op: &SharedOp,
     ) -> Result<(), NoMemory>
         requires turn { HasTurn X.board (X.ready table.old) (hand_of pass.old self.old.list) }
         requires client { IsClient X.start points.now self.old }
@@ -444,7 +444,7 @@ impl Client {
         table: &mut X,
         pass: &mut Pass<CoreLaw>,
         points: &[Point],
-        ops: &[Op],
+        ops: &[SharedOp],
     ) -> Result<(), NoMemory>
         requires turn { HasTurn X.board (X.ready table.old) (hand_of pass.old self.old.list) }
         requires client { IsClient X.start points.now self.old }
@@ -630,7 +630,7 @@ impl Client {
         table: &mut X,
         pass: &mut Pass<CoreLaw>,
         points: &[Point],
-        ops: &[Op],
+        ops: &[SharedOp],
     ) -> Result<(), NoMemory>
         requires turn { HasTurn X.board (X.ready table.old) (hand_of pass.old self.old.list) }
         requires client { IsClient X.start points.now self.old }
@@ -658,7 +658,7 @@ impl Client {
         table: &mut X,
         pass: &mut Pass<CoreLaw>,
         points: &[Point],
-        ops: &[Op],
+        ops: &[SharedOp],
     ) -> Result<(), NoMemory>
         requires turn { HasTurn X.board (X.ready table.old) (hand_of pass.old self.old.list) }
         requires client { IsClient X.start points.now self.old }
@@ -689,7 +689,7 @@ impl Client {
         table: &mut X,
         pass: &mut Pass<CoreLaw>,
         points: &[Point],
-        ops: &[Op],
+        ops: &[SharedOp],
     ) -> Result<(), NoMemory>
         requires turn { HasTurn X.board (X.ready table.old) (hand_of pass.old self.old.list) }
         requires client { IsClient X.start points.now self.old }
@@ -723,7 +723,7 @@ impl Client {
         table: &mut X,
         pass: &mut Pass<CoreLaw>,
         points: &[Point],
-        ops: &[Op],
+        ops: &[SharedOp],
     ) -> Result<(), NoMemory>
         requires turn { HasTurn X.board (X.ready table.old) (hand_of pass.old self.old.list) }
         requires client { IsClient X.start points.now self.old }

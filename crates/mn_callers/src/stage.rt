@@ -20,7 +20,7 @@ use crate::settle::CLOSER;
 use crate::table::Table;
 use crate::transport::Transport;
 use mn_actors::{Actor, Pass};
-use mn_base::{ClientNo, Gate, NoMemory, Op};
+use mn_base::{ClientNo, Gate, NoMemory, SharedOp};
 use mn_cell::{Named, RunCause};
 use mn_io::Disk;
 use mn_script::{Point, Script};
@@ -57,7 +57,7 @@ fn make_move<X: Transport>(
     table: &mut X,
     pass: &mut Pass<CoreLaw>,
     points: &[Point],
-    ops: &[Op],
+    ops: &[SharedOp],
     what: Move,
 ) -> Result<(), NoMemory>
     requires turn { HasTurn X.board (X.ready table.old) (hand_of pass.old caller.old.list) }

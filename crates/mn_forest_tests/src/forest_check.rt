@@ -125,7 +125,7 @@ fn get(alloc: Global, key: &[u8]) -> Result<Op, Fail> {
     })?;
     Ok(Op::Tx {
         version: Name::new(alloc, b"main")?,
-        steps: Steps::new(alloc, steps)?,
+        steps: Steps::new(steps)?,
     })
 }
 

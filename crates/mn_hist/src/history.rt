@@ -33,7 +33,7 @@ ghost use Rattle.mn_world.specs.OneHistory.{IsOneHistory};
 ghost use Rattle.mn_world.specs.Run.{entries_of};
 
 use crate::shown::{KnownCatalog, Read, shows};
-use mn_base::{Answer, ClientNo, History, NoMemory, Op, Past, Reply, Tid, TryCopy};
+use mn_base::{Answer, ClientNo, History, NoMemory, Op, Past, Reply, SharedOp, Tid, TryCopy};
 use mn_mini::{Item, Minitransaction};
 use mn_plain::Store;
 use mn_world::{
@@ -70,7 +70,7 @@ impl<'a> Model for Noted<'a> {
 #[derive(Drop)]
 struct Begun<'a> {
     number: u32,
-    op: &'a Op,
+    op: &'a SharedOp,
 }
 
 impl<'a> Model for Begun<'a> {
@@ -246,7 +246,7 @@ impl<'a> Model for Planner<'a> {
 pub struct Act<'a> {
     pub client: ClientNo,
     pub number: u32,
-    pub op: &'a Op,
+    pub op: &'a SharedOp,
     /// Where it is false, the operation changes no store.
     may_change: bool,
 }
@@ -414,12 +414,12 @@ fn take_answer<'a>(
     if is_standing(standing, client, begun.number) {
         return Ok(());
     }
-    let place = read_place(alloc, &caller.notes, begun.op, reply)?;
+    let place = read_place(alloc, &caller.notes, begun.op.get(), reply)?;
     let act = Act {
         client,
         number: begun.number,
         op: begun.op,
-        may_change: may_change(begun.op),
+        may_change: may_change(begun.op.get()),
     };
     put(slots, place, act)?;
     note_standing(standing, client, begun.number)
@@ -636,7 +636,7 @@ fn done(alloc: Global, store: &mut Store, act: &Act<'_>) -> Result<Past, NoMemor
     ensures store { OnOk result (store.new ≡ (applied store.old act.now.op).store) }
 {
     let op = act.op.try_copy(alloc)?;
-    let reply = store.apply(alloc, act.op)?;
+    let reply = store.apply(alloc, act.op.get())?;
     Ok(Past {
         client: act.client,
         number: act.number,
@@ -669,7 +669,7 @@ fn follow(alloc: Global, store: &mut Store, act: &Act<'_>) -> Result<(), NoMemor
     ensures { OnOk result (store.new ≡ (applied store.old act.now.op).store) }
 {
     if act.may_change {
-        let _reply = store.apply(alloc, act.op)?;
+        let _reply = store.apply(alloc, act.op.get())?;
     }
     Ok(())
 }

@@ -2,7 +2,7 @@
 //! is reported of it.
 use mn_base::{
     Addr, Answer, Bytes, ClientNo, Founds, History, Key, Name, NodeNo, Nodes, Op, Past, Reply,
-    Step, Steps, StopAt, Tid, Value,
+    SharedOp, Step, Steps, StopAt, Tid, Value,
 };
 use mn_hist::{audit, history_of};
 use mn_mini::{Item, Items, Minitransaction, NodeReply, ReadBytes, Reads, Request, SharedBytes};
@@ -55,7 +55,7 @@ fn swap(alloc: Global, value: &[u8]) -> Result<Op, Fail> {
     })?;
     Ok(Op::Tx {
         version: Name::new(alloc, b"main")?,
-        steps: Steps::new(alloc, steps)?,
+        steps: Steps::new(steps)?,
     })
 }
 
@@ -194,7 +194,7 @@ const WORKED: &[Logged] = &[
 ];
 
 fn begun(alloc: Global, client: u8) -> Result<Entry, Fail> {
-    let op = op_of(alloc, client)?;
+    let op = SharedOp::new(alloc, op_of(alloc, client)?)?;
     Ok(own(client, What::Begin { number: 1, op }))
 }
 

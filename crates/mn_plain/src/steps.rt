@@ -5,7 +5,7 @@ ghost use Rattle.mn_plain.specs.Run.{pairs_after, left_by, StepTells, pairs_left
 ghost use Rattle.mn_plain.specs.Table.{shown};
 
 use crate::table::{Table, find};
-use mn_base::{Founds, Key, NoMemory, Reply, Step, TryCopy, Value};
+use mn_base::{Found, Founds, Key, NoMemory, Reply, Step, TryCopy, Value};
 use std::alloc::Global;
 
 /// What a key has after a step, when it had this before.
@@ -111,7 +111,7 @@ pub fn reply_to(alloc: Global, table: &Table, steps: &[Step]) -> Result<Reply, N
         if let Some(found) = note(alloc, table, &steps[..at], step, &mut values)? {
             return Ok(Reply::Unmet {
                 step: (at + 1) as u8,
-                found,
+                found: Found::new(alloc, found)?,
             });
         }
     }

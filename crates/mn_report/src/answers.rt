@@ -1,4 +1,4 @@
-ghost use Rattle.std.specs.Prelude.{◌≡◌, ◌<◌, ◌++◌, length, flat_map, slice_index, OnOk};
+ghost use Rattle.std.specs.Prelude.{◌≡◌, ◌<◌, ◌++◌, length, flat_map, option_map, slice_index, OnOk};
 ghost use Rattle.mn_report.specs.Spelling.{spaced, hex_byte};
 ghost use Rattle.mn_report.specs.Answers.{found_text, name_text, state_text, id_text, pair_text};
 ghost use Rattle.mn_report.specs.Answers.{version_text, reply_text, same_before, both_text};
@@ -18,8 +18,9 @@ pub fn push_spaced(out: &mut Vec<u8>, text: &[u8]) -> Result<(), AllocError>
     out.extend_from_slice(text)
 }
 
-fn push_found(out: &mut Vec<u8>, found: &Option<Value>) -> Result<(), AllocError>
-    ensures { OnOk result (out.new.items ≡ out.old.items ++ spaced (found_text found.now)) }
+fn push_found(out: &mut Vec<u8>, found: Option<&Value>) -> Result<(), AllocError>
+    ensures { OnOk result (out.new.items ≡ out.old.items
+        ++ spaced (found_text (option_map (λ v. v.now) found.entry))) }
 {
     out.push(b' ')?;
     match found {
@@ -39,7 +40,7 @@ fn push_all_found(out: &mut Vec<u8>, found: &[Option<Value>]) -> Result<(), Allo
         ≡ out.old.items ++ flat_map (λ f. spaced (found_text f)) found.now) }
 {
     for value in found {
-        push_found(out, value)?;
+        push_found(out, value.as_ref())?;
     }
     Ok(())
 }
@@ -121,7 +122,7 @@ fn push_reply(out: &mut Vec<u8>, reply: &Reply) -> Result<(), AllocError>
         Reply::Unmet { step, found } => {
             out.extend_from_slice(b"unmet")?;
             push_spaced_number(out, u64::from(*step))?;
-            push_found(out, found)
+            push_found(out, found.get())
         }
         Reply::Made => out.extend_from_slice(b"made"),
         Reply::Pairs { pairs } => {

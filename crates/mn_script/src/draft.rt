@@ -21,7 +21,7 @@ use crate::points::{kill_of, stop_of};
 use crate::roster::Roster;
 use crate::script::Script;
 use crate::words::{end, name, next, number, word, wrong};
-use mn_base::{Name, Op};
+use mn_base::{Name, Op, SharedOp};
 use std::alloc::Global;
 use std::marker::Model;
 
@@ -126,13 +126,14 @@ impl Draft {
 
     /// Adds an operation, for which there is room, to the last client.
     #[inline(always)]
-    fn push_op(&mut self, op: Op) -> Result<(), LineError>
+    fn push_op(&mut self, op: SharedOp) -> Result<(), LineError>
         requires some { 1 ≤ length self.old.clients }
         requires room { IsTrue (fits_op self.old op) }
         ensures { GivesDraft result self.new (add_op self.old op) }
     {
-        let steps = steps_of(&op) as u32;
-        let limit = limit_of(&op);
+        let asked = op.get();
+        let steps = steps_of(asked) as u32;
+        let limit = limit_of(asked);
         self.clients.push_op(op)?;
         self.ops += 1;
         self.steps += steps;
@@ -142,11 +143,11 @@ impl Draft {
 
     /// Adds an operation to the last client.
     #[inline(always)]
-    fn add_op(&mut self, op: Op) -> Result<(), LineError>
+    fn add_op(&mut self, op: SharedOp) -> Result<(), LineError>
         requires { 1 ≤ length self.old.clients }
         ensures { GivesDraft result self.new (add_op self.old op) }
     {
-        if !self.has_room(&op) {
+        if !self.has_room(op.get()) {
             return Err(LineError::Wrong { column: 1 });
         }
         self.push_op(op)
@@ -158,7 +159,7 @@ impl Draft {
         ensures { GivesDraft result self.new (op_line self.old line.now) }
     {
         let op = op_of(alloc, line)?;
-        self.add_op(op)
+        self.add_op(SharedOp::new(alloc, op)?)
     }
 
     /// A name that no client has yet.

@@ -1,7 +1,7 @@
 ghost use Rattle.std.specs.Prelude.{◌≡◌, [], ◌∷◌, ◌++◌, OnOk, OnErr};
 
 use crate::elements::{Act, Point, ScriptClient};
-use mn_base::{NoMemory, Op};
+use mn_base::{NoMemory, SharedOp};
 use std::marker::Model;
 
 /// The clients in order of number. Contracts see them as a list.
@@ -43,7 +43,7 @@ impl Clients {
 /// A client's operations in order. Contracts see them as a list.
 #[derive(Debug, Drop)]
 pub struct Ops {
-    ops: Vec<Op>,
+    ops: Vec<SharedOp>,
 }
 
 impl Model for Ops {
@@ -57,26 +57,26 @@ impl Model for Ops {
 
 impl Ops {
     /// It takes no memory.
-    pub fn from_vec(ops: Vec<Op>) -> Self
+    pub fn from_vec(ops: Vec<SharedOp>) -> Self
         ensures { result ≡ ops.items }
     {
         Ops { ops }
     }
 
-    pub fn into_vec(self) -> Vec<Op>
+    pub fn into_vec(self) -> Vec<SharedOp>
         ensures { result.items ≡ self }
     {
         self.ops
     }
 
-    pub fn as_slice(&self) -> &[Op]
+    pub fn as_slice(&self) -> &[SharedOp]
         ensures { result.now ≡ self.now }
     {
         &self.ops
     }
 
     /// Adds an operation at the end. NoMemory: there was no memory for it; nothing is changed.
-    pub fn push(&mut self, op: Op) -> Result<(), NoMemory>
+    pub fn push(&mut self, op: SharedOp) -> Result<(), NoMemory>
         ensures ok { OnOk result (self.new ≡ self.old ++ op ∷ []) }
         ensures kept { OnErr result (self.new ≡ self.old) }
     {

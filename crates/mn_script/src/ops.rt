@@ -16,13 +16,13 @@ fn one_step(alloc: Global, version: Name, step: Step) -> Result<Op, NoMemory>
 {
     let mut steps = Vec::new(alloc);
     steps.push(step)?;
-    match Steps::new(alloc, steps) {
+    match Steps::new(steps) {
         Ok(steps) => Ok(Op::Tx { version, steps }),
         Err(BaseError::BadSteps { .. }) => unreachable!(),
         Err(BaseError::Empty) => unreachable!(),
         Err(BaseError::TooLong { .. }) => unreachable!(),
         Err(BaseError::BadName { .. }) => unreachable!(),
-        Err(BaseError::NoMemory) => Err(NoMemory),
+        Err(BaseError::NoMemory) => unreachable!(),
     }
 }
 
@@ -47,16 +47,16 @@ fn ended(line: &[u8], at: usize, op: Op) -> Result<Op, LineError>
 }
 
 /// A transaction of these steps, of which there is at least one.
-fn transaction(alloc: Global, version: Name, steps: Vec<Step>) -> Result<Op, LineError>
+fn transaction(version: Name, steps: Vec<Step>) -> Result<Op, LineError>
     ensures { Gives result (few_steps version steps.items) }
 {
-    match Steps::new(alloc, steps) {
+    match Steps::new(steps) {
         Ok(steps) => Ok(Op::Tx { version, steps }),
         Err(BaseError::BadSteps { .. }) => Err(LineError::Wrong { column: 1 }),
         Err(BaseError::Empty) => unreachable!(),
         Err(BaseError::TooLong { .. }) => unreachable!(),
         Err(BaseError::BadName { .. }) => unreachable!(),
-        Err(BaseError::NoMemory) => Err(LineError::NoMemory),
+        Err(BaseError::NoMemory) => unreachable!(),
     }
 }
 
@@ -68,7 +68,7 @@ fn tx_of(alloc: Global, line: &[u8], at: usize) -> Result<Op, LineError>
     let mut at = at;
     let version = name(alloc, line, &mut at)?;
     let steps = steps(alloc, line, at)?;
-    transaction(alloc, version, steps)
+    transaction(version, steps)
 }
 
 #[tactic(auto, unfolding(crate::specs::Lines::put_op))]

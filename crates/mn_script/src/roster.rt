@@ -6,7 +6,7 @@ ghost use Rattle.mn_script.specs.Reading.{with_op};
 use crate::elements::{Mark, ScriptClient};
 use crate::error::LineError;
 use crate::lists::Ops;
-use mn_base::{Name, Op};
+use mn_base::{Name, SharedOp};
 use std::alloc::Global;
 use std::collections::BTreeMap;
 use std::marker::Model;
@@ -32,7 +32,7 @@ impl Model for Roster {
 
 /// Adds an operation to the last client.
 #[inline(always)]
-fn push_op(clients: &mut Vec<ScriptClient>, op: Op) -> Result<(), LineError>
+fn push_op(clients: &mut Vec<ScriptClient>, op: SharedOp) -> Result<(), LineError>
     requires { 1 ≤ length clients.old.items }
     ensures added { OnOk result (clients.new.items ≡ with_op clients.old.items op) }
     ensures kept { OnErr result (clients.new.items ≡ clients.old.items) }
@@ -95,7 +95,7 @@ impl Roster {
 
     /// Adds an operation to the last client. After want of memory the clients are as before.
     #[inline(always)]
-    pub fn push_op(&mut self, op: Op) -> Result<(), LineError>
+    pub fn push_op(&mut self, op: SharedOp) -> Result<(), LineError>
         requires { 1 ≤ length self.old }
         ensures added { OnOk result (self.new ≡ with_op self.old op) }
         ensures kept { OnErr result (self.new ≡ self.old) }

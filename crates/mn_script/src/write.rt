@@ -9,7 +9,7 @@ ghost use Rattle.mn_script.specs.Grammar.{head_text, schedule_text, script_text}
 
 use crate::elements::{Act, Mark, Point, ScriptClient};
 use crate::script::Script;
-use mn_base::{Bytes, ClientNo, Key, Name, NoMemory, Op, Step, StopAt, Value};
+use mn_base::{Bytes, ClientNo, Key, Name, NoMemory, Op, SharedOp, Step, StopAt, Value};
 use mn_report::{push_spaced_number, push_word};
 use std::alloc::{AllocError, Global};
 
@@ -164,12 +164,12 @@ fn push_op(out: &mut Vec<u8>, op: &Op) -> Result<(), AllocError>
     }
 }
 
-fn push_ops(out: &mut Vec<u8>, ops: &[Op]) -> Result<(), AllocError>
+fn push_ops(out: &mut Vec<u8>, ops: &[SharedOp]) -> Result<(), AllocError>
     ensures { OnOk result (out.new.items
         ≡ out.old.items ++ flat_map (λ op. line (op_text op)) ops.now) }
 {
     for op in ops {
-        push_op(out, op)?;
+        push_op(out, op.get())?;
         out.push(b'\n')?;
     }
     Ok(())

@@ -38,7 +38,7 @@ fn k_is(alloc: Global, value: &[u8]) -> Result<Steps, Fail> {
         key: Key::new(alloc, b"k")?,
         value: Value::new(alloc, value)?,
     })?;
-    Ok(Steps::new(alloc, steps)?)
+    Ok(Steps::new(steps)?)
 }
 
 /// Puts this value at `k` in a version.

@@ -32,7 +32,7 @@ use crate::next::{Next, Taken, full, worn};
 use crate::seen::{is_leaf, page_in};
 use mn_alloc::{AllocError, plan_slots};
 use mn_base::{
-    Addr, Busy, Counts, Founds, Key, NoMemory, NodeNo, Reply, Step, Steps, TryCopy, Value,
+    Addr, Busy, Counts, Found, Founds, Key, NoMemory, NodeNo, Reply, Step, Steps, TryCopy, Value,
     VersionNo,
 };
 use mn_mini::SharedBytes;
@@ -451,7 +451,7 @@ impl Attempt {
             mini,
             reply: Reply::Unmet {
                 step: self.done as u8 + 1,
-                found,
+                found: Found::new(alloc, found)?,
             },
         })
     }

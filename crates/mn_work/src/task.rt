@@ -4,7 +4,7 @@ ghost use Rattle.mn_work.specs.Lent.{LendsWork};
 ghost use Rattle.mn_work.specs.Works.{new_work};
 
 use crate::work::Work;
-use mn_base::{NoMemory, Op};
+use mn_base::{NoMemory, SharedOp};
 use std::alloc::Global;
 use std::marker::Model;
 
@@ -33,7 +33,7 @@ impl Model for Task {
 
 impl Task {
     /// An operation that has begun. NoMemory: there was no memory for it.
-    pub fn new(alloc: Global, op: Op) -> Result<Self, NoMemory>
+    pub fn new(alloc: Global, op: SharedOp) -> Result<Self, NoMemory>
         ensures { IfOk result (λ task. task ≡ new_work op) }
     {
         Ok(Task {

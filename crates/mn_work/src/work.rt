@@ -27,7 +27,9 @@ use crate::known::Known;
 use crate::next::{Next, Taken, fault_at};
 use crate::place::CATALOG_NODE;
 use crate::scan;
-use mn_base::{Addr, Answer, Key, Name, NoMemory, Op, Reply, Step, Steps, TryCopy, VersionNo};
+use mn_base::{
+    Addr, Answer, Key, Name, NoMemory, Op, Reply, SharedOp, Step, Steps, TryCopy, VersionNo,
+};
 use mn_mini::SharedBytes;
 use mn_scan::ScanRun;
 use std::alloc::Global;
@@ -62,7 +64,7 @@ pub enum Started {
 /// An operation under way.
 #[derive(Debug)]
 pub struct Work {
-    pub op: Op,
+    pub op: SharedOp,
     /// How many tries have failed; of a scan, since its last leaf.
     pub failed: u8,
     /// Whether a catalog that was read was none.
@@ -110,7 +112,7 @@ fn version_of(op: &Op) -> Option<&Name>
 impl Work {
     /// An operation that has begun.
     #[inline(always)]
-    pub fn new(op: Op) -> Self
+    pub fn new(op: SharedOp) -> Self
         ensures { result ≡ new_work op }
     {
         Work {
@@ -145,7 +147,7 @@ impl Work {
         ensures { result ≡ lacks_catalog known.now.catalog self.now }
     {
         match &self.job {
-            Job::Start => known.lacks_catalog(&self.op),
+            Job::Start => known.lacks_catalog(self.op.get()),
             _ => known.catalog.is_none(),
         }
     }
@@ -196,7 +198,7 @@ impl Work {
         let Some(kept) = &known.catalog else {
             return Err(NoMemory);
         };
-        let Some(name) = version_of(&self.op) else {
+        let Some(name) = version_of(self.op.get()) else {
             return Ok(Started::Replies {
                 reply: Reply::Listing {
                     versions: listing_of(alloc, kept)?,
@@ -213,7 +215,7 @@ impl Work {
             return Ok(Started::Moved);
         }
         kept.has_entries();
-        has_right_steps(&self.op);
+        has_right_steps(self.op.get());
         self.job = self.job_on(alloc, kept, version, root)?;
         Ok(Started::On)
     }
@@ -231,7 +233,7 @@ impl Work {
         requires within { length kept.now ≤ 64 }
         ensures { IfOk result (BeginsJob kept.now self.now version root) }
     {
-        match &self.op {
+        match self.op.get() {
             Op::Tx { steps, .. } => {
                 if lone_get(steps).is_some() {
                     return Ok(Job::Get {
@@ -281,7 +283,7 @@ impl Work {
             → IfOk result (WantsLeaf leaf self.new) }
     {
         let later = self.is_later();
-        match (&mut self.job, &self.op) {
+        match (&mut self.job, self.op.get()) {
             (Job::Get { descent }, Op::Tx { steps, .. }) => match lone_get(steps) {
                 Some(key) => Ok(descent.advance(known, key, later)),
                 None => unreachable!(),
@@ -344,7 +346,7 @@ impl Work {
                 cause: fault_at(addr, 0),
             });
         }
-        if let Some(reply) = known.refusal(&self.op) {
+        if let Some(reply) = known.refusal(self.op.get()) {
             return Ok(Taken::Replies { reply });
         }
         match self.start(alloc, known)? {
@@ -371,7 +373,7 @@ impl Work {
         ensures taken { IfOk result (TakesPageBytes known.old addr bytes self.old self.new) }
     {
         let later = self.is_later();
-        match (&mut self.job, &self.op) {
+        match (&mut self.job, self.op.get()) {
             (Job::Get { descent }, Op::Tx { steps, .. }) => match lone_get(steps) {
                 Some(key) => descent.take_page(alloc, known, key, &bytes),
                 None => unreachable!(),

@@ -1,4 +1,4 @@
-use mn_base::{Answer, ClientNo, NoMemory, NodeNo, Op, StopAt, Tid, TryCopy};
+use mn_base::{Answer, ClientNo, NoMemory, NodeNo, SharedOp, StopAt, Tid, TryCopy};
 use mn_mini::{Minitransaction, NodeReply, Request};
 use std::alloc::Global;
 
@@ -16,7 +16,7 @@ pub enum What {
     /// The client began its operation of this number, from 1.
     Begin {
         number: u32,
-        op: Op,
+        op: SharedOp,
     },
     /// It issued a minitransaction under a new id.
     Issue {

@@ -1,5 +1,6 @@
 use Rattle.std.proofs.Common.{◌≡◌, ◌<◌, List, length, Some, reverse, ap, subst, sym, ◌∙◌, arith}
 use Rattle.mn_base.specs.declared.answer.Answer.{Answer}
+use Rattle.mn_base.specs.declared.op.Op.{Op}
 use Rattle.mn_world.specs.Calls.{Begun}
 use Rattle.mn_hist.specs.History.{CallerState, Note, IsNotedPlace, AnswerIsInHistory, caller_state}
 use Rattle.mn_hist.proofs.Putting.{on_ok, at_index, length_set, puts_none, idle_puts, stands_already, puts_read}
@@ -34,7 +35,8 @@ returns c = on_ok c.note_standing.result c.note_standing.ensures (λ more past p
     (puts_read past c.args.client (record { number = c.begun.inside.number; op = c.begun.inside.op.now }) c.in-Replied.reply placed c.args.standing.now c.note_standing.new.standing c.args.slots.now.items c.put.new.slots.items c.in_ok-place.place
     (sym (ap (λ (s : CallerState). s.begun) (c.caller.view_is ∙ same)) ∙ (c.in-Some.is ∙ ap Some (sym c.begun.view_is)))
     (sym (st c.args.client c.begun.inside.number) ∙ (sym c.is_standing.ensures ∙ c.if-is_standing.false))
-    (subst (λ (ns : List Note). IsNotedPlace ns c.begun.inside.op.now c.in-Replied.reply c.in_ok-place.place) (ap reverse c.deref.ensures.value ∙ ap (λ (s : CallerState). s.notes) (c.caller.view_is ∙ same)) c.in_ok-place.ensures)
+    (subst (λ (ns : List Note). IsNotedPlace ns c.begun.inside.op.now c.in-Replied.reply c.in_ok-place.place) (ap reverse c.deref.ensures.value ∙ ap (λ (s : CallerState). s.notes) (c.caller.view_is ∙ same))
+    (subst (λ (o : Op). IsNotedPlace (reverse c.deref.result.now) o c.in-Replied.reply c.in_ok-place.place) c.get.ensures c.in_ok-place.ensures))
     st fills c.in_ok-put.ensures
     (ap length c.in_ok-put.ensures.1 ∙ length_set c.args.slots.now.items c.in_ok-place.place (Some (record { client = c.args.client; number = c.begun.inside.number; op = c.begun.inside.op.now })))
     more))

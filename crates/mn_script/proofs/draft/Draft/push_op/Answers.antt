@@ -1,7 +1,8 @@
-use Rattle.std.proofs.Common.{◌≡◌, true, sym, subst, List, arith}
+use Rattle.std.proofs.Common.{◌≡◌, true, ap, sym, subst, List, arith}
 use Rattle.mn_script.specs.declared.elements.ScriptClient.{ScriptClient}
 use Rattle.mn_script.specs.Lines.{AreFew}
 use Rattle.mn_script.specs.Reading.{Draft, HasClient, fits_op}
+use Rattle.mn_script.specs.Script.{limit_in, steps_in}
 use Rattle.mn_script.proofs.ClientLemmas.{few_with_op, has_client_with_op, room_for}
 use Rattle.mn_script.proofs.draft.Draft.push_op.Goals as goal
 
@@ -26,6 +27,6 @@ invariant_of-self-2 c =
       subst AreFew (sym c.in_ok-push_op.ensures.added) (few_with_op clients op old.0 room.0),
       subst (λ (l : List ScriptClient). HasClient c.self.inside.phase l) (sym c.in_ok-push_op.ensures.added) (has_client_with_op c.self.inside.phase clients op old.1),
       omega (arith, room.1),
-      omega (arith, room.2, c.steps_of-steps.ensures.count),
-      omega (arith, room.3, c.limit_of-limit.ensures),
+      omega (arith, room.2, c.steps_of-steps.ensures.count, ap steps_in c.get-asked.ensures),
+      omega (arith, room.3, c.limit_of-limit.ensures, ap limit_in c.get-asked.ensures),
     )

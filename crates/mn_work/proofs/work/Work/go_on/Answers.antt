@@ -16,7 +16,7 @@ pub returns-in-Some-clause-path : goal.returns-in-Some-clause-path
 returns-in-Some-clause-path c = λ key d leaf first gets leads.
     let jobs : at.Get c.in-Get-Tx.descent ≡ at.Get d = sym c.in-Get-Tx.is-0 ∙ gets.job_is in
     let same : c.in-Get-Tx.descent ≡ d = cc in
-    let ops : Tx _ c.in-Get-Tx.steps ≡ Tx gets.name (Get key ∷ []) = sym c.in-Get-Tx.is-1 ∙ gets.op_is in
+    let ops : Tx _ c.in-Get-Tx.steps ≡ Tx gets.name (Get key ∷ []) = sym c.in-Get-Tx.is-1 ∙ (c.get.ensures ∙ gets.op_is) in
     let all : c.in-Get-Tx.steps ≡ Get key ∷ [] = cc in
     let keys : Some c.in-Some.key.now ≡ Some key =
     sym (ap (option_map (λ k. k.now)) c.in-Some.is) ∙ (c.lone_get.ensures ∙ ap (λ (s : List Step). lone_key s) all) in

@@ -30,8 +30,12 @@ not_lone : {X : Type 0} (f : X → List ℕ) (o : Option X) (k : Option (List �
 not_lone f None k e is = sym is
 not_lone f (Some x) k e is = absurd cc
 
+-- a Snapshot or a Branch
+abbrev MakesChild : Op → Type 0
+MakesChild op = ((x : List ℕ) × (y : List ℕ) × (op ≡ Snapshot x y)) ⊎ ((x : List ℕ) × (y : List ℕ) × (op ≡ Branch x y))
+
 begins_child : (entries : List CatEntry) (op : Op) (spoiled : Bool) (version : VersionNo) (root : Addr) (c : Child)
-    → ((x : List ℕ) × (y : List ℕ) × (op ≡ Snapshot x y)) ⊎ ((x : List ℕ) × (y : List ℕ) × (op ≡ Branch x y))
+    → MakesChild op
     → IsNewChild version root c → BeginsOn entries op spoiled version root (at.Child c)
 begins_child entries op spoiled version root c (inl is) new =
     subst (λ (p : Op). BeginsOn entries p spoiled version root (at.Child c)) (sym is.2) (c, refl, new)
@@ -40,13 +44,13 @@ begins_child entries op spoiled version root c (inr is) new =
 
 pub returns-in_ok-attempt-in-Tx : goal.returns-in_ok-attempt-in-Tx
 returns-in_ok-attempt-in-Tx c =
-    begins_steps c.args.kept.now c.args.self.now.op c.args.self.now.spoiled c.args.version c.args.root c.in-Tx.version c.in-Tx.steps c.in_ok-attempt-in-Tx.attempt _ c.in-Tx.is refl
+    begins_steps c.args.kept.now c.args.self.now.op c.args.self.now.spoiled c.args.version c.args.root c.in-Tx.version c.in-Tx.steps c.in_ok-attempt-in-Tx.attempt _ (sym c.get.ensures ∙ c.in-Tx.is) refl
     (not_lone (λ k. k.now) c.lone_get.result (lone_key c.in-Tx.steps) (sym c.is_some.ensures ∙ c.if-is_some.false) c.lone_get.ensures)
     (subst (λ (tree : List (Option ℕ)). IsBegun tree c.args.version c.args.root c.in_ok-attempt-in-Tx.attempt) c.in_ok-tree-in-Tx.ensures c.in_ok-attempt-in-Tx.ensures)
 
 pub returns-in-Snapshot : goal.returns-in-Snapshot
 returns-in-Snapshot c =
-    begins_child c.args.kept.now c.args.self.now.op c.args.self.now.spoiled c.args.version c.args.root c.new-in-Snapshot.result c.in-Snapshot.is
+    begins_child c.args.kept.now c.args.self.now.op c.args.self.now.spoiled c.args.version c.args.root c.new-in-Snapshot.result (subst MakesChild c.get.ensures c.in-Snapshot.is)
     (record {
       version_is = c.new-in-Snapshot.ensures.version;
       root_is = c.new-in-Snapshot.ensures.root;

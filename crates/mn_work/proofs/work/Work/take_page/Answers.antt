@@ -59,9 +59,9 @@ returns-in-Some-clause-taken c =
     let key = c.in-Some.key.now in
     let lone : lone_key c.in-Get-Tx.steps ≡ Some key = sym c.lone_get.ensures ∙ ap (option_map (λ k. k.now)) c.in-Some.is in
     IfOk-weaker c.take_page.result (GetTakes c.args.known.now.catalog key c.args.bytes c.in-Get-Tx.descent c.take_page.new.self) _
-    (λ taken takes. (refl, of_get c.args.known.now _ c.args.addr c.args.bytes c.args.self.now.op c.args.self.now.job _ c.in-Get-Tx.steps c.in-Get-Tx.descent c.take_page.new.self key taken c.in-Get-Tx.is-1 c.in-Get-Tx.is-0 lone takes))
+    (λ taken takes. (refl, of_get c.args.known.now _ c.args.addr c.args.bytes c.args.self.now.op c.args.self.now.job _ c.in-Get-Tx.steps c.in-Get-Tx.descent c.take_page.new.self key taken (sym c.get.ensures ∙ c.in-Get-Tx.is-1) c.in-Get-Tx.is-0 lone takes))
     (get_takes c.args.known.now c.in-Get-Tx.descent c.take_page.new.self key c.args.bytes c.take_page.result
-    (get_kept c.args.known.now c.args.self.now.op c.args.self.now.job _ c.in-Get-Tx.steps c.in-Get-Tx.descent c.in-Get-Tx.is-1 c.in-Get-Tx.is-0 c.requires.job)
+    (get_kept c.args.known.now c.args.self.now.op c.args.self.now.job _ c.in-Get-Tx.steps c.in-Get-Tx.descent (sym c.get.ensures ∙ c.in-Get-Tx.is-1) c.in-Get-Tx.is-0 c.requires.job)
     c.take_page.ensures.above c.take_page.ensures.version
     c.take_page.ensures.taken)
 
@@ -167,7 +167,7 @@ returns-in-Scan-Scan-clause-taken c =
     let after = c.take_page-in-Scan-Scan.new.scan in
     let name = c.in-Scan-Scan.version in
     IfOk-weaker c.take_page-in-Scan-Scan.result (ScanTakes c.args.known.now name c.args.addr c.args.bytes scan after) _
-    (λ taken takes. (refl, of_scan c.args.known.now _ c.args.addr c.args.bytes c.args.self.now.op c.args.self.now.job name _ _ _ scan after taken c.in-Scan-Scan.is-1 c.in-Scan-Scan.is-0 takes))
+    (λ taken takes. (refl, of_scan c.args.known.now _ c.args.addr c.args.bytes c.args.self.now.op c.args.self.now.job name _ _ _ scan after taken (sym c.get.ensures ∙ c.in-Scan-Scan.is-1) c.in-Scan-Scan.is-0 takes))
     (scan_takes c.args.known.now name c.args.addr c.args.bytes scan after c.take_page-in-Scan-Scan.result c.take_page-in-Scan-Scan.ensures.above
     c.take_page-in-Scan-Scan.ensures.taken
     c.take_page-in-Scan-Scan.ensures.stays)
