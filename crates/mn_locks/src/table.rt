@@ -1,6 +1,6 @@
 ghost use Rattle.std.specs.Prelude.{◌≡◌, ◌≤◌, ◌<◌, ◌+◌, ◌++◌, [], length, map, IfOk, OnOk, OnErr};
 ghost use Rattle.std.specs.Prelude.{◌↔◌, IsTrue, MatchResult, Some, None, vec_len, vec_capacity};
-ghost use Rattle.mn_base.specs.Ids.{tid_same, tid_lt};
+ghost use Rattle.mn_base.specs.Ids.{tid_same};
 ghost use Rattle.mn_base.specs.Ranges.{ranges_meet, least_tid, lesser_tid};
 ghost use Rattle.mn_locks.specs.Locks.{conflicts, holders, first_held, held_of, hold_of, holds_of};
 ghost use Rattle.mn_locks.specs.Locks.{without};
@@ -39,19 +39,6 @@ fn is_same(a: Tid, b: Tid) -> bool
     a.run == b.run && a.client.0 == b.client.0 && a.serial == b.serial
 }
 
-/// The first id comes before the second.
-fn precedes(a: Tid, b: Tid) -> bool
-    ensures { result ≡ tid_lt a b }
-{
-    if a.run != b.run {
-        return a.run < b.run;
-    }
-    if a.client.0 != b.client.0 {
-        return a.client.0 < b.client.0;
-    }
-    a.serial < b.serial
-}
-
 /// The ranges have a byte in common, which an empty range has with none.
 fn meet(a: Range, b: Range) -> bool
     ensures { result ≡ ranges_meet a b }
@@ -74,7 +61,7 @@ fn lesser(tid: Tid, other: Option<Tid>) -> Tid
     ensures { result ≡ lesser_tid tid other }
 {
     match other {
-        Some(other) if precedes(other, tid) => other,
+        Some(other) if other.precedes(tid) => other,
         _ => tid,
     }
 }

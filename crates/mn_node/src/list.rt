@@ -1,5 +1,4 @@
 ghost use Rattle.std.specs.Prelude.{◌≡◌, reverse, IfOk, OnOk};
-ghost use Rattle.mn_base.specs.Ids.{tid_lt};
 ghost use Rattle.mn_mini.specs.Node.{HeldPart, held_parts, doubts_of, with_doubt};
 ghost use Rattle.mn_node.specs.Held.{AreHeldVotes, IsVote, IsVoteFor};
 
@@ -8,25 +7,12 @@ use mn_base::{NoMemory, Tid, TryCopy};
 use mn_mini::{Doubt, Doubts, Record};
 use std::alloc::Global;
 
-/// The first id comes before the second.
-fn precedes(a: Tid, b: Tid) -> bool
-    ensures { result ≡ tid_lt a b }
-{
-    if a.run != b.run {
-        return a.run < b.run;
-    }
-    if a.client.0 != b.client.0 {
-        return a.client.0 < b.client.0;
-    }
-    a.serial < b.serial
-}
-
 /// Puts an id in its place.
 fn place(doubts: &mut Vec<Doubt>, doubt: Doubt) -> Result<(), NoMemory>
     ensures { OnOk result (doubts.new.items ≡ with_doubt doubt doubts.old.items) }
 {
     let mut at = 0;
-    while at < doubts.len() && !precedes(doubt.tid, doubts[at].tid) {
+    while at < doubts.len() && !doubt.tid.precedes(doubts[at].tid) {
         at += 1;
     }
     doubts.insert(at, doubt)?;
