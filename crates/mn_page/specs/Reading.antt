@@ -134,6 +134,9 @@ AreChildrenOf low high count children =
     (length children.1 ≡ count) × (1 ≤ count) × (count ≤ 7) × IsAddr children.0
     × IsTrue (are_ascending children.1) × AllByRecursion (IsChildWithin low high) children.1
 
+abbrev pub children_text : Addr × List Child → List ℕ
+children_text children = addr_bytes children.0 ++ flat_map child_bytes children.1
+
 -- the key and those behind it ascend, and the last is below the bound
 abbrev pub ascends_to : List ℕ → List (List ℕ) → Option (List ℕ) → Bool
 ascends_to key [] high = below_bound key high
@@ -143,9 +146,6 @@ ascends_to key (next ∷ keys) high = key_lt key next && ascends_to next keys hi
 abbrev pub pairs_fit : List ℕ → Option (List ℕ) → List Pair → Bool
 pairs_fit low high [] = true
 pairs_fit low high (p ∷ ps) = key_le low p.key && ascends_to p.key (map (λ q. q.key) ps) high
-
-abbrev pub children_text : Addr × List Child → List ℕ
-children_text children = addr_bytes children.0 ++ flat_map child_bytes children.1
 
 -- the arrays have what is counted
 pub record HasCounted (b : BodyRef) : Type 0 where

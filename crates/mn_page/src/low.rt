@@ -1,7 +1,7 @@
 ghost use Rattle.std.specs.Prelude.{◌≡◌, ◌<◌, None, IfSome, length};
 
 use crate::key_room::ShortKey;
-use mn_base::{NoMemory, TryCopy};
+use mn_base::{Key, NoMemory, TryCopy};
 use std::alloc::Global;
 use std::marker::Model;
 
@@ -30,6 +30,17 @@ impl Low {
         match ShortKey::try_from(bytes) {
             Ok(bytes) => Some(Low { bytes }),
             Err(_) => None,
+        }
+    }
+
+    /// The bound at the key: a page's keys may be this one or above it.
+    #[inline(always)]
+    pub fn at(key: &Key) -> Self
+        ensures { result ≡ key.now }
+    {
+        match ShortKey::try_from(key.as_slice()) {
+            Ok(bytes) => Low { bytes },
+            Err(_) => unreachable!(),
         }
     }
 

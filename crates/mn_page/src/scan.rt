@@ -1,21 +1,20 @@
 ghost use Rattle.std.specs.Prelude.{◌≡◌, ◌≤◌, ◌<◌, ◌^◌, ◌++◌, ◌∷◌, [], ℕ, List, Option, length};
-ghost use Rattle.std.specs.Prelude.{IfSome, IfNone, IsSomeAnd, IsTrue, nat_lt};
-ghost use Rattle.std.specs.List.{flat_map, list_all};
+ghost use Rattle.std.specs.Prelude.{IfSome, IsSomeAnd};
+ghost use Rattle.std.specs.List.{flat_map};
 ghost use Rattle.std.specs.Option.{option_map};
 ghost use Rattle.byteorder.specs.Endian.{big_bytes};
 ghost use Rattle.mn_base.specs.Order.{below_bound};
-ghost use Rattle.mn_base.specs.Tree.{has_version, versions_in};
+ghost use Rattle.mn_base.specs.Tree.{has_version};
 ghost use Rattle.mn_base.specs.declared.ids.Addr.{Addr};
 ghost use Rattle.mn_base.specs.declared.reply.Pair.{Pair};
 ghost use Rattle.mn_page.specs.declared.page.Child.{Child};
 ghost use Rattle.mn_page.specs.declared.page_ref.Head.{Head};
-ghost use Rattle.mn_page.specs.Grammar.{IsAddr, IsKey, IsValue, IsBound, addr_bytes, counted};
+ghost use Rattle.mn_page.specs.Grammar.{IsAddr, IsBound, addr_bytes, counted};
 ghost use Rattle.mn_page.specs.Grammar.{high_bytes, pair_bytes, child_bytes};
 ghost use Rattle.mn_page.specs.Reading.{Begins, HasLength, as_they_stand, head_text, IsHead};
 ghost use Rattle.mn_page.specs.Reading.{kind_at, eight, are_above, IsSeq, height_text};
 ghost use Rattle.mn_page.specs.Reading.{versions_text, AreVersions, pair_seen, child_seen};
-ghost use Rattle.mn_page.specs.Reading.{pairs_seen, children_seen, IsPair, IsChild};
-ghost use Rattle.mn_page.specs.Reading.{AreMany};
+ghost use Rattle.mn_page.specs.Reading.{pairs_seen, children_seen, IsPair, IsChild, AreMany};
 
 use crate::page_ref::{ChildRef, Head, PairRef};
 use byteorder::{BigEndian, ByteOrder};

@@ -35,16 +35,6 @@ pub struct Writer {
     pub writes: Vec<Write>,
 }
 
-/// The bytes of a key, as a low fence. So many that there is none count as want of memory.
-fn fence_of(key: &Key) -> Result<Low, NoMemory>
-    ensures { IfOk result (λ fence. fence ≡ key.now) }
-{
-    match Low::new(key.as_slice()) {
-        Some(low) => Ok(low),
-        None => Err(NoMemory),
-    }
-}
-
 /// An old page with other fences above and another body.
 #[inline(always)]
 fn changed(alloc: Global, page: &Page, high: Option<Key>, body: Body) -> Result<Page, NoMemory>
@@ -239,7 +229,7 @@ impl Writer {
         ensures bound { OnOk result (self.new.fresh ≤ 2 ^ 16) }
         ensures version { self.new.version ≡ self.old.version }
     {
-        let low = fence_of(separator)?;
+        let low = Low::at(separator);
         let high = page.high.try_copy(alloc)?;
         self.create(fresh_page(self.version, low, high, right), origin)
     }

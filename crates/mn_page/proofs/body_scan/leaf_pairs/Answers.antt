@@ -7,11 +7,6 @@ use Rattle.mn_page.specs.Reading.{pairs_seen, pairs_fit}
 use Rattle.mn_page.proofs.Fences.{pairs_of, pairs_are, pairs_do}
 use Rattle.mn_page.proofs.body_scan.leaf_pairs.Goals as goal
 
-pub returns-in_err-pairs-clause-only : goal.returns-in_err-pairs-clause-only
-returns-in_err-pairs-clause-only c = λ ps more are spelled.
-    let told = c.in_err-pairs.ensures.only ps more (pairs_are c.args.low.now (option_map (λ h. h.now) c.args.high) c.args.count ps are) spelled in
-    grind (arith, common_steps, told)
-
 pub returns-then-not-pairs_fit-clause-only : goal.returns-then-not-pairs_fit-clause-only
 returns-then-not-pairs_fit-clause-only c = λ ps more are spelled.
     let same = c.in_ok-pairs.ensures.only ps more (pairs_are c.args.low.now (option_map (λ h. h.now) c.args.high) c.args.count ps are) spelled in
