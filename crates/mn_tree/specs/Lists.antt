@@ -1,5 +1,5 @@
 -- Held pages, and addresses, as the lists that contracts see.
-use Rattle.std.specs.Prelude.{ℕ, List}
+use Rattle.std.specs.Prelude.{ℕ, List, nat_eq, if◌then◌else◌}
 use Rattle.mn_base.specs.declared.ids.Addr.{Addr}
 use Rattle.mn_tree.specs.declared.held.HeldPage.{HeldPage}
 
@@ -12,3 +12,7 @@ pub record PageList : Type 0 where
 pub record AddrList : Type 0 where
   pub items : List Addr
   pub room : ℕ
+
+-- a list lies in place while its vector has no memory
+abbrev pub list_in : ℕ → AddrList → AddrList → AddrList
+list_in capacity few many = if nat_eq capacity 0 then few else many

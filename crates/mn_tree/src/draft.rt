@@ -15,7 +15,7 @@ pub struct Draft {
     pub pages: HeldPages,
     pub changed: Addrs,
     pub read: Addrs,
-    pub origins: Vec<Addr>,
+    pub origins: Addrs,
 }
 
 impl Draft {
@@ -31,7 +31,7 @@ impl Draft {
             pages: HeldPages::new(alloc),
             changed: Addrs::new(alloc),
             read: Addrs::new(alloc),
-            origins: Vec::new(alloc),
+            origins: Addrs::new(alloc),
         }
     }
 
@@ -68,7 +68,7 @@ impl Draft {
         let Write { addr, page, origin } = write;
         self.read.join(addr);
         match origin {
-            Some(origin) => self.origins.push_reserved(origin),
+            Some(origin) => self.origins.push(origin),
             None => self.changed.join(addr),
         }
         self.pages.put(HeldPage { addr, page });

@@ -149,7 +149,7 @@ pub fn come_down(
         Walked::Missing { addr, above } => Ok(Progress::Missing { addr, above }),
         Walked::Wrong { addr } => Ok(Progress::Wrong { addr }),
         Walked::Reached { leaf } => {
-            let effect = effect_on(alloc, version, draft, leaf, &way.passed, step)?;
+            let effect = effect_on(alloc, version, draft, leaf, way.passed.as_slice(), step)?;
             Ok(Progress::Runs {
                 leaf: leaf.addr,
                 effect,

@@ -83,7 +83,7 @@ impl Kept {
             Progress::Wrong { addr } => {
                 self.wanted = None;
                 Ok(Stepped::BadPath {
-                    addr: resolved(&self.draft.origins, addr),
+                    addr: resolved(self.draft.origins.as_slice(), addr),
                 })
             }
             Progress::Runs { leaf, effect } => {

@@ -7,6 +7,7 @@ mod body;
 mod draft;
 mod effect;
 mod error;
+mod few;
 mod held;
 mod held_pages;
 mod kept;

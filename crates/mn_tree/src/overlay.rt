@@ -109,7 +109,7 @@ impl Overlay {
     pub fn new_pages(&self) -> u32
         ensures { result ≡ self.now.draft.overlay.fresh }
     {
-        self.kept.draft.origins.len() as u32
+        self.kept.draft.origins.as_slice().len() as u32
     }
 
     /// Where the old pages of the read set stand, in the order in which they joined: a leaf when a
@@ -131,7 +131,7 @@ impl Overlay {
         ensures unchanged { self.new ≡ self.old }
     {
         let draft = &self.kept.draft;
-        let count = draft.origins.len();
+        let count = draft.origins.as_slice().len();
         let order = order_of(alloc, &draft.pages, count)?;
         let by = by_number(alloc, &order, slots, count)?;
         let mut placed = Vec::new(alloc);

@@ -9,14 +9,12 @@ ghost use Rattle.mn_path.specs.Walk.{is_below};
 ghost use Rattle.mn_tree.specs.Walk.{held_of, walk_down};
 ghost use Rattle.mn_tree.specs.Way.{CameTo, IsWay, left_above, walk_at};
 
+use crate::addrs::Addrs;
 use crate::held::HeldPage;
 use mn_base::{Addr, Key, NoMemory, TryCopy};
 use mn_page::Body;
 use mn_path::child_for;
 use std::alloc::Global;
-
-/// For how many passed pages there is room at once: those of the longest path.
-const ROOM: usize = 15;
 
 /// How far a walk has come: its key, or none where no walk is under way, the pages that it passed,
 /// the last one first, the address at which it goes on, and the height of the page that names it,
@@ -24,7 +22,7 @@ const ROOM: usize = 15;
 #[derive(Debug, Drop)]
 pub struct Way {
     pub key: Option<Key>,
-    pub passed: Vec<Addr>,
+    pub passed: Addrs,
     pub next: Addr,
     pub above: Option<u16>,
 }
@@ -36,7 +34,7 @@ impl Way {
     {
         Way {
             key: None,
-            passed: Vec::new(alloc),
+            passed: Addrs::new(alloc),
             next: root,
             above: None,
         }
@@ -61,7 +59,6 @@ impl Way {
     {
         self.key = None;
         self.passed.clear();
-        self.passed.reserve(ROOM)?;
         self.next = root;
         self.above = None;
         self.key = Some(key.try_copy(alloc)?);
@@ -108,7 +105,7 @@ impl Way {
         else {
             unreachable!();
         };
-        self.passed.insert(0, self.next)?;
+        self.passed.push_front(self.next)?;
         self.next = child_for(*first, rest.as_slice(), key.as_slice());
         self.above = Some(*height);
         Ok(())
