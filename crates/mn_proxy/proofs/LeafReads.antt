@@ -118,7 +118,7 @@ leaf_next q p same before after purpose bytes taken new came leaf =
 
 -- Steps
 
-pair_same : (a b : Work × Errand) → Some a ≡ Some b → a ≡ b
+pub pair_same : (a b : Work × Errand) → Some a ≡ Some b → a ≡ b
 pair_same a b e = cc
 
 module _ (q p : ProxyState) (same : q ≡ p) (w : Work) (e : Errand) (under : q.work ≡ Some (w, e)) where

@@ -3,6 +3,7 @@ pub mod Answered
 pub mod CatalogsShow
 pub mod ChildrenShow
 pub mod Coordinating
+pub mod Sending
 pub mod Feeding
 pub mod GetsShow
 pub mod Issues

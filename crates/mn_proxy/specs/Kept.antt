@@ -2,7 +2,7 @@
 -- was read, and leaves it for want of room, or in a later try that reads it next. The catalog is
 -- kept as it was read last, and goes where a later try begins.
 use Rattle.std.specs.Prelude.{ℕ, ◌≡◌, ◌⊎◌, Bool, true, false, List, Option, Some, None}
-use Rattle.std.specs.Prelude.{Result, Ok, Err, IfOk}
+use Rattle.std.specs.Prelude.{Result, Ok, Err}
 use Rattle.std.specs.Option.{option_map}
 use Rattle.mn_base.specs.declared.ids.Addr.{Addr}
 use Rattle.mn_base.specs.declared.ids.NodeNo.{NodeNo}
@@ -159,14 +159,6 @@ Reads true work purpose mini turn = GoesWith work turn
 -- Calls
 
 -- the call that its coordinator wants is handed out, and all else stays
-abbrev pub Calls : ProxyState → ProxyState → Work → Tid → Coordination → Purpose → NodeNo → Request
-    → Result Turn NoMemory → Type 0
-Calls before after work tid c purpose node request result =
-    (after ≡ before)
-    × IfOk result (λ turn. turn ≡ turns.Goes (steps.Call node request) work
-    (out.Mini tid (after_step c (Send node request)) purpose))
-
--- the same as a step
 abbrev pub StepCalls : ProxyState → ProxyState → Work → Tid → Coordination → Purpose → NodeNo
     → Request → ProxyStep → Type 0
 StepCalls before after work tid c purpose node request step =

@@ -7,15 +7,18 @@ use Rattle.mn_base.specs.declared.answer.Busy.{Busy}
 use Rattle.mn_base.specs.declared.ids.NodeNo.{NodeNo}
 use Rattle.mn_base.specs.declared.ids.Tid.{Tid}
 use Rattle.mn_base.specs.declared.op.Op.{Op}
-use Rattle.mn_coord.specs.Coordination.{Coordination, fed, new_coordination, step_of}
-use Rattle.mn_coord.specs.Legal.{Agrees as CoordAgrees, IsAnswered, IsAsking}
-use Rattle.mn_coord.specs.declared.step.CoordStep.TheVariants.{Send}
+use Rattle.mn_coord.specs.Coordination.{Coordination, IsSoundStep as IsSoundCoordStep, after_step}
+use Rattle.mn_coord.specs.Coordination.{fed, step_of}
+use Rattle.mn_coord.specs.Legal.{Agrees as CoordAgrees, IsAnswered, IsAsking, MayMake}
+use Rattle.mn_coord.specs.declared.step.CoordStep.{CoordStep}
+use Rattle.mn_coord.specs.declared.step.CoordStep.TheVariants.{Abandon, Send}
 use Rattle.mn_mini.specs.declared.item.Item.TheVariants.{Read}
 use Rattle.mn_mini.specs.declared.reply.NodeReply.{NodeReply}
 use Rattle.mn_mini.specs.declared.reply.NodeReply.TheVariants as Say
 use Rattle.mn_mini.specs.declared.request.Request.{Request}
 use Rattle.mn_mini.specs.Mini.{Mini}
 use Rattle.mn_world.specs.declared.entry.Entry.{Entry}
+use Rattle.mn_world.specs.declared.entry.What.TheVariants.{Abandoned}
 use Rattle.mn_world.specs.Answers.{LastPlanReplies, MeetsFault, are_given_up, are_settled}
 use Rattle.mn_world.specs.Answers.{is_down_cause, is_refusal}
 use Rattle.mn_world.specs.Calls.{calls_of, since_begin}
@@ -262,6 +265,41 @@ FailsSo tid mini node reply (fails.Refused cause) =
     × (refusing ≢ Say.Down) × (refusing ≢ Say.Stopped)
     × (cause ≡ refusal_of tid mini node refusing)
 
+-- Requests
+
+-- the coordinator made its step
+pub record MakesStep (c : Coordination) (step : CoordStep) (after : Coordination) : Type 0 where
+  pub step_is : step ≡ step_of c
+  pub after_is : after ≡ after_step c step
+  pub sound : IsSoundCoordStep c.mini.nodes step
+  pub legal : (es : List Entry) → CoordAgrees es c → MayMake es c.tid step
+  pub agrees : (es : List Entry) → CoordAgrees es c → step_of c ≢ Abandon → CoordAgrees es after
+  pub abandoned : (es : List Entry) (e : Entry) → CoordAgrees es c → step_of c ≡ Abandon
+      → e.node ≡ None → e.what ≡ Abandoned c.tid → CoordAgrees (e ∷ es) after
+
+-- what is on its way, with its next request handed out, or given up
+abbrev pub IsSent : Errand → Errand → ProxyStep → Type 0
+IsSent (out.Mini tid c purpose) after (steps.Call node request) =
+    (d : Coordination) × (after ≡ out.Mini tid d purpose) × MakesStep c (Send node request) d
+IsSent (out.Mini tid c purpose) after (steps.Abandon id) =
+    (d : Coordination) × (after ≡ out.Mini tid d purpose) × (id ≡ tid) × MakesStep c Abandon d
+IsSent errand after step = ⊥
+
+-- the minitransaction has ended
+abbrev pub IsEnd : CoordStep → Type 0
+IsEnd (Send node request) = ⊥
+IsEnd Abandon = ⊥
+IsEnd step = ⊤
+
+-- nothing more is to be sent for it
+abbrev pub IsSentWhole : Errand → Type 0
+IsSentWhole (out.Mini tid c purpose) = IsEnd (step_of c)
+IsSentWhole errand = ⊤
+
+abbrev pub IsSentWholeIn : Option (Work × Errand) → Type 0
+IsSentWholeIn None = ⊤
+IsSentWholeIn (Some (work, errand)) = IsSentWhole errand
+
 -- Replies
 
 -- a request is out for it
@@ -298,3 +336,16 @@ IsFed (out.Peek place purpose) reply after = after ≡ out.Peeked place reply pu
 IsFed (out.Mini tid c purpose) reply after =
     (d : Coordination) × (after ≡ out.Mini tid d purpose) × TakesReply c reply d
 IsFed errand reply after = ⊥
+
+-- The whole
+
+-- the proxy hands out the next request of what is on its way, or gives it up, and all else stays
+pub record Sends (before after : ProxyState) (step : ProxyStep) : Type 0 where
+  pub work : Work
+  pub errand : Errand
+  pub under : before.work ≡ Some (work, errand)
+  pub sound : IsSoundWork before.known work errand
+  pub quiet : IsOutFor errand → ⊥
+  pub sent_now : Errand
+  pub sent : IsSent errand sent_now step
+  pub after_is : after ≡ with_work before work sent_now

@@ -1,7 +1,9 @@
-ghost use Rattle.mn_proxy.specs.Turns.{IsFed, IsOutFor};
+ghost use Rattle.std.specs.Prelude.{◌≡◌, IfSome, None};
+ghost use Rattle.mn_proxy.specs.Turns.{IsFed, IsOutFor, IsSent, IsSentWhole};
 
+use crate::step::ProxyStep;
 use mn_base::{Addr, Reply, Tid};
-use mn_coord::Coordinator;
+use mn_coord::{CoordStep, Coordinator};
 use mn_mini::NodeReply;
 use mn_work::Place;
 use std::mem;
@@ -44,6 +46,32 @@ pub enum Errand {
 }
 
 impl Errand {
+    /// The next request of a minitransaction, which is out from then on, or that it is given up,
+    /// which is told once. It stays where it lies. None: neither is due, and all is as it was.
+    #[inline(always)]
+    pub fn send(&mut self) -> Option<ProxyStep>
+        requires quiet { IsOutFor self.old → ⊥ }
+        ensures sent { IfSome result (IsSent self.old self.new) }
+        ensures same { result ≡ None → self.new ≡ self.old }
+        ensures whole { result ≡ None → IsSentWhole self.old }
+    {
+        let Errand::Mini {
+            tid,
+            coordinator,
+            ..
+        } = self
+        else {
+            return None;
+        };
+        match coordinator.next() {
+            CoordStep::Send { node, request } => Some(ProxyStep::Call { node, request }),
+            CoordStep::Abandon => Some(ProxyStep::Abandon { tid: *tid }),
+            CoordStep::Committed => None,
+            CoordStep::Failed { .. } => None,
+            CoordStep::Doubt { .. } => None,
+        }
+    }
+
     /// Takes the reply to the request that is out for it. It stays where it lies: only what was a
     /// Peek is moved.
     pub fn feed(&mut self, reply: NodeReply)

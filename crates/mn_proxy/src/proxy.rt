@@ -1,5 +1,5 @@
 //! The machine: which operation is under way, and what is on its way for it.
-ghost use Rattle.std.specs.Prelude.{◌≡◌, ◌≤◌, ◌∷◌, [], List, IfOk, OnErr, None, Some};
+ghost use Rattle.std.specs.Prelude.{◌≡◌, ◌≤◌, ◌∷◌, [], List, IfOk, IfSome, OnErr, None, Some};
 ghost use Rattle.mn_base.specs.declared.ids.NodeNo.{NodeNo};
 ghost use Rattle.mn_base.specs.declared.ids.Tid.{Tid};
 ghost use Rattle.mn_base.specs.declared.op.Op.{Op};
@@ -16,7 +16,7 @@ ghost use Rattle.mn_proxy.specs.declared.proxy.Turn.TheVariants as turns;
 ghost use Rattle.mn_work.specs.declared.work.Work.{Work};
 ghost use Rattle.mn_proxy.specs.Agrees.{Agrees, BeginsNext, Enters, EntersWant, ErrandAgrees};
 ghost use Rattle.mn_proxy.specs.Agrees.{HasOut, IsOwn, IsSoundStep, MayStep, MayWant, Wants};
-ghost use Rattle.mn_proxy.specs.Kept.{CacheGoes, CacheTurns, CatalogGoes, CatalogTurns, Calls};
+ghost use Rattle.mn_proxy.specs.Kept.{CacheGoes, CacheTurns, CatalogGoes, CatalogTurns};
 ghost use Rattle.mn_proxy.specs.Kept.{StepCalls, read_by};
 ghost use Rattle.mn_proxy.specs.Measure.{Falls, GoesBelow, steps_left};
 ghost use Rattle.mn_work.specs.Paths.{HasCurrentPath};
@@ -24,7 +24,8 @@ ghost use Rattle.mn_proxy.specs.LeafReads.{LeafGoes, LeafTurns, ReadsLeaf};
 ghost use Rattle.mn_proxy.specs.LeafReads.{StepReadsLeaf};
 ghost use Rattle.mn_proxy.specs.State.{IsIdle, IsOut, IsOutIn, IsReady, begun, new_proxy};
 ghost use Rattle.mn_proxy.specs.Turns.{IsSoundTurn, IsSoundWork, KeepsSelf};
-ghost use Rattle.mn_proxy.specs.Turns.{OwesNoDecide, TurnAgrees, with_work};
+ghost use Rattle.mn_proxy.specs.Turns.{IsSentWhole, IsSentWholeIn, OwesNoDecide, Sends, TurnAgrees};
+ghost use Rattle.mn_proxy.specs.Turns.{with_work};
 ghost use Rattle.mn_work.specs.Walks.{is_later};
 ghost use Rattle.mn_work.specs.Works.{new_work};
 
@@ -197,16 +198,36 @@ impl Proxy {
             → IfOk result (StepReadsLeaf self.old.known.nodes op leaf self.new) }
         ensures leaf { LeafGoes self.old result }
     {
-        let Some((work, errand)) = self.work.take() else {
-            return Err(NoMemory);
-        };
-        match self.turn(alloc, work, errand)? {
-            Turn::Goes { step, work, errand } => {
-                self.work = Some((work, errand));
-                Ok(step)
+        match self.send() {
+            Some(step) => Ok(step),
+            None => {
+                let Some((work, errand)) = self.work.take() else {
+                    return Err(NoMemory);
+                };
+                match self.turn(alloc, work, errand)? {
+                    Turn::Goes { step, work, errand } => {
+                        self.work = Some((work, errand));
+                        Ok(step)
+                    }
+                    Turn::Ends { answer } => Ok(ProxyStep::Done { answer }),
+                }
             }
-            Turn::Ends { answer } => Ok(ProxyStep::Done { answer }),
         }
+    }
+
+    /// Hands out the next request of the minitransaction under way, or tells that it is given up,
+    /// while it stays where it lies. None: neither is due, and all is as it was.
+    #[inline(always)]
+    fn send(&mut self) -> Option<ProxyStep>
+        requires ready { IsReady self.old }
+        ensures sends { IfSome result (Sends self.old self.new) }
+        ensures same { result ≡ None → self.new ≡ self.old }
+        ensures whole { result ≡ None → IsSentWholeIn self.old.work }
+    {
+        let Some((_, errand)) = &mut self.work else {
+            return None;
+        };
+        errand.send()
     }
 
     /// Goes on with what is on its way.
@@ -214,6 +235,7 @@ impl Proxy {
     fn turn(&mut self, alloc: Global, work: Task, errand: Errand) -> Result<Turn, NoMemory>
         requires idle { self.old.work ≡ None }
         requires ready { IsOutIn (Some (work, errand)) → ⊥ }
+        requires whole { IsSentWhole errand }
         requires sound { IsSoundWork self.old.known work errand }
         ensures sound { IfOk result (IsSoundTurn self.new.known) }
         ensures turns { (es : List Entry) → IsOwn es self.old
@@ -229,10 +251,6 @@ impl Proxy {
             self.old.known.cache self.new.known.cache result }
         ensures catalog { IfOk result
             (CatalogTurns (read_by errand) self.old.known.catalog self.new.known.catalog) }
-        ensures calls { (tid : Tid) (c : Coordination) (purpose : Purpose) (node : NodeNo)
-            (request : Request) → errand ≡ errands.Mini tid c purpose
-            → step_of c ≡ Send node request
-            → Calls self.old self.new work tid c purpose node request result }
         ensures path { (op : Op) (leaf : Descent) → (work ≡ new_work op)
             → errand ≡ errands.Nothing → HasCurrentPath self.old.known op leaf
             → IfOk result (ReadsLeaf self.old.known.nodes op leaf) }

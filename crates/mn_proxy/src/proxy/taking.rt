@@ -1,8 +1,5 @@
 //! How an operation goes on by what came: a Peek, or a minitransaction under way.
 ghost use Rattle.std.specs.Prelude.{◌≡◌, ◌<◌, ◌+◌, List, IfOk, OnErr, None, Some, false};
-ghost use Rattle.mn_base.specs.declared.ids.NodeNo.{NodeNo};
-ghost use Rattle.mn_mini.specs.declared.request.Request.{Request};
-ghost use Rattle.mn_coord.specs.declared.step.CoordStep.TheVariants.{Send};
 ghost use Rattle.mn_coord.specs.Coordination.{step_of};
 ghost use Rattle.mn_world.specs.declared.entry.Entry.{Entry};
 ghost use Rattle.mn_world.specs.Calls.{since_begin};
@@ -10,19 +7,18 @@ ghost use Rattle.mn_proxy.specs.declared.errand.Errand.TheVariants as errands;
 ghost use Rattle.mn_proxy.specs.Agrees.{AreOverNodes, ErrandAgrees, HasRead, IsOwn, MayWant};
 ghost use Rattle.mn_proxy.specs.Agrees.{MiniAgrees};
 ghost use Rattle.mn_proxy.specs.Issues.{AreClosed};
-ghost use Rattle.mn_proxy.specs.Kept.{CacheTurns, CatalogTurns, Calls, PutsRead, read_by, read_for};
+ghost use Rattle.mn_proxy.specs.Kept.{CacheTurns, CatalogTurns, PutsRead, read_by, read_for};
 ghost use Rattle.mn_proxy.specs.Kept.{read_when};
 ghost use Rattle.mn_work.specs.Knows.{ArePages};
 ghost use Rattle.mn_proxy.specs.Measure.{GoesBelow, left_after, left_of};
 ghost use Rattle.mn_proxy.specs.LeafReads.{LeafTurns};
 ghost use Rattle.mn_proxy.specs.Tries.{max_tries};
-ghost use Rattle.mn_proxy.specs.Turns.{CameOf, IsCommitted, IsSoundTurn, KeepsSelf, Leaves};
+ghost use Rattle.mn_proxy.specs.Turns.{CameOf, IsCommitted, IsEnd, IsSoundTurn, KeepsSelf, Leaves};
 ghost use Rattle.mn_proxy.specs.Turns.{TurnAgrees, WaitsFor, read_alone};
 ghost use Rattle.mn_work.specs.Walks.{is_later};
 
-use super::{Proxy, Turn, ends, goes};
-use crate::errand::{Errand, Purpose};
-use crate::step::ProxyStep;
+use super::{Proxy, Turn, ends};
+use crate::errand::Purpose;
 use mn_base::{Answer, NoMemory, Tid};
 use mn_coord::{CoordStep, Coordinator, Outcome};
 use mn_mini::{NodeReply, ReadBytes, SharedBytes};
@@ -106,7 +102,7 @@ impl Proxy {
         }
     }
 
-    /// Goes on with the minitransaction that is under way.
+    /// Goes on after a minitransaction that has ended.
     #[inline(always)]
     pub(super) fn coordinate(
         &mut self,
@@ -118,6 +114,7 @@ impl Proxy {
     ) -> Result<Turn, NoMemory>
         requires idle { self.old.work ≡ None }
         requires quiet { coordinator.asked ≡ false }
+        requires ended { IsEnd (step_of coordinator) }
         requires few { work.failed < max_tries }
         requires nodes { coordinator.mini.nodes ≡ self.old.known.nodes }
         requires waits { WaitsFor self.old.known work purpose }
@@ -134,9 +131,6 @@ impl Proxy {
         ensures kept { KeepsSelf self.old self.new × (self.new.work ≡ None) }
         ensures falls { IfOk result
             (GoesBelow (left_after self.old + left_of coordinator) self.new) }
-        ensures calls { (node : NodeNo) (request : Request)
-            → step_of coordinator ≡ Send node request
-            → Calls self.old self.new work tid coordinator purpose node request result }
         ensures cache { CacheTurns
             (read_when (step_of coordinator) coordinator.reads purpose) (is_later work.failed)
             self.old.known.cache self.new.known.cache result }
@@ -147,25 +141,20 @@ impl Proxy {
             (read_when (step_of coordinator) coordinator.reads purpose) result }
     {
         let mut coordinator = coordinator;
-        let step = match coordinator.next() {
-            CoordStep::Send { node, request } => ProxyStep::Call { node, request },
-            CoordStep::Abandon => ProxyStep::Abandon { tid },
+        match coordinator.next() {
             CoordStep::Committed => {
-                return self.commit(alloc, work, coordinator.into_outcome(), purpose);
+                self.commit(alloc, work, coordinator.into_outcome(), purpose)
             }
             CoordStep::Failed { node } => {
-                return self.refuse(alloc, work, tid, node, coordinator.into_outcome());
+                self.refuse(alloc, work, tid, node, coordinator.into_outcome())
             }
-            CoordStep::Doubt { node } => {
-                return Ok(ends(Answer::InDoubt { tid, node }));
-            }
-        };
-        let errand = Errand::Mini {
-            tid,
-            coordinator,
-            purpose,
-        };
-        Ok(goes(step, work, errand))
+            CoordStep::Doubt { node } => Ok(ends(Answer::InDoubt { tid, node })),
+            CoordStep::Send {
+                node: _node,
+                request: _request,
+            } => unreachable!(),
+            CoordStep::Abandon => unreachable!(),
+        }
     }
 
     /// Goes on after a minitransaction that is committed.

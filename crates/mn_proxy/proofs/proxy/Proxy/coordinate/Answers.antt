@@ -1,19 +1,14 @@
 use Rattle.std.proofs.Common.{◌≡◌, ◌+◌, ℕ, List, Option, refl, subst, sym, ap, ◌∙◌}
-use Rattle.mn_coord.specs.Coordination.{Coordination, IsSoundStep as IsSoundCoordStep, after_step}
-use Rattle.mn_coord.specs.Legal.{MayMake}
-use Rattle.mn_coord.specs.declared.step.CoordStep.TheVariants.{Send, Abandon}
+use Rattle.mn_coord.specs.Coordination.{Coordination, after_step}
 use Rattle.mn_mini.specs.Mini.{Mini}
 use Rattle.mn_mini.specs.declared.reply.NodeReply.{NodeReply}
-use Rattle.mn_proxy.specs.declared.errand.Errand.TheVariants as out
-use Rattle.mn_proxy.specs.declared.proxy.Turn.TheVariants as turns
-use Rattle.mn_proxy.specs.declared.step.ProxyStep.{ProxyStep}
 use Rattle.mn_proxy.specs.Agrees.{MayWant}
 use Rattle.mn_proxy.specs.Turns.{IsCommitted, IsRefused, IsSoundTurn, TurnAgrees}
 use Rattle.mn_proxy.proofs.Answered.{may_want}
-use Rattle.mn_proxy.proofs.Coordinating.{abandons_soundly, fails_over, mini_abandons, mini_commits, mini_doubts, mini_fails, mini_sends, on_err, sends_soundly, waits_startable}
+use Rattle.mn_proxy.proofs.Coordinating.{fails_over, mini_commits, mini_doubts, mini_fails, on_err, waits_startable}
 use Rattle.mn_proxy.specs.Measure.{GoesBelow, left_after, left_of}
-use Rattle.mn_proxy.proofs.Measure.{abandon_falls, coordinates_below, mini_goes, send_falls}
-use Rattle.std.proofs.Common.{None, Ok, Result}
+use Rattle.mn_proxy.proofs.Measure.{mini_goes}
+use Rattle.std.proofs.Common.{Ok, Result}
 use Rattle.mn_base.specs.declared.error.NoMemory.{NoMemory}
 use Rattle.mn_coord.specs.Coordination.{step_of}
 use Rattle.mn_coord.specs.declared.step.CoordStep.{CoordStep}
@@ -23,11 +18,7 @@ use Rattle.mn_proxy.specs.declared.proxy.Turn.{Turn}
 use Rattle.mn_proxy.specs.Kept.{read_for, read_when}
 use Rattle.mn_work.specs.Walks.{is_later}
 use Rattle.mn_proxy.proofs.Kept.{cache_as, catalog_as, catalog_stays, leaf_as, unread_cache, unread_catalog, unread_leaf}
-use Rattle.mn_base.specs.declared.ids.NodeNo.{NodeNo}
-use Rattle.mn_mini.specs.declared.request.Request.{Request}
-use Rattle.mn_proxy.specs.declared.step.ProxyStep.TheVariants as steps
 use Rattle.mn_proxy.proofs.proxy.Proxy.coordinate.Goals as goal
-use Rattle.mn_proxy.proofs.proxy.Proxy.coordinate.Goals.{in-Send, in-Abandon}
 
 pub next-requires : goal.next-requires
 next-requires c = record { idle = c.requires.quiet }
@@ -116,44 +107,6 @@ returns-in-Doubt-clause-turns c = λ es own m.
 pub returns-in-Doubt-clause-kept : goal.returns-in-Doubt-clause-kept
 returns-in-Doubt-clause-kept c = ((refl, refl, refl), c.requires.idle)
 
-pub returns-clause-sound : goal.returns-clause-sound
-returns-clause-sound c =
-    let known = c.args.self.now.known in
-    subst (IsSoundTurn known) (sym c.goes.ensures) (elim c.match-next.branch [
-      | in-Send w ↦
-          subst (λ (s : ProxyStep). IsSoundTurn known (turns.Goes s c.args.work (out.Mini c.args.tid c.next.new.self c.args.purpose))) (sym w.step-is)
-          (sends_soundly known c.args.work c.args.tid c.args.coordinator c.next.new.self c.args.purpose w.in-Send.node w.in-Send.request
-          (c.next.ensures.after ∙ ap (after_step c.args.coordinator) w.in-Send.is) (sym c.next.ensures.step ∙ w.in-Send.is) c.requires.nodes
-          (subst (IsSoundCoordStep c.args.coordinator.mini.nodes) w.in-Send.is c.next.ensures.sound)
-          (record { few = c.requires.few; errand_is = (c.requires.nodes, c.requires.waits) }))
-      | in-Abandon w ↦
-          subst (λ (s : ProxyStep). IsSoundTurn known (turns.Goes s c.args.work (out.Mini c.args.tid c.next.new.self c.args.purpose))) (sym w.step-is)
-          (abandons_soundly known c.args.work c.args.tid c.args.coordinator c.next.new.self c.args.purpose
-          (c.next.ensures.after ∙ ap (after_step c.args.coordinator) w.in-Abandon.is) c.requires.quiet
-          (record { few = c.requires.few; errand_is = (c.requires.nodes, c.requires.waits) }))
-    ])
-
-pub returns-clause-turns : goal.returns-clause-turns
-returns-clause-turns c = λ es own m.
-    let p = c.args.self.now in
-    subst (TurnAgrees es p) (sym c.goes.ensures) (elim c.match-next.branch [
-      | in-Send w ↦
-          subst (λ (s : ProxyStep). TurnAgrees es p (turns.Goes s c.args.work (out.Mini c.args.tid c.next.new.self c.args.purpose))) (sym w.step-is)
-          (mini_sends es p c.args.work c.args.tid c.args.coordinator c.next.new.self c.args.purpose w.in-Send.node w.in-Send.request
-          (c.next.ensures.after ∙ ap (after_step c.args.coordinator) w.in-Send.is) own m
-          (subst (MayMake es c.args.coordinator.tid) w.in-Send.is (c.next.ensures.legal es m.coordinates))
-          (c.next.ensures.agrees es m.coordinates (λ gone. (let both : Send w.in-Send.node w.in-Send.request ≡ Abandon = sym w.in-Send.is ∙ (c.next.ensures.step ∙ gone) in absurd cc))))
-      | in-Abandon w ↦
-          subst (λ (s : ProxyStep). TurnAgrees es p (turns.Goes s c.args.work (out.Mini c.args.tid c.next.new.self c.args.purpose))) (sym w.step-is)
-          (mini_abandons es p c.args.work c.args.tid c.args.coordinator c.next.new.self c.args.purpose
-          (c.next.ensures.after ∙ ap (after_step c.args.coordinator) w.in-Abandon.is) (sym c.next.ensures.step ∙ w.in-Abandon.is) own m
-          (subst (MayMake es c.args.coordinator.tid) w.in-Abandon.is (c.next.ensures.legal es m.coordinates))
-          (λ e none what. c.next.ensures.abandoned es e m.coordinates (sym c.next.ensures.step ∙ w.in-Abandon.is) none what))
-    ])
-
-pub returns-clause-kept : goal.returns-clause-kept
-returns-clause-kept c = ((refl, refl, refl), c.requires.idle)
-
 pub returns-in-Committed-clause-falls : goal.returns-in-Committed-clause-falls
 returns-in-Committed-clause-falls c =
     mini_goes c.args.self.now c.commit.new.self c.args.coordinator c.commit.result c.commit.ensures.falls
@@ -165,19 +118,6 @@ returns-in-Failed-clause-falls c =
 pub returns-in-Doubt-clause-falls : goal.returns-in-Doubt-clause-falls
 returns-in-Doubt-clause-falls c =
     subst (GoesBelow (left_after c.args.self.now + left_of c.args.coordinator) c.args.self.now) (sym c.ends.ensures) tt
-
-pub returns-clause-falls : goal.returns-clause-falls
-returns-clause-falls c =
-    let p = c.args.self.now in
-    subst (GoesBelow (left_after p + left_of c.args.coordinator) p) (sym c.goes.ensures)
-    (coordinates_below p c.args.coordinator c.next.new.self (elim c.match-next.branch [
-      | in-Send w ↦
-          send_falls c.args.coordinator c.next.new.self w.in-Send.node w.in-Send.request c.requires.quiet
-          (sym c.next.ensures.step ∙ w.in-Send.is) (c.next.ensures.after ∙ ap (after_step c.args.coordinator) w.in-Send.is)
-      | in-Abandon w ↦
-          abandon_falls c.args.coordinator c.next.new.self (sym c.next.ensures.step ∙ w.in-Abandon.is)
-          (c.next.ensures.after ∙ ap (after_step c.args.coordinator) w.in-Abandon.is)
-    ]))
 
 -- What is kept
 
@@ -238,57 +178,3 @@ pub returns-in-Doubt-clause-leaf : goal.returns-in-Doubt-clause-leaf
 returns-in-Doubt-clause-leaf c = λ leaf.
     absurd (unread_leaf c.args.self.now.known c.args.work (read_when (step_of c.args.coordinator) c.args.coordinator.reads c.args.purpose)
     (read_as c.args.coordinator c.args.purpose (Doubt c.in-Doubt.node) (sym c.next.ensures.step ∙ c.in-Doubt.is)) leaf)
-
-unread : (c : goal.After-goes) → (read_when (step_of c.args.coordinator) c.args.coordinator.reads c.args.purpose) ≡ None
-unread c =
-    elim c.match-next.branch [
-      | in-Send w ↦ read_as c.args.coordinator c.args.purpose (Send w.in-Send.node w.in-Send.request) (sym c.next.ensures.step ∙ w.in-Send.is)
-      | in-Abandon w ↦ read_as c.args.coordinator c.args.purpose Abandon (sym c.next.ensures.step ∙ w.in-Abandon.is)
-    ]
-
-pub returns-clause-cache : goal.returns-clause-cache
-returns-clause-cache c =
-    unread_cache (read_when (step_of c.args.coordinator) c.args.coordinator.reads c.args.purpose) (is_later c.args.work.failed) c.args.self.now.known.cache c.args.self.now.known.cache (Ok c.goes.result) (unread c) refl
-
-pub returns-clause-catalog : goal.returns-clause-catalog
-returns-clause-catalog c =
-    let result : Result Turn NoMemory = Ok c.goes.result in
-    unread_catalog (read_when (step_of c.args.coordinator) c.args.coordinator.reads c.args.purpose) c.args.self.now.known.catalog c.args.self.now.known.catalog result (unread c)
-    (catalog_stays c.args.self.now.known.catalog c.args.self.now.known.catalog result refl)
-
-pub returns-clause-leaf : goal.returns-clause-leaf
-returns-clause-leaf c = λ leaf. absurd (unread_leaf c.args.self.now.known c.args.work (read_when (step_of c.args.coordinator) c.args.coordinator.reads c.args.purpose) (unread c) leaf)
-
--- Calls
-
-pub returns-in-Committed-clause-calls : goal.returns-in-Committed-clause-calls
-returns-in-Committed-clause-calls c = λ node request is.
-    let both = sym is ∙ (sym c.next.ensures.step ∙ c.in-Committed.is) in absurd cc
-
-pub returns-in-Failed-clause-calls : goal.returns-in-Failed-clause-calls
-returns-in-Failed-clause-calls c = λ node request is.
-    let both = sym is ∙ (sym c.next.ensures.step ∙ c.in-Failed.is) in absurd cc
-
-pub returns-in-Doubt-clause-calls : goal.returns-in-Doubt-clause-calls
-returns-in-Doubt-clause-calls c = λ node request is.
-    let both = sym is ∙ (sym c.next.ensures.step ∙ c.in-Doubt.is) in absurd cc
-
-pub returns-clause-calls : goal.returns-clause-calls
-returns-clause-calls c = λ node request is.
-    let tid = c.args.tid in (
-      refl,
-      c.goes.ensures ∙ (elim c.match-next.branch [
-        | in-Send w ↦
-            let both : Send w.in-Send.node w.in-Send.request ≡ Send node request = sym w.in-Send.is ∙ (c.next.ensures.step ∙ is) in
-            let nodes : w.in-Send.node ≡ node = cc in
-            let requests : w.in-Send.request ≡ request = cc in
-            let after : c.next.new.self ≡ after_step c.args.coordinator (Send node request) =
-            c.next.ensures.after ∙ ap (after_step c.args.coordinator) (c.next.ensures.step ∙ is) in
-            ap (λ (s : ProxyStep). turns.Goes s c.args.work (out.Mini tid c.next.new.self c.args.purpose)) w.step-is
-            ∙ (ap (λ (n : NodeNo). turns.Goes (steps.Call n w.in-Send.request) c.args.work (out.Mini tid c.next.new.self c.args.purpose)) nodes
-            ∙ (ap (λ (r : Request). turns.Goes (steps.Call node r) c.args.work (out.Mini tid c.next.new.self c.args.purpose)) requests
-            ∙ ap (λ (x : Coordination). turns.Goes (steps.Call node request) c.args.work (out.Mini tid x c.args.purpose)) after))
-        | in-Abandon w ↦
-            let both : Abandon ≡ Send node request = sym w.in-Abandon.is ∙ (c.next.ensures.step ∙ is) in absurd cc
-      ]),
-    )

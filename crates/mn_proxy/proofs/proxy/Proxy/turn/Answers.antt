@@ -10,12 +10,6 @@ use Rattle.std.proofs.Common.{None, ap, refl, ◌∙◌}
 use Rattle.mn_proxy.specs.Kept.{read_by}
 use Rattle.mn_work.specs.Walks.{is_later}
 use Rattle.mn_proxy.proofs.Kept.{cache_as, catalog_as, leaf_as, unread_cache, unread_leaf}
-use Rattle.std.proofs.Common.{◌≡◌}
-use Rattle.mn_base.specs.declared.ids.Tid.{Tid}
-use Rattle.mn_coord.specs.Coordination.{Coordination, step_of}
-use Rattle.mn_proxy.specs.declared.errand.Errand.TheVariants as out
-use Rattle.mn_proxy.specs.declared.errand.Purpose.{Purpose}
-use Rattle.mn_proxy.specs.Kept.{Calls}
 use Rattle.mn_proxy.proofs.proxy.Proxy.turn.Goals as goal
 
 pub returns-in-Nothing-clause-want : goal.returns-in-Nothing-clause-want
@@ -95,28 +89,3 @@ returns-in-Mini-clause-path c = λ op leaf new nothing path.
 pub returns-in-Mini-clause-leaf : goal.returns-in-Mini-clause-leaf
 returns-in-Mini-clause-leaf c =
     leaf_as c.args.self.now.known c.args.work (read_by c.args.errand) _ c.coordinate.result (ap read_by c.in-Mini.is) c.coordinate.ensures.leaf
-
--- Calls
-
-pub returns-in-Nothing-clause-calls : goal.returns-in-Nothing-clause-calls
-returns-in-Nothing-clause-calls c = λ tid x purpose node request mini is.
-    let both = sym mini ∙ c.in-Nothing.is in absurd cc
-
-pub returns-in-Peek-clause-calls : goal.returns-in-Peek-clause-calls
-returns-in-Peek-clause-calls c = λ tid x purpose node request mini is.
-    let both = sym mini ∙ c.in-Peek.is in absurd cc
-
-pub returns-in-Peeked-clause-calls : goal.returns-in-Peeked-clause-calls
-returns-in-Peeked-clause-calls c = λ tid x purpose node request mini is.
-    let both = sym mini ∙ c.in-Peeked.is in absurd cc
-
-pub returns-in-Mini-clause-calls : goal.returns-in-Mini-clause-calls
-returns-in-Mini-clause-calls c = λ tid x purpose node request mini is.
-    let both : out.Mini c.in-Mini.tid c.in-Mini.coordinator c.in-Mini.purpose ≡ out.Mini tid x purpose = sym c.in-Mini.is ∙ mini in
-    let tids : c.in-Mini.tid ≡ tid = cc in
-    let coordinators : c.in-Mini.coordinator ≡ x = cc in
-    let purposes : c.in-Mini.purpose ≡ purpose = cc in
-    let calls = c.coordinate.ensures.calls node request (ap step_of coordinators ∙ is) in
-    subst (λ (t : Tid). Calls c.args.self.now c.coordinate.new.self c.args.work t x purpose node request c.coordinate.result) tids
-    (subst (λ (d : Coordination). Calls c.args.self.now c.coordinate.new.self c.args.work c.in-Mini.tid d purpose node request c.coordinate.result) coordinators
-    (subst (λ (p : Purpose). Calls c.args.self.now c.coordinate.new.self c.args.work c.in-Mini.tid c.in-Mini.coordinator p node request c.coordinate.result) purposes calls))
