@@ -1,5 +1,5 @@
 -- What one more entry makes of what is kept of a log.
-use Rattle.std.proofs.Common.{◌≡◌, ℕ, zero, suc, ◌+◌, ◌<◌, ◌≤◌, true, false, List, [], ◌∷◌, ◌++◌, length, map, drop, take, replicate, Option, Some, None, refl, subst, sym, ap, ◌∙◌, arith, if◌then◌else◌}
+use Rattle.std.proofs.Common.{◌≡◌, ℕ, zero, suc, ◌+◌, ◌<◌, ◌≤◌, Bool, true, false, List, [], ◌∷◌, ◌++◌, length, map, drop, take, replicate, Option, Some, None, refl, subst, sym, ap, ◌∙◌, arith, if◌then◌else◌}
 use Rattle.std.specs.Prelude.{nat_eq, slice_get, slice_set, slice_index_or, Result, Ok, Err, IfOk}
 use Rattle.std.specs.HashMap.{HashMap}
 use Rattle.std.specs.HashSet.{HashSet}
@@ -19,15 +19,20 @@ use Rattle.mn_base.specs.declared.reply.Reply.{Reply}
 use Rattle.mn_base.proofs.Booleans.{clash}
 use Rattle.mn_base.proofs.Lists.{set_at}
 use Rattle.mn_mini.specs.Mini.{Mini}
+use Rattle.mn_mini.proofs.Fits.{unsome}
 use Rattle.mn_page.proofs.Alike.{get-set_other}
 use Rattle.mn_world.specs.declared.entry.Entry.{Entry}
 use Rattle.mn_world.specs.declared.entry.What.{What}
 use Rattle.mn_world.specs.declared.entry.What.TheVariants.{Begin, Issue, Called, Stopped, Restarted, Abandoned, Answered}
 use Rattle.mn_world.specs.declared.commit_reader.CommittedMini.{CommittedMini}
-use Rattle.mn_world.specs.Calls.{node_entries, issue_in}
+use Rattle.mn_world.specs.Calls.{node_entries, Issued, issue_in, issues_of, issue_named}
+use Rattle.mn_world.specs.Clients.{is_read}
 use Rattle.mn_world.specs.CommitReader.{issued_of}
 use Rattle.mn_world.specs.Commits.{committed_by, committed_at, effect_of}
-use Rattle.mn_world.specs.History.{Placed, StepPuts, pasts_of}
+use Rattle.mn_world.specs.History.{Placed, EntryPuts, IsHistory, StepPuts, pasts_of}
+use Rattle.mn_world.specs.Meaning.{HistoryIsOne, OpenedRun}
+use Rattle.mn_world.specs.OneHistory.{RunsHaveHistory}
+use Rattle.mn_world.specs.Protocol.{Start}
 use Rattle.mn_world.specs.Run.{entries_of}
 use Rattle.mn_world.specs.Shown.{seen_at}
 use Rattle.mn_world.specs.declared.flat.IdKey.{IdKey}
@@ -35,7 +40,7 @@ use Rattle.mn_world.proofs.Reading.Same.{client_same-refl, client_same-true}
 use Rattle.mn_world.proofs.Meaning.Effects.{with_named}
 use Rattle.mn_hist.specs.declared.history.OpKey.{OpKey}
 use Rattle.mn_hist.specs.History.{Act, CallerState, Planner, placed_act, act_of, acts_from, acts_in, begun_by, done_by, done_from, idle, planner_after, planner_kept, planner_of, placed_last, state_after, caller_state}
-use Rattle.mn_hist.specs.History.{AreCallerStates, SlotsHoldHistory, KnowsPlanners, IsIssuedUnderId, AnswerIsInHistory, CommitIsInHistory, StandsInSet, EntryIsInHistory}
+use Rattle.mn_hist.specs.History.{AreCallerStates, SlotsHoldHistory, KnowsPlanners, IsIssuedUnderId, AnswerIsInHistory, CommitIsInHistory, StandsInSet, AnswerHasPlace, EntryHasPlace, EntryIsInHistory}
 use Rattle.mn_hist.proofs.Loops.{drop_here}
 use Rattle.mn_hist.proofs.Noted.{begun_is}
 
@@ -78,7 +83,8 @@ of_client callers past e c new few is step are = λ d few'.
 -- Issues
 
 pub no_issue : {S : Type 0} (plans : HashMap IdKey Planner S) (past : List Entry) (e : Entry) → issue_in e.what ≡ [] → KnowsPlanners plans past → KnowsPlanners plans (e ∷ past)
-no_issue plans past e none knows = λ tid. knows tid ∙ by e.what none tid
+no_issue plans past e none knows = λ tid mini plan.
+    knows tid mini (subst (λ (is : List Issued). issue_named tid (is ++ issues_of past) ≡ Some mini) none plan.0, plan.1) ∙ by e.what none tid
   where
     by : (what : What) → issue_in what ≡ [] → (tid : Tid) → planner_of tid past ≡ planner_after tid e.client what past (planner_of tid past)
     by (Issue t mini) none tid = absurd cc
@@ -89,14 +95,36 @@ no_issue plans past e none knows = λ tid. knows tid ∙ by e.what none tid
     by (Restarted kept) none tid = refl
     by (Abandoned t) none tid = refl
 
+pub one_read : {S : Type 0} (plans : HashMap IdKey Planner S) (past : List Entry) (e : Entry) (t : Tid) (mini : Mini) → e.what ≡ Issue t mini → is_read mini.items ≡ true
+    → KnowsPlanners plans past → KnowsPlanners plans (e ∷ past)
+one_read plans past e t mini is read knows = λ q m plan.
+    let named : issue_named q (record { tid = t; mini = mini } ∷ issues_of past) ≡ Some m = subst (λ (w : What). issue_named q (issue_in w ++ issues_of past) ≡ Some m) is plan.0 in
+    by q m (tid_same t q) refl named plan.1 ∙ sym (ap (λ (w : What). planner_after q e.client w past (planner_of q past)) is)
+  where
+    by : (q : Tid) (m : Mini) (b : Bool) → tid_same t q ≡ b → (if tid_same t q then Some mini else issue_named q (issues_of past)) ≡ Some m → is_read m.items ≡ false
+        → planner_kept plans q ≡ (if tid_same t q then Some (record { client = e.client; begun = begun_by e.client past }) else planner_of q past)
+    by q m true same named other = absurd (clash (is_read mini.items) read (ap (λ (n : Mini). is_read n.items) (unsome mini m (sym (ap (λ b. if b then Some mini else issue_named q (issues_of past)) same) ∙ named)) ∙ other))
+    by q m false same named other =
+        knows q m (sym (ap (λ b. if b then Some mini else issue_named q (issues_of past)) same) ∙ named, other)
+        ∙ sym (ap (λ b. if b then Some (record { client = e.client; begun = begun_by e.client past }) else planner_of q past) same)
+
 pub one_issue : {S : Type 0} (old new : HashMap IdKey Planner S) (past : List Entry) (e : Entry) (t : Tid) (mini : Mini) (planner : Planner) → e.what ≡ Issue t mini
     → planner ≡ record { client = e.client; begun = begun_by e.client past }
     → ((q : Tid) → planner_kept new q ≡ (if tid_same t q then Some planner else planner_kept old q)) → KnowsPlanners old past → KnowsPlanners new (e ∷ past)
-one_issue old new past e t mini planner is who more knows = λ q.
+one_issue old new past e t mini planner is who more knows = λ q m plan.
+    let named : issue_named q (record { tid = t; mini = mini } ∷ issues_of past) ≡ Some m = subst (λ (w : What). issue_named q (issue_in w ++ issues_of past) ≡ Some m) is plan.0 in
     more q
-    ∙ (ap (λ (o : Option Planner). if tid_same t q then Some planner else o) (knows q)
+    ∙ (kept q m (tid_same t q) refl named plan.1
     ∙ (ap (λ (p : Planner). if tid_same t q then Some p else planner_of q past) who
     ∙ sym (ap (λ (w : What). planner_after q e.client w past (planner_of q past)) is)))
+  where
+    kept : (q : Tid) (m : Mini) (b : Bool) → tid_same t q ≡ b → (if tid_same t q then Some mini else issue_named q (issues_of past)) ≡ Some m → is_read m.items ≡ false
+        → (if tid_same t q then Some planner else planner_kept old q) ≡ (if tid_same t q then Some planner else planner_of q past)
+    kept q m true same named other = ap (λ b. if b then Some planner else planner_kept old q) same ∙ sym (ap (λ b. if b then Some planner else planner_of q past) same)
+    kept q m false same named other =
+        ap (λ b. if b then Some planner else planner_kept old q) same
+        ∙ (knows q m (sym (ap (λ b. if b then Some mini else issue_named q (issues_of past)) same) ∙ named, other)
+        ∙ sym (ap (λ b. if b then Some planner else planner_of q past) same))
 
 -- the operation of the client is the one that is told
 pub begun_there : (past : List Entry) (c : ClientNo) → (caller_state c past).begun ≡ begun_by (Some c) past
@@ -167,6 +195,12 @@ takes_answer past e c number answer placed standing old new by is p = record {
   long = p.long;
 }
 
+-- its answer has its place where the entry has
+pub answer_has : (past : List Entry) (e : Entry) (c : ClientNo) (number : ℕ) (answer : Answer) (placed : List Placed) → e.client ≡ Some c → e.what ≡ Answered number answer
+    → EntryHasPlace past e None placed → AnswerHasPlace past c answer placed
+answer_has past e c number answer placed by is (next, puts) =
+    (next, subst (λ (w : What). StepPuts past (Some c) w placed next) is (subst (λ (o : Option ClientNo). StepPuts past o e.what placed next) by puts))
+
 -- that commits
 pub takes_commit : {S : Type 0} (past : List Entry) (e : Entry) (m : CommittedMini) (placed : List Placed) (standing : HashSet OpKey S) (slots : List (Option Act)) (found : Option Act) → SlotsHoldHistory slots placed
     → CommitIsInHistory past m placed standing found → EntryIsInHistory past e (Some (issued_of m)) placed standing slots slots found
@@ -189,6 +223,15 @@ named_here past e m is = at e.node (sym is)
 
 pub one_more : (log : List (ℕ × Entry)) (i : ℕ) (e : ℕ × Entry) → i < length log → e ≡ slice_index_or log i e → entries_of (take (i + 1) log) ≡ e.1 ∷ entries_of (take i log)
 one_more log i e here is = grind (arith, common_steps)
+
+-- what the next entry puts into the history of an opened run has its place
+pub has_place : (start : Start) (store : Store) (past : List Entry) (e : Entry) (placed : List Placed) → RunsHaveHistory × HistoryIsOne
+    → OpenedRun start store (e ∷ past) → IsHistory past placed → EntryHasPlace past e (committed_by past e) placed
+has_place start store past e placed laws run is =
+    let next = laws.0 start store (e ∷ past) run in
+    let before : OpenedRun start store past = record { opened = run.opened; run = run.run.0 } in
+    let same : next.1.0 ≡ placed = laws.1 start store past next.1.0 placed (record { opened = before; history = next.1.1 }) (record { opened = before; history = is }) in
+    (next.0, subst (λ (old : List Placed). EntryPuts past e (committed_by past e) old next.0) same next.1.2)
 
 -- Replies
 

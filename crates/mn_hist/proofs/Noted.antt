@@ -1,8 +1,10 @@
 -- What is noted of a client's reads tells where a reply has its place.
 use Rattle.std.proofs.Common.{◌≡◌, ℕ, ◌⊎◌, inl, inr, true, false, List, [], ◌∷◌, ◌++◌, length, map, Option, Some, None, refl, subst, sym, ap, ◌∙◌, arith, if◌then◌else◌, Contains}
 use Rattle.std.specs.List.{AllByRecursion}
+use Rattle.std.specs.Prelude.{flat_map}
 use Rattle.std.proofs.lemmas.List.Elements.{Contains-append_left, Contains-append_right}
 use Rattle.mn_base.specs.declared.ids.ClientNo.{ClientNo}
+use Rattle.mn_base.specs.declared.ids.NodeNo.{NodeNo}
 use Rattle.mn_base.specs.declared.op.Op.{Op}
 use Rattle.mn_base.specs.declared.op.Op.TheVariants.{Tx, Snapshot, Branch, Scan, Versions}
 use Rattle.mn_base.specs.declared.reply.Reply.{Reply}
@@ -11,14 +13,14 @@ use Rattle.mn_base.proofs.Booleans.{clash}
 use Rattle.mn_world.specs.declared.entry.Entry.{Entry}
 use Rattle.mn_world.specs.declared.entry.What.{What}
 use Rattle.mn_world.specs.declared.entry.What.TheVariants.{Begin, Issue, Called, Stopped, Restarted, Abandoned, Answered}
-use Rattle.mn_world.specs.Calls.{is_by, client_entries, begun_in, under_way, under_way_after, since_begin, since_begin_after}
-use Rattle.mn_world.specs.History.{LastShown, FirstCatalogAt, ReadPlace, NoCatalog}
-use Rattle.mn_world.specs.Shown.{Seen, seen_at, seen_in, ReadShows}
+use Rattle.mn_world.specs.Calls.{Begun, Call, call_in, is_by, client_entries, begun_in, under_way, under_way_after, since_begin, since_begin_after}
+use Rattle.mn_world.specs.History.{LastShown, ShowsHere, FirstCatalogAt, ReadPlace, NoCatalog}
+use Rattle.mn_world.specs.Shown.{Seen, seen_at, seen_by, seen_in, ReadShows}
 use Rattle.mn_world.proofs.Bytes.Seen.{nothing}
 use Rattle.mn_world.proofs.Meaning.Tell.{one_read, only}
 use Rattle.mn_world.proofs.Reading.Sees.{seen_in-cons}
 use Rattle.mn_hist.proofs.Places.{catalog_read, no_catalog_read}
-use Rattle.mn_hist.specs.History.{Note, CallerState, with_seen, state_after, caller_state, IsLastNote, IsFirstNote, IsNotedPlace}
+use Rattle.mn_hist.specs.History.{Note, CallerState, with_seen, state_after, caller_state, IsLastNote, IsFirstNote, IsOnlyNote, IsNotedPlace}
 use Rattle.mn_hist.specs.Shown.{is_of_catalog, HasCatalog, IsShownBy, IsUnshown}
 
 -- The operation under way
@@ -271,20 +273,150 @@ first_note c (e ∷ past) place l =
           }
     ] refl l
 
+-- The only read
+
+with_one : (n : ℕ) (x : Seen) (xs : List Seen) (s : CallerState) → xs ≡ x ∷ [] → (with_seen n xs s).notes ≡ record { place = n; seen = x; catalog = s.catalog } ∷ s.notes
+with_one n x xs s is = ap (λ (l : List Seen). (with_seen n l s).notes) is
+
+with_none : (n : ℕ) (xs : List Seen) (s : CallerState) → xs ≡ [] → (with_seen n xs s).notes ≡ s.notes
+with_none n xs s is = ap (λ (l : List Seen). (with_seen n l s).notes) is
+
+shows_none : (c : ClientNo) (past : List Entry) (e : Entry) (op : Op) (reply : Reply) → seen_at e ≡ [] → ShowsHere c past e op reply → ⊥
+shows_none c past e op reply empty h = nothing h.1.0 (subst (λ (x : List Seen). Contains x h.1.0) empty h.1.1)
+
+begin_sees : (e : Entry) (number : ℕ) (op : Op) → e.what ≡ Begin number op → seen_at e ≡ []
+begin_sees e number op is = ap (λ (w : What). flat_map (λ (k : Call). seen_by k.node k.request k.reply) (call_in e.node w)) is ∙ at e.node
+  where
+    at : (n : Option NodeNo) → flat_map (λ (k : Call). seen_by k.node k.request k.reply) (call_in n (Begin number op)) ≡ []
+    at None = refl
+    at (Some n) = refl
+
+-- nothing that shows a reply stands before the Begin
+after_begin : (c : ClientNo) (op : Op) (reply : Reply) (past : List Entry) (e : Entry) (place number : ℕ) (begun : Op) → is_by c e ≡ true → e.what ≡ Begin number begun
+    → LastShown c op reply (e ∷ past) place → ⊥
+after_begin c op reply past e place number begun by is (inl h) = shows_none c past e op reply (begin_sees e number begun is) h.0
+after_begin c op reply past e place number begun by is (inr h) = at h.1
+  where
+    at : (is_by c e ≡ false) ⊎ (begun_in e.what ≡ []) → ⊥
+    at (inl off) = clash (is_by c e) by off
+    at (inr none) = let void : begun_in (Begin number begun) ≡ [] = sym (ap begun_in is) ∙ none in cc
+
+none_quiet : (c : ClientNo) (op : Op) (reply : Reply) (past : List Entry) (e : Entry) (place : ℕ)
+    → (LastShown c op reply past place → (caller_state c past).notes ≡ [] → ⊥)
+    → (seen_at e ≡ []) ⊎ ((seen : Seen) × (seen_at e ≡ seen ∷ []))
+    → LastShown c op reply (e ∷ past) place → (with_seen (length past) (seen_at e) (caller_state c past)).notes ≡ [] → ⊥
+none_quiet c op reply past e place rest (inl empty) (inl h) void = shows_none c past e op reply empty h.0
+none_quiet c op reply past e place rest (inl empty) (inr h) void = rest h.2 (sym (with_none (length past) (seen_at e) (caller_state c past) empty) ∙ void)
+none_quiet c op reply past e place rest (inr (x, is)) h void =
+    let some : record { place = length past; seen = x; catalog = (caller_state c past).catalog } ∷ (caller_state c past).notes ≡ [] = sym (with_one (length past) x (seen_at e) (caller_state c past) is) ∙ void in
+    cc
+
+none_step : (c : ClientNo) (op : Op) (reply : Reply) (past : List Entry) (e : Entry) (place : ℕ) (b : Begun)
+    → is_by c e ≡ true → (what : What) → e.what ≡ what
+    → (LastShown c op reply past place → (caller_state c past).begun ≡ Some b → (caller_state c past).notes ≡ [] → ⊥)
+    → LastShown c op reply (e ∷ past) place
+    → (state_after (length past) what (seen_at e) (caller_state c past)).begun ≡ Some b
+    → (state_after (length past) what (seen_at e) (caller_state c past)).notes ≡ [] → ⊥
+none_step c op reply past e place b by (Begin number begun) is rest l under void = after_begin c op reply past e place number begun by is l
+none_step c op reply past e place b by (Answered number answer) is rest l under void = absurd cc
+none_step c op reply past e place b by (Issue tid mini) is rest l under void = none_quiet c op reply past e place (λ m. rest m (sym (with_begun (length past) (seen_at e) (caller_state c past)) ∙ under)) (one_read e) l void
+none_step c op reply past e place b by (Called request reply') is rest l under void = none_quiet c op reply past e place (λ m. rest m (sym (with_begun (length past) (seen_at e) (caller_state c past)) ∙ under)) (one_read e) l void
+none_step c op reply past e place b by (Stopped request asked) is rest l under void = none_quiet c op reply past e place (λ m. rest m (sym (with_begun (length past) (seen_at e) (caller_state c past)) ∙ under)) (one_read e) l void
+none_step c op reply past e place b by (Restarted kept) is rest l under void = none_quiet c op reply past e place (λ m. rest m (sym (with_begun (length past) (seen_at e) (caller_state c past)) ∙ under)) (one_read e) l void
+none_step c op reply past e place b by (Abandoned tid) is rest l under void = none_quiet c op reply past e place (λ m. rest m (sym (with_begun (length past) (seen_at e) (caller_state c past)) ∙ under)) (one_read e) l void
+
+-- none shows a reply where none was noted
+none_shown : (c : ClientNo) (op : Op) (reply : Reply) (past : List Entry) (place : ℕ) (b : Begun) → LastShown c op reply past place
+    → (caller_state c past).begun ≡ Some b → (caller_state c past).notes ≡ [] → ⊥
+none_shown c op reply [] place b l under void = absurd l
+none_shown c op reply (e ∷ past) place b l under void =
+    elim (is_by c e) as (λ t. is_by c e ≡ t
+    → (if t then state_after (length past) e.what (seen_at e) (caller_state c past) else caller_state c past).begun ≡ Some b
+    → (if t then state_after (length past) e.what (seen_at e) (caller_state c past) else caller_state c past).notes ≡ [] → ⊥) [
+      | true ↦ λ by under void. none_step c op reply past e place b by e.what refl (none_shown c op reply past place b) l under void
+      | false ↦ λ off under void. others (λ m. none_shown c op reply past place b m under void) l off
+    ] refl under void
+  where
+    others : (LastShown c op reply past place → ⊥) → LastShown c op reply (e ∷ past) place → is_by c e ≡ false → ⊥
+    others rest (inl h) off = clash (is_by c e) h.0.0 off
+    others rest (inr h) off = rest h.2
+
+only_quiet : (c : ClientNo) (op : Op) (reply : Reply) (past : List Entry) (e : Entry) (place : ℕ) (note : Note)
+    → (LastShown c op reply past place → (caller_state c past).notes ≡ [] → ⊥)
+    → (LastShown c op reply past place → (caller_state c past).notes ≡ note ∷ [] → place ≡ note.place)
+    → (seen_at e ≡ []) ⊎ ((seen : Seen) × (seen_at e ≡ seen ∷ []))
+    → LastShown c op reply (e ∷ past) place → (with_seen (length past) (seen_at e) (caller_state c past)).notes ≡ note ∷ [] → place ≡ note.place
+only_quiet c op reply past e place note none rest (inl empty) (inl h) one = absurd (shows_none c past e op reply empty h.0)
+only_quiet c op reply past e place note none rest (inl empty) (inr h) one = rest h.2 (sym (with_none (length past) (seen_at e) (caller_state c past) empty) ∙ one)
+only_quiet c op reply past e place note none rest (inr (x, is)) (inl h) one =
+    let all : record { place = length past; seen = x; catalog = (caller_state c past).catalog } ∷ (caller_state c past).notes ≡ note ∷ [] = sym (with_one (length past) x (seen_at e) (caller_state c past) is) ∙ one in
+    let same : record { place = length past; seen = x; catalog = (caller_state c past).catalog } ≡ note = cc in
+    h.1 ∙ ap (λ (n : Note). n.place) same
+only_quiet c op reply past e place note none rest (inr (x, is)) (inr h) one =
+    let all : record { place = length past; seen = x; catalog = (caller_state c past).catalog } ∷ (caller_state c past).notes ≡ note ∷ [] = sym (with_one (length past) x (seen_at e) (caller_state c past) is) ∙ one in
+    let void : (caller_state c past).notes ≡ [] = cc in
+    absurd (none h.2 void)
+
+quiet_one : (c : ClientNo) (op : Op) (reply : Reply) (past : List Entry) (e : Entry) (place : ℕ) (b : Begun) (note : Note)
+    → (LastShown c op reply past place → (caller_state c past).begun ≡ Some b → (caller_state c past).notes ≡ note ∷ [] → place ≡ note.place)
+    → LastShown c op reply (e ∷ past) place
+    → (with_seen (length past) (seen_at e) (caller_state c past)).begun ≡ Some b
+    → (with_seen (length past) (seen_at e) (caller_state c past)).notes ≡ note ∷ [] → place ≡ note.place
+quiet_one c op reply past e place b note rest l under one =
+    let before : (caller_state c past).begun ≡ Some b = sym (with_begun (length past) (seen_at e) (caller_state c past)) ∙ under in
+    only_quiet c op reply past e place note (λ m void. none_shown c op reply past place b m before void) (λ m. rest m before) (one_read e) l one
+
+only_step : (c : ClientNo) (op : Op) (reply : Reply) (past : List Entry) (e : Entry) (place : ℕ) (b : Begun) (note : Note)
+    → is_by c e ≡ true → (what : What) → e.what ≡ what
+    → (LastShown c op reply past place → (caller_state c past).begun ≡ Some b → (caller_state c past).notes ≡ note ∷ [] → place ≡ note.place)
+    → LastShown c op reply (e ∷ past) place
+    → (state_after (length past) what (seen_at e) (caller_state c past)).begun ≡ Some b
+    → (state_after (length past) what (seen_at e) (caller_state c past)).notes ≡ note ∷ [] → place ≡ note.place
+only_step c op reply past e place b note by (Begin number begun) is rest l under one = absurd (after_begin c op reply past e place number begun by is l)
+only_step c op reply past e place b note by (Answered number answer) is rest l under one = absurd cc
+only_step c op reply past e place b note by (Issue tid mini) is rest l under one = quiet_one c op reply past e place b note rest l under one
+only_step c op reply past e place b note by (Called request reply') is rest l under one = quiet_one c op reply past e place b note rest l under one
+only_step c op reply past e place b note by (Stopped request asked) is rest l under one = quiet_one c op reply past e place b note rest l under one
+only_step c op reply past e place b note by (Restarted kept) is rest l under one = quiet_one c op reply past e place b note rest l under one
+only_step c op reply past e place b note by (Abandoned tid) is rest l under one = quiet_one c op reply past e place b note rest l under one
+
+-- the only read is the last that shows a reply
+only_shown : (c : ClientNo) (op : Op) (reply : Reply) (past : List Entry) (place : ℕ) (b : Begun) (note : Note) → LastShown c op reply past place
+    → (caller_state c past).begun ≡ Some b → (caller_state c past).notes ≡ note ∷ [] → place ≡ note.place
+only_shown c op reply [] place b note l under one = absurd l
+only_shown c op reply (e ∷ past) place b note l under one =
+    elim (is_by c e) as (λ t. is_by c e ≡ t
+    → (if t then state_after (length past) e.what (seen_at e) (caller_state c past) else caller_state c past).begun ≡ Some b
+    → (if t then state_after (length past) e.what (seen_at e) (caller_state c past) else caller_state c past).notes ≡ note ∷ [] → place ≡ note.place) [
+      | true ↦ λ by under one. only_step c op reply past e place b note by e.what refl (only_shown c op reply past place b note) l under one
+      | false ↦ λ off under one. others (λ m. only_shown c op reply past place b note m under one) l off
+    ] refl under one
+  where
+    others : (LastShown c op reply past place → place ≡ note.place) → LastShown c op reply (e ∷ past) place → is_by c e ≡ false → place ≡ note.place
+    others rest (inl h) off = absurd (clash (is_by c e) h.0.0 off)
+    others rest (inr h) off = rest h.2
+
 -- Where a reply that no plan gives has its place
 
-pub noted_place : (c : ClientNo) (past : List Entry) (op : Op) (reply : Reply) (place : ℕ) → IsNotedPlace (caller_state c past).notes op reply place → ReadPlace c past op reply place
-noted_place c past (Scan version low high limit) (Say.Pairs pairs) place at = first_note c past place at
-noted_place c past (Scan version low high limit) (Say.Values found) place at = last_note c (Scan version low high limit) (Say.Values found) past place at
-noted_place c past (Scan version low high limit) (Say.Unmet step found) place at = last_note c (Scan version low high limit) (Say.Unmet step found) past place at
-noted_place c past (Scan version low high limit) Say.Made place at = last_note c (Scan version low high limit) Say.Made past place at
-noted_place c past (Scan version low high limit) (Say.Listing versions) place at = last_note c (Scan version low high limit) (Say.Listing versions) past place at
-noted_place c past (Scan version low high limit) Say.NoVersion place at = last_note c (Scan version low high limit) Say.NoVersion past place at
-noted_place c past (Scan version low high limit) Say.Frozen place at = last_note c (Scan version low high limit) Say.Frozen past place at
-noted_place c past (Scan version low high limit) Say.NotFrozen place at = last_note c (Scan version low high limit) Say.NotFrozen past place at
-noted_place c past (Scan version low high limit) Say.NameTaken place at = last_note c (Scan version low high limit) Say.NameTaken past place at
-noted_place c past (Scan version low high limit) Say.VersionsFull place at = last_note c (Scan version low high limit) Say.VersionsFull past place at
-noted_place c past (Tx version steps) reply place at = last_note c (Tx version steps) reply past place at
-noted_place c past (Snapshot version child) reply place at = last_note c (Snapshot version child) reply past place at
-noted_place c past (Branch version child) reply place at = last_note c (Branch version child) reply past place at
-noted_place c past Versions reply place at = last_note c Versions reply past place at
+only_or_last : (c : ClientNo) (op : Op) (reply : Reply) (past : List Entry) (place : ℕ) (b : Begun) → (caller_state c past).begun ≡ Some b
+    → ((p : ℕ) × LastShown c op reply past p) → IsOnlyNote (caller_state c past).notes place ⊎ IsLastNote (caller_state c past).notes op reply place → LastShown c op reply past place
+only_or_last c op reply past place b under has (inl one) =
+    subst (λ p. LastShown c op reply past p) (only_shown c op reply past has.0 b one.0 has.1 under one.1 ∙ sym one.2) has.1
+only_or_last c op reply past place b under has (inr last) = last_note c op reply past place last
+
+pub noted_place : (c : ClientNo) (past : List Entry) (op : Op) (reply : Reply) (place : ℕ) (b : Begun) → (caller_state c past).begun ≡ Some b
+    → ((p : ℕ) × ReadPlace c past op reply p) → IsNotedPlace (caller_state c past).notes op reply place → ReadPlace c past op reply place
+noted_place c past (Scan version low high limit) (Say.Pairs pairs) place b under has at = first_note c past place at
+noted_place c past (Scan version low high limit) (Say.Values found) place b under has at = only_or_last c (Scan version low high limit) (Say.Values found) past place b under has at
+noted_place c past (Scan version low high limit) (Say.Unmet step found) place b under has at = only_or_last c (Scan version low high limit) (Say.Unmet step found) past place b under has at
+noted_place c past (Scan version low high limit) Say.Made place b under has at = only_or_last c (Scan version low high limit) Say.Made past place b under has at
+noted_place c past (Scan version low high limit) (Say.Listing versions) place b under has at = only_or_last c (Scan version low high limit) (Say.Listing versions) past place b under has at
+noted_place c past (Scan version low high limit) Say.NoVersion place b under has at = only_or_last c (Scan version low high limit) Say.NoVersion past place b under has at
+noted_place c past (Scan version low high limit) Say.Frozen place b under has at = only_or_last c (Scan version low high limit) Say.Frozen past place b under has at
+noted_place c past (Scan version low high limit) Say.NotFrozen place b under has at = only_or_last c (Scan version low high limit) Say.NotFrozen past place b under has at
+noted_place c past (Scan version low high limit) Say.NameTaken place b under has at = only_or_last c (Scan version low high limit) Say.NameTaken past place b under has at
+noted_place c past (Scan version low high limit) Say.VersionsFull place b under has at = only_or_last c (Scan version low high limit) Say.VersionsFull past place b under has at
+noted_place c past (Tx version steps) reply place b under has at = only_or_last c (Tx version steps) reply past place b under has at
+noted_place c past (Snapshot version child) reply place b under has at = only_or_last c (Snapshot version child) reply past place b under has at
+noted_place c past (Branch version child) reply place b under has at = only_or_last c (Branch version child) reply past place b under has at
+noted_place c past Versions reply place b under has at = only_or_last c Versions reply past place b under has at

@@ -14,7 +14,7 @@ use Rattle.mn_world.specs.declared.entry.Entry.{Entry}
 use Rattle.mn_world.specs.Calls.{Begun, client_entries, under_way}
 use Rattle.mn_world.specs.History.{Placed, placed_in, has_past, AnswerPuts}
 use Rattle.mn_hist.specs.declared.history.OpKey.{OpKey}
-use Rattle.mn_hist.specs.History.{Act, placed_act, acts_from, caller_state, IsNotedPlace, IsPutInto, StandsInSet, SlotsHoldHistory, AnswerIsInHistory, stands}
+use Rattle.mn_hist.specs.History.{Act, placed_act, acts_from, caller_state, IsNotedPlace, IsPutInto, StandsInSet, SlotsHoldHistory, AnswerIsInHistory, AnswerHasPlace, stands}
 use Rattle.mn_hist.proofs.Noted.{begun_is, noted_place}
 use Rattle.mn_hist.proofs.Planning.{or_swap}
 
@@ -100,20 +100,28 @@ stands_already past c begun reply placed is has = subst (λ o. AnswerPuts past c
 
 pub puts_read : {S : Type 0} (past : List Entry) (c : ClientNo) (begun : Begun) (reply : Reply) (placed : List Placed) (old standing : HashSet OpKey S) (slots new : List (Option Act)) (place : ℕ)
     → (caller_state c past).begun ≡ Some begun → has_past c begun.number placed ≡ false → IsNotedPlace (caller_state c past).notes begun.op reply place
+    → AnswerHasPlace past c (Replied reply) placed
     → StandsInSet old placed → SlotsHoldHistory slots placed → IsPutInto slots place (record { client = c; number = begun.number; op = begun.op }) new → length new ≡ length slots
     → ((d : ClientNo) (n : ℕ) → stands standing d n ≡ ((client_same c d && nat_eq begun.number n) || stands old d n))
     → AnswerIsInHistory past c (Replied reply) placed standing slots new
-puts_read past c begun reply placed old standing slots new place is none at st fills put long more =
+puts_read past c begun reply placed old standing slots new place is none at has st fills put long more =
     let p : Placed = record { place = place; past = record { client = c; number = begun.number; op = begun.op; reply = reply } } in
     record {
       next = placed_in (record { place = place; past = record { client = c; number = begun.number; op = begun.op; reply = reply } }) placed;
       puts = subst (λ o. AnswerPuts past c o (Replied reply) placed (placed_in (record { place = place; past = record { client = c; number = begun.number; op = begun.op; reply = reply } }) placed)) (sym is ∙ begun_is c past)
           (subst (λ t. MatchBool t (placed_in (record { place = place; past = record { client = c; number = begun.number; op = begun.op; reply = reply } }) placed ≡ placed) ((place' : ℕ) × Rattle.mn_world.specs.History.ReadPlace c past begun.op reply place' × (placed_in (record { place = place; past = record { client = c; number = begun.number; op = begun.op; reply = reply } }) placed ≡ placed_in (record { place = place'; past = record { client = c; number = begun.number; op = begun.op; reply = reply } }) placed))) (sym none)
-          (place, noted_place c past begun.op reply place at, refl));
+          (place, noted_place c past begun.op reply place begun is (some_place has) at, refl));
       stands = λ d n. more d n ∙ (ap (λ t. (client_same c d && nat_eq begun.number n) || t) (st d n) ∙ sym (past_more d n p placed));
       fills = filled_more slots new placed p (record { client = c; number = begun.number; op = begun.op }) fills put refl;
       long = long;
     }
+  where
+    some_place : AnswerHasPlace past c (Replied reply) placed → (p : ℕ) × Rattle.mn_world.specs.History.ReadPlace c past begun.op reply p
+    some_place (next, puts) =
+        let here : AnswerPuts past c (Some begun) (Replied reply) placed next = subst (λ o. AnswerPuts past c o (Replied reply) placed next) (sym (begun_is c past) ∙ is) puts in
+        let found : (p : ℕ) × Rattle.mn_world.specs.History.ReadPlace c past begun.op reply p × (next ≡ placed_in (record { place = p; past = record { client = c; number = begun.number; op = begun.op; reply = reply } }) placed) =
+        subst (λ t. MatchBool t (next ≡ placed) ((p : ℕ) × Rattle.mn_world.specs.History.ReadPlace c past begun.op reply p × (next ≡ placed_in (record { place = p; past = record { client = c; number = begun.number; op = begun.op; reply = reply } }) placed))) none here in
+        (found.0, found.1)
 
 -- What a program finds
 

@@ -10,6 +10,7 @@ use Rattle.mn_world.specs.Protocol.{Start}
 use Rattle.mn_hist.specs.declared.history.Ending.{Ending}
 use Rattle.mn_hist.specs.declared.history.OpKey.{OpKey}
 use Rattle.mn_hist.specs.History.{Act, StandsInSet, acts_in, done_from}
+use Rattle.mn_hist.specs.Saying.{TellsAnswers}
 
 -- the operations in these slots, with the replies of the store, are the history of these entries,
 -- from this store on, and they stand in this set
@@ -20,8 +21,10 @@ pub record TellsHistory {S : Type 0} (slots : List (Option Act)) (standing : Has
   pub history : done_from store (acts_in slots) ≡ pasts_of placed
   pub stands : StandsInSet standing placed
 
--- it is told by the history of these entries, from this store on, and has the store after it
+-- it is told by the history of these entries, from this store on, has the store after it, and what
+-- the entries say of operations
 pub record IsEndingOf (ending : Ending) (from : Start) (store : Store) (past : List Entry)
     (placed : List Placed) : Type 0 where
   pub told : TellsHistory ending.slots.items ending.standing from store past placed
   pub after : ending.store ≡ store_after store (pasts_of placed)
+  pub said : TellsAnswers ending.said past

@@ -1,6 +1,6 @@
 -- What is kept of the entries so far to tell the history. Lists of entries and of reads stand
 -- newest first.
-use Rattle.std.specs.Prelude.{ℕ, ◌≡◌, ◌+◌, ◌<◌, Bool, true, false, ◌&&◌, nat_eq}
+use Rattle.std.specs.Prelude.{ℕ, ◌≡◌, ◌⊎◌, ◌+◌, ◌<◌, Bool, true, false, ◌&&◌, nat_eq}
 use Rattle.std.specs.Prelude.{List, [], ◌∷◌, ◌++◌, length, map, Option, Some, None}
 use Rattle.std.specs.Prelude.{if◌then◌else◌, slice_get}
 use Rattle.std.specs.List.{AllByRecursion}
@@ -17,11 +17,13 @@ use Rattle.mn_base.specs.declared.op.Op.{Op}
 use Rattle.mn_base.specs.declared.op.Op.TheVariants.{Scan}
 use Rattle.mn_base.specs.declared.reply.Reply.{Reply}
 use Rattle.mn_base.specs.declared.reply.Reply.TheVariants.{Pairs}
+use Rattle.mn_mini.specs.Mini.{Mini}
 use Rattle.mn_world.specs.declared.entry.Entry.{Entry}
 use Rattle.mn_world.specs.declared.entry.What.{What}
 use Rattle.mn_world.specs.declared.entry.What.TheVariants.{Begin, Issue, Answered}
 use Rattle.mn_world.specs.Calls.{is_by, client_entries, Issued, issues_of, issue_named, Begun}
 use Rattle.mn_world.specs.Calls.{under_way}
+use Rattle.mn_world.specs.Clients.{is_read}
 use Rattle.mn_world.specs.declared.commit_reader.CommittedMini.{CommittedMini}
 use Rattle.mn_world.specs.CommitReader.{issued_of}
 use Rattle.mn_world.specs.History.{Placed, has_past, AnswerPuts, EntryPuts}
@@ -98,10 +100,14 @@ pub record IsFirstNote (notes : List Note) (place : ℕ) : Type 0 where
   pub catalog : is_of_catalog note.seen ≡ true
   pub none : AllByRecursion (λ n. is_of_catalog n.seen ≡ false) older
 
--- where a reply that no plan gives has its place
+-- the place is that of the only read
+abbrev pub IsOnlyNote : List Note → ℕ → Type 0
+IsOnlyNote notes place = (note : Note) × (notes ≡ note ∷ []) × (place ≡ note.place)
+
+-- where a reply that no plan gives, and that has a place, has it
 abbrev pub IsNotedPlace : List Note → Op → Reply → ℕ → Type 0
 IsNotedPlace notes (Scan version low high limit) (Pairs pairs) place = IsFirstNote notes place
-IsNotedPlace notes op reply place = IsLastNote notes op reply place
+IsNotedPlace notes op reply place = IsOnlyNote notes place ⊎ IsLastNote notes op reply place
 
 -- Plans
 
@@ -184,6 +190,16 @@ StandsInSet standing placed =
 abbrev pub SlotsHoldHistory : List (Option Act) → List Placed → Type 0
 SlotsHoldHistory slots placed = acts_from 0 slots ≡ map placed_act placed
 
+-- the answer to a client's operation has its place in the history, if it puts something there
+abbrev pub AnswerHasPlace : List Entry → ClientNo → Answer → List Placed → Type 0
+AnswerHasPlace past c answer placed = (next : List Placed)
+    × AnswerPuts past c (under_way (client_entries c past)) answer placed next
+
+-- so has what an entry that commits this puts there
+abbrev pub EntryHasPlace : List Entry → Entry → Option Issued → List Placed → Type 0
+EntryHasPlace past e committed placed =
+    (next : List Placed) × EntryPuts past e committed placed next
+
 -- what the answer to a client's operation puts into the history stands there
 pub record AnswerIsInHistory {S : Type 0} (past : List Entry) (c : ClientNo) (answer : Answer)
     (placed : List Placed) (standing : HashSet OpKey S) (old new : List (Option Act)) : Type 0 where
@@ -193,9 +209,15 @@ pub record AnswerIsInHistory {S : Type 0} (past : List Entry) (c : ClientNo) (an
   pub fills : SlotsHoldHistory new next
   pub long : length new ≡ length old
 
+-- it is a plan, and was issued under this id
+abbrev pub IsPlanUnder : Tid → List Entry → Mini → Type 0
+IsPlanUnder tid past mini =
+    (issue_named tid (issues_of past) ≡ Some mini) × (is_read mini.items ≡ false)
+
 -- what is kept of plans is who issued the last plan of each id
 abbrev pub KnowsPlanners : {S : Type 0} → HashMap IdKey Planner S → List Entry → Type 0
-KnowsPlanners plans past = (tid : Tid) → planner_kept plans tid ≡ planner_of tid past
+KnowsPlanners plans past = (tid : Tid) (mini : Mini) → IsPlanUnder tid past mini
+    → planner_kept plans tid ≡ planner_of tid past
 
 -- it was issued under its id
 abbrev pub IsIssuedUnderId : List Entry → CommittedMini → Type 0

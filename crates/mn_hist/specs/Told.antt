@@ -5,11 +5,13 @@ use Rattle.mn_world.specs.CommitReader.{HasRead}
 use Rattle.mn_world.specs.History.{Placed, IsHistory}
 use Rattle.mn_hist.specs.declared.history.HistoryReader.{HistoryReader}
 use Rattle.mn_hist.specs.History.{AreCallerStates, KnowsPlanners, StandsInSet, SlotsHoldHistory}
+use Rattle.mn_hist.specs.Saying.{TellsAnswers}
 
 -- these entries are what the reader has read
 pub record ReaderHasRead (reader : HistoryReader) (past : List Entry) : Type 0 where
   pub commits : HasRead reader.commits past
   pub long : length reader.callers.items ≡ 256
+  pub said : TellsAnswers reader.said past
 
 -- and this is their history
 pub record ReaderHasTold (reader : HistoryReader) (past : List Entry) (placed : List Placed)

@@ -4,14 +4,13 @@ ghost use Rattle.std.specs.Prelude.{nat_eq, map, flat_map, length};
 ghost use Rattle.mn_base.specs.Ids.{client_same};
 ghost use Rattle.mn_base.specs.declared.ids.ClientNo.{ClientNo as Who};
 ghost use Rattle.mn_world.specs.declared.entry.Entry.{Entry as Step};
-ghost use Rattle.mn_world.specs.Run.{entries_of};
 ghost use Rattle.mn_hist.specs.Audit.{answer_line_at, answers_from, op_numbers, is_said_in_doubt};
 ghost use Rattle.mn_hist.specs.Audit.{doubt_at};
 ghost use Rattle.mn_hist.specs.Audit.{doubt_lines, doubts_from};
 ghost use Rattle.mn_hist.specs.History.{stands};
 ghost use Rattle.mn_hist.specs.Saying.{said_kept, TellsAnswers};
 
-use crate::history::{ENTRIES, OpKey, is_standing, op_key};
+use crate::history::{OpKey, is_standing, op_key};
 use mn_base::{Answer, ClientNo, Name, NoMemory, TryCopy};
 use mn_report::{AnswerLine, AnswerLines, DoubtLine, LineAnswer, Outcomes};
 use mn_script::ScriptClient;
@@ -52,7 +51,7 @@ fn note_said<'a>(
 }
 
 /// Notes what the entry says of an operation of its client.
-fn note_entry<'a>(said: &mut HashMap<OpKey, Said<'a>>, entry: &'a Entry) -> Result<(), NoMemory>
+pub fn note_entry<'a>(said: &mut HashMap<OpKey, Said<'a>>, entry: &'a Entry) -> Result<(), NoMemory>
     ensures { OnOk result ((past : List Step) → TellsAnswers said.old past
         → TellsAnswers said.new (entry.now ∷ past)) }
 {
@@ -66,20 +65,6 @@ fn note_entry<'a>(said: &mut HashMap<OpKey, Said<'a>>, entry: &'a Entry) -> Resu
         }
         _ => Ok(()),
     }
-}
-
-/// What the log says of each operation. NoMemory: there was no memory for it.
-pub fn said_in<'a>(
-    alloc: Global,
-    log: &'a [(u64, Entry)],
-) -> Result<HashMap<OpKey, Said<'a>>, NoMemory>
-    ensures { IfOk result (λ said. TellsAnswers said (entries_of log.now)) }
-{
-    let mut said = HashMap::with_capacity(alloc, log.len() / ENTRIES)?;
-    for (_, entry) in log {
-        note_entry(&mut said, entry)?;
-    }
-    Ok(said)
 }
 
 /// What is said of an operation.
@@ -182,7 +167,7 @@ pub fn answers_of(
 ) -> Result<AnswerLines, NoMemory>
     ensures { IfOk result (λ lines. lines ≡ answers_from (said_kept said.now) 0 clients.now) }
 {
-    let mut lines = Vec::new(alloc);
+    let mut lines = Vec::with_capacity(alloc, said.len())?;
     for (at, client) in clients.iter().enumerate() {
         push_answers(alloc, &mut lines, said, client_at(at)?, client)?;
     }

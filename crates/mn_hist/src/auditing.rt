@@ -7,7 +7,7 @@ ghost use Rattle.mn_world.specs.Run.{entries_of};
 ghost use Rattle.mn_hist.specs.Audit.{client_name, ranked_act, IsAudit};
 ghost use Rattle.mn_hist.specs.History.{acts_in};
 
-use crate::answers::{answers_of, doubts_of, said_in};
+use crate::answers::{answers_of, doubts_of};
 use crate::history::{Act, ending_of};
 use crate::points::points_met;
 use crate::versions::versions_of;
@@ -65,10 +65,9 @@ pub fn audit(alloc: Global, start: &Store, log: &Log, script: &Script) -> Result
     let entries = log.as_slice();
     let clients = script.clients();
     let ending = ending_of(alloc, start, log)?;
-    let said = said_in(alloc, entries)?;
-    let answers = answers_of(alloc, &said, clients)?;
+    let answers = answers_of(alloc, &ending.said, clients)?;
     let history = ranks_of(alloc, clients, &ending.slots)?;
-    let doubts = doubts_of(alloc, &said, &ending.standing, clients)?;
+    let doubts = doubts_of(alloc, &ending.said, &ending.standing, clients)?;
     let points = points_met(alloc, script.points(), entries)?;
     let versions = versions_of(alloc, &ending.store)?;
     Ok(Report {

@@ -1,6 +1,6 @@
 //! The operations of a log in order of place.
 ghost use Rattle.std.specs.Option.{option_map};
-ghost use Rattle.std.specs.Prelude.{◌≡◌, ◌<◌, ◌∷◌, [], ℕ, List, Some, None, length, replicate};
+ghost use Rattle.std.specs.Prelude.{◌≡◌, ◌⊎◌, ◌<◌, ◌∷◌, [], ℕ, List, Some, None, length, replicate};
 ghost use Rattle.std.specs.Prelude.{false, slice_get};
 ghost use Rattle.std.specs.Prelude.{IfOk, OnOk, if◌then◌else◌, ◌||◌, ◌&&◌, nat_eq, MatchOption, ⊤};
 ghost use Rattle.std.specs.Prelude.{reverse};
@@ -12,7 +12,9 @@ ghost use Rattle.mn_world.specs.Shown.{seen_at};
 ghost use Rattle.mn_hist.specs.History.{CallerState, ChangesNothing, idle, with_seen, state_after};
 ghost use Rattle.mn_world.specs.History.{Placed};
 ghost use Rattle.mn_world.specs.declared.entry.Entry.{Entry as Step};
-ghost use Rattle.mn_hist.specs.History.{IsLastNote, IsFirstNote, IsNotedPlace, StandsInSet};
+ghost use Rattle.mn_hist.specs.History.{IsLastNote, IsFirstNote, IsOnlyNote, IsNotedPlace};
+ghost use Rattle.mn_hist.specs.Saying.{TellsAnswers};
+ghost use Rattle.mn_hist.specs.History.{AnswerHasPlace, EntryHasPlace, StandsInSet};
 ghost use Rattle.mn_hist.specs.History.{SlotsHoldHistory};
 ghost use Rattle.mn_hist.specs.History.{AnswerIsInHistory};
 ghost use Rattle.mn_hist.specs.History.{KnowsPlanners, IsIssuedUnderId, CommitIsInHistory};
@@ -32,12 +34,14 @@ ghost use Rattle.mn_world.specs.Meaning.{OpenedRun};
 ghost use Rattle.mn_world.specs.OneHistory.{IsOneHistory};
 ghost use Rattle.mn_world.specs.Run.{entries_of};
 
+use crate::answers::{Said, note_entry};
 use crate::shown::{KnownCatalog, Read, shows};
 use mn_base::{Answer, ClientNo, History, NoMemory, Op, Past, Reply, SharedOp, Tid, TryCopy};
 use mn_mini::{Item, Minitransaction};
 use mn_plain::Store;
 use mn_world::{
-    CommitReader, CommittedMini, Entry, IdKey, Log, What, id_key, runs_are_one_history,
+    CommitReader, CommittedMini, Entry, IdKey, Log, What, history_is_one, id_key,
+    runs_are_one_history, runs_have_history,
 };
 use std::alloc::Global;
 use std::collections::{HashMap, HashSet};
@@ -159,14 +163,33 @@ fn last_shown(
     Ok(None)
 }
 
-/// Where a reply that no plan gives has its place: a scan's pairs at its first catalog read, each
-/// other at the last read that shows it. NoMemory: there was no memory to tell, or none shows it.
+/// The place of the only read, or else of the last one that shows the reply. NoMemory: there was no
+/// memory to tell.
+fn only_or_last(
+    alloc: Global,
+    notes: &[Noted<'_>],
+    op: &Op,
+    reply: &Reply,
+) -> Result<Option<usize>, NoMemory>
+    ensures { IfOk result (λ found. MatchOption found ⊤
+        (λ place. IsOnlyNote (reverse notes.now) place
+        ⊎ IsLastNote (reverse notes.now) op.now reply.now place)) }
+{
+    if let [only] = notes {
+        return Ok(Some(only.place));
+    }
+    last_shown(alloc, notes, op, reply)
+}
+
+/// Where a reply that no plan gives has its place, if it has one: a scan's pairs at its first
+/// catalog read, each other at the last read that shows it, which is the only one where there is
+/// one. NoMemory: there was no memory to tell, or none shows it.
 fn read_place(alloc: Global, notes: &[Noted<'_>], op: &Op, reply: &Reply) -> Result<usize, NoMemory>
     ensures { IfOk result (IsNotedPlace (reverse notes.now) op.now reply.now) }
 {
     let place = match (op, reply) {
         (Op::Scan { .. }, Reply::Pairs { .. }) => first_catalog(notes),
-        _ => last_shown(alloc, notes, op, reply)?,
+        _ => only_or_last(alloc, notes, op, reply)?,
     };
     place.ok_or(NoMemory)
 }
@@ -401,6 +424,7 @@ fn take_answer<'a>(
     ensures { OnOk result ((past : List Step) (placed : List Placed)
         → AreCallerStates callers.now past
         → StandsInSet standing.old placed → SlotsHoldHistory slots.old.items placed
+        → AnswerHasPlace past client answer.now placed
         → AnswerIsInHistory past client answer.now placed standing.new slots.old.items
         slots.new.items) }
 {
@@ -445,7 +469,7 @@ fn take_commit<'a>(
     Ok(Some(act))
 }
 
-/// Notes who issued a minitransaction, and for which operation, where the entry issues one.
+/// Notes who issued a plan, and for which operation, where the entry issues one.
 fn note_issue<'a>(
     callers: &[Caller<'a>],
     plans: &mut HashMap<IdKey, Planner<'a>>,
@@ -456,9 +480,12 @@ fn note_issue<'a>(
         → KnowsPlanners plans.old past
         → KnowsPlanners plans.new (entry.now ∷ past)) }
 {
-    let What::Issue { tid, .. } = &entry.what else {
+    let What::Issue { tid, mini } = &entry.what else {
         return Ok(());
     };
+    if is_read(mini) {
+        return Ok(());
+    }
     let begun = match entry.client {
         Some(client) => begun_by(callers, client),
         None => None,
@@ -507,7 +534,7 @@ fn note_step<'a>(
 
 /// How many entries stand in a log for an operation or an issue, mostly: for as many as that makes
 /// there is room at once.
-pub const ENTRIES: usize = 4;
+const ENTRIES: usize = 4;
 
 /// How many numbers of clients there are.
 const CLIENT_NUMBERS: usize = 256;
@@ -536,6 +563,7 @@ fn take_step<'a>(
     ensures { OnOk result ((past : List Step) (placed : List Placed)
         → AreCallerStates callers.now past
         → StandsInSet standing.old placed → SlotsHoldHistory slots.old.items placed
+        → EntryHasPlace past entry.now None placed
         → EntryIsInHistory past entry.now None placed standing.new slots.old.items slots.new.items
         None) }
 {
@@ -562,6 +590,7 @@ fn take_entry<'a>(
         → IsRun start past → AreCallerStates callers.now past → KnowsPlanners plans.now past
         → option_map issued_of committed.entry ≡ committed_by past entry.now
         → StandsInSet standing.old placed → SlotsHoldHistory slots.old.items placed
+        → EntryHasPlace past entry.now (committed_by past entry.now) placed
         → EntryIsInHistory past entry.now (committed_by past entry.now) placed standing.new
         slots.old.items slots.new.items found) }
 {
@@ -586,6 +615,8 @@ struct HistoryReader<'a> {
     standing: HashSet<OpKey>,
     /// They by place, one slot an entry.
     slots: Vec<Option<Act<'a>>>,
+    /// What is said of each operation.
+    said: HashMap<OpKey, Said<'a>>,
 }
 
 impl<'a> HistoryReader<'a> {
@@ -599,6 +630,7 @@ impl<'a> HistoryReader<'a> {
             plans: HashMap::with_capacity(alloc, entries / ENTRIES)?,
             standing: HashSet::with_capacity(alloc, entries / ENTRIES)?,
             slots: Vec::with_capacity(alloc, entries)?,
+            said: HashMap::with_capacity(alloc, entries / ENTRIES)?,
         })
     }
 
@@ -609,7 +641,8 @@ impl<'a> HistoryReader<'a> {
         ensures reads { (past : List Step) → ReaderHasRead self.old past
             → OnOk result (ReaderHasRead self.new (entry.now ∷ past)) }
         ensures tells { OnOk result ((start : Start) (past : List Step) (placed : List Placed)
-            → IsRun start past → ReaderHasTold self.old past placed → (next : List Placed)
+            → IsRun start past → EntryHasPlace past entry.now (committed_by past entry.now) placed
+            → ReaderHasTold self.old past placed → (next : List Placed)
             × ReaderHasTold self.new (entry.now ∷ past) next) }
     {
         let committed = self.commits.follow(entry)?;
@@ -624,6 +657,7 @@ impl<'a> HistoryReader<'a> {
         )?;
         note_issue(&self.callers, &mut self.plans, entry)?;
         note_step(alloc, &mut self.callers, self.slots.len(), entry)?;
+        note_entry(&mut self.said, entry)?;
         self.slots.push(act)?;
         Ok(())
     }
@@ -689,9 +723,12 @@ fn follow_all(alloc: Global, store: &mut Store, slots: &[Option<Act<'_>>]) -> Re
 
 /// What the entries of a log tell of the history.
 fn read_log<'a>(alloc: Global, log: &'a [(u64, Entry)]) -> Result<HistoryReader<'a>, NoMemory>
-    ensures { IfOk result (λ reader. (start : Start) → IsRun start (entries_of log.now)
+    ensures { IfOk result (λ reader. (start : Start) (store : Versions)
+        → OpenedRun start store (entries_of log.now)
         → (placed : List Placed) × ReaderHasTold reader (entries_of log.now) placed) }
 {
+    runs_have_history();
+    history_is_one();
     let mut reader = HistoryReader::new(alloc, log.len())?;
     for (_, entry) in log {
         reader.follow(alloc, entry)?;
@@ -703,18 +740,20 @@ fn read_log<'a>(alloc: Global, log: &'a [(u64, Entry)]) -> Result<HistoryReader<
 fn reader_of<'a>(alloc: Global, log: &'a Log) -> Result<HistoryReader<'a>, NoMemory>
     ensures { (from : Start) (store : Versions) → OpenedRun from store (entries_of log.now)
         → IfOk result (λ reader. (placed : List Placed) × TellsHistory reader.slots.items
-        reader.standing from store (entries_of log.now) placed) }
+        reader.standing from store (entries_of log.now) placed
+        × TellsAnswers reader.said (entries_of log.now)) }
 {
     runs_are_one_history();
     read_log(alloc, log.as_slice())
 }
 
 /// What a log comes to: the operations of its history in order of place, some slots without one;
-/// the same to look up; and the store after them.
+/// the same to look up; what is said of each operation; and the store after them.
 #[derive(Drop)]
 pub struct Ending<'a> {
     pub slots: Vec<Option<Act<'a>>>,
     pub standing: HashSet<OpKey>,
+    pub said: HashMap<OpKey, Said<'a>>,
     pub store: Store,
 }
 
@@ -730,6 +769,7 @@ pub fn ending_of<'a>(alloc: Global, start: &Store, log: &'a Log) -> Result<Endin
     Ok(Ending {
         slots: reader.slots,
         standing: reader.standing,
+        said: reader.said,
         store,
     })
 }

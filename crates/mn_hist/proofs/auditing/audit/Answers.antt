@@ -19,9 +19,9 @@ returns-clause-audit c = λ from h.
     let script = c.args.script.now in
     let past = entries_of c.args.log.now in
     let clients = c.clients-clients.result.now in
-    let said = c.in_ok-said.said in
+    let said = c.in_ok-ending.ending.said in
     let ends = c.in_ok-ending.ensures from h in
-    let says : TellsAnswers said past = subst (λ (l : List (ℕ × Entry)). TellsAnswers said (entries_of l)) c.as_slice-entries.ensures c.in_ok-said.ensures in
+    let says : TellsAnswers said past = ends.1.said in
     let stood = λ (k : ClientNo) (n : ℕ). has_past k n ends.0 in
     record {
       placed = ends.0;
@@ -39,8 +39,9 @@ returns-clause-audit c = λ from h.
 pub returns-clause-can_report : goal.returns-clause-can_report
 returns-clause-can_report c = λ from h.
     let past = entries_of c.args.log.now in
-    let said = c.in_ok-said.said in
-    let says : TellsAnswers said past = subst (λ (l : List (ℕ × Entry)). TellsAnswers said (entries_of l)) c.as_slice-entries.ensures c.in_ok-said.ensures in
+    let said = c.in_ok-ending.ending.said in
+    let ends = c.in_ok-ending.ensures from h in
+    let says : TellsAnswers said past = ends.1.said in
     can_report from c.args.start.now c.args.script.now past
     (record { answers = c.in_ok-answers.answers; history = c.in_ok-history.history; doubts = c.in_ok-doubts.doubts; points = c.from_vec.result; versions = c.in_ok-versions.versions }) h
     (c.in_ok-answers.ensures ∙ (answers_same (said_kept said) (said_by past) says 0 c.clients-clients.result.now ∙ ap (answers_from (said_by past) 0) c.clients-clients.ensures.value))

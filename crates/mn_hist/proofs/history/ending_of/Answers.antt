@@ -12,5 +12,5 @@ returns c = λ from run.
     let told = c.in_ok-reader.ensures from start run in
     let done : done_from start (acts_in slots) ≡ pasts_of told.0 = ap (λ l. done_from start (acts_in l)) c.deref.ensures.value ∙ told.1.history in (
       told.0,
-      record { told = told.1; after = c.in_ok-follow_all.ensures ∙ (ap (λ (s : Store). store_after s (done_from s (acts_in slots))) c.in_ok-store.ensures ∙ ap (store_after start) done) },
+      record { told = told.1; after = c.in_ok-follow_all.ensures ∙ (ap (λ (s : Store). store_after s (done_from s (acts_in slots))) c.in_ok-store.ensures ∙ ap (store_after start) done); said = told.2 },
     )

@@ -1,9 +1,12 @@
 use Rattle.std.proofs.Common.{◌≡◌, ap, sym, ◌∙◌}
 use Rattle.mn_hist.specs.History.{Planner, begun_by, caller_state}
-use Rattle.mn_hist.proofs.Joining.{begun_there, one_issue}
+use Rattle.mn_hist.proofs.Joining.{begun_there, one_issue, one_read}
 use Rattle.mn_hist.proofs.Putting.{on_ok}
 use Rattle.mn_hist.proofs.history.note_issue.Goals.{in-Some, in-None}
 use Rattle.mn_hist.proofs.history.note_issue.Goals as goal
+
+pub returns-then-is_read : goal.returns-then-is_read
+returns-then-is_read c = λ past are knows. one_read c.args.plans.now past c.args.entry.now c.in-Issue.tid c.in-Issue.mini c.in-Issue.is (sym c.is_read.ensures ∙ c.if-is_read.true) knows
 
 pub returns : goal.returns
 returns c = on_ok c.note_planner.result c.note_planner.ensures (λ more past are knows.

@@ -1,7 +1,10 @@
 use Rattle.std.proofs.Common.{List, take}
+use Rattle.mn_base.specs.Store.{Store}
 use Rattle.mn_world.specs.History.{Placed}
 use Rattle.mn_world.specs.Protocol.{Start}
-use Rattle.mn_world.specs.Run.{IsRun, entries_of}
+use Rattle.mn_world.specs.Meaning.{HistoryIsOne, OpenedRun}
+use Rattle.mn_world.specs.OneHistory.{RunsHaveHistory}
+use Rattle.mn_world.specs.Run.{entries_of}
 use Rattle.mn_hist.specs.Told.{ReaderHasRead, ReaderHasTold}
 use Rattle.mn_hist.proofs.history.read_log.Given as goal
 
@@ -9,5 +12,6 @@ use Rattle.mn_hist.proofs.history.read_log.Given as goal
 abbrev pub invariant-loop-entry : goal.invariant-loop-entry
 invariant-loop-entry l = record {
   reads : ReaderHasRead l.reader (entries_of (take l.entry-index l.log));
-  tells : (start : Start) → IsRun start (entries_of (take l.entry-index l.log)) → (placed : List Placed) × ReaderHasTold l.reader (entries_of (take l.entry-index l.log)) placed;
+  laws : RunsHaveHistory × HistoryIsOne;
+  tells : (start : Start) (store : Store) → OpenedRun start store (entries_of (take l.entry-index l.log)) → (placed : List Placed) × ReaderHasTold l.reader (entries_of (take l.entry-index l.log)) placed;
 }

@@ -2,12 +2,12 @@ use Rattle.std.proofs.Common.{◌≡◌, ◌<◌, List, length, Some, reverse, a
 use Rattle.mn_base.specs.declared.answer.Answer.{Answer}
 use Rattle.mn_base.specs.declared.op.Op.{Op}
 use Rattle.mn_world.specs.Calls.{Begun}
-use Rattle.mn_hist.specs.History.{CallerState, Note, IsNotedPlace, AnswerIsInHistory, caller_state}
+use Rattle.mn_hist.specs.History.{CallerState, Note, IsNotedPlace, AnswerHasPlace, AnswerIsInHistory, caller_state}
 use Rattle.mn_hist.proofs.Putting.{on_ok, at_index, length_set, puts_none, idle_puts, stands_already, puts_read}
 use Rattle.mn_hist.proofs.history.take_answer.Goals as goal
 
 pub returns-in_default-begun : goal.returns-in_default-begun
-returns-in_default-begun c = λ past placed are st fills.
+returns-in_default-begun c = λ past placed are st fills has.
     let few : c.args.client.0 < 256 = omega arith in
     let there = are c.args.client few in
     let same = at_index c.args.callers.now c.args.client.0 c.index-callers-from.result (caller_state c.args.client past) (subst (λ i. c.index-callers-from.result ≡ Rattle.std.specs.Prelude.slice_index_or c.args.callers.now i c.index-callers-from.result) c.from.ensures c.index-callers-from.is) there in
@@ -15,7 +15,7 @@ returns-in_default-begun c = λ past placed are st fills.
     (idle_puts past c.args.client c.args.answer.now placed (sym (ap (λ (s : CallerState). s.begun) (c.caller.view_is ∙ same)) ∙ c.in_default-begun.is)) st fills
 
 pub returns-then-is_standing : goal.returns-then-is_standing
-returns-then-is_standing c = λ past placed are st fills.
+returns-then-is_standing c = λ past placed are st fills has.
     let few : c.args.client.0 < 256 = omega arith in
     let there = are c.args.client few in
     let same = at_index c.args.callers.now c.args.client.0 c.index-callers-from.result (caller_state c.args.client past) (subst (λ i. c.index-callers-from.result ≡ Rattle.std.specs.Prelude.slice_index_or c.args.callers.now i c.index-callers-from.result) c.from.ensures c.index-callers-from.is) there in
@@ -27,7 +27,7 @@ returns-then-is_standing c = λ past placed are st fills.
     (sym (st c.args.client c.begun.inside.number) ∙ (sym c.is_standing.ensures ∙ c.if-is_standing.true))) st fills)
 
 pub returns : goal.returns
-returns c = on_ok c.note_standing.result c.note_standing.ensures (λ more past placed are st fills.
+returns c = on_ok c.note_standing.result c.note_standing.ensures (λ more past placed are st fills has.
     let few : c.args.client.0 < 256 = omega arith in
     let there = are c.args.client few in
     let same = at_index c.args.callers.now c.args.client.0 c.index-callers-from.result (caller_state c.args.client past) (subst (λ i. c.index-callers-from.result ≡ Rattle.std.specs.Prelude.slice_index_or c.args.callers.now i c.index-callers-from.result) c.from.ensures c.index-callers-from.is) there in
@@ -37,6 +37,7 @@ returns c = on_ok c.note_standing.result c.note_standing.ensures (λ more past p
     (sym (st c.args.client c.begun.inside.number) ∙ (sym c.is_standing.ensures ∙ c.if-is_standing.false))
     (subst (λ (ns : List Note). IsNotedPlace ns c.begun.inside.op.now c.in-Replied.reply c.in_ok-place.place) (ap reverse c.deref.ensures.value ∙ ap (λ (s : CallerState). s.notes) (c.caller.view_is ∙ same))
     (subst (λ (o : Op). IsNotedPlace (reverse c.deref.result.now) o c.in-Replied.reply c.in_ok-place.place) c.get.ensures c.in_ok-place.ensures))
+    (subst (λ (a : Answer). AnswerHasPlace past c.args.client a placed) c.in-Replied.is has)
     st fills c.in_ok-put.ensures
     (ap length c.in_ok-put.ensures.1 ∙ length_set c.args.slots.now.items c.in_ok-place.place (Some (record { client = c.args.client; number = c.begun.inside.number; op = c.begun.inside.op.now })))
     more))

@@ -18,7 +18,7 @@ pub returns : goal.returns
 returns c = λ start past placed run knows named st.
     let a = c.in_ok-act.act in
     let other = sym c.is_read.ensures ∙ c.if-is_read.false in
-    let plan = plan_of start c.args.committed.tid c.args.committed.mini.now c.in_ok-act.act past run other (sym (knows c.args.committed.tid) ∙ c.in_ok-act.ensures) named in
+    let plan = plan_of start c.args.committed.tid c.args.committed.mini.now c.in_ok-act.act past run other (sym (knows c.args.committed.tid c.args.committed.mini.now (named, other)) ∙ c.in_ok-act.ensures) named in
     let more = subst (λ (a : Act). (d : ClientNo) (n : ℕ) → stands c.note_standing.new.standing d n ≡ ((client_same a.client d && nat_eq a.number n) || stands c.args.standing.now d n)) c.act.view_is c.in_ok-note_standing.ensures in
     record {
       reply = plan.0;

@@ -8,7 +8,7 @@ use Rattle.mn_hist.proofs.Joining.{named_here, on_found, takes_commit}
 use Rattle.mn_hist.proofs.history.take_entry.Goals as goal
 
 pub returns-in-Some : goal.returns-in-Some
-returns-in-Some c = on_found c.take_commit.result c.take_commit.ensures (λ found commits start past placed run are knows is st fills.
+returns-in-Some c = on_found c.take_commit.result c.take_commit.ensures (λ found commits start past placed run are knows is st fills has.
     let here : Some (issued_of c.in-Some.committed) ≡ committed_by past c.args.entry.now = sym (ap (option_map issued_of) c.in-Some.is) ∙ is in
     subst (λ (o : Option Issued). EntryIsInHistory past c.args.entry.now o placed c.take_commit.new.standing c.args.slots.now.items c.args.slots.now.items found) here
     (takes_commit past c.args.entry.now c.in-Some.committed placed c.take_commit.new.standing c.args.slots.now.items found fills (commits start past placed run knows (named_here past c.args.entry.now c.in-Some.committed here) st)))
