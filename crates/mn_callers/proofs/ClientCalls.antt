@@ -441,21 +441,18 @@ pub first_lives : (points : List Point) (c : Client) → c.list.entries ≡ [] �
 first_lives points c empty dead =
     clash (is_some_met (is_kill_of c.list.client) points (points_met points [])) (ap (λ (l : List (ℕ × Entry)). is_some_met (is_kill_of c.list.client) points (points_met points (entries_of l))) (sym empty) ∙ dead) (no_death points (is_kill_of c.list.client))
 
-pub first_client : (start : Start) (points : List Point) (c : Client) (client : ClientNo) → c.list ≡ record { client = client; entries = []; room = 0 } → c.begun ≡ 0 → c.due ≡ None → c.shared ≡ None → c.is_plan ≡ false → c.met.items ≡ replicate (length points) false
+pub first_client : (start : Start) (points : List Point) (c : Client) (client : ClientNo) → c.list.client ≡ client → c.list.entries ≡ [] → c.begun ≡ 0 → c.due ≡ None → c.shared ≡ None → c.is_plan ≡ false → c.met.items ≡ replicate (length points) false
     → c.proxy ≡ new_proxy client (run_number start) (start_nodes start) → Agrees [] c.proxy → IsClient start points c
-first_client start points c client list begun due shared plan met proxy agrees = record {
+first_client start points c client own empty begun due shared plan met proxy agrees = record {
   run = first_run start points c empty begun shared plan met;
   dead = λ dead. due;
   alive = λ lives. record {
     proxy = record {
       agrees = subst (λ (l : List (ℕ × Entry)). Agrees (entries_of l) c.proxy) (sym empty) agrees;
-      client = ap (λ (p : ProxyState). p.client) proxy ∙ sym (ap (λ (l : ClientState). l.client) list);
+      client = ap (λ (p : ProxyState). p.client) proxy ∙ sym own;
       run = ap (λ (p : ProxyState). p.run) proxy;
       nodes = ap (λ (p : ProxyState). p.known.nodes) proxy;
     };
     due = subst (λ (o : Option Call). MatchOption o (IsIdle c.proxy) (MayCallNext start c)) (sym due) (ap (λ (p : ProxyState). p.work) proxy);
   };
 }
-  where
-    empty : c.list.entries ≡ []
-    empty = ap (λ (l : ClientState). l.entries) list

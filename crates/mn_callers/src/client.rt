@@ -35,6 +35,10 @@ use mn_work::Task;
 use mn_world::{ClientList, CoreLaw, What};
 use std::alloc::Global;
 
+/// For how many entries a client's list has room at first: about those of as many operations as a
+/// client may have.
+const ENTRIES_AT_ONCE: usize = 1 << 14;
+
 /// The most steps that a client makes by itself between two calls.
 const OWN_STEPS: usize = 3;
 
@@ -147,8 +151,10 @@ impl Client {
     {
         let met = none_met(alloc, points.len())?;
         let proxy = Proxy::new(alloc, client, run, nodes)?;
+        let mut list = ClientList::new(alloc, client);
+        list.reserve(ENTRIES_AT_ONCE)?;
         Ok(Client {
-            list: ClientList::new(alloc, client),
+            list,
             proxy,
             begun: 0,
             due: None,
