@@ -5,15 +5,16 @@ ghost use Rattle.mn_base.specs.Tree.{has_version, is_ancestor, serves};
 ghost use Rattle.mn_vtree.specs.Parents.{numbers_of, IsLess, AreLess, IsFirstBad, RefusesParents};
 
 use crate::TreeError;
-use mn_base::VersionNo;
+use mn_base::{NoMemory, TryCopy, VersionNo};
 use std::alloc::Global;
 use std::marker::Model;
+use std::sync::Arc;
 
-/// The parent of each version, by number; a parent is less than its children. Contracts see a tree
-/// as the list of its parents' numbers.
+/// The parent of each version, by number; a parent is less than its children. Copies share one
+/// memory. Contracts see a tree as the list of its parents' numbers.
 #[derive(Debug, Drop)]
 pub struct VersionTree {
-    parents: Vec<Option<VersionNo>>,
+    parents: Arc<Vec<Option<VersionNo>>>,
 }
 
 impl Model for VersionTree {
@@ -22,9 +23,9 @@ impl Model for VersionTree {
 
     ghost Value = { List (Option ℕ) };
 
-    ghost view = { λ t. numbers_of t.parents.items };
+    ghost view = { λ t. numbers_of t.parents.value.items };
 
-    ghost invariant = { λ t. AreLess (numbers_of t.parents.items) };
+    ghost invariant = { λ t. AreLess (numbers_of t.parents.value.items) };
 }
 
 // The first version whose parent isn't less.
@@ -72,7 +73,7 @@ impl VersionTree {
             return Err(TreeError::BadParent { version });
         }
         Ok(VersionTree {
-            parents: parents.to_vec(alloc)?,
+            parents: Arc::new(alloc, parents.to_vec(alloc)?)?,
         })
     }
 
@@ -129,5 +130,13 @@ impl VersionTree {
             at = parent.0;
         }
         false
+    }
+}
+
+impl TryCopy for VersionTree {
+    fn try_copy(&self, _alloc: Global) -> Result<Self, NoMemory> {
+        Ok(VersionTree {
+            parents: Arc::try_clone(&self.parents)?,
+        })
     }
 }

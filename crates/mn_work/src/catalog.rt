@@ -148,10 +148,7 @@ impl Kept {
     pub fn copy_tree(&self, alloc: Global) -> Result<VersionTree, NoMemory>
         ensures { IfOk result (λ tree. tree ≡ parents_of (heads_in self.now)) }
     {
-        match tree_of(alloc, &self.catalog) {
-            Ok(tree) => Ok(tree),
-            Err(_) => Err(NoMemory),
-        }
+        self.tree.try_copy(alloc)
     }
 }
 
