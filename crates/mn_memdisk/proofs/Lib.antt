@@ -1,3 +1,4 @@
 pub mod Growth
 pub mod Replay
 pub mod Tears
+pub mod Writing

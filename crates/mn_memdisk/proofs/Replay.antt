@@ -1,92 +1,102 @@
--- Over the changes one by one, the oldest first.
-use Rattle.std.proofs.Common.{◌≡◌, ◌≤◌, ◌<◌, get_or, take-append-drop, ℕ, zero, suc, ◌+◌, ◌-◌, List, [], ◌∷◌, ◌++◌, length, take, drop, map, reverse, refl, sym, ◌∙◌, ap, subst, arith}
-use Rattle.std.proofs.lemmas.List.{reverse-append}
-use Rattle.mn_memdisk.specs.Events.{event_of, events_of, HasBytes, HaveBytes}
+-- Over the changes one by one, back to the last sync and on again.
+use Rattle.std.proofs.Common.{◌≡◌, ◌≤◌, ◌<◌, get_or, ℕ, zero, suc, ◌+◌, ◌-◌, List, [], ◌∷◌, ◌++◌, length, take, drop, reverse, refl, sym, ◌∙◌, ap, subst, arith, append_assoc, length-append, length-take, length-drop}
+use Rattle.std.proofs.lemmas.List.{drop_more, reverse-append, take_more}
 use Rattle.mn_memdisk.specs.Crash.{IsLeft, crashed, left, outcome_of, unsynced}
-use Rattle.mn_memdisk.specs.History.{Event, synced, after, content_of, IsWithin, IsSound}
+use Rattle.mn_memdisk.specs.Events.{HavePieces, IsBack, IsKept, events_of, first_of, events_with}
+use Rattle.mn_memdisk.specs.Held.{Held, Fits, IsBounded, but_last, event_of, event_with, last, piece_of, shown, size_of, undone}
+use Rattle.mn_memdisk.specs.History.{Event}
 use Rattle.mn_memdisk.specs.declared.changes.Change.{Change}
 use Rattle.mn_memdisk.specs.declared.outcome.Outcome.{Outcome}
 use Rattle.mn_memdisk.specs.declared.changes.Change.TheVariants.{Wrote, LostWrite, Shortened, LostCut, Synced}
-use Rattle.mn_memdisk.proofs.Growth.{map_push}
+use Rattle.mn_memdisk.proofs.Growth.{bounded_of, shown_of}
+use Rattle.mn_memdisk.proofs.Writing.{but_last_of, last_of}
 
-pub has_at : (n : ℕ) (xs : List Change) (i : ℕ) (d : Change) → i < length xs → HaveBytes n xs → HasBytes n (get_or xs i d)
-has_at n [] i d h have = absurd (omega arith)
-has_at n (x ∷ xs) zero d h have = have.0
-has_at n (x ∷ xs) (suc i) d h have = has_at n xs i d (omega arith) have.1
+length-piece : (held : Held) (x : Change) → Fits x held → size_of x ≡ length (piece_of held x)
+length-piece held (Wrote at count grown before) fits = omega (arith, fits.0, length-take count (drop at held.bytes), length-drop at held.bytes)
+length-piece held (LostWrite at count) fits = omega (arith, length-drop (length held.saved - count) held.saved)
+length-piece held (Shortened n before) fits = refl
+length-piece held (LostCut n) fits = refl
+length-piece held Synced fits = refl
 
-taken_next : (xs : List Change) (i : ℕ) (d : Change) → i < length xs → take (suc i) xs ≡ take i xs ++ get_or xs i d ∷ []
-taken_next [] i d h = absurd (omega arith)
-taken_next (x ∷ xs) zero d h = refl
-taken_next (x ∷ xs) (suc i) d h = ap (λ (l : List Change). x ∷ l) (taken_next xs i d (omega arith))
+-- the change of a number is the newest of those up to it
+reversed : (xs : List Change) (number i : ℕ) (d : Change) → number ≡ i + 1 → i < length xs → reverse (take number xs) ≡ get_or xs i d ∷ reverse (take i xs)
+reversed xs number i d is lt = ap (λ n. reverse (take n xs)) is ∙ ap reverse (take_more xs i d lt) ∙ reverse-append (take i xs) (get_or xs i d ∷ [])
 
-pub next_newest : (p : List ℕ) (xs : List Change) (i : ℕ) (d : Change) → i < length xs → events_of p (take (i + 1) xs) ≡ event_of p (get_or xs i d) ∷ events_of p (take i xs)
-next_newest p xs i d h =
-    let e : i + 1 ≡ suc i = omega arith in
-    ap (λ (n : ℕ). events_of p (take n xs)) e ∙ ap (λ (l : List Change). events_of p l) (taken_next xs i d h) ∙ ap (λ (l : List Event). reverse l) (map_push p (take i xs) (get_or xs i d))
-    ∙ reverse-append (map (λ y. event_of p y) (take i xs)) (event_of p (get_or xs i d) ∷ [])
+-- the newest change that isn't undone yet, and those before it
+pub newest_kept : (xs : List Change) (number : ℕ) (d : Change) (held : Held) → 0 < number → number ≤ length xs → IsKept (reverse (take number xs)) held → IsKept (get_or xs (number - 1) d ∷ reverse (take (number - 1) xs)) held
+newest_kept xs number d held some within kept = subst (λ (l : List Change). IsKept l held) (reversed xs number (number - 1) d (omega arith) (omega arith)) kept
 
-sound_behind : (first : List ℕ) (newer older : List Event) → IsSound first (newer ++ older) → IsSound first older
-sound_behind first [] older sound = sound
-sound_behind first (x ∷ newer) older sound = sound_behind first newer older sound.1
+pub bounded_before : (x : Change) (older : List Change) (held : Held) → IsKept (x ∷ older) held → IsBounded (undone x held)
+bounded_before x older held kept = bounded_of older (undone x held) kept.1
 
-map_append : (p : List ℕ) (xs ys : List Change) → map (λ y. event_of p y) (xs ++ ys) ≡ map (λ y. event_of p y) xs ++ map (λ y. event_of p y) ys
-map_append p [] ys = refl
-map_append p (x ∷ xs) ys = ap (λ (l : List Event). event_of p x ∷ l) (map_append p xs ys)
-
-sound_taken : (p first : List ℕ) (xs : List Change) (i : ℕ) → IsSound first (events_of p xs) → IsSound first (events_of p (take i xs))
-sound_taken p first xs i sound =
-    sound_behind first (events_of p (drop i xs)) (events_of p (take i xs))
-    (subst (λ (l : List Event). IsSound first l)
-    (ap (λ (l : List Change). events_of p l) (sym (take-append-drop i xs)) ∙ ap (λ (l : List Event). reverse l) (map_append p (take i xs) (drop i xs))
-    ∙ reverse-append (map (λ y. event_of p y) (take i xs)) (map (λ y. event_of p y) (drop i xs)))
-    sound)
-
-module _ (p first : List ℕ) (xs : List Change) (i : ℕ) (d : Change) (within : i < length xs) where
-  pub within_next : (content : List ℕ) → IsSound first (events_of p xs) → content ≡ content_of first (events_of p (take i xs)) → IsWithin (event_of p (get_or xs i d)) content
-  within_next content sound are =
-      subst (λ (l : List ℕ). IsWithin (event_of p (get_or xs i d)) l) (sym are) ((subst (λ (l : List Event). IsSound first l) (next_newest p xs i d within) (sound_taken p first xs (i + 1) sound)).0)
-
-  pub content_next : (content content2 : List ℕ) → content ≡ content_of first (events_of p (take i xs)) → content2 ≡ after (event_of p (get_or xs i d)) content → content2 ≡ content_of first (events_of p (take (i + 1) xs))
-  content_next content content2 are done = done ∙ ap (λ (l : List ℕ). after (event_of p (get_or xs i d)) l) are ∙ ap (λ (l : List Event). content_of first l) (sym (next_newest p xs i d within))
+-- one change more is undone
+pub back_next : (xs : List Change) (number : ℕ) (d : Change) (pieces pieces2 : List ℕ) (old held held2 : Held) → 0 < number → number ≤ length xs → IsBack number xs pieces old held
+    → pieces2 ≡ pieces ++ piece_of held (get_or xs (number - 1) d) → held2 ≡ undone (get_or xs (number - 1) d) held → IsBack (number - 1) xs pieces2 old held2
+back_next xs number d pieces pieces2 old held held2 some within back pieces_are held_is =
+    let i = number - 1 in
+    let is : number ≡ i + 1 = omega arith in
+    let x = get_or xs i d in
+    let older = reverse (take i xs) in
+    let newer = drop number xs in
+    let kept : IsKept (x ∷ older) held = newest_kept xs number d held some within back.kept in
+    let piece = piece_of held x in
+    let size = length-piece held x kept.0.fits in
+    let front : but_last (size_of x) pieces2 ≡ pieces = ap (λ (l : List ℕ). but_last (size_of x) l) pieces_are ∙ but_last_of (size_of x) pieces piece size in
+    let end : last (size_of x) pieces2 ≡ piece = ap (λ (l : List ℕ). last (size_of x) l) pieces_are ∙ last_of (size_of x) pieces piece size in
+    let dropped : drop i xs ≡ x ∷ newer = drop_more xs i d (omega arith) ∙ ap (λ n. x ∷ drop n xs) (sym is) in
+    let turned : reverse (take number xs) ≡ x ∷ older = reversed xs number i d is (omega arith) in
+    let told_is : events_with (drop i xs) pieces2 ≡ events_with newer pieces ++ event_of held x ∷ [] =
+    ap (λ (l : List Change). events_with l pieces2) dropped ∙ (λ k. events_with newer (front k) ++ event_with x (end k) ∷ []) in
+    record {
+      kept = subst (λ (h : Held). IsKept older h) (sym held_is) kept.1;
+      first = back.first ∙ ap (λ (l : List Change). first_of l held) turned ∙ ap (λ (h : Held). first_of older h) (sym held_is);
+      events =
+          back.events ∙ ap (λ (l : List Change). events_with newer pieces ++ events_of l held) turned ∙ sym (append_assoc (events_with newer pieces) (event_of held x ∷ []) (events_of older (undone x held)))
+          ∙ (λ k. sym told_is k ++ events_of older (sym held_is k));
+      there = subst (λ (l : List Change). HavePieces l pieces2) (sym dropped)
+          (omega (arith, size, ap length pieces_are, length-append pieces piece), subst (λ (l : List ℕ). HavePieces newer l) (sym front) back.there);
+    }
 
 -- what a crash leaves, over one change more that is no sync
-left_step : (choice : ℕ) (first p : List ℕ) (x : Change) (older : List Event) → (x ≡ Synced → ⊥) → crashed choice first (event_of p x ∷ older) ≡ left (outcome_of choice (unsynced older)) (event_of p x) (crashed choice first older)
-left_step choice first p (Wrote at from count) older h = refl
-left_step choice first p (LostWrite at from count) older h = refl
-left_step choice first p (Shortened n) older h = refl
-left_step choice first p (LostCut n) older h = refl
-left_step choice first p Synced older h = absurd (h refl)
+left_step : (choice : ℕ) (first piece : List ℕ) (x : Change) (older : List Event) → (x ≡ Synced → ⊥) → crashed choice first (event_with x piece ∷ older) ≡ left (outcome_of choice (unsynced older)) (event_with x piece) (crashed choice first older)
+left_step choice first piece (Wrote at count grown before) older h = refl
+left_step choice first piece (LostWrite at count) older h = refl
+left_step choice first piece (Shortened n before) older h = refl
+left_step choice first piece (LostCut n) older h = refl
+left_step choice first piece Synced older h = absurd (h refl)
 
-since_step : (p : List ℕ) (x : Change) (older : List Event) → (x ≡ Synced → ⊥) → unsynced (event_of p x ∷ older) ≡ suc (unsynced older)
-since_step p (Wrote at from count) older h = refl
-since_step p (LostWrite at from count) older h = refl
-since_step p (Shortened n) older h = refl
-since_step p (LostCut n) older h = refl
-since_step p Synced older h = absurd (h refl)
+since_step : (piece : List ℕ) (x : Change) (older : List Event) → (x ≡ Synced → ⊥) → unsynced (event_with x piece ∷ older) ≡ suc (unsynced older)
+since_step piece (Wrote at count grown before) older h = refl
+since_step piece (LostWrite at count) older h = refl
+since_step piece (Shortened n before) older h = refl
+since_step piece (LostCut n) older h = refl
+since_step piece Synced older h = absurd (h refl)
 
-pub left_next : (choice stable : ℕ) (p first : List ℕ) (xs : List Change) (i : ℕ) (d : Change) (image image2 : List ℕ) (outcome : Outcome) → i < length xs → stable ≤ i → (get_or xs i d ≡ Synced → ⊥) → IsLeft choice first (i - stable) (events_of p (take i xs)) image
-    → outcome ≡ outcome_of choice (i - stable) → image2 ≡ left outcome (event_of p (get_or xs i d)) image → IsLeft choice first (i + 1 - stable) (events_of p (take (i + 1) xs)) image2
-left_next choice stable p first xs i d image image2 outcome within le other so_far picked done =
+-- the oldest of the changes that are to be shown, with its bytes
+pub there_next : (xs : List Change) (i : ℕ) (d : Change) (pieces : List ℕ) → i < length xs → HavePieces (drop i xs) pieces → HavePieces (get_or xs i d ∷ drop (i + 1) xs) pieces
+there_next xs i d pieces lt there = subst (λ (l : List Change). HavePieces l pieces) (drop_more xs i d lt) there
+
+pub told_next : (xs : List Change) (i : ℕ) (d : Change) (pieces : List ℕ) (older : List Event) → i < length xs
+    → events_with (drop i xs) pieces ++ older ≡ events_with (drop (i + 1) xs) (but_last (size_of (get_or xs i d)) pieces) ++ event_with (get_or xs i d) (last (size_of (get_or xs i d)) pieces) ∷ older
+told_next xs i d pieces older lt =
     let x = get_or xs i d in
-    let older = events_of p (take i xs) in
-    record {
-      bytes =
-          done ∙ ap (λ (o : Outcome). left o (event_of p x) image) picked ∙ ap (λ (k : ℕ). left (outcome_of choice k) (event_of p x) image) (sym so_far.since) ∙ ap (λ (l : List ℕ). left (outcome_of choice (unsynced older)) (event_of p x) l) so_far.bytes
-          ∙ sym (left_step choice first p x older other) ∙ ap (λ (l : List Event). crashed choice first l) (sym (next_newest p xs i d within));
-      since = ap unsynced (next_newest p xs i d within) ∙ since_step p x older other ∙ omega (arith, so_far.since);
-    }
+    ap (λ (l : List Change). events_with l pieces ++ older) (drop_more xs i d lt) ∙ append_assoc (events_with (drop (i + 1) xs) (but_last (size_of x) pieces)) (event_with x (last (size_of x) pieces) ∷ []) older
+
+pub left_next : (choice count : ℕ) (first piece image image2 : List ℕ) (x : Change) (older : List Event) (outcome : Outcome) → (x ≡ Synced → ⊥) → IsLeft choice first count older image
+    → outcome ≡ outcome_of choice count → image2 ≡ left outcome (event_with x piece) image → IsLeft choice first (count + 1) (event_with x piece ∷ older) image2
+left_next choice count first piece image image2 x older outcome other so_far picked done = record {
+  bytes = done ∙ (λ k. left (picked k) (event_with x piece) (so_far.bytes k)) ∙ ap (λ (n : ℕ). left (outcome_of choice n) (event_with x piece) (crashed choice first older)) (sym so_far.since) ∙ sym (left_step choice first piece x older other);
+  since = since_step piece x older other ∙ omega (arith, so_far.since);
+}
 
 -- at the last sync, or before any, a crash leaves the content
-pub left_at : (choice : ℕ) (p first : List ℕ) (xs : List Change) (stable : ℕ) (content : List ℕ) → stable ≤ length xs → (0 < stable → (d : Change) → get_or xs (stable - 1) d ≡ Synced) → content ≡ content_of first (events_of p (take stable xs))
-    → IsLeft choice first 0 (events_of p (take stable xs)) content
-left_at choice p first xs zero content within last are = record { bytes = are; since = refl }
-left_at choice p first xs (suc s) content within last are =
-    let one : suc s - 1 ≡ s = omega arith in
-    let more : s + 1 ≡ suc s = omega arith in
-    let is_synced : get_or xs s Synced ≡ Synced = ap (λ (k : ℕ). get_or xs k Synced) (sym one) ∙ last (omega arith) Synced in
-    let newest : events_of p (take (suc s) xs) ≡ synced ∷ events_of p (take s xs) =
-    ap (λ (k : ℕ). events_of p (take k xs)) (sym more) ∙ next_newest p xs s Synced (omega arith) ∙ ap (λ (x : Change). event_of p x ∷ events_of p (take s xs)) is_synced in
-    record {
-      bytes = are ∙ ap (λ (l : List Event). content_of first l) newest ∙ ap (λ (l : List Event). crashed choice first l) (sym newest);
-      since = ap unsynced newest;
-    }
+pub left_at : (choice number : ℕ) (xs : List Change) (held : Held) → number ≤ length xs → (0 < number → (d : Change) → get_or xs (number - 1) d ≡ Synced) → IsKept (reverse (take number xs)) held
+    → IsLeft choice (first_of (reverse (take number xs)) held) 0 (events_of (reverse (take number xs)) held) (shown held)
+left_at choice zero xs held within last kept = record { bytes = refl; since = refl }
+left_at choice (suc i) xs held within last kept =
+    let one : suc i - 1 ≡ i = omega arith in
+    let is : get_or xs i Synced ≡ Synced = ap (λ (k : ℕ). get_or xs k Synced) (sym one) ∙ last (omega arith) Synced in
+    let older = reverse (take i xs) in
+    let turned : reverse (take (suc i) xs) ≡ Synced ∷ older = reversed xs (suc i) i Synced (omega arith) (omega arith) ∙ ap (λ (x : Change). x ∷ older) is in
+    let P : List Change → Type 0 = λ l. IsKept l held → IsLeft choice (first_of l held) 0 (events_of l held) (shown held) in
+    subst P (sym turned) (λ k. record { bytes = shown_of older held k.1; since = refl }) kept

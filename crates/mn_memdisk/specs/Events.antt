@@ -1,49 +1,52 @@
 -- The events that the changes of a disk in memory stand for.
-use Rattle.std.specs.Prelude.{◌≡◌, ◌≢◌, ◌≤◌, ◌<◌, ℕ, get_or, ◌+◌, Bool, false, if◌then◌else◌, List}
-use Rattle.std.specs.Prelude.{[], ◌∷◌, length, take, drop, map, reverse, ⊤}
-use Rattle.mn_memdisk.specs.History.{Event, write, lost_write, shorten, lost_cut, synced}
-use Rattle.mn_memdisk.specs.History.{content_of, IsSound}
+use Rattle.std.specs.Prelude.{◌≡◌, ◌≢◌, ◌≤◌, ◌<◌, ℕ, get_or, List, [], ◌∷◌, ◌++◌, length, take}
+use Rattle.std.specs.Prelude.{drop, reverse, ⊤}
+use Rattle.mn_memdisk.specs.Held.{Held, IsBounded, Follows, shown, undone, event_of, event_with}
+use Rattle.mn_memdisk.specs.Held.{last, but_last, size_of}
+use Rattle.mn_memdisk.specs.History.{Event}
 use Rattle.mn_memdisk.specs.declared.changes.Change.{Change}
-use Rattle.mn_memdisk.specs.declared.changes.Change.TheVariants.{Wrote, LostWrite, Shortened}
-use Rattle.mn_memdisk.specs.declared.changes.Change.TheVariants.{LostCut, Synced}
+use Rattle.mn_memdisk.specs.declared.changes.Change.TheVariants.{Synced}
 
--- the bytes of a write, among those of all writes
-abbrev pub piece_of : List ℕ → ℕ → ℕ → List ℕ
-piece_of pieces from count = take count (drop from pieces)
+-- the bytes that a disk had at first: those that a read gave before all changes, the newest first
+abbrev pub first_of : List Change → Held → List ℕ
+first_of [] held = shown held
+first_of (x ∷ older) held = first_of older (undone x held)
 
-abbrev pub event_of : List ℕ → Change → Event
-event_of pieces (Wrote at from count) = write at (piece_of pieces from count)
-event_of pieces (LostWrite at from count) = lost_write at (piece_of pieces from count)
-event_of pieces (Shortened n) = shorten n
-event_of pieces (LostCut n) = lost_cut n
-event_of pieces Synced = synced
+-- the events of changes, the newest first
+abbrev pub events_of : List Change → Held → List Event
+events_of [] held = []
+events_of (x ∷ older) held = event_of held x ∷ events_of older (undone x held)
 
--- the events of changes that stand with the oldest first
-abbrev pub events_of : List ℕ → List Change → List Event
-events_of pieces changes = reverse (map (λ x. event_of pieces x) changes)
-
--- the bytes of a write are among so many
-abbrev pub HasBytes : ℕ → Change → Type 0
-HasBytes n (Wrote at from count) = from + count ≤ n
-HasBytes n (LostWrite at from count) = from + count ≤ n
-HasBytes n (Shortened length) = ⊤
-HasBytes n (LostCut length) = ⊤
-HasBytes n Synced = ⊤
-
-abbrev pub HaveBytes : ℕ → List Change → Type 0
-HaveBytes n [] = ⊤
-HaveBytes n (x ∷ xs) = HasBytes n x × HaveBytes n xs
-
--- What the fields of a disk have in common. The bytes that it had at first are those that a read
--- gives, as long as it hasn't kept others.
-pub record IsWhole (kept : Bool) (first content pieces : List ℕ) (changes : List Change)
-    : Type 0 where
-  pub have_bytes : HaveBytes (length pieces) changes
-  pub none_yet : kept ≡ false → changes ≡ []
-  pub sound : IsSound (if kept then first else content) (events_of pieces changes)
-  pub shown : content ≡ content_of (if kept then first else content) (events_of pieces changes)
+-- each change, the newest first, did what its event says and can be undone
+abbrev pub IsKept : List Change → Held → Type 0
+IsKept [] held = IsBounded held
+IsKept (x ∷ older) held =
+    Follows x (event_of held x) (undone x held) held × IsKept older (undone x held)
 
 -- none of the changes from this number on is a sync
 abbrev pub UnsyncedFrom : ℕ → List Change → Type 0
 UnsyncedFrom number changes =
     (k : ℕ) (d : Change) → number ≤ k → k < length changes → get_or changes k d ≢ Synced
+
+-- the events, the newest first, of changes with the oldest first, whose bytes stand by themselves
+-- with those of the oldest last
+abbrev pub events_with : List Change → List ℕ → List Event
+events_with [] pieces = []
+events_with (x ∷ newer) pieces =
+    events_with newer (but_last (size_of x) pieces) ++ event_with x (last (size_of x) pieces) ∷ []
+
+-- the bytes of all these changes are there
+abbrev pub HavePieces : List Change → List ℕ → Type 0
+HavePieces [] pieces = ⊤
+HavePieces (x ∷ newer) pieces =
+    (size_of x ≤ length pieces) × HavePieces newer (but_last (size_of x) pieces)
+
+-- Of the changes that led to the old bytes, those from a number on were undone, which led to the
+-- new ones. What they were to write stands by itself.
+pub record IsBack (number : ℕ) (changes : List Change) (pieces : List ℕ) (old new : Held)
+    : Type 0 where
+  pub kept : IsKept (reverse (take number changes)) new
+  pub first : first_of (reverse changes) old ≡ first_of (reverse (take number changes)) new
+  pub events : events_of (reverse changes) old
+      ≡ events_with (drop number changes) pieces ++ events_of (reverse (take number changes)) new
+  pub there : HavePieces (drop number changes) pieces

@@ -1,44 +1,43 @@
-ghost use Rattle.std.specs.Prelude.{◌≡◌, ◌≤◌, ◌<◌, ◌-◌, ℕ, List, get_or, length, take, OnOk, IfOk};
+ghost use Rattle.std.specs.Prelude.{◌≡◌, ◌≤◌, ◌<◌, ◌-◌, ◌++◌, ℕ, List, [], get_or, length, reverse};
+ghost use Rattle.std.specs.Prelude.{OnOk, IfOk};
 ghost use Rattle.mn_io.specs.DiskModel.{written_at};
 ghost use Rattle.mn_memdisk.specs.Crash.{IsLeft, crashed, filled, left, shortened, written};
-ghost use Rattle.mn_memdisk.specs.Events.{HasBytes, HaveBytes, UnsyncedFrom, event_of, events_of};
-ghost use Rattle.mn_memdisk.specs.History.{IsSound, IsWithin, after, content_of};
+ghost use Rattle.mn_memdisk.specs.Events.{HavePieces, IsBack, IsKept, UnsyncedFrom};
+ghost use Rattle.mn_memdisk.specs.Events.{events_of, first_of, events_with};
+ghost use Rattle.mn_memdisk.specs.Held.{event_with};
+ghost use Rattle.mn_memdisk.specs.History.{Event};
 ghost use Rattle.mn_memdisk.specs.declared.changes.Change.{Change};
 
 use crate::changes::Change;
+use crate::held::Held;
 use crate::outcome::{Outcome, pick};
 use crate::overwrite::overwrite;
 use std::alloc::{AllocError, Global};
 
-/// How many changes there are up to the last sync, and with it.
-fn stable_count(changes: &[Change]) -> usize
-    ensures within { result ≤ length changes.now }
-    ensures unsynced { UnsyncedFrom result changes.now }
-    ensures synced { 0 < result → (d : Change) → get_or changes.now (result - 1) d ≡ Change.Synced }
+/// Undoes the changes since the last sync, the newest first, and puts what each was to write behind
+/// the pieces. It says how many changes there are up to the sync, and with it.
+fn undo_unsynced(
+    held: &mut Held,
+    changes: &[Change],
+    pieces: &mut Vec<u8>,
+) -> Result<usize, AllocError>
+    requires kept { IsKept (reverse changes.now) held.old.held }
+    requires none { pieces.old.items ≡ [] }
+    ensures within { IfOk result (λ n. n ≤ length changes.now) }
+    ensures back { IfOk result
+        (λ n. IsBack n changes.now pieces.new.items held.old.held held.new.held) }
+    ensures unsynced { IfOk result (λ n. UnsyncedFrom n changes.now) }
+    ensures synced { IfOk result
+        (λ n. 0 < n → (d : Change) → get_or changes.now (n - 1) d ≡ Change.Synced) }
 {
     let mut stable = changes.len();
     while stable > 0 && changes[stable - 1] != Change::Synced {
+        let newest = changes[stable - 1];
+        pieces.extend_from_slice(held.piece(newest))?;
+        held.undo(newest);
         stable -= 1;
     }
-    stable
-}
-
-/// Does a change to the content.
-fn redo(content: &mut Vec<u8>, change: Change, pieces: &[u8]) -> Result<(), AllocError>
-    requires has_bytes { HasBytes (length pieces.now) change }
-    requires within { IsWithin (event_of pieces.now change) content.old.items }
-    ensures { OnOk result (content.new.items
-        ≡ after (event_of pieces.now change) content.old.items) }
-{
-    match change {
-        Change::Wrote { at, from, count } => {
-            content.reserve(count)?;
-            overwrite(content, at as usize, &pieces[from..from + count]);
-        }
-        Change::Shortened { length } => content.truncate(length as usize),
-        _ => {}
-    }
-    Ok(())
+    Ok(stable)
 }
 
 /// Writes a piece over an image and past its end.
@@ -103,23 +102,22 @@ fn cut_short(image: &mut Vec<u8>, length: u64, outcome: Outcome)
     }
 }
 
-/// Leaves in an image what the outcome says of a change.
+/// Leaves in an image what the outcome says of a change, which was to write a piece.
 fn show(
     alloc: Global,
     image: &mut Vec<u8>,
     change: Change,
-    pieces: &[u8],
+    piece: &[u8],
     outcome: Outcome,
 ) -> Result<(), AllocError>
-    requires { HasBytes (length pieces.now) change }
     ensures { OnOk result (image.new.items
-        ≡ left outcome (event_of pieces.now change) image.old.items) }
+        ≡ left outcome (event_with change piece.now) image.old.items) }
 {
     match change {
-        Change::Wrote { at, from, count } | Change::LostWrite { at, from, count } => {
-            tear(alloc, image, at, &pieces[from..from + count], outcome)
+        Change::Wrote { at, .. } | Change::LostWrite { at, .. } => {
+            tear(alloc, image, at, piece, outcome)
         }
-        Change::Shortened { length } | Change::LostCut { length } => {
+        Change::Shortened { length, .. } | Change::LostCut { length } => {
             cut_short(image, length, outcome);
             Ok(())
         }
@@ -127,64 +125,46 @@ fn show(
     }
 }
 
-/// Does the changes up to a number to the content at first.
-fn content_after(
-    first: Vec<u8>,
-    changes: &[Change],
-    pieces: &[u8],
-    stable: usize,
-) -> Result<Vec<u8>, AllocError>
-    requires stable { stable ≤ length changes.now }
-    requires have_bytes { HaveBytes (length pieces.now) changes.now }
-    requires sound { IsSound first.items (events_of pieces.now changes.now) }
-    ensures { IfOk result (λ content. content.items
-        ≡ content_of first.items (events_of pieces.now (take stable changes.now))) }
-{
-    let mut content = first;
-    for number in 0..stable {
-        redo(&mut content, changes[number], pieces)?;
-    }
-    Ok(content)
-}
-
-/// Leaves in an image what the choice says of each change from a number on.
-fn show_rest(
+/// Leaves in an image what the choice says of each of these changes, the oldest first, whose pieces
+/// stand with that of the oldest last.
+fn show_all(
     alloc: Global,
     image: &mut Vec<u8>,
     changes: &[Change],
-    pieces: &[u8],
-    stable: usize,
+    pieces: Vec<u8>,
     choice: u64,
 ) -> Result<(), AllocError>
-    requires stable { stable ≤ length changes.now }
-    requires have_bytes { HaveBytes (length pieces.now) changes.now }
-    requires unsynced { UnsyncedFrom stable changes.now }
-    ensures { OnOk result ((first : List ℕ)
-        → IsLeft choice first 0 (events_of pieces.now (take stable changes.now)) image.old.items
-        → image.new.items ≡ crashed choice first (events_of pieces.now changes.now)) }
+    requires there { HavePieces changes.now pieces.items }
+    requires unsynced { UnsyncedFrom 0 changes.now }
+    ensures { OnOk result ((first : List ℕ) (older : List Event)
+        → IsLeft choice first 0 older image.old.items
+        → image.new.items ≡ crashed choice first (events_with changes.now pieces.items ++ older)) }
 {
-    for number in stable..changes.len() {
-        let outcome = pick(choice, number - stable);
-        show(alloc, image, changes[number], pieces, outcome)?;
+    let mut pieces = pieces;
+    for number in 0..changes.len() {
+        let change = changes[number];
+        let from = pieces.len() - change.size();
+        show(alloc, image, change, &pieces[from..], pick(choice, number))?;
+        pieces.truncate(from);
     }
     Ok(())
 }
 
-/// The image that a choice picks of those that a crash may leave.
+/// The image that a choice picks of those that a crash may leave after these changes.
 pub fn image_after(
     alloc: Global,
-    first: Vec<u8>,
+    held: Held,
     changes: &[Change],
-    pieces: &[u8],
     choice: u64,
 ) -> Result<Vec<u8>, AllocError>
-    requires have_bytes { HaveBytes (length pieces.now) changes.now }
-    requires sound { IsSound first.items (events_of pieces.now changes.now) }
-    ensures { IfOk result (λ image. image.items
-        ≡ crashed choice first.items (events_of pieces.now changes.now)) }
+    requires { IsKept (reverse changes.now) held.held }
+    ensures { IfOk result (λ image. image.items ≡ crashed choice
+        (first_of (reverse changes.now) held.held) (events_of (reverse changes.now) held.held)) }
 {
-    let stable = stable_count(changes);
-    let mut image = content_after(first, changes, pieces, stable)?;
-    show_rest(alloc, &mut image, changes, pieces, stable, choice)?;
+    let mut held = held;
+    let mut pieces = Vec::new(alloc);
+    let stable = undo_unsynced(&mut held, changes, &mut pieces)?;
+    let mut image = held.into_content();
+    show_all(alloc, &mut image, &changes[stable..], pieces, choice)?;
     Ok(image)
 }

@@ -4,6 +4,7 @@
 mod calls;
 mod changes;
 mod crash;
+mod held;
 mod meet_disk;
 mod memory_disk;
 mod outcome;

@@ -1,53 +1,44 @@
-ghost use Rattle.std.specs.Prelude.{◌≡◌, if◌then◌else◌};
-
 use crate::calls::CallCount;
 use crate::changes::Change;
 use crate::crash::image_after;
-use crate::overwrite::overwrite;
+use crate::held::Held;
 use mn_io::{Bytes, Calls, Disk, Failed, NoMemory, make_room};
 use std::alloc::Global;
 use std::marker::Model;
 
-/// For how many bytes and changes there is room at once.
-const ROOM_FOR_BYTES: usize = 1 << 20;
-
+/// For how many changes there is room at once.
 const ROOM_FOR_CHANGES: usize = 1 << 14;
 
 /// A disk in memory. A call of it fails exactly where its number is in a list; `make_room` isn't
-/// counted among the calls. It keeps what happened to it, so that a crash may be tried at any
+/// counted among the calls. It can undo what happened to it, so that a crash may be tried at any
 /// moment.
 #[derive(Drop)]
 pub struct MemoryDisk {
-    /// What it had at first, once it is kept; until then that is the content.
-    first: Vec<u8>,
-    is_kept: bool,
-    content: Vec<u8>,
+    held: Held,
     changes: Vec<Change>,
-    pieces: Vec<u8>,
     count: CallCount,
 }
 
 impl Model for MemoryDisk {
-    ghost use Rattle.std.specs.Prelude.{◌-◌, if◌then◌else◌, min, vec_len, vec_capacity};
+    ghost use Rattle.std.specs.Prelude.{◌-◌, reverse, vec_len, vec_capacity};
     ghost use Rattle.mn_memdisk.specs.Memory.{MemoryState};
-    ghost use Rattle.mn_memdisk.specs.Events.{events_of, IsWhole};
+    ghost use Rattle.mn_memdisk.specs.Events.{IsKept, events_of, first_of};
+    ghost use Rattle.mn_memdisk.specs.Held.{shown};
 
     ghost Value = { MemoryState };
 
     ghost view = { λ m. record {
-      first = (if m.is_kept then m.first.items else m.content.items);
-      events = events_of m.pieces.items m.changes.items;
-      content = m.content.items;
+      first = first_of (reverse m.changes.items) m.held.held;
+      events = events_of (reverse m.changes.items) m.held.held;
+      content = shown m.held.held;
       calls = m.count.calls;
       fails = m.count.fails;
       faults = m.count.faults;
-      spare_changes = (if m.is_kept then vec_capacity m.changes - vec_len m.changes else 0);
-      spare_bytes = min (vec_capacity m.pieces - vec_len m.pieces)
-          (vec_capacity m.content - vec_len m.content);
+      spare_changes = vec_capacity m.changes - vec_len m.changes;
+      spare_bytes = m.held.room;
     } };
 
-    ghost invariant = { λ m. IsWhole m.is_kept m.first.items m.content.items m.pieces.items
-        m.changes.items };
+    ghost invariant = { λ m. IsKept (reverse m.changes.items) m.held.held };
 }
 
 impl MemoryDisk {
@@ -73,11 +64,8 @@ impl MemoryDisk {
         let content = content.into_vec();
         let alloc = *content.allocator();
         MemoryDisk {
-            first: Vec::new(alloc),
-            is_kept: false,
-            content,
+            held: Held::new(content),
             changes: Vec::new(alloc),
-            pieces: Vec::new(alloc),
             count: CallCount {
                 calls: 0,
                 fails,
@@ -90,7 +78,7 @@ impl MemoryDisk {
     pub fn content(&self) -> &[u8]
         ensures { result.now ≡ self.now.content }
     {
-        &self.content
+        self.held.content()
     }
 
     /// The disk after a crash at this moment: its content is one of the images, all of it stable.
@@ -112,21 +100,14 @@ impl MemoryDisk {
         ensures faults { IfOk result (λ disk. disk.faults ≡ self.faults) }
     {
         let MemoryDisk {
-            first,
-            is_kept,
-            content,
+            held,
             changes,
-            pieces,
             count,
         } = self;
-        let first = first_of(is_kept, first, content);
-        let image = image_after(alloc, first, &changes, &pieces, choice)?;
+        let image = image_after(alloc, held, &changes, choice)?;
         Ok(MemoryDisk {
-            first: Vec::new(alloc),
-            is_kept: false,
-            content: image,
+            held: Held::new(image),
             changes: Vec::new(alloc),
-            pieces: Vec::new(alloc),
             count,
         })
     }
@@ -137,13 +118,6 @@ impl MemoryDisk {
     {
         self.count.faults
     }
-}
-
-/// What a disk had at first.
-fn first_of(is_kept: bool, first: Vec<u8>, content: Vec<u8>) -> Vec<u8>
-    ensures { result.items ≡ (if is_kept then first.items else content.items) }
-{
-    if is_kept { first } else { content }
 }
 
 impl Disk for MemoryDisk {
@@ -184,7 +158,7 @@ impl Disk for MemoryDisk {
         if self.count.is_due() {
             return Err(Failed);
         }
-        Ok(self.content.len() as u64)
+        Ok(self.held.content().len() as u64)
     }
 
     fn read(&mut self, at: u64, into: &mut [u8]) -> Result<usize, Failed>
@@ -206,9 +180,10 @@ impl Disk for MemoryDisk {
         if self.count.is_due() {
             return Err(Failed);
         }
-        let start = self.content.len().min(at as usize);
-        let count = into.len().min(self.content.len() - start);
-        into[..count].copy_from_slice(&self.content[start..start + count]);
+        let content = self.held.content();
+        let start = content.len().min(at as usize);
+        let count = into.len().min(content.len() - start);
+        into[..count].copy_from_slice(&content[start..start + count]);
         Ok(count)
     }
 
@@ -232,19 +207,13 @@ impl Disk for MemoryDisk {
         ensures exact { IsErr result ↔ IsTrue (is_one_of self.old.calls self.old.fails) }
         ensures counted { IsCounted self.old self.new }
     {
-        let count = piece.len();
-        let from = self.pieces.len();
-        self.pieces.extend_from_slice(piece).unwrap();
         if self.count.is_due() {
-            self.changes
-                .push(Change::LostWrite { at, from, count })
-                .unwrap();
+            let change = self.held.lose(at, piece);
+            self.changes.push(change).unwrap();
             return Err(Failed);
         }
-        self.changes
-            .push(Change::Wrote { at, from, count })
-            .unwrap();
-        overwrite(&mut self.content, at as usize, piece);
+        let change = self.held.write(at, piece);
+        self.changes.push(change).unwrap();
         Ok(())
     }
 
@@ -271,8 +240,8 @@ impl Disk for MemoryDisk {
             self.changes.push(Change::LostCut { length }).unwrap();
             return Err(Failed);
         }
-        self.changes.push(Change::Shortened { length }).unwrap();
-        self.content.truncate(length as usize);
+        let change = self.held.cut(length);
+        self.changes.push(change).unwrap();
         Ok(())
     }
 
@@ -315,13 +284,8 @@ impl Disk for MemoryDisk {
         ensures calls { self.new.calls ≡ self.old.calls }
         ensures fails { self.new.fails ≡ self.old.fails }
     {
-        if !self.is_kept {
-            self.first = self.content.to_vec(*self.content.allocator())?;
-            self.is_kept = true;
-        }
         make_room(&mut self.changes, changes as usize, ROOM_FOR_CHANGES)?;
-        make_room(&mut self.pieces, bytes, ROOM_FOR_BYTES)?;
-        make_room(&mut self.content, bytes, ROOM_FOR_BYTES)?;
+        self.held.make_room(bytes)?;
         Ok(())
     }
 }

@@ -1,9 +1,0 @@
-use Rattle.std.proofs.Common.{◌≤◌, length}
-use Rattle.mn_memdisk.specs.Events.{UnsyncedFrom}
-use Rattle.mn_memdisk.proofs.crash.stable_count.Given as goal
-
-abbrev pub invariant-loop-stable : goal.invariant-loop-stable
-invariant-loop-stable l = record { within : l.stable ≤ length l.changes; unsynced : UnsyncedFrom l.stable l.changes }
-
-abbrev pub decreases-loop-stable : goal.decreases-loop-stable
-decreases-loop-stable l = l.stable
