@@ -10,11 +10,6 @@ use Rattle.mn_mini.specs.Mini.{has_write}
 use Rattle.mn_mini.specs.Sound.{AreReadsOf, Fits, OfPart}
 use Rattle.mn_cell.specs.Calls.{HasLengths, HaveLengths, lengths_by, lengths_of, read_lengths}
 
--- no lengths are those of no byte strings
-pub none_left : (ys : List (List ℕ)) → lengths_of [] ≡ lengths_of ys → ys ≡ []
-none_left [] same = refl
-none_left (y ∷ ys) same = absurd (cc)
-
 -- What is read has the lengths that the request asks for
 
 reads_lengths : (reads : List (List ℕ)) (part : List PartItem) → AreReadsOf reads part → lengths_of reads ≡ read_lengths part

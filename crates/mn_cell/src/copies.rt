@@ -1,12 +1,12 @@
 //! Copies of requests and replies. What the copy of a reply needs that comes with a new record is
 //! taken before the node is asked.
-ghost use Rattle.std.specs.Prelude.{◌≡◌, ℕ, length, IfOk, OnErr};
+ghost use Rattle.std.specs.Prelude.{◌≡◌, ◌≤◌, ℕ, [], length, vec_capacity, IfOk, OnErr};
 ghost use Rattle.mn_mini.specs.declared.reply.NodeReply.TheVariants.{Done};
 ghost use Rattle.mn_cell.specs.Calls.{HasLengths, IsLarge, lengths_by, lengths_of, read_lengths};
 ghost use Rattle.mn_cell.specs.Calls.{what_said};
 
-use mn_base::{Bytes, NoMemory, StopAt, TryCopy};
-use mn_mini::{NodeReply, PartItem, ReadBytes, Reads, Request};
+use mn_base::{NoMemory, StopAt, TryCopy};
+use mn_mini::{NodeReply, OwnBytes, PartItem, ReadBytes, Reads, Request};
 use mn_world::What;
 use std::alloc::Global;
 use std::marker::Model;
@@ -15,31 +15,34 @@ use std::marker::Model;
 #[derive(Drop)]
 pub struct Blanks {
     /// Byte strings as long as those to be copied.
-    bytes: Vec<Bytes>,
-    /// Empty, with room for as many.
-    reads: Vec<ReadBytes>,
+    bytes: Vec<OwnBytes>,
+    /// Empty, with room for as many. None: there are none.
+    reads: Option<Box<Vec<ReadBytes>>>,
 }
 
 impl Model for Blanks {
-    ghost use Rattle.std.specs.Prelude.{◌≡◌, ◌≤◌, ℕ, List, [], length, vec_capacity};
+    ghost use Rattle.std.specs.Prelude.{◌≡◌, ◌≤◌, ℕ, List, [], IfNone, IfSome, length};
+    ghost use Rattle.std.specs.Prelude.{vec_capacity};
     ghost use Rattle.mn_cell.specs.Calls.{lengths_of};
 
     ghost Value = { List ℕ };
 
     ghost view = { λ b. lengths_of b.bytes.items };
 
-    ghost invariant = { λ b. (b.reads.items ≡ []) × (length b.bytes.items ≤ vec_capacity b.reads) };
+    ghost invariant = { λ b. (IfNone b.reads (b.bytes.items ≡ []))
+        × (IfSome b.reads (λ r. (r.value.items ≡ [])
+        × (length b.bytes.items ≤ vec_capacity r.value))) };
 }
 
 /// So many bytes.
-fn zeros(alloc: Global, size: u32) -> Result<Bytes, NoMemory>
+fn zeros(alloc: Global, size: u32) -> Result<OwnBytes, NoMemory>
     ensures { IfOk result (λ bytes. length bytes ≡ size) }
 {
-    Ok(Bytes::from_vec(vec![in alloc; 0u8; size as usize]?))
+    OwnBytes::new(alloc, vec![in alloc; 0u8; size as usize]?)
 }
 
 /// As many byte strings as a part has read items, as long as these ask for.
-fn zeros_for(alloc: Global, part: &[PartItem]) -> Result<Vec<Bytes>, NoMemory>
+fn zeros_for(alloc: Global, part: &[PartItem]) -> Result<Vec<OwnBytes>, NoMemory>
     ensures { IfOk result (λ zeros. lengths_of zeros.items ≡ read_lengths part.now) }
 {
     let mut all = Vec::new(alloc);
@@ -52,13 +55,26 @@ fn zeros_for(alloc: Global, part: &[PartItem]) -> Result<Vec<Bytes>, NoMemory>
 }
 
 /// The bytes, in place of as many others.
-fn filled(blank: Bytes, bytes: &[u8]) -> ReadBytes
+fn filled(mut blank: OwnBytes, bytes: &[u8]) -> ReadBytes
     requires { length blank ≡ length bytes.now }
     ensures { result ≡ bytes.now }
 {
-    let mut row = blank.into_vec();
-    row.copy_from_slice(bytes);
-    ReadBytes::own(Bytes::from_vec(row))
+    blank.put(bytes);
+    ReadBytes::own(blank)
+}
+
+/// Puts the byte strings, in place of others of their lengths, where there is room for them. It
+/// takes no memory.
+fn fill_in(copies: &mut Vec<ReadBytes>, blanks: Vec<OwnBytes>, reads: &[ReadBytes])
+    requires empty { copies.old.items ≡ [] }
+    requires lengths { lengths_of blanks.items ≡ lengths_of reads.now }
+    requires room { length blanks.items ≤ vec_capacity copies.old }
+    ensures { copies.new.items ≡ reads.now }
+{
+    for blank in blanks {
+        let bytes = reads[copies.len()].as_slice();
+        copies.push_reserved(filled(blank, bytes));
+    }
 }
 
 impl Blanks {
@@ -67,8 +83,14 @@ impl Blanks {
         ensures { IfOk result (λ blanks. blanks ≡ read_lengths part.now) }
     {
         let bytes = zeros_for(alloc, part)?;
+        if bytes.is_empty() {
+            return Ok(Blanks { bytes, reads: None });
+        }
         let reads = Vec::with_capacity(alloc, bytes.len())?;
-        Ok(Blanks { bytes, reads })
+        Ok(Blanks {
+            bytes,
+            reads: Some(Box::new(alloc, reads)?),
+        })
     }
 
     /// The byte strings, in place of others of their lengths. It takes no memory.
@@ -76,12 +98,14 @@ impl Blanks {
         requires { self ≡ lengths_of reads.now }
         ensures { result ≡ reads.now }
     {
-        let mut copies = self.reads;
-        for blank in self.bytes {
-            let bytes = reads[copies.len()].as_slice();
-            copies.push_reserved(filled(blank, bytes));
+        let Blanks { bytes, reads: room } = self;
+        match room {
+            None => Reads::none(),
+            Some(mut copies) => {
+                fill_in(&mut copies, bytes, reads);
+                Reads::from_box(copies)
+            }
         }
-        Reads::from_vec(copies)
     }
 }
 

@@ -43,7 +43,7 @@ fn no_reads(alloc: Global, participants: usize) -> Result<Vec<Reads>, NoMemory>
 {
     let mut reads = Vec::with_capacity(alloc, participants)?;
     for _at in 0..participants {
-        reads.push(Reads::from_vec(Vec::new(alloc)))?;
+        reads.push(Reads::none())?;
     }
     Ok(reads)
 }
@@ -68,7 +68,7 @@ impl AllReads {
     {
         if participants == 1 {
             return Ok(AllReads {
-                kept: Kept::One(Reads::from_vec(Vec::new(alloc))),
+                kept: Kept::One(Reads::none()),
             });
         }
         let reads = no_reads(alloc, participants)?;

@@ -1,11 +1,13 @@
 //! A small log on two nodes: what is committed, what is left in doubt, what a read shows, and what
 //! is reported of it.
 use mn_base::{
-    Addr, Answer, Bytes, ClientNo, Founds, History, Key, Name, NodeNo, Nodes, Op, Past, Reply,
-    SharedOp, Step, Steps, StopAt, Tid, Value,
+    Addr, Answer, ClientNo, Founds, History, Key, Name, NodeNo, Nodes, Op, Past, Reply, SharedOp,
+    Step, Steps, StopAt, Tid, Value,
 };
 use mn_hist::{audit, history_of};
-use mn_mini::{Item, Items, Minitransaction, NodeReply, ReadBytes, Reads, Request, SharedBytes};
+use mn_mini::{
+    Item, Items, Minitransaction, NodeReply, OwnBytes, ReadBytes, Reads, Request, SharedBytes,
+};
 use mn_page::CatEntry;
 use mn_plain::Store;
 use mn_report::{LineAnswer, Report};
@@ -30,15 +32,13 @@ fn own(client: u8, what: What) -> Entry {
     }
 }
 
-fn called(node: u8, client: u8, request: Request, reads: Vec<ReadBytes>) -> Entry {
+fn called(node: u8, client: u8, request: Request, reads: Reads) -> Entry {
     Entry {
         node: Some(NodeNo(node)),
         client: Some(ClientNo(client)),
         what: What::Called {
             request,
-            reply: NodeReply::Done {
-                reads: Reads::from_vec(reads),
-            },
+            reply: NodeReply::Done { reads },
         },
     }
 }
@@ -96,7 +96,7 @@ fn prepare(alloc: Global, node: u8) -> Result<Request, Fail> {
 }
 
 /// The catalog of a store that begins.
-fn catalog(alloc: Global) -> Result<Bytes, Fail> {
+fn catalog(alloc: Global) -> Result<OwnBytes, Fail> {
     let entry = CatEntry {
         seq: 1,
         frozen: false,
@@ -109,7 +109,7 @@ fn catalog(alloc: Global) -> Result<Bytes, Fail> {
     };
     let mut bytes = vec![in alloc; 0; 4_096]?;
     entry.write(&mut bytes[..64]);
-    Ok(Bytes::from_vec(bytes))
+    Ok(OwnBytes::new(alloc, bytes)?)
 }
 
 /// What a client is to do.
@@ -230,7 +230,7 @@ fn restarted(kept: bool) -> Entry {
 
 /// Client 2 reads the catalog on node 0.
 fn catalog_read(alloc: Global) -> Result<Entry, Fail> {
-    let reads = Vec::from_array(alloc, [ReadBytes::own(catalog(alloc)?)])?;
+    let reads = Reads::one(ReadBytes::own(catalog(alloc)?));
     Ok(called(0, 2, exec(alloc, 2)?, reads))
 }
 
@@ -239,9 +239,9 @@ fn entry_of(alloc: Global, logged: Logged, kept: bool) -> Result<Entry, Fail> {
         Logged::Begin(client) => begun(alloc, client),
         Logged::Issue(client) => issued(alloc, client),
         Logged::Answer(client) => answered(alloc, client),
-        Logged::Vote => Ok(called(0, 0, prepare(alloc, 0)?, Vec::new(alloc))),
+        Logged::Vote => Ok(called(0, 0, prepare(alloc, 0)?, Reads::none())),
         Logged::Catalog => catalog_read(alloc),
-        Logged::Exec => Ok(called(0, 1, exec(alloc, 1)?, Vec::new(alloc))),
+        Logged::Exec => Ok(called(0, 1, exec(alloc, 1)?, Reads::none())),
         Logged::Stop => stopped(alloc, kept),
         Logged::Restart => Ok(restarted(kept)),
     }

@@ -1,6 +1,5 @@
 -- A node that has voted twice for one id and has decided it with yes.
-use Rattle.std.proofs.Common.{◌≡◌, ℕ, true, List, [], ◌∷◌, None, refl}
-use Rattle.mn_base.specs.declared.ids.ClientNo.{ClientNo}
+use Rattle.std.proofs.Common.{◌≡◌, true, List, [], ◌∷◌, refl}
 use Rattle.mn_base.specs.declared.ids.NodeNo.{NodeNo}
 use Rattle.mn_base.specs.declared.ids.Tid.{Tid}
 use Rattle.mn_mini.specs.declared.part.PartItem.TheVariants.{Write}

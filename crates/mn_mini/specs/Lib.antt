@@ -1,5 +1,6 @@
 pub mod Mini
 pub mod ReadBytes
+pub mod Reads
 pub mod Refusal
 pub mod Flat
 pub mod Node

@@ -1,9 +1,9 @@
 ghost use Rattle.std.specs.Prelude.{◌≡◌, ◌++◌, ◌↔◌, IfOk, IfErr, OnOk, IsTrue, IfSome, IfNone};
-ghost use Rattle.std.specs.Prelude.{filter};
+ghost use Rattle.std.specs.Prelude.{filter, length};
 ghost use Rattle.std.specs.List.{AllByRecursion, flat_map};
 ghost use Rattle.mn_mini.specs.Mini.{IsSound, IsSoundItem, IsInSpace, is_named, part_of};
-ghost use Rattle.mn_mini.specs.Mini.{participants_of, compare_at, read_at, write_at};
-ghost use Rattle.mn_base.specs.Ids.{node_numbers};
+ghost use Rattle.mn_mini.specs.Mini.{participants_of, compare_at, read_at, write_at, item_node};
+ghost use Rattle.mn_base.specs.Ids.{node_numbers, node_same};
 ghost use Rattle.mn_mini.specs.Refusal.{RefusesItems, IsFirstOutside};
 
 use crate::{Item, Items, MAX_ITEM, MiniError, Part, PartItem, SPACE};
@@ -94,6 +94,13 @@ fn participants_among(nodes: u8, items: &[Item]) -> Result<Nodes, NoMemory>
         }
     }
     Ok(participants)
+}
+
+/// How many items are at the node.
+fn count_at(items: &[Item], at: NodeNo) -> usize
+    ensures { result ≡ length (filter (λ item. node_same (item_node item) at) items.now) }
+{
+    items.iter().filter(|item| item.node() == at).count()
 }
 
 /// Adds the node's compares, in the order given.
@@ -215,10 +222,11 @@ impl Minitransaction {
     pub fn part(&self, alloc: Global, node: NodeNo) -> Result<Part, NoMemory>
         ensures { IfOk result (λ part. part ≡ part_of self.now node) }
     {
-        let mut part = Vec::new(alloc);
-        push_compares(alloc, &mut part, self.items.as_slice(), node)?;
-        push_reads(&mut part, self.items.as_slice(), node)?;
-        push_writes(alloc, &mut part, self.items.as_slice(), node)?;
+        let items = self.items.as_slice();
+        let mut part = Vec::with_capacity(alloc, count_at(items, node))?;
+        push_compares(alloc, &mut part, items, node)?;
+        push_reads(&mut part, items, node)?;
+        push_writes(alloc, &mut part, items, node)?;
         Part::from_vec(alloc, part)
     }
 }

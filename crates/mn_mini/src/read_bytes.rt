@@ -1,14 +1,14 @@
 ghost use Rattle.std.specs.Prelude.{◌≡◌, IfOk};
 
-use crate::SharedBytes;
-use mn_base::{Bytes, NoMemory, TryCopy};
+use crate::{OwnBytes, SharedBytes};
+use mn_base::{NoMemory, TryCopy};
 use std::alloc::Global;
 use std::marker::Model;
 
 /// Where the bytes are.
 #[derive(Debug)]
 enum Held {
-    Own { bytes: Bytes },
+    Own { bytes: OwnBytes },
     Shared { bytes: SharedBytes },
 }
 
@@ -41,7 +41,7 @@ impl Drop for ReadBytes {
 
 impl ReadBytes {
     /// Bytes that are copied with it. It takes no memory.
-    pub fn own(bytes: Bytes) -> Self
+    pub fn own(bytes: OwnBytes) -> Self
         ensures { result ≡ bytes }
     {
         ReadBytes {

@@ -1,52 +1,6 @@
-ghost use Rattle.std.specs.Prelude.{◌≡◌};
-
-use crate::{Doubts, ReadBytes, SharedBytes};
-use mn_base::{Bytes, NoMemory, Tid, TryCopy, copies_of};
+use crate::{Doubts, Reads, SharedBytes};
+use mn_base::{Bytes, NoMemory, Tid, TryCopy};
 use std::alloc::Global;
-use std::marker::Model;
-
-/// What the read items read, in order. Contracts see them as a list.
-#[derive(Debug, Drop)]
-pub struct Reads {
-    reads: Vec<ReadBytes>,
-}
-
-impl Model for Reads {
-    ghost use Rattle.std.specs.Prelude.{ℕ, List};
-
-    ghost Value = { List (List ℕ) };
-
-    ghost view = { λ r. r.reads.items };
-}
-
-impl Reads {
-    /// It takes no memory.
-    pub fn from_vec(reads: Vec<ReadBytes>) -> Self
-        ensures { result ≡ reads.items }
-    {
-        Reads { reads }
-    }
-
-    pub fn into_vec(self) -> Vec<ReadBytes>
-        ensures { result.items ≡ self }
-    {
-        self.reads
-    }
-
-    pub fn as_slice(&self) -> &[ReadBytes]
-        ensures { result.now ≡ self.now }
-    {
-        &self.reads
-    }
-}
-
-impl TryCopy for Reads {
-    fn try_copy(&self, alloc: Global) -> Result<Self, NoMemory> {
-        Ok(Reads {
-            reads: copies_of(alloc, &self.reads)?,
-        })
-    }
-}
 
 /// What a memory node answers.
 #[derive(Debug, Drop)]

@@ -68,7 +68,7 @@ fn test_compares(alloc: Global, space: &Space, part: &[PartItem]) -> Result<Test
     if let Some(differs) = first_mismatch(alloc, space, part)? {
         return Ok(Tested::Differs { differs });
     }
-    let reads = Reads::from_vec(reads_of(alloc, space, part)?);
+    let reads = reads_of(alloc, space, part)?;
     Ok(Tested::Yes { reads })
 }
 

@@ -6,7 +6,7 @@ ghost use Rattle.mn_node.specs.Part.{AreInside, IsMismatch, shared_of, alone_of}
 
 use crate::space::Space;
 use mn_base::{Bytes, NoMemory, Range};
-use mn_mini::{MAX_ITEMS, PartItem, ReadBytes, SharedBytes};
+use mn_mini::{MAX_ITEMS, PartItem, ReadBytes, Reads, SharedBytes};
 use std::alloc::Global;
 
 /// A compare item that differs: its number among the compares, and the bytes in place.
@@ -70,20 +70,16 @@ pub fn first_mismatch(
 }
 
 /// The bytes of the read items, which copies share.
-pub fn reads_of(
-    alloc: Global,
-    space: &Space,
-    items: &[PartItem],
-) -> Result<Vec<ReadBytes>, NoMemory>
+pub fn reads_of(alloc: Global, space: &Space, items: &[PartItem]) -> Result<Reads, NoMemory>
     requires inside { AreInside items.now }
     requires whole { length space.now ≡ space_size }
-    ensures { IfOk result (λ reads. reads.items ≡ part_reads space.now items.now) }
+    ensures { IfOk result (λ reads. reads ≡ part_reads space.now items.now) }
 {
-    let mut reads = Vec::new(alloc);
+    let mut reads = Reads::none();
     for item in items {
         if let PartItem::Read { start, length } = item {
             let bytes = shared_copy_of(alloc, space, *start, *length as usize)?;
-            reads.push(ReadBytes::shared(bytes))?;
+            reads = reads.with(alloc, ReadBytes::shared(bytes))?;
         }
     }
     Ok(reads)

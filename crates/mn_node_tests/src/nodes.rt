@@ -211,7 +211,7 @@ fn restart(alloc: Global, node: &mut Node<MemoryDisk>) -> Option<bool> {
     }
 }
 
-const YES: &str = "Done { reads: Reads { reads: [] } }";
+const YES: &str = "Done { reads: Reads { kept: Nothing } }";
 
 const COUNT_IS_LOCKED: &str =
     "BadLock { start: 20, length: 1, holder: Tid { run: 1, client: ClientNo(0), serial: 1 } }";
@@ -224,7 +224,7 @@ const A_VOTE: &[Said] = &[
     (Prepare(1, 1, Write(20, 1)), COUNT_IS_LOCKED),
     (
         Exec(1, 2, Read(16, 8)),
-        "Done { reads: Reads { reads: [ReadBytes { held: Shared { bytes: SharedBytes { bytes: [0, 0, 0, 0, 0, 0, 0, 0] } } }] } }",
+        "Done { reads: Reads { kept: One(ReadBytes { held: Shared { bytes: SharedBytes { bytes: [0, 0, 0, 0, 0, 0, 0, 0] } } }) } }",
     ),
 ];
 

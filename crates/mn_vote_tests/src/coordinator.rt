@@ -36,16 +36,16 @@ fn writes(alloc: Global, nodes: &[u8], start: u32, byte: u8) -> Result<Minitrans
     Ok(Minitransaction::new(alloc, 2, Items::from_vec(alloc, items)?)?)
 }
 
-fn done(alloc: Global) -> NodeReply {
+fn done() -> NodeReply {
     NodeReply::Done {
-        reads: Reads::from_vec(Vec::new(alloc)),
+        reads: Reads::none(),
     }
 }
 
 /// The reply of this letter.
 fn reply_of(alloc: Global, letter: u8) -> NodeReply {
     match letter {
-        b'd' => done(alloc),
+        b'd' => done(),
         b'l' => NodeReply::BadLock {
             start: 20_480,
             length: 1,
@@ -154,13 +154,13 @@ fn issue(client: u8, mini: Minitransaction) -> Entry
     }
 }
 
-fn called(alloc: Global, client: u8, node: u8, request: Request) -> Entry {
+fn called(client: u8, node: u8, request: Request) -> Entry {
     Entry {
         node: Some(NodeNo(node)),
         client: Some(ClientNo(client)),
         what: What::Called {
             request,
-            reply: done(alloc),
+            reply: done(),
         },
     }
 }
@@ -200,9 +200,9 @@ fn entry_at(alloc: Global, place: u64) -> Result<Entry, Fail> {
     match place {
         0 => Ok(issue(0, first(alloc)?)),
         1 => Ok(issue(1, second(alloc)?)),
-        2 => Ok(called(alloc, 0, 0, prepare(alloc, 0)?)),
-        3 => Ok(called(alloc, 1, 0, exec(alloc)?)),
-        _ => Ok(called(alloc, 0, 1, prepare(alloc, 1)?)),
+        2 => Ok(called(0, 0, prepare(alloc, 0)?)),
+        3 => Ok(called(1, 0, exec(alloc)?)),
+        _ => Ok(called(0, 1, prepare(alloc, 1)?)),
     }
 }
 

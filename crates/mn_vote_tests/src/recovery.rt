@@ -50,7 +50,7 @@ fn answer(alloc: Global, node: &mut OneId, request: &Request) -> Result<NodeRepl
         Request::Prepare { .. } => {
             node.voted = true;
             Ok(NodeReply::Done {
-                reads: Reads::from_vec(Vec::new(alloc)),
+                reads: Reads::none(),
             })
         }
         Request::Force { .. } if node.voted => Ok(NodeReply::Vote { yes: true }),

@@ -36,12 +36,12 @@ use std::alloc::Global;
 fn read_of(alloc: Global, nodes: u8, place: Place) -> Result<Minitransaction, NoMemory>
     ensures { IfOk result (λ mini. mini ≡ read_mini nodes (place_of place)) }
 {
-    let mut items = Vec::new(alloc);
-    items.push(Item::Read {
+    let item = Item::Read {
         node: place.node,
         start: place.start,
         length: place.length,
-    })?;
+    };
+    let items = Vec::from_array(alloc, [item])?;
     match Minitransaction::new(alloc, nodes, Items::from_vec(alloc, items)?) {
         Ok(mini) => Ok(mini),
         Err(_) => Err(NoMemory),

@@ -31,9 +31,7 @@ fn only_read(outcome: Outcome) -> Option<ReadBytes>
     ensures { result ≡ read_alone outcome.reads }
 {
     let reads = outcome.reads;
-    let mut items = reads.into_only()?.into_vec();
-    let bytes = items.pop()?;
-    if items.is_empty() { Some(bytes) } else { None }
+    reads.into_only()?.into_only()
 }
 
 /// Takes what was read for this purpose.

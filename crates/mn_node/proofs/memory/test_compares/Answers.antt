@@ -1,4 +1,3 @@
-use Rattle.std.proofs.Common.{◌∙◌}
 use Rattle.mn_mini.specs.Flat.{part_mismatch_from}
 use Rattle.mn_node.proofs.TestedParts.{differs_is, done_is}
 use Rattle.mn_node.proofs.memory.test_compares.Goals as goal
@@ -9,5 +8,4 @@ returns-in-Some c = λ added.
 
 pub returns : goal.returns
 returns c = λ added.
-    done_is c.args.space.now c.args.part.now added (part_mismatch_from c.args.space.now 0 c.args.part.now) c.in_ok-differs.field-0 c.from_vec-reads.result c.in_ok-differs.ensures c.in_default.is
-    (c.from_vec-reads.ensures ∙ c.in_ok-reads_of.ensures)
+    done_is c.args.space.now c.args.part.now added (part_mismatch_from c.args.space.now 0 c.args.part.now) c.in_ok-differs.field-0 c.in_ok-reads.reads c.in_ok-differs.ensures c.in_default.is c.in_ok-reads.ensures

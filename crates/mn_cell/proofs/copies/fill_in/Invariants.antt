@@ -1,7 +1,7 @@
 use Rattle.std.proofs.Common.{◌≡◌, ◌≤◌, ◌+◌, ◌++◌, drop, length, vec_capacity, vec_len}
 use Rattle.std.specs.Vec.Iter.{into_iter_items}
 use Rattle.mn_cell.specs.Calls.{lengths_of}
-use Rattle.mn_cell.proofs.copies.Blanks.fill.Given as goal
+use Rattle.mn_cell.proofs.copies.fill_in.Given as goal
 
 -- what was copied so far, and room of the right lengths for the rest
 abbrev pub invariant-loop-blank : goal.invariant-loop-blank
