@@ -7,7 +7,7 @@ ghost use Rattle.mn_cache.specs.Pages.{page_at, pages_without, pages_used, pages
 use lru::LruCache;
 use mn_base::{Addr, NoMemory, TryCopy};
 use mn_mini::SharedBytes;
-use mn_page::Page;
+use mn_page::SharedPage;
 use std::alloc::Global;
 use std::marker::Model;
 use std::num::NonZeroUsize;
@@ -37,7 +37,7 @@ impl Place {
 /// A page with the bytes that spell it.
 #[derive(Debug, Drop)]
 pub struct Spelled {
-    pub page: Page,
+    pub page: SharedPage,
     pub bytes: SharedBytes,
 }
 

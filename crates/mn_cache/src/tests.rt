@@ -4,7 +4,7 @@ ghost use Rattle.mn_page.specs.Grammar.{page_bytes};
 use crate::{Cache, Spelled};
 use mn_base::{Addr, NoMemory, NodeNo, Pairs, VersionNo};
 use mn_mini::SharedBytes;
-use mn_page::{Body, Low, Page};
+use mn_page::{Body, Low, Page, SharedPage};
 use std::alloc::Global;
 
 fn empty_leaf(alloc: Global) -> Result<Spelled, NoMemory>
@@ -23,6 +23,7 @@ fn empty_leaf(alloc: Global) -> Result<Spelled, NoMemory>
     let mut bytes = vec![in alloc; 0; 1_024]?;
     page.write(&mut bytes);
     let bytes = SharedBytes::new(alloc, bytes)?;
+    let page = SharedPage::new(alloc, page)?;
     Ok(Spelled { page, bytes })
 }
 

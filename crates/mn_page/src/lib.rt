@@ -20,6 +20,7 @@ mod page_scan;
 mod page_write;
 mod pages;
 mod scan;
+mod shared_page;
 mod write;
 
 pub use entry::{CatEntry, Entries};
@@ -33,3 +34,4 @@ pub use low::Low;
 pub use page::{Body, Branches, Child, Page, number_after};
 pub use page_ref::PageRef;
 pub use pages::Pages;
+pub use shared_page::SharedPage;

@@ -1,5 +1,5 @@
 use mn_base::{Addr, Key, NoMemory, NodeNo, Pair, Pairs, TryCopy, Value, VersionNo};
-use mn_page::{Body, Branches, Child, Low, Page};
+use mn_page::{Body, Branches, Child, Low, Page, SharedPage};
 use mn_scan::{ScanError, ScanRun, ScanStep};
 use mn_vtree::VersionTree;
 use std::alloc::Global;
@@ -110,7 +110,8 @@ fn read_by(alloc: Global, version: u8, scan: &mut ScanRun) -> Result<Vec<u16>, F
     for _page in 0..16 {
         if let ScanStep::Need { addr, .. } = scan.next() {
             reads.push(addr.slot)?;
-            scan.feed(addr, page_at(alloc, version, addr.slot)?)?;
+            let page = page_at(alloc, version, addr.slot)?;
+            scan.feed(alloc, addr, SharedPage::new(alloc, page)?)?;
         }
     }
     Ok(reads)
@@ -258,10 +259,11 @@ const FEEDS: &[Feed] = &[
 ];
 
 // The slot at which a page is refused that is given to the scan for the one that it needs.
-fn refusal(scan: &mut ScanRun, page: Page) -> Option<ScanError> {
+fn refusal(alloc: Global, scan: &mut ScanRun, page: Page) -> Result<Option<ScanError>, NoMemory> {
+    let page = SharedPage::new(alloc, page)?;
     match scan.next() {
-        ScanStep::Need { addr, .. } => scan.feed(addr, page).err(),
-        ScanStep::Ended => None,
+        ScanStep::Need { addr, .. } => Ok(scan.feed(alloc, addr, page).err()),
+        ScanStep::Ended => Ok(None),
     }
 }
 
@@ -271,7 +273,7 @@ fn stands_at(scan: &ScanRun, key: &[u8]) -> bool {
 
 fn is_answered(alloc: Global, scan: &mut ScanRun, feed: &Feed) -> Result<bool, NoMemory> {
     let (given, refused, (slot, leaf), key) = feed;
-    let answer = refusal(scan, page_of(alloc, given)?);
+    let answer = refusal(alloc, scan, page_of(alloc, given)?)?;
     let wanted = refused.map(|slot| ScanError::BadPath { addr: at(slot) });
     let next = ScanStep::Need {
         addr: at(*slot),
@@ -296,9 +298,9 @@ fn pages_on_no_path_are_refused(rt: HostRuntime) -> Result<(), Fail> {
     assert!(rt; are_answered(alloc, &mut scan)?);
     // A later leaf begins where the one before it ended.
     let wide = leaf(alloc, 0, b"k6", b"", &[b"k6"])?;
-    assert!(rt; refusal(&mut scan, wide) == Some(ScanError::NoMemory));
+    assert!(rt; refusal(alloc, &mut scan, wide)? == Some(ScanError::NoMemory));
     assert!(rt; scan.key() == b"k7".as_slice());
-    assert!(rt; refusal(&mut scan, page_at(alloc, 0, 3)?) == None);
+    assert!(rt; refusal(alloc, &mut scan, page_at(alloc, 0, 3)?)? == None);
     assert!(rt; scan.next() == ScanStep::Ended);
     Ok(())
 }

@@ -11,7 +11,7 @@ ghost use Rattle.mn_scan.specs.Scan.{IsInTurn, RefusesPage};
 use crate::{ScanError, ScanStep};
 use mn_base::{Addr, Key, NoMemory, Pair, Pairs, TryCopy, VersionNo};
 use mn_fence::covers;
-use mn_page::{Body, Page};
+use mn_page::{Body, Page, SharedPage};
 use mn_path::{Front, child_for};
 use mn_vtree::VersionTree;
 use std::alloc::Global;
@@ -229,7 +229,7 @@ impl ScanRun {
     /// it, or is higher than 14. NoMemory: there was no memory for its pairs; or it is a leaf that
     /// begins below the key at which the leaf before it ended, as none of a frozen version does.
     /// After a refusal the scan stands before its next leaf again.
-    pub fn feed(&mut self, addr: Addr, page: Page) -> Result<(), ScanError>
+    pub fn feed(&mut self, alloc: Global, addr: Addr, page: SharedPage) -> Result<(), ScanError>
         requires { IsNeeded self.old addr }
         ensures fits { OnOk result (IsTrue (fits self.old page)) }
         ensures in_turn { OnOk result (IsInTurn self.old page) }
@@ -237,10 +237,21 @@ impl ScanRun {
         ensures refused { IfErr result (RefusesPage self.old addr page) }
         ensures again { OnErr result (self.new ≡ restarted self.old) }
     {
-        if !self.is_right(&page) {
+        if !self.is_right(page.get()) {
             self.restart();
             return Err(ScanError::BadPath { addr });
         }
+        if let Body::Inner {
+            height,
+            first,
+            rest,
+        } = &page.get().body
+        {
+            self.needed = child_for(*first, rest.as_slice(), bytes_of(&self.at));
+            self.above = Some(*height);
+            return Ok(());
+        }
+        self.restart();
         let Page {
             seq: _,
             made: _,
@@ -248,21 +259,10 @@ impl ScanRun {
             low,
             high,
             body,
-        } = page;
+        } = page.into_page(alloc)?;
         match body {
-            Body::Inner {
-                height,
-                first,
-                rest,
-            } => {
-                self.needed = child_for(first, rest.as_slice(), bytes_of(&self.at));
-                self.above = Some(height);
-                Ok(())
-            }
-            Body::Leaf { pairs } => {
-                self.restart();
-                self.take_leaf(low.as_slice(), high, pairs)
-            }
+            Body::Leaf { pairs } => self.take_leaf(low.as_slice(), high, pairs),
+            Body::Inner { .. } => unreachable!(),
         }
     }
 

@@ -5,7 +5,7 @@ use crate::held::HeldPage;
 use crate::held_pages::HeldPages;
 use crate::write::Write;
 use mn_base::{Addr, NoMemory};
-use mn_page::Page;
+use mn_page::SharedPage;
 use std::alloc::Global;
 
 /// The pages as the steps left them, the old ones that were changed, the old ones of the read set,
@@ -50,7 +50,7 @@ impl Draft {
     }
 
     /// Puts a page that was read at its address.
-    pub fn add(&mut self, addr: Addr, page: Page) -> Result<(), NoMemory>
+    pub fn add(&mut self, addr: Addr, page: SharedPage) -> Result<(), NoMemory>
         ensures added { OnOk result (drafted self.new ≡ drafted_with (drafted self.old) addr page) }
         ensures same { OnErr result (drafted self.new ≡ drafted self.old) }
     {

@@ -99,7 +99,7 @@ fn effect_on(
     ensures { IfOk result (IsEffect version draft.now.origins.items (held_of leaf.now)
         (those_at (helds draft.now.pages.items) (held_of leaf.now) above.now) step.now) }
 {
-    let pairs = pairs_of(&leaf.page.body);
+    let pairs = pairs_of(&leaf.page.get().body);
     match step {
         Step::Get { key } => {
             let value = copy_of(alloc, value_of(pairs, key))?;

@@ -3,7 +3,7 @@ ghost use Rattle.mn_base.specs.Ids.{addr_same};
 ghost use Rattle.mn_page.specs.Overlay.{is_new, new_addr, placed_addr};
 
 use mn_base::{Addr, Key, NoMemory, NodeNo};
-use mn_page::Page;
+use mn_page::SharedPage;
 
 /// New pages have no slot yet: they go by their number, on this node, which there is not.
 pub const UNPLACED: u8 = 8;
@@ -12,7 +12,7 @@ pub const UNPLACED: u8 = 8;
 #[derive(Debug)]
 pub struct HeldPage {
     pub addr: Addr,
-    pub page: Page,
+    pub page: SharedPage,
 }
 
 /// It is let go by a call, which is proved once, and not in place wherever one goes.

@@ -11,7 +11,7 @@ use crate::effect::{Progress, come_down, key_of};
 use crate::held::{Wanted, resolved};
 use crate::way::Way;
 use mn_base::{Addr, NoMemory, Step, TryCopy, VersionNo};
-use mn_page::Page;
+use mn_page::SharedPage;
 use mn_vtree::VersionTree;
 use std::alloc::Global;
 
@@ -38,7 +38,7 @@ impl Kept {
     }
 
     /// Puts a page that was read where none is held yet.
-    pub fn add(&mut self, addr: Addr, page: Page) -> Result<(), NoMemory>
+    pub fn add(&mut self, addr: Addr, page: SharedPage) -> Result<(), NoMemory>
         requires { held_at (helds self.old.draft.pages.items) addr ≡ None }
         ensures added { OnOk result
             (drafted self.new.draft ≡ drafted_with (drafted self.old.draft) addr page) }

@@ -51,7 +51,7 @@ fn is_before(pages: &HeldPages, number: u16, other: u16) -> bool
     let Some(other) = pages.get(place_of(other)) else {
         return false;
     };
-    is_first(&page.page, &other.page)
+    is_first(page.page.get(), other.page.get())
 }
 
 /// Where a further number goes: before the first one that it precedes.
@@ -187,8 +187,9 @@ fn push_old(
         return Ok(());
     }
     if let Some(held) = pages.get(addr) {
-        let seq = number_after(held.page.seq);
-        placed.push((addr, page_in(alloc, by, seq, &held.page)?))?;
+        let page = held.page.get();
+        let seq = number_after(page.seq);
+        placed.push((addr, page_in(alloc, by, seq, page)?))?;
     }
     Ok(())
 }
@@ -225,7 +226,8 @@ fn push_created(
 {
     let addr = place_of(number);
     if let Some(held) = pages.get(addr) {
-        let page = page_in(alloc, by, held.page.seq, &held.page)?;
+        let page = held.page.get();
+        let page = page_in(alloc, by, page.seq, page)?;
         placed.push((resolved(by, addr), page))?;
     }
     Ok(())

@@ -7,7 +7,7 @@ use crate::kept::Kept;
 use crate::order::{by_number, order_of, push_changed, push_new};
 use crate::{AddError, Stepped};
 use mn_base::{Addr, NoMemory, Step, VersionNo};
-use mn_page::{Page, Pages};
+use mn_page::{Page, Pages, SharedPage};
 use mn_path::Front;
 use mn_vtree::VersionTree;
 use std::alloc::Global;
@@ -79,14 +79,14 @@ impl Overlay {
     /// doesn't serve the version, doesn't cover that step's key, isn't one height below the page
     /// that names it, or is higher than 14. NoMemory: there was no memory for it. After a refusal
     /// the tree is as before.
-    pub fn add(&mut self, addr: Addr, page: Page) -> Result<(), AddError>
+    pub fn add(&mut self, addr: Addr, page: SharedPage) -> Result<(), AddError>
         requires { IsWanted self.old addr }
         ensures fits { OnOk result (IsTrue (fits self.old page)) }
         ensures added { OnOk result (self.new ≡ with_page self.old addr page) }
         ensures refused { IfErr result (RefusesPage self.old addr page) }
         ensures unchanged { OnErr result (self.new ≡ self.old) }
     {
-        if !self.is_right(&page) {
+        if !self.is_right(page.get()) {
             return Err(AddError::BadPath { addr });
         }
         self.kept.add(addr, page)?;

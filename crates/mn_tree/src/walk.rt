@@ -80,10 +80,11 @@ fn look<'a>(
     let Some(held) = pages.get(way.next) else {
         return Found::Missing;
     };
-    if !may_follow(tree, version, &held.page, way.above, key) {
+    let page = held.page.get();
+    if !may_follow(tree, version, page, way.above, key) {
         return Found::Wrong;
     }
-    if height(&held.page.body) == 0 {
+    if height(&page.body) == 0 {
         return Found::Leaf { held };
     }
     Found::Inner { held }

@@ -101,7 +101,7 @@ impl Way {
             height,
             first,
             rest,
-        } = &held.page.body
+        } = &held.page.get().body
         else {
             unreachable!();
         };

@@ -15,7 +15,7 @@ use crate::draft::Draft;
 use crate::held::{HeldPage, new_place, resolved};
 use crate::write::Write;
 use mn_base::{Addr, Key, NoMemory, TryCopy, VersionNo};
-use mn_page::{Body, Branches, Child, Low, Page};
+use mn_page::{Body, Branches, Child, Low, Page, SharedPage};
 use mn_path::height;
 use std::alloc::Global;
 
@@ -89,7 +89,7 @@ fn marked(alloc: Global, version: VersionNo, page: &Page) -> Result<Page, NoMemo
 impl Writer {
     /// Adds a new page, which was made of the one that was read at `origin`.
     #[inline(always)]
-    fn create(&mut self, page: Page, origin: Addr) -> Result<Addr, NoMemory>
+    fn create(&mut self, alloc: Global, page: Page, origin: Addr) -> Result<Addr, NoMemory>
         ensures at { IfOk result (λ addr. addr ≡ new_addr self.old.fresh) }
         ensures writes { OnOk result
             (self.new.writes.items ≡ self.old.writes.items
@@ -99,6 +99,7 @@ impl Writer {
         ensures version { self.new.version ≡ self.old.version }
     {
         let addr = new_place(self.fresh)?;
+        let page = SharedPage::new(alloc, page)?;
         self.writes.push(Write {
             addr,
             page,
@@ -110,12 +111,13 @@ impl Writer {
 
     /// Changes a page where it stands.
     #[inline(always)]
-    fn put(&mut self, addr: Addr, page: Page) -> Result<(), NoMemory>
+    fn put(&mut self, alloc: Global, addr: Addr, page: Page) -> Result<(), NoMemory>
         ensures writes { OnOk result
             (self.new.writes.items ≡ self.old.writes.items ++ change addr page ∷ []) }
         ensures fresh { self.new.fresh ≡ self.old.fresh }
         ensures version { self.new.version ≡ self.old.version }
     {
+        let page = SharedPage::new(alloc, page)?;
         self.writes.push(Write {
             addr,
             page,
@@ -133,9 +135,10 @@ impl Writer {
         ensures fresh { self.new.fresh ≡ self.old.fresh }
         ensures version { self.new.version ≡ self.old.version }
     {
-        let high = held.page.high.try_copy(alloc)?;
-        let page = changed(alloc, &held.page, high, body)?;
-        self.put(held.addr, page)
+        let page = held.page.get();
+        let high = page.high.try_copy(alloc)?;
+        let page = changed(alloc, page, high, body)?;
+        self.put(alloc, held.addr, page)
     }
 
     /// Leaves the left half of a page where it stands.
@@ -153,8 +156,8 @@ impl Writer {
         ensures fresh { self.new.fresh ≡ self.old.fresh }
         ensures version { self.new.version ≡ self.old.version }
     {
-        let page = left_half(alloc, &held.page, separator, left)?;
-        self.put(held.addr, page)
+        let page = left_half(alloc, held.page.get(), separator, left)?;
+        self.put(alloc, held.addr, page)
     }
 
     /// Marks a page as copied for the version.
@@ -165,8 +168,8 @@ impl Writer {
         ensures fresh { self.new.fresh ≡ self.old.fresh }
         ensures version { self.new.version ≡ self.old.version }
     {
-        let page = marked(alloc, self.version, &held.page)?;
-        self.put(held.addr, page)
+        let page = marked(alloc, self.version, held.page.get())?;
+        self.put(alloc, held.addr, page)
     }
 
     /// Adds a copy of a page with this body.
@@ -187,7 +190,7 @@ impl Writer {
     {
         let low = page.low.try_copy(alloc)?;
         let high = page.high.try_copy(alloc)?;
-        self.create(fresh_page(self.version, low, high, body), origin)
+        self.create(alloc, fresh_page(self.version, low, high, body), origin)
     }
 
     /// Adds the left half of a page.
@@ -209,7 +212,7 @@ impl Writer {
     {
         let low = page.low.try_copy(alloc)?;
         let high = Some(separator.try_copy(alloc)?);
-        self.create(fresh_page(self.version, low, high, left), origin)
+        self.create(alloc, fresh_page(self.version, low, high, left), origin)
     }
 
     /// Adds the right half of a page.
@@ -231,7 +234,7 @@ impl Writer {
     {
         let low = Low::at(separator);
         let high = page.high.try_copy(alloc)?;
-        self.create(fresh_page(self.version, low, high, right), origin)
+        self.create(alloc, fresh_page(self.version, low, high, right), origin)
     }
 
     /// A page that was made in the version has this body now.
@@ -266,7 +269,7 @@ impl Writer {
                 separator,
                 right,
             } => {
-                let addr = self.create_right(alloc, &held.page, origin, &separator, right)?;
+                let addr = self.create_right(alloc, held.page.get(), origin, &separator, right)?;
                 self.put_left(alloc, held, &separator, left)?;
                 Ok(Ask::Child {
                     now: held.addr,
@@ -324,7 +327,7 @@ impl Writer {
         ensures bound { OnOk result (self.new.fresh ≤ 2 ^ 16) }
         ensures version { self.new.version ≡ self.old.version }
     {
-        let page = &held.page;
+        let page = held.page.get();
         match parts_of(alloc, body)? {
             Parts::Whole { body } => {
                 let now = self.create_copy(alloc, page, origin, body)?;
@@ -367,7 +370,7 @@ impl Writer {
         ensures bound { OnOk result (self.new.fresh ≤ 2 ^ 16) }
         ensures version { self.new.version ≡ self.old.version }
     {
-        if held.page.made.0 == self.version.0 {
+        if held.page.get().made.0 == self.version.0 {
             return self.change_own(alloc, held, origin, body);
         }
         self.change_other(alloc, held, origin, body)
@@ -392,7 +395,7 @@ impl Writer {
             (halves_of body)))) }
         ensures bound { OnOk result (self.new.fresh ≤ 2 ^ 16) }
     {
-        let page = &held.page;
+        let page = held.page.get();
         let below = height(&body);
         match parts_of(alloc, body)? {
             Parts::Whole { body } => self.put_body(alloc, held, body),
@@ -460,7 +463,7 @@ pub fn raise(
         let Ask::Child { now, more } = writer.change_page(alloc, at, origin, body)? else {
             return Ok(writer.writes);
         };
-        body = with_children(alloc, &parent.page.body, at.addr, now, more)?;
+        body = with_children(alloc, &parent.page.get().body, at.addr, now, more)?;
         at = parent;
     }
     writer.change_root(alloc, at, resolved(origins, at.addr), body)?;

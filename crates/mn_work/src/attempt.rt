@@ -36,7 +36,7 @@ use mn_base::{
     VersionNo,
 };
 use mn_mini::SharedBytes;
-use mn_page::{CatEntry, Page};
+use mn_page::{CatEntry, SharedPage};
 use mn_tree::{AddError, Overlay, Stepped};
 use mn_txn::{Placing, PlanError, SeenPage, Tried, done_plan, page_at, unmet_plan};
 use mn_vtree::VersionTree;
@@ -347,14 +347,14 @@ impl Attempt {
 
     /// A page comes in, with its bytes. Whether the step that asked for it goes on at it.
     #[inline(always)]
-    fn keep(&mut self, addr: Addr, bytes: SharedBytes, page: Page) -> Result<bool, NoMemory>
+    fn keep(&mut self, addr: Addr, bytes: SharedBytes, page: SharedPage) -> Result<bool, NoMemory>
         requires wanted { IsWanted self.old.overlay addr }
         requires page { IsPage page }
         requires bytes { bytes ≡ page_bytes page }
         ensures stays { KeepsSteps self.old self.new }
         ensures comes { IfOk result (ComesIn self.old addr page self.new) }
     {
-        let leaf = is_leaf(&page);
+        let leaf = is_leaf(page.get());
         self.pages.push(SeenPage { addr, bytes, leaf })?;
         match self.overlay.add(addr, page) {
             Ok(()) => Ok(true),

@@ -18,7 +18,7 @@ use mn_alloc::{AllocError, plan_slots};
 use mn_base::{Addr, Answer, Counts, NoMemory, NodeNo, Op, Reply, TryCopy, VersionNo};
 use mn_catalog::Catalog;
 use mn_mini::{Minitransaction, SharedBytes};
-use mn_page::Page;
+use mn_page::{Page, SharedPage};
 use mn_path::Front;
 use mn_txn::{PlanError, branch_plan, snapshot_plan};
 use std::alloc::Global;
@@ -30,7 +30,7 @@ pub struct Child {
     version: VersionNo,
     root: Addr,
     /// The root page, once it was read.
-    page: Option<Page>,
+    page: Option<SharedPage>,
     /// The counts that were read, from node 0 on.
     counts: Vec<u16>,
 }
@@ -123,14 +123,15 @@ impl Child {
     }
 
     /// Takes the root page.
-    fn keep(&mut self, known: &Known, page: Page) -> Taken
+    fn keep(&mut self, known: &Known, page: SharedPage) -> Taken
         requires page { IsPage page }
         ensures taken { TakesRoot known.now.catalog self.old page self.new result }
         ensures stays { KeepsTry self.old self.new }
     {
-        if !self.may_copy(known, &page) {
+        let root = page.get();
+        if !self.may_copy(known, root) {
             return Taken::Fails {
-                cause: fault_at(self.root, page.seq),
+                cause: fault_at(self.root, root.seq),
             };
         }
         self.page = Some(page);
@@ -299,7 +300,7 @@ impl Child {
         if slot == self.root {
             return Ok(Next::Fails { cause: None });
         }
-        match plan_for(alloc, known.nodes, kept.catalog(), op, root, slot) {
+        match plan_for(alloc, known.nodes, kept.catalog(), op, root.get(), slot) {
             Ok(mini) => Ok(Next::Plan {
                 mini,
                 reply: Reply::Made,

@@ -16,7 +16,7 @@ use crate::seen::is_leaf;
 use mn_base::{Addr, Founds, Key, NoMemory, Reply, TryCopy, Value, VersionNo};
 use mn_cache::Spelled;
 use mn_mini::SharedBytes;
-use mn_page::{Body, Page, PageRef};
+use mn_page::{Body, Page, PageRef, SharedPage};
 use mn_path::{Front, child_for, value_in};
 use std::alloc::Global;
 
@@ -161,7 +161,7 @@ impl Descent {
         let Some(spelled) = known.cache.get(self.addr) else {
             return Passed::Missing;
         };
-        let page = &spelled.page;
+        let page = spelled.page.get();
         let front = Front::of_page(page);
         if !front.is_on_path(kept.tree(), self.version, key, self.above) {
             return Passed::Fault { seq: page.seq };
@@ -284,7 +284,7 @@ impl Descent {
         };
         if page.height() > 0 {
             let inner = Spelled {
-                page: page.to_page(alloc)?,
+                page: SharedPage::new(alloc, page.to_page(alloc)?)?,
                 bytes: bytes.try_copy(alloc)?,
             };
             return self.take_inner(known, key, inner);
@@ -330,9 +330,10 @@ impl Descent {
         ensures taken { TakesPageBy known.old.catalog self.old key.now inner.page self.new result }
     {
         let addr = self.addr;
-        let seq = inner.page.seq;
-        let goes = self.is_on_way(known, key, &Front::of_page(&inner.page));
-        let below = self.below(&inner.page, key);
+        let page = inner.page.get();
+        let seq = page.seq;
+        let goes = self.is_on_way(known, key, &Front::of_page(page));
+        let below = self.below(page, key);
         known.cache.put(addr, inner)?;
         if !goes {
             return Ok(Taken::Fails {

@@ -10,7 +10,7 @@ use crate::seen::is_leaf;
 use mn_base::{Addr, Name, NoMemory, Op, Reply, TryCopy, VersionNo};
 use mn_cache::{Cache, Spelled};
 use mn_mini::SharedBytes;
-use mn_page::Page;
+use mn_page::SharedPage;
 use std::alloc::Global;
 
 /// What a proxy keeps from one operation to the next: the number of nodes, the catalog as it last
@@ -87,7 +87,7 @@ impl Known {
         &mut self,
         alloc: Global,
         addr: Addr,
-        page: &Page,
+        page: &SharedPage,
         bytes: &SharedBytes,
     ) -> Result<(), NoMemory>
         requires page { IsPage page.now }
@@ -96,7 +96,7 @@ impl Known {
         ensures put { OnOk result (self.new.cache ≡ with_inner addr page.now self.old.cache) }
         ensures left { OnErr result (self.new.cache ≡ self.old.cache) }
     {
-        if is_leaf(page) {
+        if is_leaf(page.get()) {
             return Ok(());
         }
         let page = page.try_copy(alloc)?;

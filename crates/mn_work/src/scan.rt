@@ -14,7 +14,7 @@ use crate::next::{Next, Taken, fault_at};
 use crate::seen::{is_leaf, page_in};
 use mn_base::{Addr, Busy, Name, NoMemory, TryCopy};
 use mn_mini::SharedBytes;
-use mn_page::Page;
+use mn_page::{Page, SharedPage};
 use mn_path::Front;
 use mn_scan::{ScanError, ScanRun, ScanStep};
 use std::alloc::Global;
@@ -33,11 +33,12 @@ fn goes_on(scan: &ScanRun, known: &Known, name: &Name, page: &Page) -> bool
 
 /// Takes a page that was read, or is kept, at the needed address.
 fn keep(
+    alloc: Global,
     scan: &mut ScanRun,
     known: &Known,
     name: &Name,
     addr: Addr,
-    page: Page,
+    page: SharedPage,
 ) -> Result<Taken, NoMemory>
     requires needed { IsNeeded scan.old addr }
     requires page { IsPage page }
@@ -46,13 +47,14 @@ fn keep(
     ensures stays { IfOk result (StaysBefore scan.old scan.new) }
     ensures above { IsAbove scan.new.above }
 {
-    if !goes_on(scan, known, name, &page) {
+    let seen = page.get();
+    if !goes_on(scan, known, name, seen) {
         return Ok(Taken::Fails {
-            cause: fault_at(addr, page.seq),
+            cause: fault_at(addr, seen.seq),
         });
     }
-    let leaf = is_leaf(&page);
-    match scan.feed(addr, page) {
+    let leaf = is_leaf(seen);
+    match scan.feed(alloc, addr, page) {
         Ok(()) if leaf => Ok(Taken::Leaf),
         Ok(()) => Ok(Taken::GoesOn),
         Err(ScanError::BadPath { .. }) => Ok(Taken::Fails { cause: None }),
@@ -101,7 +103,7 @@ fn pass_kept(
         Some(spelled) => spelled.page.try_copy(alloc)?,
         None => return Ok(Passage::Missing),
     };
-    let taken = keep(scan, known, name, addr, page)?;
+    let taken = keep(alloc, scan, known, name, addr, page)?;
     Ok(passage_of(taken))
 }
 
@@ -208,5 +210,5 @@ pub fn take_page(
         });
     };
     known.keep_inner(alloc, addr, &page, bytes)?;
-    keep(scan, known, name, addr, page)
+    keep(alloc, scan, known, name, addr, page)
 }

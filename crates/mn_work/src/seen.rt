@@ -3,7 +3,7 @@ ghost use Rattle.mn_page.specs.Grammar.{IsPage, height_of};
 ghost use Rattle.mn_work.specs.Seen.{TellsPage};
 
 use mn_base::NoMemory;
-use mn_page::{Body, Page, PageError};
+use mn_page::{Body, Page, PageError, SharedPage};
 use std::alloc::Global;
 
 /// Whether the page is a leaf. An inner page in the grammar has a height of at least 1.
@@ -18,11 +18,12 @@ pub fn is_leaf(page: &Page) -> bool
 
 /// The page that these bytes spell, or none. NoMemory: there was no memory for it.
 #[inline(always)]
-pub fn page_in(alloc: Global, bytes: &[u8]) -> Result<Option<Page>, NoMemory>
+pub fn page_in(alloc: Global, bytes: &[u8]) -> Result<Option<SharedPage>, NoMemory>
     ensures { IfOk result (TellsPage bytes.now) }
 {
     match Page::read(alloc, bytes) {
-        Ok(page) => Ok(page),
+        Ok(Some(page)) => Ok(Some(SharedPage::new(alloc, page)?)),
+        Ok(None) => Ok(None),
         Err(PageError::BadPage { .. }) => Ok(None),
         Err(PageError::NoMemory) => Err(NoMemory),
     }

@@ -1,4 +1,4 @@
-use Rattle.std.proofs.Common.{◌≡◌, ◌≤◌, ◌∙◌, false, true, ap, arith, eqb-true, refl, subst, sym}
+use Rattle.std.proofs.Common.{◌≡◌, ◌≤◌, ◌∙◌, Some, false, true, ap, arith, eqb-true, refl, subst, sym}
 use Rattle.std.specs.Option.{option_map}
 use Rattle.mn_page.specs.Grammar.{IsPage, height_of}
 use Rattle.mn_work.specs.declared.get.Descent.{Descent}
@@ -35,9 +35,9 @@ returns-then-not-is_on_path-clause-cache c = one_used c.args.self.now.addr c.arg
 pub returns-then-not-is_on_path-clause-path : goal.returns-then-not-is_on_path-clause-path
 returns-then-not-is_on_path-clause-path c = λ leaf leads.
     let d = c.args.self.now in
-    let page = c.in-Some-get.spelled.now.page in
+    let page = c.get-page.result.now in
     let some = some_leads c.args.known.now c.args.key.now d leaf page c.in-Some.kept c.requires.pages c.requires.higher
-    (sym c.get.ensures.found ∙ ap (option_map (λ s. s.now.page)) c.in-Some-get.is) c.in-Some.is leads in
+    (sym c.get.ensures.found ∙ ap (option_map (λ s. s.now.page)) c.in-Some-get.is ∙ ap Some (sym c.get-page.ensures)) c.in-Some.is leads in
     let on = on_way_as d c.in-Some.kept c.args.key.now page c.tree.result.now c.of_page-front.result c.is_on_path.result
     c.tree.ensures c.of_page-front.ensures c.is_on_path.ensures in
     let both : false ≡ true = sym c.if-not-is_on_path.true ∙ (on ∙ some.on) in
@@ -52,8 +52,8 @@ returns-then-is_leaf-clause-cache c = one_used c.args.self.now.addr c.args.known
 
 pub returns-then-is_leaf-clause-path : goal.returns-then-is_leaf-clause-path
 returns-then-is_leaf-clause-path c = λ leaf leads.
-    let page = c.in-Some-get.spelled.now.page in
-    let inner = found c.args.self.now.addr c.args.known.now.cache page c.requires.pages (sym c.get.ensures.found ∙ ap (option_map (λ s. s.now.page)) c.in-Some-get.is) in
+    let page = c.get-page.result.now in
+    let inner = found c.args.self.now.addr c.args.known.now.cache page c.requires.pages (sym c.get.ensures.found ∙ ap (option_map (λ s. s.now.page)) c.in-Some-get.is ∙ ap Some (sym c.get-page.ensures)) in
     let high : 1 ≤ height_of page.body = inner.1 in
     let low : height_of page.body ≡ 0 = eqb-true (height_of page.body) 0 (sym (c.is_leaf.ensures inner.0) ∙ c.if-is_leaf.true) in
     absurd (omega arith)
@@ -69,22 +69,22 @@ returns-clause-cache c = one_used c.args.self.now.addr c.args.known.now.cache _ 
 
 pub returns-clause-above : goal.returns-clause-above
 returns-clause-above c above =
-    let page = c.in-Some-get.spelled.now.page in
+    let page = c.get-page.result.now in
     let is : IsPage page =
-    (found c.args.self.now.addr c.args.known.now.cache page c.requires.pages (sym c.get.ensures.found ∙ ap (option_map (λ s. s.now.page)) c.in-Some-get.is)).0 in
+    (found c.args.self.now.addr c.args.known.now.cache page c.requires.pages (sym c.get.ensures.found ∙ ap (option_map (λ s. s.now.page)) c.in-Some-get.is ∙ ap Some (sym c.get-page.ensures))).0 in
     subst (λ (d : Descent). IsAbove d.above) (sym c.below.ensures) (gone_above c.args.self.now page c.args.key.now is above)
 
 pub returns-clause-version : goal.returns-clause-version
 returns-clause-version c =
-    ap (λ (d : Descent). d.version) c.below.ensures ∙ gone_version c.args.self.now c.in-Some-get.spelled.now.page c.args.key.now
+    ap (λ (d : Descent). d.version) c.below.ensures ∙ gone_version c.args.self.now c.get-page.result.now c.args.key.now
 
 pub returns-clause-path : goal.returns-clause-path
 returns-clause-path c = λ leaf leads.
     let d = c.args.self.now in
-    let page = c.in-Some-get.spelled.now.page in
+    let page = c.get-page.result.now in
     let after = record c.args.known.now { cache = c.get.follows.lender-at-none } in
     let some = some_leads c.args.known.now c.args.key.now d leaf page c.in-Some.kept c.requires.pages c.requires.higher
-    (sym c.get.ensures.found ∙ ap (option_map (λ s. s.now.page)) c.in-Some-get.is) c.in-Some.is leads in
+    (sym c.get.ensures.found ∙ ap (option_map (λ s. s.now.page)) c.in-Some-get.is ∙ ap Some (sym c.get-page.ensures)) c.in-Some.is leads in
     subst (λ (x : Descent). LeadsTo after c.args.key.now x leaf × IsLower d.above x.above) (sym c.below.ensures) (
       leads_still c.args.known.now after c.args.key.now (gone_below d page.body c.args.key.now) leaf refl refl
           (one_used d.addr c.args.known.now.cache c.get.follows.lender-at-none c.get.follows.holds-at-none) some.leads,

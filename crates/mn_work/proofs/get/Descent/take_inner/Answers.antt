@@ -1,4 +1,5 @@
 use Rattle.std.proofs.Common.{◌∙◌, ap, refl, subst, sym}
+use Rattle.mn_page.specs.Grammar.{IsPage}
 use Rattle.mn_work.specs.declared.get.Descent.{Descent}
 use Rattle.mn_work.specs.Knows.{ArePages}
 use Rattle.mn_work.proofs.Cached.{put}
@@ -16,9 +17,9 @@ returns-clause-kept c =
 
 pub returns-clause-version : goal.returns-clause-version
 returns-clause-version c =
-    ap (λ (d : Descent). d.version) c.below-below.ensures ∙ gone_version c.args.self.now c.args.inner.page c.args.key.now
+    ap (λ (d : Descent). d.version) c.below-below.ensures ∙ gone_version c.args.self.now c.get-page.result.now c.args.key.now
 
 pub returns-clause-above : goal.returns-clause-above
 returns-clause-above c =
     subst (λ (d : Descent). IsAbove d.above) (sym c.below-below.ensures)
-    (gone_above c.args.self.now c.args.inner.page c.args.key.now c.requires.page c.requires.above)
+    (gone_above c.args.self.now c.get-page.result.now c.args.key.now (subst IsPage (sym c.get-page.ensures) c.requires.page) c.requires.above)

@@ -1,4 +1,4 @@
-use Rattle.std.proofs.Common.{List, ℕ, ◌≤◌, subst, sym}
+use Rattle.std.proofs.Common.{◌∙◌, List, ℕ, ◌≤◌, subst, sym}
 use Rattle.mn_page.specs.Grammar.{IsPage, SpellsPage}
 use Rattle.mn_work.proofs.Cached.{leaf_put}
 use Rattle.mn_work.proofs.get.Descent.take_page.Goals as goal
@@ -6,7 +6,7 @@ use Rattle.mn_work.proofs.get.Descent.take_page.Goals as goal
 pub take_inner-requires-clause-page : goal.take_inner-requires-clause-page
 take_inner-requires-clause-page c =
     let spells = subst (λ (b : List ℕ). SpellsPage b c.in-Ok-Some.page) c.as_slice.ensures (rw c.in-Ok-Some.field-0-is at c.in-Ok-Some.ensures.read) in
-    subst IsPage (sym c.in_ok-to_page.ensures) spells.0
+    subst IsPage (sym (c.in_ok-new.ensures ∙ c.in_ok-to_page.ensures)) spells.0
 
 pub returns-then-not-is_on_way-clause-cache : goal.returns-then-not-is_on_way-clause-cache
 returns-then-not-is_on_way-clause-cache c =

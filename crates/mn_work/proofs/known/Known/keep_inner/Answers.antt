@@ -11,10 +11,16 @@ use Rattle.mn_work.proofs.known.Known.keep_inner.Goals as goal
 some_height : (n : ℕ) → false ≡ nat_eq n 0 → 1 ≤ n
 some_height n e = grind (arith, nat_tests)
 
+pub returns-then-is_leaf-clause-put : goal.returns-then-is_leaf-clause-put
+returns-then-is_leaf-clause-put c =
+    let cache = c.args.self.now.cache in
+    subst (λ (b : Bool). cache ≡ (if b then cache else pages_put c.args.addr c.args.page.now cache))
+    ((rw c.get.ensures at c.if-is_leaf.ensures) c.requires.page) refl
+
 pub returns-clause-kept : goal.returns-clause-kept
 returns-clause-kept c =
     let high : 1 ≤ height_of c.args.page.now.body =
-    some_height (height_of c.args.page.now.body) (c.if-is_leaf.ensures c.requires.page) in
+    some_height (height_of c.args.page.now.body) ((rw c.get.ensures at c.if-is_leaf.ensures) c.requires.page) in
     let same = c.in_ok-page.ensures in (
       refl,
       refl,
@@ -25,5 +31,5 @@ returns-clause-kept c =
 pub returns-clause-put : goal.returns-clause-put
 returns-clause-put c =
     let cache = c.args.self.now.cache in
-    subst (λ (b : Bool). c.put.new.self ≡ (if b then cache else pages_put c.args.addr c.args.page.now cache)) (c.if-is_leaf.ensures c.requires.page)
+    subst (λ (b : Bool). c.put.new.self ≡ (if b then cache else pages_put c.args.addr c.args.page.now cache)) ((rw c.get.ensures at c.if-is_leaf.ensures) c.requires.page)
     (c.in_ok-put.ensures.pages ∙ ap (λ (p : Page). pages_put c.args.addr p cache) c.in_ok-page.ensures)
