@@ -51,9 +51,8 @@ impl Coordinator {
         ensures agrees { (es : List Entry) (e : Entry) → IsFresh tid es → e.node ≡ None
             → e.what ≡ is.Issue tid mini → IfOk result (λ c. Agrees (e ∷ es) c) }
     {
-        let machine = Machine::new(alloc, tid, mini)?;
         Ok(Coordinator {
-            machine: Box::new(alloc, machine)?,
+            machine: Machine::new(alloc, tid, mini)?,
         })
     }
 

@@ -80,26 +80,30 @@ impl Machine {
     ghost use Rattle.mn_coord.specs.Coordination.{IsSoundCoordination, stage_in};
     ghost use Rattle.mn_coord.specs.Coordination.{new_coordination, step_of, after_step, fed};
 
-    /// That of a minitransaction that was not asked for yet. NoMemory: there was no memory for all
-    /// that it will need.
-    pub fn new(alloc: Global, tid: Tid, mini: Minitransaction) -> Result<Self, NoMemory>
+    /// That of a minitransaction that was not asked for yet, made in the memory where it stays.
+    /// NoMemory: there was no memory for all that it will need.
+    pub fn new(alloc: Global, tid: Tid, mini: Minitransaction) -> Result<Box<Self>, NoMemory>
         requires id { IsTid tid }
-        ensures starts { IfOk result (λ c. c ≡ new_coordination tid mini) }
+        ensures starts { IfOk result (λ c. c.value ≡ new_coordination tid mini) }
         ensures some { OnOk result (1 ≤ length (participants_of mini)) }
     {
         let requests = Requests::new(alloc, tid, &mini)?;
         let reads = AllReads::new(alloc, participants_in(&mini))?;
-        Ok(Machine {
-            tid,
-            mini,
-            requests,
-            reads,
-            done: 0,
-            refused: None,
-            told: false,
-            decided: 0,
-            asked: false,
-        })
+        let machine = Box::new(
+            alloc,
+            Machine {
+                tid,
+                mini,
+                requests,
+                reads,
+                done: 0,
+                refused: None,
+                told: false,
+                decided: 0,
+                asked: false,
+            },
+        )?;
+        Ok(machine)
     }
 
     // What is so of each.

@@ -1,4 +1,4 @@
-use Rattle.std.proofs.Common.{[], ◌∷◌, length, refl, subst, sym, ◌∙◌}
+use Rattle.std.proofs.Common.{[], ◌∷◌, length, refl, subst, sym}
 use Rattle.std.proofs.lemmas.List.{length-replicate}
 use Rattle.mn_mini.specs.Mini.{participants_of}
 use Rattle.mn_coord.specs.Coordination.{Coordination, new_coordination}
@@ -8,6 +8,6 @@ use Rattle.mn_coord.proofs.coordinator.Coordinator.new.Goals as goal
 
 pub returns-clause-agrees : goal.returns-clause-agrees
 returns-clause-agrees c = λ es e fresh none what.
-    subst (λ (made : Coordination). Agrees (e ∷ es) made) (sym (c.in_ok-new.ensures.ok ∙ c.in_ok-machine.ensures.starts))
-    (issues_agree es e (new_coordination c.args.tid c.args.mini) fresh c.in_ok-machine.ensures.some
+    subst (λ (made : Coordination). Agrees (e ∷ es) made) (sym c.in_ok-new.ensures.starts)
+    (issues_agree es e (new_coordination c.args.tid c.args.mini) fresh c.in_ok-new.ensures.some
     (length-replicate (length (participants_of c.args.mini)) []) refl refl refl refl none what)
