@@ -625,7 +625,7 @@ impl<'a> HistoryReader<'a> {
         ensures { IfOk result (λ reader. ReaderHasTold reader [] []) }
     {
         Ok(HistoryReader {
-            commits: CommitReader::new(alloc)?,
+            commits: CommitReader::new(alloc, entries)?,
             callers: idle_callers(alloc)?,
             plans: HashMap::with_capacity(alloc, entries / ENTRIES)?,
             standing: HashSet::with_capacity(alloc, entries / ENTRIES)?,

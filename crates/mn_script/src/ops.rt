@@ -14,8 +14,8 @@ use std::alloc::Global;
 fn one_step(alloc: Global, version: Name, step: Step) -> Result<Op, NoMemory>
     ensures { IfOk result (λ op. op ≡ Op.Tx version (step ∷ [])) }
 {
-    let mut steps = Vec::new(alloc);
-    steps.push(step)?;
+    let mut steps = Vec::with_capacity(alloc, 1)?;
+    steps.push_reserved(step);
     match Steps::new(steps) {
         Ok(steps) => Ok(Op::Tx { version, steps }),
         Err(BaseError::BadSteps { .. }) => unreachable!(),

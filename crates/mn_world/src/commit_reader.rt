@@ -53,12 +53,12 @@ fn under_id<'a>(
 }
 
 impl<'a> CommitReader<'a> {
-    /// No entry has come. NoMemory: there was no memory for it.
-    pub fn new(alloc: Global) -> Result<CommitReader<'a>, NoMemory>
+    /// No entry has come of so many. NoMemory: there was no memory for it.
+    pub fn new(alloc: Global, entries: usize) -> Result<CommitReader<'a>, NoMemory>
         ensures { IfOk result (λ reader. HasRead reader []) }
     {
         Ok(CommitReader {
-            standing: nothing(alloc)?,
+            standing: nothing(alloc, entries)?,
         })
     }
 

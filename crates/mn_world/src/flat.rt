@@ -53,14 +53,17 @@ pub struct Standing<'a> {
 /// How many numbers of nodes there are.
 const NODE_NUMBERS: usize = 256;
 
-/// No entry tells anything.
-pub fn nothing<'a>(alloc: Global) -> Result<Standing<'a>, NoMemory>
+/// How many entries stand in a log for a minitransaction, mostly.
+const ENTRIES: usize = 4;
+
+/// No entry of so many tells anything yet. There is room at once for what is mostly issued in them.
+pub fn nothing<'a>(alloc: Global, entries: usize) -> Result<Standing<'a>, NoMemory>
     ensures length { IfOk result (λ s. length s.stopped.items ≡ 256) }
     ensures tells { IfOk result (λ s. StandingTells s []) }
 {
     Ok(Standing {
-        issued: HashMap::new(alloc),
-        voted: HashSet::new(alloc),
+        issued: HashMap::with_capacity(alloc, entries / ENTRIES)?,
+        voted: HashSet::with_capacity(alloc, entries / ENTRIES)?,
         stopped: vec![in alloc; None; NODE_NUMBERS]?,
     })
 }
@@ -407,7 +410,7 @@ pub fn flat_after(alloc: Global, start: &Spaces, log: &Log) -> Result<Spaces, No
         → IfOk result (λ after. IsFlatRun from start.now after (entries_of log.now)) }
 {
     let mut memory = start.try_copy(alloc)?.into_vec();
-    let mut standing = nothing(alloc)?;
+    let mut standing = nothing(alloc, log.as_slice().len())?;
     for (_, entry) in log.as_slice() {
         step(alloc, &mut standing, &mut memory, entry)?;
     }
