@@ -8,6 +8,7 @@ pub mod Noted
 pub mod Putting
 pub mod Planning
 pub mod Joining
+pub mod Kept
 pub mod Telling
 pub mod Flags
 pub mod Watched

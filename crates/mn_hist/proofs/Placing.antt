@@ -1,6 +1,6 @@
 -- Entries in the slots of their places.
-use Rattle.std.proofs.Common.{◌≡◌, ℕ, zero, suc, ◌+◌, ◌<◌, ◌≤◌, ◌⊎◌, Bool, true, false, Option, Some, None, List, [], ◌∷◌, ◌++◌, length, map, take, refl, sym, ap, ◌∙◌, subst, inl, inr, arith, length-append, if◌then◌else◌}
-use Rattle.std.specs.Prelude.{slice_get, slice_index_or, slice_set}
+use Rattle.std.proofs.Common.{◌≡◌, ℕ, zero, suc, ◌+◌, ◌<◌, ◌≤◌, ◌⊎◌, Bool, true, false, Option, Some, None, List, [], ◌∷◌, ◌++◌, length, map, refl, sym, ap, ◌∙◌, subst, inl, inr, arith, length-append, if◌then◌else◌}
+use Rattle.std.specs.Prelude.{slice_get, slice_index_or, slice_set, drop}
 use Rattle.std.proofs.lemmas.Option.{same_Some}
 use Rattle.mn_actors.specs.declared.actor.Actor.{Actor}
 use Rattle.mn_actors.specs.declared.actor.Actor.TheVariants.{Node, Client}
@@ -9,7 +9,7 @@ use Rattle.mn_actors.specs.Log.{entries_from}
 use Rattle.mn_world.specs.declared.entry.Entry.{Entry}
 use Rattle.mn_world.specs.Lists.{ClientState}
 use Rattle.mn_cell.specs.Runs.{placed_from}
-use Rattle.mn_hist.specs.Merging.{AreOneLog, Hold, put_at, put_list, put_lists}
+use Rattle.mn_hist.specs.Merging.{AreOneLog, Hold, is_nobodys, put_at, put_list, put_lists}
 
 -- Loops
 
@@ -25,50 +25,76 @@ pub as_long : (p : ℕ) (slots : List (ℕ × Entry)) (filled : List (Option Ent
 as_long p [] [] hold = refl
 as_long p [] (f ∷ filled) hold = absurd hold
 as_long p (x ∷ slots) [] hold = absurd hold
-as_long p (x ∷ slots) (None ∷ filled) hold = ap suc (as_long (p + 1) slots filled hold)
+as_long p (x ∷ slots) (None ∷ filled) hold = ap suc (as_long (p + 1) slots filled hold.1)
 as_long p (x ∷ slots) (Some e ∷ filled) hold = ap suc (as_long (p + 1) slots filled hold.1)
 
 -- an empty slot more
-pub hold_empty : (p : ℕ) (slots : List (ℕ × Entry)) (filled : List (Option Entry)) (x : ℕ × Entry) → Hold p slots filled → Hold p (slots ++ x ∷ []) (filled ++ None ∷ [])
-hold_empty p [] [] x hold = tt
-hold_empty p [] (f ∷ filled) x hold = absurd hold
-hold_empty p (y ∷ slots) [] x hold = absurd hold
-hold_empty p (y ∷ slots) (None ∷ filled) x hold = hold_empty (p + 1) slots filled x hold
-hold_empty p (y ∷ slots) (Some e ∷ filled) x hold = (hold.0, hold_empty (p + 1) slots filled x hold.1)
+pub hold_empty : (p : ℕ) (slots : List (ℕ × Entry)) (filled : List (Option Entry)) (x : ℕ × Entry) → is_nobodys x.1 ≡ true → Hold p slots filled → Hold p (slots ++ x ∷ []) (filled ++ None ∷ [])
+hold_empty p [] [] x is hold = (is, tt)
+hold_empty p [] (f ∷ filled) x is hold = absurd hold
+hold_empty p (y ∷ slots) [] x is hold = absurd hold
+hold_empty p (y ∷ slots) (None ∷ filled) x is hold = (hold.0, hold_empty (p + 1) slots filled x is hold.1)
+hold_empty p (y ∷ slots) (Some e ∷ filled) x is hold = (hold.0, hold_empty (p + 1) slots filled x is hold.1)
 
--- an entry in the slot of its place
-pub hold_put : (p at : ℕ) (x : ℕ × Entry) (slots : List (ℕ × Entry)) (filled : List (Option Entry)) → Hold p slots filled → at < length slots → x.0 ≡ p + at → Hold p (slice_set slots at x) (put_at at x.1 filled)
-hold_put p at x [] filled hold lt is = absurd (omega (arith, lt))
-hold_put p at x (y ∷ slots) [] hold lt is = absurd hold
-hold_put p zero x (y ∷ slots) (None ∷ filled) hold lt is = (ap (λ (n : ℕ). (n, x.1)) (is ∙ no_more p), hold)
+chosen : {b : Bool} (e f : Entry) → b ≡ true → (if b then e else f) ≡ e
+chosen e f is = rw is refl
+
+passed : {b : Bool} (e f : Entry) → b ≡ false → (if b then e else f) ≡ f
+passed e f is = rw is refl
+
+-- an entry in the slot of its place, where that had nobody's
+pub hold_put : (p at : ℕ) (x was : ℕ × Entry) (slots : List (ℕ × Entry)) (filled : List (Option Entry)) → Hold p slots filled → at < length slots → x.0 ≡ p + at
+    → was ≡ slice_index_or slots at was → is_nobodys was.1 ≡ true → Hold p (slice_set slots at x) (put_at at x.1 filled)
+hold_put p at x was [] filled hold lt is there nobodys = absurd (omega (arith, lt))
+hold_put p at x was (y ∷ slots) [] hold lt is there nobodys = absurd hold
+hold_put p zero x was (y ∷ slots) (None ∷ filled) hold lt is there nobodys = (ap (λ (n : ℕ). (n, x.1)) (is ∙ no_more p), hold.1)
   where
     no_more : (p : ℕ) → p + 0 ≡ p
     no_more p = omega arith
-hold_put p zero x (y ∷ slots) (Some e ∷ filled) hold lt is = (ap (λ (n : ℕ). (n, x.1)) (is ∙ no_more p), hold.1)
+hold_put p zero x was (y ∷ slots) (Some f ∷ filled) hold lt is there nobodys =
+    let so : is_nobodys f ≡ true = ap (λ (z : ℕ × Entry). is_nobodys z.1) (sym hold.0 ∙ sym there) ∙ nobodys in
+    (ap (λ (n : ℕ). (n, x.1)) (is ∙ no_more p) ∙ ap (λ (e : Entry). (p, e)) (sym (chosen x.1 f so)), hold.1)
   where
     no_more : (p : ℕ) → p + 0 ≡ p
     no_more p = omega arith
-hold_put p (suc at) x (y ∷ slots) (None ∷ filled) hold lt is = hold_put (p + 1) at x slots filled hold (omega (arith, lt)) (omega (arith, is))
-hold_put p (suc at) x (y ∷ slots) (Some e ∷ filled) hold lt is = (hold.0, hold_put (p + 1) at x slots filled hold.1 (omega (arith, lt)) (omega (arith, is)))
+hold_put p (suc at) x was (y ∷ slots) (None ∷ filled) hold lt is there nobodys = (hold.0, hold_put (p + 1) at x was slots filled hold.1 (omega (arith, lt)) (omega (arith, is)) there nobodys)
+hold_put p (suc at) x was (y ∷ slots) (Some e ∷ filled) hold lt is there nobodys = (hold.0, hold_put (p + 1) at x was slots filled hold.1 (omega (arith, lt)) (omega (arith, is)) there nobodys)
 
--- the entries in front of a place, and that of the place
-put_next : (l : List (ℕ × Entry)) (i : ℕ) (x : ℕ × Entry) (slots : List (Option Entry)) → i < length l → x ≡ slice_index_or l i x → put_list (take (suc i) l) slots ≡ put_list (take i l) (put_at x.0 x.1 slots)
-put_next [] i x slots lt is = absurd (omega (arith, lt))
-put_next (y ∷ l) zero x slots lt is = ap (λ (z : ℕ × Entry). put_at z.0 z.1 slots) (sym is)
-put_next (y ∷ l) (suc i) x slots lt is = ap (λ (s : List (Option Entry)). put_at y.0 y.1 s) (put_next l i x slots (omega (arith, lt)) is)
+-- a slot that had some actor's
+pub hold_kept : (p at : ℕ) (e : Entry) (was : ℕ × Entry) (slots : List (ℕ × Entry)) (filled : List (Option Entry)) → Hold p slots filled → at < length slots
+    → was ≡ slice_index_or slots at was → is_nobodys was.1 ≡ false → Hold p slots (put_at at e filled)
+hold_kept p at e was [] filled hold lt there some = absurd (omega (arith, lt))
+hold_kept p at e was (y ∷ slots) [] hold lt there some = absurd hold
+hold_kept p zero e was (y ∷ slots) (None ∷ filled) hold lt there some =
+    let so : is_nobodys y.1 ≡ false = ap (λ (z : ℕ × Entry). is_nobodys z.1) (sym there) ∙ some in
+    let no : true ≡ false = sym hold.0 ∙ so in
+    absurd (cc)
+hold_kept p zero e was (y ∷ slots) (Some f ∷ filled) hold lt there some =
+    let so : is_nobodys f ≡ false = ap (λ (z : ℕ × Entry). is_nobodys z.1) (sym hold.0 ∙ sym there) ∙ some in
+    (hold.0 ∙ ap (λ (g : Entry). (p, g)) (sym (passed e f so)), hold.1)
+hold_kept p (suc at) e was (y ∷ slots) (None ∷ filled) hold lt there some = (hold.0, hold_kept (p + 1) at e was slots filled hold.1 (omega (arith, lt)) there some)
+hold_kept p (suc at) e was (y ∷ slots) (Some f ∷ filled) hold lt there some = (hold.0, hold_kept (p + 1) at e was slots filled hold.1 (omega (arith, lt)) there some)
 
-pub put_last : (l : List (ℕ × Entry)) (i : ℕ) (x : ℕ × Entry) (slots : List (Option Entry)) → i < length l → x ≡ slice_index_or l i x → put_list (take (i + 1) l) slots ≡ put_list (take i l) (put_at x.0 x.1 slots)
-put_last l i x slots lt is = subst (λ (n : ℕ). put_list (take n l) slots ≡ put_list (take i l) (put_at x.0 x.1 slots)) (plus_one i) (put_next l i x slots lt is)
-  where
-    plus_one : (i : ℕ) → suc i ≡ i + 1
-    plus_one i = omega arith
+plus_one : (i : ℕ) → suc i ≡ i + 1
+plus_one i = omega arith
 
--- what stands in front of a place that changes
-pub take_in_front : {X : Type 0} (l : List X) (n i : ℕ) (x : X) → n ≤ i → take n (slice_set l i x) ≡ take n l
-take_in_front [] n i x le = refl
-take_in_front (y ∷ l) zero i x le = refl
-take_in_front (y ∷ l) (suc n) zero x le = absurd (omega (arith, le))
-take_in_front (y ∷ l) (suc n) (suc i) x le = ap (λ (m : List _). y ∷ m) (take_in_front l n i x (omega (arith, le)))
+-- the entry of a place, and those behind it
+drop_from : (l : List (ℕ × Entry)) (i : ℕ) (x : ℕ × Entry) → i < length l → x ≡ slice_index_or l i x → drop i l ≡ x ∷ drop (suc i) l
+drop_from [] i x lt is = absurd (omega (arith, lt))
+drop_from (y ∷ l) zero x lt is = ap (λ (z : ℕ × Entry). z ∷ l) (sym is)
+drop_from (y ∷ l) (suc i) x lt is = drop_from l i x (omega (arith, lt)) is
+
+pub drop_next : (l : List (ℕ × Entry)) (i : ℕ) (x : ℕ × Entry) → i < length l → x ≡ slice_index_or l i x → drop i l ≡ x ∷ drop (i + 1) l
+drop_next l i x lt is = subst (λ (n : ℕ). drop i l ≡ x ∷ drop n l) (plus_one i) (drop_from l i x lt is)
+
+-- what stands behind a place that changes
+drop_after : {X : Type 0} (l : List X) (i : ℕ) (x : X) → drop (suc i) (slice_set l i x) ≡ drop (suc i) l
+drop_after [] i x = refl
+drop_after (y ∷ l) zero x = refl
+drop_after (y ∷ l) (suc i) x = drop_after l i x
+
+pub drop_behind : {X : Type 0} (l : List X) (i : ℕ) (x : X) → drop (i + 1) (slice_set l i x) ≡ drop (i + 1) l
+drop_behind l i x = subst (λ (n : ℕ). drop n (slice_set l i x) ≡ drop n l) (plus_one i) (drop_after l i x)
 
 pub put_last_list : (ls : List (List (ℕ × Entry))) (l : List (ℕ × Entry)) (slots : List (Option Entry)) → put_lists (ls ++ l ∷ []) slots ≡ put_lists ls (put_list l slots)
 put_last_list [] l slots = refl
@@ -87,11 +113,15 @@ SlotsAreOfLog (x ∷ log) (Some e ∷ slots) = (e ≡ x.entry) × SlotsAreOfLog 
 abbrev pub IsLineAt : List (Line Entry) → ℕ → Entry → Type 0
 IsLineAt log p e = (x : Line Entry) × (slice_get log p ≡ Some x) × (e ≡ x.entry)
 
+either : (b : Bool) (e f g : Entry) → e ≡ g → f ≡ g → (if b then e else f) ≡ g
+either true e f g is was = is
+either false e f g is was = was
+
 put_under : (log : List (Line Entry)) (p : ℕ) (e : Entry) (slots : List (Option Entry)) → IsLineAt log p e → SlotsAreOfLog log slots → SlotsAreOfLog log (put_at p e slots)
 put_under [] p e slots is under = let no = is.1 in absurd (cc)
 put_under (x ∷ log) zero e [] is under = (is.2 ∙ ap (λ (y : Line Entry). y.entry) (sym (same_Some _ _ is.1)), under)
 put_under (x ∷ log) zero e (None ∷ slots) is under = (is.2 ∙ ap (λ (y : Line Entry). y.entry) (sym (same_Some _ _ is.1)), under)
-put_under (x ∷ log) zero e (Some f ∷ slots) is under = (is.2 ∙ ap (λ (y : Line Entry). y.entry) (sym (same_Some _ _ is.1)), under.1)
+put_under (x ∷ log) zero e (Some f ∷ slots) is under = (either (is_nobodys f) e f x.entry (is.2 ∙ ap (λ (y : Line Entry). y.entry) (sym (same_Some _ _ is.1))) under.0, under.1)
 put_under (x ∷ log) (suc p) e [] is under = put_under log p e [] is under
 put_under (x ∷ log) (suc p) e (None ∷ slots) is under = put_under log p e slots is under
 put_under (x ∷ log) (suc p) e (Some f ∷ slots) is under = (under.0, put_under log p e slots is under.1)
@@ -103,7 +133,7 @@ AreLines log (x ∷ l) = IsLineAt log x.0 x.1 × AreLines log l
 
 list_under : (log : List (Line Entry)) (l : List (ℕ × Entry)) (slots : List (Option Entry)) → AreLines log l → SlotsAreOfLog log slots → SlotsAreOfLog log (put_list l slots)
 list_under log [] slots are under = under
-list_under log (x ∷ l) slots are under = put_under log x.0 x.1 (put_list l slots) are.0 (list_under log l slots are.1 under)
+list_under log (x ∷ l) slots are under = list_under log l (put_at x.0 x.1 slots) are.1 (put_under log x.0 x.1 slots are.0 under)
 
 abbrev pub AreListsOf : List (Line Entry) → List (List (ℕ × Entry)) → Type 0
 AreListsOf log [] = Unit {0}
@@ -123,21 +153,24 @@ is_full (suc p) (s ∷ slots) = is_full p slots
 
 put_full : (p : ℕ) (e : Entry) (slots : List (Option Entry)) → is_full p (put_at p e slots) ≡ true
 put_full zero e [] = refl
-put_full zero e (s ∷ slots) = refl
+put_full zero e (None ∷ slots) = refl
+put_full zero e (Some f ∷ slots) = refl
 put_full (suc p) e [] = put_full p e []
 put_full (suc p) e (s ∷ slots) = put_full p e slots
 
 put_keeps : (q p : ℕ) (e : Entry) (slots : List (Option Entry)) → is_full q slots ≡ true → is_full q (put_at p e slots) ≡ true
 put_keeps q p e [] is = absurd (cc)
-put_keeps zero zero e (s ∷ slots) is = refl
+put_keeps zero zero e (None ∷ slots) is = refl
+put_keeps zero zero e (Some f ∷ slots) is = refl
 put_keeps zero (suc p) e (None ∷ slots) is = absurd (cc)
 put_keeps zero (suc p) e (Some f ∷ slots) is = refl
-put_keeps (suc q) zero e (s ∷ slots) is = is
+put_keeps (suc q) zero e (None ∷ slots) is = is
+put_keeps (suc q) zero e (Some f ∷ slots) is = is
 put_keeps (suc q) (suc p) e (s ∷ slots) is = put_keeps q p e slots is
 
 list_keeps : (q : ℕ) (l : List (ℕ × Entry)) (slots : List (Option Entry)) → is_full q slots ≡ true → is_full q (put_list l slots) ≡ true
 list_keeps q [] slots is = is
-list_keeps q (x ∷ l) slots is = put_keeps q x.0 x.1 (put_list l slots) (list_keeps q l slots is)
+list_keeps q (x ∷ l) slots is = list_keeps q l (put_at x.0 x.1 slots) (put_keeps q x.0 x.1 slots is)
 
 lists_keep : (q : ℕ) (ls : List (List (ℕ × Entry))) (slots : List (Option Entry)) → is_full q slots ≡ true → is_full q (put_lists ls slots) ≡ true
 lists_keep q [] slots is = is
@@ -150,8 +183,8 @@ ListHasPlace q (x ∷ l) = (x.0 ≡ q) ⊎ ListHasPlace q l
 
 list_fills : (q : ℕ) (l : List (ℕ × Entry)) (slots : List (Option Entry)) → ListHasPlace q l → is_full q (put_list l slots) ≡ true
 list_fills q [] slots has = absurd has
-list_fills q (x ∷ l) slots (inl is) = subst (λ (p : ℕ). is_full p (put_at x.0 x.1 (put_list l slots)) ≡ true) is (put_full x.0 x.1 (put_list l slots))
-list_fills q (x ∷ l) slots (inr has) = put_keeps q x.0 x.1 (put_list l slots) (list_fills q l slots has)
+list_fills q (x ∷ l) slots (inl is) = list_keeps q l (put_at x.0 x.1 slots) (subst (λ (p : ℕ). is_full p (put_at x.0 x.1 slots) ≡ true) is (put_full x.0 x.1 slots))
+list_fills q (x ∷ l) slots (inr has) = list_fills q l (put_at x.0 x.1 slots) has
 
 lists_fill : (q : ℕ) (ls : List (List (ℕ × Entry))) (slots : List (Option Entry)) (i : ℕ) (l : List (ℕ × Entry)) → slice_get ls i ≡ Some l → ListHasPlace q l → is_full q (put_lists ls slots) ≡ true
 lists_fill q [] slots i l is has = absurd (cc)

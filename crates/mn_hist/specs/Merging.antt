@@ -1,6 +1,6 @@
 -- The lists of a run's actors, and the log that they are.
 use Rattle.std.specs.Prelude.{◌≡◌, ℕ, zero, suc, ◌+◌, List, [], ◌∷◌, length, map, Option, Some, None}
-use Rattle.std.specs.Prelude.{slice_get}
+use Rattle.std.specs.Prelude.{slice_get, is_none, ◌&&◌, Bool, true, if◌then◌else◌}
 use Rattle.mn_actors.specs.declared.actor.Actor.{Actor}
 use Rattle.mn_actors.specs.declared.actor.Actor.TheVariants.{Node, Client}
 use Rattle.mn_actors.specs.Log.{IsOneLog}
@@ -19,27 +19,33 @@ abbrev pub AreOneLog : List (List (ℕ × Entry)) → List ClientState → ℕ �
 AreOneLog nodes clients clock =
     IsOneLog IsLegalLine (length nodes) (length clients) (actor_list nodes clients) clock
 
--- How it is put together: each entry into the slot of its place
+-- How it is put together: each entry into the slot of its place, unless that has one of some actor
+
+-- no node and no client has it, as what a slot holds before its entry comes
+abbrev pub is_nobodys : Entry → Bool
+is_nobodys e = is_none e.node && is_none e.client
 
 abbrev pub put_at : ℕ → Entry → List (Option Entry) → List (Option Entry)
 put_at zero e [] = Some e ∷ []
-put_at zero e (s ∷ slots) = Some e ∷ slots
+put_at zero e (None ∷ slots) = Some e ∷ slots
+put_at zero e (Some f ∷ slots) = Some (if is_nobodys f then e else f) ∷ slots
 put_at (suc p) e [] = None ∷ put_at p e []
 put_at (suc p) e (s ∷ slots) = s ∷ put_at p e slots
 
--- the last of the list first
+-- the first of the list first
 abbrev pub put_list : List (ℕ × Entry) → List (Option Entry) → List (Option Entry)
 put_list [] slots = slots
-put_list (x ∷ l) slots = put_at x.0 x.1 (put_list l slots)
+put_list (x ∷ l) slots = put_list l (put_at x.0 x.1 slots)
 
 abbrev pub put_lists : List (List (ℕ × Entry)) → List (Option Entry) → List (Option Entry)
 put_lists [] slots = slots
 put_lists (l ∷ ls) slots = put_list l (put_lists ls slots)
 
--- how the slots from a place on hold them: those that are filled, each with its place
+-- how the slots from a place on hold them: those that are filled, each with its place; what the
+-- others hold is nobody's
 abbrev pub Hold : ℕ → List (ℕ × Entry) → List (Option Entry) → Type 0
 Hold p [] [] = Unit {0}
 Hold p [] (f ∷ filled) = ⊥
 Hold p (x ∷ slots) [] = ⊥
-Hold p (x ∷ slots) (None ∷ filled) = Hold (p + 1) slots filled
+Hold p (x ∷ slots) (None ∷ filled) = (is_nobodys x.1 ≡ true) × Hold (p + 1) slots filled
 Hold p (x ∷ slots) (Some e ∷ filled) = (x ≡ (p, e)) × Hold (p + 1) slots filled

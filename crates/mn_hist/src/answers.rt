@@ -10,58 +10,24 @@ ghost use Rattle.mn_hist.specs.Audit.{doubt_lines, doubts_from};
 ghost use Rattle.mn_hist.specs.History.{stands};
 ghost use Rattle.mn_hist.specs.Saying.{said_kept, TellsAnswers};
 
-use crate::history::{OpKey, is_standing, op_key};
+use crate::history::{OpKey, is_standing};
+use crate::sayings::{AllSaid, Kept, Said};
 use mn_base::{Answer, ClientNo, Name, NoMemory, TryCopy};
 use mn_report::{AnswerLine, AnswerLines, DoubtLine, LineAnswer, Outcomes};
 use mn_script::ScriptClient;
 use mn_world::{Entry, What};
 use std::alloc::Global;
-use std::collections::{HashMap, HashSet};
-use std::marker::Model;
-
-/// What is said of an operation that was begun: its answer, or that it has none.
-#[derive(Drop)]
-pub struct Said<'a> {
-    answer: Option<&'a Answer>,
-}
-
-impl<'a> Model for Said<'a> {
-    ghost use Rattle.std.specs.Option.{option_map};
-    ghost use Rattle.mn_report.specs.declared.lines.LineAnswer.{LineAnswer};
-    ghost use Rattle.mn_hist.specs.Saying.{said_of};
-
-    ghost Value = { LineAnswer };
-
-    ghost view = { λ s. said_of (option_map (λ a. a.now) s.answer) };
-}
-
-/// Notes what is said of an operation from now on.
-fn note_said<'a>(
-    said: &mut HashMap<OpKey, Said<'a>>,
-    client: ClientNo,
-    number: u32,
-    one: Said<'a>,
-) -> Result<(), NoMemory>
-    ensures { OnOk result ((c : Who) (n : ℕ)
-        → said_kept said.new c n ≡ (if client_same client c && nat_eq number n then one.entry
-        else said_kept said.old c n)) }
-{
-    said.insert(op_key(client, number), one)?;
-    Ok(())
-}
+use std::collections::HashSet;
 
 /// Notes what the entry says of an operation of its client.
-pub fn note_entry<'a>(said: &mut HashMap<OpKey, Said<'a>>, entry: &'a Entry) -> Result<(), NoMemory>
+pub fn note_entry<'a>(said: &mut AllSaid<'a>, entry: &'a Entry) -> Result<(), NoMemory>
     ensures { OnOk result ((past : List Step) → TellsAnswers said.old past
         → TellsAnswers said.new (entry.now ∷ past)) }
 {
     match (entry.client, &entry.what) {
-        (Some(client), What::Begin { number, .. }) => {
-            note_said(said, client, *number, Said { answer: None })
-        }
+        (Some(client), What::Begin { number, .. }) => { said.note(client, *number, Said::died()) }
         (Some(client), What::Answered { number, answer }) => {
-            let answer = Some(answer);
-            note_said(said, client, *number, Said { answer })
+            said.note(client, *number, Said::answered(answer))
         }
         _ => Ok(()),
     }
@@ -70,40 +36,36 @@ pub fn note_entry<'a>(said: &mut HashMap<OpKey, Said<'a>>, entry: &'a Entry) -> 
 /// What is said of an operation.
 fn line_answer(
     alloc: Global,
-    said: &HashMap<OpKey, Said<'_>>,
+    said: &AllSaid<'_>,
     client: ClientNo,
     number: u32,
 ) -> Result<LineAnswer, NoMemory>
     ensures { IfOk result (λ answer. answer ≡ said_kept said.now client number) }
 {
-    let Some(one) = said.get(&op_key(client, number)) else {
-        return Ok(LineAnswer::Never);
-    };
-    match one.answer {
-        Some(answer) => Ok(LineAnswer::Answered {
+    match said.of(client, number) {
+        Kept::Answered(answer) => Ok(LineAnswer::Answered {
             answer: answer.try_copy(alloc)?,
         }),
-        None => Ok(LineAnswer::Died),
+        Kept::Died => Ok(LineAnswer::Died),
+        Kept::Never => Ok(LineAnswer::Never),
     }
 }
 
 /// Whether the client of the operation didn't learn whether it took effect.
-fn is_said_in_doubt(said: &HashMap<OpKey, Said<'_>>, client: ClientNo, number: u32) -> bool
+fn is_said_in_doubt(said: &AllSaid<'_>, client: ClientNo, number: u32) -> bool
     ensures { result ≡ is_said_in_doubt (said_kept said.now client number) }
 {
-    let Some(one) = said.get(&op_key(client, number)) else {
-        return false;
-    };
-    match one.answer {
-        Some(answer) => matches!(answer, Answer::InDoubt { .. }),
-        None => true,
+    match said.of(client, number) {
+        Kept::Answered(answer) => matches!(answer, Answer::InDoubt { .. }),
+        Kept::Died => true,
+        Kept::Never => false,
     }
 }
 
 /// The line of an operation.
 fn answer_line_at(
     alloc: Global,
-    said: &HashMap<OpKey, Said<'_>>,
+    said: &AllSaid<'_>,
     number_of_client: ClientNo,
     client: &ScriptClient,
     number: u32,
@@ -132,7 +94,7 @@ fn op_count(client: &ScriptClient) -> Result<u32, NoMemory>
 fn push_answers(
     alloc: Global,
     lines: &mut Vec<AnswerLine>,
-    said: &HashMap<OpKey, Said<'_>>,
+    said: &AllSaid<'_>,
     number_of_client: ClientNo,
     client: &ScriptClient,
 ) -> Result<(), NoMemory>
@@ -141,6 +103,7 @@ fn push_answers(
         (op_numbers client.now)) }
 {
     let count = op_count(client)?;
+    lines.reserve(count as usize)?;
     for before in 0..count {
         let number = before + 1;
         lines.push(answer_line_at(alloc, said, number_of_client, client, number)?)?;
@@ -162,12 +125,12 @@ fn client_at(at: usize) -> Result<ClientNo, NoMemory>
 /// them.
 pub fn answers_of(
     alloc: Global,
-    said: &HashMap<OpKey, Said<'_>>,
+    said: &AllSaid<'_>,
     clients: &[ScriptClient],
 ) -> Result<AnswerLines, NoMemory>
     ensures { IfOk result (λ lines. lines ≡ answers_from (said_kept said.now) 0 clients.now) }
 {
-    let mut lines = Vec::with_capacity(alloc, said.len())?;
+    let mut lines = Vec::new(alloc);
     for (at, client) in clients.iter().enumerate() {
         push_answers(alloc, &mut lines, said, client_at(at)?, client)?;
     }
@@ -178,7 +141,7 @@ pub fn answers_of(
 fn push_doubt(
     alloc: Global,
     lines: &mut Vec<DoubtLine>,
-    said: &HashMap<OpKey, Said<'_>>,
+    said: &AllSaid<'_>,
     committed: &HashSet<OpKey>,
     number_of_client: ClientNo,
     name: &Name,
@@ -204,7 +167,7 @@ fn push_doubt(
 fn push_doubts(
     alloc: Global,
     lines: &mut Vec<DoubtLine>,
-    said: &HashMap<OpKey, Said<'_>>,
+    said: &AllSaid<'_>,
     committed: &HashSet<OpKey>,
     number_of_client: ClientNo,
     client: &ScriptClient,
@@ -234,7 +197,7 @@ fn push_doubts(
 /// these. NoMemory: there was no memory for the lines.
 pub fn doubts_of(
     alloc: Global,
-    said: &HashMap<OpKey, Said<'_>>,
+    said: &AllSaid<'_>,
     committed: &HashSet<OpKey>,
     clients: &[ScriptClient],
 ) -> Result<Outcomes, NoMemory>

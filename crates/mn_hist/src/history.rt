@@ -34,7 +34,8 @@ ghost use Rattle.mn_world.specs.Meaning.{OpenedRun};
 ghost use Rattle.mn_world.specs.OneHistory.{IsOneHistory};
 ghost use Rattle.mn_world.specs.Run.{entries_of};
 
-use crate::answers::{Said, note_entry};
+use crate::answers::note_entry;
+use crate::sayings::AllSaid;
 use crate::shown::{KnownCatalog, Read, shows};
 use mn_base::{Answer, ClientNo, History, NoMemory, Op, Past, Reply, SharedOp, Tid, TryCopy};
 use mn_mini::{Item, Minitransaction};
@@ -616,7 +617,7 @@ struct HistoryReader<'a> {
     /// They by place, one slot an entry.
     slots: Vec<Option<Act<'a>>>,
     /// What is said of each operation.
-    said: HashMap<OpKey, Said<'a>>,
+    said: AllSaid<'a>,
 }
 
 impl<'a> HistoryReader<'a> {
@@ -630,7 +631,7 @@ impl<'a> HistoryReader<'a> {
             plans: HashMap::with_capacity(alloc, entries / ENTRIES)?,
             standing: HashSet::with_capacity(alloc, entries / ENTRIES)?,
             slots: Vec::with_capacity(alloc, entries)?,
-            said: HashMap::with_capacity(alloc, entries / ENTRIES)?,
+            said: AllSaid::new(alloc)?,
         })
     }
 
@@ -753,7 +754,7 @@ fn reader_of<'a>(alloc: Global, log: &'a Log) -> Result<HistoryReader<'a>, NoMem
 pub struct Ending<'a> {
     pub slots: Vec<Option<Act<'a>>>,
     pub standing: HashSet<OpKey>,
-    pub said: HashMap<OpKey, Said<'a>>,
+    pub said: AllSaid<'a>,
     pub store: Store,
 }
 

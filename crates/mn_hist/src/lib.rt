@@ -7,6 +7,7 @@ mod history;
 mod lists;
 mod merging;
 mod points;
+mod sayings;
 mod shown;
 mod versions;
 

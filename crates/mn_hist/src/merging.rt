@@ -1,8 +1,8 @@
 //! Lists merged by place.
-ghost use Rattle.std.specs.Prelude.{◌≡◌, ℕ, List, Option, map, IfOk, OnOk};
+ghost use Rattle.std.specs.Prelude.{◌≡◌, ℕ, List, Option, map, true, IfOk, OnOk};
 ghost use Rattle.mn_cell.specs.Runs.{placed_from};
 ghost use Rattle.mn_world.specs.declared.entry.Entry.{Entry as Step};
-ghost use Rattle.mn_hist.specs.Merging.{AreOneLog, Hold, put_at, put_list, put_lists};
+ghost use Rattle.mn_hist.specs.Merging.{AreOneLog, Hold, is_nobodys, put_at, put_list, put_lists};
 
 use crate::lists::Lists;
 use mn_base::NoMemory;
@@ -10,8 +10,10 @@ use mn_world::{ClientList, Entry, EntryList, Log, What};
 use std::alloc::Global;
 use std::mem::swap;
 
-/// The slot of a place before its entry comes: what it holds tells of nothing.
-fn empty(place: usize) -> (u64, Entry) {
+/// The slot of a place before its entry comes: what it holds is nobody's.
+fn empty(place: usize) -> (u64, Entry)
+    ensures { is_nobodys result.1 ≡ true }
+{
     let entry = Entry {
         node: None,
         client: None,
@@ -20,7 +22,15 @@ fn empty(place: usize) -> (u64, Entry) {
     (place as u64, entry)
 }
 
-/// Swaps an entry with what the slot of its place holds.
+/// Whether no node and no client has it.
+fn is_nobodys(entry: &Entry) -> bool
+    ensures { result ≡ is_nobodys entry.now }
+{
+    entry.node.is_none() && entry.client.is_none()
+}
+
+/// Swaps an entry with what the slot of its place holds, unless that is some actor's: the two lists
+/// that tell of a call have the same entry of it.
 #[inline(always)]
 fn put(slots: &mut Vec<(u64, Entry)>, entry: &mut (u64, Entry)) -> Result<(), NoMemory>
     ensures { OnOk result ((filled : List (Option Step)) → Hold 0 slots.old.items filled
@@ -30,11 +40,15 @@ fn put(slots: &mut Vec<(u64, Entry)>, entry: &mut (u64, Entry)) -> Result<(), No
     while slots.len() <= at {
         slots.push(empty(slots.len()))?;
     }
+    if !is_nobodys(&slots[at].1) {
+        return Ok(());
+    }
     swap(&mut slots[at], entry);
     Ok(())
 }
 
-/// Swaps each entry of a list with what the slot of its place holds.
+/// Puts each entry of a list into the slot of its place, in order, so that slots are added one after
+/// another.
 fn put_entries(
     slots: &mut Vec<(u64, Entry)>,
     entries: &mut Vec<(u64, Entry)>,
@@ -42,10 +56,10 @@ fn put_entries(
     ensures { OnOk result ((filled : List (Option Step)) → Hold 0 slots.old.items filled
         → Hold 0 slots.new.items (put_list entries.old.items filled)) }
 {
-    let mut left = entries.len();
-    while left > 0 {
-        left -= 1;
-        put(slots, &mut entries[left])?;
+    let mut next = 0;
+    while next < entries.len() {
+        put(slots, &mut entries[next])?;
+        next += 1;
     }
     Ok(())
 }
