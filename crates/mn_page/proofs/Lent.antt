@@ -36,10 +36,10 @@ few : (a b c : ℕ) → a ≤ b → c ≡ b → a ≤ c
 few a b c h e = omega (arith, h, e)
 
 pub leaf_count : (b : BodyRef) → HasCounted b → b.height ≡ 0 → b.count ≡ count_in (body_seen b)
-leaf_count b has h = sym (ap count_in (leaf_seen b h) ∙ seen_length pair_seen b.pairs b.count (few b.count 8 (length b.pairs) has.pairs has.pairs_size))
+leaf_count b has h = sym (ap count_in (leaf_seen b h) ∙ seen_length pair_seen b.pairs b.count (few b.count 8 (length b.pairs) has.pairs has.sizes.0))
 
 pub inner_count : (b : BodyRef) → HasCounted b → 1 ≤ b.height → b.count + 1 ≡ count_in (body_seen b)
-inner_count b has h = sym (ap count_in (inner_seen b h) ∙ ap (λ n. n + 1) (seen_length child_seen b.rest b.count (few b.count 7 (length b.rest) (has.rest h) has.rest_size)))
+inner_count b has h = sym (ap count_in (inner_seen b h) ∙ ap (λ n. n + 1) (seen_length child_seen b.rest b.count (few b.count 7 (length b.rest) (has.rest h) has.sizes.1)))
 
 pub leaf_key : (b : BodyRef) (i : ℕ) (d : PairRef) → b.height ≡ 0 → i < length (keys_in (body_seen b)) → slice_get (keys_in (body_seen b)) i ≡ Some (slice_index_or b.pairs i d).key.now
 leaf_key b i d h here =

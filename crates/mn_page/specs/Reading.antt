@@ -2,6 +2,7 @@
 use Rattle.std.specs.Prelude.{◌≡◌, ℕ, ◌^◌, ◌<◌, ◌≤◌, Bool, true, ◌&&◌, nat_lt, nat_eq, IsTrue}
 use Rattle.std.specs.Prelude.{List, [], ◌∷◌, ◌++◌, map, take, length, Option, if◌then◌else◌, ⊤}
 use Rattle.std.specs.List.{flat_map, list_all, AllByRecursion}
+use Rattle.std.specs.Option.{option_map}
 use Rattle.byteorder.specs.Endian.{big_bytes}
 use Rattle.mn_base.specs.Order.{key_lt, key_le, below_bound, covers_key}
 use Rattle.mn_base.specs.Store.{is_ascending}
@@ -20,6 +21,7 @@ use Rattle.mn_page.specs.declared.page_ref.Head.{Head}
 use Rattle.mn_page.specs.declared.page_ref.PairRef.{PairRef}
 use Rattle.mn_page.specs.declared.page_ref.ChildRef.{ChildRef}
 use Rattle.mn_page.specs.declared.page_ref.BodyRef.{BodyRef}
+use Rattle.mn_page.specs.declared.page_ref.Frame.{Frame}
 use Rattle.mn_page.specs.Grammar.{state_byte, parent_byte, IsParent, IsKey, IsValue, IsAddr}
 use Rattle.mn_page.specs.Grammar.{IsBound, counted, high_bytes, addr_bytes, child_bytes, count_in}
 use Rattle.mn_page.specs.Grammar.{body_bytes, height_of, are_ascending, IsBody}
@@ -147,12 +149,15 @@ abbrev pub pairs_fit : List ℕ → Option (List ℕ) → List Pair → Bool
 pairs_fit low high [] = true
 pairs_fit low high (p ∷ ps) = key_le low p.key && ascends_to p.key (map (λ q. q.key) ps) high
 
+-- how many places the arrays have
+abbrev pub HasSizes : BodyRef → Type 0
+HasSizes b = (length b.pairs ≡ 8) × (length b.rest ≡ 7)
+
 -- the arrays have what is counted
 pub record HasCounted (b : BodyRef) : Type 0 where
   pub pairs : b.count ≤ 8
   pub rest : 1 ≤ b.height → b.count ≤ 7
-  pub pairs_size : length b.pairs ≡ 8
-  pub rest_size : length b.rest ≡ 7
+  pub sizes : HasSizes b
 
 -- a page by its parts
 abbrev pub page_seen : Head → List ℕ → Option (List ℕ) → Body → Page
@@ -165,6 +170,11 @@ page_seen head low high body =
       high = high;
       body = body;
     }
+
+-- a page by what stands in front of its body, and by that
+abbrev pub framed : Frame → BodyRef → Page
+framed frame body =
+    page_seen frame.head frame.low.now (option_map (λ h. h.now) frame.high) (body_seen body)
 
 abbrev pub head_of : Page → Head
 head_of p = record { seq = p.seq; height = height_of p.body; made = p.made; copied = p.copied }

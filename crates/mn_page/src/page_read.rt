@@ -1,5 +1,5 @@
 ghost use Rattle.std.specs.Prelude.{◌≡◌, ◌≤◌, List, Option, Some, None, length, map, take, IfOk};
-ghost use Rattle.std.specs.Prelude.{IfErr, OnErr, IsOkAnd, MatchOption};
+ghost use Rattle.std.specs.Prelude.{IfErr, IfSome, OnErr, IsOkAnd, MatchOption};
 ghost use Rattle.std.specs.Option.{option_map};
 ghost use Rattle.mn_page.specs.declared.page.Page.{Page};
 ghost use Rattle.mn_page.specs.declared.page.Body.TheVariants.{Leaf, Inner};
@@ -7,10 +7,10 @@ ghost use Rattle.mn_page.specs.declared.error.PageError.{PageError};
 ghost use Rattle.mn_page.specs.Fronts.{BeginsPage, IsLongest, NamesLongest};
 ghost use Rattle.mn_page.specs.Grammar.{IsFree, SpellsPage, SpellsNoPage};
 ghost use Rattle.mn_page.specs.Reading.{pair_seen, child_seen, body_seen, IsWantOfMemory};
-ghost use Rattle.mn_page.specs.Reading.{IsPlaceWithin};
+ghost use Rattle.mn_page.specs.Reading.{HasCounted, HasSizes, IsPlaceWithin, framed};
 
 use crate::fault::page_fault;
-use crate::page_ref::{BodyRef, ChildRef, PairRef};
+use crate::page_ref::{BodyRef, ChildRef, Frame, PairRef};
 use crate::page_scan::{is_free, whole_page};
 use crate::{BadPage, Body, Branches, Child, Low, Page, PageError, PageRef};
 use mn_base::{Key, NoMemory, Pair, Pairs, Value};
@@ -102,6 +102,49 @@ fn body_of(alloc: Global, body: &BodyRef<'_>) -> Result<Body, NoMemory>
     })
 }
 
+/// The page of these parts.
+#[inline(always)]
+fn page_of(alloc: Global, frame: &Frame<'_>, body: &BodyRef<'_>) -> Result<Page, NoMemory>
+    requires { HasCounted body.now }
+    ensures { IfOk result (λ page. page ≡ framed frame.now body.now) }
+{
+    Ok(Page {
+        seq: frame.head.seq,
+        made: frame.head.made,
+        copied: frame.head.copied,
+        low: low_of(frame.low)?,
+        high: high_of(alloc, frame.high)?,
+        body: body_of(alloc, body)?,
+    })
+}
+
+/// Reads the page whose bytes these are, and gives what stands in front of its body, or none for a
+/// free slot. BadPage: they are neither's; `at` is how many of the first bytes still begin some
+/// page.
+#[inline(always)]
+fn frame_of<'a>(body: &mut BodyRef<'a>, bytes: &'a [u8]) -> Result<Option<Frame<'a>>, BadPage>
+    requires { HasSizes body.old }
+    ensures read { IfOk result (λ found. MatchOption found (IsFree bytes.now)
+        (λ frame. SpellsPage bytes.now (framed frame body.new))) }
+    ensures room { IfOk result (λ found. IfSome found (λ frame. HasCounted body.new)) }
+    ensures page { (p : Page) → SpellsPage bytes.now p
+        → IsOkAnd result (λ found. option_map (λ frame. framed frame body.new) found ≡ Some p) }
+    ensures free { IsFree bytes.now → IsOkAnd result (λ found. found ≡ None) }
+    ensures bad { OnErr result (SpellsNoPage bytes.now) }
+    ensures place { IfErr result (λ e. e.at ≤ length bytes.now) }
+    ensures longest { IfErr result (λ e. IsLongest BeginsPage bytes.now e.at) }
+{
+    if let Some(frame) = whole_page(body, bytes) {
+        return Ok(Some(frame));
+    }
+    if is_free(bytes) {
+        return Ok(None);
+    }
+    Err(BadPage {
+        at: page_fault(bytes),
+    })
+}
+
 impl<'a> PageRef<'a> {
     /// The page whose bytes these are, or none for a free slot. BadPage: they are neither's; `at`
     /// is how many of the first bytes still begin some page. It takes no memory.
@@ -116,15 +159,11 @@ impl<'a> PageRef<'a> {
         ensures place { IfErr result (λ e. e.at ≤ length bytes.now) }
         ensures longest { IfErr result (λ e. IsLongest BeginsPage bytes.now e.at) }
     {
-        if let Some(page) = whole_page(bytes) {
-            return Ok(Some(page));
+        let mut body = BodyRef::none();
+        match frame_of(&mut body, bytes)? {
+            Some(frame) => Ok(Some(PageRef::of_parts(frame, body))),
+            None => Ok(None),
         }
-        if is_free(bytes) {
-            return Ok(None);
-        }
-        Err(BadPage {
-            at: page_fault(bytes),
-        })
     }
 
     /// The same page in memory of its own. NoMemory: there was no memory for it.
@@ -132,14 +171,7 @@ impl<'a> PageRef<'a> {
     pub fn to_page(&self, alloc: Global) -> Result<Page, NoMemory>
         ensures { IfOk result (λ page. page ≡ self.now) }
     {
-        Ok(Page {
-            seq: self.head.seq,
-            made: self.head.made,
-            copied: self.head.copied,
-            low: low_of(self.low)?,
-            high: high_of(alloc, self.high)?,
-            body: body_of(alloc, &self.body)?,
-        })
+        page_of(alloc, &self.frame, &self.body)
     }
 }
 
@@ -155,8 +187,9 @@ impl Page {
         ensures place { IfErr result (IsPlaceWithin (length bytes.now)) }
         ensures longest { IfErr result (NamesLongest BeginsPage bytes.now) }
     {
-        match PageRef::new(bytes)? {
-            Some(found) => Ok(Some(found.to_page(alloc)?)),
+        let mut body = BodyRef::none();
+        match frame_of(&mut body, bytes)? {
+            Some(frame) => Ok(Some(page_of(alloc, &frame, &body)?)),
             None => Ok(None),
         }
     }

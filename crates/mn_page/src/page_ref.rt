@@ -1,9 +1,9 @@
 ghost use Rattle.std.specs.Prelude.{◌≡◌, ◌<◌, length, Some, slice_get};
 ghost use Rattle.std.specs.Option.{option_map};
 ghost use Rattle.mn_page.specs.Grammar.{count_in, height_of};
-ghost use Rattle.mn_page.specs.Reading.{page_seen, body_seen, keys_in, values_in, addrs_in};
-ghost use Rattle.mn_page.specs.Reading.{HasCounted};
+ghost use Rattle.mn_page.specs.Reading.{HasCounted, HasSizes, framed, keys_in, values_in, addrs_in};
 
+use crate::scan::{NO_ADDR, no_children, no_pairs};
 use mn_base::{Addr, VersionNo};
 use std::marker::Model;
 
@@ -41,25 +41,45 @@ pub struct BodyRef<'a> {
     pub rest: [ChildRef<'a>; 7],
 }
 
+impl<'a> BodyRef<'a> {
+    /// A leaf without a pair.
+    #[inline(always)]
+    pub fn none() -> Self
+        ensures { HasSizes result }
+    {
+        BodyRef {
+            height: 0,
+            count: 0,
+            pairs: no_pairs(),
+            first: NO_ADDR,
+            rest: no_children(),
+        }
+    }
+}
+
+/// What stands in front of the body of a page: its head and its fences.
+#[derive(Clone, Copy)]
+pub struct Frame<'a> {
+    pub head: Head,
+    pub low: &'a [u8],
+    pub high: Option<&'a [u8]>,
+}
+
 /// A page as it stands in its bytes, from which it lends its keys and values. Contracts see it as
 /// the page.
 #[derive(Drop)]
 pub struct PageRef<'a> {
-    pub(crate) head: Head,
-    pub(crate) low: &'a [u8],
-    pub(crate) high: Option<&'a [u8]>,
+    pub(crate) frame: Frame<'a>,
     pub(crate) body: BodyRef<'a>,
 }
 
 impl<'a> Model for PageRef<'a> {
-    ghost use Rattle.std.specs.Option.{option_map};
     ghost use Rattle.mn_page.specs.declared.page.Page.{Page};
-    ghost use Rattle.mn_page.specs.Reading.{page_seen, body_seen, HasCounted};
+    ghost use Rattle.mn_page.specs.Reading.{HasCounted, framed};
 
     ghost Value = { Page };
 
-    ghost view = { λ p. page_seen p.head p.low.now (option_map (λ h. h.now) p.high)
-        (body_seen p.body) };
+    ghost view = { λ p. framed p.frame p.body };
 
     ghost invariant = { λ p. HasCounted p.body };
 }
@@ -67,43 +87,32 @@ impl<'a> Model for PageRef<'a> {
 impl<'a> PageRef<'a> {
     /// The page of these parts.
     #[inline(always)]
-    pub(crate) fn of_parts(
-        head: Head,
-        low: &'a [u8],
-        high: Option<&'a [u8]>,
-        body: BodyRef<'a>,
-    ) -> Self
+    pub(crate) fn of_parts(frame: Frame<'a>, body: BodyRef<'a>) -> Self
         requires { HasCounted body }
-        ensures { result ≡ page_seen head low.now (option_map (λ h. h.now) high.entry)
-            (body_seen body.entry) }
+        ensures { result ≡ framed frame.entry body.entry }
     {
-        PageRef {
-            head,
-            low,
-            high,
-            body,
-        }
+        PageRef { frame, body }
     }
 
     /// How often the slot was written, from 1.
     pub fn seq(&self) -> u64
         ensures { result ≡ self.now.seq }
     {
-        self.head.seq
+        self.frame.head.seq
     }
 
     /// The version that the page was made for.
     pub fn made(&self) -> VersionNo
         ensures { result ≡ self.now.made }
     {
-        self.head.made
+        self.frame.head.made
     }
 
     /// The versions that it was copied for: bit w for version w.
     pub fn copied(&self) -> u64
         ensures { result ≡ self.now.copied }
     {
-        self.head.copied
+        self.frame.head.copied
     }
 
     /// 0 for a leaf, else how many heights above the leaves.
@@ -117,14 +126,14 @@ impl<'a> PageRef<'a> {
     pub fn low(&self) -> &'a [u8]
         ensures { result.now ≡ self.now.low }
     {
-        self.low
+        self.frame.low
     }
 
     /// The bound above its keys, or none.
     pub fn high(&self) -> Option<&'a [u8]>
         ensures { option_map (λ h. h.now) result ≡ self.now.high }
     {
-        self.high
+        self.frame.high
     }
 
     /// How many pairs a leaf has, or how many children an inner page.

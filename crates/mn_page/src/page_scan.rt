@@ -5,10 +5,11 @@ ghost use Rattle.std.specs.Option.{option_map};
 ghost use Rattle.mn_page.specs.declared.page.Page.{Page};
 ghost use Rattle.mn_page.specs.Grammar.{IsPage, IsFree, SpellsPage, SpellsNoPage};
 ghost use Rattle.mn_page.specs.Reading.{Begins, AreFences, fences_text, page_text};
+ghost use Rattle.mn_page.specs.Reading.{HasCounted, HasSizes, framed};
 
 use crate::body_scan::first_body;
 use crate::fault::SLOT;
-use crate::page_ref::PageRef;
+use crate::page_ref::{BodyRef, Frame};
 use crate::scan::{first_counted, first_head, first_high, is_below};
 use mn_base::are_zeros;
 
@@ -31,33 +32,40 @@ fn first_fences(bytes: &[u8]) -> Option<((&[u8], Option<&[u8]>), &[u8])>
     Some(((low, high), rest))
 }
 
-/// The page that the bytes begin with, and what follows it.
+/// Reads the page that the bytes begin with. It gives what stands in front of the body, and what
+/// follows the page.
 #[inline(always)]
-fn first_page(bytes: &[u8]) -> Option<(PageRef<'_>, &[u8])>
-    ensures found { IfSome result (λ x. Begins IsPage page_text bytes.now x.0 x.1.now) }
+fn first_page<'a>(body: &mut BodyRef<'a>, bytes: &'a [u8]) -> Option<(Frame<'a>, &'a [u8])>
+    requires { HasSizes body.old }
+    ensures found { IfSome result
+        (λ x. Begins IsPage page_text bytes.now (framed x.0 body.new) x.1.now) }
+    ensures room { IfSome result (λ x. HasCounted body.new) }
     ensures only { (p : Page) (more : List ℕ) → IsPage p → bytes.now ≡ page_text p ++ more
-        → IsSomeAnd result (λ x. (x.0 ≡ p) × (x.1.now ≡ more)) }
+        → IsSomeAnd result (λ x. (framed x.0 body.new ≡ p) × (x.1.now ≡ more)) }
 {
     let (head, behind) = first_head(bytes)?;
     let ((low, high), behind) = first_fences(behind)?;
-    let (body, rest) = first_body(head.height, low, high, behind)?;
-    Some((PageRef::of_parts(head, low, high, body), rest))
+    let rest = first_body(body, head.height, low, high, behind)?;
+    Some((Frame { head, low, high }, rest))
 }
 
-/// The page that the bytes are, all of them.
+/// Reads the page that the bytes are, all of them. It gives what stands in front of the body.
 #[inline(always)]
-pub fn whole_page(bytes: &[u8]) -> Option<PageRef<'_>>
-    ensures found { IfSome result (SpellsPage bytes.now) }
-    ensures only { (p : Page) → SpellsPage bytes.now p → IsSomeAnd result (λ x. x ≡ p) }
+pub fn whole_page<'a>(body: &mut BodyRef<'a>, bytes: &'a [u8]) -> Option<Frame<'a>>
+    requires { HasSizes body.old }
+    ensures found { IfSome result (λ x. SpellsPage bytes.now (framed x body.new)) }
+    ensures room { IfSome result (λ x. HasCounted body.new) }
+    ensures only { (p : Page) → SpellsPage bytes.now p
+        → IsSomeAnd result (λ x. framed x body.new ≡ p) }
 {
     if bytes.len() != SLOT {
         return None;
     }
-    let (page, rest) = first_page(bytes)?;
+    let (frame, rest) = first_page(body, bytes)?;
     if !are_zeros(rest) {
         return None;
     }
-    Some(page)
+    Some(frame)
 }
 
 /// Whether the bytes are those of a free slot.

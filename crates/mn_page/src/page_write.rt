@@ -89,17 +89,17 @@ fn put_body(into: &mut [u8], at: usize, body: &Body) -> usize
     }
 }
 
-/// Puts what stands before the fences at the front.
-fn put_head(into: &mut [u8], page: &Page) -> usize
+/// Puts what stands before the fences at the front, with this sequence number.
+fn put_head(into: &mut [u8], page: &Page, seq: u64) -> usize
     requires { 20 ≤ length into.old }
-    ensures added { Adds into.old into.new 0 result (head_bytes page.now) }
+    ensures added { Adds into.old into.new 0 result (head_bytes (record page.now { seq = seq })) }
     ensures end { result ≡ 20 }
 {
     let (kind, height) = match &page.body {
         Body::Leaf { .. } => (1, 0),
         Body::Inner { height, .. } => (2, *height),
     };
-    let at = put_u64(into, 0, page.seq);
+    let at = put_u64(into, 0, seq);
     let at = put_byte(into, at, kind);
     let at = put_u16(into, at, height);
     let at = put_byte(into, at, page.made.0);
@@ -125,7 +125,17 @@ impl Page {
         requires low { length self.now.low ≤ 32 }
         ensures { into.new ≡ page_bytes self.now }
     {
-        let at = put_head(into, self);
+        self.write_as(self.seq, into);
+    }
+
+    /// Writes the spelling that it has under this sequence number.
+    pub fn write_as(&self, seq: u64, into: &mut [u8])
+        requires slot { length into.old ≡ slot_size }
+        requires few { count_in self.now.body ≤ 8 }
+        requires low { length self.now.low ≤ 32 }
+        ensures { into.new ≡ page_bytes (record self.now { seq = seq }) }
+    {
+        let at = put_head(into, self, seq);
         let at = put_fences(into, at, self);
         let at = put_body(into, at, &self.body);
         put_zeros(into, at);

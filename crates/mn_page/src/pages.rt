@@ -1,6 +1,6 @@
 ghost use Rattle.std.specs.Prelude.{◌≡◌};
 
-use crate::Page;
+use crate::PlacedPage;
 use mn_base::{Addr, NoMemory, TryCopy};
 use std::alloc::Global;
 use std::marker::Model;
@@ -8,7 +8,7 @@ use std::marker::Model;
 /// Pages with their places. Contracts see them as a list.
 #[derive(Debug, Drop)]
 pub struct Pages {
-    pages: Vec<(Addr, Page)>,
+    pages: Vec<(Addr, PlacedPage)>,
 }
 
 impl Model for Pages {
@@ -23,19 +23,19 @@ impl Model for Pages {
 
 impl Pages {
     /// It takes no memory.
-    pub fn from_vec(pages: Vec<(Addr, Page)>) -> Self
+    pub fn from_vec(pages: Vec<(Addr, PlacedPage)>) -> Self
         ensures { result ≡ pages.items }
     {
         Pages { pages }
     }
 
-    pub fn into_vec(self) -> Vec<(Addr, Page)>
+    pub fn into_vec(self) -> Vec<(Addr, PlacedPage)>
         ensures { result.items ≡ self }
     {
         self.pages
     }
 
-    pub fn as_slice(&self) -> &[(Addr, Page)]
+    pub fn as_slice(&self) -> &[(Addr, PlacedPage)]
         ensures { result.now ≡ self.now }
     {
         &self.pages

@@ -288,44 +288,52 @@ pub fn no_children<'a>() -> [ChildRef<'a>; 7] {
     }; 7]
 }
 
-/// So many pairs, and what follows them.
+/// Reads so many pairs into an array, and gives what follows them.
 #[inline(always)]
-pub fn first_pairs(bytes: &[u8], count: usize) -> Option<([PairRef<'_>; 8], &[u8])>
+pub fn first_pairs<'a>(
+    pairs: &mut [PairRef<'a>; 8],
+    bytes: &'a [u8],
+    count: usize,
+) -> Option<&'a [u8]>
     requires { count ≤ 8 }
     ensures found { IfSome result
-        (λ x. Begins (AreMany IsPair count) (flat_map pair_bytes) bytes.now
-        (pairs_seen count x.0) x.1.now) }
-    ensures only { (pairs : List Pair) (more : List ℕ) → AreMany IsPair count pairs
-        → bytes.now ≡ flat_map pair_bytes pairs ++ more
-        → IsSomeAnd result (λ x. (pairs_seen count x.0 ≡ pairs) × (x.1.now ≡ more)) }
+        (λ rest. Begins (AreMany IsPair count) (flat_map pair_bytes) bytes.now
+        (pairs_seen count pairs.new) rest.now) }
+    ensures size { IfSome result (λ rest. length pairs.new ≡ 8) }
+    ensures only { (ps : List Pair) (more : List ℕ) → AreMany IsPair count ps
+        → bytes.now ≡ flat_map pair_bytes ps ++ more
+        → IsSomeAnd result (λ rest. (pairs_seen count pairs.new ≡ ps) × (rest.now ≡ more)) }
 {
-    let mut pairs = no_pairs();
     let mut rest = bytes;
     for i in 0..count {
         let (pair, behind) = first_pair(rest)?;
         pairs[i] = pair;
         rest = behind;
     }
-    Some((pairs, rest))
+    Some(rest)
 }
 
-/// So many children after the first, and what follows them.
+/// Reads so many children after the first into an array, and gives what follows them.
 #[inline(always)]
-pub fn first_children(bytes: &[u8], count: usize) -> Option<([ChildRef<'_>; 7], &[u8])>
+pub fn first_children<'a>(
+    children: &mut [ChildRef<'a>; 7],
+    bytes: &'a [u8],
+    count: usize,
+) -> Option<&'a [u8]>
     requires { count ≤ 7 }
     ensures found { IfSome result
-        (λ x. Begins (AreMany IsChild count) (flat_map child_bytes) bytes.now
-        (children_seen count x.0) x.1.now) }
-    ensures only { (children : List Child) (more : List ℕ) → AreMany IsChild count children
-        → bytes.now ≡ flat_map child_bytes children ++ more
-        → IsSomeAnd result (λ x. (children_seen count x.0 ≡ children) × (x.1.now ≡ more)) }
+        (λ rest. Begins (AreMany IsChild count) (flat_map child_bytes) bytes.now
+        (children_seen count children.new) rest.now) }
+    ensures size { IfSome result (λ rest. length children.new ≡ 7) }
+    ensures only { (cs : List Child) (more : List ℕ) → AreMany IsChild count cs
+        → bytes.now ≡ flat_map child_bytes cs ++ more
+        → IsSomeAnd result (λ rest. (children_seen count children.new ≡ cs) × (rest.now ≡ more)) }
 {
-    let mut children = no_children();
     let mut rest = bytes;
     for i in 0..count {
         let (child, behind) = first_child(rest)?;
         children[i] = child;
         rest = behind;
     }
-    Some((children, rest))
+    Some(rest)
 }

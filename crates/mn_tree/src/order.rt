@@ -2,7 +2,8 @@ ghost use Rattle.std.specs.Prelude.{◌≡◌, ◌≤◌, ◌^◌, ◌++◌, ◌
 ghost use Rattle.std.specs.Prelude.{IfOk, OnOk};
 ghost use Rattle.mn_base.specs.Order.{key_lt};
 ghost use Rattle.std.specs.List.{range_with_len};
-ghost use Rattle.mn_page.specs.Overlay.{new_addr, child_at, placed_addr, placed_page, placed_body};
+ghost use Rattle.mn_page.specs.Overlay.{new_addr, child_at, placed_addr, placed_page};
+ghost use Rattle.mn_page.specs.declared.page.Body.TheVariants.{Inner};
 ghost use Rattle.mn_page.specs.SlotOrder.{stands_first};
 ghost use Rattle.mn_tree.specs.Walk.{helds};
 ghost use Rattle.mn_tree.specs.Order.{precedes, with_number, with_numbers, place_in, slot_of};
@@ -12,7 +13,7 @@ use crate::addrs::Addrs;
 use crate::held::{UNPLACED, resolved};
 use crate::held_pages::HeldPages;
 use mn_base::{Addr, NoMemory, NodeNo, TryCopy};
-use mn_page::{Body, Branches, Child, Low, Page, number_after};
+use mn_page::{Body, Branches, Child, Low, Page, PlacedPage, SharedPage, number_after};
 use mn_path::height;
 use std::alloc::Global;
 
@@ -139,35 +140,48 @@ fn placed_children(alloc: Global, by: &[Addr], rest: &[Child]) -> Result<Vec<Chi
     Ok(children)
 }
 
-fn body_in(alloc: Global, by: &[Addr], body: &Body) -> Result<Body, NoMemory>
-    ensures { IfOk result (λ made. made ≡ placed_body by.now body.now) }
-{
-    match body {
-        Body::Leaf { .. } => Ok(body.try_copy(alloc)?),
-        Body::Inner {
-            height,
-            first,
-            rest,
-        } => Ok(Body::Inner {
-            height: *height,
-            first: resolved(by, *first),
-            rest: Branches::from_vec(alloc, placed_children(alloc, by, rest.as_slice())?)?,
-        }),
-    }
-}
-
-/// A page of this number with the new pages in their slots.
-fn page_in(alloc: Global, by: &[Addr], seq: u64, page: &Page) -> Result<Page, NoMemory>
-    ensures { IfOk result (λ made. made ≡ placed_page by.now seq page.now) }
+/// An inner page with the new pages below it in their slots.
+fn inner_in(
+    alloc: Global,
+    by: &[Addr],
+    page: &Page,
+    height: u16,
+    first: Addr,
+    rest: &[Child],
+) -> Result<Page, NoMemory>
+    requires { page.now.body ≡ Inner height first rest.now }
+    ensures { IfOk result (λ made. made ≡ placed_page by.now page.now.seq page.now) }
 {
     Ok(Page {
-        seq,
+        seq: page.seq,
         made: page.made,
         copied: page.copied,
         low: page.low.try_copy(alloc)?,
         high: page.high.try_copy(alloc)?,
-        body: body_in(alloc, by, &page.body)?,
+        body: Body::Inner {
+            height,
+            first: resolved(by, first),
+            rest: Branches::from_vec(alloc, placed_children(alloc, by, rest)?)?,
+        },
     })
+}
+
+/// A page under this number, with the new pages in their slots. A leaf names none.
+fn page_in(alloc: Global, by: &[Addr], seq: u64, page: &SharedPage) -> Result<PlacedPage, NoMemory>
+    ensures { IfOk result (λ made. made ≡ placed_page by.now seq page.now) }
+{
+    let seen = page.get();
+    match &seen.body {
+        Body::Leaf { .. } => Ok(PlacedPage::new(seq, page.try_copy(alloc)?)),
+        Body::Inner {
+            height,
+            first,
+            rest,
+        } => {
+            let made = inner_in(alloc, by, seen, *height, *first, rest.as_slice())?;
+            Ok(PlacedPage::new(seq, SharedPage::new(alloc, made)?))
+        }
+    }
 }
 
 /// Adds an old page, if it was changed.
@@ -177,7 +191,7 @@ fn push_old(
     pages: &HeldPages,
     changed: &Addrs,
     addr: Addr,
-    placed: &mut Vec<(Addr, Page)>,
+    placed: &mut Vec<(Addr, PlacedPage)>,
 ) -> Result<(), NoMemory>
     ensures { OnOk result (placed.new.items
         ≡ placed.old.items ++ old_pages by.now (helds pages.now.items)
@@ -187,9 +201,8 @@ fn push_old(
         return Ok(());
     }
     if let Some(held) = pages.get(addr) {
-        let page = held.page.get();
-        let seq = number_after(page.seq);
-        placed.push((addr, page_in(alloc, by, seq, page)?))?;
+        let seq = number_after(held.page.get().seq);
+        placed.push((addr, page_in(alloc, by, seq, &held.page)?))?;
     }
     Ok(())
 }
@@ -201,7 +214,7 @@ pub fn push_changed(
     pages: &HeldPages,
     changed: &Addrs,
     read: &[Addr],
-    placed: &mut Vec<(Addr, Page)>,
+    placed: &mut Vec<(Addr, PlacedPage)>,
 ) -> Result<(), NoMemory>
     ensures { OnOk result (placed.new.items
         ≡ placed.old.items ++ old_pages by.now (helds pages.now.items)
@@ -219,15 +232,14 @@ fn push_created(
     by: &[Addr],
     pages: &HeldPages,
     number: u16,
-    placed: &mut Vec<(Addr, Page)>,
+    placed: &mut Vec<(Addr, PlacedPage)>,
 ) -> Result<(), NoMemory>
     ensures { OnOk result (placed.new.items
         ≡ placed.old.items ++ new_pages by.now (helds pages.now.items) (number ∷ [])) }
 {
     let addr = place_of(number);
     if let Some(held) = pages.get(addr) {
-        let page = held.page.get();
-        let page = page_in(alloc, by, page.seq, page)?;
+        let page = page_in(alloc, by, held.page.get().seq, &held.page)?;
         placed.push((resolved(by, addr), page))?;
     }
     Ok(())
@@ -239,7 +251,7 @@ pub fn push_new(
     by: &[Addr],
     pages: &HeldPages,
     order: &[u16],
-    placed: &mut Vec<(Addr, Page)>,
+    placed: &mut Vec<(Addr, PlacedPage)>,
 ) -> Result<(), NoMemory>
     ensures { OnOk result (placed.new.items
         ≡ placed.old.items ++ new_pages by.now (helds pages.now.items) order.now) }

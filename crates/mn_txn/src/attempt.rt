@@ -18,14 +18,16 @@ ghost use Rattle.mn_txn.specs.Seen.{seen_at};
 
 use crate::image::COUNT_START;
 use crate::seen::{SeenPage, page_at};
-use crate::spelled::{CATALOG_NODE, count_bytes, entry_bytes, entry_start, page_bytes, slot_start};
+use crate::spelled::{
+    CATALOG_NODE, count_bytes, entry_bytes, entry_start, placed_bytes, slot_start,
+};
 use crate::{
     PlanError, Txn, attempts_stand_in_order, done_is_planned, done_may_be_planned,
     unmet_is_planned, unmet_may_be_planned, worn_is_changed,
 };
 use mn_base::{Addr, NoMemory, NodeNo, Steps, TryCopy, VersionNo};
 use mn_mini::Minitransaction;
-use mn_page::{CatEntry, Page, Pages};
+use mn_page::{CatEntry, Pages, PlacedPage};
 use std::alloc::Global;
 
 /// What a try of a transaction has read, on so many nodes: the version with its entry in the
@@ -115,17 +117,17 @@ fn tried_txn(alloc: Global, tried: Tried<'_>, leaves: bool) -> Result<Txn, NoMem
 }
 
 /// Writes a page, which may have the number that it came with, or the next one.
-fn write_page(alloc: Global, txn: &mut Txn, addr: Addr, page: &Page) -> Result<(), NoMemory>
+fn write_page(alloc: Global, txn: &mut Txn, addr: Addr, page: &PlacedPage) -> Result<(), NoMemory>
     requires few { count_in page.now.body ≤ 8 }
     requires low { length page.now.low ≤ 32 }
     ensures { OnOk result (txn.new ≡ with_writes txn.old (page_image addr page.now ∷ [])) }
 {
-    let bytes = page_bytes(alloc, page)?;
+    let bytes = placed_bytes(alloc, page)?;
     txn.write(addr.node, slot_start(addr.slot), bytes)
 }
 
 /// Writes pages, each at its place.
-fn write_pages(alloc: Global, txn: &mut Txn, pages: &[(Addr, Page)]) -> Result<(), NoMemory>
+fn write_pages(alloc: Global, txn: &mut Txn, pages: &[(Addr, PlacedPage)]) -> Result<(), NoMemory>
     requires { AllByRecursion (λ h. (count_in h.1.body ≤ 8) × (length h.1.low ≤ 32)) pages.now }
     ensures { OnOk result (txn.new
         ≡ with_writes txn.old (map (λ h. page_image h.0 h.1) pages.now)) }

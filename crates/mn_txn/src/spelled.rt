@@ -7,7 +7,7 @@ use crate::image::SLOTS_START;
 use byteorder::{BigEndian, ByteOrder};
 use mn_base::{NoMemory, NodeNo, VersionNo};
 use mn_mini::SharedBytes;
-use mn_page::{CatEntry, Page};
+use mn_page::{CatEntry, Page, PlacedPage};
 use std::alloc::Global;
 
 /// The node of the catalog.
@@ -37,6 +37,17 @@ pub fn slot_start(slot: u16) -> u32
 
 /// The bytes of a page.
 pub fn page_bytes(alloc: Global, page: &Page) -> Result<SharedBytes, NoMemory>
+    requires few { count_in page.now.body ≤ 8 }
+    requires low { length page.now.low ≤ 32 }
+    ensures { IfOk result (λ bytes. bytes ≡ page_bytes page.now) }
+{
+    let mut bytes = vec![in alloc; 0u8; 1_024]?;
+    page.write(&mut bytes);
+    Ok(SharedBytes::new(alloc, bytes)?)
+}
+
+/// The bytes of a page as a plan writes it.
+pub fn placed_bytes(alloc: Global, page: &PlacedPage) -> Result<SharedBytes, NoMemory>
     requires few { count_in page.now.body ≤ 8 }
     requires low { length page.now.low ≤ 32 }
     ensures { IfOk result (λ bytes. bytes ≡ page_bytes page.now) }

@@ -61,8 +61,7 @@ fn reply_of(alloc: Global, leaf: &PageRef<'_>, key: &[u8]) -> Result<Reply, NoMe
         Some(bytes) => Some(value_of(alloc, bytes)?),
         None => None,
     };
-    let mut found = Vec::new(alloc);
-    found.push(value)?;
+    let found = Vec::from_array(alloc, [value])?;
     Ok(Reply::Values {
         found: Founds::from_vec(found),
     })

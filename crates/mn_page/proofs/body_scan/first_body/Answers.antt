@@ -14,4 +14,4 @@ returns-clause-only c = λ body more is spelled.
     let up : 1 ≤ c.args.height = omega (arith, c.if-height-eq0.false) in
     let some = c.if-count-eq0.false in
     let parts = inner_parts c.args.height (c.in_ok-count.count - 1) c.args.low.now (option_map (λ h. h.now) c.args.high) c.in_ok-count.behind.now more body up is (omega (arith, count, some)) front.1 in
-    subst (λ (b : Body). IsSomeAnd c.inner_body.result (λ x. (body_seen x.0 ≡ b) × (x.1.now ≡ more))) (sym parts.1) (c.inner_body.ensures.only parts.0 more parts.2 parts.3)
+    subst (λ (b : Body). IsSomeAnd c.inner_body.result (λ rest. (body_seen c.inner_body.new.body ≡ b) × (rest.now ≡ more))) (sym parts.1) (c.inner_body.ensures.only parts.0 more parts.2 parts.3)

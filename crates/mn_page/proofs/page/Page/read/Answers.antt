@@ -1,13 +1,12 @@
-use Rattle.std.proofs.Common.{Option, Some, subst, sym, ap, ◌∙◌}
+use Rattle.std.proofs.Common.{Option, subst, sym}
+use Rattle.std.specs.Prelude.{MatchOption}
 use Rattle.mn_page.specs.declared.page.Page.{Page}
-use Rattle.mn_page.specs.Grammar.{SpellsPage}
+use Rattle.mn_page.specs.declared.page_ref.Frame.{Frame}
+use Rattle.mn_page.specs.Grammar.{IsFree, SpellsPage}
+use Rattle.mn_page.specs.Reading.{framed}
 use Rattle.mn_page.proofs.page.Page.read.Goals as goal
 
-pub returns-in_ok-to_page-in-Some-clause-read : goal.returns-in_ok-to_page-in-Some-clause-read
-returns-in_ok-to_page-in-Some-clause-read c =
-    let told = rw c.in-Some.is at c.in_ok-found.ensures.read in
-    subst (λ (p : Page). SpellsPage c.args.bytes.now p) (sym c.in_ok-to_page-in-Some.ensures) told
-
-pub returns-in_ok-to_page-in-Some-clause-page : goal.returns-in_ok-to_page-in-Some-clause-page
-returns-in_ok-to_page-in-Some-clause-page c = λ p s.
-    ap (λ (q : Page). let o : Option Page = Some q in o) c.in_ok-to_page-in-Some.ensures ∙ (sym c.in-Some.is ∙ c.in_ok-found.ensures.page p s)
+pub returns-in_ok-page_of-in-Some-clause-read : goal.returns-in_ok-page_of-in-Some-clause-read
+returns-in_ok-page_of-in-Some-clause-read c =
+    subst (λ (p : Page). SpellsPage c.args.bytes.now p) (sym c.in_ok-page_of-in-Some.ensures)
+    (subst (λ (found : Option Frame). MatchOption found (IsFree c.args.bytes.now) (λ frame. SpellsPage c.args.bytes.now (framed frame c.frame_of.new.body))) c.in-Some.is c.in_ok-frame.ensures.read)
