@@ -11,3 +11,4 @@ pub mod Stores
 pub mod Booleans
 pub mod Naturals
 pub mod Zeros
+pub mod Words

@@ -14,8 +14,11 @@ mod laws;
 mod name;
 mod numbers;
 mod op;
+mod order;
 mod reply;
 mod shared_op;
+#[cfg(test)]
+mod tests;
 mod value;
 
 pub use answer::{Answer, Busy};
@@ -30,6 +33,7 @@ pub use laws::{frozen_stays, history_goes_on, store_stays};
 pub use name::{MAX_NAME, Name};
 pub use numbers::{Counts, Nodes, Slots};
 pub use op::{MAX_STEPS, Op, Step, Steps};
+pub use order::{key_order, key_precedes};
 pub use reply::{Found, Founds, Listing, Pair, Pairs, Reply, Version};
 pub use shared_op::SharedOp;
 pub use value::{MAX_VALUE, Value};
