@@ -5,18 +5,18 @@ ghost use Rattle.std.specs.Prelude.{◌≡◌, option_map};
 ghost use Rattle.mn_base.specs.Order.{covers_key};
 ghost use Rattle.mn_fence.specs.Child.{count_not_above, Ascend, IsChild};
 
-use mn_base::Key;
+use mn_base::{Key, key_precedes};
 
 /// Whether the key is at or above the low fence and below the high one. Without a high fence no key
 /// is too high. Keys are ordered by their bytes, where a proper prefix comes first.
 pub fn covers(low: &[u8], high: Option<&[u8]>, key: &[u8]) -> bool
     ensures { result ≡ covers_key low.now (option_map (λ h. h.now) high.entry) key.now }
 {
-    if key.cmp(low).is_lt() {
+    if key_precedes(key, low) {
         return false;
     }
     match high {
-        Some(high) => key.cmp(high).is_lt(),
+        Some(high) => key_precedes(key, high),
         None => true,
     }
 }
@@ -30,6 +30,6 @@ pub fn child_of(separators: &[Key], key: &[u8]) -> usize
 {
     separators
         .iter()
-        .filter(|separator| !key.cmp(separator.as_slice()).is_lt())
+        .filter(|separator| !key_precedes(key, separator.as_slice()))
         .count()
 }

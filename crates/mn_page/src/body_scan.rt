@@ -13,7 +13,7 @@ ghost use Rattle.mn_page.specs.Reading.{IsBodyAt, body_text, HasCounted, HasSize
 
 use crate::page_ref::{BodyRef, ChildRef, PairRef};
 use crate::scan::{first_addr, first_byte, first_children, first_pairs, is_below};
-use mn_base::Addr;
+use mn_base::{Addr, key_precedes};
 
 /// Whether the pairs ascend from the low fence to the high one. The first and the last tell it for
 /// those between them.
@@ -24,13 +24,13 @@ fn pairs_fit(low: &[u8], high: Option<&[u8]>, pairs: &[PairRef<'_>]) -> bool
     let [first, rest @ ..] = pairs else {
         return true;
     };
-    if first.key.cmp(low).is_lt() {
+    if key_precedes(first.key, low) {
         return false;
     }
     let mut last = first.key;
     let mut rest = rest;
     while let [pair, behind @ ..] = rest {
-        if !last.cmp(pair.key).is_lt() {
+        if !key_precedes(last, pair.key) {
             return false;
         }
         last = pair.key;
@@ -47,7 +47,7 @@ fn children_fit(low: &[u8], high: Option<&[u8]>, children: &[ChildRef<'_>]) -> b
     let mut above = low;
     let mut rest = children;
     while let [child, behind @ ..] = rest {
-        if !above.cmp(child.separator).is_lt() {
+        if !key_precedes(above, child.separator) {
             return false;
         }
         above = child.separator;

@@ -5,6 +5,7 @@ ghost use Rattle.mn_page.specs.KeyRoom.{LeavesRoom, raised};
 
 use crate::scan::is_below;
 use arrayvec::ArrayVec;
+use mn_base::key_precedes;
 
 /// A key of up to 32 bytes, without memory.
 pub type ShortKey = ArrayVec<u8, 32>;
@@ -73,7 +74,7 @@ fn least_with(least: &[u8], front: &[u8], size: usize) -> Option<ShortKey>
         (λ key. IsLeastFrom least.now front.now size key.items) }
 {
     let with = filled(front, size)?;
-    if !with.as_slice().cmp(least).is_lt() {
+    if !key_precedes(with.as_slice(), least) {
         return Some(with);
     }
     let from = least_from(least, size)?;

@@ -18,7 +18,7 @@ ghost use Rattle.mn_page.specs.Reading.{pairs_seen, children_seen, IsPair, IsChi
 
 use crate::page_ref::{ChildRef, Head, PairRef};
 use byteorder::{BigEndian, ByteOrder};
-use mn_base::{Addr, NodeNo, VersionNo};
+use mn_base::{Addr, NodeNo, VersionNo, key_precedes};
 
 /// The first byte, and what follows it.
 #[inline(always)]
@@ -234,7 +234,7 @@ pub fn is_below(key: &[u8], high: Option<&[u8]>) -> bool
     ensures { result ≡ below_bound key.now (option_map (λ h. h.now) high.entry) }
 {
     match high {
-        Some(high) => key.cmp(high).is_lt(),
+        Some(high) => key_precedes(key, high),
         None => true,
     }
 }

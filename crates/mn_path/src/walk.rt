@@ -4,7 +4,7 @@ ghost use Rattle.mn_page.specs.Grammar.{height_of};
 ghost use Rattle.mn_path.specs.Walk.{child_from, front_of, is_below, is_live, is_on_path};
 ghost use Rattle.mn_path.specs.Walk.{may_stand};
 
-use mn_base::{Addr, VersionNo};
+use mn_base::{Addr, VersionNo, key_precedes};
 use mn_fence::covers;
 use mn_page::{Body, Child, Page, PageRef};
 use mn_vtree::VersionTree;
@@ -130,7 +130,7 @@ pub fn child_for(first: Addr, rest: &[Child], key: &[u8]) -> Addr
 {
     let mut found = first;
     for child in rest {
-        if key.cmp(child.separator.as_slice()).is_lt() {
+        if key_precedes(key, child.separator.as_slice()) {
             return found;
         }
         found = child.addr;

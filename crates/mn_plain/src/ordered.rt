@@ -4,7 +4,7 @@ ghost use Rattle.std.specs.Cmp.{partial_equiv_from_equiv};
 ghost use Rattle.std.specs.Cmp.Lexicographic.{pointwise, slice_cmp, nat_list_eq_equiv};
 ghost use Rattle.std.specs.Cmp.Lexicographic.{nat_list_cmp_total, texts_ties, texts_po};
 
-use mn_base::{Key, NoMemory, TryCopy};
+use mn_base::{Key, NoMemory, TryCopy, key_order};
 use std::alloc::Global;
 use std::cmp::Ordering;
 use std::marker::Model;
@@ -81,6 +81,6 @@ impl Ord for OrderedKey {
     ghost matches_eq = { texts_ties };
 
     fn cmp(&self, other: &OrderedKey) -> Ordering {
-        self.key.as_slice().cmp(other.key.as_slice())
+        key_order(self.key.as_slice(), other.key.as_slice())
     }
 }

@@ -10,7 +10,7 @@ ghost use Rattle.mn_plain.specs.Table.{shown, pairs_set, KeepsPlaces, HasPlace, 
 ghost use Rattle.mn_plain.specs.Table.{are_turned};
 
 use crate::ordered::OrderedKey;
-use mn_base::{Key, NoMemory, Pair, Step, TryCopy, Value, copies_of};
+use mn_base::{Key, NoMemory, Pair, Step, TryCopy, Value, copies_of, key_precedes};
 use std::alloc::Global;
 use std::collections::BTreeMap;
 use std::ops::Bound;
@@ -302,7 +302,7 @@ fn are_turned(low: &Option<Key>, high: &Option<Key>) -> bool
     ensures { result ≡ are_turned low.now high.now }
 {
     match (low, high) {
-        (Some(low), Some(high)) => high.as_slice().cmp(low.as_slice()).is_lt(),
+        (Some(low), Some(high)) => key_precedes(high.as_slice(), low.as_slice()),
         _ => false,
     }
 }

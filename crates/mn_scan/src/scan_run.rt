@@ -9,7 +9,7 @@ ghost use Rattle.mn_scan.specs.Scan.{restarted, is_end, gathered, fed, leaf_take
 ghost use Rattle.mn_scan.specs.Scan.{IsInTurn, RefusesPage};
 
 use crate::{ScanError, ScanStep};
-use mn_base::{Addr, Key, NoMemory, Pair, Pairs, TryCopy, VersionNo};
+use mn_base::{Addr, Key, NoMemory, Pair, Pairs, TryCopy, VersionNo, key_precedes};
 use mn_fence::covers;
 use mn_page::{Body, Page, SharedPage};
 use mn_path::{Front, child_for};
@@ -60,7 +60,7 @@ fn is_last(bound: &Option<Key>, fence: &Option<Key>) -> bool
     match (fence, bound) {
         (None, _) => true,
         (Some(_), None) => false,
-        (Some(fence), Some(bound)) => !fence.as_slice().cmp(bound.as_slice()).is_lt(),
+        (Some(fence), Some(bound)) => !key_precedes(fence.as_slice(), bound.as_slice()),
     }
 }
 

@@ -12,7 +12,7 @@ ghost use Rattle.mn_tree.specs.Order.{slots_by_number, is_changed, old_pages, ne
 use crate::addrs::Addrs;
 use crate::held::{UNPLACED, resolved};
 use crate::held_pages::HeldPages;
-use mn_base::{Addr, NoMemory, NodeNo, TryCopy};
+use mn_base::{Addr, NoMemory, NodeNo, TryCopy, key_precedes};
 use mn_page::{Body, Branches, Child, Low, Page, PlacedPage, SharedPage, number_after};
 use mn_path::height;
 use std::alloc::Global;
@@ -39,7 +39,7 @@ fn is_first(page: &Page, other: &Page) -> bool
 fn is_left(low: &Low, other: &Low) -> bool
     ensures { result ≡ key_lt low.now other.now }
 {
-    low.as_slice().cmp(other.as_slice()).is_lt()
+    key_precedes(low.as_slice(), other.as_slice())
 }
 
 /// Whether the new page of the first number stands before that of the second.

@@ -2,7 +2,7 @@ ghost use Rattle.std.specs.Prelude.{◌≡◌, ◌++◌, ◌∷◌, [], option_m
 ghost use Rattle.std.specs.Option.{option_eq};
 ghost use Rattle.mn_base.specs.Store.{value_at, pairs_with, pairs_without};
 
-use mn_base::{Key, NoMemory, Pair, TryCopy, Value};
+use mn_base::{Key, NoMemory, Pair, TryCopy, Value, key_precedes};
 use std::alloc::Global;
 
 /// What the pairs have at a key.
@@ -78,7 +78,7 @@ fn push_pairs_with(
         ≡ found.old.items ++ pairs_with pairs.now key.now value.now) }
 {
     for (at, pair) in pairs.iter().enumerate() {
-        if key.as_slice().cmp(pair.key.as_slice()).is_lt() {
+        if key_precedes(key.as_slice(), pair.key.as_slice()) {
             return push_tail(alloc, found, key, value, &pairs[at..]);
         }
         if pair.key.as_slice() == key.as_slice() {

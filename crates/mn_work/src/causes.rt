@@ -8,7 +8,7 @@ ghost use Rattle.mn_work.specs.Walks.{IsAbove};
 
 use crate::catalog::Kept;
 use crate::next::path_fault;
-use mn_base::{Addr, Busy, Bytes, NoMemory, NodeNo, Tid, VersionNo};
+use mn_base::{Addr, Busy, Bytes, NoMemory, NodeNo, Tid, VersionNo, key_precedes};
 use mn_mini::{Item, Minitransaction, NodeReply, SharedBytes};
 use mn_page::PageRef;
 use mn_path::Front;
@@ -38,7 +38,7 @@ fn child_in(page: &PageRef<'_>, key: &[u8]) -> Addr
     let last = page.count() - 1;
     let mut found = page.child(0);
     for i in 0..last {
-        if key.cmp(page.key(i)).is_lt() {
+        if key_precedes(key, page.key(i)) {
             return found;
         }
         found = page.child(i + 1);

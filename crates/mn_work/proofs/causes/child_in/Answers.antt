@@ -1,5 +1,4 @@
-use Rattle.std.proofs.Common.{ap, sym, ◌∙◌, arith}
-use Rattle.std.proofs.Common.{is_lt}
+use Rattle.std.proofs.Common.{sym, ◌∙◌, arith}
 use Rattle.mn_work.proofs.Bodies.{ends, goes_on, inner_counts, is_inner, stops}
 use Rattle.mn_work.proofs.causes.child_in.Goals as goal
 
@@ -13,10 +12,10 @@ key-requires c =
     let low = c.loop-i-test.true in
     omega arith
 
-pub returns-then-is_lt : goal.returns-then-is_lt
-returns-then-is_lt c =
+pub returns-then-key_precedes : goal.returns-then-key_precedes
+returns-then-key_precedes c =
     stops c.args.key.now c.args.page.now.body c.loop-i.i c.loop-i.found c.key.result.now c.loop-i.invariant c.key.ensures
-    (ap is_lt (sym c.cmp.ensures) ∙ sym c.is_lt.ensures ∙ c.if-is_lt.true)
+    (sym c.key_precedes.ensures ∙ c.if-key_precedes.true)
 
 pub child-found-requires-in-loop-i : goal.child-found-requires-in-loop-i
 child-found-requires-in-loop-i c =
@@ -31,7 +30,7 @@ child-found-requires-in-loop-i c =
 pub loop-i-preserved : goal.loop-i-preserved
 loop-i-preserved c =
     goes_on c.args.key.now c.args.page.now.body c.loop-i.i c.loop-i.found c.child-found-in-loop-i.result c.key.result.now c.loop-i.invariant c.key.ensures
-    (ap is_lt (sym c.cmp.ensures) ∙ sym c.is_lt.ensures ∙ c.if-is_lt.false) c.child-found-in-loop-i.ensures
+    (sym c.key_precedes.ensures ∙ c.if-key_precedes.false) c.child-found-in-loop-i.ensures
 
 pub returns : goal.returns
 returns c =
