@@ -22,7 +22,7 @@ fn part(alloc: Global) -> Result<Part, NoMemory> {
     let mut items = Vec::new(alloc);
     items.push(PartItem::Write {
         start: PLACE,
-        bytes: SharedBytes::new(alloc, [0x61].to_vec(alloc)?)?,
+        bytes: SharedBytes::copy_of(alloc, &[0x61])?,
     })?;
     Ok(Part::from_vec(alloc, items)?)
 }

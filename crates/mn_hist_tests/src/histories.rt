@@ -66,7 +66,7 @@ fn writes(alloc: Global, nodes: u8) -> Result<Minitransaction, Fail> {
         items.push(Item::Write {
             node: NodeNo(node),
             start: 20_480,
-            bytes: SharedBytes::new(alloc, [0x61].to_vec(alloc)?)?,
+            bytes: SharedBytes::copy_of(alloc, &[0x61])?,
         })?;
     }
     Ok(Minitransaction::new(alloc, 2, Items::from_vec(alloc, items)?)?)
@@ -74,13 +74,12 @@ fn writes(alloc: Global, nodes: u8) -> Result<Minitransaction, Fail> {
 
 /// A read of the catalog.
 fn reads(alloc: Global) -> Result<Minitransaction, Fail> {
-    let mut items = Vec::new(alloc);
-    items.push(Item::Read {
+    let item = Item::Read {
         node: NodeNo(0),
         start: 64,
         length: 4_096,
-    })?;
-    Ok(Minitransaction::new(alloc, 2, Items::from_vec(alloc, items)?)?)
+    };
+    Ok(Minitransaction::new(alloc, 2, Items::one(alloc, item)?)?)
 }
 
 /// Asks for the vote of client 0's plan on a node.

@@ -1,5 +1,5 @@
 -- A minitransaction on a memory is its parts on their spaces.
-use Rattle.std.proofs.Common.{◌≡◌, ◌≢◌, ℕ, zero, suc, ◌+◌, ◌<◌, ◌≤◌, Bool, true, false, ◌||◌, List, [], ◌∷◌, ◌++◌, length, Some, None, refl, sym, ap, subst, ◌∙◌, arith, if◌then◌else◌, set, get_or-set_same, get_or-set_other, nat_eq}
+use Rattle.std.proofs.Common.{◌≡◌, ◌≢◌, ℕ, zero, suc, ◌+◌, ◌<◌, ◌≤◌, Bool, true, false, ◌||◌, List, [], ◌∷◌, ◌++◌, length, filter, Some, None, refl, sym, ap, subst, ◌∙◌, arith, if◌then◌else◌, set, get_or-set_same, get_or-set_other, nat_eq}
 use Rattle.std.proofs.Math.ListN.{length-set}
 use Rattle.std.proofs.lemmas.Bool.Decides.{nat_tests}
 use Rattle.std.specs.List.{list_any, flat_map, AllByRecursion}
@@ -56,6 +56,29 @@ space-memory_after memory (Write node start bytes ∷ items) n inside =
     ] refl
 
 -- the parts
+
+-- a part has each item at the node once
+pub length-part : (n : NodeNo) (items : List Item)
+    → length (flat_map (compare_at n) items) + length (flat_map (read_at n) items) + length (flat_map (write_at n) items) ≡ length (filter (λ item. node_same (item_node item) n) items)
+length-part n [] = refl
+length-part n (Compare node start bytes ∷ items) =
+    let rest = length-part n items in
+    elim (node_same node n) as (λ b. length ((if b then Bare.Compare start bytes ∷ [] else []) ++ flat_map (compare_at n) items) + length (flat_map (read_at n) items) + length (flat_map (write_at n) items) ≡ length (if b then Compare node start bytes ∷ filter (λ item. node_same (item_node item) n) items else filter (λ item. node_same (item_node item) n) items)) [
+      | true ↦ omega (arith, rest)
+      | false ↦ rest
+    ]
+length-part n (Read node start k ∷ items) =
+    let rest = length-part n items in
+    elim (node_same node n) as (λ b. length (flat_map (compare_at n) items) + length ((if b then Bare.Read start k ∷ [] else []) ++ flat_map (read_at n) items) + length (flat_map (write_at n) items) ≡ length (if b then Read node start k ∷ filter (λ item. node_same (item_node item) n) items else filter (λ item. node_same (item_node item) n) items)) [
+      | true ↦ omega (arith, rest)
+      | false ↦ rest
+    ]
+length-part n (Write node start bytes ∷ items) =
+    let rest = length-part n items in
+    elim (node_same node n) as (λ b. length (flat_map (compare_at n) items) + length (flat_map (read_at n) items) + length ((if b then Bare.Write start bytes ∷ [] else []) ++ flat_map (write_at n) items) ≡ length (if b then Write node start bytes ∷ filter (λ item. node_same (item_node item) n) items else filter (λ item. node_same (item_node item) n) items)) [
+      | true ↦ omega (arith, rest)
+      | false ↦ rest
+    ]
 
 after-append : (space : List ℕ) (p q : List PartItem) → space_after_part space (p ++ q) ≡ space_after_part (space_after_part space p) q
 after-append space [] q = refl

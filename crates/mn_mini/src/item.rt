@@ -1,10 +1,15 @@
-ghost use Rattle.std.specs.Prelude.{◌≡◌, IfOk};
+ghost use Rattle.std.specs.Prelude.{◌≡◌, ◌∷◌, [], IfOk};
 
 use crate::SharedBytes;
 use mn_base::{NoMemory, NodeNo, TryCopy};
+use smallvec::SmallVec;
 use std::alloc::Global;
+use std::default::MadeWith;
 use std::marker::Model;
 use std::sync::Arc;
+
+/// How many items lie in a list itself: the plan of a put has three.
+pub const ITEMS_IN_PLACE: usize = 3;
 
 /// An item of a minitransaction, at a range of one node's space: 1 to 4,096 bytes from `start` on.
 #[derive(Debug)]
@@ -48,6 +53,17 @@ impl Drop for Item {
                 start: _start,
                 bytes,
             } => drop(bytes),
+        }
+    }
+}
+
+/// What a place of a list has before an item stands there.
+impl MadeWith<Global> for Item {
+    fn made_with(_alloc: Global) -> Self {
+        Item::Read {
+            node: NodeNo(0),
+            start: 0,
+            length: 0,
         }
     }
 }
@@ -96,7 +112,7 @@ impl TryCopy for Item {
 /// Items in the order given. Copies share one memory. Contracts see them as a list.
 #[derive(Debug, Drop)]
 pub struct Items {
-    items: Arc<Vec<Item>>,
+    items: Arc<SmallVec<Item, ITEMS_IN_PLACE>>,
 }
 
 impl Model for Items {
@@ -111,6 +127,22 @@ impl Model for Items {
 impl Items {
     /// These items. NoMemory: there was no memory to count their owners.
     pub fn from_vec(alloc: Global, items: Vec<Item>) -> Result<Self, NoMemory>
+        ensures { IfOk result (λ list. list ≡ items.items) }
+    {
+        Items::new(alloc, SmallVec::from_vec(items))
+    }
+
+    /// One item. NoMemory: there was no memory for it.
+    pub fn one(alloc: Global, item: Item) -> Result<Self, NoMemory>
+        ensures { IfOk result (λ list. list ≡ item ∷ []) }
+    {
+        let mut items = SmallVec::new(alloc);
+        items.push_reserved(item);
+        Items::new(alloc, items)
+    }
+
+    /// These items. NoMemory: there was no memory for them.
+    pub fn new(alloc: Global, items: SmallVec<Item, ITEMS_IN_PLACE>) -> Result<Self, NoMemory>
         ensures { IfOk result (λ list. list ≡ items.items) }
     {
         Ok(Items {

@@ -4,10 +4,13 @@ ghost use Rattle.std.specs.List.{AllByRecursion, flat_map};
 ghost use Rattle.mn_mini.specs.Mini.{IsSound, IsSoundItem, IsInSpace, is_named, part_of};
 ghost use Rattle.mn_mini.specs.Mini.{participants_of, compare_at, read_at, write_at, item_node};
 ghost use Rattle.mn_base.specs.Ids.{node_numbers, node_same};
+ghost use Rattle.smallvec.specs.SmallVec.{HasRoomFor};
 ghost use Rattle.mn_mini.specs.Refusal.{RefusesItems, IsFirstOutside};
 
+use crate::part::PART_IN_PLACE;
 use crate::{Item, Items, MAX_ITEM, MiniError, Part, PartItem, SPACE};
 use mn_base::{NoMemory, NodeNo, Nodes, TryCopy};
+use smallvec::SmallVec;
 use std::alloc::Global;
 use std::marker::Model;
 
@@ -103,31 +106,36 @@ fn count_at(items: &[Item], at: NodeNo) -> usize
     items.iter().filter(|item| item.node() == at).count()
 }
 
-/// Adds the node's compares, in the order given.
+/// Adds the node's compares, in the order given, where there is room for them.
 fn push_compares(
     alloc: Global,
-    part: &mut Vec<PartItem>,
+    part: &mut SmallVec<PartItem, PART_IN_PLACE>,
     items: &[Item],
     at: NodeNo,
 ) -> Result<(), NoMemory>
-    ensures { OnOk result (part.new.items ≡ part.old.items ++ flat_map (compare_at at) items.now) }
+    requires { HasRoomFor part.old (length (flat_map (compare_at at) items.now)) }
+    ensures items { OnOk result
+        (part.new.items ≡ part.old.items ++ flat_map (compare_at at) items.now) }
+    ensures room { part.new.capacity ≡ part.old.capacity }
 {
     for item in items {
         if let Item::Compare { node, start, bytes } = item
             && *node == at
         {
-            part.push(PartItem::Compare {
+            part.push_reserved(PartItem::Compare {
                 start: *start,
                 bytes: bytes.try_copy(alloc)?,
-            })?;
+            });
         }
     }
     Ok(())
 }
 
-/// Adds the node's reads, in the order given.
-fn push_reads(part: &mut Vec<PartItem>, items: &[Item], at: NodeNo) -> Result<(), NoMemory>
-    ensures { OnOk result (part.new.items ≡ part.old.items ++ flat_map (read_at at) items.now) }
+/// Adds the node's reads, in the order given, where there is room for them.
+fn push_reads(part: &mut SmallVec<PartItem, PART_IN_PLACE>, items: &[Item], at: NodeNo)
+    requires { HasRoomFor part.old (length (flat_map (read_at at) items.now)) }
+    ensures items { part.new.items ≡ part.old.items ++ flat_map (read_at at) items.now }
+    ensures room { part.new.capacity ≡ part.old.capacity }
 {
     for item in items {
         if let Item::Read {
@@ -137,32 +145,34 @@ fn push_reads(part: &mut Vec<PartItem>, items: &[Item], at: NodeNo) -> Result<()
         } = item
             && *node == at
         {
-            part.push(PartItem::Read {
+            part.push_reserved(PartItem::Read {
                 start: *start,
                 length: *length,
-            })?;
+            });
         }
     }
-    Ok(())
 }
 
-/// Adds the node's writes, in the order given.
+/// Adds the node's writes, in the order given, where there is room for them.
 fn push_writes(
     alloc: Global,
-    part: &mut Vec<PartItem>,
+    part: &mut SmallVec<PartItem, PART_IN_PLACE>,
     items: &[Item],
     at: NodeNo,
 ) -> Result<(), NoMemory>
-    ensures { OnOk result (part.new.items ≡ part.old.items ++ flat_map (write_at at) items.now) }
+    requires { HasRoomFor part.old (length (flat_map (write_at at) items.now)) }
+    ensures items { OnOk result
+        (part.new.items ≡ part.old.items ++ flat_map (write_at at) items.now) }
+    ensures room { part.new.capacity ≡ part.old.capacity }
 {
     for item in items {
         if let Item::Write { node, start, bytes } = item
             && *node == at
         {
-            part.push(PartItem::Write {
+            part.push_reserved(PartItem::Write {
                 start: *start,
                 bytes: bytes.try_copy(alloc)?,
-            })?;
+            });
         }
     }
     Ok(())
@@ -223,11 +233,11 @@ impl Minitransaction {
         ensures { IfOk result (λ part. part ≡ part_of self.now node) }
     {
         let items = self.items.as_slice();
-        let mut part = Vec::with_capacity(alloc, count_at(items, node))?;
+        let mut part = SmallVec::with_capacity(alloc, count_at(items, node))?;
         push_compares(alloc, &mut part, items, node)?;
-        push_reads(&mut part, items, node)?;
+        push_reads(&mut part, items, node);
         push_writes(alloc, &mut part, items, node)?;
-        Part::from_vec(alloc, part)
+        Part::new(alloc, part)
     }
 }
 

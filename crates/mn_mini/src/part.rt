@@ -2,9 +2,14 @@ ghost use Rattle.std.specs.Prelude.{◌≡◌, IfOk};
 
 use crate::SharedBytes;
 use mn_base::{NoMemory, TryCopy};
+use smallvec::SmallVec;
 use std::alloc::Global;
+use std::default::MadeWith;
 use std::marker::Model;
 use std::sync::Arc;
+
+/// How many items lie in a part itself: a put has three.
+pub(crate) const PART_IN_PLACE: usize = 3;
 
 /// An item without its node.
 #[derive(Debug)]
@@ -16,6 +21,7 @@ pub enum PartItem {
 
 /// It is let go by a call, which is proved once, and not in place wherever one goes.
 impl Drop for PartItem {
+    #[inline(never)]
     fn drop(self) {
         match self {
             PartItem::Compare {
@@ -30,6 +36,16 @@ impl Drop for PartItem {
                 start: _start,
                 bytes,
             } => drop(bytes),
+        }
+    }
+}
+
+/// What a place of a list has before an item stands there.
+impl MadeWith<Global> for PartItem {
+    fn made_with(_alloc: Global) -> Self {
+        PartItem::Read {
+            start: 0,
+            length: 0,
         }
     }
 }
@@ -57,7 +73,7 @@ impl TryCopy for PartItem {
 /// memory. Contracts see them as a list.
 #[derive(Debug, Drop)]
 pub struct Part {
-    items: Arc<Vec<PartItem>>,
+    items: Arc<SmallVec<PartItem, PART_IN_PLACE>>,
 }
 
 impl Model for Part {
@@ -74,6 +90,16 @@ impl Part {
 
     /// These items. NoMemory: there was no memory to count their owners.
     pub fn from_vec(alloc: Global, items: Vec<PartItem>) -> Result<Self, NoMemory>
+        ensures { IfOk result (λ part. part ≡ items.items) }
+    {
+        Part::new(alloc, SmallVec::from_vec(items))
+    }
+
+    /// These items. NoMemory: there was no memory for them.
+    pub(crate) fn new(
+        alloc: Global,
+        items: SmallVec<PartItem, PART_IN_PLACE>,
+    ) -> Result<Self, NoMemory>
         ensures { IfOk result (λ part. part ≡ items.items) }
     {
         Ok(Part {

@@ -84,7 +84,7 @@ fn first_data(
         return Ok(None);
     }
     let (data, rest) = bytes.split_at(length);
-    Ok(Some((SharedBytes::new(alloc, data.to_vec(alloc)?)?, rest)))
+    Ok(Some((SharedBytes::copy_of(alloc, data)?, rest)))
 }
 
 /// The item that the bytes begin with, if it is of this kind or a later one, and what follows.

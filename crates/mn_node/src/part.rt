@@ -41,7 +41,7 @@ pub fn shared_copy_of(
     requires { start + length ≤ Rattle.std.specs.Prelude.length space.now }
     ensures { IfOk result (λ bytes. bytes ≡ bytes_in space.now start length) }
 {
-    SharedBytes::new(alloc, space.copy_of(alloc, start, length)?)
+    space.shared_copy_of(alloc, start, length)
 }
 
 /// The first compare item that differs.

@@ -4,7 +4,7 @@ ghost use Rattle.mn_page.specs.Base.{base_of};
 ghost use Rattle.mn_page.specs.Grammar.{padded};
 
 use mn_base::{NoMemory, are_zeros};
-use mn_mini::SPACE;
+use mn_mini::{SPACE, SharedBytes};
 use mn_page::base_bytes;
 use std::alloc::Global;
 use std::marker::Model;
@@ -70,6 +70,23 @@ impl Space {
         let mut copy = self.kept_in(start, length).to_vec(alloc)?;
         copy.resize(length, 0)?;
         Ok(copy)
+    }
+
+    /// A copy of the bytes of a range, for copies to share. NoMemory: there was no memory for it.
+    pub fn shared_copy_of(
+        &self,
+        alloc: Global,
+        start: u32,
+        length: usize,
+    ) -> Result<SharedBytes, NoMemory>
+        requires { start + length ≤ Rattle.std.specs.Prelude.length self.now }
+        ensures { IfOk result (λ copy. copy ≡ bytes_in self.now start length) }
+    {
+        let kept = self.kept_in(start, length);
+        if kept.len() == length {
+            return SharedBytes::copy_of(alloc, kept);
+        }
+        SharedBytes::new(alloc, self.copy_of(alloc, start, length)?)
     }
 
     /// Puts bytes over a range. It takes no memory.

@@ -92,7 +92,7 @@ fn write(alloc: Global, start: u32, byte: u8) -> Result<Part, Fail>
     requires { start < space_size }
     ensures { IfOk result IsPart }
 {
-    let bytes = SharedBytes::new(alloc, [byte].to_vec(alloc)?)?;
+    let bytes = SharedBytes::copy_of(alloc, &[byte])?;
     part_of(alloc, PartItem::Write { start, bytes })
 }
 
@@ -100,7 +100,7 @@ fn compare(alloc: Global, start: u32, byte: u8) -> Result<Part, Fail>
     requires { start < space_size }
     ensures { IfOk result IsPart }
 {
-    let bytes = SharedBytes::new(alloc, [byte].to_vec(alloc)?)?;
+    let bytes = SharedBytes::copy_of(alloc, &[byte])?;
     part_of(alloc, PartItem::Compare { start, bytes })
 }
 
@@ -110,11 +110,11 @@ fn vote_part(alloc: Global) -> Result<Part, Fail>
     let mut items = Vec::new(alloc);
     items.push(PartItem::Compare {
         start: 16,
-        bytes: SharedBytes::new(alloc, [0; 8].to_vec(alloc)?)?,
+        bytes: SharedBytes::copy_of(alloc, &[0; 8])?,
     })?;
     items.push(PartItem::Write {
         start: 20_480,
-        bytes: SharedBytes::new(alloc, [0x61].to_vec(alloc)?)?,
+        bytes: SharedBytes::copy_of(alloc, &[0x61])?,
     })?;
     Ok(Part::from_vec(alloc, items)?)
 }

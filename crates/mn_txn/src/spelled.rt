@@ -63,14 +63,14 @@ pub fn entry_bytes(alloc: Global, entry: &CatEntry) -> Result<SharedBytes, NoMem
 {
     let mut bytes = [0u8; 64];
     entry.write(&mut bytes);
-    SharedBytes::new(alloc, bytes.to_vec(alloc)?)
+    SharedBytes::copy_of(alloc, &bytes)
 }
 
 /// The bytes of an unused entry.
 pub fn no_entry_bytes(alloc: Global) -> Result<SharedBytes, NoMemory>
     ensures { IfOk result (λ bytes. bytes ≡ replicate 64 0) }
 {
-    SharedBytes::new(alloc, [0u8; 64].to_vec(alloc)?)
+    SharedBytes::copy_of(alloc, &[0u8; 64])
 }
 
 /// The bytes of a count.
@@ -79,5 +79,5 @@ pub fn count_bytes(alloc: Global, count: u16) -> Result<SharedBytes, NoMemory>
 {
     let mut bytes = [0u8; 8];
     BigEndian::write_u64(&mut bytes, u64::from(count));
-    SharedBytes::new(alloc, bytes.to_vec(alloc)?)
+    SharedBytes::copy_of(alloc, &bytes)
 }

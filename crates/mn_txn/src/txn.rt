@@ -1,5 +1,7 @@
-ghost use Rattle.std.specs.Prelude.{◌≡◌, ◌++◌, [], map, None, IfOk, IfErr, OnOk, OnErr, IsTrue};
+ghost use Rattle.std.specs.Prelude.{◌≡◌, ◌++◌, [], length, map, None, IfOk, IfErr, OnOk, OnErr};
+ghost use Rattle.std.specs.Prelude.{IsTrue};
 ghost use Rattle.std.specs.List.{position_or_len};
+ghost use Rattle.smallvec.specs.SmallVec.{HasRoomFor};
 ghost use Rattle.mn_mini.specs.declared.error.MiniError.TheVariants as mini;
 ghost use Rattle.mn_page.specs.Space.{slot_start};
 ghost use Rattle.mn_txn.specs.declared.error.PlanError.TheVariants as plan;
@@ -14,8 +16,10 @@ use crate::{Image, PlanError};
 use byteorder::{BigEndian, ByteOrder};
 use mn_base::{Addr, NoMemory, NodeNo};
 use mn_mini::{
-    Item, Items, MAX_ITEM, MAX_ITEMS, MAX_NODES, MiniError, Minitransaction, SPACE, SharedBytes,
+    ITEMS_IN_PLACE, Item, Items, MAX_ITEM, MAX_ITEMS, MAX_NODES, MiniError, Minitransaction, SPACE,
+    SharedBytes,
 };
+use smallvec::SmallVec;
 use std::alloc::Global;
 use std::marker::Model;
 
@@ -172,26 +176,28 @@ fn first_worn(dirty: &[Image], reads: &[Image], images: &[Image]) -> Option<(Nod
     None
 }
 
-/// Adds the compare of each image.
-fn push_compares(items: &mut Vec<Item>, images: Vec<Image>) -> Result<(), NoMemory>
-    ensures { OnOk result (items.new.items ≡ items.old.items ++ map compare_of images.items) }
+/// Adds the compare of each image, where there is room for them.
+fn push_compares(items: &mut SmallVec<Item, ITEMS_IN_PLACE>, images: Vec<Image>)
+    requires { HasRoomFor items.old (length images.items) }
+    ensures items { items.new.items ≡ items.old.items ++ map compare_of images.items }
+    ensures room { items.new.capacity ≡ items.old.capacity }
 {
     for image in images {
         let Image { node, start, bytes } = image;
-        items.push(Item::Compare { node, start, bytes })?;
+        items.push_reserved(Item::Compare { node, start, bytes });
     }
-    Ok(())
 }
 
-/// Adds the write of each image.
-fn push_writes(items: &mut Vec<Item>, images: Vec<Image>) -> Result<(), NoMemory>
-    ensures { OnOk result (items.new.items ≡ items.old.items ++ map write_of images.items) }
+/// Adds the write of each image, where there is room for them.
+fn push_writes(items: &mut SmallVec<Item, ITEMS_IN_PLACE>, images: Vec<Image>)
+    requires { HasRoomFor items.old (length images.items) }
+    ensures items { items.new.items ≡ items.old.items ++ map write_of images.items }
+    ensures room { items.new.capacity ≡ items.old.capacity }
 {
     for image in images {
         let Image { node, start, bytes } = image;
-        items.push(Item::Write { node, start, bytes })?;
+        items.push_reserved(Item::Write { node, start, bytes });
     }
-    Ok(())
 }
 
 /// The items that compare these images and write those.
@@ -199,10 +205,10 @@ fn items_of(alloc: Global, reads: Vec<Image>, writes: Vec<Image>) -> Result<Item
     ensures { IfOk result (λ items. items
         ≡ map compare_of reads.items ++ map write_of writes.items) }
 {
-    let mut items = Vec::with_capacity(alloc, reads.len() + writes.len())?;
-    push_compares(&mut items, reads)?;
-    push_writes(&mut items, writes)?;
-    Items::from_vec(alloc, items)
+    let mut items = SmallVec::with_capacity(alloc, reads.len() + writes.len())?;
+    push_compares(&mut items, reads);
+    push_writes(&mut items, writes);
+    Items::new(alloc, items)
 }
 
 /// The answer where the items are sound and there is none yet.
@@ -243,7 +249,7 @@ impl Txn {
         ensures unchanged { OnErr result (self.new ≡ self.old) }
     {
         let start = SLOTS_START + SLOT_SIZE * u32::from(addr.slot);
-        let bytes = SharedBytes::new(alloc, bytes.to_vec(alloc)?)?;
+        let bytes = SharedBytes::copy_of(alloc, bytes)?;
         keep(&mut self.dirty, addr.node, start, bytes)
     }
 

@@ -30,7 +30,7 @@ fn writes(alloc: Global, nodes: &[u8], start: u32, byte: u8) -> Result<Minitrans
         items.push(Item::Write {
             node: NodeNo(*node),
             start,
-            bytes: SharedBytes::new(alloc, [byte].to_vec(alloc)?)?,
+            bytes: SharedBytes::copy_of(alloc, &[byte])?,
         })?;
     }
     Ok(Minitransaction::new(alloc, 2, Items::from_vec(alloc, items)?)?)

@@ -26,7 +26,7 @@ fn writes(alloc: Global) -> Result<Minitransaction, Fail> {
         items.push(Item::Write {
             node: NodeNo(node),
             start: 20_480,
-            bytes: SharedBytes::new(alloc, [97].to_vec(alloc)?)?,
+            bytes: SharedBytes::copy_of(alloc, &[97])?,
         })?;
     }
     Ok(Minitransaction::new(alloc, 2, Items::from_vec(alloc, items)?)?)

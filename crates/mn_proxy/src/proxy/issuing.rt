@@ -41,8 +41,7 @@ fn read_of(alloc: Global, nodes: u8, place: Place) -> Result<Minitransaction, No
         start: place.start,
         length: place.length,
     };
-    let items = Vec::from_array(alloc, [item])?;
-    match Minitransaction::new(alloc, nodes, Items::from_vec(alloc, items)?) {
+    match Minitransaction::new(alloc, nodes, Items::one(alloc, item)?) {
         Ok(mini) => Ok(mini),
         Err(_) => Err(NoMemory),
     }
