@@ -4,7 +4,7 @@ ghost use Rattle.mn_memdisk.specs.Held.{IsBounded, Fits, Follows, shown, undone,
 ghost use Rattle.mn_memdisk.specs.History.{write, lost_write, shorten};
 
 use crate::changes::Change;
-use crate::overwrite::overwrite;
+use crate::overwrite::{append, overwrite};
 use mn_io::make_room;
 use std::alloc::AllocError;
 use std::marker::Model;
@@ -83,9 +83,7 @@ impl Held {
         let count = piece.len();
         let start = at as usize;
         let over = count.min(self.bytes.len() - start);
-        self.saved
-            .extend_from_slice(&self.bytes[start..start + over])
-            .unwrap();
+        append(&mut self.saved, &self.bytes[start..start + over]);
         overwrite(&mut self.bytes, start, piece);
         let before = self.size;
         self.size = before.max(start + count);

@@ -67,7 +67,8 @@ impl Space {
         requires { start + length ≤ Rattle.std.specs.Prelude.length self.now }
         ensures { IfOk result (λ copy. copy.items ≡ bytes_in self.now start length) }
     {
-        let mut copy = self.kept_in(start, length).to_vec(alloc)?;
+        let mut copy = Vec::with_capacity(alloc, length)?;
+        copy.extend_from_slice(self.kept_in(start, length))?;
         copy.resize(length, 0)?;
         Ok(copy)
     }
