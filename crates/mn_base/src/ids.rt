@@ -46,8 +46,8 @@ impl Tid {
     }
 }
 
-/// Bytes of a node's space: the place of the first, and how many.
-#[derive(Clone, Copy, Debug, PartialEq, Eq)]
+/// Bytes of a node's space: the place of the first, and how many; by default none.
+#[derive(Clone, Copy, Debug, Default, PartialEq, Eq)]
 pub struct Range {
     pub start: u32,
     pub length: u32,

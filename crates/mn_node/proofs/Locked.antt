@@ -1,5 +1,5 @@
 -- The parts of held votes, locked one after the other.
-use Rattle.std.proofs.Common.{◌≡◌, ◌+◌, ℕ, Bool, true, false, not, ◌&&◌, List, [], ◌∷◌, ◌++◌, reverse, take, drop, Option, Some, None, refl, ap, sym, ◌∙◌, subst, if◌then◌else◌}
+use Rattle.std.proofs.Common.{◌≡◌, ◌+◌, arith, length, ℕ, Bool, true, false, not, ◌&&◌, List, [], ◌∷◌, ◌++◌, reverse, take, drop, Option, Some, None, refl, ap, sym, ◌∙◌, subst, if◌then◌else◌}
 use Rattle.std.specs.List.{AllByRecursion}
 use Rattle.std.proofs.lemmas.List.{reverse-append, reverse-reverse, take-append-drop}
 use Rattle.mn_base.specs.Ids.{tid_same}
@@ -7,6 +7,7 @@ use Rattle.mn_base.specs.declared.ids.Tid.{Tid}
 use Rattle.mn_base.specs.Ranges.{least_tid}
 use Rattle.mn_base.proofs.Booleans.{or_split}
 use Rattle.mn_mini.specs.declared.part.PartItem.{PartItem}
+use Rattle.mn_mini.specs.declared.part.PartItem.TheVariants.{Compare, Read, Write}
 use Rattle.mn_mini.specs.declared.record.Record.{Record}
 use Rattle.mn_mini.specs.Laws.{PartsAreApart}
 use Rattle.mn_mini.specs.Mini.{item_conflicts_with, parts_conflict}
@@ -20,6 +21,19 @@ use Rattle.mn_node.specs.Held.{IsVoteFor}
 use Rattle.mn_node.specs.Part.{shared_of, alone_of, part_holds, holds_by, as_clash}
 use Rattle.mn_node.proofs.Ties.{holds_by-cons, tie}
 use Rattle.mn_node.proofs.Votes.{first_held_parts, part_sound}
+
+-- each item has one range
+pub ranges_of_items : (items : List PartItem) → length (shared_of items) + length (alone_of items) ≡ length items
+ranges_of_items [] = refl
+ranges_of_items (Compare start bytes ∷ items) =
+    let rest : length (shared_of items) + length (alone_of items) ≡ length items = ranges_of_items items in
+    omega arith
+ranges_of_items (Read start size ∷ items) =
+    let rest : length (shared_of items) + length (alone_of items) ≡ length items = ranges_of_items items in
+    omega arith
+ranges_of_items (Write start bytes ∷ items) =
+    let rest : length (shared_of items) + length (alone_of items) ≡ length items = ranges_of_items items in
+    omega arith
 
 -- A part that stands apart from others is free of them
 

@@ -7,6 +7,7 @@ ghost use Rattle.mn_node.specs.Part.{AreInside, IsMismatch, shared_of, alone_of}
 use crate::space::Space;
 use mn_base::{Bytes, NoMemory, Range};
 use mn_mini::{MAX_ITEMS, PartItem, ReadBytes, Reads, SharedBytes};
+use smallvec::SmallVec;
 use std::alloc::Global;
 
 /// A compare item that differs: its number among the compares, and the bytes in place.
@@ -16,11 +17,14 @@ pub struct Mismatch {
     pub found: Bytes,
 }
 
+/// How many ranges lie in place: those that a put has at a node.
+const FEW: usize = 2;
+
 /// The ranges of a part: those to be held shared, and those to be held alone.
 #[derive(Debug, Drop)]
 pub struct Ranges {
-    pub shared: Vec<Range>,
-    pub alone: Vec<Range>,
+    pub shared: SmallVec<Range, FEW>,
+    pub alone: SmallVec<Range, FEW>,
 }
 
 /// A copy of the bytes of a range.
@@ -105,8 +109,8 @@ pub fn ranges_of(alloc: Global, items: &[PartItem]) -> Result<Ranges, NoMemory>
     ensures shared { IfOk result (λ ranges. ranges.shared.items ≡ shared_of items.now) }
     ensures alone { IfOk result (λ ranges. ranges.alone.items ≡ alone_of items.now) }
 {
-    let mut shared = Vec::with_capacity(alloc, items.len())?;
-    let mut alone = Vec::with_capacity(alloc, items.len())?;
+    let mut shared = SmallVec::new(alloc);
+    let mut alone = SmallVec::new(alloc);
     for item in items {
         match item {
             PartItem::Compare { start, bytes } => shared.push(Range {

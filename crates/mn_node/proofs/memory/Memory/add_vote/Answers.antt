@@ -15,8 +15,8 @@ use Rattle.mn_node.proofs.memory.Memory.add_vote.Goals as goal
 
 pub unwrap-requires : goal.unwrap-requires
 unwrap-requires c =
-    let shared : c.deref.result.now ≡ shared_of c.args.part.now = c.deref.ensures.value ∙ c.requires.shared in
-    let alone : c.deref-2.result.now ≡ alone_of c.args.part.now = c.deref-2.ensures.value ∙ c.requires.alone in
+    let shared : c.deref.result.now ≡ shared_of c.args.part.now = c.deref.ensures ∙ c.requires.shared in
+    let alone : c.deref-2.result.now ≡ alone_of c.args.part.now = c.deref-2.ensures ∙ c.requires.alone in
     is_ok_of c.try_lock.result (held_of c.args.self.now.locks.holds c.args.tid c.deref.result.now c.deref-2.result.now ≡ None)
     (λ held. held_of c.args.self.now.locks.holds c.args.tid c.deref.result.now c.deref-2.result.now ≡ Some held) c.try_lock.ensures.verdict
     (λ held told. not_held (held_parts (reverse c.args.self.now.records.items)) c.args.self.now.locks.holds c.args.tid c.args.part.now c.deref.result.now c.deref-2.result.now held (subst IsRecord c.requires.same c.requires.vote).follows.1 shared alone c.requires.memory.holds_are c.requires.free told)
@@ -28,8 +28,8 @@ returns-clause-memory c =
     let part = c.args.part.now in
     let ps = c.args.participants.now in
     let v : Vote = record { tid = c.args.tid; place = c.len-place.result } in
-    let shared : c.deref.result.now ≡ shared_of part = c.deref.ensures.value ∙ c.requires.shared in
-    let alone : c.deref-2.result.now ≡ alone_of part = c.deref-2.ensures.value ∙ c.requires.alone in
+    let shared : c.deref.result.now ≡ shared_of part = c.deref.ensures ∙ c.requires.shared in
+    let alone : c.deref-2.result.now ≡ alone_of part = c.deref-2.ensures ∙ c.requires.alone in
     let taken : c.try_lock.new.self.holds ≡ m.locks.holds ++ holds_of c.args.tid c.deref.result.now c.deref-2.result.now = rw c.unwrap.ensures at c.try_lock.ensures.taken in
     let holds : c.try_lock.new.self.holds ≡ m.locks.holds ++ holds_of c.args.tid (shared_of part) (alone_of part) = taken ∙ (λ i. m.locks.holds ++ holds_of c.args.tid (shared i) (alone i)) in
     let votes : c.push.new.self.items ≡ m.held.items ++ v ∷ [] = rw c.unwrap-2.ensures at c.push.ensures.items in
