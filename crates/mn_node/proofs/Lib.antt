@@ -1,4 +1,5 @@
 pub mod Spaces
+pub mod Blocks
 pub mod Tids
 pub mod Votes
 pub mod Ties

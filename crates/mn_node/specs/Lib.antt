@@ -1,4 +1,5 @@
 pub mod Part
+pub mod Images
 pub mod Held
 pub mod Memory
 pub mod Node

@@ -4,6 +4,7 @@
 
 mod bodies;
 mod held;
+mod images;
 mod list;
 mod logging;
 mod memory;

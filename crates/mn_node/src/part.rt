@@ -98,7 +98,7 @@ pub fn write_items(space: &mut Space, items: &[PartItem])
 {
     for item in items {
         if let PartItem::Write { start, bytes } = item {
-            space.put(*start, bytes.as_slice());
+            space.put(*start, bytes);
         }
     }
 }

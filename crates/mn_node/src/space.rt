@@ -1,9 +1,12 @@
-ghost use Rattle.std.specs.Prelude.{◌≡◌, ◌≤◌, ◌<◌, ◌+◌, length, bytes_eq, IfOk};
+ghost use Rattle.std.specs.Prelude.{◌≡◌, ◌≤◌, ◌<◌, ◌+◌, length, bytes_eq, vec_capacity};
+ghost use Rattle.std.specs.Prelude.{IfOk, IfSome};
 ghost use Rattle.mn_mini.specs.Flat.{bytes_in, overwritten};
+ghost use Rattle.mn_mini.specs.Mini.{space_size};
 ghost use Rattle.mn_page.specs.Base.{base_of};
 ghost use Rattle.mn_page.specs.Grammar.{padded};
 
-use mn_base::{NoMemory, are_zeros};
+use crate::images::{Images, block_of};
+use mn_base::{NoMemory, TryCopy, are_zeros};
 use mn_mini::{SPACE, SharedBytes};
 use mn_page::base_bytes;
 use std::alloc::Global;
@@ -11,23 +14,43 @@ use std::marker::Model;
 
 /// The space of a node. Contracts see all its bytes. The zeros behind the last byte that was
 /// written aren't kept, so a node uses memory for what it holds alone; but there is room for them,
-/// so a write takes none.
+/// so a write takes none. Beside them stand the images of blocks: a read of a whole block gives the
+/// bytes that were last written there.
 #[derive(Drop)]
 pub struct Space {
     kept: Vec<u8>,
+    images: Images,
 }
 
 impl Model for Space {
     ghost use Rattle.std.specs.Prelude.{◌≤◌, List, ℕ, length, vec_capacity};
     ghost use Rattle.mn_mini.specs.Mini.{space_size};
     ghost use Rattle.mn_page.specs.Grammar.{padded};
+    ghost use Rattle.mn_node.specs.Images.{AreImages};
 
     ghost Value = { List ℕ };
 
     ghost view = { λ s. padded space_size s.kept.items };
 
     ghost invariant = { λ s. (length s.kept.items ≤ space_size)
-        × (space_size ≤ vec_capacity s.kept) };
+        × (space_size ≤ vec_capacity s.kept)
+        × AreImages s.images (padded space_size s.kept.items) };
+}
+
+/// Puts bytes over a range of what is kept, and keeps what it needs for that. It takes no memory.
+fn write(kept: &mut Vec<u8>, start: usize, bytes: &[u8])
+    requires short { length kept.old.items ≤ space_size }
+    requires room { space_size ≤ vec_capacity kept.old }
+    requires within { start + length bytes.now ≤ space_size }
+    ensures bytes { padded space_size kept.new.items
+        ≡ overwritten (padded space_size kept.old.items) start bytes.now }
+    ensures short { length kept.new.items ≤ space_size }
+    ensures room { space_size ≤ vec_capacity kept.new }
+{
+    let end = start + bytes.len();
+    let length = kept.len().max(end);
+    kept.resize(length, 0).unwrap();
+    kept[start..end].copy_from_slice(bytes);
 }
 
 impl Space {
@@ -38,7 +61,10 @@ impl Space {
     {
         let mut kept = base_bytes(alloc, node, nodes)?;
         kept.reserve(SPACE as usize - kept.len())?;
-        Ok(Space { kept })
+        Ok(Space {
+            kept,
+            images: Images::none(alloc)?,
+        })
     }
 
     /// What is kept of a range. What is missing is zeros.
@@ -73,7 +99,16 @@ impl Space {
         Ok(copy)
     }
 
-    /// A copy of the bytes of a range, for copies to share. NoMemory: there was no memory for it.
+    /// The image of a range that is a block.
+    fn image_of(&self, start: u32, length: usize) -> Option<&SharedBytes>
+        ensures { IfSome result (λ image. image.now ≡ bytes_in self.now start length) }
+    {
+        let block = block_of(start as usize, length)?;
+        self.images.at(block)
+    }
+
+    /// The bytes of a range, for copies to share: a block's image or a copy. NoMemory: there was no
+    /// memory for it.
     pub fn shared_copy_of(
         &self,
         alloc: Global,
@@ -83,6 +118,9 @@ impl Space {
         requires { start + length ≤ Rattle.std.specs.Prelude.length self.now }
         ensures { IfOk result (λ copy. copy ≡ bytes_in self.now start length) }
     {
+        if let Some(image) = self.image_of(start, length) {
+            return image.try_copy(alloc);
+        }
         let kept = self.kept_in(start, length);
         if kept.len() == length {
             return SharedBytes::copy_of(alloc, kept);
@@ -91,15 +129,13 @@ impl Space {
     }
 
     /// Puts bytes over a range. It takes no memory.
-    pub fn put(&mut self, start: u32, bytes: &[u8])
+    pub fn put(&mut self, start: u32, bytes: &SharedBytes)
         requires { start + length bytes.now ≤ length self.old }
         ensures bytes { self.new ≡ overwritten self.old start bytes.now }
         ensures whole { length self.new ≡ length self.old }
     {
         let start = start as usize;
-        let end = start + bytes.len();
-        let length = self.kept.len().max(end);
-        self.kept.resize(length, 0).unwrap();
-        self.kept[start..end].copy_from_slice(bytes);
+        write(&mut self.kept, start, bytes.as_slice());
+        self.images.put(start, bytes);
     }
 }
