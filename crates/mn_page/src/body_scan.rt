@@ -9,7 +9,8 @@ ghost use Rattle.mn_page.specs.declared.page.Child.{Child};
 ghost use Rattle.mn_page.specs.Grammar.{pair_bytes};
 ghost use Rattle.mn_page.specs.Reading.{Begins, pair_seen, child_seen, pairs_seen, children_seen};
 ghost use Rattle.mn_page.specs.Reading.{body_seen, ArePairsOf, AreChildrenOf, children_text};
-ghost use Rattle.mn_page.specs.Reading.{IsBodyAt, body_text, HasCounted, HasSizes, pairs_fit, ascends_to};
+ghost use Rattle.mn_page.specs.Reading.{IsBodyAt, body_text, HasCounted, HasSizes};
+ghost use Rattle.mn_page.specs.Reading.{pairs_fit, ascends_to};
 
 use crate::page_ref::{BodyRef, ChildRef, PairRef};
 use crate::scan::{first_addr, first_byte, first_children, first_pairs, is_below};

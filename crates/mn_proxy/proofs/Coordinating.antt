@@ -28,9 +28,8 @@ use Rattle.mn_world.specs.Clients.{is_over, is_read}
 use Rattle.mn_world.specs.Places.{Place}
 use Rattle.mn_world.specs.Planned.{HasPlans}
 use Rattle.mn_world.specs.Shown.{seen_by}
-use Rattle.mn_coord.specs.Coordination.{Coordination, IsSoundStep as IsSoundCoordStep, is_stopped_at_last, participant, stage_in, stage_of, step_at, step_of, try_request}
+use Rattle.mn_coord.specs.Coordination.{Coordination, IsSoundStep as IsSoundCoordStep, is_stopped_at_last, participant, stage_of, step_of, try_request}
 use Rattle.mn_coord.specs.Legal.{Agrees as CoordAgrees, MayMake}
-use Rattle.mn_coord.specs.declared.stage.Stage.{Stage}
 use Rattle.mn_coord.specs.declared.stage.Stage.TheVariants as At
 use Rattle.mn_coord.specs.declared.step.CoordStep.TheVariants.{Send, Abandon, Committed, Failed, Doubt}
 use Rattle.mn_coord.proofs.Legal.{abandon_at}
@@ -41,7 +40,7 @@ use Rattle.mn_proxy.specs.declared.errand.Purpose.TheVariants as by
 use Rattle.mn_work.specs.declared.known.Known.{Known}
 use Rattle.mn_proxy.specs.declared.proxy.retrying.Failure.{Failure}
 use Rattle.mn_proxy.specs.declared.proxy.retrying.Failure.TheVariants as fails
-use Rattle.mn_proxy.specs.declared.proxy.Turn.TheVariants as turns
+use Rattle.mn_proxy.specs.Turn as turns
 use Rattle.mn_proxy.specs.declared.step.ProxyStep.TheVariants as steps
 use Rattle.mn_work.specs.declared.work.Job.{Job}
 use Rattle.mn_work.specs.declared.work.Job.TheVariants as at

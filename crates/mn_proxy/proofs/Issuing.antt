@@ -28,8 +28,8 @@ use Rattle.mn_proxy.specs.declared.errand.Errand.TheVariants as out
 use Rattle.mn_proxy.specs.declared.errand.Purpose.{Purpose}
 use Rattle.mn_proxy.specs.declared.errand.Purpose.TheVariants as by
 use Rattle.mn_work.specs.declared.known.Known.{Known}
-use Rattle.mn_proxy.specs.declared.proxy.Turn.{Turn}
-use Rattle.mn_proxy.specs.declared.proxy.Turn.TheVariants as turns
+use Rattle.mn_proxy.specs.Turn.{Turn}
+use Rattle.mn_proxy.specs.Turn as turns
 use Rattle.mn_proxy.specs.declared.step.ProxyStep.TheVariants as steps
 use Rattle.mn_work.specs.declared.work.Job.{Job}
 use Rattle.mn_work.specs.declared.work.Job.TheVariants as at

@@ -22,8 +22,8 @@ use Rattle.mn_work.specs.declared.next.Next.{Next}
 use Rattle.mn_work.specs.declared.next.Next.TheVariants as wants_next
 use Rattle.mn_work.specs.declared.next.Taken.{Taken}
 use Rattle.mn_work.specs.declared.place.Place.{Place}
-use Rattle.mn_proxy.specs.declared.proxy.Turn.{Turn}
-use Rattle.mn_proxy.specs.declared.proxy.Turn.TheVariants as turns
+use Rattle.mn_proxy.specs.Turn.{Turn}
+use Rattle.mn_proxy.specs.Turn as turns
 use Rattle.mn_proxy.specs.declared.step.ProxyStep.{ProxyStep}
 use Rattle.mn_work.specs.declared.work.Work.{Work}
 use Rattle.mn_work.specs.Cached.{AreUsed, Walks, without_next}
@@ -131,6 +131,7 @@ turns_then read later late_then before middle after taken result puts late turn 
     leave : (r : Result Turn NoMemory) → TurnLeaves late_then r turn.used after → TurnLeaves later r turn.used after
     leave (Ok (turns.Goes step work errand)) leaves = leaves
     leave (Ok (turns.Ends answer)) leaves = absurd leaves
+    leave (Ok turns.Stops) leaves = absurd leaves
     leave (Err none) (is, gone) = (late is, gone)
 
     by : ((after ≡ turn.used) ⊎ TurnLeaves late_then result turn.used after)
@@ -151,6 +152,7 @@ pub catalog_stays : {E : Type 0} (before after : Option (List CatEntry)) (result
     → IfOk result (CatalogTurns None before after)
 catalog_stays before after (Ok (turns.Goes step work errand)) same = inl same
 catalog_stays before after (Ok (turns.Ends answer)) same = same
+catalog_stays before after (Ok turns.Stops) same = same
 catalog_stays before after (Err none) same = tt
 
 -- as it was, or as it was read, before a turn
@@ -159,6 +161,7 @@ pub catalog_then : {E : Type 0} (read : Option (Purpose × List ℕ)) (before mi
     → IfOk result (CatalogTurns read before after)
 catalog_then read before middle after (Err none) keeps goes = tt
 catalog_then read before middle after (Ok (turns.Ends answer)) keeps same = subst (KeepsRead read before) (sym same) keeps
+catalog_then read before middle after (Ok turns.Stops) keeps same = subst (KeepsRead read before) (sym same) keeps
 catalog_then read before middle after (Ok (turns.Goes step work errand)) keeps (inl same) = inl (subst (KeepsRead read before) (sym same) keeps)
 catalog_then read before middle after (Ok (turns.Goes step work errand)) keeps (inr later) = inr later
 

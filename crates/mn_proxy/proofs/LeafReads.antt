@@ -1,6 +1,7 @@
 -- A lone Get whose path is current reads its leaf alone, which ends it.
 use Rattle.std.proofs.Common.{◌≡◌, ℕ, Bool, true, false, List, [], ◌∷◌, Option, Some, sym, subst, ap, ◌∙◌, inl, inr, arith}
 use Rattle.std.specs.Prelude.{IfOk, MatchOption, Result, Ok, Err}
+use Rattle.mn_base.specs.declared.answer.Answer.{Answer}
 use Rattle.mn_base.specs.declared.ids.Addr.{Addr}
 use Rattle.mn_base.specs.declared.op.Op.{Op}
 use Rattle.mn_base.specs.declared.op.Op.TheVariants.{Tx}
@@ -17,8 +18,7 @@ use Rattle.mn_proxy.specs.declared.errand.Errand.TheVariants as out
 use Rattle.mn_proxy.specs.declared.errand.Purpose.{Purpose}
 use Rattle.mn_proxy.specs.declared.errand.Purpose.TheVariants as by
 use Rattle.mn_work.specs.declared.next.Taken.{Taken}
-use Rattle.mn_proxy.specs.declared.proxy.Turn.{Turn}
-use Rattle.mn_proxy.specs.declared.proxy.Turn.TheVariants as turns
+use Rattle.mn_proxy.specs.Turn.{Turn}
 use Rattle.mn_proxy.specs.Kept.{Issues, Reads, read_by}
 use Rattle.mn_proxy.specs.State.{ProxyState}
 use Rattle.mn_proxy.specs.Turns.{CameOf, read_mini}
@@ -129,20 +129,20 @@ module _ (q p : ProxyState) (same : q ≡ p) (w : Work) (e : Errand) (under : q.
       (ap (λ (x : Work × Errand). x.0) pairs, ap (λ (x : Work × Errand). x.1) pairs)
 
   -- its leaf ends the operation
-  pub leaf_ends : (turn : Turn) → ((leaf : HasLeaf q.known w (read_by e)) → turn ≡ turns.Ends (shown_by q.known w (read_by e) leaf))
+  pub leaf_ends : (P : Answer → Type 0) → ((leaf : HasLeaf q.known w (read_by e)) → P (shown_by q.known w (read_by e) leaf))
       → (v : Work) (f : Errand) → p.work ≡ Some (v, f)
-      → (leaf : HasLeaf p.known v (read_by f)) → turn ≡ turns.Ends (shown_by p.known v (read_by f) leaf)
-  leaf_ends turn ends v f is =
-      subst (λ (x : ProxyState). (leaf : HasLeaf x.known v (read_by f)) → turn ≡ turns.Ends (shown_by x.known v (read_by f) leaf)) same
-      (subst (λ (g : Errand). (leaf : HasLeaf q.known v (read_by g)) → turn ≡ turns.Ends (shown_by q.known v (read_by g) leaf)) (under_as v f is).1
-      (subst (λ (x : Work). (leaf : HasLeaf q.known x (read_by e)) → turn ≡ turns.Ends (shown_by q.known x (read_by e) leaf)) (under_as v f is).0 ends))
+      → (leaf : HasLeaf p.known v (read_by f)) → P (shown_by p.known v (read_by f) leaf)
+  leaf_ends P ends v f is =
+      subst (λ (x : ProxyState). (leaf : HasLeaf x.known v (read_by f)) → P (shown_by x.known v (read_by f) leaf)) same
+      (subst (λ (g : Errand). (leaf : HasLeaf q.known v (read_by g)) → P (shown_by q.known v (read_by g) leaf)) (under_as v f is).1
+      (subst (λ (x : Work). (leaf : HasLeaf q.known x (read_by e)) → P (shown_by q.known x (read_by e) leaf)) (under_as v f is).0 ends))
 
   -- where its path is current it reads its leaf
-  pub path_reads : (turn : Turn)
-      → ((op : Op) (leaf : Descent) → w ≡ new_work op → e ≡ out.Nothing → HasCurrentPath q.known op leaf → ReadsLeaf q.known.nodes op leaf turn)
+  pub path_reads : (P : ℕ → Op → Descent → Type 0)
+      → ((op : Op) (leaf : Descent) → w ≡ new_work op → e ≡ out.Nothing → HasCurrentPath q.known op leaf → P q.known.nodes op leaf)
       → (op : Op) (leaf : Descent) → p.work ≡ Some (new_work op, out.Nothing) → HasCurrentPath p.known op leaf
-      → ReadsLeaf p.known.nodes op leaf turn
-  path_reads turn reads op leaf is path =
+      → P p.known.nodes op leaf
+  path_reads P reads op leaf is path =
       let begun = under_as (new_work op) out.Nothing is in
-      subst (λ (x : ProxyState). ReadsLeaf x.known.nodes op leaf turn) same
+      subst (λ (x : ProxyState). P x.known.nodes op leaf) same
       (reads op leaf begun.0 begun.1 (subst (λ (x : ProxyState). HasCurrentPath x.known op leaf) (sym same) path))

@@ -3,6 +3,7 @@ pub mod Answered
 pub mod CatalogsShow
 pub mod ChildrenShow
 pub mod Coordinating
+pub mod Ended
 pub mod Sending
 pub mod Feeding
 pub mod GetsShow
@@ -19,5 +20,6 @@ pub mod Shown
 pub mod StepsShow
 pub mod Taking
 pub mod Tries
+pub mod Turned
 pub mod Turning
 pub mod Wanting

@@ -19,16 +19,13 @@ use Rattle.mn_proxy.specs.Measure.{Falls, GoesBelow, left_after, left_at, left_f
 use Rattle.mn_base.specs.declared.ids.Tid.{Tid}
 use Rattle.mn_proxy.specs.declared.errand.Errand.{Errand}
 use Rattle.mn_proxy.specs.declared.errand.Errand.TheVariants as out
-use Rattle.mn_proxy.specs.declared.errand.Purpose.{Purpose}
-use Rattle.mn_proxy.specs.declared.proxy.Turn.{Turn}
-use Rattle.mn_proxy.specs.declared.proxy.Turn.TheVariants as turns
-use Rattle.mn_work.specs.declared.place.Place.{Place}
+use Rattle.mn_proxy.specs.Turn.{Turn}
+use Rattle.mn_proxy.specs.Turn as turns
 use Rattle.mn_proxy.specs.declared.step.ProxyStep.{ProxyStep}
 use Rattle.mn_proxy.specs.declared.step.ProxyStep.TheVariants as steps
 use Rattle.mn_work.specs.declared.work.Work.{Work}
 use Rattle.mn_proxy.specs.State.{IsOutIn, ProxyState}
 use Rattle.mn_proxy.specs.Turns.{IsFed, IsOutFor, with_known, with_work}
-use Rattle.mn_proxy.proofs.Opens.{with_serial}
 
 -- Serials and Peeks
 
@@ -282,16 +279,14 @@ issue_falls issued peeks c more few done decided quiet =
         (new_few (length (participants_of c.mini)) (stage_in c) (few_participants c.mini few))))
 
 -- so it goes on with fewer steps, under the proxy's own names
-pub issue_goes : (p q : ProxyState) (w : Work) (purpose : Purpose) (mini copy : Mini) (tid : Tid)
-    (c : Coordination) (step : ProxyStep) (turn : Turn) → q ≡ p → q.issued < 4294967295 → q.known.nodes ≤ 8
+pub issue_goes : (p q : ProxyState) (mini copy : Mini) (tid : Tid)
+    (c : Coordination) → q ≡ p → q.issued < 4294967295 → q.known.nodes ≤ 8
     → mini.nodes ≡ p.known.nodes → copy ≡ mini → c ≡ new_coordination tid copy
-    → turn ≡ turns.Goes step w (out.Mini tid c purpose)
-    → GoesBelow (left_after p) (with_serial q q.work) turn
-issue_goes p q w purpose mini copy tid c step turn same more few nodes copied new goes =
-    subst (GoesBelow (left_after p) (with_serial q q.work)) (sym goes)
-    (subst (λ (x : ProxyState). left_by (q.issued + 1) PEEKS + left_of c < left_after x) same
+    → left_by (q.issued + 1) PEEKS + left_of c < left_after p
+issue_goes p q mini copy tid c same more few nodes copied new =
+    subst (λ (x : ProxyState). left_by (q.issued + 1) PEEKS + left_of c < left_after x) same
     (issue_falls q.issued q.peeks c more nodes_few (ap (λ (x : Coordination). x.done) new)
-    (ap (λ (x : Coordination). x.decided) new) (ap (λ (x : Coordination). x.asked) new)))
+    (ap (λ (x : Coordination). x.decided) new) (ap (λ (x : Coordination). x.asked) new))
   where
     nodes_are : c.mini.nodes ≡ q.known.nodes
     nodes_are = ap (λ (x : Coordination). x.mini.nodes) new ∙ (ap (λ (m : Mini). m.nodes) copied ∙ (nodes ∙ ap (λ (x : ProxyState). x.known.nodes) (sym same)))
@@ -305,6 +300,7 @@ issue_goes p q w purpose mini copy tid c step turn same more few nodes copied ne
 pub goes_within : (a b : ℕ) (p : ProxyState) (turn : Turn) → a ≤ b → GoesBelow a p turn → GoesBelow b p turn
 goes_within a b p (turns.Goes step w errand) more goes = omega arith
 goes_within a b p (turns.Ends answer) more goes = tt
+goes_within a b p turns.Stops more goes = absurd goes
 
 pub within_ok : {E : Type 0} (a b : ℕ) (p : ProxyState) (r : Result Turn E) → a ≤ b
     → IfOk r (GoesBelow a p) → IfOk r (GoesBelow b p)
@@ -312,13 +308,11 @@ within_ok a b p (Ok turn) more goes = goes_within a b p turn more goes
 within_ok a b p (Err e) more goes = tt
 
 -- a Peek is one fewer, under the proxy's own names
-pub peek_goes : (p q : ProxyState) (w : Work) (place : Place) (purpose : Purpose) (step : ProxyStep)
-    (turn : Turn) → q ≡ p → 1 ≤ p.peeks → turn ≡ turns.Goes step w (out.Peek place purpose)
-    → GoesBelow (left_after p) (record q { peeks = q.peeks - 1 }) turn
-peek_goes p q w place purpose step turn same some goes =
-    subst (GoesBelow (left_after p) (record q { peeks = q.peeks - 1 })) (sym goes)
-    (subst (λ (x : ProxyState). left_by q.issued (q.peeks - 1) + 0 < left_after x) same
-    (falls (peek_falls q.issued q.peeks (subst (λ (x : ProxyState). 1 ≤ x.peeks) (sym same) some))))
+pub peek_goes : (p q : ProxyState) → q ≡ p → 1 ≤ p.peeks
+    → left_by q.issued (q.peeks - 1) + 0 < left_after p
+peek_goes p q same some =
+    subst (λ (x : ProxyState). left_by q.issued (q.peeks - 1) + 0 < left_after x) same
+    (falls (peek_falls q.issued q.peeks (subst (λ (x : ProxyState). 1 ≤ x.peeks) (sym same) some)))
   where
     falls : left_by q.issued (q.peeks - 1) < left_by q.issued q.peeks
         → left_by q.issued (q.peeks - 1) + 0 < left_by q.issued q.peeks

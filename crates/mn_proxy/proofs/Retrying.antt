@@ -12,7 +12,7 @@ use Rattle.mn_world.specs.declared.entry.Entry.{Entry}
 use Rattle.mn_world.specs.Answers.{FailedTries, ShowsAnswer, nodes_of}
 use Rattle.mn_world.specs.Calls.{issues_of, since_begin}
 use Rattle.mn_work.specs.declared.known.Known.{Known}
-use Rattle.mn_proxy.specs.declared.proxy.Turn.TheVariants as turns
+use Rattle.mn_proxy.specs.Turn as turns
 use Rattle.mn_work.specs.declared.work.Job.{Job}
 use Rattle.mn_work.specs.declared.work.Job.TheVariants as at
 use Rattle.mn_work.specs.declared.work.Work.{Work}

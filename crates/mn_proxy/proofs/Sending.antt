@@ -12,8 +12,8 @@ use Rattle.mn_world.specs.declared.entry.Entry.{Entry}
 use Rattle.mn_proxy.specs.declared.errand.Errand.{Errand}
 use Rattle.mn_proxy.specs.declared.errand.Errand.TheVariants as out
 use Rattle.mn_proxy.specs.declared.errand.Purpose.{Purpose}
-use Rattle.mn_proxy.specs.declared.proxy.Turn.{Turn}
-use Rattle.mn_proxy.specs.declared.proxy.Turn.TheVariants as turns
+use Rattle.mn_proxy.specs.Turn.{Turn}
+use Rattle.mn_proxy.specs.Turn as turns
 use Rattle.mn_proxy.specs.declared.step.ProxyStep.{ProxyStep}
 use Rattle.mn_proxy.specs.declared.step.ProxyStep.TheVariants as steps
 use Rattle.mn_work.specs.declared.known.Known.{Known}

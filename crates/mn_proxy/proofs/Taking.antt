@@ -44,8 +44,9 @@ use Rattle.mn_proxy.specs.State.{ProxyState}
 use Rattle.mn_proxy.specs.Tries.{HasAsked, HasNoLeaf, IsTrying, max_tries}
 use Rattle.mn_proxy.specs.Turns.{CameOf, HasFailed, IsSoundInside, IsSoundUnderWay, KeepsSelf, Leaves, TurnAgrees, WaitsFor, with_known}
 use Rattle.mn_proxy.specs.declared.proxy.Proxy.TheInside.{Inside}
-use Rattle.mn_proxy.specs.declared.proxy.Turn.{Turn}
-use Rattle.mn_proxy.specs.declared.proxy.Turn.TheVariants as turns
+use Rattle.mn_proxy.specs.Turn.{Turn, turned}
+use Rattle.mn_proxy.specs.declared.step.ProxyStep.{ProxyStep}
+use Rattle.mn_proxy.specs.Turn as turns
 use Rattle.mn_work.specs.Walks.{FailsBy, IfLater, is_later, seen_page}
 use Rattle.mn_work.specs.Works.{AsksCountFor, AsksPageFor, IsJobIn, IsJobOf, IsScan, IsStartable, JobCounts, JobTakes, KeepsOp}
 use Rattle.mn_work.specs.Works.{TakesCatalog, TakesCountBytes, TakesPageBytes, counts_of, retried_job}
@@ -913,9 +914,8 @@ module _ (es : List Entry) (q p : ProxyState) (same : q ≡ p) (new : Known) (be
       (tells_as after taken (Taken.Replies reply) is waits closed over came)))
 
 -- of a turn that was made then
-pub kept_as : (q p r : ProxyState) (new : Known) (purpose : Purpose) (bytes : List ℕ) → q ≡ p
-    → Leaves q.known new purpose bytes → KeepsSelf (with_known q new) r × (r.work ≡ None)
-    → KeepsSelf p r × (r.work ≡ None)
+pub kept_as : {A : Type 0} (q p r : ProxyState) (new : Known) (purpose : Purpose) (bytes : List ℕ) → q ≡ p
+    → Leaves q.known new purpose bytes → KeepsSelf (with_known q new) r × A → KeepsSelf p r × A
 kept_as q p r new purpose bytes same leaves keeps = (
   (
     keeps.0.0 ∙ ap (λ (x : ProxyState). x.client) same,
@@ -950,11 +950,18 @@ module _ (q p : ProxyState) (same : q ≡ p) (new : Known) (before after : Work)
       subst (λ (n : ℕ). n < max_tries) (sym (came_keeps p.known new before after purpose bytes taken came_by).1) few
 
 -- where there was no memory
-pub none_made : (result : Result Turn NoMemory) (P : Turn → Type 0) → IsErr result → IfOk result P
-none_made (Ok turn) P is = absurd cc
-none_made (Err none) P is = tt
+pub none_made : (work : Option (Work × Errand)) (result : Result ProxyStep NoMemory) (P : Turn → Type 0)
+    → IsErr result → IfOk (turned work result) P
+none_made work (Ok step) P is = absurd cc
+none_made work (Err none) P is = tt
+
+-- the same of the turn
+pub none_turned : (work : Option (Work × Errand)) (result : Result ProxyStep NoMemory) → IsErr result
+    → IsErr (turned work result)
+none_turned work (Ok step) is = absurd cc
+none_turned work (Err none) is = is
 
 -- what is so whatever came of it
-pub none_left : (result : Result Turn NoMemory) (A : Type 0) → A → OnErr result A
-none_left (Ok turn) A a = tt
+pub none_left : {T : Type 0} (result : Result T NoMemory) (A : Type 0) → A → OnErr result A
+none_left (Ok made) A a = tt
 none_left (Err none) A a = a

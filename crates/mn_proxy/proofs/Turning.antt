@@ -8,8 +8,8 @@ use Rattle.mn_world.specs.declared.entry.What.TheVariants.{Abandoned, Answered, 
 use Rattle.mn_world.specs.Calls.{begun_of}
 use Rattle.mn_world.specs.Clients.{ClientAllows, last_number}
 use Rattle.mn_proxy.specs.declared.errand.Errand.{Errand}
-use Rattle.mn_proxy.specs.declared.proxy.Turn.{Turn}
-use Rattle.mn_proxy.specs.declared.proxy.Turn.TheVariants as turns
+use Rattle.mn_proxy.specs.Turn.{Turn}
+use Rattle.mn_proxy.specs.Turn as turns
 use Rattle.mn_proxy.specs.declared.step.ProxyStep.{ProxyStep}
 use Rattle.mn_proxy.specs.declared.step.ProxyStep.TheVariants as steps
 use Rattle.mn_work.specs.declared.work.Work.{Work}
@@ -35,7 +35,7 @@ turn_errand es p q w errand same is agrees =
 
 -- Another state of the same client
 
-step_of_same : (es : List Entry) (p q : ProxyState) (step : ProxyStep) → q.client ≡ p.client
+pub step_of_same : (es : List Entry) (p q : ProxyState) (step : ProxyStep) → q.client ≡ p.client
     → MayStep es q step → MayStep es p step
 step_of_same es p q (steps.Issue tid mini) same may =
     (subst (λ (k : ClientNo). ClientAllows k es None (Issue tid mini)) same may.0, may.1)
@@ -43,7 +43,7 @@ step_of_same es p q (steps.Abandon tid) same may = may
 step_of_same es p q (steps.Call node request) same may = may
 step_of_same es p q (steps.Done answer) same may = may
 
-enters_of_same : (es new : List Entry) (p q : ProxyState) (step : ProxyStep) → p.client ≡ q.client
+pub enters_of_same : (es new : List Entry) (p q : ProxyState) (step : ProxyStep) → p.client ≡ q.client
     → Enters es p step new → Enters es q step new
 enters_of_same es new p q (steps.Issue tid mini) same (e, own, is) =
     (e, subst (λ (k : ClientNo). IsOwnEntry k (Issue tid mini) e) same own, is)

@@ -32,7 +32,7 @@ use Rattle.mn_proxy.specs.Issues.{AreClosed, AreIssues}
 use Rattle.mn_work.specs.Knows.{KeepsKnown}
 use Rattle.mn_proxy.specs.State.{ProxyState}
 use Rattle.mn_proxy.specs.Tries.{HasAsked, IsTrying}
-use Rattle.mn_proxy.specs.declared.proxy.Turn.TheVariants as turns
+use Rattle.mn_proxy.specs.Turn as turns
 use Rattle.mn_proxy.specs.Turns.{FailedNow, HasFailed, KeepsSelf, MayIssue, TurnAgrees, with_known}
 use Rattle.mn_work.specs.Walks.{FailsBy, IfLater}
 use Rattle.mn_work.specs.Works.{AsksCountFor, IsJobOf, KeepsOp, WantsNext, counts_of}
@@ -250,8 +250,8 @@ pub own_self : (es : List Entry) (p q : ProxyState) → q ≡ with_known p q.kno
     → KeepsKnown p.known q.known → IsOwn es p → IsOwn es q
 own_self es p q same keeps own = subst (IsOwn es) (sym same) (own_known es p q.known keeps own)
 
-pub kept_self : (p q n : ProxyState) → q ≡ with_known p q.known → KeepsKnown p.known q.known
-    → KeepsSelf q n × (n.work ≡ None) → KeepsSelf p n × (n.work ≡ None)
+pub kept_self : {A : Type 0} (p q n : ProxyState) → q ≡ with_known p q.known
+    → KeepsKnown p.known q.known → KeepsSelf q n × A → KeepsSelf p n × A
 kept_self p q n same keeps k = (
   (
     k.0.0 ∙ ap (λ (s : ProxyState). s.client) same,

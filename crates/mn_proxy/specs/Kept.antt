@@ -21,8 +21,8 @@ use Rattle.mn_proxy.specs.declared.errand.Errand.{Errand}
 use Rattle.mn_proxy.specs.declared.errand.Errand.TheVariants as out
 use Rattle.mn_proxy.specs.declared.errand.Purpose.{Purpose}
 use Rattle.mn_proxy.specs.declared.errand.Purpose.TheVariants as by
-use Rattle.mn_proxy.specs.declared.proxy.Turn.{Turn}
-use Rattle.mn_proxy.specs.declared.proxy.Turn.TheVariants as turns
+use Rattle.mn_proxy.specs.Turn.{Turn}
+use Rattle.mn_proxy.specs.Turn as turns
 use Rattle.mn_proxy.specs.declared.step.ProxyStep.{ProxyStep}
 use Rattle.mn_proxy.specs.declared.step.ProxyStep.TheVariants as steps
 use Rattle.mn_work.specs.declared.work.Work.{Work}
@@ -75,6 +75,7 @@ abbrev pub TurnLeaves : Bool → Result Turn NoMemory → List (Addr × Page) �
 TurnLeaves later (Ok (turns.Goes step work errand)) before after =
     LeavesBy step (Some (work, errand)) before after
 TurnLeaves later (Ok (turns.Ends answer)) before after = ⊥
+TurnLeaves later (Ok turns.Stops) before after = ⊥
 TurnLeaves later (Err none) before after = LeavesFor later before after
 
 -- what was read is put in, then some are used, and one may leave; in a later try or not
@@ -106,6 +107,7 @@ abbrev pub CatalogTurns : Option (Purpose × List ℕ) → Option (List CatEntry
 CatalogTurns read before after (turns.Goes step work errand) =
     KeepsRead read before after ⊎ ((after ≡ None) × BeginsLater step (Some (work, errand)))
 CatalogTurns read before after (turns.Ends answer) = KeepsRead read before after
+CatalogTurns read before after turns.Stops = KeepsRead read before after
 
 -- Steps
 
@@ -150,6 +152,7 @@ Issues work purpose mini turn =
 abbrev pub GoesWith : Work → Turn → Type 0
 GoesWith work (turns.Goes step after errand) = after ≡ work
 GoesWith work (turns.Ends answer) = ⊥
+GoesWith work turns.Stops = ⊥
 
 -- a place is read by this minitransaction; or, where it may be, by a Peek
 abbrev pub Reads : Bool → Work → Purpose → Mini → Turn → Type 0

@@ -6,4 +6,5 @@ pub mod LeafReads
 pub mod Measure
 pub mod State
 pub mod Tries
+pub mod Turn
 pub mod Turns

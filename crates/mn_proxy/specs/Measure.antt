@@ -9,8 +9,8 @@ use Rattle.mn_coord.specs.declared.stage.Stage.TheVariants as At
 use Rattle.mn_mini.specs.Mini.{participants_of}
 use Rattle.mn_proxy.specs.declared.errand.Errand.{Errand}
 use Rattle.mn_proxy.specs.declared.errand.Errand.TheVariants as out
-use Rattle.mn_proxy.specs.declared.proxy.Turn.{Turn}
-use Rattle.mn_proxy.specs.declared.proxy.Turn.TheVariants as turns
+use Rattle.mn_proxy.specs.Turn.{Turn}
+use Rattle.mn_proxy.specs.Turn as turns
 use Rattle.mn_proxy.specs.declared.step.ProxyStep.{ProxyStep}
 use Rattle.mn_proxy.specs.declared.step.ProxyStep.TheVariants as steps
 use Rattle.mn_work.specs.declared.work.Work.{Work}
@@ -71,3 +71,4 @@ Falls before after step = steps_left after < steps_left before
 abbrev pub GoesBelow : ℕ → ProxyState → Turn → Type 0
 GoesBelow steps p (turns.Goes step work errand) = steps_left (with_work p work errand) < steps
 GoesBelow steps p (turns.Ends answer) = ⊤
+GoesBelow steps p turns.Stops = ⊥

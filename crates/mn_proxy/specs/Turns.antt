@@ -33,8 +33,8 @@ use Rattle.mn_work.specs.declared.next.Taken.{Taken}
 use Rattle.mn_proxy.specs.declared.proxy.retrying.Failure.{Failure}
 use Rattle.mn_proxy.specs.declared.proxy.retrying.Failure.TheVariants as fails
 use Rattle.mn_proxy.specs.declared.proxy.Proxy.TheInside.{Inside}
-use Rattle.mn_proxy.specs.declared.proxy.Turn.{Turn}
-use Rattle.mn_proxy.specs.declared.proxy.Turn.TheVariants as turns
+use Rattle.mn_proxy.specs.Turn.{Turn}
+use Rattle.mn_proxy.specs.Turn as turns
 use Rattle.mn_proxy.specs.declared.step.ProxyStep.{ProxyStep}
 use Rattle.mn_proxy.specs.declared.step.ProxyStep.TheVariants as steps
 use Rattle.mn_work.specs.declared.work.Work.{Work}
@@ -132,6 +132,7 @@ abbrev pub IsSoundTurn : Known → Turn → Type 0
 IsSoundTurn known (turns.Goes step work errand) =
     IsSoundWork known work errand × IsSoundStep known.nodes step × IsOutAs step work errand
 IsSoundTurn known (turns.Ends answer) = ⊤
+IsSoundTurn known turns.Stops = ⊥
 
 -- the client may make the step, and its list with that agrees with what the turn leaves
 abbrev pub TurnAgrees : List Entry → ProxyState → Turn → Type 0
@@ -141,6 +142,7 @@ TurnAgrees es p (turns.Goes step work errand) =
 TurnAgrees es p (turns.Ends answer) =
     MayStep es p (steps.Done answer)
     × ((new : List Entry) → Enters es p (steps.Done answer) new → IsOwn new p)
+TurnAgrees es p turns.Stops = ⊥
 
 -- Tries that failed
 

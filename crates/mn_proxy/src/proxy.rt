@@ -12,7 +12,6 @@ ghost use Rattle.mn_world.specs.declared.entry.Entry.{Entry};
 ghost use Rattle.mn_proxy.specs.declared.errand.Errand.TheVariants as errands;
 ghost use Rattle.mn_proxy.specs.declared.errand.Purpose.{Purpose};
 ghost use Rattle.mn_work.specs.declared.get.Descent.{Descent};
-ghost use Rattle.mn_proxy.specs.declared.proxy.Turn.TheVariants as turns;
 ghost use Rattle.mn_work.specs.declared.work.Work.{Work};
 ghost use Rattle.mn_proxy.specs.Agrees.{Agrees, BeginsNext, Enters, EntersWant, ErrandAgrees};
 ghost use Rattle.mn_proxy.specs.Agrees.{HasOut, IsOwn, IsSoundStep, MayStep, MayWant, Wants};
@@ -26,6 +25,7 @@ ghost use Rattle.mn_proxy.specs.State.{IsIdle, IsOut, IsOutIn, IsReady, begun, n
 ghost use Rattle.mn_proxy.specs.Turns.{IsSoundTurn, IsSoundWork, KeepsSelf};
 ghost use Rattle.mn_proxy.specs.Turns.{IsSentWhole, IsSentWholeIn, OwesNoDecide, Sends, TurnAgrees};
 ghost use Rattle.mn_proxy.specs.Turns.{with_work};
+ghost use Rattle.mn_proxy.specs.Turn.{turned};
 ghost use Rattle.mn_work.specs.Walks.{is_later};
 ghost use Rattle.mn_work.specs.Works.{new_work};
 
@@ -44,21 +44,6 @@ mod taking;
 /// The most Peeks between two minitransactions: more than a try can ask for, and a bound of the
 /// steps of an operation.
 const PEEKS: u16 = 4_096;
-
-/// How an operation goes on.
-#[derive(Debug, Drop)]
-enum Turn {
-    /// By this step.
-    Goes {
-        step: ProxyStep,
-        work: Task,
-        errand: Errand,
-    },
-    /// It is answered.
-    Ends {
-        answer: Answer,
-    },
-}
 
 /// The proxy of a client, which runs its operations one after another.
 pub struct Proxy {
@@ -105,20 +90,6 @@ impl Model for Proxy {
     } };
 
     ghost invariant = { IsSoundInside };
-}
-
-#[inline(always)]
-fn goes(step: ProxyStep, work: Task, errand: Errand) -> Turn
-    ensures { result ≡ turns.Goes step work errand }
-{
-    Turn::Goes { step, work, errand }
-}
-
-#[inline(always)]
-fn ends(answer: Answer) -> Turn
-    ensures { result ≡ turns.Ends answer }
-{
-    Turn::Ends { answer }
 }
 
 impl Proxy {
@@ -204,13 +175,7 @@ impl Proxy {
                 let Some((work, errand)) = self.work.take() else {
                     return Err(NoMemory);
                 };
-                match self.turn(alloc, work, errand)? {
-                    Turn::Goes { step, work, errand } => {
-                        self.work = Some((work, errand));
-                        Ok(step)
-                    }
-                    Turn::Ends { answer } => Ok(ProxyStep::Done { answer }),
-                }
+                self.turn(alloc, work, errand)
             }
         }
     }
@@ -232,29 +197,31 @@ impl Proxy {
 
     /// Goes on with what is on its way.
     #[inline(always)]
-    fn turn(&mut self, alloc: Global, work: Task, errand: Errand) -> Result<Turn, NoMemory>
+    fn turn(&mut self, alloc: Global, work: Task, errand: Errand) -> Result<ProxyStep, NoMemory>
         requires idle { self.old.work ≡ None }
         requires ready { IsOutIn (Some (work, errand)) → ⊥ }
         requires whole { IsSentWhole errand }
         requires sound { IsSoundWork self.old.known work errand }
-        ensures sound { IfOk result (IsSoundTurn self.new.known) }
+        ensures sound { IfOk (turned self.new.work result) (IsSoundTurn self.new.known) }
         ensures turns { (es : List Entry) → IsOwn es self.old
-            → ErrandAgrees es self.old.known work errand → IfOk result (TurnAgrees es self.new) }
+            → ErrandAgrees es self.old.known work errand
+            → IfOk (turned self.new.work result) (TurnAgrees es self.new) }
         ensures want { (es : List Entry) → IsOwn es self.old
             → ErrandAgrees es self.old.known work errand → OnErr result (MayWant es) }
         ensures left { (es : List Entry) → IsOwn es self.old
             → ErrandAgrees es self.old.known work errand → OnErr result (IsOwn es self.new) }
-        ensures kept { KeepsSelf self.old self.new × (self.new.work ≡ None) }
-        ensures falls { IfOk result
+        ensures kept { KeepsSelf self.old self.new × OnErr result (self.new.work ≡ None) }
+        ensures falls { IfOk (turned self.new.work result)
             (GoesBelow (steps_left (with_work self.old work errand)) self.new) }
         ensures cache { CacheTurns (read_by errand) (is_later work.failed)
-            self.old.known.cache self.new.known.cache result }
-        ensures catalog { IfOk result
+            self.old.known.cache self.new.known.cache (turned self.new.work result) }
+        ensures catalog { IfOk (turned self.new.work result)
             (CatalogTurns (read_by errand) self.old.known.catalog self.new.known.catalog) }
         ensures path { (op : Op) (leaf : Descent) → (work ≡ new_work op)
             → errand ≡ errands.Nothing → HasCurrentPath self.old.known op leaf
-            → IfOk result (ReadsLeaf self.old.known.nodes op leaf) }
-        ensures leaf { LeafTurns self.old.known work (read_by errand) result }
+            → IfOk (turned self.new.work result) (ReadsLeaf self.old.known.nodes op leaf) }
+        ensures leaf { LeafTurns self.old.known work (read_by errand)
+            (turned self.new.work result) }
     {
         match errand {
             Errand::Nothing => self.advance(alloc, work),

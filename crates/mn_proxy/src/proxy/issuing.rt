@@ -19,10 +19,11 @@ ghost use Rattle.mn_work.specs.Places.{place_of};
 ghost use Rattle.mn_proxy.specs.Tries.{max_tries};
 ghost use Rattle.mn_proxy.specs.Turns.{IsSoundTurn, KeepsSelf, MayIssue, TurnAgrees, WaitsFor};
 ghost use Rattle.mn_proxy.specs.Turns.{read_mini, with_known};
+ghost use Rattle.mn_proxy.specs.Turn.{turned};
 ghost use Rattle.mn_work.specs.Walks.{is_later};
 ghost use Rattle.mn_work.specs.Works.{IsJobOf, IsStartable, KeepsOp, WantsNext, new_work};
 
-use super::{PEEKS, Proxy, Turn, ends, goes};
+use super::{PEEKS, Proxy};
 use crate::errand::{Errand, Purpose};
 use crate::step::ProxyStep;
 use mn_base::{NoMemory, Tid, TryCopy};
@@ -77,23 +78,24 @@ fn causes_are_shown()
 impl Proxy {
     /// Goes on with what the try wants next.
     #[inline(always)]
-    pub(super) fn advance(&mut self, alloc: Global, work: Task) -> Result<Turn, NoMemory>
+    pub(super) fn advance(&mut self, alloc: Global, work: Task) -> Result<ProxyStep, NoMemory>
         requires idle { self.old.work ≡ None }
         requires few { work.failed < max_tries }
         requires job { IsJobOf self.old.known work }
-        ensures sound { IfOk result (IsSoundTurn self.new.known) }
+        ensures sound { IfOk (turned self.new.work result) (IsSoundTurn self.new.known) }
         ensures turns { (es : List Entry) → IsOwn es self.old → IsAtRest es self.old.known work
-            → IfOk result (TurnAgrees es self.new) }
+            → IfOk (turned self.new.work result) (TurnAgrees es self.new) }
         ensures left { (es : List Entry) → IsOwn es self.old → OnErr result (IsOwn es self.new) }
-        ensures kept { KeepsSelf self.old self.new × (self.new.work ≡ None) }
-        ensures falls { IfOk result (GoesBelow (left_after self.old) self.new) }
+        ensures kept { KeepsSelf self.old self.new × OnErr result (self.new.work ≡ None) }
+        ensures falls { IfOk (turned self.new.work result)
+            (GoesBelow (left_after self.old) self.new) }
         ensures cache { CacheTurns None (is_later work.failed)
-            self.old.known.cache self.new.known.cache result }
-        ensures catalog { IfOk result
+            self.old.known.cache self.new.known.cache (turned self.new.work result) }
+        ensures catalog { IfOk (turned self.new.work result)
             (CatalogTurns None self.old.known.catalog self.new.known.catalog) }
         ensures path { (op : Op) (leaf : Descent) → (work ≡ new_work op)
             → HasCurrentPath self.old.known op leaf
-            → IfOk result (ReadsLeaf self.old.known.nodes op leaf) }
+            → IfOk (turned self.new.work result) (ReadsLeaf self.old.known.nodes op leaf) }
     {
         causes_are_shown();
         let mut work = work;
@@ -108,7 +110,7 @@ impl Proxy {
             }
             Next::Plan { mini, reply } => self.issue(alloc, work, mini, Purpose::Plan { reply }),
             Next::Fails { cause } => self.fail(alloc, work, cause),
-            Next::Answers { answer } => Ok(ends(answer)),
+            Next::Answers { answer } => Ok(ProxyStep::Done { answer }),
         }
     }
 
@@ -141,19 +143,20 @@ impl Proxy {
 
     /// Reads the catalog.
     #[inline(always)]
-    pub(super) fn read_catalog(&mut self, alloc: Global, work: Task) -> Result<Turn, NoMemory>
+    pub(super) fn read_catalog(&mut self, alloc: Global, work: Task) -> Result<ProxyStep, NoMemory>
         requires idle { self.old.work ≡ None }
         requires few { work.failed < max_tries }
         requires job { IsJobOf self.old.known work }
         requires startable { IsStartable work.op work.job }
-        ensures sound { IfOk result (IsSoundTurn self.new.known) }
+        ensures sound { IfOk (turned self.new.work result) (IsSoundTurn self.new.known) }
         ensures turns { (es : List Entry) → IsOwn es self.old → IsAtRest es self.old.known work
-            → IfOk result (TurnAgrees es self.new) }
+            → IfOk (turned self.new.work result) (TurnAgrees es self.new) }
         ensures left { (es : List Entry) → IsOwn es self.old → OnErr result (IsOwn es self.new) }
-        ensures kept { KeepsSelf self.old self.new × (self.new.work ≡ None) }
-        ensures falls { IfOk result (GoesBelow (left_after self.old) self.new) }
+        ensures kept { KeepsSelf self.old self.new × OnErr result (self.new.work ≡ None) }
+        ensures falls { IfOk (turned self.new.work result)
+            (GoesBelow (left_after self.old) self.new) }
         ensures known { self.new.known ≡ self.old.known }
-        ensures reads { IfOk result
+        ensures reads { IfOk (turned self.new.work result)
             (Issues work purposes.Catalog (read_mini self.old.known.nodes catalog_place)) }
     {
         self.has_nodes();
@@ -169,21 +172,22 @@ impl Proxy {
         place: Place,
         peek: bool,
         purpose: Purpose,
-    ) -> Result<Turn, NoMemory>
+    ) -> Result<ProxyStep, NoMemory>
         requires idle { self.old.work ≡ None }
         requires few { work.failed < max_tries }
         requires waits { WaitsFor self.old.known work purpose }
         requires node { place.node.0 < self.old.known.nodes }
-        ensures sound { IfOk result (IsSoundTurn self.new.known) }
+        ensures sound { IfOk (turned self.new.work result) (IsSoundTurn self.new.known) }
         ensures turns { (es : List Entry) → IsOwn es self.old → IsAtRest es self.old.known work
             → IsPlaceFor work.job purpose (place_of place)
             → (peek ≡ true → (work.failed ≡ 0) × MayPeekFor work.job purpose)
-            → IfOk result (TurnAgrees es self.new) }
+            → IfOk (turned self.new.work result) (TurnAgrees es self.new) }
         ensures left { (es : List Entry) → IsOwn es self.old → OnErr result (IsOwn es self.new) }
-        ensures kept { KeepsSelf self.old self.new × (self.new.work ≡ None) }
-        ensures falls { IfOk result (GoesBelow (left_after self.old) self.new) }
+        ensures kept { KeepsSelf self.old self.new × OnErr result (self.new.work ≡ None) }
+        ensures falls { IfOk (turned self.new.work result)
+            (GoesBelow (left_after self.old) self.new) }
         ensures known { self.new.known ≡ self.old.known }
-        ensures reads { IfOk result
+        ensures reads { IfOk (turned self.new.work result)
             (Reads peek work purpose (read_mini self.old.known.nodes (place_of place))) }
     {
         if !self.may_peek(peek) {
@@ -202,22 +206,23 @@ impl Proxy {
 
     /// Reads a place by a Peek.
     #[inline(always)]
-    fn peek(&mut self, work: Task, place: Place, purpose: Purpose) -> Result<Turn, NoMemory>
+    fn peek(&mut self, work: Task, place: Place, purpose: Purpose) -> Result<ProxyStep, NoMemory>
         requires idle { self.old.work ≡ None }
         requires few { work.failed < max_tries }
         requires waits { WaitsFor self.old.known work purpose }
         requires node { place.node.0 < self.old.known.nodes }
         requires left { 1 ≤ self.old.peeks }
-        ensures sound { IfOk result (IsSoundTurn self.new.known) }
+        ensures sound { IfOk (turned self.new.work result) (IsSoundTurn self.new.known) }
         ensures turns { (es : List Entry) → IsOwn es self.old → IsAtRest es self.old.known work
             → IsPlaceFor work.job purpose (place_of place)
             → (work.failed ≡ 0) × MayPeekFor work.job purpose
-            → IfOk result (TurnAgrees es self.new) }
+            → IfOk (turned self.new.work result) (TurnAgrees es self.new) }
         ensures left { (es : List Entry) → IsOwn es self.old → OnErr result (IsOwn es self.new) }
-        ensures kept { KeepsSelf self.old self.new × (self.new.work ≡ None) }
-        ensures falls { IfOk result (GoesBelow (left_after self.old) self.new) }
+        ensures kept { KeepsSelf self.old self.new × OnErr result (self.new.work ≡ None) }
+        ensures falls { IfOk (turned self.new.work result)
+            (GoesBelow (left_after self.old) self.new) }
         ensures known { self.new.known ≡ self.old.known }
-        ensures reads { IfOk result (GoesWith work) }
+        ensures reads { IfOk (turned self.new.work result) (GoesWith work) }
     {
         if !is_in_space(&place) {
             return Err(NoMemory);
@@ -230,8 +235,8 @@ impl Proxy {
                 length: place.length,
             },
         };
-        let errand = Errand::Peek { place, purpose };
-        Ok(goes(step, work, errand))
+        self.work = Some((work, Errand::Peek { place, purpose }));
+        Ok(step)
     }
 
     /// Issues a minitransaction under the next serial.
@@ -242,19 +247,21 @@ impl Proxy {
         work: Task,
         mini: Minitransaction,
         purpose: Purpose,
-    ) -> Result<Turn, NoMemory>
+    ) -> Result<ProxyStep, NoMemory>
         requires idle { self.old.work ≡ None }
         requires few { work.failed < max_tries }
         requires waits { WaitsFor self.old.known work purpose }
         requires nodes { mini.nodes ≡ self.old.known.nodes }
-        ensures sound { IfOk result (IsSoundTurn self.new.known) }
+        ensures sound { IfOk (turned self.new.work result) (IsSoundTurn self.new.known) }
         ensures turns { (es : List Entry) → IsOwn es self.old
-            → MayIssue es self.old.known work purpose mini → IfOk result (TurnAgrees es self.new) }
+            → MayIssue es self.old.known work purpose mini
+            → IfOk (turned self.new.work result) (TurnAgrees es self.new) }
         ensures left { (es : List Entry) → IsOwn es self.old → OnErr result (IsOwn es self.new) }
-        ensures kept { KeepsSelf self.old self.new × (self.new.work ≡ None) }
-        ensures falls { IfOk result (GoesBelow (left_after self.old) self.new) }
+        ensures kept { KeepsSelf self.old self.new × OnErr result (self.new.work ≡ None) }
+        ensures falls { IfOk (turned self.new.work result)
+            (GoesBelow (left_after self.old) self.new) }
         ensures known { self.new.known ≡ self.old.known }
-        ensures issues { IfOk result (Issues work purpose mini) }
+        ensures issues { IfOk (turned self.new.work result) (Issues work purpose mini) }
     {
         is_sound(&mini);
         if self.issued == u32::MAX {
@@ -273,6 +280,7 @@ impl Proxy {
             coordinator,
             purpose,
         };
-        Ok(goes(ProxyStep::Issue { tid, mini }, work, errand))
+        self.work = Some((work, errand));
+        Ok(ProxyStep::Issue { tid, mini })
     }
 }

@@ -7,9 +7,11 @@ ghost use Rattle.mn_proxy.specs.Measure.{GoesBelow, left_after};
 ghost use Rattle.mn_proxy.specs.Tries.{max_tries};
 ghost use Rattle.mn_proxy.specs.Turns.{FailsSo, HasFailed, IsRefused, IsSoundTurn, KeepsSelf};
 ghost use Rattle.mn_proxy.specs.Turns.{MayRetry, TurnAgrees};
+ghost use Rattle.mn_proxy.specs.Turn.{turned};
 ghost use Rattle.mn_work.specs.Works.{IsStartable, retried_job};
 
-use super::{Proxy, Turn, ends};
+use super::Proxy;
+use crate::step::ProxyStep;
 use mn_base::{Answer, Busy, NoMemory, NodeNo, Tid};
 use mn_coord::Outcome;
 use mn_mini::{Minitransaction, NodeReply};
@@ -76,23 +78,26 @@ impl Proxy {
         tid: Tid,
         node: NodeNo,
         outcome: Outcome,
-    ) -> Result<Turn, NoMemory>
+    ) -> Result<ProxyStep, NoMemory>
         requires idle { self.old.work ≡ None }
         requires few { work.failed < max_tries }
         requires startable { IsStartable work.op (retried_job work.job) }
-        ensures sound { IfOk result (IsSoundTurn self.new.known) }
+        ensures sound { IfOk (turned self.new.work result) (IsSoundTurn self.new.known) }
         ensures turns { (es : List Entry) → IsOwn es self.old
             → IsRefused es self.old.known work tid outcome.mini node outcome.reply
-            → IfOk result (TurnAgrees es self.new) }
+            → IfOk (turned self.new.work result) (TurnAgrees es self.new) }
         ensures left { (es : List Entry) → IsOwn es self.old → OnErr result (IsOwn es self.new) }
-        ensures kept { KeepsSelf self.old self.new × (self.new.work ≡ None) }
-        ensures falls { IfOk result (GoesBelow (left_after self.old) self.new) }
+        ensures kept { KeepsSelf self.old self.new × OnErr result (self.new.work ≡ None) }
+        ensures falls { IfOk (turned self.new.work result)
+            (GoesBelow (left_after self.old) self.new) }
         ensures cache { self.new.known.cache ≡ self.old.known.cache }
-        ensures catalog { IfOk result
+        ensures catalog { IfOk (turned self.new.work result)
             (CatalogTurns None self.old.known.catalog self.new.known.catalog) }
     {
         match failure_of(alloc, tid, node, outcome)? {
-            Failure::Down => Ok(ends(Answer::Down { node })),
+            Failure::Down => Ok(ProxyStep::Done {
+                answer: Answer::Down { node },
+            }),
             Failure::Refused { cause } => self.fail(alloc, work, cause),
         }
     }
@@ -105,41 +110,46 @@ impl Proxy {
         alloc: Global,
         work: Task,
         cause: Option<Busy>,
-    ) -> Result<Turn, NoMemory>
+    ) -> Result<ProxyStep, NoMemory>
         requires idle { self.old.work ≡ None }
         requires few { work.failed < max_tries }
         requires startable { IsStartable work.op (retried_job work.job) }
-        ensures sound { IfOk result (IsSoundTurn self.new.known) }
+        ensures sound { IfOk (turned self.new.work result) (IsSoundTurn self.new.known) }
         ensures turns { (es : List Entry) → IsOwn es self.old
-            → HasFailed es self.old.known work cause → IfOk result (TurnAgrees es self.new) }
+            → HasFailed es self.old.known work cause
+            → IfOk (turned self.new.work result) (TurnAgrees es self.new) }
         ensures left { (es : List Entry) → IsOwn es self.old → OnErr result (IsOwn es self.new) }
-        ensures kept { KeepsSelf self.old self.new × (self.new.work ≡ None) }
-        ensures falls { IfOk result (GoesBelow (left_after self.old) self.new) }
+        ensures kept { KeepsSelf self.old self.new × OnErr result (self.new.work ≡ None) }
+        ensures falls { IfOk (turned self.new.work result)
+            (GoesBelow (left_after self.old) self.new) }
         ensures cache { self.new.known.cache ≡ self.old.known.cache }
-        ensures catalog { IfOk result
+        ensures catalog { IfOk (turned self.new.work result)
             (CatalogTurns None self.old.known.catalog self.new.known.catalog) }
     {
         match cause {
             None if work.get().is_later() => Err(NoMemory),
-            Some(cause) if work.get().failed + 1 >= TRIES => Ok(ends(Answer::Busy { cause })),
+            Some(cause) if work.get().failed + 1 >= TRIES => Ok(ProxyStep::Done {
+                answer: Answer::Busy { cause },
+            }),
             _ => self.retry(alloc, work),
         }
     }
 
     /// Begins a later try.
     #[inline(always)]
-    fn retry(&mut self, alloc: Global, work: Task) -> Result<Turn, NoMemory>
+    fn retry(&mut self, alloc: Global, work: Task) -> Result<ProxyStep, NoMemory>
         requires idle { self.old.work ≡ None }
         requires few { work.failed + 1 < max_tries }
         requires startable { IsStartable work.op (retried_job work.job) }
-        ensures sound { IfOk result (IsSoundTurn self.new.known) }
+        ensures sound { IfOk (turned self.new.work result) (IsSoundTurn self.new.known) }
         ensures turns { (es : List Entry) → IsOwn es self.old → MayRetry es self.old.known work
-            → IfOk result (TurnAgrees es self.new) }
+            → IfOk (turned self.new.work result) (TurnAgrees es self.new) }
         ensures left { (es : List Entry) → IsOwn es self.old → OnErr result (IsOwn es self.new) }
-        ensures kept { KeepsSelf self.old self.new × (self.new.work ≡ None) }
-        ensures falls { IfOk result (GoesBelow (left_after self.old) self.new) }
+        ensures kept { KeepsSelf self.old self.new × OnErr result (self.new.work ≡ None) }
+        ensures falls { IfOk (turned self.new.work result)
+            (GoesBelow (left_after self.old) self.new) }
         ensures cache { self.new.known.cache ≡ self.old.known.cache }
-        ensures catalog { IfOk result
+        ensures catalog { IfOk (turned self.new.work result)
             (CatalogTurns None self.old.known.catalog self.new.known.catalog) }
     {
         let mut work = work;

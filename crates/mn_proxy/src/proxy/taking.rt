@@ -1,5 +1,6 @@
 //! How an operation goes on by what came: a Peek, or a minitransaction under way.
 ghost use Rattle.std.specs.Prelude.{◌≡◌, ◌<◌, ◌+◌, List, IfOk, OnErr, None, Some, false};
+ghost use Rattle.std.specs.Prelude.{option_map};
 ghost use Rattle.mn_coord.specs.Coordination.{step_of};
 ghost use Rattle.mn_world.specs.declared.entry.Entry.{Entry};
 ghost use Rattle.mn_world.specs.Calls.{since_begin};
@@ -15,23 +16,36 @@ ghost use Rattle.mn_proxy.specs.LeafReads.{LeafTurns};
 ghost use Rattle.mn_proxy.specs.Tries.{max_tries};
 ghost use Rattle.mn_proxy.specs.Turns.{CameOf, IsCommitted, IsEnd, IsSoundTurn, KeepsSelf, Leaves};
 ghost use Rattle.mn_proxy.specs.Turns.{TurnAgrees, WaitsFor, read_alone};
+ghost use Rattle.mn_proxy.specs.Turn.{turned};
 ghost use Rattle.mn_work.specs.Walks.{is_later};
 
-use super::{Proxy, Turn, ends};
+use super::Proxy;
 use crate::errand::Purpose;
-use mn_base::{Answer, NoMemory, Tid};
-use mn_coord::{CoordStep, Coordinator, Outcome};
-use mn_mini::{NodeReply, ReadBytes, SharedBytes};
+use crate::step::ProxyStep;
+use mn_base::{Answer, NoMemory, Tid, TryCopy};
+use mn_coord::{CoordStep, Coordinator};
+use mn_mini::{NodeReply, ReadBytes, Reads, SharedBytes};
 use mn_work::{Known, Place, Taken, Task};
 use std::alloc::Global;
 
 /// What a minitransaction of one read item has read.
-#[inline(never)]
-fn only_read(outcome: Outcome) -> Option<ReadBytes>
-    ensures { result ≡ read_alone outcome.reads }
+fn only_read(reads: &[Reads]) -> Option<&ReadBytes>
+    ensures { option_map (λ b. b.now) result ≡ read_alone reads.now }
 {
-    let reads = outcome.reads;
-    reads.into_only()?.into_only()
+    let [one] = reads else { return None };
+    let [bytes] = one.as_slice() else { return None };
+    Some(bytes)
+}
+
+/// The same, for copies to share. NoMemory: it has read none alone, or there was no memory.
+#[inline(never)]
+fn shared_read(alloc: Global, reads: &[Reads]) -> Result<SharedBytes, NoMemory>
+    ensures { IfOk result (λ bytes. read_alone reads.now ≡ Some bytes) }
+{
+    match only_read(reads) {
+        Some(bytes) => bytes.try_copy(alloc)?.into_shared(alloc),
+        None => Err(NoMemory),
+    }
 }
 
 /// Takes what was read for this purpose.
@@ -68,34 +82,37 @@ impl Proxy {
         place: Place,
         reply: NodeReply,
         purpose: Purpose,
-    ) -> Result<Turn, NoMemory>
+    ) -> Result<ProxyStep, NoMemory>
         requires idle { self.old.work ≡ None }
         requires few { work.failed < max_tries }
         requires waits { WaitsFor self.old.known work purpose }
-        ensures sound { IfOk result (IsSoundTurn self.new.known) }
+        ensures sound { IfOk (turned self.new.work result) (IsSoundTurn self.new.known) }
         ensures turns { (es : List Entry) → IsOwn es self.old
             → ErrandAgrees es self.old.known work (errands.Peeked place reply purpose)
-            → IfOk result (TurnAgrees es self.new) }
+            → IfOk (turned self.new.work result) (TurnAgrees es self.new) }
         ensures want { (es : List Entry) → IsOwn es self.old
             → ErrandAgrees es self.old.known work (errands.Peeked place reply purpose)
             → OnErr result (MayWant es) }
         ensures left { (es : List Entry) → IsOwn es self.old
             → ErrandAgrees es self.old.known work (errands.Peeked place reply purpose)
             → OnErr result (IsOwn es self.new) }
-        ensures kept { KeepsSelf self.old self.new × (self.new.work ≡ None) }
-        ensures falls { IfOk result (GoesBelow (left_after self.old) self.new) }
+        ensures kept { KeepsSelf self.old self.new × OnErr result (self.new.work ≡ None) }
+        ensures falls { IfOk (turned self.new.work result)
+            (GoesBelow (left_after self.old) self.new) }
         ensures cache { CacheTurns
             (read_by (errands.Peeked place reply purpose)) (is_later work.failed)
-            self.old.known.cache self.new.known.cache result }
-        ensures catalog { IfOk result
+            self.old.known.cache self.new.known.cache (turned self.new.work result) }
+        ensures catalog { IfOk (turned self.new.work result)
             (CatalogTurns (read_by (errands.Peeked place reply purpose))
             self.old.known.catalog self.new.known.catalog) }
         ensures leaf { LeafTurns self.old.known work
-            (read_by (errands.Peeked place reply purpose)) result }
+            (read_by (errands.Peeked place reply purpose)) (turned self.new.work result) }
     {
         match reply {
             NodeReply::Peeked { bytes } => self.take(alloc, work, purpose, bytes),
-            NodeReply::Down => Ok(ends(Answer::Down { node: place.node })),
+            NodeReply::Down => Ok(ProxyStep::Done {
+                answer: Answer::Down { node: place.node },
+            }),
             _reply => Err(NoMemory),
         }
     }
@@ -109,44 +126,45 @@ impl Proxy {
         tid: Tid,
         coordinator: Coordinator,
         purpose: Purpose,
-    ) -> Result<Turn, NoMemory>
+    ) -> Result<ProxyStep, NoMemory>
         requires idle { self.old.work ≡ None }
         requires quiet { coordinator.asked ≡ false }
         requires ended { IsEnd (step_of coordinator) }
         requires few { work.failed < max_tries }
         requires nodes { coordinator.mini.nodes ≡ self.old.known.nodes }
         requires waits { WaitsFor self.old.known work purpose }
-        ensures sound { IfOk result (IsSoundTurn self.new.known) }
+        ensures sound { IfOk (turned self.new.work result) (IsSoundTurn self.new.known) }
         ensures turns { (es : List Entry) → IsOwn es self.old
             → MiniAgrees es self.old.known work tid coordinator purpose
-            → IfOk result (TurnAgrees es self.new) }
+            → IfOk (turned self.new.work result) (TurnAgrees es self.new) }
         ensures want { (es : List Entry) → IsOwn es self.old
             → MiniAgrees es self.old.known work tid coordinator purpose
             → OnErr result (MayWant es) }
         ensures left { (es : List Entry) → IsOwn es self.old
             → MiniAgrees es self.old.known work tid coordinator purpose
             → OnErr result (IsOwn es self.new) }
-        ensures kept { KeepsSelf self.old self.new × (self.new.work ≡ None) }
-        ensures falls { IfOk result
+        ensures kept { KeepsSelf self.old self.new × OnErr result (self.new.work ≡ None) }
+        ensures falls { IfOk (turned self.new.work result)
             (GoesBelow (left_after self.old + left_of coordinator) self.new) }
         ensures cache { CacheTurns
             (read_when (step_of coordinator) coordinator.reads purpose) (is_later work.failed)
-            self.old.known.cache self.new.known.cache result }
-        ensures catalog { IfOk result
+            self.old.known.cache self.new.known.cache (turned self.new.work result) }
+        ensures catalog { IfOk (turned self.new.work result)
             (CatalogTurns (read_when (step_of coordinator) coordinator.reads purpose)
             self.old.known.catalog self.new.known.catalog) }
         ensures leaf { LeafTurns self.old.known work
-            (read_when (step_of coordinator) coordinator.reads purpose) result }
+            (read_when (step_of coordinator) coordinator.reads purpose)
+            (turned self.new.work result) }
     {
         let mut coordinator = coordinator;
         match coordinator.next() {
-            CoordStep::Committed => {
-                self.commit(alloc, work, coordinator.into_outcome(), purpose)
-            }
+            CoordStep::Committed => self.commit(alloc, work, coordinator.reads(), purpose),
             CoordStep::Failed { node } => {
                 self.refuse(alloc, work, tid, node, coordinator.into_outcome())
             }
-            CoordStep::Doubt { node } => Ok(ends(Answer::InDoubt { tid, node })),
+            CoordStep::Doubt { node } => Ok(ProxyStep::Done {
+                answer: Answer::InDoubt { tid, node },
+            }),
             CoordStep::Send {
                 node: _node,
                 request: _request,
@@ -161,39 +179,40 @@ impl Proxy {
         &mut self,
         alloc: Global,
         work: Task,
-        outcome: Outcome,
+        reads: &[Reads],
         purpose: Purpose,
-    ) -> Result<Turn, NoMemory>
+    ) -> Result<ProxyStep, NoMemory>
         requires idle { self.old.work ≡ None }
         requires few { work.failed < max_tries }
         requires waits { WaitsFor self.old.known work purpose }
-        ensures sound { IfOk result (IsSoundTurn self.new.known) }
+        ensures sound { IfOk (turned self.new.work result) (IsSoundTurn self.new.known) }
         ensures turns { (es : List Entry) → IsOwn es self.old
-            → IsCommitted es self.old.known work outcome.reads purpose
-            → IfOk result (TurnAgrees es self.new) }
+            → IsCommitted es self.old.known work reads.now purpose
+            → IfOk (turned self.new.work result) (TurnAgrees es self.new) }
         ensures want { (es : List Entry) → IsOwn es self.old
-            → IsCommitted es self.old.known work outcome.reads purpose
+            → IsCommitted es self.old.known work reads.now purpose
             → OnErr result (MayWant es) }
         ensures left { (es : List Entry) → IsOwn es self.old
-            → IsCommitted es self.old.known work outcome.reads purpose
+            → IsCommitted es self.old.known work reads.now purpose
             → OnErr result (IsOwn es self.new) }
-        ensures kept { KeepsSelf self.old self.new × (self.new.work ≡ None) }
-        ensures falls { IfOk result (GoesBelow (left_after self.old) self.new) }
-        ensures cache { CacheTurns (read_for purpose outcome.reads) (is_later work.failed)
-            self.old.known.cache self.new.known.cache result }
-        ensures catalog { IfOk result
-            (CatalogTurns (read_for purpose outcome.reads)
+        ensures kept { KeepsSelf self.old self.new × OnErr result (self.new.work ≡ None) }
+        ensures falls { IfOk (turned self.new.work result)
+            (GoesBelow (left_after self.old) self.new) }
+        ensures cache { CacheTurns (read_for purpose reads.now) (is_later work.failed)
+            self.old.known.cache self.new.known.cache (turned self.new.work result) }
+        ensures catalog { IfOk (turned self.new.work result)
+            (CatalogTurns (read_for purpose reads.now)
             self.old.known.catalog self.new.known.catalog) }
-        ensures leaf { LeafTurns self.old.known work (read_for purpose outcome.reads) result }
+        ensures leaf { LeafTurns self.old.known work (read_for purpose reads.now)
+            (turned self.new.work result) }
     {
         match purpose {
-            Purpose::Plan { reply } => Ok(ends(Answer::Replied { reply })),
-            purpose => match only_read(outcome) {
-                Some(bytes) => match bytes.into_shared(alloc) {
-                    Ok(bytes) => self.take(alloc, work, purpose, bytes),
-                    Err(_) => Err(NoMemory),
-                },
-                None => Err(NoMemory),
+            Purpose::Plan { reply } => Ok(ProxyStep::Done {
+                answer: Answer::Replied { reply },
+            }),
+            purpose => match shared_read(alloc, reads) {
+                Ok(bytes) => self.take(alloc, work, purpose, bytes),
+                Err(_) => Err(NoMemory),
             },
         }
     }
@@ -206,25 +225,27 @@ impl Proxy {
         work: Task,
         purpose: Purpose,
         bytes: SharedBytes,
-    ) -> Result<Turn, NoMemory>
+    ) -> Result<ProxyStep, NoMemory>
         requires idle { self.old.work ≡ None }
         requires few { work.failed < max_tries }
         requires waits { WaitsFor self.old.known work purpose }
-        ensures sound { IfOk result (IsSoundTurn self.new.known) }
+        ensures sound { IfOk (turned self.new.work result) (IsSoundTurn self.new.known) }
         ensures turns { (es : List Entry) → IsOwn es self.old
             → HasRead es self.old.known work purpose bytes → AreClosed (since_begin es)
             → AreOverNodes self.old.known.nodes work.failed (since_begin es)
-            → IfOk result (TurnAgrees es self.new) }
+            → IfOk (turned self.new.work result) (TurnAgrees es self.new) }
         ensures left { (es : List Entry) → IsOwn es self.old
             → HasRead es self.old.known work purpose bytes → OnErr result (IsOwn es self.new) }
-        ensures kept { KeepsSelf self.old self.new × (self.new.work ≡ None) }
-        ensures falls { IfOk result (GoesBelow (left_after self.old) self.new) }
+        ensures kept { KeepsSelf self.old self.new × OnErr result (self.new.work ≡ None) }
+        ensures falls { IfOk (turned self.new.work result)
+            (GoesBelow (left_after self.old) self.new) }
         ensures cache { CacheTurns (Some (purpose, bytes)) (is_later work.failed)
-            self.old.known.cache self.new.known.cache result }
-        ensures catalog { IfOk result
+            self.old.known.cache self.new.known.cache (turned self.new.work result) }
+        ensures catalog { IfOk (turned self.new.work result)
             (CatalogTurns (Some (purpose, bytes))
             self.old.known.catalog self.new.known.catalog) }
-        ensures leaf { LeafTurns self.old.known work (Some (purpose, bytes)) result }
+        ensures leaf { LeafTurns self.old.known work (Some (purpose, bytes))
+            (turned self.new.work result) }
     {
         let mut work = work;
         match taken_for(alloc, &mut work, &mut self.known, purpose, bytes)? {
@@ -233,7 +254,9 @@ impl Proxy {
                 work.get_mut().failed = 0;
                 self.advance(alloc, work)
             }
-            Taken::Replies { reply } => Ok(ends(Answer::Replied { reply })),
+            Taken::Replies { reply } => Ok(ProxyStep::Done {
+                answer: Answer::Replied { reply },
+            }),
             Taken::Fails { cause } => self.fail(alloc, work, cause),
         }
     }

@@ -1,4 +1,7 @@
 -- What a try wants goes on by the callee's own clause.
+use Rattle.mn_proxy.proofs.Ended.{ends_when}
+use Rattle.mn_proxy.specs.declared.step.ProxyStep.TheVariants as steps
+use Rattle.mn_proxy.specs.Turn.{turn_of, turned}
 use Rattle.std.proofs.Common.{◌<◌, ℕ, sym, ap, subst, Result, Ok, Err}
 use Rattle.std.specs.Prelude.{OnErr}
 use Rattle.mn_work.specs.declared.next.Next.{Next}
@@ -14,7 +17,7 @@ use Rattle.mn_proxy.proofs.Measure.{known_goes}
 use Rattle.std.proofs.Common.{None, Some, refl, ◌∙◌}
 use Rattle.mn_base.specs.declared.error.NoMemory.{NoMemory}
 use Rattle.mn_work.specs.declared.known.Known.{Known}
-use Rattle.mn_proxy.specs.declared.proxy.Turn.{Turn}
+use Rattle.mn_proxy.specs.Turn.{Turn}
 use Rattle.mn_work.specs.declared.work.Work.{Work}
 use Rattle.mn_work.specs.Cached.{Walks}
 use Rattle.mn_proxy.specs.LeafReads.{ReadsLeaf}
@@ -167,119 +170,119 @@ returns-in-Fails-clause-kept c =
 
 pub returns-in-Answers-clause-turns : goal.returns-in-Answers-clause-turns
 returns-in-Answers-clause-turns c = λ es own rest.
-    subst (TurnAgrees es c.want.new.self) (sym c.ends.ensures)
+    subst (TurnAgrees es c.want.new.self) (ends_when c.want.new.self.work c.in-Answers.answer (kept_idle c.args.self.now c.want.new.self c.want.ensures.same c.want.ensures.kept c.requires.idle).1)
     (answers_self es c.args.self.now c.want.new.self c.in-Answers.answer c.want.ensures.same c.want.ensures.kept own
     (answers_so es c.args.self.now c.want.new.self.known c.args.work c.want.new.work c.in_ok-want.field-0 c.want.ensures.kept c.requires.job c.want.ensures.op c.in_ok-want.ensures.wants c.causes_are_shown.ensures.causes c.causes_are_shown.ensures.worns c.causes_are_shown.ensures.left own rest c.in-Answers.answer c.in-Answers.is))
 
 pub returns-in-Answers-clause-kept : goal.returns-in-Answers-clause-kept
 returns-in-Answers-clause-kept c =
-    kept_idle c.args.self.now c.want.new.self c.want.ensures.same c.want.ensures.kept c.requires.idle
+    ((kept_idle c.args.self.now c.want.new.self c.want.ensures.same c.want.ensures.kept c.requires.idle).0, tt)
 
 -- Fewer steps are left
 
 pub returns-in-Catalog-clause-falls : goal.returns-in-Catalog-clause-falls
 returns-in-Catalog-clause-falls c =
-    known_goes c.args.self.now c.want.new.self c.read_catalog.new.self c.read_catalog.result c.want.ensures.same c.read_catalog.ensures.falls
+    known_goes c.args.self.now c.want.new.self c.read_catalog.new.self (turned c.read_catalog.new.self.work c.read_catalog.result) c.want.ensures.same c.read_catalog.ensures.falls
 
 pub returns-in-Page-clause-falls : goal.returns-in-Page-clause-falls
 returns-in-Page-clause-falls c =
-    known_goes c.args.self.now c.want.new.self c.read.new.self c.read.result c.want.ensures.same c.read.ensures.falls
+    known_goes c.args.self.now c.want.new.self c.read.new.self (turned c.read.new.self.work c.read.result) c.want.ensures.same c.read.ensures.falls
 
 pub returns-in-Count-clause-falls : goal.returns-in-Count-clause-falls
 returns-in-Count-clause-falls c =
-    known_goes c.args.self.now c.want.new.self c.read-in-Count.new.self c.read-in-Count.result c.want.ensures.same c.read-in-Count.ensures.falls
+    known_goes c.args.self.now c.want.new.self c.read-in-Count.new.self (turned c.read-in-Count.new.self.work c.read-in-Count.result) c.want.ensures.same c.read-in-Count.ensures.falls
 
 pub returns-in-Plan-clause-falls : goal.returns-in-Plan-clause-falls
 returns-in-Plan-clause-falls c =
-    known_goes c.args.self.now c.want.new.self c.issue.new.self c.issue.result c.want.ensures.same c.issue.ensures.falls
+    known_goes c.args.self.now c.want.new.self c.issue.new.self (turned c.issue.new.self.work c.issue.result) c.want.ensures.same c.issue.ensures.falls
 
 pub returns-in-Fails-clause-falls : goal.returns-in-Fails-clause-falls
 returns-in-Fails-clause-falls c =
-    known_goes c.args.self.now c.want.new.self c.fail.new.self c.fail.result c.want.ensures.same c.fail.ensures.falls
+    known_goes c.args.self.now c.want.new.self c.fail.new.self (turned c.fail.new.self.work c.fail.result) c.want.ensures.same c.fail.ensures.falls
 
 pub returns-in-Answers-clause-falls : goal.returns-in-Answers-clause-falls
-returns-in-Answers-clause-falls c = subst (GoesBelow (left_after c.args.self.now) c.want.new.self) (sym c.ends.ensures) tt
+returns-in-Answers-clause-falls c = subst (GoesBelow (left_after c.args.self.now) c.want.new.self) (ends_when c.want.new.self.work c.in-Answers.answer (kept_idle c.args.self.now c.want.new.self c.want.ensures.same c.want.ensures.kept c.requires.idle).1) tt
 
 -- What is kept
 
 pub returns-in_err-want-clause-cache : goal.returns-in_err-want-clause-cache
 returns-in_err-want-clause-cache c =
-    used_turns (is_later c.args.work.failed) c.args.self.now.known.cache c.want.new.self.known.cache c.from_residual.result
+    used_turns (is_later c.args.work.failed) c.args.self.now.known.cache c.want.new.self.known.cache (turned c.want.new.self.work c.from_residual.result)
     (walks_none (is_later c.args.work.failed) c.args.self.now.known.cache c.want.new.self.known.cache c.in_err-want.ensures.cache)
 
 pub returns-in_err-want-clause-catalog : goal.returns-in_err-want-clause-catalog
 returns-in_err-want-clause-catalog c =
-    catalog_stays c.args.self.now.known.catalog c.want.new.self.known.catalog c.from_residual.result c.want.ensures.kept.1
+    catalog_stays c.args.self.now.known.catalog c.want.new.self.known.catalog (turned c.want.new.self.work c.from_residual.result) c.want.ensures.kept.1
 
 pub returns-in-Catalog-clause-cache : goal.returns-in-Catalog-clause-cache
 returns-in-Catalog-clause-cache c =
-    no_page_turns (is_later c.args.work.failed) _ c.args.self.now.known.cache c.want.new.self.known.cache c.read_catalog.new.self.known.cache c.read_catalog.result (λ pages. refl)
+    no_page_turns (is_later c.args.work.failed) _ c.args.self.now.known.cache c.want.new.self.known.cache c.read_catalog.new.self.known.cache (turned c.read_catalog.new.self.work c.read_catalog.result) (λ pages. refl)
     (subst (λ (n : Next). Walks (is_later c.args.work.failed) (Some n) c.args.self.now.known.cache c.want.new.self.known.cache) c.in-Catalog.is c.in_ok-want.ensures.cache)
     (ap (λ (k : Known). k.cache) c.read_catalog.ensures.known)
 
 pub returns-in-Count-clause-cache : goal.returns-in-Count-clause-cache
 returns-in-Count-clause-cache c =
-    no_page_turns (is_later c.args.work.failed) _ c.args.self.now.known.cache c.want.new.self.known.cache c.read-in-Count.new.self.known.cache c.read-in-Count.result (λ pages. refl)
+    no_page_turns (is_later c.args.work.failed) _ c.args.self.now.known.cache c.want.new.self.known.cache c.read-in-Count.new.self.known.cache (turned c.read-in-Count.new.self.work c.read-in-Count.result) (λ pages. refl)
     (subst (λ (n : Next). Walks (is_later c.args.work.failed) (Some n) c.args.self.now.known.cache c.want.new.self.known.cache) c.in-Count.is c.in_ok-want.ensures.cache)
     (ap (λ (k : Known). k.cache) c.read-in-Count.ensures.known)
 
 pub returns-in-Plan-clause-cache : goal.returns-in-Plan-clause-cache
 returns-in-Plan-clause-cache c =
-    no_page_turns (is_later c.args.work.failed) _ c.args.self.now.known.cache c.want.new.self.known.cache c.issue.new.self.known.cache c.issue.result (λ pages. refl)
+    no_page_turns (is_later c.args.work.failed) _ c.args.self.now.known.cache c.want.new.self.known.cache c.issue.new.self.known.cache (turned c.issue.new.self.work c.issue.result) (λ pages. refl)
     (subst (λ (n : Next). Walks (is_later c.args.work.failed) (Some n) c.args.self.now.known.cache c.want.new.self.known.cache) c.in-Plan.is c.in_ok-want.ensures.cache)
     (ap (λ (k : Known). k.cache) c.issue.ensures.known)
 
 pub returns-in-Fails-clause-cache : goal.returns-in-Fails-clause-cache
 returns-in-Fails-clause-cache c =
-    no_page_turns (is_later c.args.work.failed) _ c.args.self.now.known.cache c.want.new.self.known.cache c.fail.new.self.known.cache c.fail.result (λ pages. refl)
+    no_page_turns (is_later c.args.work.failed) _ c.args.self.now.known.cache c.want.new.self.known.cache c.fail.new.self.known.cache (turned c.fail.new.self.work c.fail.result) (λ pages. refl)
     (subst (λ (n : Next). Walks (is_later c.args.work.failed) (Some n) c.args.self.now.known.cache c.want.new.self.known.cache) c.in-Fails.is c.in_ok-want.ensures.cache)
     (c.fail.ensures.cache)
 
 pub returns-in-Page-clause-cache : goal.returns-in-Page-clause-cache
 returns-in-Page-clause-cache c =
-    page_turns (is_later c.args.work.failed) c.in-Page.addr c.in-Page.peek c.args.self.now.known.cache c.want.new.self.known.cache c.read.new.self.known.cache c.want.new.work _ c.read.result
+    page_turns (is_later c.args.work.failed) c.in-Page.addr c.in-Page.peek c.args.self.now.known.cache c.want.new.self.known.cache c.read.new.self.known.cache c.want.new.work _ (turned c.read.new.self.work c.read.result)
     (subst (λ (n : Next). Walks (is_later c.args.work.failed) (Some n) c.args.self.now.known.cache c.want.new.self.known.cache) c.in-Page.is c.in_ok-want.ensures.cache)
     (ap (λ (k : Known). k.cache) c.read.ensures.known) (ap is_later c.want.ensures.op.1) c.read.ensures.reads
 
 pub returns-in-Answers-clause-cache : goal.returns-in-Answers-clause-cache
 returns-in-Answers-clause-cache c =
-    no_page_turns (is_later c.args.work.failed) _ c.args.self.now.known.cache c.want.new.self.known.cache c.want.new.self.known.cache (Ok c.ends.result) (λ pages. refl)
+    no_page_turns (is_later c.args.work.failed) _ c.args.self.now.known.cache c.want.new.self.known.cache c.want.new.self.known.cache (Ok (turn_of c.want.new.self.work (steps.Done c.in-Answers.answer))) (λ pages. refl)
     (subst (λ (n : Next). Walks (is_later c.args.work.failed) (Some n) c.args.self.now.known.cache c.want.new.self.known.cache) c.in-Answers.is c.in_ok-want.ensures.cache) refl
 
 pub returns-in-Catalog-clause-catalog : goal.returns-in-Catalog-clause-catalog
 returns-in-Catalog-clause-catalog c =
-    catalog_stays c.args.self.now.known.catalog c.read_catalog.new.self.known.catalog c.read_catalog.result
+    catalog_stays c.args.self.now.known.catalog c.read_catalog.new.self.known.catalog (turned c.read_catalog.new.self.work c.read_catalog.result)
     (ap (λ (k : Known). k.catalog) c.read_catalog.ensures.known ∙ c.want.ensures.kept.1)
 
 pub returns-in-Page-clause-catalog : goal.returns-in-Page-clause-catalog
 returns-in-Page-clause-catalog c =
-    catalog_stays c.args.self.now.known.catalog c.read.new.self.known.catalog c.read.result
+    catalog_stays c.args.self.now.known.catalog c.read.new.self.known.catalog (turned c.read.new.self.work c.read.result)
     (ap (λ (k : Known). k.catalog) c.read.ensures.known ∙ c.want.ensures.kept.1)
 
 pub returns-in-Count-clause-catalog : goal.returns-in-Count-clause-catalog
 returns-in-Count-clause-catalog c =
-    catalog_stays c.args.self.now.known.catalog c.read-in-Count.new.self.known.catalog c.read-in-Count.result
+    catalog_stays c.args.self.now.known.catalog c.read-in-Count.new.self.known.catalog (turned c.read-in-Count.new.self.work c.read-in-Count.result)
     (ap (λ (k : Known). k.catalog) c.read-in-Count.ensures.known ∙ c.want.ensures.kept.1)
 
 pub returns-in-Plan-clause-catalog : goal.returns-in-Plan-clause-catalog
 returns-in-Plan-clause-catalog c =
-    catalog_stays c.args.self.now.known.catalog c.issue.new.self.known.catalog c.issue.result
+    catalog_stays c.args.self.now.known.catalog c.issue.new.self.known.catalog (turned c.issue.new.self.work c.issue.result)
     (ap (λ (k : Known). k.catalog) c.issue.ensures.known ∙ c.want.ensures.kept.1)
 
 pub returns-in-Fails-clause-catalog : goal.returns-in-Fails-clause-catalog
 returns-in-Fails-clause-catalog c =
-    catalog_then None c.args.self.now.known.catalog c.want.new.self.known.catalog c.fail.new.self.known.catalog c.fail.result c.want.ensures.kept.1 c.fail.ensures.catalog
+    catalog_then None c.args.self.now.known.catalog c.want.new.self.known.catalog c.fail.new.self.known.catalog (turned c.fail.new.self.work c.fail.result) c.want.ensures.kept.1 c.fail.ensures.catalog
 
 pub returns-in-Answers-clause-catalog : goal.returns-in-Answers-clause-catalog
 returns-in-Answers-clause-catalog c =
-    let result : Result Turn NoMemory = Ok c.ends.result in
+    let result : Result Turn NoMemory = Ok (turn_of c.want.new.self.work (steps.Done c.in-Answers.answer)) in
     catalog_stays c.args.self.now.known.catalog c.want.new.self.known.catalog result c.want.ensures.kept.1
 
 -- A leaf alone
 
 pub returns-in_err-want-clause-path : goal.returns-in_err-want-clause-path
 returns-in_err-want-clause-path c = λ op leaf new path.
-    none_made c.from_residual.result (ReadsLeaf c.args.self.now.known.nodes op leaf) c.from_residual.ensures.0
+    none_made _ c.from_residual.result (ReadsLeaf c.args.self.now.known.nodes op leaf) c.from_residual.ensures.0
 
 pub returns-in-Catalog-clause-path : goal.returns-in-Catalog-clause-path
 returns-in-Catalog-clause-path c = λ op leaf new path.
@@ -314,5 +317,5 @@ returns-in-Answers-clause-path c = λ op leaf new path.
 pub returns-in-Page-clause-path : goal.returns-in-Page-clause-path
 returns-in-Page-clause-path c = λ op leaf new path.
     let wants = c.in_ok-want.ensures.path op leaf new path in
-    reads_leaf c.read.result c.args.self.now.known.nodes c.want.new.self.known.nodes op leaf c.want.new.work c.in-Page.addr c.in-Page.peek (place_of c.of_page-place.result)
+    reads_leaf (turned c.read.new.self.work c.read.result) c.args.self.now.known.nodes c.want.new.self.known.nodes op leaf c.want.new.work c.in-Page.addr c.in-Page.peek (place_of c.of_page-place.result)
     (c.want.ensures.op.0 ∙ ap (λ (w : Work). w.op) new) wants.job_is (sym c.in-Page.is ∙ wants.next_is) c.of_page-place.ensures c.want.ensures.kept.0 c.read.ensures.reads

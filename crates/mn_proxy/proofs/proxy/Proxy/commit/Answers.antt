@@ -1,103 +1,92 @@
-use Rattle.std.proofs.Common.{◌≡◌, refl, subst, sym, ◌∙◌}
+use Rattle.mn_proxy.proofs.Ended.{ends_when}
+use Rattle.mn_proxy.specs.declared.step.ProxyStep.TheVariants as steps
+use Rattle.mn_base.specs.declared.answer.Answer.TheVariants as answers
+use Rattle.mn_proxy.specs.Turn.{turn_of, turned}
+use Rattle.std.proofs.Common.{◌≡◌, refl, subst}
 use Rattle.mn_proxy.specs.Agrees.{MayWant}
 use Rattle.mn_proxy.specs.Measure.{GoesBelow, left_after}
 use Rattle.mn_proxy.specs.Turns.{IsCommitted, IsSoundTurn, TurnAgrees, read_alone}
 use Rattle.mn_proxy.proofs.Coordinating.{committed_read, done_read, on_err, plan_answered, read_may_want}
-use Rattle.std.proofs.Common.{Err, Ok, Result, Some, ap}
+use Rattle.std.proofs.Common.{Ok, Result, Some, ap}
 use Rattle.mn_base.specs.declared.error.NoMemory.{NoMemory}
 use Rattle.mn_proxy.specs.declared.errand.Purpose.{Purpose}
-use Rattle.mn_proxy.specs.declared.proxy.Turn.{Turn}
+use Rattle.mn_proxy.specs.Turn.{Turn}
 use Rattle.mn_proxy.specs.Kept.{read_for}
 use Rattle.mn_work.specs.Walks.{is_later}
-use Rattle.mn_proxy.proofs.Kept.{cache_as, catalog_as, catalog_stays, leaf_as, read_none, read_some, unput_cache, unread_cache, unread_catalog, unread_leaf}
+use Rattle.mn_proxy.proofs.Kept.{cache_as, catalog_as, catalog_stays, leaf_as, read_some, unput_cache, unread_cache, unread_catalog, unread_leaf}
 use Rattle.mn_proxy.proofs.proxy.Proxy.commit.Goals as goal
 
 pub take-requires : goal.take-requires
 take-requires c = record { idle = c.requires.idle; few = c.requires.few; waits = c.requires.waits }
 
 pub returns-in-Plan-clause-sound : goal.returns-in-Plan-clause-sound
-returns-in-Plan-clause-sound c = subst (IsSoundTurn c.args.self.now.known) (sym c.ends.ensures) tt
+returns-in-Plan-clause-sound c = subst (IsSoundTurn c.args.self.now.known) (ends_when c.args.self.now.work (answers.Replied c.in-Plan.reply) c.requires.idle) tt
 
 pub returns-in-Plan-clause-turns : goal.returns-in-Plan-clause-turns
 returns-in-Plan-clause-turns c = λ es own is.
-    subst (TurnAgrees es c.args.self.now) (sym c.ends.ensures)
-    (plan_answered es c.args.self.now c.args.work c.args.outcome.reads c.in-Plan.reply own
-    (subst (IsCommitted es c.args.self.now.known c.args.work c.args.outcome.reads) c.in-Plan.is is))
+    subst (TurnAgrees es c.args.self.now) (ends_when c.args.self.now.work (answers.Replied c.in-Plan.reply) c.requires.idle)
+    (plan_answered es c.args.self.now c.args.work c.args.reads.now c.in-Plan.reply own
+    (subst (IsCommitted es c.args.self.now.known c.args.work c.args.reads.now) c.in-Plan.is is))
 
 pub returns-in-Plan-clause-kept : goal.returns-in-Plan-clause-kept
-returns-in-Plan-clause-kept c = ((refl, refl, refl), c.requires.idle)
+returns-in-Plan-clause-kept c = ((refl, refl, refl), tt)
 
 pub returns-in-Plan-clause-falls : goal.returns-in-Plan-clause-falls
 returns-in-Plan-clause-falls c =
-    subst (GoesBelow (left_after c.args.self.now) c.args.self.now) (sym c.ends.ensures) tt
+    subst (GoesBelow (left_after c.args.self.now) c.args.self.now) (ends_when c.args.self.now.work (answers.Replied c.in-Plan.reply) c.requires.idle) tt
 
 pub returns-in-Plan-clause-cache : goal.returns-in-Plan-clause-cache
 returns-in-Plan-clause-cache c =
-    unread_cache (read_for c.args.purpose c.args.outcome.reads) (is_later c.args.work.failed) c.args.self.now.known.cache c.args.self.now.known.cache (Ok c.ends.result)
-    (ap (λ (p : Purpose). read_for p c.args.outcome.reads) c.in-Plan.is) refl
+    unread_cache (read_for c.args.purpose c.args.reads.now) (is_later c.args.work.failed) c.args.self.now.known.cache c.args.self.now.known.cache (Ok (turn_of c.args.self.now.work (steps.Done (answers.Replied c.in-Plan.reply))))
+    (ap (λ (p : Purpose). read_for p c.args.reads.now) c.in-Plan.is) refl
 
 pub returns-in-Plan-clause-catalog : goal.returns-in-Plan-clause-catalog
 returns-in-Plan-clause-catalog c =
-    let result : Result Turn NoMemory = Ok c.ends.result in
-    unread_catalog (read_for c.args.purpose c.args.outcome.reads) c.args.self.now.known.catalog c.args.self.now.known.catalog result
-    (ap (λ (p : Purpose). read_for p c.args.outcome.reads) c.in-Plan.is)
+    let result : Result Turn NoMemory = Ok (turn_of c.args.self.now.work (steps.Done (answers.Replied c.in-Plan.reply))) in
+    unread_catalog (read_for c.args.purpose c.args.reads.now) c.args.self.now.known.catalog c.args.self.now.known.catalog result
+    (ap (λ (p : Purpose). read_for p c.args.reads.now) c.in-Plan.is)
     (catalog_stays c.args.self.now.known.catalog c.args.self.now.known.catalog result refl)
 
 pub returns-in-Plan-clause-leaf : goal.returns-in-Plan-clause-leaf
 returns-in-Plan-clause-leaf c = λ leaf.
-    absurd (unread_leaf c.args.self.now.known c.args.work (read_for c.args.purpose c.args.outcome.reads)
-    (ap (λ (p : Purpose). read_for p c.args.outcome.reads) c.in-Plan.is) leaf)
+    absurd (unread_leaf c.args.self.now.known c.args.work (read_for c.args.purpose c.args.reads.now)
+    (ap (λ (p : Purpose). read_for p c.args.reads.now) c.in-Plan.is) leaf)
 
 pub returns-in-Ok : goal.returns-in-Ok
 returns-in-Ok c =
-    let whole : read_alone c.args.outcome.reads ≡ Some c.in-Ok.bytes = sym c.only_read.ensures ∙ (c.in-Some.is ∙ ap Some (sym c.in-Ok.ensures)) in record {
+    let whole : read_alone c.args.reads.now ≡ Some c.in-Ok.bytes = c.in-Ok.ensures in record {
       sound = c.take.ensures.sound;
       turns = λ es own is.
-          let d = committed_read es c.args.self.now.known c.args.work c.args.outcome.reads c.args.purpose c.in_default.not-Plan is in
-          c.take.ensures.turns es own (done_read es c.args.self.now.known c.args.work c.args.outcome.reads c.args.purpose c.in-Ok.bytes d whole) d.closed d.over;
+          let d = committed_read es c.args.self.now.known c.args.work c.args.reads.now c.args.purpose c.in_default.not-Plan is in
+          c.take.ensures.turns es own (done_read es c.args.self.now.known c.args.work c.args.reads.now c.args.purpose c.in-Ok.bytes d whole) d.closed d.over;
       want = λ es own is.
-          let d = committed_read es c.args.self.now.known c.args.work c.args.outcome.reads c.args.purpose c.in_default.not-Plan is in
-          on_err c.take.result (MayWant es) (read_may_want es c.args.self.now.known c.args.work c.args.outcome.reads c.args.purpose d);
+          let d = committed_read es c.args.self.now.known c.args.work c.args.reads.now c.args.purpose c.in_default.not-Plan is in
+          on_err c.take.result (MayWant es) (read_may_want es c.args.self.now.known c.args.work c.args.reads.now c.args.purpose d);
       left = λ es own is.
-          let d = committed_read es c.args.self.now.known c.args.work c.args.outcome.reads c.args.purpose c.in_default.not-Plan is in
-          c.take.ensures.left es own (done_read es c.args.self.now.known c.args.work c.args.outcome.reads c.args.purpose c.in-Ok.bytes d whole);
+          let d = committed_read es c.args.self.now.known c.args.work c.args.reads.now c.args.purpose c.in_default.not-Plan is in
+          c.take.ensures.left es own (done_read es c.args.self.now.known c.args.work c.args.reads.now c.args.purpose c.in-Ok.bytes d whole);
       kept = c.take.ensures.kept;
       falls = c.take.ensures.falls;
-      cache = cache_as (read_for c.args.purpose c.args.outcome.reads) (Some (c.args.purpose, c.in-Ok.bytes)) (is_later c.args.work.failed)
-          c.args.self.now.known.cache c.take.new.self.known.cache c.take.result
-          (read_some c.args.purpose c.args.outcome.reads c.in-Ok.bytes c.in_default.not-Plan whole) c.take.ensures.cache;
-      catalog = catalog_as (read_for c.args.purpose c.args.outcome.reads) (Some (c.args.purpose, c.in-Ok.bytes))
-          c.args.self.now.known.catalog c.take.new.self.known.catalog c.take.result
-          (read_some c.args.purpose c.args.outcome.reads c.in-Ok.bytes c.in_default.not-Plan whole) c.take.ensures.catalog;
-      leaf = leaf_as c.args.self.now.known c.args.work (read_for c.args.purpose c.args.outcome.reads) (Some (c.args.purpose, c.in-Ok.bytes)) c.take.result
-          (read_some c.args.purpose c.args.outcome.reads c.in-Ok.bytes c.in_default.not-Plan whole) c.take.ensures.leaf;
+      cache = cache_as (read_for c.args.purpose c.args.reads.now) (Some (c.args.purpose, c.in-Ok.bytes)) (is_later c.args.work.failed)
+          c.args.self.now.known.cache c.take.new.self.known.cache (turned c.take.new.self.work c.take.result)
+          (read_some c.args.purpose c.args.reads.now c.in-Ok.bytes c.in_default.not-Plan whole) c.take.ensures.cache;
+      catalog = catalog_as (read_for c.args.purpose c.args.reads.now) (Some (c.args.purpose, c.in-Ok.bytes))
+          c.args.self.now.known.catalog c.take.new.self.known.catalog (turned c.take.new.self.work c.take.result)
+          (read_some c.args.purpose c.args.reads.now c.in-Ok.bytes c.in_default.not-Plan whole) c.take.ensures.catalog;
+      leaf = leaf_as c.args.self.now.known c.args.work (read_for c.args.purpose c.args.reads.now) (Some (c.args.purpose, c.in-Ok.bytes)) (turned c.take.new.self.work c.take.result)
+          (read_some c.args.purpose c.args.reads.now c.in-Ok.bytes c.in_default.not-Plan whole) c.take.ensures.leaf;
     }
-
-pub returns-in-None : goal.returns-in-None
-returns-in-None c = record {
-  sound = tt;
-  turns = λ es own is. tt;
-  want = λ es own is. read_may_want es c.args.self.now.known c.args.work c.args.outcome.reads c.args.purpose
-      (committed_read es c.args.self.now.known c.args.work c.args.outcome.reads c.args.purpose c.in_default.not-Plan is);
-  left = λ es own is. own;
-  kept = ((refl, refl, refl), c.requires.idle);
-  falls = tt;
-  cache = unread_cache (read_for c.args.purpose c.args.outcome.reads) (is_later c.args.work.failed) c.args.self.now.known.cache c.args.self.now.known.cache (Err _)
-      (read_none c.args.purpose c.args.outcome.reads (sym c.only_read.ensures ∙ c.in-None.is)) refl;
-  catalog = tt;
-  leaf = λ leaf. tt;
-}
 
 pub returns-in-Err : goal.returns-in-Err
 returns-in-Err c = record {
   sound = tt;
   turns = λ es own is. tt;
-  want = λ es own is. read_may_want es c.args.self.now.known c.args.work c.args.outcome.reads c.args.purpose
-      (committed_read es c.args.self.now.known c.args.work c.args.outcome.reads c.args.purpose c.in_default.not-Plan is);
+  want = λ es own is. read_may_want es c.args.self.now.known c.args.work c.args.reads.now c.args.purpose
+      (committed_read es c.args.self.now.known c.args.work c.args.reads.now c.args.purpose c.in_default.not-Plan is);
   left = λ es own is. own;
   kept = ((refl, refl, refl), c.requires.idle);
   falls = tt;
-  cache = unput_cache (read_for c.args.purpose c.args.outcome.reads) (is_later c.args.work.failed) c.args.self.now.known.cache _;
+  cache = unput_cache (read_for c.args.purpose c.args.reads.now) (is_later c.args.work.failed) c.args.self.now.known.cache _;
   catalog = tt;
   leaf = λ leaf. tt;
 }

@@ -1,3 +1,7 @@
+use Rattle.mn_proxy.proofs.Ended.{ends_when}
+use Rattle.mn_proxy.specs.declared.step.ProxyStep.TheVariants as steps
+use Rattle.mn_base.specs.declared.answer.Answer.TheVariants as answers
+use Rattle.mn_proxy.specs.Turn.{turn_of, turned}
 use Rattle.std.proofs.Common.{◌≡◌, ◌+◌, ℕ, List, Option, refl, subst, sym, ap, ◌∙◌}
 use Rattle.mn_coord.specs.Coordination.{Coordination, after_step}
 use Rattle.mn_mini.specs.Mini.{Mini}
@@ -14,7 +18,7 @@ use Rattle.mn_coord.specs.Coordination.{step_of}
 use Rattle.mn_coord.specs.declared.step.CoordStep.{CoordStep}
 use Rattle.mn_coord.specs.declared.step.CoordStep.TheVariants.{Committed, Doubt, Failed}
 use Rattle.mn_proxy.specs.declared.errand.Purpose.{Purpose}
-use Rattle.mn_proxy.specs.declared.proxy.Turn.{Turn}
+use Rattle.mn_proxy.specs.Turn.{Turn}
 use Rattle.mn_proxy.specs.Kept.{read_for, read_when}
 use Rattle.mn_work.specs.Walks.{is_later}
 use Rattle.mn_proxy.proofs.Kept.{cache_as, catalog_as, catalog_stays, leaf_as, unread_cache, unread_catalog, unread_leaf}
@@ -40,7 +44,7 @@ returns-in-Committed-clause-turns c = λ es own m.
     let p = c.args.self.now in
     c.commit.ensures.turns es own
     (subst (λ (r : List (List (List ℕ))). IsCommitted es p.known c.args.work r c.args.purpose)
-    (sym (c.into_outcome.ensures.reads ∙ ap (λ (x : Coordination). x.reads) (c.next.ensures.after ∙ ap (after_step c.args.coordinator) c.in-Committed.is)))
+    (sym (c.reads.ensures ∙ ap (λ (x : Coordination). x.reads) (c.next.ensures.after ∙ ap (after_step c.args.coordinator) c.in-Committed.is)))
     (mini_commits es p c.args.work c.args.tid c.args.coordinator c.args.purpose own m (sym c.next.ensures.step ∙ c.in-Committed.is)))
 
 pub returns-in-Committed-clause-want : goal.returns-in-Committed-clause-want
@@ -48,7 +52,7 @@ returns-in-Committed-clause-want c = λ es own m.
     let p = c.args.self.now in
     c.commit.ensures.want es own
     (subst (λ (r : List (List (List ℕ))). IsCommitted es p.known c.args.work r c.args.purpose)
-    (sym (c.into_outcome.ensures.reads ∙ ap (λ (x : Coordination). x.reads) (c.next.ensures.after ∙ ap (after_step c.args.coordinator) c.in-Committed.is)))
+    (sym (c.reads.ensures ∙ ap (λ (x : Coordination). x.reads) (c.next.ensures.after ∙ ap (after_step c.args.coordinator) c.in-Committed.is)))
     (mini_commits es p c.args.work c.args.tid c.args.coordinator c.args.purpose own m (sym c.next.ensures.step ∙ c.in-Committed.is)))
 
 pub returns-in-Committed-clause-left : goal.returns-in-Committed-clause-left
@@ -56,7 +60,7 @@ returns-in-Committed-clause-left c = λ es own m.
     let p = c.args.self.now in
     c.commit.ensures.left es own
     (subst (λ (r : List (List (List ℕ))). IsCommitted es p.known c.args.work r c.args.purpose)
-    (sym (c.into_outcome.ensures.reads ∙ ap (λ (x : Coordination). x.reads) (c.next.ensures.after ∙ ap (after_step c.args.coordinator) c.in-Committed.is)))
+    (sym (c.reads.ensures ∙ ap (λ (x : Coordination). x.reads) (c.next.ensures.after ∙ ap (after_step c.args.coordinator) c.in-Committed.is)))
     (mini_commits es p c.args.work c.args.tid c.args.coordinator c.args.purpose own m (sym c.next.ensures.step ∙ c.in-Committed.is)))
 
 pub returns-in-Committed-clause-kept : goal.returns-in-Committed-clause-kept
@@ -79,10 +83,10 @@ returns-in-Failed-clause-turns c = λ es own m.
     let p = c.args.self.now in
     let same = c.next.ensures.after ∙ ap (after_step c.args.coordinator) c.in-Failed.is in
     c.refuse.ensures.turns es own
-    (subst (λ (r : Option NodeReply). IsRefused es p.known c.args.work c.args.tid c.into_outcome-in-Failed.result.mini c.in-Failed.node r)
-    (sym (c.into_outcome-in-Failed.ensures.reply ∙ ap (λ (x : Coordination). x.refused) same))
+    (subst (λ (r : Option NodeReply). IsRefused es p.known c.args.work c.args.tid c.into_outcome.result.mini c.in-Failed.node r)
+    (sym (c.into_outcome.ensures.reply ∙ ap (λ (x : Coordination). x.refused) same))
     (subst (λ (x : Mini). IsRefused es p.known c.args.work c.args.tid x c.in-Failed.node c.args.coordinator.refused)
-    (sym (c.into_outcome-in-Failed.ensures.mini ∙ ap (λ (x : Coordination). x.mini) same))
+    (sym (c.into_outcome.ensures.mini ∙ ap (λ (x : Coordination). x.mini) same))
     (mini_fails es p c.args.work c.args.tid c.args.coordinator c.args.purpose c.in-Failed.node own m c.requires.waits (sym c.next.ensures.step ∙ c.in-Failed.is))))
 
 pub returns-in-Failed-clause-want : goal.returns-in-Failed-clause-want
@@ -97,27 +101,27 @@ pub returns-in-Failed-clause-kept : goal.returns-in-Failed-clause-kept
 returns-in-Failed-clause-kept c = c.refuse.ensures.kept
 
 pub returns-in-Doubt-clause-sound : goal.returns-in-Doubt-clause-sound
-returns-in-Doubt-clause-sound c = subst (IsSoundTurn c.args.self.now.known) (sym c.ends.ensures) tt
+returns-in-Doubt-clause-sound c = subst (IsSoundTurn c.args.self.now.known) (ends_when c.args.self.now.work (answers.InDoubt c.args.tid c.in-Doubt.node) c.requires.idle) tt
 
 pub returns-in-Doubt-clause-turns : goal.returns-in-Doubt-clause-turns
 returns-in-Doubt-clause-turns c = λ es own m.
-    subst (TurnAgrees es c.args.self.now) (sym c.ends.ensures)
+    subst (TurnAgrees es c.args.self.now) (ends_when c.args.self.now.work (answers.InDoubt c.args.tid c.in-Doubt.node) c.requires.idle)
     (mini_doubts es c.args.self.now c.args.work c.args.tid c.args.coordinator c.args.purpose c.in-Doubt.node own m (sym c.next.ensures.step ∙ c.in-Doubt.is))
 
 pub returns-in-Doubt-clause-kept : goal.returns-in-Doubt-clause-kept
-returns-in-Doubt-clause-kept c = ((refl, refl, refl), c.requires.idle)
+returns-in-Doubt-clause-kept c = ((refl, refl, refl), tt)
 
 pub returns-in-Committed-clause-falls : goal.returns-in-Committed-clause-falls
 returns-in-Committed-clause-falls c =
-    mini_goes c.args.self.now c.commit.new.self c.args.coordinator c.commit.result c.commit.ensures.falls
+    mini_goes c.args.self.now c.commit.new.self c.args.coordinator (turned c.commit.new.self.work c.commit.result) c.commit.ensures.falls
 
 pub returns-in-Failed-clause-falls : goal.returns-in-Failed-clause-falls
 returns-in-Failed-clause-falls c =
-    mini_goes c.args.self.now c.refuse.new.self c.args.coordinator c.refuse.result c.refuse.ensures.falls
+    mini_goes c.args.self.now c.refuse.new.self c.args.coordinator (turned c.refuse.new.self.work c.refuse.result) c.refuse.ensures.falls
 
 pub returns-in-Doubt-clause-falls : goal.returns-in-Doubt-clause-falls
 returns-in-Doubt-clause-falls c =
-    subst (GoesBelow (left_after c.args.self.now + left_of c.args.coordinator) c.args.self.now) (sym c.ends.ensures) tt
+    subst (GoesBelow (left_after c.args.self.now + left_of c.args.coordinator) c.args.self.now) (ends_when c.args.self.now.work (answers.InDoubt c.args.tid c.in-Doubt.node) c.requires.idle) tt
 
 -- What is kept
 
@@ -128,33 +132,33 @@ read_as c purpose step is = ap (λ (s : CoordStep). read_when s c.reads purpose)
 
 pub returns-in-Committed-clause-cache : goal.returns-in-Committed-clause-cache
 returns-in-Committed-clause-cache c =
-    cache_as (read_when (step_of c.args.coordinator) c.args.coordinator.reads c.args.purpose) (read_for c.args.purpose c.into_outcome.result.reads) (is_later c.args.work.failed) c.args.self.now.known.cache c.commit.new.self.known.cache c.commit.result
+    cache_as (read_when (step_of c.args.coordinator) c.args.coordinator.reads c.args.purpose) (read_for c.args.purpose c.reads.result.now) (is_later c.args.work.failed) c.args.self.now.known.cache c.commit.new.self.known.cache (turned c.commit.new.self.work c.commit.result)
     (read_as c.args.coordinator c.args.purpose Committed (sym c.next.ensures.step ∙ c.in-Committed.is)
-    ∙ ap (read_for c.args.purpose) (sym (c.into_outcome.ensures.reads ∙ ap (λ (x : Coordination). x.reads) (c.next.ensures.after ∙ ap (after_step c.args.coordinator) c.in-Committed.is))))
+    ∙ ap (read_for c.args.purpose) (sym (c.reads.ensures ∙ ap (λ (x : Coordination). x.reads) (c.next.ensures.after ∙ ap (after_step c.args.coordinator) c.in-Committed.is))))
     c.commit.ensures.cache
 
 pub returns-in-Committed-clause-catalog : goal.returns-in-Committed-clause-catalog
 returns-in-Committed-clause-catalog c =
-    catalog_as (read_when (step_of c.args.coordinator) c.args.coordinator.reads c.args.purpose) (read_for c.args.purpose c.into_outcome.result.reads) c.args.self.now.known.catalog c.commit.new.self.known.catalog c.commit.result
+    catalog_as (read_when (step_of c.args.coordinator) c.args.coordinator.reads c.args.purpose) (read_for c.args.purpose c.reads.result.now) c.args.self.now.known.catalog c.commit.new.self.known.catalog (turned c.commit.new.self.work c.commit.result)
     (read_as c.args.coordinator c.args.purpose Committed (sym c.next.ensures.step ∙ c.in-Committed.is)
-    ∙ ap (read_for c.args.purpose) (sym (c.into_outcome.ensures.reads ∙ ap (λ (x : Coordination). x.reads) (c.next.ensures.after ∙ ap (after_step c.args.coordinator) c.in-Committed.is))))
+    ∙ ap (read_for c.args.purpose) (sym (c.reads.ensures ∙ ap (λ (x : Coordination). x.reads) (c.next.ensures.after ∙ ap (after_step c.args.coordinator) c.in-Committed.is))))
     c.commit.ensures.catalog
 
 pub returns-in-Committed-clause-leaf : goal.returns-in-Committed-clause-leaf
 returns-in-Committed-clause-leaf c =
-    leaf_as c.args.self.now.known c.args.work (read_when (step_of c.args.coordinator) c.args.coordinator.reads c.args.purpose) (read_for c.args.purpose c.into_outcome.result.reads) c.commit.result
+    leaf_as c.args.self.now.known c.args.work (read_when (step_of c.args.coordinator) c.args.coordinator.reads c.args.purpose) (read_for c.args.purpose c.reads.result.now) (turned c.commit.new.self.work c.commit.result)
     (read_as c.args.coordinator c.args.purpose Committed (sym c.next.ensures.step ∙ c.in-Committed.is)
-    ∙ ap (read_for c.args.purpose) (sym (c.into_outcome.ensures.reads ∙ ap (λ (x : Coordination). x.reads) (c.next.ensures.after ∙ ap (after_step c.args.coordinator) c.in-Committed.is))))
+    ∙ ap (read_for c.args.purpose) (sym (c.reads.ensures ∙ ap (λ (x : Coordination). x.reads) (c.next.ensures.after ∙ ap (after_step c.args.coordinator) c.in-Committed.is))))
     c.commit.ensures.leaf
 
 pub returns-in-Failed-clause-cache : goal.returns-in-Failed-clause-cache
 returns-in-Failed-clause-cache c =
-    unread_cache (read_when (step_of c.args.coordinator) c.args.coordinator.reads c.args.purpose) (is_later c.args.work.failed) c.args.self.now.known.cache c.refuse.new.self.known.cache c.refuse.result
+    unread_cache (read_when (step_of c.args.coordinator) c.args.coordinator.reads c.args.purpose) (is_later c.args.work.failed) c.args.self.now.known.cache c.refuse.new.self.known.cache (turned c.refuse.new.self.work c.refuse.result)
     (read_as c.args.coordinator c.args.purpose (Failed c.in-Failed.node) (sym c.next.ensures.step ∙ c.in-Failed.is)) c.refuse.ensures.cache
 
 pub returns-in-Failed-clause-catalog : goal.returns-in-Failed-clause-catalog
 returns-in-Failed-clause-catalog c =
-    unread_catalog (read_when (step_of c.args.coordinator) c.args.coordinator.reads c.args.purpose) c.args.self.now.known.catalog c.refuse.new.self.known.catalog c.refuse.result
+    unread_catalog (read_when (step_of c.args.coordinator) c.args.coordinator.reads c.args.purpose) c.args.self.now.known.catalog c.refuse.new.self.known.catalog (turned c.refuse.new.self.work c.refuse.result)
     (read_as c.args.coordinator c.args.purpose (Failed c.in-Failed.node) (sym c.next.ensures.step ∙ c.in-Failed.is)) c.refuse.ensures.catalog
 
 pub returns-in-Failed-clause-leaf : goal.returns-in-Failed-clause-leaf
@@ -164,12 +168,12 @@ returns-in-Failed-clause-leaf c = λ leaf.
 
 pub returns-in-Doubt-clause-cache : goal.returns-in-Doubt-clause-cache
 returns-in-Doubt-clause-cache c =
-    unread_cache (read_when (step_of c.args.coordinator) c.args.coordinator.reads c.args.purpose) (is_later c.args.work.failed) c.args.self.now.known.cache c.args.self.now.known.cache (Ok c.ends.result)
+    unread_cache (read_when (step_of c.args.coordinator) c.args.coordinator.reads c.args.purpose) (is_later c.args.work.failed) c.args.self.now.known.cache c.args.self.now.known.cache (Ok (turn_of c.args.self.now.work (steps.Done (answers.InDoubt c.args.tid c.in-Doubt.node))))
     (read_as c.args.coordinator c.args.purpose (Doubt c.in-Doubt.node) (sym c.next.ensures.step ∙ c.in-Doubt.is)) refl
 
 pub returns-in-Doubt-clause-catalog : goal.returns-in-Doubt-clause-catalog
 returns-in-Doubt-clause-catalog c =
-    let result : Result Turn NoMemory = Ok c.ends.result in
+    let result : Result Turn NoMemory = Ok (turn_of c.args.self.now.work (steps.Done (answers.InDoubt c.args.tid c.in-Doubt.node))) in
     unread_catalog (read_when (step_of c.args.coordinator) c.args.coordinator.reads c.args.purpose) c.args.self.now.known.catalog c.args.self.now.known.catalog result
     (read_as c.args.coordinator c.args.purpose (Doubt c.in-Doubt.node) (sym c.next.ensures.step ∙ c.in-Doubt.is))
     (catalog_stays c.args.self.now.known.catalog c.args.self.now.known.catalog result refl)

@@ -1,4 +1,5 @@
 -- A first try may fail with no cause; the eighth ends the operation by its own.
+use Rattle.mn_proxy.proofs.Ended.{ends_when}
 use Rattle.std.proofs.Common.{None, ap, refl, arith, subst, sym, ◌∙◌}
 use Rattle.mn_proxy.specs.Turns.{HasFailed, TurnAgrees}
 use Rattle.mn_proxy.proofs.Retrying.{gives_up_turn, retries_by, retries_first}
@@ -10,7 +11,7 @@ use Rattle.mn_proxy.proofs.proxy.Proxy.fail.Goals.{in_default-via-in-None+else-i
 
 pub returns-in-Some-clause-turns : goal.returns-in-Some-clause-turns
 returns-in-Some-clause-turns c = λ es own failed.
-    subst (TurnAgrees es c.args.self.now) (sym c.ends.ensures)
+    subst (TurnAgrees es c.args.self.now) (ends_when c.args.self.now.work _ c.requires.idle)
     (gives_up_turn es c.args.self.now c.args.work c.in-Some.cause c.requires.few (grind (arith, c.if-get-ge-TRIES.true)) own
     (subst (HasFailed es c.args.self.now.known c.args.work) c.in-Some.is failed))
 
@@ -29,4 +30,4 @@ returns-in_default-clause-turns c = λ es own failed.
 
 pub returns-in-Some-clause-catalog : goal.returns-in-Some-clause-catalog
 returns-in-Some-clause-catalog c =
-    subst (CatalogTurns None c.args.self.now.known.catalog c.args.self.now.known.catalog) (sym c.ends.ensures) refl
+    subst (CatalogTurns None c.args.self.now.known.catalog c.args.self.now.known.catalog) (ends_when c.args.self.now.work _ c.requires.idle) refl

@@ -1,21 +1,20 @@
 -- The turn is that of what is on its way, with what is kept as it was.
-use Rattle.std.proofs.Common.{Some, ap, refl, subst, sym, ◌∙◌}
+use Rattle.std.proofs.Common.{ap, refl, subst, sym, ◌∙◌}
 use Rattle.mn_proxy.specs.contracts.proxy.Proxy.{the_view}
-use Rattle.mn_proxy.specs.Agrees.{Agrees, EntersWant}
+use Rattle.mn_proxy.specs.Agrees.{Agrees}
 use Rattle.mn_proxy.specs.State.{ProxyState}
 use Rattle.mn_proxy.specs.Measure.{Falls}
-use Rattle.mn_proxy.specs.Turns.{TurnAgrees, with_work}
-use Rattle.mn_proxy.proofs.Turning.{goes_agree, goes_legal, goes_sound, goes_wants, left_agrees, on_error, turn_errand, turn_own}
-use Rattle.mn_proxy.proofs.Measure.{goes_falls}
-use Rattle.std.proofs.Common.{◌≡◌, Ok, Result}
-use Rattle.mn_base.specs.declared.error.NoMemory.{NoMemory}
-use Rattle.mn_proxy.specs.declared.step.ProxyStep.{ProxyStep}
+use Rattle.mn_proxy.specs.Turns.{with_work}
+use Rattle.mn_proxy.proofs.Turning.{goes_sound, goes_wants, turn_errand, turn_own}
+use Rattle.mn_proxy.proofs.Turned.{turned_agree, turned_cache, turned_catalog, turned_ends, turned_falls, turned_left, turned_legal, turned_reads, turned_sound, turned_wants}
+use Rattle.mn_proxy.specs.Turn.{turned}
+use Rattle.std.specs.Prelude.{IfOk}
+use Rattle.std.proofs.Common.{◌≡◌}
 use Rattle.mn_proxy.specs.Kept.{CacheGoes, CatalogGoes, read_by}
-use Rattle.mn_proxy.specs.LeafReads.{ReadsLeaf, shown_by}
-use Rattle.mn_proxy.specs.declared.proxy.Turn.TheVariants as turns
+use Rattle.mn_proxy.specs.LeafReads.{ReadsLeaf}
+use Rattle.mn_proxy.specs.Turn as turns
 use Rattle.mn_proxy.specs.declared.step.ProxyStep.TheVariants as steps
 use Rattle.mn_proxy.proofs.LeafReads.{leaf_ends, path_reads}
-use Rattle.mn_proxy.proofs.Kept.{cache_ends, cache_fails, cache_goes, catalog_ends, catalog_goes}
 use Rattle.mn_proxy.specs.declared.errand.Errand.{Errand}
 use Rattle.mn_proxy.specs.declared.errand.Errand.TheVariants as out
 use Rattle.std.proofs.Common.{None}
@@ -26,127 +25,70 @@ use Rattle.mn_proxy.proofs.Kept.{unread_leaf}
 use Rattle.mn_proxy.proofs.Sending.{sent_unread, step_caches, step_calls, step_catalogs, step_falls, turn_agrees, turn_sound, under_sent}
 use Rattle.mn_proxy.proofs.proxy.Proxy.next.Goals as goal
 
-pub returns-in_err-step-in-None-clause-left : goal.returns-in_err-step-in-None-clause-left
-returns-in_err-step-in-None-clause-left c = λ es new agrees.
-    on_error c.from_residual.result (EntersWant es c.args.self.now new → Agrees new c.turn.new.self)
-    (λ enters. left_agrees es new c.args.self.now c.turn.new.self
-    (c.turn.ensures.kept.0.0 ∙ ap (λ (p : ProxyState). p.client) (c.self.view_is ∙ c.send.ensures.same c.in-None.is)) c.turn.ensures.kept.1
-    (c.in_err-step-in-None.ensures.left es
-    (turn_own es (the_view c.self.inside) c.args.self.now c.take.new.self (c.self.view_is ∙ c.send.ensures.same c.in-None.is) agrees)
-    (turn_errand es (the_view c.self.inside) c.args.self.now c.in-Some-take.work c.in-Some-take.errand (c.self.view_is ∙ c.send.ensures.same c.in-None.is) (sym c.in-Some-take.ensures.value) agrees))
-    enters)
+-- What is on its way has its turn
 
-pub returns-in-Goes-clause-sound : goal.returns-in-Goes-clause-sound
-returns-in-Goes-clause-sound c =
-    goes_sound c.turn.new.self.known c.args.self.now.known.nodes c.in_ok-step-in-None.field-0 c.in-Goes.step c.in-Goes.work c.in-Goes.errand c.in-Goes.is
-    (c.turn.ensures.kept.0.2 ∙ ap (λ (p : ProxyState). p.known.nodes) (c.self.view_is ∙ c.send.ensures.same c.in-None.is)) c.in_ok-step-in-None.ensures.sound
+pub returns-in-Some-take-clause-sound : goal.returns-in-Some-take-clause-sound
+returns-in-Some-take-clause-sound c =
+    turned_sound c.turn.new.self.known c.args.self.now.known.nodes c.turn.new.self.work c.turn.result
+    (c.turn.ensures.kept.0.2 ∙ ap (λ (p : ProxyState). p.known.nodes) (c.self.view_is ∙ c.send.ensures.same c.in-None.is)) c.turn.ensures.sound
 
-pub returns-in-Goes-clause-legal : goal.returns-in-Goes-clause-legal
-returns-in-Goes-clause-legal c = λ es agrees.
-    goes_legal es c.args.self.now c.turn.new.self c.in_ok-step-in-None.field-0 c.in-Goes.step c.in-Goes.work c.in-Goes.errand c.in-Goes.is
-    (c.turn.ensures.kept.0.0 ∙ ap (λ (p : ProxyState). p.client) (c.self.view_is ∙ c.send.ensures.same c.in-None.is))
-    (c.in_ok-step-in-None.ensures.turns es
+pub returns-in-Some-take-clause-legal : goal.returns-in-Some-take-clause-legal
+returns-in-Some-take-clause-legal c = λ es agrees.
+    turned_legal es c.args.self.now c.turn.new.self c.turn.new.self.work c.turn.result (c.turn.ensures.kept.0.0 ∙ ap (λ (p : ProxyState). p.client) (c.self.view_is ∙ c.send.ensures.same c.in-None.is))
+    (c.turn.ensures.turns es
     (turn_own es (the_view c.self.inside) c.args.self.now c.take.new.self (c.self.view_is ∙ c.send.ensures.same c.in-None.is) agrees)
     (turn_errand es (the_view c.self.inside) c.args.self.now c.in-Some-take.work c.in-Some-take.errand (c.self.view_is ∙ c.send.ensures.same c.in-None.is) (sym c.in-Some-take.ensures.value) agrees))
 
-pub returns-in-Goes-clause-agrees : goal.returns-in-Goes-clause-agrees
-returns-in-Goes-clause-agrees c = λ es new agrees enters.
-    goes_agree es new c.args.self.now (the_view c.self-in-None.inside) c.in_ok-step-in-None.field-0 c.in-Goes.step c.in-Goes.work c.in-Goes.errand c.in-Goes.is
-    (ap (λ (p : ProxyState). p.client) c.self-in-None.view_is ∙ (c.turn.ensures.kept.0.0 ∙ ap (λ (p : ProxyState). p.client) (c.self.view_is ∙ c.send.ensures.same c.in-None.is)))
-    (subst (λ (p : ProxyState). TurnAgrees es p c.in_ok-step-in-None.field-0) (sym c.self-in-None.view_is)
-    (c.in_ok-step-in-None.ensures.turns es
+pub returns-in-Some-take-clause-agrees : goal.returns-in-Some-take-clause-agrees
+returns-in-Some-take-clause-agrees c = λ es new agrees.
+    turned_agree es new c.args.self.now c.turn.new.self c.turn.new.self.work c.turn.result (c.turn.ensures.kept.0.0 ∙ ap (λ (p : ProxyState). p.client) (c.self.view_is ∙ c.send.ensures.same c.in-None.is)) refl
+    (c.turn.ensures.turns es
     (turn_own es (the_view c.self.inside) c.args.self.now c.take.new.self (c.self.view_is ∙ c.send.ensures.same c.in-None.is) agrees)
-    (turn_errand es (the_view c.self.inside) c.args.self.now c.in-Some-take.work c.in-Some-take.errand (c.self.view_is ∙ c.send.ensures.same c.in-None.is) (sym c.in-Some-take.ensures.value) agrees)))
-    enters
+    (turn_errand es (the_view c.self.inside) c.args.self.now c.in-Some-take.work c.in-Some-take.errand (c.self.view_is ∙ c.send.ensures.same c.in-None.is) (sym c.in-Some-take.ensures.value) agrees))
 
-pub returns-in-Goes-clause-goes_on : goal.returns-in-Goes-clause-goes_on
-returns-in-Goes-clause-goes_on c =
-    goes_wants c.turn.new.self.known (record (the_view c.self-in-None.inside) { work = Some (c.in-Goes.work, c.in-Goes.errand) })
-    c.in_ok-step-in-None.field-0 c.in-Goes.step c.in-Goes.work c.in-Goes.errand c.in-Goes.is refl c.in_ok-step-in-None.ensures.sound
+pub returns-in-Some-take-clause-goes_on : goal.returns-in-Some-take-clause-goes_on
+returns-in-Some-take-clause-goes_on c =
+    turned_wants c.turn.new.self.known c.turn.new.self c.turn.new.self.work c.turn.result refl c.turn.ensures.sound
 
-pub returns-in-Goes-clause-falls : goal.returns-in-Goes-clause-falls
-returns-in-Goes-clause-falls c =
-    subst (λ (p : ProxyState). Falls p (with_work (the_view c.self-in-None.inside) c.in-Goes.work c.in-Goes.errand) c.in-Goes.step) (c.self.view_is ∙ c.send.ensures.same c.in-None.is)
-    (subst (λ (q : ProxyState). Falls (the_view c.self.inside) (with_work q c.in-Goes.work c.in-Goes.errand) c.in-Goes.step) (sym c.self-in-None.view_is)
-    (goes_falls (the_view c.self.inside) c.turn.new.self c.in-Some-take.work c.in-Goes.work c.in-Some-take.errand c.in-Goes.errand c.in-Goes.step c.in_ok-step-in-None.field-0
-    (sym c.in-Some-take.ensures.value) c.in-Goes.is c.in_ok-step-in-None.ensures.falls))
+pub returns-in-Some-take-clause-left : goal.returns-in-Some-take-clause-left
+returns-in-Some-take-clause-left c = λ es new agrees.
+    turned_left es new c.args.self.now c.turn.new.self c.turn.result (c.turn.ensures.kept.0.0 ∙ ap (λ (p : ProxyState). p.client) (c.self.view_is ∙ c.send.ensures.same c.in-None.is)) c.turn.ensures.kept.1
+    (c.turn.ensures.left es
+    (turn_own es (the_view c.self.inside) c.args.self.now c.take.new.self (c.self.view_is ∙ c.send.ensures.same c.in-None.is) agrees)
+    (turn_errand es (the_view c.self.inside) c.args.self.now c.in-Some-take.work c.in-Some-take.errand (c.self.view_is ∙ c.send.ensures.same c.in-None.is) (sym c.in-Some-take.ensures.value) agrees))
 
--- What is kept
+pub returns-in-Some-take-clause-falls : goal.returns-in-Some-take-clause-falls
+returns-in-Some-take-clause-falls c =
+    subst (λ (p : ProxyState). IfOk c.turn.result (Falls p c.turn.new.self)) (c.self.view_is ∙ c.send.ensures.same c.in-None.is)
+    (turned_falls (the_view c.self.inside) c.turn.new.self c.in-Some-take.work c.in-Some-take.errand (sym c.in-Some-take.ensures.value)
+    c.turn.new.self.work c.turn.result refl c.turn.ensures.falls)
 
-pub returns-in_err-step-in-None-clause-cache : goal.returns-in_err-step-in-None-clause-cache
-returns-in_err-step-in-None-clause-cache c =
-    subst (λ (p : ProxyState). CacheGoes p c.turn.new.self c.from_residual.result) (c.self.view_is ∙ c.send.ensures.same c.in-None.is)
-    (cache_fails (the_view c.self.inside) c.turn.new.self c.in-Some-take.work c.in-Some-take.errand (sym c.in-Some-take.ensures.value) _ c.from_residual.result
-    c.from_residual.ensures.0 c.in_err-step-in-None.ensures.cache)
+pub returns-in-Some-take-clause-cache : goal.returns-in-Some-take-clause-cache
+returns-in-Some-take-clause-cache c =
+    subst (λ (p : ProxyState). CacheGoes p c.turn.new.self c.turn.result) (c.self.view_is ∙ c.send.ensures.same c.in-None.is)
+    (turned_cache (the_view c.self.inside) c.turn.new.self c.in-Some-take.work c.in-Some-take.errand (sym c.in-Some-take.ensures.value)
+    c.turn.new.self.work c.turn.result refl c.turn.ensures.sound c.turn.ensures.cache)
 
-pub returns-in-Goes-clause-cache : goal.returns-in-Goes-clause-cache
-returns-in-Goes-clause-cache c =
-    let goes : Result ProxyStep NoMemory = Ok c.in-Goes.step in
-    subst (λ (p : ProxyState). CacheGoes p (with_work (the_view c.self-in-None.inside) c.in-Goes.work c.in-Goes.errand) goes) (c.self.view_is ∙ c.send.ensures.same c.in-None.is)
-    (subst (λ (q : ProxyState). CacheGoes (the_view c.self.inside) (with_work q c.in-Goes.work c.in-Goes.errand) goes) (sym c.self-in-None.view_is)
-    (cache_goes (the_view c.self.inside) (with_work c.turn.new.self c.in-Goes.work c.in-Goes.errand) c.in-Some-take.work c.in-Some-take.errand (sym c.in-Some-take.ensures.value)
-    c.in-Goes.work c.in-Goes.errand c.in-Goes.step c.in_ok-step-in-None.field-0 refl c.in-Goes.is c.in_ok-step-in-None.ensures.cache))
+pub returns-in-Some-take-clause-catalog : goal.returns-in-Some-take-clause-catalog
+returns-in-Some-take-clause-catalog c =
+    subst (λ (p : ProxyState). IfOk c.turn.result (CatalogGoes p c.turn.new.self)) (c.self.view_is ∙ c.send.ensures.same c.in-None.is)
+    (turned_catalog (the_view c.self.inside) c.turn.new.self c.in-Some-take.work c.in-Some-take.errand (sym c.in-Some-take.ensures.value)
+    c.turn.new.self.work c.turn.result refl c.turn.ensures.sound c.turn.ensures.catalog)
 
-pub returns-in-Goes-clause-catalog : goal.returns-in-Goes-clause-catalog
-returns-in-Goes-clause-catalog c =
-    subst (λ (p : ProxyState). CatalogGoes p (with_work (the_view c.self-in-None.inside) c.in-Goes.work c.in-Goes.errand) c.in-Goes.step) (c.self.view_is ∙ c.send.ensures.same c.in-None.is)
-    (subst (λ (q : ProxyState). CatalogGoes (the_view c.self.inside) (with_work q c.in-Goes.work c.in-Goes.errand) c.in-Goes.step) (sym c.self-in-None.view_is)
-    (catalog_goes (the_view c.self.inside) (with_work c.turn.new.self c.in-Goes.work c.in-Goes.errand) c.in-Some-take.work c.in-Some-take.errand (sym c.in-Some-take.ensures.value)
-    c.in-Goes.work c.in-Goes.errand c.in-Goes.step c.in_ok-step-in-None.field-0 refl c.in-Goes.is c.in_ok-step-in-None.ensures.catalog))
+pub returns-in-Some-take-clause-path : goal.returns-in-Some-take-clause-path
+returns-in-Some-take-clause-path c = λ op leaf begun path.
+    turned_reads c.args.self.now.known.nodes op leaf c.turn.new.self c.turn.new.self.work c.turn.result refl
+    (path_reads (the_view c.self.inside) c.args.self.now (c.self.view_is ∙ c.send.ensures.same c.in-None.is) c.in-Some-take.work c.in-Some-take.errand (sym c.in-Some-take.ensures.value)
+    (λ n op leaf. IfOk (turned c.turn.new.self.work c.turn.result) (ReadsLeaf n op leaf)) c.turn.ensures.path op leaf begun path)
 
-pub returns-in-Ends-clause-cache : goal.returns-in-Ends-clause-cache
-returns-in-Ends-clause-cache c =
-    subst (λ (p : ProxyState). CacheGoes p c.turn.new.self (Ok (steps.Done c.in-Ends.answer))) (c.self.view_is ∙ c.send.ensures.same c.in-None.is)
-    (cache_ends (the_view c.self.inside) c.turn.new.self c.in-Some-take.work c.in-Some-take.errand (sym c.in-Some-take.ensures.value)
-    c.in-Ends.answer (steps.Done c.in-Ends.answer) c.in_ok-step-in-None.field-0 c.in-Ends.is c.in_ok-step-in-None.ensures.cache)
+pub returns-in-Some-take-clause-leaf : goal.returns-in-Some-take-clause-leaf
+returns-in-Some-take-clause-leaf c = λ work errand under leaf.
+    leaf_ends (the_view c.self.inside) c.args.self.now (c.self.view_is ∙ c.send.ensures.same c.in-None.is) c.in-Some-take.work c.in-Some-take.errand (sym c.in-Some-take.ensures.value)
+    (λ answer. IfOk c.turn.result (λ step. step ≡ steps.Done answer))
+    (λ shown. turned_ends c.turn.new.self.work c.turn.result _ (c.turn.ensures.leaf shown)) work errand under leaf
 
-pub returns-in-Ends-clause-catalog : goal.returns-in-Ends-clause-catalog
-returns-in-Ends-clause-catalog c =
-    subst (λ (p : ProxyState). CatalogGoes p c.turn.new.self (steps.Done c.in-Ends.answer)) (c.self.view_is ∙ c.send.ensures.same c.in-None.is)
-    (catalog_ends (the_view c.self.inside) c.turn.new.self c.in-Some-take.work c.in-Some-take.errand (sym c.in-Some-take.ensures.value)
-    c.in-Ends.answer (steps.Done c.in-Ends.answer) c.in_ok-step-in-None.field-0 c.in-Ends.is c.in_ok-step-in-None.ensures.catalog)
-
--- A leaf alone
-
-pub returns-in-Goes-clause-path : goal.returns-in-Goes-clause-path
-returns-in-Goes-clause-path c = λ op leaf begun path. (
-  c.in-Goes.work,
-  c.in-Goes.errand,
-  refl,
-  subst (ReadsLeaf c.args.self.now.known.nodes op leaf) c.in-Goes.is
-      (path_reads (the_view c.self.inside) c.args.self.now (c.self.view_is ∙ c.send.ensures.same c.in-None.is) c.in-Some-take.work c.in-Some-take.errand (sym c.in-Some-take.ensures.value)
-      c.in_ok-step-in-None.field-0 c.in_ok-step-in-None.ensures.path op leaf begun path),
-)
-
-pub returns-in-Ends-clause-path : goal.returns-in-Ends-clause-path
-returns-in-Ends-clause-path c = λ op leaf begun path.
-    let reads = path_reads (the_view c.self.inside) c.args.self.now (c.self.view_is ∙ c.send.ensures.same c.in-None.is) c.in-Some-take.work c.in-Some-take.errand (sym c.in-Some-take.ensures.value)
-    c.in_ok-step-in-None.field-0 c.in_ok-step-in-None.ensures.path op leaf begun path in
-    let both = sym c.in-Ends.is ∙ reads.issues.1 in
-    absurd cc
-
-pub returns-in-Goes-clause-leaf : goal.returns-in-Goes-clause-leaf
-returns-in-Goes-clause-leaf c = λ work errand under leaf.
-    let ends = leaf_ends (the_view c.self.inside) c.args.self.now (c.self.view_is ∙ c.send.ensures.same c.in-None.is) c.in-Some-take.work c.in-Some-take.errand (sym c.in-Some-take.ensures.value)
-    c.in_ok-step-in-None.field-0 c.in_ok-step-in-None.ensures.leaf work errand under leaf in
-    let both = sym c.in-Goes.is ∙ ends in
-    absurd cc
-
-pub returns-in-Ends-clause-leaf : goal.returns-in-Ends-clause-leaf
-returns-in-Ends-clause-leaf c = λ work errand under leaf.
-    let ends = leaf_ends (the_view c.self.inside) c.args.self.now (c.self.view_is ∙ c.send.ensures.same c.in-None.is) c.in-Some-take.work c.in-Some-take.errand (sym c.in-Some-take.ensures.value)
-    c.in_ok-step-in-None.field-0 c.in_ok-step-in-None.ensures.leaf work errand under leaf in
-    let both : turns.Ends c.in-Ends.answer ≡ turns.Ends (shown_by c.args.self.now.known work (read_by errand) leaf) = sym c.in-Ends.is ∙ ends in
-    ap steps.Done cc
-
--- Calls
-
-pub returns-in-Goes-clause-calls : goal.returns-in-Goes-clause-calls
-returns-in-Goes-clause-calls c = λ work tid x purpose node request under is.
-    absurd (subst IsEnd is (subst IsSentWholeIn under (c.send.ensures.whole c.in-None.is)))
-
-pub returns-in-Ends-clause-calls : goal.returns-in-Ends-clause-calls
-returns-in-Ends-clause-calls c = λ work tid x purpose node request under is.
+pub returns-in-Some-take-clause-calls : goal.returns-in-Some-take-clause-calls
+returns-in-Some-take-clause-calls c = λ work tid x purpose node request under is.
     absurd (subst IsEnd is (subst IsSentWholeIn under (c.send.ensures.whole c.in-None.is)))
 
 -- A request that is handed out

@@ -5,5 +5,4 @@ use Rattle.mn_proxy.proofs.proxy.Proxy.peek.Goals as goal
 
 pub returns-clause-falls : goal.returns-clause-falls
 returns-clause-falls c =
-    peek_goes c.args.self.now (the_view c.self.inside) c.args.work c.args.place c.args.purpose _ c.goes.result
-    c.self.view_is c.requires.left c.goes.ensures
+    peek_goes c.args.self.now (the_view c.self.inside) c.self.view_is c.requires.left

@@ -1,4 +1,5 @@
 -- Node 0, which has the catalog, is one of the nodes.
+use Rattle.mn_proxy.specs.Turn.{turned}
 use Rattle.std.proofs.Common.{◌<◌, ℕ, ap, subst, sym}
 use Rattle.mn_world.specs.Places.{Place}
 use Rattle.std.specs.Prelude.{IfOk}
@@ -14,4 +15,4 @@ read-requires-clause-node c =
 
 pub returns-clause-reads : goal.returns-clause-reads
 returns-clause-reads c =
-    subst (λ (p : Place). IfOk c.read.result (Issues c.args.work by.Catalog (read_mini c.args.self.now.known.nodes p))) c.of_catalog.ensures c.read.ensures.reads
+    subst (λ (p : Place). IfOk (turned c.read.new.self.work c.read.result) (Issues c.args.work by.Catalog (read_mini c.args.self.now.known.nodes p))) c.of_catalog.ensures c.read.ensures.reads

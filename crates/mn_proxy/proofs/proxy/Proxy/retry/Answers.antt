@@ -1,4 +1,5 @@
 -- The next try asks for the catalog anew.
+use Rattle.mn_proxy.specs.Turn.{turned}
 use Rattle.mn_proxy.specs.contracts.proxy.Proxy.{the_view}
 use Rattle.mn_proxy.proofs.Retrying.{own_forgotten_as, retried_as}
 use Rattle.mn_proxy.proofs.Measure.{same_goes}
@@ -24,7 +25,7 @@ returns-clause-left c = λ es own.
 
 pub returns-clause-falls : goal.returns-clause-falls
 returns-clause-falls c =
-    same_goes c.args.self.now (the_view c.self.inside) c.read_catalog.new.self c.read_catalog.result c.self.view_is c.read_catalog.ensures.falls
+    same_goes c.args.self.now (the_view c.self.inside) c.read_catalog.new.self (turned c.read_catalog.new.self.work c.read_catalog.result) c.self.view_is c.read_catalog.ensures.falls
 
 pub returns-clause-cache : goal.returns-clause-cache
 returns-clause-cache c =
@@ -32,6 +33,6 @@ returns-clause-cache c =
 
 pub returns-clause-catalog : goal.returns-clause-catalog
 returns-clause-catalog c =
-    catalog_gone c.args.self.now.known.catalog c.read_catalog.new.self.known.catalog c.retry.new.self _ c.read_catalog.result
+    catalog_gone c.args.self.now.known.catalog c.read_catalog.new.self.known.catalog c.retry.new.self _ (turned c.read_catalog.new.self.work c.read_catalog.result)
     (ap (λ (k : Known). k.catalog) c.read_catalog.ensures.known)
     (ap (λ (w : Work). is_later w.failed) (c.retry.ensures ∙ ap retried c.get_mut.ensures.same) ∙ later_now c.args.work.failed) c.read_catalog.ensures.reads

@@ -1,19 +1,22 @@
 -- What was read goes on, is a leaf, shows the reply, or failed the try.
+use Rattle.mn_proxy.proofs.Ended.{ends_when}
+use Rattle.mn_proxy.specs.declared.step.ProxyStep.TheVariants as steps
+use Rattle.mn_proxy.specs.Turn.{turn_of, turned}
 use Rattle.std.proofs.Common.{◌≡◌, ◌∙◌, inl, inr, ap, subst, sym, refl, lit<}
 use Rattle.mn_proxy.specs.State.{ProxyState}
 use Rattle.mn_proxy.specs.Turns.{IsSoundTurn, TurnAgrees, WaitsFor, with_known}
 use Rattle.mn_proxy.specs.Agrees.{IsOwn}
 use Rattle.mn_work.specs.declared.next.Taken.{Taken}
 use Rattle.mn_proxy.specs.contracts.proxy.Proxy.{the_view}
-use Rattle.mn_proxy.proofs.Taking.{TakenTells, few_as, job_as, kept_as, none_left, none_made, own_left_as, replies_as, sound_left, startable_as, tells_as}
+use Rattle.mn_proxy.proofs.Taking.{TakenTells, few_as, job_as, kept_as, none_left, none_made, none_turned, own_left_as, replies_as, sound_left, startable_as, tells_as}
 use Rattle.mn_proxy.specs.Measure.{GoesBelow, left_after}
 use Rattle.mn_proxy.proofs.Measure.{same_goes}
 use Rattle.std.proofs.Common.{Some, Ok, Result}
 use Rattle.mn_base.specs.declared.answer.Answer.TheVariants as answers
 use Rattle.mn_base.specs.declared.error.NoMemory.{NoMemory}
 use Rattle.mn_base.specs.declared.reply.Reply.{Reply}
-use Rattle.mn_proxy.specs.declared.proxy.Turn.{Turn}
-use Rattle.mn_proxy.specs.declared.proxy.Turn.TheVariants as turns
+use Rattle.mn_proxy.specs.Turn.{Turn}
+use Rattle.mn_proxy.specs.Turn as turns
 use Rattle.mn_work.specs.Descents.{values_at}
 use Rattle.mn_proxy.specs.Kept.{CatalogTurns}
 use Rattle.mn_proxy.specs.LeafReads.{shown_by}
@@ -38,11 +41,11 @@ invariant_of-self c =
 
 pub returns-in_err-taken_for-clause-sound : goal.returns-in_err-taken_for-clause-sound
 returns-in_err-taken_for-clause-sound c =
-    none_made c.from_residual.result (IsSoundTurn c.taken_for.new.known) c.from_residual.ensures.0
+    none_made _ c.from_residual.result (IsSoundTurn c.taken_for.new.known) c.from_residual.ensures.0
 
 pub returns-in_err-taken_for-clause-turns : goal.returns-in_err-taken_for-clause-turns
 returns-in_err-taken_for-clause-turns c = λ es own read closed over.
-    none_made c.from_residual.result (TurnAgrees es (with_known (the_view c.self.inside) c.taken_for.new.known)) c.from_residual.ensures.0
+    none_made _ c.from_residual.result (TurnAgrees es (with_known (the_view c.self.inside) c.taken_for.new.known)) c.from_residual.ensures.0
 
 pub returns-in_err-taken_for-clause-left : goal.returns-in_err-taken_for-clause-left
 returns-in_err-taken_for-clause-left c = λ es own read.
@@ -52,7 +55,7 @@ returns-in_err-taken_for-clause-left c = λ es own read.
 pub returns-in_err-taken_for-clause-kept : goal.returns-in_err-taken_for-clause-kept
 returns-in_err-taken_for-clause-kept c =
     kept_as (the_view c.self.inside) c.args.self.now (with_known (the_view c.self.inside) c.taken_for.new.known) c.taken_for.new.known c.args.purpose c.args.bytes c.self.view_is c.taken_for.ensures.leaves
-    ((refl, refl, refl), ap (λ (p : ProxyState). p.work) c.self.view_is ∙ c.requires.idle)
+    ((refl, refl, refl), none_left c.from_residual.result _ (ap (λ (p : ProxyState). p.work) c.self.view_is ∙ c.requires.idle))
 
 pub invariant_of-self-in-GoesOn : goal.invariant_of-self-in-GoesOn
 invariant_of-self-in-GoesOn c =
@@ -145,17 +148,17 @@ returns-in-Leaf-clause-kept c =
     kept_as (the_view c.self.inside) c.args.self.now c.advance-in-Leaf.new.self c.taken_for.new.known c.args.purpose c.args.bytes c.self.view_is c.taken_for.ensures.leaves c.advance-in-Leaf.ensures.kept
 
 pub returns-in-Replies-clause-sound : goal.returns-in-Replies-clause-sound
-returns-in-Replies-clause-sound c = subst (IsSoundTurn c.taken_for.new.known) (sym c.ends.ensures) tt
+returns-in-Replies-clause-sound c = subst (IsSoundTurn c.taken_for.new.known) (ends_when (the_view c.self.inside).work (answers.Replied c.in-Replies.reply) (ap (λ (p : ProxyState). p.work) c.self.view_is ∙ c.requires.idle)) tt
 
 pub returns-in-Replies-clause-turns : goal.returns-in-Replies-clause-turns
 returns-in-Replies-clause-turns c = λ es own read closed over.
-    replies_as es (the_view c.self.inside) c.args.self.now c.self.view_is c.taken_for.new.known c.args.work c.args.purpose c.args.bytes own read c.taken_for.new.work c.in_ok-taken_for.field-0 c.in-Replies.reply c.ends.result (with_known (the_view c.self.inside) c.taken_for.new.known) refl c.ends.ensures c.in-Replies.is c.requires.waits closed over c.in_ok-taken_for.ensures.came c.taken_for.ensures.leaves
+    replies_as es (the_view c.self.inside) c.args.self.now c.self.view_is c.taken_for.new.known c.args.work c.args.purpose c.args.bytes own read c.taken_for.new.work c.in_ok-taken_for.field-0 c.in-Replies.reply (turn_of (the_view c.self.inside).work (steps.Done (answers.Replied c.in-Replies.reply))) (with_known (the_view c.self.inside) c.taken_for.new.known) refl (sym (ends_when (the_view c.self.inside).work (answers.Replied c.in-Replies.reply) (ap (λ (p : ProxyState). p.work) c.self.view_is ∙ c.requires.idle))) c.in-Replies.is c.requires.waits closed over c.in_ok-taken_for.ensures.came c.taken_for.ensures.leaves
 
 pub returns-in-Replies-clause-kept : goal.returns-in-Replies-clause-kept
 returns-in-Replies-clause-kept c =
     kept_as (the_view c.self.inside) c.args.self.now (with_known (the_view c.self.inside) c.taken_for.new.known) c.taken_for.new.known c.args.purpose c.args.bytes c.self.view_is c.taken_for.ensures.leaves (
       (refl, refl, refl),
-      ap (λ (p : ProxyState). p.work) c.self.view_is ∙ c.requires.idle,
+      tt,
     )
 
 pub returns-in-Fails-clause-sound : goal.returns-in-Fails-clause-sound
@@ -178,52 +181,52 @@ returns-in-Fails-clause-kept c =
 
 pub returns-in_err-taken_for-clause-falls : goal.returns-in_err-taken_for-clause-falls
 returns-in_err-taken_for-clause-falls c =
-    none_made c.from_residual.result (GoesBelow (left_after c.args.self.now) (with_known (the_view c.self.inside) c.taken_for.new.known)) c.from_residual.ensures.0
+    none_made _ c.from_residual.result (GoesBelow (left_after c.args.self.now) (with_known (the_view c.self.inside) c.taken_for.new.known)) c.from_residual.ensures.0
 
 pub returns-in-GoesOn-clause-falls : goal.returns-in-GoesOn-clause-falls
 returns-in-GoesOn-clause-falls c =
-    same_goes c.args.self.now (the_view c.self.inside) c.advance.new.self c.advance.result c.self.view_is c.advance.ensures.falls
+    same_goes c.args.self.now (the_view c.self.inside) c.advance.new.self (turned c.advance.new.self.work c.advance.result) c.self.view_is c.advance.ensures.falls
 
 pub returns-in-Leaf-clause-falls : goal.returns-in-Leaf-clause-falls
 returns-in-Leaf-clause-falls c =
-    same_goes c.args.self.now (the_view c.self.inside) c.advance-in-Leaf.new.self c.advance-in-Leaf.result c.self.view_is c.advance-in-Leaf.ensures.falls
+    same_goes c.args.self.now (the_view c.self.inside) c.advance-in-Leaf.new.self (turned c.advance-in-Leaf.new.self.work c.advance-in-Leaf.result) c.self.view_is c.advance-in-Leaf.ensures.falls
 
 pub returns-in-Fails-clause-falls : goal.returns-in-Fails-clause-falls
 returns-in-Fails-clause-falls c =
-    same_goes c.args.self.now (the_view c.self.inside) c.fail.new.self c.fail.result c.self.view_is c.fail.ensures.falls
+    same_goes c.args.self.now (the_view c.self.inside) c.fail.new.self (turned c.fail.new.self.work c.fail.result) c.self.view_is c.fail.ensures.falls
 
 pub returns-in-Replies-clause-falls : goal.returns-in-Replies-clause-falls
-returns-in-Replies-clause-falls c = subst (GoesBelow (left_after c.args.self.now) (with_known (the_view c.self.inside) c.taken_for.new.known)) (sym c.ends.ensures) tt
+returns-in-Replies-clause-falls c = subst (GoesBelow (left_after c.args.self.now) (with_known (the_view c.self.inside) c.taken_for.new.known)) (ends_when (the_view c.self.inside).work (answers.Replied c.in-Replies.reply) (ap (λ (p : ProxyState). p.work) c.self.view_is ∙ c.requires.idle)) tt
 
 -- What is kept
 
 pub returns-in_err-taken_for-clause-cache : goal.returns-in_err-taken_for-clause-cache
 returns-in_err-taken_for-clause-cache c =
-    cache_left (the_view c.self.inside) c.args.self.now c.self.view_is (Some (c.args.purpose, c.args.bytes)) (is_later c.args.work.failed) c.taken_for.new.known.cache c.taken_for.result c.from_residual.result
-    c.from_residual.ensures.0 c.taken_for.ensures.cache
+    cache_left (the_view c.self.inside) c.args.self.now c.self.view_is (Some (c.args.purpose, c.args.bytes)) (is_later c.args.work.failed) c.taken_for.new.known.cache c.taken_for.result (turned (the_view c.self.inside).work c.from_residual.result)
+    (none_turned (the_view c.self.inside).work c.from_residual.result c.from_residual.ensures.0) c.taken_for.ensures.cache
 
 pub returns-in_err-taken_for-clause-catalog : goal.returns-in_err-taken_for-clause-catalog
 returns-in_err-taken_for-clause-catalog c =
-    none_made c.from_residual.result (CatalogTurns (Some (c.args.purpose, c.args.bytes)) c.args.self.now.known.catalog c.taken_for.new.known.catalog) c.from_residual.ensures.0
+    none_made _ c.from_residual.result (CatalogTurns (Some (c.args.purpose, c.args.bytes)) c.args.self.now.known.catalog c.taken_for.new.known.catalog) c.from_residual.ensures.0
 
 pub returns-in_err-taken_for-clause-leaf : goal.returns-in_err-taken_for-clause-leaf
 returns-in_err-taken_for-clause-leaf c = λ leaf.
-    none_made c.from_residual.result (λ t. t ≡ turns.Ends (shown_by c.args.self.now.known c.args.work (Some (c.args.purpose, c.args.bytes)) leaf)) c.from_residual.ensures.0
+    none_made _ c.from_residual.result (λ t. t ≡ turns.Ends (shown_by c.args.self.now.known c.args.work (Some (c.args.purpose, c.args.bytes)) leaf)) c.from_residual.ensures.0
 
 pub returns-in-GoesOn-clause-cache : goal.returns-in-GoesOn-clause-cache
 returns-in-GoesOn-clause-cache c =
     cache_then (the_view c.self.inside) c.args.self.now c.self.view_is (Some (c.args.purpose, c.args.bytes)) (is_later c.args.work.failed) (is_later c.taken_for.new.work.failed) c.taken_for.new.known.cache c.advance.new.self.known.cache
-    c.in_ok-taken_for.field-0 c.advance.result c.in_ok-taken_for.ensures.cache (λ late. sym (ap is_later (came_op (the_view c.self.inside).known c.taken_for.new.known c.args.work c.taken_for.new.work c.args.purpose c.args.bytes c.in_ok-taken_for.field-0 c.in_ok-taken_for.ensures.came)) ∙ late) c.advance.ensures.cache
+    c.in_ok-taken_for.field-0 (turned c.advance.new.self.work c.advance.result) c.in_ok-taken_for.ensures.cache (λ late. sym (ap is_later (came_op (the_view c.self.inside).known c.taken_for.new.known c.args.work c.taken_for.new.work c.args.purpose c.args.bytes c.in_ok-taken_for.field-0 c.in_ok-taken_for.ensures.came)) ∙ late) c.advance.ensures.cache
 
 pub returns-in-Leaf-clause-cache : goal.returns-in-Leaf-clause-cache
 returns-in-Leaf-clause-cache c =
     cache_then (the_view c.self.inside) c.args.self.now c.self.view_is (Some (c.args.purpose, c.args.bytes)) (is_later c.args.work.failed) (is_later 0) c.taken_for.new.known.cache c.advance-in-Leaf.new.self.known.cache
-    c.in_ok-taken_for.field-0 c.advance-in-Leaf.result c.in_ok-taken_for.ensures.cache (λ late. absurd (never_later late)) c.advance-in-Leaf.ensures.cache
+    c.in_ok-taken_for.field-0 (turned c.advance-in-Leaf.new.self.work c.advance-in-Leaf.result) c.in_ok-taken_for.ensures.cache (λ late. absurd (never_later late)) c.advance-in-Leaf.ensures.cache
 
 pub returns-in-GoesOn-clause-catalog : goal.returns-in-GoesOn-clause-catalog
 returns-in-GoesOn-clause-catalog c =
     catalog_next (the_view c.self.inside) c.args.self.now c.self.view_is c.args.work c.taken_for.new.work c.args.purpose c.args.bytes c.in_ok-taken_for.field-0 c.taken_for.new.known
-    c.advance.new.self.known.catalog c.advance.result c.in_ok-taken_for.ensures.came c.advance.ensures.catalog
+    c.advance.new.self.known.catalog (turned c.advance.new.self.work c.advance.result) c.in_ok-taken_for.ensures.came c.advance.ensures.catalog
 
 pub returns-in-GoesOn-clause-leaf : goal.returns-in-GoesOn-clause-leaf
 returns-in-GoesOn-clause-leaf c = λ leaf.
@@ -234,7 +237,7 @@ returns-in-GoesOn-clause-leaf c = λ leaf.
 pub returns-in-Leaf-clause-catalog : goal.returns-in-Leaf-clause-catalog
 returns-in-Leaf-clause-catalog c =
     catalog_next (the_view c.self.inside) c.args.self.now c.self.view_is c.args.work c.taken_for.new.work c.args.purpose c.args.bytes c.in_ok-taken_for.field-0 c.taken_for.new.known
-    c.advance-in-Leaf.new.self.known.catalog c.advance-in-Leaf.result c.in_ok-taken_for.ensures.came c.advance-in-Leaf.ensures.catalog
+    c.advance-in-Leaf.new.self.known.catalog (turned c.advance-in-Leaf.new.self.work c.advance-in-Leaf.result) c.in_ok-taken_for.ensures.came c.advance-in-Leaf.ensures.catalog
 
 pub returns-in-Leaf-clause-leaf : goal.returns-in-Leaf-clause-leaf
 returns-in-Leaf-clause-leaf c = λ leaf.
@@ -245,7 +248,7 @@ returns-in-Leaf-clause-leaf c = λ leaf.
 pub returns-in-Fails-clause-catalog : goal.returns-in-Fails-clause-catalog
 returns-in-Fails-clause-catalog c =
     catalog_next (the_view c.self.inside) c.args.self.now c.self.view_is c.args.work c.taken_for.new.work c.args.purpose c.args.bytes c.in_ok-taken_for.field-0 c.taken_for.new.known
-    c.fail.new.self.known.catalog c.fail.result c.in_ok-taken_for.ensures.came c.fail.ensures.catalog
+    c.fail.new.self.known.catalog (turned c.fail.new.self.work c.fail.result) c.in_ok-taken_for.ensures.came c.fail.ensures.catalog
 
 pub returns-in-Fails-clause-leaf : goal.returns-in-Fails-clause-leaf
 returns-in-Fails-clause-leaf c = λ leaf.
@@ -256,16 +259,16 @@ returns-in-Fails-clause-leaf c = λ leaf.
 pub returns-in-Fails-clause-cache : goal.returns-in-Fails-clause-cache
 returns-in-Fails-clause-cache c =
     cache_last (the_view c.self.inside) c.args.self.now c.self.view_is (Some (c.args.purpose, c.args.bytes)) (is_later c.args.work.failed) c.taken_for.new.known.cache c.fail.new.self.known.cache
-    c.in_ok-taken_for.field-0 c.fail.result c.in_ok-taken_for.ensures.cache c.fail.ensures.cache
+    c.in_ok-taken_for.field-0 (turned c.fail.new.self.work c.fail.result) c.in_ok-taken_for.ensures.cache c.fail.ensures.cache
 
 pub returns-in-Replies-clause-cache : goal.returns-in-Replies-clause-cache
 returns-in-Replies-clause-cache c =
     cache_last (the_view c.self.inside) c.args.self.now c.self.view_is (Some (c.args.purpose, c.args.bytes)) (is_later c.args.work.failed) c.taken_for.new.known.cache c.taken_for.new.known.cache
-    c.in_ok-taken_for.field-0 (Ok c.ends.result) c.in_ok-taken_for.ensures.cache refl
+    c.in_ok-taken_for.field-0 (Ok (turn_of (the_view c.self.inside).work (steps.Done (answers.Replied c.in-Replies.reply)))) c.in_ok-taken_for.ensures.cache refl
 
 pub returns-in-Replies-clause-catalog : goal.returns-in-Replies-clause-catalog
 returns-in-Replies-clause-catalog c =
-    let result : Result Turn NoMemory = Ok c.ends.result in
+    let result : Result Turn NoMemory = Ok (turn_of (the_view c.self.inside).work (steps.Done (answers.Replied c.in-Replies.reply))) in
     catalog_next (the_view c.self.inside) c.args.self.now c.self.view_is c.args.work c.taken_for.new.work c.args.purpose c.args.bytes c.in_ok-taken_for.field-0 c.taken_for.new.known
     c.taken_for.new.known.catalog result c.in_ok-taken_for.ensures.came
     (catalog_stays c.taken_for.new.known.catalog c.taken_for.new.known.catalog result refl)
@@ -275,4 +278,4 @@ returns-in-Replies-clause-leaf c = λ leaf.
     let replies = leaf_next (the_view c.self.inside) c.args.self.now c.self.view_is c.args.work c.taken_for.new.work c.args.purpose c.args.bytes c.in_ok-taken_for.field-0 c.taken_for.new.known c.in_ok-taken_for.ensures.came leaf in
     let both : Taken.Replies c.in-Replies.reply ≡ Taken.Replies (values_at leaf.page leaf.key) = sym c.in-Replies.is ∙ replies in
     let same : c.in-Replies.reply ≡ values_at leaf.page leaf.key = cc in
-    c.ends.ensures ∙ ap (λ (r : Reply). turns.Ends (answers.Replied r)) same
+    sym (ends_when (the_view c.self.inside).work (answers.Replied c.in-Replies.reply) (ap (λ (p : ProxyState). p.work) c.self.view_is ∙ c.requires.idle)) ∙ ap (λ (r : Reply). turns.Ends (answers.Replied r)) same

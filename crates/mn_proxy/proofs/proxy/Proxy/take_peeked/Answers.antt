@@ -1,4 +1,8 @@
-use Rattle.std.proofs.Common.{refl, subst, sym}
+use Rattle.mn_proxy.proofs.Ended.{ends_when}
+use Rattle.mn_proxy.specs.declared.step.ProxyStep.TheVariants as steps
+use Rattle.mn_base.specs.declared.answer.Answer.TheVariants as answers
+use Rattle.mn_proxy.specs.Turn.{turn_of, turned}
+use Rattle.std.proofs.Common.{refl, subst}
 use Rattle.mn_proxy.specs.Agrees.{MayWant, PeekedAgrees}
 use Rattle.mn_work.specs.Places.{place_of}
 use Rattle.mn_proxy.specs.Turns.{TurnAgrees}
@@ -10,7 +14,7 @@ use Rattle.mn_mini.specs.declared.reply.NodeReply.TheVariants as Say
 use Rattle.mn_proxy.specs.declared.errand.Errand.TheVariants as out
 use Rattle.mn_proxy.specs.declared.errand.Purpose.{Purpose}
 use Rattle.mn_work.specs.declared.place.Place.{Place}
-use Rattle.mn_proxy.specs.declared.proxy.Turn.{Turn}
+use Rattle.mn_proxy.specs.Turn.{Turn}
 use Rattle.mn_proxy.specs.Kept.{read_by}
 use Rattle.mn_work.specs.Walks.{is_later}
 use Rattle.mn_proxy.proofs.Kept.{cache_as, catalog_as, catalog_stays, leaf_as, peeked_none, unread_cache, unread_catalog, unread_leaf}
@@ -23,7 +27,7 @@ returns-in-Peeked-clause-want c = λ es own agrees.
 
 pub returns-in-Down-clause-turns : goal.returns-in-Down-clause-turns
 returns-in-Down-clause-turns c = λ es own agrees.
-    subst (TurnAgrees es c.args.self.now) (sym c.ends.ensures)
+    subst (TurnAgrees es c.args.self.now) (ends_when c.args.self.now.work (answers.Down c.args.place.node) c.requires.idle)
     (peeked_down es c.args.self.now c.args.work (place_of c.args.place) c.args.purpose own
     (subst (PeekedAgrees es c.args.self.now.known c.args.work (place_of c.args.place) c.args.purpose) c.in-Down.is agrees.0) agrees.1)
 
@@ -50,27 +54,27 @@ peeked place reply as_is purpose is = ap (λ (r : NodeReply). read_by (out.Peeke
 
 pub returns-in-Peeked-clause-cache : goal.returns-in-Peeked-clause-cache
 returns-in-Peeked-clause-cache c =
-    cache_as (read_by (out.Peeked c.args.place c.args.reply c.args.purpose)) (Some (c.args.purpose, c.in-Peeked.bytes)) (is_later c.args.work.failed) c.args.self.now.known.cache c.take.new.self.known.cache c.take.result
+    cache_as (read_by (out.Peeked c.args.place c.args.reply c.args.purpose)) (Some (c.args.purpose, c.in-Peeked.bytes)) (is_later c.args.work.failed) c.args.self.now.known.cache c.take.new.self.known.cache (turned c.take.new.self.work c.take.result)
     (peeked c.args.place c.args.reply (Say.Peeked c.in-Peeked.bytes) c.args.purpose c.in-Peeked.is) c.take.ensures.cache
 
 pub returns-in-Peeked-clause-catalog : goal.returns-in-Peeked-clause-catalog
 returns-in-Peeked-clause-catalog c =
-    catalog_as (read_by (out.Peeked c.args.place c.args.reply c.args.purpose)) (Some (c.args.purpose, c.in-Peeked.bytes)) c.args.self.now.known.catalog c.take.new.self.known.catalog c.take.result
+    catalog_as (read_by (out.Peeked c.args.place c.args.reply c.args.purpose)) (Some (c.args.purpose, c.in-Peeked.bytes)) c.args.self.now.known.catalog c.take.new.self.known.catalog (turned c.take.new.self.work c.take.result)
     (peeked c.args.place c.args.reply (Say.Peeked c.in-Peeked.bytes) c.args.purpose c.in-Peeked.is) c.take.ensures.catalog
 
 pub returns-in-Peeked-clause-leaf : goal.returns-in-Peeked-clause-leaf
 returns-in-Peeked-clause-leaf c =
-    leaf_as c.args.self.now.known c.args.work (read_by (out.Peeked c.args.place c.args.reply c.args.purpose)) (Some (c.args.purpose, c.in-Peeked.bytes)) c.take.result
+    leaf_as c.args.self.now.known c.args.work (read_by (out.Peeked c.args.place c.args.reply c.args.purpose)) (Some (c.args.purpose, c.in-Peeked.bytes)) (turned c.take.new.self.work c.take.result)
     (peeked c.args.place c.args.reply (Say.Peeked c.in-Peeked.bytes) c.args.purpose c.in-Peeked.is) c.take.ensures.leaf
 
 pub returns-in-Down-clause-cache : goal.returns-in-Down-clause-cache
 returns-in-Down-clause-cache c =
-    unread_cache (read_by (out.Peeked c.args.place c.args.reply c.args.purpose)) (is_later c.args.work.failed) c.args.self.now.known.cache c.args.self.now.known.cache (Ok c.ends.result)
+    unread_cache (read_by (out.Peeked c.args.place c.args.reply c.args.purpose)) (is_later c.args.work.failed) c.args.self.now.known.cache c.args.self.now.known.cache (Ok (turn_of c.args.self.now.work (steps.Done (answers.Down c.args.place.node))))
     (peeked c.args.place c.args.reply Say.Down c.args.purpose c.in-Down.is) refl
 
 pub returns-in-Down-clause-catalog : goal.returns-in-Down-clause-catalog
 returns-in-Down-clause-catalog c =
-    let result : Result Turn NoMemory = Ok c.ends.result in
+    let result : Result Turn NoMemory = Ok (turn_of c.args.self.now.work (steps.Done (answers.Down c.args.place.node))) in
     unread_catalog (read_by (out.Peeked c.args.place c.args.reply c.args.purpose)) c.args.self.now.known.catalog c.args.self.now.known.catalog result
     (peeked c.args.place c.args.reply Say.Down c.args.purpose c.in-Down.is)
     (catalog_stays c.args.self.now.known.catalog c.args.self.now.known.catalog result refl)

@@ -1,3 +1,4 @@
+use Rattle.mn_proxy.specs.Turn.{turned}
 use Rattle.std.proofs.Common.{subst, sym}
 use Rattle.mn_proxy.specs.declared.errand.Errand.{Errand}
 use Rattle.mn_proxy.specs.Agrees.{ErrandAgrees, MayWant}
@@ -20,27 +21,27 @@ returns-in-Nothing-clause-want c = λ es own rest.
 
 pub returns-in-Nothing-clause-falls : goal.returns-in-Nothing-clause-falls
 returns-in-Nothing-clause-falls c =
-    errand_goes c.args.self.now c.advance.new.self c.args.work c.args.errand c.advance.result c.advance.ensures.falls
+    errand_goes c.args.self.now c.advance.new.self c.args.work c.args.errand (turned c.advance.new.self.work c.advance.result) c.advance.ensures.falls
 
 pub returns-in-Peeked-clause-falls : goal.returns-in-Peeked-clause-falls
 returns-in-Peeked-clause-falls c =
-    errand_goes c.args.self.now c.take_peeked.new.self c.args.work c.args.errand c.take_peeked.result c.take_peeked.ensures.falls
+    errand_goes c.args.self.now c.take_peeked.new.self c.args.work c.args.errand (turned c.take_peeked.new.self.work c.take_peeked.result) c.take_peeked.ensures.falls
 
 pub returns-in-Mini-clause-falls : goal.returns-in-Mini-clause-falls
 returns-in-Mini-clause-falls c =
-    subst (λ (e : Errand). IfOk c.coordinate.result (GoesBelow (steps_left (with_work c.args.self.now c.args.work e)) c.coordinate.new.self))
+    subst (λ (e : Errand). IfOk (turned c.coordinate.new.self.work c.coordinate.result) (GoesBelow (steps_left (with_work c.args.self.now c.args.work e)) c.coordinate.new.self))
     (sym c.in-Mini.is) c.coordinate.ensures.falls
 
 -- What is kept
 
 pub returns-in-Nothing-clause-cache : goal.returns-in-Nothing-clause-cache
 returns-in-Nothing-clause-cache c =
-    cache_as (read_by c.args.errand) None (is_later c.args.work.failed) c.args.self.now.known.cache c.advance.new.self.known.cache c.advance.result
+    cache_as (read_by c.args.errand) None (is_later c.args.work.failed) c.args.self.now.known.cache c.advance.new.self.known.cache (turned c.advance.new.self.work c.advance.result)
     (ap read_by c.in-Nothing.is) c.advance.ensures.cache
 
 pub returns-in-Nothing-clause-catalog : goal.returns-in-Nothing-clause-catalog
 returns-in-Nothing-clause-catalog c =
-    catalog_as (read_by c.args.errand) None c.args.self.now.known.catalog c.advance.new.self.known.catalog c.advance.result
+    catalog_as (read_by c.args.errand) None c.args.self.now.known.catalog c.advance.new.self.known.catalog (turned c.advance.new.self.work c.advance.result)
     (ap read_by c.in-Nothing.is) c.advance.ensures.catalog
 
 pub returns-in-Nothing-clause-path : goal.returns-in-Nothing-clause-path
@@ -56,12 +57,12 @@ returns-in-Peek-clause-cache c =
 
 pub returns-in-Peeked-clause-cache : goal.returns-in-Peeked-clause-cache
 returns-in-Peeked-clause-cache c =
-    cache_as (read_by c.args.errand) _ (is_later c.args.work.failed) c.args.self.now.known.cache c.take_peeked.new.self.known.cache c.take_peeked.result
+    cache_as (read_by c.args.errand) _ (is_later c.args.work.failed) c.args.self.now.known.cache c.take_peeked.new.self.known.cache (turned c.take_peeked.new.self.work c.take_peeked.result)
     (ap read_by c.in-Peeked.is) c.take_peeked.ensures.cache
 
 pub returns-in-Peeked-clause-catalog : goal.returns-in-Peeked-clause-catalog
 returns-in-Peeked-clause-catalog c =
-    catalog_as (read_by c.args.errand) _ c.args.self.now.known.catalog c.take_peeked.new.self.known.catalog c.take_peeked.result
+    catalog_as (read_by c.args.errand) _ c.args.self.now.known.catalog c.take_peeked.new.self.known.catalog (turned c.take_peeked.new.self.work c.take_peeked.result)
     (ap read_by c.in-Peeked.is) c.take_peeked.ensures.catalog
 
 pub returns-in-Peeked-clause-path : goal.returns-in-Peeked-clause-path
@@ -70,16 +71,16 @@ returns-in-Peeked-clause-path c = λ op leaf new nothing path.
 
 pub returns-in-Peeked-clause-leaf : goal.returns-in-Peeked-clause-leaf
 returns-in-Peeked-clause-leaf c =
-    leaf_as c.args.self.now.known c.args.work (read_by c.args.errand) _ c.take_peeked.result (ap read_by c.in-Peeked.is) c.take_peeked.ensures.leaf
+    leaf_as c.args.self.now.known c.args.work (read_by c.args.errand) _ (turned c.take_peeked.new.self.work c.take_peeked.result) (ap read_by c.in-Peeked.is) c.take_peeked.ensures.leaf
 
 pub returns-in-Mini-clause-cache : goal.returns-in-Mini-clause-cache
 returns-in-Mini-clause-cache c =
-    cache_as (read_by c.args.errand) _ (is_later c.args.work.failed) c.args.self.now.known.cache c.coordinate.new.self.known.cache c.coordinate.result
+    cache_as (read_by c.args.errand) _ (is_later c.args.work.failed) c.args.self.now.known.cache c.coordinate.new.self.known.cache (turned c.coordinate.new.self.work c.coordinate.result)
     (ap read_by c.in-Mini.is) c.coordinate.ensures.cache
 
 pub returns-in-Mini-clause-catalog : goal.returns-in-Mini-clause-catalog
 returns-in-Mini-clause-catalog c =
-    catalog_as (read_by c.args.errand) _ c.args.self.now.known.catalog c.coordinate.new.self.known.catalog c.coordinate.result
+    catalog_as (read_by c.args.errand) _ c.args.self.now.known.catalog c.coordinate.new.self.known.catalog (turned c.coordinate.new.self.work c.coordinate.result)
     (ap read_by c.in-Mini.is) c.coordinate.ensures.catalog
 
 pub returns-in-Mini-clause-path : goal.returns-in-Mini-clause-path
@@ -88,4 +89,4 @@ returns-in-Mini-clause-path c = λ op leaf new nothing path.
 
 pub returns-in-Mini-clause-leaf : goal.returns-in-Mini-clause-leaf
 returns-in-Mini-clause-leaf c =
-    leaf_as c.args.self.now.known c.args.work (read_by c.args.errand) _ c.coordinate.result (ap read_by c.in-Mini.is) c.coordinate.ensures.leaf
+    leaf_as c.args.self.now.known c.args.work (read_by c.args.errand) _ (turned c.coordinate.new.self.work c.coordinate.result) (ap read_by c.in-Mini.is) c.coordinate.ensures.leaf
