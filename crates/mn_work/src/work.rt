@@ -1,4 +1,4 @@
-ghost use Rattle.std.specs.Prelude.{◌≡◌, ◌≢◌, ◌<◌, ◌≤◌, ℕ, List, None, Some, IfOk, length};
+ghost use Rattle.std.specs.Prelude.{◌≡◌, ◌≢◌, ◌<◌, ◌≤◌, ℕ, List, None, Some, IfOk, length, OnOk};
 ghost use Rattle.std.specs.Option.{option_map};
 ghost use Rattle.mn_base.specs.declared.answer.Answer.TheVariants as answer;
 ghost use Rattle.mn_base.specs.declared.reply.Reply.TheVariants.{Pairs};
@@ -216,37 +216,41 @@ impl Work {
         }
         kept.has_entries();
         has_right_steps(self.op.get());
-        self.job = self.job_on(alloc, kept, version, root)?;
+        self.begin_on(alloc, kept, version, root)?;
         Ok(Started::On)
     }
 
-    /// A try on the tree of a version with this root.
-    fn job_on(
-        &self,
+    /// Begins a try on the tree of a version with this root. Its job is made where it stays.
+    fn begin_on(
+        &mut self,
         alloc: Global,
         kept: &Kept,
         version: VersionNo,
         root: Addr,
-    ) -> Result<Job, NoMemory>
-        requires version { version_name self.now.op ≢ None }
+    ) -> Result<(), NoMemory>
+        requires version { version_name self.old.op ≢ None }
         requires there { version.0 < length kept.now }
         requires within { length kept.now ≤ 64 }
-        ensures { IfOk result (BeginsJob kept.now self.now version root) }
+        ensures begins { OnOk result (BeginsJob kept.now self.old version root self.new.job) }
+        ensures same { self.new ≡ record self.old { job = self.new.job } }
     {
         match self.op.get() {
             Op::Tx { steps, .. } => {
                 if lone_get(steps).is_some() {
-                    return Ok(Job::Get {
+                    self.job = Job::Get {
                         descent: Descent::new(version, root),
-                    });
+                    };
+                    return Ok(());
                 }
                 let tree = kept.copy_tree(alloc)?;
                 let attempt = Attempt::new(alloc, tree, version, root)?;
-                Ok(Job::Transaction { attempt })
+                self.job = Job::Transaction { attempt };
             }
-            Op::Snapshot { .. } | Op::Branch { .. } => Ok(Job::Child {
-                child: Child::new(alloc, version, root),
-            }),
+            Op::Snapshot { .. } | Op::Branch { .. } => {
+                self.job = Job::Child {
+                    child: Child::new(alloc, version, root),
+                };
+            }
             Op::Scan {
                 low,
                 high,
@@ -261,10 +265,11 @@ impl Work {
                 let low = low.try_copy(alloc)?;
                 let high = high.try_copy(alloc)?;
                 let scan = ScanRun::new(alloc, tree, version, root, low, high, *limit)?;
-                Ok(Job::Scan { scan })
+                self.job = Job::Scan { scan };
             }
             Op::Versions => unreachable!(),
         }
+        Ok(())
     }
 
     /// What its job wants next.

@@ -14,7 +14,7 @@ use Rattle.mn_work.specs.declared.child.Child.{Child}
 use Rattle.mn_work.specs.declared.work.Job.TheVariants as at
 use Rattle.mn_work.specs.Attempts.{IsBegun}
 use Rattle.mn_work.specs.Works.{BeginsOn, IsNewChild, lone_key}
-use Rattle.mn_work.proofs.work.Work.job_on.Goals as goal
+use Rattle.mn_work.proofs.work.Work.begin_on.Goals as goal
 
 begins_steps : (entries : List CatEntry) (op : Op) (spoiled : Bool) (version : VersionNo) (root : Addr) (name : List ℕ)
     (steps : List Step) (a : Attempt) (o : Option (List ℕ)) → op ≡ Tx name steps → lone_key steps ≡ o → o ≡ None
@@ -42,14 +42,14 @@ begins_child entries op spoiled version root c (inl is) new =
 begins_child entries op spoiled version root c (inr is) new =
     subst (λ (p : Op). BeginsOn entries p spoiled version root (at.Child c)) (sym is.2) (c, refl, new)
 
-pub returns-in_ok-attempt-in-Tx : goal.returns-in_ok-attempt-in-Tx
-returns-in_ok-attempt-in-Tx c =
+pub returns-in_ok-attempt-in-Tx-clause-begins : goal.returns-in_ok-attempt-in-Tx-clause-begins
+returns-in_ok-attempt-in-Tx-clause-begins c =
     begins_steps c.args.kept.now c.args.self.now.op c.args.self.now.spoiled c.args.version c.args.root c.in-Tx.version c.in-Tx.steps c.in_ok-attempt-in-Tx.attempt _ (sym c.get.ensures ∙ c.in-Tx.is) refl
     (not_lone (λ k. k.now) c.lone_get.result (lone_key c.in-Tx.steps) (sym c.is_some.ensures ∙ c.if-is_some.false) c.lone_get.ensures)
     (subst (λ (tree : List (Option ℕ)). IsBegun tree c.args.version c.args.root c.in_ok-attempt-in-Tx.attempt) c.in_ok-tree-in-Tx.ensures c.in_ok-attempt-in-Tx.ensures)
 
-pub returns-in-Snapshot : goal.returns-in-Snapshot
-returns-in-Snapshot c =
+pub returns-in-Snapshot-clause-begins : goal.returns-in-Snapshot-clause-begins
+returns-in-Snapshot-clause-begins c =
     begins_child c.args.kept.now c.args.self.now.op c.args.self.now.spoiled c.args.version c.args.root c.new-in-Snapshot.result (subst MakesChild c.get.ensures c.in-Snapshot.is)
     (record {
       version_is = c.new-in-Snapshot.ensures.version;
