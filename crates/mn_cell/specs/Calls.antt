@@ -96,6 +96,11 @@ lengths_by request = None
 abbrev pub lengths_of : List (List ℕ) → List ℕ
 lengths_of reads = map (λ bytes. length bytes) reads
 
+-- there are none, where there is no room
+abbrev pub lengths_in : Option (List ℕ) → List ℕ
+lengths_in None = []
+lengths_in (Some lengths) = lengths
+
 -- the reads have these lengths, if there are some
 abbrev pub HaveLengths : List (List ℕ) → Option (List ℕ) → Type 0
 HaveLengths reads None = ⊤

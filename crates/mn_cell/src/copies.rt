@@ -11,27 +11,41 @@ use mn_world::What;
 use std::alloc::Global;
 use std::marker::Model;
 
-/// Room for a copy of what a request reads. Contracts see the lengths of its byte strings.
+/// Byte strings as long as those to be copied, and a list for the copies. Contracts see their
+/// lengths.
 #[derive(Drop)]
-pub struct Blanks {
-    /// Byte strings as long as those to be copied.
+struct Rooms {
     bytes: Vec<OwnBytes>,
-    /// Empty, with room for as many. None: there are none.
-    reads: Option<Box<Vec<ReadBytes>>>,
+    /// Empty, with room for as many.
+    reads: Box<Vec<ReadBytes>>,
 }
 
-impl Model for Blanks {
-    ghost use Rattle.std.specs.Prelude.{◌≡◌, ◌≤◌, ℕ, List, [], IfNone, IfSome, length};
-    ghost use Rattle.std.specs.Prelude.{vec_capacity};
+impl Model for Rooms {
+    ghost use Rattle.std.specs.Prelude.{◌≡◌, ◌≤◌, ℕ, List, [], length, vec_capacity};
     ghost use Rattle.mn_cell.specs.Calls.{lengths_of};
 
     ghost Value = { List ℕ };
 
-    ghost view = { λ b. lengths_of b.bytes.items };
+    ghost view = { λ r. lengths_of r.bytes.items };
 
-    ghost invariant = { λ b. (IfNone b.reads (b.bytes.items ≡ []))
-        × (IfSome b.reads (λ r. (r.value.items ≡ [])
-        × (length b.bytes.items ≤ vec_capacity r.value))) };
+    ghost invariant = { λ r. (r.reads.value.items ≡ [])
+        × (length r.bytes.items ≤ vec_capacity r.reads.value) };
+}
+
+/// Room for a copy of what a request reads. Contracts see the lengths of its byte strings. What may
+/// add a record seldom reads, so it is small where there are none.
+#[derive(Drop)]
+pub struct Blanks {
+    rooms: Option<Box<Rooms>>,
+}
+
+impl Model for Blanks {
+    ghost use Rattle.std.specs.Prelude.{ℕ, List, option_map};
+    ghost use Rattle.mn_cell.specs.Calls.{lengths_in};
+
+    ghost Value = { List ℕ };
+
+    ghost view = { λ b. lengths_in (option_map (λ r. r.value) b.rooms) };
 }
 
 /// So many bytes.
@@ -77,6 +91,21 @@ fn fill_in(copies: &mut Vec<ReadBytes>, blanks: Vec<OwnBytes>, reads: &[ReadByte
     }
 }
 
+impl Rooms {
+    /// The byte strings, in place of others of their lengths. It takes no memory.
+    fn fill(self, reads: &[ReadBytes]) -> Reads
+        requires { self ≡ lengths_of reads.now }
+        ensures { result ≡ reads.now }
+    {
+        let Rooms {
+            bytes,
+            reads: mut copies,
+        } = self;
+        fill_in(&mut copies, bytes, reads);
+        Reads::from_box(copies)
+    }
+}
+
 impl Blanks {
     /// Room for what a part reads.
     fn of(alloc: Global, part: &[PartItem]) -> Result<Self, NoMemory>
@@ -84,12 +113,11 @@ impl Blanks {
     {
         let bytes = zeros_for(alloc, part)?;
         if bytes.is_empty() {
-            return Ok(Blanks { bytes, reads: None });
+            return Ok(Blanks { rooms: None });
         }
-        let reads = Vec::with_capacity(alloc, bytes.len())?;
+        let reads = Box::new(alloc, Vec::with_capacity(alloc, bytes.len())?)?;
         Ok(Blanks {
-            bytes,
-            reads: Some(Box::new(alloc, reads)?),
+            rooms: Some(Box::new(alloc, Rooms { bytes, reads })?),
         })
     }
 
@@ -98,13 +126,10 @@ impl Blanks {
         requires { self ≡ lengths_of reads.now }
         ensures { result ≡ reads.now }
     {
-        let Blanks { bytes, reads: room } = self;
-        match room {
+        let Blanks { rooms } = self;
+        match rooms {
             None => Reads::none(),
-            Some(mut copies) => {
-                fill_in(&mut copies, bytes, reads);
-                Reads::from_box(copies)
-            }
+            Some(rooms) => Box::into_inner(rooms).fill(reads),
         }
     }
 }
@@ -176,15 +201,14 @@ pub fn copy_of(
 }
 
 /// The step of a call.
-#[inline(always)]
 pub fn what_of(request: Request, stop: Option<StopAt>, reply: NodeReply) -> What
     ensures { result ≡ what_said request stop reply }
 {
-    match reply {
-        NodeReply::Stopped => What::Stopped {
+    if matches!(reply, NodeReply::Stopped) {
+        return What::Stopped {
             request: Some(request),
             asked: stop,
-        },
-        reply => What::Called { request, reply },
+        };
     }
+    What::Called { request, reply }
 }

@@ -119,6 +119,31 @@ fn prepare(
     spare_of(alloc, request)
 }
 
+/// The entry of a call, with a copy of the reply. NoMemory comes only for a reply that comes with no
+/// new record. It is made by a call of its own, since the second is made by the same code.
+#[inline(never)]
+fn call_entry(
+    alloc: Global,
+    number: NodeNo,
+    client: ClientNo,
+    request: Request,
+    stop: Option<StopAt>,
+    reply: &NodeReply,
+    blanks: Option<Blanks>,
+) -> Result<Entry, NoMemory>
+    requires { HasLengths blanks reply.now }
+    ensures made { IfOk result
+        (λ made. made ≡ entry_at number client (what_said request stop reply.now)) }
+    ensures large { OnErr result (IsLarge blanks reply.now) }
+{
+    let reply = copy_of(alloc, reply, blanks)?;
+    Ok(Entry {
+        node: Some(number),
+        client: Some(client),
+        what: what_of(request, stop, reply),
+    })
+}
+
 /// The entry of a call, twice. None: the reply is NoMemory, or there is no memory for a copy of a
 /// reply that comes with no new record.
 #[inline(always)]
@@ -146,24 +171,18 @@ fn two_entries(
     if matches!(reply, NodeReply::NoMemory) {
         return None;
     }
-    let Ok(first) = copy_of(alloc, reply, spare.first) else {
+    let Spare {
+        request: again,
+        first,
+        second,
+    } = spare;
+    let Ok(first) = call_entry(alloc, number, client, request, stop, reply, first) else {
         return None;
     };
-    let Ok(second) = copy_of(alloc, reply, spare.second) else {
+    let Ok(second) = call_entry(alloc, number, client, again, stop, reply, second) else {
         return None;
     };
-    Some((
-        Entry {
-            node: Some(number),
-            client: Some(client),
-            what: what_of(request, stop, first),
-        },
-        Entry {
-            node: Some(number),
-            client: Some(client),
-            what: what_of(spare.request, stop, second),
-        },
-    ))
+    Some((first, second))
 }
 
 /// The entry of a stop between two calls.
