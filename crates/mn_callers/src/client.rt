@@ -474,12 +474,15 @@ impl Client {
         self.begin(alloc, table, pass, points, &ops[self.begun as usize])
     }
 
-    /// The crash points after its last entry, which is a call.
+    /// The crash points after its last entry, which is a call. Most scripts have none.
     fn note_last(&mut self, points: &[Point])
         requires { IsUnnoted points.now self.old }
         ensures met { self.new.met.items ≡ points_met points.now (past_of self.old) }
         ensures same { self.new ≡ record self.old { met = self.new.met } }
     {
+        if points.is_empty() {
+            return;
+        }
         if let [before @ .., (_, last)] = self.list.as_slice() {
             note(
                 points,
