@@ -36,6 +36,20 @@ hold_empty p (y ∷ slots) [] x is hold = absurd hold
 hold_empty p (y ∷ slots) (None ∷ filled) x is hold = (hold.0, hold_empty (p + 1) slots filled x is hold.1)
 hold_empty p (y ∷ slots) (Some e ∷ filled) x is hold = (hold.0, hold_empty (p + 1) slots filled x is hold.1)
 
+-- an entry pushed into the slot of its place
+pub hold_more : (p at : ℕ) (x : ℕ × Entry) (slots : List (ℕ × Entry)) (filled : List (Option Entry)) → Hold p slots filled → length slots ≡ at → x.0 ≡ p + at
+    → Hold p (slots ++ x ∷ []) (put_at at x.1 filled)
+hold_more p zero x [] [] hold long is = (ap (λ (n : ℕ). (n, x.1)) (is ∙ no_more p), tt)
+  where
+    no_more : (p : ℕ) → p + 0 ≡ p
+    no_more p = omega arith
+hold_more p (suc at) x [] [] hold long is = absurd (omega (arith, long))
+hold_more p at x [] (f ∷ filled) hold long is = absurd hold
+hold_more p at x (y ∷ slots) [] hold long is = absurd hold
+hold_more p zero x (y ∷ slots) (f ∷ filled) hold long is = absurd (omega (arith, long))
+hold_more p (suc at) x (y ∷ slots) (None ∷ filled) hold long is = (hold.0, hold_more (p + 1) at x slots filled hold.1 (omega (arith, long)) (omega (arith, is)))
+hold_more p (suc at) x (y ∷ slots) (Some e ∷ filled) hold long is = (hold.0, hold_more (p + 1) at x slots filled hold.1 (omega (arith, long)) (omega (arith, is)))
+
 chosen : {b : Bool} (e f : Entry) → b ≡ true → (if b then e else f) ≡ e
 chosen e f is = rw is refl
 
@@ -96,10 +110,6 @@ drop_after (y ∷ l) (suc i) x = drop_after l i x
 pub drop_behind : {X : Type 0} (l : List X) (i : ℕ) (x : X) → drop (i + 1) (slice_set l i x) ≡ drop (i + 1) l
 drop_behind l i x = subst (λ (n : ℕ). drop n (slice_set l i x) ≡ drop n l) (plus_one i) (drop_after l i x)
 
-pub put_last_list : (ls : List (List (ℕ × Entry))) (l : List (ℕ × Entry)) (slots : List (Option Entry)) → put_lists (ls ++ l ∷ []) slots ≡ put_lists ls (put_list l slots)
-put_last_list [] l slots = refl
-put_last_list (m ∷ ls) l slots = ap (λ (s : List (Option Entry)). put_list m s) (put_last_list ls l slots)
-
 -- What the slots hold
 
 -- each slot that is filled has the entry of its line
@@ -141,7 +151,7 @@ AreListsOf log (l ∷ ls) = AreLines log l × AreListsOf log ls
 
 lists_under : (log : List (Line Entry)) (ls : List (List (ℕ × Entry))) (slots : List (Option Entry)) → AreListsOf log ls → SlotsAreOfLog log slots → SlotsAreOfLog log (put_lists ls slots)
 lists_under log [] slots are under = under
-lists_under log (l ∷ ls) slots are under = list_under log l (put_lists ls slots) are.0 (lists_under log ls slots are.1 under)
+lists_under log (l ∷ ls) slots are under = lists_under log ls (put_list l slots) are.1 (list_under log l slots are.0 under)
 
 -- Which slots are filled
 
@@ -174,7 +184,7 @@ list_keeps q (x ∷ l) slots is = list_keeps q l (put_at x.0 x.1 slots) (put_kee
 
 lists_keep : (q : ℕ) (ls : List (List (ℕ × Entry))) (slots : List (Option Entry)) → is_full q slots ≡ true → is_full q (put_lists ls slots) ≡ true
 lists_keep q [] slots is = is
-lists_keep q (l ∷ ls) slots is = list_keeps q l (put_lists ls slots) (lists_keep q ls slots is)
+lists_keep q (l ∷ ls) slots is = lists_keep q ls (put_list l slots) (list_keeps q l slots is)
 
 -- an entry of this place is in the list
 abbrev pub ListHasPlace : ℕ → List (ℕ × Entry) → Type 0
@@ -188,8 +198,8 @@ list_fills q (x ∷ l) slots (inr has) = list_fills q l (put_at x.0 x.1 slots) h
 
 lists_fill : (q : ℕ) (ls : List (List (ℕ × Entry))) (slots : List (Option Entry)) (i : ℕ) (l : List (ℕ × Entry)) → slice_get ls i ≡ Some l → ListHasPlace q l → is_full q (put_lists ls slots) ≡ true
 lists_fill q [] slots i l is has = absurd (cc)
-lists_fill q (m ∷ ls) slots zero l is has = list_fills q m (put_lists ls slots) (subst (ListHasPlace q) (sym (same_Some _ _ is)) has)
-lists_fill q (m ∷ ls) slots (suc i) l is has = list_keeps q m (put_lists ls slots) (lists_fill q ls slots i l is has)
+lists_fill q (m ∷ ls) slots zero l is has = lists_keep q ls (put_list m slots) (list_fills q m slots (subst (ListHasPlace q) (sym (same_Some _ _ is)) has))
+lists_fill q (m ∷ ls) slots (suc i) l is has = lists_fill q ls (put_list m slots) i l is has
 
 -- The lists of a log
 
@@ -248,10 +258,6 @@ as_many : (clients : List ClientState) → length (map (λ (l : ClientState). l.
 as_many [] = refl
 as_many (c ∷ clients) = ap suc (as_many clients)
 
-pub put_last_client : (ls : List ClientState) (l : ClientState) (slots : List (Option Entry)) → put_lists (map (λ (x : ClientState). x.entries) (ls ++ l ∷ [])) slots ≡ put_lists (map (λ (x : ClientState). x.entries) ls) (put_list l.entries slots)
-put_last_client [] l slots = refl
-put_last_client (m ∷ ls) l slots = ap (λ (s : List (Option Entry)). put_list m.entries s) (put_last_client ls l slots)
-
 module _ (nodes : List (List (ℕ × Entry))) (clients : List ClientState) (clock : ℕ) (one : AreOneLog nodes clients clock) where
   node_lists : AreListsOf one.log nodes
   node_lists = lists_are one.log nodes (λ n. Node (record { 0 = n })) (λ n lt. one.lists (Node (record { 0 = n })) lt)
@@ -259,26 +265,26 @@ module _ (nodes : List (List (ℕ × Entry))) (clients : List ClientState) (cloc
   client_lists : AreListsOf one.log (map (λ (l : ClientState). l.entries) clients)
   client_lists = lists_are one.log (map (λ (l : ClientState). l.entries) clients) (λ c. Client (record { 0 = c })) (λ c lt. one.lists (Client (record { 0 = c })) (omega (arith, lt, as_many clients)))
 
-  all_under : SlotsAreOfLog one.log (put_lists (map (λ (l : ClientState). l.entries) clients) (put_lists nodes []))
-  all_under = lists_under one.log (map (λ (l : ClientState). l.entries) clients) (put_lists nodes []) client_lists (lists_under one.log nodes [] node_lists tt)
+  all_under : SlotsAreOfLog one.log (put_lists nodes (put_lists (map (λ (l : ClientState). l.entries) clients) []))
+  all_under = lists_under one.log nodes (put_lists (map (λ (l : ClientState). l.entries) clients) []) node_lists (lists_under one.log (map (λ (l : ClientState). l.entries) clients) [] client_lists tt)
 
-  full_by : (a : Actor) (q : ℕ) (x : Line Entry) → slice_get one.log q ≡ Some x → stands_in a x ≡ true → IsActor (length nodes) (length clients) a → is_full q (put_lists (map (λ (l : ClientState). l.entries) clients) (put_lists nodes [])) ≡ true
-  full_by (Node n) q x is stands on = lists_keep q (map (λ (l : ClientState). l.entries) clients) (put_lists nodes [])
-      (lists_fill q nodes [] n.0 (entries_from 0 (Node n) one.log) (one.lists (Node n) on) (subst (λ (p : ℕ). ListHasPlace p (entries_from 0 (Node n) one.log)) (zero_more q) (has_entry (Node n) 0 one.log q x is stands)))
+  full_by : (a : Actor) (q : ℕ) (x : Line Entry) → slice_get one.log q ≡ Some x → stands_in a x ≡ true → IsActor (length nodes) (length clients) a → is_full q (put_lists nodes (put_lists (map (λ (l : ClientState). l.entries) clients) [])) ≡ true
+  full_by (Node n) q x is stands on = lists_fill q nodes (put_lists (map (λ (l : ClientState). l.entries) clients) []) n.0 (entries_from 0 (Node n) one.log) (one.lists (Node n) on) (subst (λ (p : ℕ). ListHasPlace p (entries_from 0 (Node n) one.log)) (zero_more q) (has_entry (Node n) 0 one.log q x is stands))
     where
       zero_more : (q : ℕ) → 0 + q ≡ q
       zero_more q = omega arith
-  full_by (Client c) q x is stands on = lists_fill q (map (λ (l : ClientState). l.entries) clients) (put_lists nodes []) c.0 (entries_from 0 (Client c) one.log) (one.lists (Client c) on) (subst (λ (p : ℕ). ListHasPlace p (entries_from 0 (Client c) one.log)) (zero_more q) (has_entry (Client c) 0 one.log q x is stands))
+  full_by (Client c) q x is stands on = lists_keep q nodes (put_lists (map (λ (l : ClientState). l.entries) clients) [])
+      (lists_fill q (map (λ (l : ClientState). l.entries) clients) [] c.0 (entries_from 0 (Client c) one.log) (one.lists (Client c) on) (subst (λ (p : ℕ). ListHasPlace p (entries_from 0 (Client c) one.log)) (zero_more q) (has_entry (Client c) 0 one.log q x is stands)))
     where
       zero_more : (q : ℕ) → 0 + q ≡ q
       zero_more q = omega arith
 
-  all_full : (q : ℕ) → q < length one.log → is_full q (put_lists (map (λ (l : ClientState). l.entries) clients) (put_lists nodes [])) ≡ true
+  all_full : (q : ℕ) → q < length one.log → is_full q (put_lists nodes (put_lists (map (λ (l : ClientState). l.entries) clients) [])) ≡ true
   all_full q lt =
       let at = one.once q (omega (arith, lt, one.clock_is)) in
       let manned = one.manned q at.0 at.1 in
       full_by manned.some_actor.0 q at.0 at.1 manned.some_actor.1 (manned.on_board manned.some_actor.0 manned.some_actor.1)
 
   -- the lists of one log, put together, are that log
-  pub merged_whole : (slots : List (ℕ × Entry)) → Hold 0 slots (put_lists (map (λ (l : ClientState). l.entries) clients) (put_lists nodes [])) → slots ≡ placed_from 0 one.log
-  merged_whole slots hold = whole 0 one.log slots (put_lists (map (λ (l : ClientState). l.entries) clients) (put_lists nodes [])) all_under all_full hold
+  pub merged_whole : (slots : List (ℕ × Entry)) → Hold 0 slots (put_lists nodes (put_lists (map (λ (l : ClientState). l.entries) clients) [])) → slots ≡ placed_from 0 one.log
+  merged_whole slots hold = whole 0 one.log slots (put_lists nodes (put_lists (map (λ (l : ClientState). l.entries) clients) [])) all_under all_full hold

@@ -37,9 +37,10 @@ abbrev pub put_list : List (ℕ × Entry) → List (Option Entry) → List (Opti
 put_list [] slots = slots
 put_list (x ∷ l) slots = put_list l (put_at x.0 x.1 slots)
 
+-- the first of the lists first
 abbrev pub put_lists : List (List (ℕ × Entry)) → List (Option Entry) → List (Option Entry)
 put_lists [] slots = slots
-put_lists (l ∷ ls) slots = put_list l (put_lists ls slots)
+put_lists (l ∷ ls) slots = put_lists ls (put_list l slots)
 
 -- how the slots from a place on hold them: those that are filled, each with its place; what the
 -- others hold is nobody's

@@ -1,4 +1,4 @@
-use Rattle.std.proofs.Common.{◌≡◌, ◌-◌, ◌+◌, List, Option, vec_len}
+use Rattle.std.proofs.Common.{◌≡◌, ◌-◌, List, Option, vec_len}
 use Rattle.mn_world.specs.declared.entry.Entry.{Entry}
 use Rattle.mn_hist.specs.Merging.{Hold, put_at}
 use Rattle.mn_hist.proofs.merging.put.Given as goal
@@ -9,4 +9,4 @@ invariant-loop-slots l = (filled : List (Option Entry)) → Hold 0 l.initial.slo
     → (padded : List (Option Entry)) × Hold 0 l.slots.items padded × ((e : Entry) → put_at l.at e padded ≡ put_at l.at e filled)
 
 abbrev pub decreases-loop-slots : goal.decreases-loop-slots
-decreases-loop-slots l = l.at + 1 - vec_len l.slots
+decreases-loop-slots l = l.at - vec_len l.slots
