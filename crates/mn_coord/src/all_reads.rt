@@ -1,5 +1,4 @@
-ghost use Rattle.std.specs.Prelude.{◌≡◌, ◌≢◌, ◌<◌, ◌^◌, [], ◌∷◌, length, replicate, slice_set};
-ghost use Rattle.std.specs.Prelude.{IfOk, IfSome, IfNone};
+ghost use Rattle.std.specs.Prelude.{◌≡◌, ◌<◌, ◌^◌, [], length, replicate, slice_set, IfOk};
 
 use mn_base::NoMemory;
 use mn_mini::Reads;
@@ -48,19 +47,6 @@ fn no_reads(alloc: Global, participants: usize) -> Result<Vec<Reads>, NoMemory>
     Ok(reads)
 }
 
-/// The one of a list that has no other.
-fn only_of(mut several: Vec<Reads>) -> Option<Reads>
-    ensures only { IfSome result (λ reads. several.items ≡ reads ∷ []) }
-    ensures others { IfNone result (length several.items ≢ 1) }
-{
-    let reads = several.pop()?;
-    if several.is_empty() {
-        Some(reads)
-    } else {
-        None
-    }
-}
-
 impl AllReads {
     /// Nothing for each of so many participants. NoMemory: there was no memory for it.
     pub(crate) fn new(alloc: Global, participants: usize) -> Result<Self, NoMemory>
@@ -95,18 +81,6 @@ impl AllReads {
         match &self.kept {
             Kept::One(one) => slice::from_ref(one),
             Kept::Several(several) => several,
-        }
-    }
-
-    /// What the participant read, if there is one alone. It takes no memory.
-    pub fn into_only(self) -> Option<Reads>
-        ensures only { IfSome result (λ reads. self ≡ reads ∷ []) }
-        ensures others { IfNone result (length self ≢ 1) }
-    {
-        let AllReads { kept } = self;
-        match kept {
-            Kept::One(reads) => Some(reads),
-            Kept::Several(several) => only_of(several),
         }
     }
 }

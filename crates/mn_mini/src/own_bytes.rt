@@ -29,12 +29,6 @@ impl OwnBytes {
         })
     }
 
-    pub fn into_vec(self) -> Vec<u8>
-        ensures { result.items ≡ self }
-    {
-        Box::into_inner(self.bytes)
-    }
-
     pub fn as_slice(&self) -> &[u8]
         ensures { result.now ≡ self.now }
     {

@@ -67,15 +67,14 @@ impl ReadBytes {
         }
     }
 
-    /// The bytes, which are not copied, for copies to share. NoMemory: there was no memory to count
-    /// their owners.
-    pub fn into_shared(self, alloc: Global) -> Result<SharedBytes, NoMemory>
-        ensures { IfOk result (λ bytes. bytes ≡ self) }
+    /// The bytes, for copies to share; those of its own are copied. NoMemory: there was no memory
+    /// for it.
+    pub fn to_shared(&self, alloc: Global) -> Result<SharedBytes, NoMemory>
+        ensures { IfOk result (λ bytes. bytes ≡ self.now) }
     {
-        let ReadBytes { held } = self;
-        match held {
-            Held::Own { bytes } => SharedBytes::new(alloc, bytes.into_vec()),
-            Held::Shared { bytes } => Ok(bytes),
+        match &self.held {
+            Held::Own { bytes } => SharedBytes::copy_of(alloc, bytes.as_slice()),
+            Held::Shared { bytes } => bytes.try_copy(alloc),
         }
     }
 }

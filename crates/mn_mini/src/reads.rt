@@ -1,4 +1,4 @@
-ghost use Rattle.std.specs.Prelude.{◌≡◌, ◌≢◌, ◌++◌, ◌∷◌, [], length, IfOk, IfSome, IfNone};
+ghost use Rattle.std.specs.Prelude.{◌≡◌, ◌++◌, ◌∷◌, [], IfOk};
 
 use crate::ReadBytes;
 use mn_base::{NoMemory, TryCopy, copies_of};
@@ -36,19 +36,6 @@ impl Model for Reads {
     ghost Value = { List (List ℕ) };
 
     ghost view = { λ r. reads_in r.kept };
-}
-
-/// The one of a list that has no other.
-fn only_of(mut several: Vec<ReadBytes>) -> Option<ReadBytes>
-    ensures only { IfSome result (λ bytes. several.items ≡ bytes ∷ []) }
-    ensures others { IfNone result (length several.items ≢ 1) }
-{
-    let bytes = several.pop()?;
-    if several.is_empty() {
-        Some(bytes)
-    } else {
-        None
-    }
 }
 
 impl Reads {
@@ -109,19 +96,6 @@ impl Reads {
             Kept::Nothing => &[],
             Kept::One(bytes) => slice::from_ref(bytes),
             Kept::Several(reads) => reads,
-        }
-    }
-
-    /// What the item read, if there is one alone. It takes no memory.
-    pub fn into_only(self) -> Option<ReadBytes>
-        ensures only { IfSome result (λ bytes. self ≡ bytes ∷ []) }
-        ensures others { IfNone result (length self ≢ 1) }
-    {
-        let Reads { kept } = self;
-        match kept {
-            Kept::Nothing => None,
-            Kept::One(bytes) => Some(bytes),
-            Kept::Several(reads) => only_of(Box::into_inner(reads)),
         }
     }
 }

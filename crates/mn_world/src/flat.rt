@@ -334,8 +334,8 @@ fn put(space: &mut [u8], at: usize, byte: u8)
     }
 }
 
-/// Puts the bytes in place, as far as the space goes.
-fn overwrite(space: &mut [u8], start: u32, bytes: &[u8])
+/// Puts the bytes in place from `start` on, as far as the space goes. It takes no memory.
+pub fn overwrite(space: &mut [u8], start: u32, bytes: &[u8])
     ensures { space.new ≡ overwritten space.old start bytes.now }
 {
     for (i, byte) in bytes.iter().enumerate() {

@@ -12,7 +12,7 @@ mod lists;
 
 pub use commit_reader::{CommitReader, CommittedMini};
 pub use entry::{Entry, What};
-pub use flat::{IdKey, flat_after, id_key};
+pub use flat::{IdKey, flat_after, id_key, overwrite};
 pub use law::CoreLaw;
 pub use laws::{
     abandoned_is_never, abandoned_lacks_vote, commits_are_flat, commits_once, committed_stands,

@@ -43,7 +43,7 @@ fn shared_read(alloc: Global, reads: &[Reads]) -> Result<SharedBytes, NoMemory>
     ensures { IfOk result (λ bytes. read_alone reads.now ≡ Some bytes) }
 {
     match only_read(reads) {
-        Some(bytes) => bytes.try_copy(alloc)?.into_shared(alloc),
+        Some(bytes) => bytes.to_shared(alloc),
         None => Err(NoMemory),
     }
 }
