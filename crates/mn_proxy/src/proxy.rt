@@ -31,7 +31,7 @@ ghost use Rattle.mn_work.specs.Works.{new_work};
 
 use crate::errand::Errand;
 use crate::step::ProxyStep;
-use mn_base::{Answer, ClientNo, NoMemory};
+use mn_base::{ClientNo, NoMemory};
 use mn_mini::NodeReply;
 use mn_work::{Known, Task};
 use std::alloc::Global;

@@ -1,5 +1,5 @@
 //! The calls of a station. Each is one entry of the node and the caller.
-ghost use Rattle.std.specs.Prelude.{◌≡◌, ◌≢◌, ◌≤◌, ◌<◌, ◌^◌, ◌+◌, ◌⊎◌, ℕ, List, Some, None, true};
+ghost use Rattle.std.specs.Prelude.{◌≡◌, ◌≢◌, ◌≤◌, ◌<◌, ◌^◌, ◌+◌, ℕ, List, Some, None, true};
 ghost use Rattle.std.specs.Prelude.{false, not, length, IfOk, IfErr, IfSome, IfNone, OnErr, OnOk};
 ghost use Rattle.std.specs.Prelude.{OnSome};
 ghost use Rattle.mn_mini.specs.Sound.{Fits, IsSoundRequest};
@@ -119,6 +119,14 @@ fn prepare(
     spare_of(alloc, request)
 }
 
+/// Whether the reply is one of an entry: want of memory is none.
+fn is_entry(reply: &NodeReply) -> bool
+    ensures yes { result ≡ true → reply.now ≢ Reply.NoMemory }
+    ensures no { result ≡ false → reply.now ≡ Reply.NoMemory }
+{
+    !matches!(reply, NodeReply::NoMemory)
+}
+
 /// The entry of a call, with a copy of the reply. NoMemory comes only for a reply that comes with no
 /// new record. It is made by a call of its own, since the second is made by the same code.
 #[inline(never)]
@@ -142,47 +150,6 @@ fn call_entry(
         client: Some(client),
         what: what_of(request, stop, reply),
     })
-}
-
-/// The entry of a call, twice. None: the reply is NoMemory, or there is no memory for a copy of a
-/// reply that comes with no new record.
-#[inline(always)]
-fn two_entries(
-    alloc: Global,
-    number: NodeNo,
-    client: ClientNo,
-    request: Request,
-    stop: Option<StopAt>,
-    reply: &NodeReply,
-    spare: Spare,
-) -> Option<(Entry, Entry)>
-    requires request { spare.request ≡ request }
-    requires first { spare.first ≡ lengths_by request }
-    requires second { spare.second ≡ lengths_by request }
-    requires lengths { HasLengths (lengths_by request) reply.now }
-    ensures one { IfSome result (λ made. made.0
-        ≡ entry_at number client (what_said request stop reply.now)) }
-    ensures two { IfSome result (λ made. made.1
-        ≡ entry_at number client (what_said request stop reply.now)) }
-    ensures some { OnSome result (reply.now ≢ Reply.NoMemory) }
-    ensures none { IfNone result ((reply.now ≡ Reply.NoMemory)
-        ⊎ IsLarge (lengths_by request) reply.now) }
-{
-    if matches!(reply, NodeReply::NoMemory) {
-        return None;
-    }
-    let Spare {
-        request: again,
-        first,
-        second,
-    } = spare;
-    let Ok(first) = call_entry(alloc, number, client, request, stop, reply, first) else {
-        return None;
-    };
-    let Ok(second) = call_entry(alloc, number, client, again, stop, reply, second) else {
-        return None;
-    };
-    Some((first, second))
 }
 
 /// The entry of a stop between two calls.
@@ -220,18 +187,19 @@ fn enter(
     number: NodeNo,
     pass: &mut Pass<CoreLaw>,
     list: &mut ClientList,
-    entries: (Entry, Entry),
+    first: Entry,
+    second: Entry,
 ) -> Pass<CoreLaw>
     requires board { (board_of own ≡ id_of board.now) × (board_of pass.old ≡ id_of board.now) }
     requires owns { OwnsJust (view_of own) (AtNode number)
         × OwnsJust (view_of pass.old) (Client list.old.client) }
     requires lists { (held (view_of own) (AtNode number) ≡ Some node_list.old.entries)
         × (held (view_of pass.old) (Client list.old.client) ≡ Some list.old.entries) }
-    requires same { entries.1 ≡ entries.0 }
-    requires actors { (entries.0.node ≡ Some number) × (entries.0.client ≡ Some list.old.client) }
-    requires legal { IsLegalBy (entries_of list.old.entries) entries.0 }
+    requires same { second ≡ first }
+    requires actors { (first.node ≡ Some number) × (first.client ≡ Some list.old.client) }
+    requires legal { IsLegalBy (entries_of list.old.entries) first }
     requires place { HasRoomForStep node_list.old (Some list.old.client)
-        (decided_in entries.0.what) }
+        (decided_in first.what) }
     requires short { (length node_list.old.entries < 2 ^ 58) × (length list.old.entries < 2 ^ 58) }
     requires room { 0 < list.old.room }
     ensures board { (board_of result ≡ id_of board.now) × (board_of pass.new ≡ id_of board.now) }
@@ -240,12 +208,11 @@ fn enter(
     ensures lists { (held (view_of result) (AtNode number) ≡ Some node_list.new.entries)
         × (held (view_of pass.new) (Client list.old.client) ≡ Some list.new.entries) }
     ensures ends { EndsBoth (view_of pass.old).known (view_of result).known
-        (view_of pass.new).known entries.0 node_list.old.entries node_list.new.entries
+        (view_of pass.new).known first node_list.old.entries node_list.new.entries
         list.old.entries list.new.entries }
     ensures client { list.new.client ≡ list.old.client }
     ensures room { list.old.room ≤ list.new.room + 1 }
 {
-    let (first, second) = entries;
     let (own, place) = add(board, own, pass, &first, number, list.client());
     node_list.push(place, first);
     list.push(place, second);
@@ -327,14 +294,39 @@ impl<N: Named, D: Disk> Station<N, D> {
             return NodeReply::NoMemory;
         };
         let reply = self.node.handle(alloc, &request, stop);
-        let Some(entries) = two_entries(alloc, self.number, client, request, stop, &reply, spare)
-        else {
+        if !is_entry(&reply) {
+            return NodeReply::NoMemory;
+        }
+        let number = self.number;
+        let one = call_entry(alloc, number, client, request, stop, &reply, spare.first);
+        let Ok(first) = one else {
+            return NodeReply::NoMemory;
+        };
+        let two = call_entry(
+            alloc,
+            number,
+            client,
+            spare.request,
+            stop,
+            &reply,
+            spare.second,
+        );
+        let Ok(second) = two else {
             return NodeReply::NoMemory;
         };
         let Some(own) = self.pass.take() else {
             unreachable!()
         };
-        let own = enter(board, own, &mut self.list, self.number, pass, list, entries);
+        let own = enter(
+            board,
+            own,
+            &mut self.list,
+            number,
+            pass,
+            list,
+            first,
+            second,
+        );
         self.pass = Some(own);
         reply
     }
@@ -378,11 +370,18 @@ impl<N: Named, D: Disk> Station<N, D> {
         let Some(own) = self.pass.take() else {
             unreachable!()
         };
-        let entries = (
-            stop_entry(self.number, list.client()),
-            stop_entry(self.number, list.client()),
+        let first = stop_entry(self.number, list.client());
+        let second = stop_entry(self.number, list.client());
+        let own = enter(
+            board,
+            own,
+            &mut self.list,
+            self.number,
+            pass,
+            list,
+            first,
+            second,
         );
-        let own = enter(board, own, &mut self.list, self.number, pass, list, entries);
         self.pass = Some(own);
         Ok(true)
     }
@@ -449,11 +448,18 @@ impl<N: Named, D: Disk> Station<N, D> {
         let Some(own) = self.pass.take() else {
             unreachable!()
         };
-        let entries = (
-            restart_entry(self.number, list.client(), kept),
-            restart_entry(self.number, list.client(), kept),
+        let first = restart_entry(self.number, list.client(), kept);
+        let second = restart_entry(self.number, list.client(), kept);
+        let own = enter(
+            board,
+            own,
+            &mut self.list,
+            self.number,
+            pass,
+            list,
+            first,
+            second,
         );
-        let own = enter(board, own, &mut self.list, self.number, pass, list, entries);
         self.pass = Some(own);
         Ok(Some(kept))
     }

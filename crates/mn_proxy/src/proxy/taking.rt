@@ -22,7 +22,7 @@ ghost use Rattle.mn_work.specs.Walks.{is_later};
 use super::Proxy;
 use crate::errand::Purpose;
 use crate::step::ProxyStep;
-use mn_base::{Answer, NoMemory, Tid, TryCopy};
+use mn_base::{Answer, NoMemory, Tid};
 use mn_coord::{CoordStep, Coordinator};
 use mn_mini::{NodeReply, ReadBytes, Reads, SharedBytes};
 use mn_work::{Known, Place, Taken, Task};

@@ -1,13 +1,18 @@
-use Rattle.std.proofs.Common.{◌≡◌, ℕ, List, ◌∷◌, Some, sym, ap, ◌∙◌, subst}
+use Rattle.std.proofs.Common.{◌≡◌, ℕ, List, Option, ◌∷◌, Some, inl, inr, refl, sym, ap, ◌∙◌, subst}
 use Rattle.mn_base.specs.declared.ids.ClientNo.{ClientNo}
 use Rattle.mn_base.specs.declared.ids.NodeNo.{NodeNo}
+use Rattle.mn_base.specs.declared.ids.Tid.{Tid}
+use Rattle.mn_base.specs.declared.gate.StopAt.{StopAt}
+use Rattle.mn_mini.specs.declared.request.Request.{Request}
+use Rattle.mn_mini.specs.declared.reply.NodeReply.{NodeReply}
+use Rattle.mn_mini.specs.declared.reply.NodeReply.TheVariants as Say
 use Rattle.mn_actors.specs.declared.actor.Actor.TheVariants.{Client}
 use Rattle.mn_actors.specs.Lists.{held}
 use Rattle.mn_actors.specs.Sight.{view_of}
 use Rattle.mn_world.specs.declared.entry.Entry.{Entry}
 use Rattle.mn_world.specs.Run.{entries_of}
-use Rattle.mn_cell.specs.Calls.{entry_at, what_said}
-use Rattle.mn_cell.specs.Promises.{IsOwed, IsOwedAt, decided_by}
+use Rattle.mn_cell.specs.Calls.{HasLengths, IsLarge, entry_at, what_said}
+use Rattle.mn_cell.specs.Promises.{HasRoomForStep, IsOwed, IsOwedAt, decided_by, decided_in}
 use Rattle.mn_cell.specs.Station.{HasMadeEntries, IsPassOf}
 use Rattle.mn_world.specs.Protocol.{start_of}
 use Rattle.mn_cell.proofs.Fills.{fit_lengths}
@@ -16,8 +21,36 @@ use Rattle.mn_cell.proofs.OneLog.{owed_here}
 use Rattle.mn_cell.proofs.Owing.{newest_entry}
 use Rattle.mn_cell.proofs.station.Station.call.Goals as goal
 
-pub two_entries-requires-clause-lengths : goal.two_entries-requires-clause-lengths
-two_entries-requires-clause-lengths g c = fit_lengths c.args.request c.handle-reply.result c.handle-reply.ensures.fits
+-- what a step of a call decides
+decided_said : (request : Request) (stop : Option StopAt) (reply : NodeReply)
+    → decided_in (what_said request stop reply) ≡ decided_by request
+decided_said request stop (Say.Done reads) = refl
+decided_said request stop (Say.BadLock start size holder) = refl
+decided_said request stop (Say.BadCompare item found) = refl
+decided_said request stop Say.BadForced = refl
+decided_said request stop (Say.Vote verdict) = refl
+decided_said request stop Say.Decided = refl
+decided_said request stop (Say.Listed doubts) = refl
+decided_said request stop (Say.Peeked bytes) = refl
+decided_said request stop Say.Down = refl
+decided_said request stop Say.Stopped = refl
+decided_said request stop Say.NoMemory = refl
+
+pub call_entry-one-requires : goal.call_entry-one-requires
+call_entry-one-requires g c =
+    subst (λ (l : Option (List ℕ)). HasLengths l c.handle-reply.result) (sym c.in-Ok.ensures.first)
+    (fit_lengths c.args.request c.handle-reply.result c.handle-reply.ensures.fits)
+
+pub call_entry-two-requires : goal.call_entry-two-requires
+call_entry-two-requires g c =
+    subst (λ (l : Option (List ℕ)). HasLengths l c.handle-reply.result) (sym c.in-Ok.ensures.second)
+    (fit_lengths c.args.request c.handle-reply.result c.handle-reply.ensures.fits)
+
+pub enter-own-requires-clause-place : goal.enter-own-requires-clause-place
+enter-own-requires-clause-place g c =
+    subst (λ (d : Option Tid). HasRoomForStep c.prepare.new.own (Some c.prepare.new.list.client) d)
+    (sym (ap (λ (e : Entry). decided_in e.what) c.in-Ok-one.ensures.made ∙ decided_said c.args.request c.args.stop c.handle-reply.result))
+    (subst (λ (k : ClientNo). HasRoomForStep c.prepare.new.own (Some k) (decided_by c.args.request)) (sym c.prepare.ensures.client) c.in-Ok.ensures.place)
 
 pub invariant_of-self-2 : goal.invariant_of-self-2
 invariant_of-self-2 g c =
@@ -28,10 +61,10 @@ invariant_of-self-2 g c =
     let old = c.self.invariant.1 in
     let e = entry_at n c.client-client.result (what_said c.args.request c.args.stop c.handle-reply.result) in
     let made = made_called g.D.Disk.state g.D.Disk.faults start n (g.N.Named.faults n.0) (g.N.Named.honest n.0) es c.self.inside.node c.handle-reply.new.self old c.handle-reply.ensures.goes_on (base_is g.N.Named.records n old.among)
-    c.client-client.result c.args.request c.args.stop c.handle-reply.result c.handle-reply.ensures.answers c.in-Some.ensures.some in
+    c.client-client.result c.args.request c.args.stop c.handle-reply.result c.handle-reply.ensures.answers (c.is_entry.ensures.yes c.if-not-is_entry.false) in
     let entries = ap (λ (l : List (ℕ × Entry)). entries_of l) enter.ends.ends_node
-    ∙ newest_entry c.prepare.new.own.entries enter.ends.place c.in-Some.entries.0
-    ∙ ap (λ (e : Entry). e ∷ entries_of c.prepare.new.own.entries) c.in-Some.ensures.one
+    ∙ newest_entry c.prepare.new.own.entries enter.ends.place c.in-Ok-one.first
+    ∙ ap (λ (e : Entry). e ∷ entries_of c.prepare.new.own.entries) c.in-Ok-one.ensures.made
     ∙ ap (λ (l : List (ℕ × Entry)). e ∷ entries_of l) c.in-Ok.ensures.own in (
       (enter.board.0 ∙ c.requires.board.0, enter.owns.0, enter.lists.0),
       subst (λ (l : List Entry). HasMadeEntries g.D.Disk.state g.D.Disk.faults start n (g.N.Named.faults n.0) (g.N.Named.honest n.0) l c.handle-reply.new.self) (sym entries) made,
@@ -40,14 +73,36 @@ invariant_of-self-2 g c =
 pub returns-clause-stop : goal.returns-clause-stop
 returns-clause-stop g c = keeps_stop g.D.Disk.state g.D.Disk.faults c.self.inside.node c.handle-reply.new.self c.args.request c.args.stop c.handle-reply.result c.handle-reply.ensures.answers
 
-pub invariant_of-self-in_default-two_entries : goal.invariant_of-self-in_default-two_entries
-invariant_of-self-in_default-two_entries g c =
+pub invariant_of-self-then-not-is_entry : goal.invariant_of-self-then-not-is_entry
+invariant_of-self-then-not-is_entry g c =
     let n = c.self.inside.number in
     let start = start_of g.N.Named.records in
     let es = entries_of c.self.inside.list.entries in
     let old = c.self.invariant.1 in
     let made = made_unchanged g.D.Disk.state g.D.Disk.faults start n (g.N.Named.faults n.0) (g.N.Named.honest n.0) es c.self.inside.node c.handle-reply.new.self old c.handle-reply.ensures.goes_on (base_is g.N.Named.records n old.among)
-    c.args.request c.args.stop c.handle-reply.result c.handle-reply.ensures.answers c.in_default-two_entries.ensures.none in
+    c.args.request c.args.stop c.handle-reply.result c.handle-reply.ensures.answers (inl (c.is_entry.ensures.no c.if-not-is_entry.true)) in
+    subst (λ (l : List (ℕ × Entry)). IsPassOf g.N.Named.board n l c.self.inside.pass × HasMadeEntries g.D.Disk.state g.D.Disk.faults start n (g.N.Named.faults n.0) (g.N.Named.honest n.0) (entries_of l) c.handle-reply.new.self)
+    (sym c.in-Ok.ensures.own) (c.self.invariant.0, made)
+
+pub invariant_of-self-in_default-one : goal.invariant_of-self-in_default-one
+invariant_of-self-in_default-one g c =
+    let n = c.self.inside.number in
+    let start = start_of g.N.Named.records in
+    let es = entries_of c.self.inside.list.entries in
+    let old = c.self.invariant.1 in
+    let made = made_unchanged g.D.Disk.state g.D.Disk.faults start n (g.N.Named.faults n.0) (g.N.Named.honest n.0) es c.self.inside.node c.handle-reply.new.self old c.handle-reply.ensures.goes_on (base_is g.N.Named.records n old.among)
+    c.args.request c.args.stop c.handle-reply.result c.handle-reply.ensures.answers (inr (subst (λ (l : Option (List ℕ)). IsLarge l c.handle-reply.result) c.in-Ok.ensures.first c.in_default-one.ensures.large)) in
+    subst (λ (l : List (ℕ × Entry)). IsPassOf g.N.Named.board n l c.self.inside.pass × HasMadeEntries g.D.Disk.state g.D.Disk.faults start n (g.N.Named.faults n.0) (g.N.Named.honest n.0) (entries_of l) c.handle-reply.new.self)
+    (sym c.in-Ok.ensures.own) (c.self.invariant.0, made)
+
+pub invariant_of-self-in_default-two : goal.invariant_of-self-in_default-two
+invariant_of-self-in_default-two g c =
+    let n = c.self.inside.number in
+    let start = start_of g.N.Named.records in
+    let es = entries_of c.self.inside.list.entries in
+    let old = c.self.invariant.1 in
+    let made = made_unchanged g.D.Disk.state g.D.Disk.faults start n (g.N.Named.faults n.0) (g.N.Named.honest n.0) es c.self.inside.node c.handle-reply.new.self old c.handle-reply.ensures.goes_on (base_is g.N.Named.records n old.among)
+    c.args.request c.args.stop c.handle-reply.result c.handle-reply.ensures.answers (inr (subst (λ (l : Option (List ℕ)). IsLarge l c.handle-reply.result) c.in-Ok.ensures.second c.in_default-two.ensures.large)) in
     subst (λ (l : List (ℕ × Entry)). IsPassOf g.N.Named.board n l c.self.inside.pass × HasMadeEntries g.D.Disk.state g.D.Disk.faults start n (g.N.Named.faults n.0) (g.N.Named.honest n.0) (entries_of l) c.handle-reply.new.self)
     (sym c.in-Ok.ensures.own) (c.self.invariant.0, made)
 

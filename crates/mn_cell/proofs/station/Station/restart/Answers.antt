@@ -33,8 +33,8 @@ invariant_of-self-2 g c =
     let made = made_restarted g.D.Disk.state g.D.Disk.faults start n (g.N.Named.faults n.0) (g.N.Named.honest n.0) es c.self.inside.node c.restart.new.self old c.in-Ok.ensures.goes_on (base_is g.N.Named.records n old.among)
     c.client.result c.in-Ok.kept down c.in-Ok.ensures.up c.in-Ok.ensures.records c.in-Ok.ensures.found in
     let entries = ap (λ (l : List (ℕ × Entry)). entries_of l) enter.ends.ends_node
-    ∙ newest_entry c.make_room.new.own.entries enter.ends.place c.restart_entry.result
-    ∙ ap (λ (x : Entry). x ∷ entries_of c.make_room.new.own.entries) c.restart_entry.ensures
+    ∙ newest_entry c.make_room.new.own.entries enter.ends.place c.restart_entry-first.result
+    ∙ ap (λ (x : Entry). x ∷ entries_of c.make_room.new.own.entries) c.restart_entry-first.ensures
     ∙ ap (λ (l : List (ℕ × Entry)). e ∷ entries_of l) c.in_ok-make_room.ensures.own in (
       (enter.board.0 ∙ c.requires.board.0, enter.owns.0, enter.lists.0),
       subst (λ (l : List Entry). HasMadeEntries g.D.Disk.state g.D.Disk.faults start n (g.N.Named.faults n.0) (g.N.Named.honest n.0) l c.restart.new.self) (sym entries) made,
