@@ -42,6 +42,13 @@ impl Key {
         }
     }
 
+    /// A key of zeros, which stands where none was put yet.
+    pub(crate) fn blank() -> Self {
+        Key {
+            bytes: ArrayVec::from([0; MAX_KEY]),
+        }
+    }
+
     pub fn as_slice(&self) -> &[u8]
         ensures bytes { result.now ≡ self.now }
         ensures within { (1 ≤ length self.now) × (length self.now ≤ MAX_KEY) }

@@ -1,11 +1,16 @@
-ghost use Rattle.std.specs.Prelude.{◌≡◌, ◌≤◌, length, IfOk, IfErr, OnOk};
+ghost use Rattle.std.specs.Prelude.{◌≡◌, ◌≤◌, ◌∷◌, [], length, IfOk, IfErr, OnOk};
 ghost use Rattle.std.specs.List.{list_any};
 ghost use Rattle.mn_base.specs.Refusal.{RefusesSteps};
 ghost use Rattle.mn_base.specs.Store.{is_change};
 
 use crate::{BaseError, Key, Name, NoMemory, TryCopy, Value, copies_of};
+use smallvec::SmallVec;
 use std::alloc::Global;
+use std::default::MadeWith;
 use std::marker::Model;
+
+/// How many steps lie in an operation itself: most have one.
+const STEPS_IN_PLACE: usize = 1;
 
 /// One step of a transaction on the pairs of a version.
 #[derive(Debug, Drop)]
@@ -42,6 +47,13 @@ impl TryCopy for Step {
     }
 }
 
+/// What a place of a list has before a step stands there.
+impl MadeWith<Global> for Step {
+    fn made_with(_alloc: Global) -> Self {
+        Step::Get { key: Key::blank() }
+    }
+}
+
 impl Step {
     /// Whether it may change pairs: a Put or a Del.
     pub fn changes(&self) -> bool
@@ -60,7 +72,7 @@ pub const MAX_STEPS: usize = 16;
 /// The steps of a transaction, 1 to 16. Contracts see them as a list.
 #[derive(Debug, Drop)]
 pub struct Steps {
-    steps: Vec<Step>,
+    steps: SmallVec<Step, STEPS_IN_PLACE>,
 }
 
 impl Model for Steps {
@@ -86,14 +98,25 @@ impl Steps {
         if n == 0 || n > MAX_STEPS {
             return Err(BaseError::BadSteps { n });
         }
-        Ok(Steps { steps })
+        Ok(Steps {
+            steps: SmallVec::from_vec(steps),
+        })
+    }
+
+    /// One step. It takes no memory.
+    pub fn one(alloc: Global, step: Step) -> Self
+        ensures { result ≡ step ∷ [] }
+    {
+        Steps {
+            steps: SmallVec::from_buf(alloc, [step]),
+        }
     }
 
     pub fn as_slice(&self) -> &[Step]
         ensures steps { result.now ≡ self.now }
         ensures within { (1 ≤ length self.now) × (length self.now ≤ MAX_STEPS) }
     {
-        &self.steps
+        self.steps.as_slice()
     }
 
     /// Whether some step is a Put or a Del.
@@ -112,8 +135,9 @@ impl Steps {
 
 impl TryCopy for Steps {
     fn try_copy(&self, alloc: Global) -> Result<Self, NoMemory> {
+        let steps = copies_of(alloc, self.as_slice())?;
         Ok(Steps {
-            steps: copies_of(alloc, &self.steps)?,
+            steps: SmallVec::from_vec(steps),
         })
     }
 }

@@ -11,7 +11,7 @@ use Rattle.mn_base.specs.declared.ids.NodeNo.{NodeNo}
 use Rattle.mn_base.specs.declared.ids.Tid.{Tid}
 use Rattle.mn_base.specs.declared.op.Op.{Op}
 use Rattle.mn_cell.specs.Runs.{IsIssueOf}
-use Rattle.mn_mini.specs.Mini.{Mini, participants_of}
+use Rattle.mn_mini.specs.Mini.{Mini, participants_of, is_read}
 use Rattle.mn_mini.specs.RecordGrammar.{IsTid}
 use Rattle.mn_mini.specs.declared.reply.NodeReply.{NodeReply}
 use Rattle.mn_mini.specs.declared.reply.NodeReply.TheVariants as Say
@@ -22,7 +22,7 @@ use Rattle.mn_world.specs.declared.entry.What.{What}
 use Rattle.mn_world.specs.declared.entry.What.TheVariants.{Begin, Issue, Called, Stopped, Restarted, Abandoned, Answered}
 use Rattle.mn_world.specs.Answers.{MeansBy}
 use Rattle.mn_world.specs.Calls.{Begun, Call as Asked, Issued, begun_in, begun_of, call_in, issue_in, issues_of, under_way, under_way_after}
-use Rattle.mn_world.specs.Clients.{ClientAllows, is_read, last_number}
+use Rattle.mn_world.specs.Clients.{ClientAllows, last_number}
 use Rattle.mn_world.specs.Lists.{ClientState}
 use Rattle.mn_world.specs.Places.{Place}
 use Rattle.mn_world.specs.Protocol.{Start}

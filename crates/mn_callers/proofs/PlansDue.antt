@@ -10,7 +10,7 @@ use Rattle.mn_mini.specs.declared.reply.NodeReply.{NodeReply}
 use Rattle.mn_mini.specs.declared.reply.NodeReply.TheVariants as Say
 use Rattle.mn_mini.specs.declared.request.Request.{Request}
 use Rattle.mn_mini.specs.declared.request.Request.TheVariants as Ask
-use Rattle.mn_mini.specs.Mini.{Mini, participants_of, part_of}
+use Rattle.mn_mini.specs.Mini.{Mini, participants_of, part_of, is_read}
 use Rattle.mn_coord.specs.declared.stage.Stage.{Stage}
 use Rattle.mn_coord.specs.declared.stage.Stage.TheVariants as At
 use Rattle.mn_coord.specs.declared.step.CoordStep.TheVariants.{Send}
@@ -25,7 +25,7 @@ use Rattle.mn_world.specs.declared.entry.What.{What}
 use Rattle.mn_world.specs.declared.entry.What.TheVariants.{Begin, Issue, Called, Stopped, Restarted, Abandoned, Answered}
 use Rattle.mn_world.specs.Calls.{Call, Issued, is_done, is_exec, is_prepare, is_refused, is_try, issue_in, issues_of, since_begin, since_begin_after, was_abandoned, was_done, was_sent, was_told_somewhere}
 use Rattle.mn_world.specs.Answers.{is_given_up, is_settled}
-use Rattle.mn_world.specs.Clients.{is_over, is_read}
+use Rattle.mn_world.specs.Clients.{is_over}
 use Rattle.mn_proxy.specs.declared.errand.Errand.{Errand}
 use Rattle.mn_proxy.specs.declared.errand.Errand.TheVariants as out
 use Rattle.mn_work.specs.declared.work.Work.{Work}

@@ -8,7 +8,7 @@ use Rattle.std.specs.List.{list_all, list_any, AllByRecursion}
 use Rattle.std.specs.Option.{option_map_or}
 use Rattle.mn_base.specs.declared.ids.ClientNo.{ClientNo}
 use Rattle.mn_base.specs.declared.op.Op.{Op}
-use Rattle.mn_mini.specs.Mini.{participants_of}
+use Rattle.mn_mini.specs.Mini.{participants_of, is_read}
 use Rattle.mn_script.specs.declared.elements.Point.{Point}
 use Rattle.mn_script.specs.declared.elements.ScriptClient.{ScriptClient}
 use Rattle.mn_script.specs.Script.{Script}
@@ -17,7 +17,7 @@ use Rattle.mn_world.specs.declared.entry.What.{What}
 use Rattle.mn_world.specs.declared.entry.What.TheVariants.{Begin, Issue, Abandoned, Answered}
 use Rattle.mn_world.specs.Calls.{Call, call_in, was_sent, was_done, was_abandoned, Issued}
 use Rattle.mn_world.specs.Calls.{issues_of, under_way, begun_of, since_begin}
-use Rattle.mn_world.specs.Clients.{is_over, is_read, last_number}
+use Rattle.mn_world.specs.Clients.{is_over, last_number}
 use Rattle.mn_callers.specs.Points.{has_died, stop_due, AsksAs}
 
 -- What stands to be done

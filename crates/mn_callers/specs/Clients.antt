@@ -11,8 +11,8 @@ use Rattle.mn_proxy.specs.State.{IsIdle, IsReady, ProxyState}
 use Rattle.mn_script.specs.declared.elements.Point.{Point}
 use Rattle.mn_world.specs.declared.entry.Entry.{Entry}
 use Rattle.mn_world.specs.Calls.{Issued, begun_of, issues_of}
-use Rattle.mn_world.specs.Clients.{Sends, is_read, last_number}
-use Rattle.mn_mini.specs.Mini.{participants_of}
+use Rattle.mn_world.specs.Clients.{Sends, last_number}
+use Rattle.mn_mini.specs.Mini.{participants_of, is_read}
 use Rattle.mn_world.specs.Lists.{ClientState}
 use Rattle.mn_world.specs.Protocol.{Start, run_number, start_nodes}
 use Rattle.mn_world.specs.Run.{entries_of}

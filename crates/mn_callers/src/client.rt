@@ -4,12 +4,11 @@ ghost use Rattle.std.specs.Prelude.{IfOk, OnOk, OnErr, MatchBool, MatchOption, N
 ghost use Rattle.std.specs.Prelude.{true, false, not, ◌&&◌, ◌||◌, nat_lt, if◌then◌else◌, ⊤};
 ghost use Rattle.mn_base.specs.declared.op.Op.{Op};
 ghost use Rattle.mn_hist.specs.Points.{points_met};
-ghost use Rattle.mn_mini.specs.Mini.{participants_of};
+ghost use Rattle.mn_mini.specs.Mini.{participants_of, is_read};
 ghost use Rattle.mn_mini.specs.RecordGrammar.{IsTid};
 ghost use Rattle.mn_mini.specs.Sound.{Fits, IsDecide, IsSoundRequest};
 ghost use Rattle.mn_proxy.specs.Measure.{Falls, steps_left};
 ghost use Rattle.mn_proxy.specs.State.{ProxyState};
-ghost use Rattle.mn_world.specs.Clients.{is_read};
 ghost use Rattle.mn_world.specs.Protocol.{Start, run_number, start_nodes};
 ghost use Rattle.mn_callers.specs.Acts.{BeginsOp, CallsOnce, DoesAll, DoesGo, DoesPlan, DoesStep};
 ghost use Rattle.mn_callers.specs.Acts.{GoesByItself, IsUnderWay, as_role, has_work};
@@ -28,7 +27,7 @@ use crate::transport::Transport;
 use mn_actors::Pass;
 use mn_base::{Answer, ClientNo, NoMemory, NodeNo, SharedOp, Tid, TryCopy};
 use mn_hist::{may_stop, none_met};
-use mn_mini::{Item, Minitransaction, NodeReply, Request};
+use mn_mini::{Minitransaction, NodeReply, Request};
 use mn_proxy::{Proxy, ProxyStep};
 use mn_script::Point;
 use mn_work::Task;
@@ -72,13 +71,6 @@ fn is_shared(mini: &Minitransaction) -> bool
     ensures { result ≡ nat_le 2 (length (participants_of mini.now)) }
 {
     mini.participants().as_slice().len() >= 2
-}
-
-/// Whether the minitransaction is one read.
-fn is_read(mini: &Minitransaction) -> bool
-    ensures { result ≡ is_read mini.now.items }
-{
-    matches!(mini.items(), [Item::Read { .. }])
 }
 
 /// How many entries have to have room before a call: with the first Prepare those of its whole plan
@@ -300,7 +292,7 @@ impl Client {
             (past_of self.old) (past_of self.new)) }
     {
         let is_shared = is_shared(&mini);
-        let is_read = is_read(&mini);
+        let is_read = mini.is_read();
         self.add(table, pass, What::Issue { tid, mini })?;
         self.keep_issue(tid, is_shared, !is_read);
         Ok(())

@@ -18,7 +18,7 @@ use Rattle.mn_base.specs.declared.ids.Tid.{Tid}
 use Rattle.mn_base.specs.declared.reply.Reply.{Reply}
 use Rattle.mn_base.proofs.Booleans.{clash}
 use Rattle.mn_base.proofs.Lists.{set_at}
-use Rattle.mn_mini.specs.Mini.{Mini}
+use Rattle.mn_mini.specs.Mini.{Mini, is_read}
 use Rattle.mn_mini.proofs.Fits.{unsome}
 use Rattle.mn_page.proofs.Alike.{get-set_other}
 use Rattle.mn_world.specs.declared.entry.Entry.{Entry}
@@ -26,7 +26,6 @@ use Rattle.mn_world.specs.declared.entry.What.{What}
 use Rattle.mn_world.specs.declared.entry.What.TheVariants.{Begin, Issue, Called, Stopped, Restarted, Abandoned, Answered}
 use Rattle.mn_world.specs.declared.commit_reader.CommittedMini.{CommittedMini}
 use Rattle.mn_world.specs.Calls.{node_entries, Issued, issue_in, issues_of, issue_named}
-use Rattle.mn_world.specs.Clients.{is_read}
 use Rattle.mn_world.specs.CommitReader.{issued_of}
 use Rattle.mn_world.specs.Commits.{committed_by, committed_at, effect_of}
 use Rattle.mn_world.specs.History.{Placed, EntryPuts, IsHistory, StepPuts, pasts_of}

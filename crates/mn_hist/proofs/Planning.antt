@@ -8,14 +8,13 @@ use Rattle.mn_base.specs.declared.ids.NodeNo.{NodeNo}
 use Rattle.mn_base.specs.declared.ids.Tid.{Tid}
 use Rattle.mn_base.specs.declared.reply.Reply.{Reply}
 use Rattle.mn_base.proofs.Booleans.{clash}
-use Rattle.mn_mini.specs.Mini.{Mini}
+use Rattle.mn_mini.specs.Mini.{Mini, is_read}
 use Rattle.mn_mini.proofs.Fits.{unsome}
 use Rattle.mn_world.specs.declared.entry.Entry.{Entry}
 use Rattle.mn_world.specs.declared.entry.What.{What}
 use Rattle.mn_world.specs.declared.entry.What.TheVariants.{Begin, Issue, Called, Stopped, Restarted, Abandoned, Answered}
 use Rattle.mn_world.specs.Answers.{IsPlanBy, IsPlanOfOp}
 use Rattle.mn_world.specs.Calls.{Begun, Issued, client_entries, issue_in, issues_of, issue_named, under_way}
-use Rattle.mn_world.specs.Clients.{is_read}
 use Rattle.mn_world.specs.History.{Placed, PlanOf, EntryPuts, has_past}
 use Rattle.mn_world.specs.Protocol.{Start}
 use Rattle.mn_world.specs.Run.{IsRun, Means}

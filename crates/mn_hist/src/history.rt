@@ -7,7 +7,6 @@ ghost use Rattle.std.specs.Prelude.{reverse};
 ghost use Rattle.mn_base.specs.Ids.{client_same, tid_same};
 ghost use Rattle.mn_base.specs.declared.ids.ClientNo.{ClientNo as Who};
 ghost use Rattle.mn_base.specs.declared.ids.Tid.{Tid as Id};
-ghost use Rattle.mn_world.specs.Clients.{is_read};
 ghost use Rattle.mn_world.specs.Shown.{seen_at};
 ghost use Rattle.mn_hist.specs.History.{CallerState, ChangesNothing, idle, with_seen, state_after};
 ghost use Rattle.mn_world.specs.History.{Placed};
@@ -27,6 +26,7 @@ ghost use Rattle.mn_hist.specs.Told.{ReaderHasRead, ReaderHasTold};
 ghost use Rattle.mn_hist.specs.Ending.{IsEndingOf, TellsHistory};
 ghost use Rattle.mn_base.specs.History.{store_after};
 ghost use Rattle.mn_base.specs.Store.{applied, Store as Versions};
+ghost use Rattle.mn_mini.specs.Mini.{is_read};
 ghost use Rattle.mn_world.specs.CommitReader.{issued_of};
 ghost use Rattle.mn_world.specs.Commits.{committed_by};
 ghost use Rattle.mn_world.specs.History.{IsHistory, pasts_of};
@@ -38,7 +38,6 @@ use crate::answers::note_entry;
 use crate::sayings::AllSaid;
 use crate::shown::{KnownCatalog, Read, shows};
 use mn_base::{Answer, ClientNo, History, NoMemory, Op, Past, Reply, SharedOp, Tid, TryCopy};
-use mn_mini::{Item, Minitransaction};
 use mn_plain::Store;
 use mn_world::{
     CommitReader, CommittedMini, Entry, IdKey, Log, What, history_is_one, id_key,
@@ -314,12 +313,6 @@ pub fn op_key(client: ClientNo, number: u32) -> OpKey
     }
 }
 
-fn is_read(mini: &Minitransaction) -> bool
-    ensures { result ≡ is_read mini.now.items }
-{
-    matches!(mini.items(), [Item::Read { .. }])
-}
-
 #[inline(always)]
 fn same_begun<'a>(begun: &Begun<'a>) -> Begun<'a>
     ensures { result ≡ begun.now }
@@ -462,7 +455,7 @@ fn take_commit<'a>(
         → StandsInSet standing.old placed
         → CommitIsInHistory past committed.entry placed standing.new found) }
 {
-    if is_read(committed.mini) {
+    if committed.mini.is_read() {
         return Ok(None);
     }
     let act = planned(plans, committed.tid)?;
@@ -484,7 +477,7 @@ fn note_issue<'a>(
     let What::Issue { tid, mini } = &entry.what else {
         return Ok(());
     };
-    if is_read(mini) {
+    if mini.is_read() {
         return Ok(());
     }
     let begun = match entry.client {

@@ -29,6 +29,11 @@ is_named items node = list_any (λ item. node_same (item_node item) node) items
 abbrev pub participants_of : Mini → List NodeNo
 participants_of mini = filter (is_named mini.items) (node_numbers mini.nodes)
 
+-- exactly one item, which reads
+abbrev pub is_read : List Item → Bool
+is_read (Read node start length ∷ []) = true
+is_read items = false
+
 -- The part of a node: its compares, then its reads, then its writes, each in the order given
 
 abbrev pub compare_at : NodeNo → Item → List PartItem

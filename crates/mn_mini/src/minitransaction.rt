@@ -1,7 +1,7 @@
 ghost use Rattle.std.specs.Prelude.{◌≡◌, ◌++◌, ◌↔◌, IfOk, IfErr, OnOk, IsTrue, IfSome, IfNone};
 ghost use Rattle.std.specs.Prelude.{filter, length};
 ghost use Rattle.std.specs.List.{AllByRecursion, flat_map};
-ghost use Rattle.mn_mini.specs.Mini.{IsSound, IsSoundItem, IsInSpace, is_named, part_of};
+ghost use Rattle.mn_mini.specs.Mini.{IsSound, IsSoundItem, IsInSpace, is_named, is_read, part_of};
 ghost use Rattle.mn_mini.specs.Mini.{participants_of, compare_at, read_at, write_at, item_node};
 ghost use Rattle.mn_base.specs.Ids.{node_numbers, node_same};
 ghost use Rattle.smallvec.specs.SmallVec.{HasRoomFor};
@@ -26,20 +26,22 @@ pub const MAX_NODES: u8 = 8;
 #[derive(Debug, Drop)]
 pub struct Minitransaction {
     nodes: u8,
+    one_read: bool,
     items: Items,
     participants: Nodes,
 }
 
 impl Model for Minitransaction {
     ghost use Rattle.std.specs.Prelude.{◌≡◌};
-    ghost use Rattle.mn_mini.specs.Mini.{Mini, IsSound, participants_of};
+    ghost use Rattle.mn_mini.specs.Mini.{Mini, IsSound, is_read, participants_of};
 
     ghost Value = { Mini };
 
     ghost view = { λ m. record { nodes = m.nodes; items = m.items } };
 
     ghost invariant = { λ m. IsSound (record { nodes = m.nodes; items = m.items })
-        × (m.participants ≡ participants_of (record { nodes = m.nodes; items = m.items })) };
+        × (m.participants ≡ participants_of (record { nodes = m.nodes; items = m.items }))
+        × (m.one_read ≡ is_read m.items) };
 }
 
 /// Whether a range of bytes may be an item's.
@@ -97,6 +99,13 @@ fn participants_among(nodes: u8, items: &[Item]) -> Result<Nodes, NoMemory>
         }
     }
     Ok(participants)
+}
+
+/// Whether they are one item, which reads.
+fn is_one_read(items: &[Item]) -> bool
+    ensures { result ≡ is_read items.now }
+{
+    matches!(items, [Item::Read { .. }])
 }
 
 /// How many items are at the node.
@@ -200,6 +209,7 @@ impl Minitransaction {
         let participants = participants_among(nodes, items.as_slice())?;
         Ok(Minitransaction {
             nodes,
+            one_read: is_one_read(items.as_slice()),
             items,
             participants,
         })
@@ -210,6 +220,13 @@ impl Minitransaction {
         ensures { result ≡ self.now.nodes }
     {
         self.nodes
+    }
+
+    /// Whether it is one read. It is told without a look at the items.
+    pub fn is_read(&self) -> bool
+        ensures { result ≡ is_read self.now.items }
+    {
+        self.one_read
     }
 
     /// Its items, in the order given.
@@ -245,6 +262,7 @@ impl TryCopy for Minitransaction {
     fn try_copy(&self, alloc: Global) -> Result<Self, NoMemory> {
         Ok(Minitransaction {
             nodes: self.nodes,
+            one_read: self.one_read,
             items: self.items.try_copy(alloc)?,
             participants: self.participants.try_copy(alloc)?,
         })

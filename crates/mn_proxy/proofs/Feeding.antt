@@ -28,13 +28,14 @@ use Rattle.mn_mini.specs.declared.request.Request.TheVariants as Ask
 use Rattle.mn_mini.specs.Mini.{Mini, compare_at, is_named, part_of, participants_of, read_at, write_at}
 use Rattle.mn_mini.specs.Sound.{AreReadsOf, Fits}
 use Rattle.mn_mini.proofs.Parts.{same_self, same_true}
+use Rattle.mn_mini.specs.Mini.{is_read}
 use Rattle.mn_page.specs.declared.entry.CatEntry.{CatEntry}
 use Rattle.mn_world.specs.declared.entry.Entry.{Entry}
 use Rattle.mn_world.specs.Answers.{DiffersAs, LastIssue, RefusedAs, ShowsBytes, asks_catalog}
 use Rattle.mn_world.specs.Answers.{asks_for_catalog, is_any_decide, is_down_cause, is_peek, is_refusal}
 use Rattle.mn_world.specs.Answers.{nodes_of, part_compares}
 use Rattle.mn_world.specs.Calls.{Call, Issued, call_in, calls_of, is_done, issue_in, issues_of, since_begin}
-use Rattle.mn_world.specs.Clients.{is_plan, is_read}
+use Rattle.mn_world.specs.Clients.{is_plan}
 use Rattle.mn_world.specs.Places.{Place, catalog_place}
 use Rattle.mn_world.specs.Shown.{Seen, seen_at, seen_by, seen_in}
 use Rattle.mn_world.proofs.Bytes.Prepares.{read_alone}

@@ -16,7 +16,7 @@ use Rattle.mn_base.proofs.Booleans.{and_false, both_parts, both_true, left_true,
 use Rattle.mn_mini.specs.declared.reply.NodeReply.{NodeReply}
 use Rattle.mn_mini.specs.declared.request.Request.{Request}
 use Rattle.mn_mini.specs.declared.request.Request.TheVariants as Ask
-use Rattle.mn_mini.specs.Mini.{Mini, participants_of, part_of}
+use Rattle.mn_mini.specs.Mini.{Mini, participants_of, part_of, is_read}
 use Rattle.mn_page.specs.declared.entry.CatEntry.{CatEntry}
 use Rattle.mn_world.specs.declared.entry.Entry.{Entry}
 use Rattle.mn_world.specs.declared.entry.What.{What}
@@ -24,7 +24,7 @@ use Rattle.mn_world.specs.declared.entry.What.TheVariants.{Abandoned, Answered, 
 use Rattle.mn_world.specs.Answers.{LastIssue, are_given_up, are_settled, is_given_up, is_settled}
 use Rattle.mn_world.specs.Calls.{Call, Issued, begun_of, begun_in, call_in, calls_of, is_abandonment, is_decide, is_done, is_down_reply, is_exec, is_prepare, is_refused, is_stopped, is_try, issue_in, issues_of, since_begin, since_begin_after, under_way, under_way_after, was_abandoned, was_decided, was_told, was_told_somewhere}
 use Rattle.mn_world.specs.Causes.{is_recovery, recovers_nothing}
-use Rattle.mn_world.specs.Clients.{is_over, is_read, may_follow}
+use Rattle.mn_world.specs.Clients.{is_over, may_follow}
 use Rattle.mn_world.specs.Shown.{Seen, ShowsCatalog, seen_at, seen_in}
 use Rattle.mn_world.proofs.Reading.Sees.{seen_in-cons}
 use Rattle.mn_coord.specs.Coordination.{Coordination, participant, stage_in, step_at, step_of, try_request}

@@ -11,14 +11,14 @@ use Rattle.mn_base.specs.declared.reply.Reply.{Reply}
 use Rattle.mn_coord.specs.Coordination.{Coordination, new_coordination}
 use Rattle.mn_coord.specs.Legal.{Agrees as CoordAgrees, IsFresh}
 use Rattle.mn_mini.specs.declared.item.Item.TheVariants.{Read}
-use Rattle.mn_mini.specs.Mini.{IsSound, Mini}
+use Rattle.mn_mini.specs.Mini.{IsSound, Mini, is_read}
 use Rattle.mn_page.specs.declared.entry.CatEntry.{CatEntry}
 use Rattle.mn_world.specs.declared.entry.Entry.{Entry}
 use Rattle.mn_world.specs.declared.entry.What.{What}
 use Rattle.mn_world.specs.declared.entry.What.TheVariants.{Begin, Issue}
 use Rattle.mn_world.specs.Answers.{IsPlanBy, IsPlanOfOp, LastIssue, MeansBy, is_refusal, nodes_of}
 use Rattle.mn_world.specs.Calls.{Begun, Call, Issued, begun_of, issue_in, issues_of, since_begin, under_way, under_way_after}
-use Rattle.mn_world.specs.Clients.{ClientAllows, is_plan, is_read, last_number}
+use Rattle.mn_world.specs.Clients.{ClientAllows, is_plan, last_number}
 use Rattle.mn_world.specs.Answers.{is_peek}
 use Rattle.mn_world.specs.Places.{Place}
 use Rattle.mn_world.specs.Shown.{Seen, seen_by, seen_in}

@@ -6,23 +6,17 @@ ghost use Rattle.mn_script.specs.Lines.{branch_op, scan_op, limited_scan, other_
 use crate::error::LineError;
 use crate::steps::{del, get, put, steps};
 use crate::words::{bound, end, name, next, number, word, wrong};
-use mn_base::{BaseError, Key, Name, NoMemory, Op, Step, Steps};
+use mn_base::{BaseError, Key, Name, Op, Step, Steps};
 use std::alloc::Global;
 
 /// A transaction of one step.
 #[inline(always)]
-fn one_step(alloc: Global, version: Name, step: Step) -> Result<Op, NoMemory>
-    ensures { IfOk result (λ op. op ≡ Op.Tx version (step ∷ [])) }
+fn one_step(alloc: Global, version: Name, step: Step) -> Op
+    ensures { result ≡ Op.Tx version (step ∷ []) }
 {
-    let mut steps = Vec::with_capacity(alloc, 1)?;
-    steps.push_reserved(step);
-    match Steps::new(steps) {
-        Ok(steps) => Ok(Op::Tx { version, steps }),
-        Err(BaseError::BadSteps { .. }) => unreachable!(),
-        Err(BaseError::Empty) => unreachable!(),
-        Err(BaseError::TooLong { .. }) => unreachable!(),
-        Err(BaseError::BadName { .. }) => unreachable!(),
-        Err(BaseError::NoMemory) => unreachable!(),
+    Op::Tx {
+        version,
+        steps: Steps::one(alloc, step),
     }
 }
 
@@ -33,7 +27,7 @@ fn lone(alloc: Global, line: &[u8], at: usize, version: Name, step: Step) -> Res
     ensures { Gives result (end_at line.now at (Op.Tx version (step ∷ []))) }
 {
     end(line, at)?;
-    Ok(one_step(alloc, version, step)?)
+    Ok(one_step(alloc, version, step))
 }
 
 /// An operation whose line ends there.

@@ -25,7 +25,7 @@ use Rattle.mn_mini.specs.declared.request.Request.{Request}
 use Rattle.mn_mini.specs.declared.request.Request.TheVariants as Ask
 use Rattle.mn_mini.specs.declared.reply.NodeReply.{NodeReply}
 use Rattle.mn_mini.specs.declared.reply.NodeReply.TheVariants as Say
-use Rattle.mn_mini.specs.Mini.{Mini, participants_of}
+use Rattle.mn_mini.specs.Mini.{Mini, participants_of, is_read}
 use Rattle.mn_mini.specs.Flat.{bytes_in}
 use Rattle.mn_page.specs.declared.page.Page.{Page}
 use Rattle.mn_page.specs.declared.entry.CatEntry.{CatEntry}
@@ -40,7 +40,7 @@ use Rattle.mn_world.specs.Calls.{Call, call_in, calls_of, is_prepare, is_exec, i
 use Rattle.mn_world.specs.Calls.{is_down_reply, is_last_of, was_told, was_told_somewhere, was_done}
 use Rattle.mn_world.specs.Calls.{was_decided, was_abandoned, Issued, issue_in, issues_of, Begun}
 use Rattle.mn_world.specs.Calls.{under_way, since_begin}
-use Rattle.mn_world.specs.Clients.{is_read, is_plan}
+use Rattle.mn_world.specs.Clients.{is_plan}
 use Rattle.mn_world.specs.Places.{Place, page_place, count_place, catalog_place}
 use Rattle.mn_world.specs.Planned.{IsPlanned}
 use Rattle.mn_world.specs.Needs.{NeedsSlots, WritesOld}

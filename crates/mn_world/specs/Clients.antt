@@ -13,7 +13,7 @@ use Rattle.mn_mini.specs.declared.item.Item.TheVariants.{Compare, Read, Write}
 use Rattle.mn_mini.specs.declared.part.PartItem.{PartItem}
 use Rattle.mn_mini.specs.declared.request.Request.{Request}
 use Rattle.mn_mini.specs.declared.request.Request.TheVariants as Ask
-use Rattle.mn_mini.specs.Mini.{Mini, IsSound, participants_of, part_of}
+use Rattle.mn_mini.specs.Mini.{Mini, IsSound, participants_of, part_of, is_read}
 use Rattle.mn_world.specs.declared.entry.Entry.{Entry}
 use Rattle.mn_world.specs.declared.entry.What.{What}
 use Rattle.mn_world.specs.declared.entry.What.TheVariants.{Begin, Issue, Called, Stopped, Restarted}
@@ -24,11 +24,6 @@ use Rattle.mn_world.specs.Calls.{has_yes, has_no, is_in_doubt, was_abandoned, Wa
 use Rattle.mn_world.specs.Calls.{issues_of, issue_named, Begun, under_way, begun_of, since_begin}
 
 -- Kinds of minitransactions
-
--- exactly one item, which reads
-abbrev pub is_read : List Item → Bool
-is_read (Read node start length ∷ []) = true
-is_read items = false
 
 abbrev pub is_compare_or_write : Item → Bool
 is_compare_or_write (Compare node start bytes) = true

@@ -13,12 +13,12 @@ use Rattle.mn_base.specs.declared.reply.Reply.{Reply}
 use Rattle.mn_base.specs.declared.reply.Reply.TheVariants.{Pairs}
 use Rattle.mn_base.specs.declared.answer.Answer.{Answer}
 use Rattle.mn_base.specs.declared.answer.Answer.TheVariants.{Replied}
+use Rattle.mn_mini.specs.Mini.{is_read}
 use Rattle.mn_world.specs.declared.entry.Entry.{Entry}
 use Rattle.mn_world.specs.declared.entry.What.{What}
 use Rattle.mn_world.specs.declared.entry.What.TheVariants.{Answered}
 use Rattle.mn_world.specs.Calls.{Issued, is_by, client_entries, issue_in, Begun, begun_in}
 use Rattle.mn_world.specs.Calls.{under_way, since_begin}
-use Rattle.mn_world.specs.Clients.{is_read}
 use Rattle.mn_world.specs.Commits.{committed_by}
 use Rattle.mn_world.specs.Shown.{Seen, seen_in, seen_at, ReadShows, IsCatalogRead}
 use Rattle.mn_world.specs.Answers.{IsPlanBy}

@@ -9,12 +9,12 @@ use Rattle.mn_base.specs.declared.answer.Answer.{Answer}
 use Rattle.mn_base.specs.declared.answer.Answer.TheVariants.{Replied, InDoubt}
 use Rattle.mn_base.specs.declared.op.Op.{Op}
 use Rattle.mn_base.specs.declared.history.Past.{Past}
+use Rattle.mn_mini.specs.Mini.{is_read}
 use Rattle.mn_page.specs.Holds.{Holds}
 use Rattle.mn_world.specs.declared.entry.Entry.{Entry}
 use Rattle.mn_world.specs.declared.entry.What.{What}
 use Rattle.mn_world.specs.declared.entry.What.TheVariants.{Begin, Answered, Stopped, Restarted}
 use Rattle.mn_world.specs.Calls.{Issued}
-use Rattle.mn_world.specs.Clients.{is_read}
 use Rattle.mn_world.specs.Protocol.{Start, start_nodes, base_at, start_records, records_of}
 use Rattle.mn_world.specs.Protocol.{FollowsProtocol}
 use Rattle.mn_world.specs.Commits.{committed_by, flat_after}

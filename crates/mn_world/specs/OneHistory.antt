@@ -16,12 +16,12 @@ use Rattle.mn_base.specs.History.{IsLegal, store_after}
 use Rattle.mn_mini.specs.declared.request.Request.TheVariants as Ask
 use Rattle.mn_mini.specs.declared.reply.NodeReply.TheVariants as Say
 use Rattle.mn_mini.specs.Node.{held_parts}
+use Rattle.mn_mini.specs.Mini.{is_read}
 use Rattle.mn_page.specs.Holds.{Holds}
 use Rattle.mn_world.specs.declared.entry.Entry.{Entry}
 use Rattle.mn_world.specs.declared.entry.What.{What}
 use Rattle.mn_world.specs.declared.entry.What.TheVariants.{Called}
 use Rattle.mn_world.specs.Calls.{Issued, node_entries, client_entries, under_way}
-use Rattle.mn_world.specs.Clients.{is_read}
 use Rattle.mn_world.specs.Nodes.{is_down}
 use Rattle.mn_world.specs.Protocol.{Start, start_nodes, records_of, FollowsProtocol}
 use Rattle.mn_world.specs.Commits.{committed_by, flat_after}

@@ -127,8 +127,8 @@ fn is_entry(reply: &NodeReply) -> bool
     !matches!(reply, NodeReply::NoMemory)
 }
 
-/// The entry of a call, with a copy of the reply. NoMemory comes only for a reply that comes with no
-/// new record. It is made by a call of its own, since the second is made by the same code.
+/// The entry of a call, with a copy of the reply. NoMemory comes only for a reply that comes with
+/// no new record. It is made by a call of its own, since the second is made by the same code.
 #[inline(never)]
 fn call_entry(
     alloc: Global,

@@ -15,9 +15,10 @@ use Rattle.mn_mini.specs.declared.reply.NodeReply.TheVariants as Say
 use Rattle.mn_mini.specs.Mini.{Mini, participants_of, compare_at, read_at, write_at, part_of}
 use Rattle.mn_mini.specs.Flat.{space_in, part_reads}
 use Rattle.mn_mini.proofs.Parts.{reads-append, reads-compares, reads-writes, same_true}
+use Rattle.mn_mini.specs.Mini.{is_read}
 use Rattle.mn_world.specs.declared.entry.Entry.{Entry}
 use Rattle.mn_world.specs.declared.entry.What.TheVariants.{Called}
-use Rattle.mn_world.specs.Clients.{is_read, is_plan}
+use Rattle.mn_world.specs.Clients.{is_plan}
 use Rattle.mn_world.specs.Protocol.{Start, KeepsProtocol}
 use Rattle.mn_world.specs.Laws.{PreparesReadNothing}
 use Rattle.mn_world.proofs.Votes.Acts.{sent_unvoted}

@@ -22,10 +22,11 @@ use Rattle.mn_mini.specs.Node.{HeldPart, held_parts, held_part_of, without_tid, 
 use Rattle.mn_mini.specs.Laws.{PartsAreApart}
 use Rattle.mn_mini.proofs.Bytes.{mismatch-after_part, conflict_turned}
 use Rattle.mn_mini.proofs.Parts.{AreIn, space-after_mini, mini_holds, no_part, named_takes_part, same_self, same_true}
+use Rattle.mn_mini.specs.Mini.{is_read}
 use Rattle.mn_world.specs.declared.entry.Entry.{Entry}
 use Rattle.mn_world.specs.Calls.{Issued, issue_named, issues_of}
 use Rattle.std.specs.Prelude.{IsTrue}
-use Rattle.mn_world.specs.Clients.{is_read, is_plan}
+use Rattle.mn_world.specs.Clients.{is_plan}
 use Rattle.mn_world.specs.Protocol.{Start, start_nodes, base_at, records_of, KeepsProtocol}
 use Rattle.mn_world.specs.Commits.{has_vote, issued_as, committed_with, committed_by, flat_after, memory_after_commit}
 use Rattle.mn_world.specs.Opened.{opened_memory}

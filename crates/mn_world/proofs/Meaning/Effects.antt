@@ -14,13 +14,13 @@ use Rattle.mn_mini.specs.declared.request.Request.{Request}
 use Rattle.mn_mini.specs.declared.request.Request.TheVariants as Ask
 use Rattle.mn_mini.specs.declared.reply.NodeReply.{NodeReply}
 use Rattle.mn_mini.specs.declared.reply.NodeReply.TheVariants as Say
-use Rattle.mn_mini.specs.Mini.{Mini}
+use Rattle.mn_mini.specs.Mini.{Mini, is_read}
 use Rattle.mn_mini.specs.Flat.{Mismatched, Committed, mismatch_from, reads_in, memory_after, unless_mismatched, outcome_on}
 use Rattle.mn_world.specs.declared.entry.Entry.{Entry}
 use Rattle.mn_world.specs.declared.entry.What.{What}
 use Rattle.mn_world.specs.declared.entry.What.TheVariants.{Begin, Issue, Called, Stopped, Restarted, Abandoned, Answered}
 use Rattle.mn_world.specs.Calls.{Issued, issues_of, issue_named, node_entries}
-use Rattle.mn_world.specs.Clients.{is_read, is_plan, is_compare_or_write}
+use Rattle.mn_world.specs.Clients.{is_plan, is_compare_or_write}
 use Rattle.mn_world.specs.Protocol.{Start, FollowsProtocol}
 use Rattle.mn_world.specs.Commits.{effect_of, has_vote, issued_as, committed_with, committed_at, committed_by, memory_of_outcome, memory_after_commit}
 use Rattle.mn_world.specs.Laws.{StartsSound}

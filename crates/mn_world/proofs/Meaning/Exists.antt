@@ -13,6 +13,7 @@ use Rattle.mn_base.specs.declared.reply.Reply.{Reply}
 use Rattle.mn_base.specs.declared.reply.Reply.TheVariants as Say
 use Rattle.mn_base.specs.declared.answer.Answer.{Answer}
 use Rattle.mn_base.specs.declared.answer.Answer.TheVariants.{Replied, Busy as GaveUp, Down, InDoubt, Full, Worn, NoMemory}
+use Rattle.mn_mini.specs.Mini.{is_read}
 use Rattle.mn_page.specs.Forest.{heads_in}
 use Rattle.mn_page.specs.Holds.{Holds}
 use Rattle.mn_page.proofs.Grid.{all_split}
@@ -20,7 +21,6 @@ use Rattle.mn_world.specs.declared.entry.Entry.{Entry}
 use Rattle.mn_world.specs.declared.entry.What.{What}
 use Rattle.mn_world.specs.declared.entry.What.TheVariants.{Begin, Issue, Called, Stopped, Restarted, Abandoned, Answered}
 use Rattle.mn_world.specs.Calls.{Issued, Begun, begun_in, under_way, since_begin, since_begin_after, is_by, client_entries}
-use Rattle.mn_world.specs.Clients.{is_read}
 use Rattle.mn_world.specs.Answers.{ShowsAnswer, IsShownFor, SomeReadShows}
 use Rattle.mn_world.specs.Commits.{committed_by}
 use Rattle.mn_world.specs.Opened.{opened_memory}

@@ -13,14 +13,14 @@ use Rattle.mn_base.specs.declared.op.Op.{Op}
 use Rattle.mn_base.specs.declared.reply.Reply.{Reply}
 use Rattle.mn_base.specs.declared.reply.Reply.TheVariants as Say
 use Rattle.mn_base.proofs.Booleans.{clash}
-use Rattle.mn_mini.specs.Mini.{Mini, participants_of}
+use Rattle.mn_mini.specs.Mini.{Mini, participants_of, is_read}
 use Rattle.mn_mini.specs.declared.item.Item.{Item}
 use Rattle.mn_mini.specs.declared.item.Item.TheVariants.{Compare, Read, Write}
 use Rattle.mn_world.specs.declared.entry.Entry.{Entry}
 use Rattle.mn_world.specs.declared.entry.What.{What}
 use Rattle.mn_world.specs.declared.entry.What.TheVariants.{Begin, Issue, Called, Stopped, Restarted, Abandoned, Answered}
 use Rattle.mn_world.specs.Calls.{Issued, issue_in, issues_of, issue_named, Begun, under_way, under_way_after, since_begin, since_begin_after, client_entries, was_done}
-use Rattle.mn_world.specs.Clients.{is_read, is_plan}
+use Rattle.mn_world.specs.Clients.{is_plan}
 use Rattle.mn_world.specs.Answers.{IsPlanBy, IsPlanOfOp, LastIssue, all_done}
 use Rattle.mn_world.specs.Commits.{committed_by}
 use Rattle.mn_world.specs.Protocol.{Start, FollowsProtocol, AllowedBy}

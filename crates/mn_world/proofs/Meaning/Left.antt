@@ -14,14 +14,14 @@ use Rattle.mn_mini.specs.declared.request.Request.{Request}
 use Rattle.mn_mini.specs.declared.request.Request.TheVariants as Ask
 use Rattle.mn_mini.specs.declared.reply.NodeReply.{NodeReply}
 use Rattle.mn_mini.specs.declared.reply.NodeReply.TheVariants as Say
-use Rattle.mn_mini.specs.Mini.{Mini, participants_of}
+use Rattle.mn_mini.specs.Mini.{Mini, participants_of, is_read}
 use Rattle.mn_mini.specs.Node.{HeldPart, held_parts, held_part_of, has_voted, has_decided_yes, has_decided_no}
 use Rattle.mn_mini.proofs.Parts.{same_self}
 use Rattle.mn_world.specs.declared.entry.Entry.{Entry}
 use Rattle.mn_world.specs.declared.entry.What.{What}
 use Rattle.mn_world.specs.declared.entry.What.TheVariants.{Called}
 use Rattle.mn_world.specs.Calls.{Call, Issued, Begun, issue_in, is_exec, is_refused, has_yes, calls_of, client_entries, issue_named, issues_of, since_begin, under_way, under_way_after}
-use Rattle.mn_world.specs.Clients.{is_read, Sends, AllowsPrepare, ClientAllows}
+use Rattle.mn_world.specs.Clients.{Sends, AllowsPrepare, ClientAllows}
 use Rattle.mn_world.specs.Commits.{has_vote}
 use Rattle.mn_world.specs.Protocol.{Start, start_nodes, records_of, AllowedAt, FollowsProtocol}
 use Rattle.mn_world.specs.History.{Placed}

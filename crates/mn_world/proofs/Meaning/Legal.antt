@@ -12,13 +12,13 @@ use Rattle.mn_base.specs.declared.op.Op.{Op}
 use Rattle.mn_base.specs.declared.op.Op.TheVariants.{Scan}
 use Rattle.mn_base.specs.declared.answer.Answer.{Answer}
 use Rattle.mn_base.specs.declared.answer.Answer.TheVariants.{Replied, Busy as GaveUp, Down, InDoubt, Full, Worn, NoMemory}
+use Rattle.mn_mini.specs.Mini.{is_read}
 use Rattle.mn_page.specs.Holds.{Holds}
 use Rattle.mn_page.specs.Forest.{heads_in}
 use Rattle.mn_world.specs.declared.entry.Entry.{Entry}
 use Rattle.mn_world.specs.declared.entry.What.{What}
 use Rattle.mn_world.specs.declared.entry.What.TheVariants.{Begin, Issue, Called, Stopped, Restarted, Abandoned, Answered}
 use Rattle.mn_world.specs.Calls.{Issued, Begun, client_entries, since_begin, under_way}
-use Rattle.mn_world.specs.Clients.{is_read}
 use Rattle.mn_world.specs.Shown.{Seen, seen_at, ReadShows}
 use Rattle.mn_world.specs.Answers.{ShowsAnswer, IsShownFor}
 use Rattle.mn_world.specs.Protocol.{Start, FollowsProtocol}

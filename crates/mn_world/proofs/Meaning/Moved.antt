@@ -20,7 +20,7 @@ use Rattle.mn_mini.specs.declared.request.Request.{Request}
 use Rattle.mn_mini.specs.declared.request.Request.TheVariants as Ask
 use Rattle.mn_mini.specs.declared.reply.NodeReply.{NodeReply}
 use Rattle.mn_mini.specs.declared.reply.NodeReply.TheVariants as Say
-use Rattle.mn_mini.specs.Mini.{has_write}
+use Rattle.mn_mini.specs.Mini.{has_write, is_read}
 use Rattle.mn_mini.specs.Flat.{Mismatched, bytes_in, space_in, part_mismatch_from}
 use Rattle.mn_mini.specs.Node.{held_parts, has_forced, Clash, clash_of, only_reply, after_compares, after_locks, tested, answer, space_of}
 use Rattle.mn_base.proofs.Keys.{bytes_eq-refl}
@@ -28,7 +28,7 @@ use Rattle.mn_world.specs.declared.entry.Entry.{Entry}
 use Rattle.mn_world.specs.declared.entry.What.{What}
 use Rattle.mn_world.specs.declared.entry.What.TheVariants.{Called}
 use Rattle.mn_world.specs.Calls.{Call, Issued, calls_of, client_entries}
-use Rattle.mn_world.specs.Clients.{is_read, Sends}
+use Rattle.mn_world.specs.Clients.{Sends}
 use Rattle.mn_world.specs.Commits.{committed_by}
 use Rattle.mn_world.specs.Shown.{Seen, seen_in, seen_at}
 use Rattle.mn_world.specs.Answers.{RefusedAs, DiffersAs, ShowsBytes, part_compares, is_refusal, none_refused}

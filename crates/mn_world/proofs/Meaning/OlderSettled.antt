@@ -11,12 +11,12 @@ use Rattle.mn_base.proofs.Booleans.{clash, left_true, not_true, or_cases, or_rig
 use Rattle.mn_mini.specs.declared.request.Request.{Request}
 use Rattle.mn_mini.specs.declared.request.Request.TheVariants as Ask
 use Rattle.mn_mini.specs.declared.reply.NodeReply.{NodeReply}
-use Rattle.mn_mini.specs.Mini.{participants_of}
+use Rattle.mn_mini.specs.Mini.{participants_of, is_read}
 use Rattle.mn_world.specs.declared.entry.Entry.{Entry}
 use Rattle.mn_world.specs.declared.entry.What.{What}
 use Rattle.mn_world.specs.declared.entry.What.TheVariants.{Begin, Issue, Called, Stopped, Restarted, Abandoned, Answered}
 use Rattle.mn_world.specs.Calls.{Call, Issued, call_in, calls_of, issues_of, is_prepare, is_exec, is_done, is_stopped, is_down_reply, is_refused, is_abandonment, is_by, was_told, was_told_somewhere, was_abandoned, was_decided, since_begin, since_begin_after, client_entries}
-use Rattle.mn_world.specs.Clients.{is_read, is_over, may_follow, Sends, ClientAllows}
+use Rattle.mn_world.specs.Clients.{is_over, may_follow, Sends, ClientAllows}
 use Rattle.mn_world.specs.Answers.{is_settled, MeansBy}
 use Rattle.mn_world.specs.Protocol.{Start, AllowedBy}
 use Rattle.mn_world.specs.Run.{IsRun, Means}

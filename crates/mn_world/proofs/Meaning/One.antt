@@ -13,12 +13,12 @@ use Rattle.mn_base.specs.declared.reply.Reply.{Reply}
 use Rattle.mn_base.specs.declared.reply.Reply.TheVariants as Say
 use Rattle.mn_base.specs.declared.answer.Answer.{Answer}
 use Rattle.mn_base.specs.declared.answer.Answer.TheVariants.{Replied, Busy as GaveUp, Down, InDoubt, Full, Worn, NoMemory}
+use Rattle.mn_mini.specs.Mini.{is_read}
 use Rattle.mn_page.specs.Holds.{Holds}
 use Rattle.mn_world.specs.declared.entry.Entry.{Entry}
 use Rattle.mn_world.specs.declared.entry.What.{What}
 use Rattle.mn_world.specs.declared.entry.What.TheVariants.{Begin, Issue, Called, Stopped, Restarted, Abandoned, Answered}
 use Rattle.mn_world.specs.Calls.{Issued, Begun, is_by, client_entries, since_begin, under_way}
-use Rattle.mn_world.specs.Clients.{is_read}
 use Rattle.mn_world.specs.Commits.{committed_by}
 use Rattle.mn_world.specs.Opened.{opened_memory}
 use Rattle.mn_world.specs.Protocol.{Start, FollowsProtocol}

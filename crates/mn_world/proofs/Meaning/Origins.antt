@@ -10,11 +10,11 @@ use Rattle.mn_base.specs.declared.ids.ClientNo.{ClientNo}
 use Rattle.mn_base.specs.declared.answer.Answer.{Answer}
 use Rattle.mn_base.specs.declared.answer.Answer.TheVariants.{Replied, Busy as GaveUp, Down, InDoubt, Full, Worn, NoMemory}
 use Rattle.mn_base.proofs.Lists.{all_append}
+use Rattle.mn_mini.specs.Mini.{is_read}
 use Rattle.mn_world.specs.declared.entry.Entry.{Entry}
 use Rattle.mn_world.specs.declared.entry.What.{What}
 use Rattle.mn_world.specs.declared.entry.What.TheVariants.{Begin, Issue, Called, Stopped, Restarted, Abandoned, Answered}
 use Rattle.mn_world.specs.Calls.{Issued, Begun, client_entries, under_way}
-use Rattle.mn_world.specs.Clients.{is_read}
 use Rattle.mn_world.specs.Commits.{committed_by}
 use Rattle.mn_world.specs.Protocol.{Start, FollowsProtocol, AllowedBy}
 use Rattle.mn_world.specs.History.{Placed, placed_in, PlanOf, ReadPlace, has_past, AnswerPuts, StepPuts, EntryPuts, IsHistory}

@@ -9,11 +9,12 @@ use Rattle.mn_base.specs.declared.ids.Tid.{Tid}
 use Rattle.mn_base.proofs.Booleans.{left_true, or_cases, or_left, or_right}
 use Rattle.mn_mini.specs.declared.reply.NodeReply.{NodeReply}
 use Rattle.mn_mini.specs.declared.reply.NodeReply.TheVariants as Say
+use Rattle.mn_mini.specs.Mini.{is_read}
 use Rattle.mn_world.specs.declared.entry.Entry.{Entry}
 use Rattle.mn_world.specs.declared.entry.What.{What}
 use Rattle.mn_world.specs.declared.entry.What.TheVariants.{Begin, Issue, Called, Stopped, Restarted, Abandoned, Answered}
 use Rattle.mn_world.specs.Calls.{Call, Issued, call_in, calls_of, issue_in, issues_of, is_exec, is_done, is_stopped, is_refused, is_abandonment, was_told_somewhere, was_abandoned, since_begin, since_begin_after, client_entries}
-use Rattle.mn_world.specs.Clients.{is_read, is_over, may_follow, ClientAllows}
+use Rattle.mn_world.specs.Clients.{is_over, may_follow, ClientAllows}
 use Rattle.mn_world.specs.Commits.{committed_by}
 use Rattle.mn_world.specs.Protocol.{Start, FollowsProtocol}
 use Rattle.mn_world.specs.Laws.{StartsSound, IsNeverCommitted}

@@ -16,14 +16,14 @@ use Rattle.mn_mini.specs.declared.request.Request.{Request}
 use Rattle.mn_mini.specs.declared.request.Request.TheVariants as Ask
 use Rattle.mn_mini.specs.declared.reply.NodeReply.{NodeReply}
 use Rattle.mn_mini.specs.declared.reply.NodeReply.TheVariants as Say
-use Rattle.mn_mini.specs.Mini.{Mini}
+use Rattle.mn_mini.specs.Mini.{Mini, is_read}
 use Rattle.mn_page.specs.Holds.{Holds}
 use Rattle.mn_page.proofs.Grid.{all_split}
 use Rattle.mn_world.specs.declared.entry.Entry.{Entry}
 use Rattle.mn_world.specs.declared.entry.What.{What}
 use Rattle.mn_world.specs.declared.entry.What.TheVariants.{Begin, Issue, Called, Stopped, Restarted, Abandoned, Answered}
 use Rattle.mn_world.specs.Calls.{Issued, issue_in, issues_of, issue_named, is_by, client_entries, since_begin, since_begin_after, under_way}
-use Rattle.mn_world.specs.Clients.{is_read, AllowsExec}
+use Rattle.mn_world.specs.Clients.{AllowsExec}
 use Rattle.mn_world.specs.Commits.{committed_by}
 use Rattle.mn_world.specs.Shown.{Seen, seen_in, seen_at}
 use Rattle.mn_world.specs.Answers.{RefusedAs, MeetsFault, FailsAs, nodes_of}

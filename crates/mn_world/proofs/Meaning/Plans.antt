@@ -7,8 +7,8 @@ use Rattle.mn_base.specs.declared.ids.ClientNo.{ClientNo}
 use Rattle.mn_base.specs.declared.answer.Answer.{Answer}
 use Rattle.mn_world.specs.declared.entry.Entry.{Entry}
 use Rattle.mn_base.specs.declared.op.Op.{Op}
+use Rattle.mn_mini.specs.Mini.{is_read}
 use Rattle.mn_world.specs.Calls.{Issued, Begun, issue_in, issues_of, client_entries, since_begin}
-use Rattle.mn_world.specs.Clients.{is_read}
 use Rattle.mn_world.specs.Commits.{committed_by}
 use Rattle.mn_world.specs.Answers.{is_given_up, are_given_up}
 use Rattle.mn_world.specs.Protocol.{Start, FollowsProtocol}

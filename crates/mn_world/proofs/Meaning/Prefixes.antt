@@ -1,10 +1,10 @@
 -- The places of a log: the store that the flat memory holds there, and where plans are committed.
 use Rattle.std.proofs.Common.{◌≡◌, ℕ, suc, ◌≤◌, false, List, [], ◌∷◌, ◌++◌, length, Some, subst, sym, ap, arith}
 use Rattle.mn_base.specs.Store.{Store}
+use Rattle.mn_mini.specs.Mini.{is_read}
 use Rattle.mn_page.specs.Holds.{Holds}
 use Rattle.mn_world.specs.declared.entry.Entry.{Entry}
 use Rattle.mn_world.specs.Calls.{Issued}
-use Rattle.mn_world.specs.Clients.{is_read}
 use Rattle.mn_world.specs.Protocol.{Start, FollowsProtocol, KeepsProtocol}
 use Rattle.mn_world.specs.Commits.{committed_by}
 use Rattle.mn_world.specs.Run.{IsRun}

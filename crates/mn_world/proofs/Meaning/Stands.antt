@@ -15,13 +15,14 @@ use Rattle.mn_base.specs.declared.op.Op.{Op}
 use Rattle.mn_base.specs.declared.reply.Reply.{Reply}
 use Rattle.mn_base.specs.declared.answer.Answer.{Answer}
 use Rattle.mn_base.specs.declared.answer.Answer.TheVariants.{Replied}
+use Rattle.mn_mini.specs.Mini.{is_read}
 use Rattle.mn_page.specs.Holds.{Holds}
 use Rattle.mn_page.proofs.FrontFields.{is_at}
 use Rattle.mn_world.specs.declared.entry.Entry.{Entry}
 use Rattle.mn_world.specs.declared.entry.What.{What}
 use Rattle.mn_world.specs.declared.entry.What.TheVariants.{Begin, Issue, Called, Stopped, Restarted, Abandoned, Answered}
 use Rattle.mn_world.specs.Calls.{Issued, Begun, issue_in, issues_of, client_entries, under_way}
-use Rattle.mn_world.specs.Clients.{is_read, ClientAllows}
+use Rattle.mn_world.specs.Clients.{ClientAllows}
 use Rattle.mn_world.specs.Answers.{IsPlanBy}
 use Rattle.mn_world.specs.Commits.{committed_at, committed_by}
 use Rattle.mn_world.specs.Protocol.{Start, FollowsProtocol}
