@@ -87,7 +87,7 @@ pub fn no_memory<D: Disk>(alloc: Global, nodes: Vec<Node<D>>) -> RunFailed<D>
 {
     RunFailed {
         nodes,
-        log: Log::from_vec(Vec::new(alloc)),
+        log: Log::empty(alloc),
         cause: RunCause::NoMemory,
     }
 }

@@ -1,8 +1,6 @@
 -- What one more entry makes of what is kept of a log.
 use Rattle.std.proofs.Common.{◌≡◌, ℕ, zero, suc, ◌+◌, ◌<◌, ◌≤◌, Bool, true, false, List, [], ◌∷◌, ◌++◌, length, map, drop, take, replicate, Option, Some, None, refl, subst, sym, ap, ◌∙◌, arith, if◌then◌else◌}
 use Rattle.std.specs.Prelude.{nat_eq, slice_get, slice_set, slice_index_or, Result, Ok, Err, IfOk}
-use Rattle.std.specs.HashMap.{HashMap}
-use Rattle.std.specs.HashSet.{HashSet}
 use Rattle.std.specs.Option.{option_map_or}
 use Rattle.std.proofs.lemmas.Grind.{common_steps}
 use Rattle.std.proofs.lemmas.List.{append_assoc}
@@ -34,11 +32,11 @@ use Rattle.mn_world.specs.OneHistory.{RunsHaveHistory}
 use Rattle.mn_world.specs.Protocol.{Start}
 use Rattle.mn_world.specs.Run.{entries_of}
 use Rattle.mn_world.specs.Shown.{seen_at}
-use Rattle.mn_world.specs.declared.flat.IdKey.{IdKey}
 use Rattle.mn_world.proofs.Reading.Same.{client_same-refl, client_same-true}
 use Rattle.mn_world.proofs.Meaning.Effects.{with_named}
-use Rattle.mn_hist.specs.declared.history.OpKey.{OpKey}
-use Rattle.mn_hist.specs.History.{Act, CallerState, Planner, placed_act, act_of, acts_from, acts_in, begun_by, done_by, done_from, idle, planner_after, planner_kept, planner_of, placed_last, state_after, caller_state}
+use Rattle.mn_hist.specs.declared.plans.Plans.{Plans}
+use Rattle.mn_hist.specs.Plans.{Planner, planner_kept}
+use Rattle.mn_hist.specs.History.{Act, CallerState, placed_act, act_of, acts_from, acts_in, begun_by, done_by, done_from, idle, planner_after, planner_of, placed_last, state_after, caller_state}
 use Rattle.mn_hist.specs.History.{AreCallerStates, SlotsHoldHistory, KnowsPlanners, IsIssuedUnderId, AnswerIsInHistory, CommitIsInHistory, StandsInSet, AnswerHasPlace, EntryHasPlace, EntryIsInHistory}
 use Rattle.mn_hist.proofs.Loops.{drop_here}
 use Rattle.mn_hist.proofs.Noted.{begun_is}
@@ -81,7 +79,7 @@ of_client callers past e c new few is step are = λ d few'.
 
 -- Issues
 
-pub no_issue : {S : Type 0} (plans : HashMap IdKey Planner S) (past : List Entry) (e : Entry) → issue_in e.what ≡ [] → KnowsPlanners plans past → KnowsPlanners plans (e ∷ past)
+pub no_issue : (plans : Plans) (past : List Entry) (e : Entry) → issue_in e.what ≡ [] → KnowsPlanners plans past → KnowsPlanners plans (e ∷ past)
 no_issue plans past e none knows = λ tid mini plan.
     knows tid mini (subst (λ (is : List Issued). issue_named tid (is ++ issues_of past) ≡ Some mini) none plan.0, plan.1) ∙ by e.what none tid
   where
@@ -94,7 +92,7 @@ no_issue plans past e none knows = λ tid mini plan.
     by (Restarted kept) none tid = refl
     by (Abandoned t) none tid = refl
 
-pub one_read : {S : Type 0} (plans : HashMap IdKey Planner S) (past : List Entry) (e : Entry) (t : Tid) (mini : Mini) → e.what ≡ Issue t mini → is_read mini.items ≡ true
+pub one_read : (plans : Plans) (past : List Entry) (e : Entry) (t : Tid) (mini : Mini) → e.what ≡ Issue t mini → is_read mini.items ≡ true
     → KnowsPlanners plans past → KnowsPlanners plans (e ∷ past)
 one_read plans past e t mini is read knows = λ q m plan.
     let named : issue_named q (record { tid = t; mini = mini } ∷ issues_of past) ≡ Some m = subst (λ (w : What). issue_named q (issue_in w ++ issues_of past) ≡ Some m) is plan.0 in
@@ -107,7 +105,7 @@ one_read plans past e t mini is read knows = λ q m plan.
         knows q m (sym (ap (λ b. if b then Some mini else issue_named q (issues_of past)) same) ∙ named, other)
         ∙ sym (ap (λ b. if b then Some (record { client = e.client; begun = begun_by e.client past }) else planner_of q past) same)
 
-pub one_issue : {S : Type 0} (old new : HashMap IdKey Planner S) (past : List Entry) (e : Entry) (t : Tid) (mini : Mini) (planner : Planner) → e.what ≡ Issue t mini
+pub one_issue : (old new : Plans) (past : List Entry) (e : Entry) (t : Tid) (mini : Mini) (planner : Planner) → e.what ≡ Issue t mini
     → planner ≡ record { client = e.client; begun = begun_by e.client past }
     → ((q : Tid) → planner_kept new q ≡ (if tid_same t q then Some planner else planner_kept old q)) → KnowsPlanners old past → KnowsPlanners new (e ∷ past)
 one_issue old new past e t mini planner is who more knows = λ q m plan.
@@ -169,7 +167,7 @@ fills_last n slots placed (Some a) reply fills long =
 -- What an entry puts into the history
 
 -- that answers nothing
-pub takes_none : {S : Type 0} (past : List Entry) (e : Entry) (placed : List Placed) (standing : HashSet OpKey S) (slots : List (Option Act)) → StepPuts past e.client e.what placed placed → StandsInSet standing placed → SlotsHoldHistory slots placed
+pub takes_none : (past : List Entry) (e : Entry) (placed : List Placed) (standing : List (List Bool)) (slots : List (Option Act)) → StepPuts past e.client e.what placed placed → StandsInSet standing placed → SlotsHoldHistory slots placed
     → EntryIsInHistory past e None placed standing slots slots None
 takes_none past e placed standing slots puts st fills = record { next = placed; puts = puts; stands = st; fills = λ l. acts_last 0 slots ∙ fills; long = refl }
 
@@ -184,7 +182,7 @@ quiet_puts past (Some c) (Restarted kept) placed none = refl
 quiet_puts past (Some c) (Abandoned t) placed none = refl
 
 -- that answers
-pub takes_answer : {S : Type 0} (past : List Entry) (e : Entry) (c : ClientNo) (number : ℕ) (answer : Answer) (placed : List Placed) (standing : HashSet OpKey S) (old new : List (Option Act)) → e.client ≡ Some c → e.what ≡ Answered number answer
+pub takes_answer : (past : List Entry) (e : Entry) (c : ClientNo) (number : ℕ) (answer : Answer) (placed : List Placed) (standing : List (List Bool)) (old new : List (Option Act)) → e.client ≡ Some c → e.what ≡ Answered number answer
     → AnswerIsInHistory past c answer placed standing old new → EntryIsInHistory past e None placed standing old new None
 takes_answer past e c number answer placed standing old new by is p = record {
   next = p.next;
@@ -201,7 +199,7 @@ answer_has past e c number answer placed by is (next, puts) =
     (next, subst (λ (w : What). StepPuts past (Some c) w placed next) is (subst (λ (o : Option ClientNo). StepPuts past o e.what placed next) by puts))
 
 -- that commits
-pub takes_commit : {S : Type 0} (past : List Entry) (e : Entry) (m : CommittedMini) (placed : List Placed) (standing : HashSet OpKey S) (slots : List (Option Act)) (found : Option Act) → SlotsHoldHistory slots placed
+pub takes_commit : (past : List Entry) (e : Entry) (m : CommittedMini) (placed : List Placed) (standing : List (List Bool)) (slots : List (Option Act)) (found : Option Act) → SlotsHoldHistory slots placed
     → CommitIsInHistory past m placed standing found → EntryIsInHistory past e (Some (issued_of m)) placed standing slots slots found
 takes_commit past e m placed standing slots found fills p = record {
   next = placed_last (length past) found p.reply placed;

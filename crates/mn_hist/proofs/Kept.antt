@@ -44,3 +44,13 @@ noted lists i old new d one number lt is put k n = ap (λ l. get_or l n d) (set_
     by_case : (b : Bool) → nat_eq i k ≡ b → get_or (if b then new else get_or lists k []) n d ≡ (if b && nat_eq number n then one else get_or (get_or lists k []) n d)
     by_case true same = put n ∙ ap (λ l. if nat_eq number n then one else get_or l n d) (is ∙ ap (λ j. get_or lists j []) (eqb-true i k same))
     by_case false other = refl
+
+-- the same after more of what none tells is put there
+pub noted_none : {X : Type 0} (lists : List (List X)) (i : ℕ) (old new : List X) (d : X) → i < length lists → old ≡ get_or lists i []
+    → ((n : ℕ) → get_or new n d ≡ get_or old n d)
+    → (k n : ℕ) → get_or (get_or (slice_set lists i new) k []) n d ≡ get_or (get_or lists k []) n d
+noted_none lists i old new d lt is put k n = ap (λ l. get_or l n d) (set_or lists i new [] k lt) ∙ by_case (nat_eq i k) refl
+  where
+    by_case : (b : Bool) → nat_eq i k ≡ b → get_or (if b then new else get_or lists k []) n d ≡ get_or (get_or lists k []) n d
+    by_case true same = put n ∙ ap (λ l. get_or l n d) (is ∙ ap (λ j. get_or lists j []) (eqb-true i k same))
+    by_case false other = refl

@@ -1,4 +1,5 @@
 pub mod Placing
+pub mod Spots
 pub mod FreshLog
 pub mod Meeting
 pub mod Loops
@@ -7,6 +8,7 @@ pub mod Leaves
 pub mod Noted
 pub mod Putting
 pub mod Planning
+pub mod Planned
 pub mod Joining
 pub mod Kept
 pub mod Telling

@@ -1,15 +1,19 @@
 -- Entries in the slots of their places.
 use Rattle.std.proofs.Common.{◌≡◌, ℕ, zero, suc, ◌+◌, ◌<◌, ◌≤◌, ◌⊎◌, Bool, true, false, Option, Some, None, List, [], ◌∷◌, ◌++◌, length, map, refl, sym, ap, ◌∙◌, subst, inl, inr, arith, length-append, if◌then◌else◌}
-use Rattle.std.specs.Prelude.{slice_get, slice_index_or, slice_set, drop}
+use Rattle.std.specs.Prelude.{slice_get, slice_index_or, slice_set, drop, get_or, is_none, ◌&&◌}
+use Rattle.mn_world.specs.Log.{nobody}
 use Rattle.std.proofs.lemmas.Option.{same_Some}
 use Rattle.mn_actors.specs.declared.actor.Actor.{Actor}
 use Rattle.mn_actors.specs.declared.actor.Actor.TheVariants.{Node, Client}
-use Rattle.mn_actors.specs.Lines.{Line, stands_in, IsActor}
-use Rattle.mn_actors.specs.Log.{entries_from}
+use Rattle.mn_actors.specs.Lines.{Line, is_client, is_node, stands_in}
+use Rattle.mn_actors.specs.Log.{entries_from, IsManned}
+use Rattle.mn_base.specs.declared.ids.ClientNo.{ClientNo}
+use Rattle.mn_base.specs.declared.ids.NodeNo.{NodeNo}
 use Rattle.mn_world.specs.declared.entry.Entry.{Entry}
 use Rattle.mn_world.specs.Lists.{ClientState}
+use Rattle.mn_world.proofs.Reading.Same.{client_same-refl}
 use Rattle.mn_cell.specs.Runs.{placed_from}
-use Rattle.mn_hist.specs.Merging.{AreOneLog, Hold, is_nobodys, put_at, put_list, put_lists}
+use Rattle.mn_hist.specs.Merging.{AreOneLog, Hold, lone, put_at, put_list, put_lists}
 
 -- Loops
 
@@ -25,90 +29,44 @@ pub as_long : (p : ℕ) (slots : List (ℕ × Entry)) (filled : List (Option Ent
 as_long p [] [] hold = refl
 as_long p [] (f ∷ filled) hold = absurd hold
 as_long p (x ∷ slots) [] hold = absurd hold
-as_long p (x ∷ slots) (None ∷ filled) hold = ap suc (as_long (p + 1) slots filled hold.1)
+as_long p (x ∷ slots) (None ∷ filled) hold = ap suc (as_long (p + 1) slots filled hold)
 as_long p (x ∷ slots) (Some e ∷ filled) hold = ap suc (as_long (p + 1) slots filled hold.1)
 
 -- an empty slot more
-pub hold_empty : (p : ℕ) (slots : List (ℕ × Entry)) (filled : List (Option Entry)) (x : ℕ × Entry) → is_nobodys x.1 ≡ true → Hold p slots filled → Hold p (slots ++ x ∷ []) (filled ++ None ∷ [])
-hold_empty p [] [] x is hold = (is, tt)
-hold_empty p [] (f ∷ filled) x is hold = absurd hold
-hold_empty p (y ∷ slots) [] x is hold = absurd hold
-hold_empty p (y ∷ slots) (None ∷ filled) x is hold = (hold.0, hold_empty (p + 1) slots filled x is hold.1)
-hold_empty p (y ∷ slots) (Some e ∷ filled) x is hold = (hold.0, hold_empty (p + 1) slots filled x is hold.1)
+pub hold_empty : (p : ℕ) (slots : List (ℕ × Entry)) (filled : List (Option Entry)) (x : ℕ × Entry) → Hold p slots filled → Hold p (slots ++ x ∷ []) (filled ++ None ∷ [])
+hold_empty p [] [] x hold = tt
+hold_empty p [] (f ∷ filled) x hold = absurd hold
+hold_empty p (y ∷ slots) [] x hold = absurd hold
+hold_empty p (y ∷ slots) (None ∷ filled) x hold = hold_empty (p + 1) slots filled x hold
+hold_empty p (y ∷ slots) (Some e ∷ filled) x hold = (hold.0, hold_empty (p + 1) slots filled x hold.1)
+
+no_more : (p : ℕ) → p + 0 ≡ p
+no_more p = omega arith
 
 -- an entry pushed into the slot of its place
 pub hold_more : (p at : ℕ) (x : ℕ × Entry) (slots : List (ℕ × Entry)) (filled : List (Option Entry)) → Hold p slots filled → length slots ≡ at → x.0 ≡ p + at
     → Hold p (slots ++ x ∷ []) (put_at at x.1 filled)
 hold_more p zero x [] [] hold long is = (ap (λ (n : ℕ). (n, x.1)) (is ∙ no_more p), tt)
-  where
-    no_more : (p : ℕ) → p + 0 ≡ p
-    no_more p = omega arith
 hold_more p (suc at) x [] [] hold long is = absurd (omega (arith, long))
 hold_more p at x [] (f ∷ filled) hold long is = absurd hold
 hold_more p at x (y ∷ slots) [] hold long is = absurd hold
 hold_more p zero x (y ∷ slots) (f ∷ filled) hold long is = absurd (omega (arith, long))
-hold_more p (suc at) x (y ∷ slots) (None ∷ filled) hold long is = (hold.0, hold_more (p + 1) at x slots filled hold.1 (omega (arith, long)) (omega (arith, is)))
+hold_more p (suc at) x (y ∷ slots) (None ∷ filled) hold long is = hold_more (p + 1) at x slots filled hold (omega (arith, long)) (omega (arith, is))
 hold_more p (suc at) x (y ∷ slots) (Some e ∷ filled) hold long is = (hold.0, hold_more (p + 1) at x slots filled hold.1 (omega (arith, long)) (omega (arith, is)))
 
-chosen : {b : Bool} (e f : Entry) → b ≡ true → (if b then e else f) ≡ e
-chosen e f is = rw is refl
+-- an entry in the slot of its place
+pub hold_put : (p at : ℕ) (x : ℕ × Entry) (slots : List (ℕ × Entry)) (filled : List (Option Entry)) → Hold p slots filled → at < length slots → x.0 ≡ p + at
+    → Hold p (slice_set slots at x) (put_at at x.1 filled)
+hold_put p at x [] filled hold lt is = absurd (omega (arith, lt))
+hold_put p at x (y ∷ slots) [] hold lt is = absurd hold
+hold_put p zero x (y ∷ slots) (None ∷ filled) hold lt is = (ap (λ (n : ℕ). (n, x.1)) (is ∙ no_more p), hold)
+hold_put p zero x (y ∷ slots) (Some f ∷ filled) hold lt is = (ap (λ (n : ℕ). (n, x.1)) (is ∙ no_more p), hold.1)
+hold_put p (suc at) x (y ∷ slots) (None ∷ filled) hold lt is = hold_put (p + 1) at x slots filled hold (omega (arith, lt)) (omega (arith, is))
+hold_put p (suc at) x (y ∷ slots) (Some e ∷ filled) hold lt is = (hold.0, hold_put (p + 1) at x slots filled hold.1 (omega (arith, lt)) (omega (arith, is)))
 
-passed : {b : Bool} (e f : Entry) → b ≡ false → (if b then e else f) ≡ f
-passed e f is = rw is refl
-
--- an entry in the slot of its place, where that had nobody's
-pub hold_put : (p at : ℕ) (x was : ℕ × Entry) (slots : List (ℕ × Entry)) (filled : List (Option Entry)) → Hold p slots filled → at < length slots → x.0 ≡ p + at
-    → was ≡ slice_index_or slots at was → is_nobodys was.1 ≡ true → Hold p (slice_set slots at x) (put_at at x.1 filled)
-hold_put p at x was [] filled hold lt is there nobodys = absurd (omega (arith, lt))
-hold_put p at x was (y ∷ slots) [] hold lt is there nobodys = absurd hold
-hold_put p zero x was (y ∷ slots) (None ∷ filled) hold lt is there nobodys = (ap (λ (n : ℕ). (n, x.1)) (is ∙ no_more p), hold.1)
-  where
-    no_more : (p : ℕ) → p + 0 ≡ p
-    no_more p = omega arith
-hold_put p zero x was (y ∷ slots) (Some f ∷ filled) hold lt is there nobodys =
-    let so : is_nobodys f ≡ true = ap (λ (z : ℕ × Entry). is_nobodys z.1) (sym hold.0 ∙ sym there) ∙ nobodys in
-    (ap (λ (n : ℕ). (n, x.1)) (is ∙ no_more p) ∙ ap (λ (e : Entry). (p, e)) (sym (chosen x.1 f so)), hold.1)
-  where
-    no_more : (p : ℕ) → p + 0 ≡ p
-    no_more p = omega arith
-hold_put p (suc at) x was (y ∷ slots) (None ∷ filled) hold lt is there nobodys = (hold.0, hold_put (p + 1) at x was slots filled hold.1 (omega (arith, lt)) (omega (arith, is)) there nobodys)
-hold_put p (suc at) x was (y ∷ slots) (Some e ∷ filled) hold lt is there nobodys = (hold.0, hold_put (p + 1) at x was slots filled hold.1 (omega (arith, lt)) (omega (arith, is)) there nobodys)
-
--- a slot that had some actor's
-pub hold_kept : (p at : ℕ) (e : Entry) (was : ℕ × Entry) (slots : List (ℕ × Entry)) (filled : List (Option Entry)) → Hold p slots filled → at < length slots
-    → was ≡ slice_index_or slots at was → is_nobodys was.1 ≡ false → Hold p slots (put_at at e filled)
-hold_kept p at e was [] filled hold lt there some = absurd (omega (arith, lt))
-hold_kept p at e was (y ∷ slots) [] hold lt there some = absurd hold
-hold_kept p zero e was (y ∷ slots) (None ∷ filled) hold lt there some =
-    let so : is_nobodys y.1 ≡ false = ap (λ (z : ℕ × Entry). is_nobodys z.1) (sym there) ∙ some in
-    let no : true ≡ false = sym hold.0 ∙ so in
-    absurd (cc)
-hold_kept p zero e was (y ∷ slots) (Some f ∷ filled) hold lt there some =
-    let so : is_nobodys f ≡ false = ap (λ (z : ℕ × Entry). is_nobodys z.1) (sym hold.0 ∙ sym there) ∙ some in
-    (hold.0 ∙ ap (λ (g : Entry). (p, g)) (sym (passed e f so)), hold.1)
-hold_kept p (suc at) e was (y ∷ slots) (None ∷ filled) hold lt there some = (hold.0, hold_kept (p + 1) at e was slots filled hold.1 (omega (arith, lt)) there some)
-hold_kept p (suc at) e was (y ∷ slots) (Some f ∷ filled) hold lt there some = (hold.0, hold_kept (p + 1) at e was slots filled hold.1 (omega (arith, lt)) there some)
-
-plus_one : (i : ℕ) → suc i ≡ i + 1
-plus_one i = omega arith
-
--- the entry of a place, and those behind it
-drop_from : (l : List (ℕ × Entry)) (i : ℕ) (x : ℕ × Entry) → i < length l → x ≡ slice_index_or l i x → drop i l ≡ x ∷ drop (suc i) l
-drop_from [] i x lt is = absurd (omega (arith, lt))
-drop_from (y ∷ l) zero x lt is = ap (λ (z : ℕ × Entry). z ∷ l) (sym is)
-drop_from (y ∷ l) (suc i) x lt is = drop_from l i x (omega (arith, lt)) is
-
-pub drop_next : (l : List (ℕ × Entry)) (i : ℕ) (x : ℕ × Entry) → i < length l → x ≡ slice_index_or l i x → drop i l ≡ x ∷ drop (i + 1) l
-drop_next l i x lt is = subst (λ (n : ℕ). drop i l ≡ x ∷ drop n l) (plus_one i) (drop_from l i x lt is)
-
--- what stands behind a place that changes
-drop_after : {X : Type 0} (l : List X) (i : ℕ) (x : X) → drop (suc i) (slice_set l i x) ≡ drop (suc i) l
-drop_after [] i x = refl
-drop_after (y ∷ l) zero x = refl
-drop_after (y ∷ l) (suc i) x = drop_after l i x
-
-pub drop_behind : {X : Type 0} (l : List X) (i : ℕ) (x : X) → drop (i + 1) (slice_set l i x) ≡ drop (i + 1) l
-drop_behind l i x = subst (λ (n : ℕ). drop n (slice_set l i x) ≡ drop n l) (plus_one i) (drop_after l i x)
+-- no node and no client has it
+abbrev pub is_nobodys : Entry → Bool
+is_nobodys e = is_none e.node && is_none e.client
 
 -- What the slots hold
 
@@ -123,15 +81,11 @@ SlotsAreOfLog (x ∷ log) (Some e ∷ slots) = (e ≡ x.entry) × SlotsAreOfLog 
 abbrev pub IsLineAt : List (Line Entry) → ℕ → Entry → Type 0
 IsLineAt log p e = (x : Line Entry) × (slice_get log p ≡ Some x) × (e ≡ x.entry)
 
-either : (b : Bool) (e f g : Entry) → e ≡ g → f ≡ g → (if b then e else f) ≡ g
-either true e f g is was = is
-either false e f g is was = was
-
 put_under : (log : List (Line Entry)) (p : ℕ) (e : Entry) (slots : List (Option Entry)) → IsLineAt log p e → SlotsAreOfLog log slots → SlotsAreOfLog log (put_at p e slots)
 put_under [] p e slots is under = let no = is.1 in absurd (cc)
 put_under (x ∷ log) zero e [] is under = (is.2 ∙ ap (λ (y : Line Entry). y.entry) (sym (same_Some _ _ is.1)), under)
 put_under (x ∷ log) zero e (None ∷ slots) is under = (is.2 ∙ ap (λ (y : Line Entry). y.entry) (sym (same_Some _ _ is.1)), under)
-put_under (x ∷ log) zero e (Some f ∷ slots) is under = (either (is_nobodys f) e f x.entry (is.2 ∙ ap (λ (y : Line Entry). y.entry) (sym (same_Some _ _ is.1))) under.0, under.1)
+put_under (x ∷ log) zero e (Some f ∷ slots) is under = (is.2 ∙ ap (λ (y : Line Entry). y.entry) (sym (same_Some _ _ is.1)), under.1)
 put_under (x ∷ log) (suc p) e [] is under = put_under log p e [] is under
 put_under (x ∷ log) (suc p) e (None ∷ slots) is under = put_under log p e slots is under
 put_under (x ∷ log) (suc p) e (Some f ∷ slots) is under = (under.0, put_under log p e slots is under.1)
@@ -145,9 +99,21 @@ list_under : (log : List (Line Entry)) (l : List (ℕ × Entry)) (slots : List (
 list_under log [] slots are under = under
 list_under log (x ∷ l) slots are under = list_under log l (put_at x.0 x.1 slots) are.1 (put_under log x.0 x.1 slots are.0 under)
 
+lone_lines : (log : List (Line Entry)) (l : List (ℕ × Entry)) → AreLines log l → AreLines log (lone l)
+lone_lines log [] are = tt
+lone_lines log (x ∷ l) are = by (is_none x.1.client) (lone_lines log l are.1)
+  where
+    by : (b : Bool) → AreLines log (lone l) → AreLines log (if b then x ∷ lone l else lone l)
+    by true rest = (are.0, rest)
+    by false rest = rest
+
 abbrev pub AreListsOf : List (Line Entry) → List (List (ℕ × Entry)) → Type 0
 AreListsOf log [] = Unit {0}
 AreListsOf log (l ∷ ls) = AreLines log l × AreListsOf log ls
+
+lone_lists : (log : List (Line Entry)) (ls : List (List (ℕ × Entry))) → AreListsOf log ls → AreListsOf log (map lone ls)
+lone_lists log [] are = tt
+lone_lists log (l ∷ ls) are = (lone_lines log l are.0, lone_lists log ls are.1)
 
 lists_under : (log : List (Line Entry)) (ls : List (List (ℕ × Entry))) (slots : List (Option Entry)) → AreListsOf log ls → SlotsAreOfLog log slots → SlotsAreOfLog log (put_lists ls slots)
 lists_under log [] slots are under = under
@@ -236,6 +202,22 @@ has_entry a k (y ∷ log) (suc i) x is stands =
     let place : k + 1 + i ≡ k + suc i = omega arith in
     still_has (stands_in a y) (k + suc i) (k, y.entry) (entries_from (k + 1) a log) (subst (λ (q : ℕ). ListHasPlace q (entries_from (k + 1) a log)) place (has_entry a (k + 1) log i x is stands))
 
+-- an entry that no client has stands among those
+lone_has : (a : Actor) (k : ℕ) (log : List (Line Entry)) (i : ℕ) (x : Line Entry) → slice_get log i ≡ Some x → stands_in a x ≡ true → x.entry.client ≡ None → ListHasPlace (k + i) (lone (entries_from k a log))
+lone_has a k [] i x is stands none = absurd (cc)
+lone_has a k (y ∷ log) zero x is stands none =
+    let here : stands_in a y ≡ true = ap (λ (z : Line Entry). stands_in a z) (same_Some _ _ is) ∙ stands in
+    let no_client : is_none y.entry.client ≡ true = ap (λ (z : Line Entry). is_none z.entry.client) (same_Some _ _ is) ∙ ap is_none none in
+    let place : k ≡ k + 0 = omega arith in
+    rw here (rw no_client (inl place))
+lone_has a k (y ∷ log) (suc i) x is stands none =
+    let place : k + 1 + i ≡ k + suc i = omega arith in
+    by (stands_in a y) (is_none y.entry.client) (subst (λ (q : ℕ). ListHasPlace q (lone (entries_from (k + 1) a log))) place (lone_has a (k + 1) log i x is stands none))
+  where
+    by : (b n : Bool) → ListHasPlace (k + suc i) (lone (entries_from (k + 1) a log)) → ListHasPlace (k + suc i) (lone (if b then (k, y.entry) ∷ entries_from (k + 1) a log else entries_from (k + 1) a log))
+    by false n has = has
+    by true n has = still_has (is_none y.entry.client) (k + suc i) (k, y.entry) (lone (entries_from (k + 1) a log)) has
+
 lists_are : (log : List (Line Entry)) (ls : List (List (ℕ × Entry))) (actor : ℕ → Actor) → ((i : ℕ) → i < length ls → slice_get ls i ≡ Some (entries_from 0 (actor i) log)) → AreListsOf log ls
 lists_are log [] actor each = tt
 lists_are log (l ∷ ls) actor each =
@@ -254,9 +236,39 @@ whole p (x ∷ log) (y ∷ slots) (Some e ∷ filled) under full hold =
     ap (λ (z : ℕ × Entry). z ∷ slots) (hold.0 ∙ ap (λ (f : Entry). (p, f)) under.0)
     ∙ ap (λ (l : List (ℕ × Entry)). (p, x.entry) ∷ l) (whole (p + 1) log slots filled under.1 (λ q lt. full (suc q) (omega (arith, lt))) hold.1)
 
-as_many : (clients : List ClientState) → length (map (λ (l : ClientState). l.entries) clients) ≡ length clients
+-- the entry of a place
+placed_at : (p : ℕ) (log : List (Line Entry)) (q : ℕ) (x : Line Entry) → slice_get log q ≡ Some x → (get_or (placed_from p log) q nobody).1 ≡ x.entry
+placed_at p [] q x is = absurd cc
+placed_at p (y ∷ log) zero x is = ap (λ (z : Line Entry). z.entry) (same_Some _ _ is)
+placed_at p (y ∷ log) (suc q) x is = placed_at (p + 1) log q x is
+
+has_client : (o : Option ClientNo) (c : ClientNo) → is_client o c ≡ true → is_none o ≡ false
+has_client None c is = absurd cc
+has_client (Some d) c is = refl
+
+has_node : (o : Option NodeNo) (n : NodeNo) → is_node o n ≡ true → is_none o ≡ false
+has_node None n is = absurd cc
+has_node (Some m) n is = refl
+
+and_false : (b : Bool) → (b && false) ≡ false
+and_false true = refl
+and_false false = refl
+
+pub as_placed : (p : ℕ) (log : List (Line Entry)) → length (placed_from p log) ≡ length log
+as_placed p [] = refl
+as_placed p (x ∷ log) = ap suc (as_placed (p + 1) log)
+
+pub as_many : (clients : List ClientState) → length (map (λ (l : ClientState). l.entries) clients) ≡ length clients
 as_many [] = refl
 as_many (c ∷ clients) = ap suc (as_many clients)
+
+lone_at : (ls : List (List (ℕ × Entry))) (i : ℕ) (l : List (ℕ × Entry)) → slice_get ls i ≡ Some l → slice_get (map lone ls) i ≡ Some (lone l)
+lone_at [] i l is = absurd (cc)
+lone_at (m ∷ ls) zero l is = ap (λ (n : List (ℕ × Entry)). Some (lone n)) (same_Some _ _ is)
+lone_at (m ∷ ls) (suc i) l is = lone_at ls i l is
+
+zero_more : (q : ℕ) → 0 + q ≡ q
+zero_more q = omega arith
 
 module _ (nodes : List (List (ℕ × Entry))) (clients : List ClientState) (clock : ℕ) (one : AreOneLog nodes clients clock) where
   node_lists : AreListsOf one.log nodes
@@ -265,26 +277,46 @@ module _ (nodes : List (List (ℕ × Entry))) (clients : List ClientState) (cloc
   client_lists : AreListsOf one.log (map (λ (l : ClientState). l.entries) clients)
   client_lists = lists_are one.log (map (λ (l : ClientState). l.entries) clients) (λ c. Client (record { 0 = c })) (λ c lt. one.lists (Client (record { 0 = c })) (omega (arith, lt, as_many clients)))
 
-  all_under : SlotsAreOfLog one.log (put_lists nodes (put_lists (map (λ (l : ClientState). l.entries) clients) []))
-  all_under = lists_under one.log nodes (put_lists (map (λ (l : ClientState). l.entries) clients) []) node_lists (lists_under one.log (map (λ (l : ClientState). l.entries) clients) [] client_lists tt)
+  all_under : SlotsAreOfLog one.log (put_lists (map lone nodes) (put_lists (map (λ (l : ClientState). l.entries) clients) []))
+  all_under = lists_under one.log (map lone nodes) (put_lists (map (λ (l : ClientState). l.entries) clients) []) (lone_lists one.log nodes node_lists) (lists_under one.log (map (λ (l : ClientState). l.entries) clients) [] client_lists tt)
 
-  full_by : (a : Actor) (q : ℕ) (x : Line Entry) → slice_get one.log q ≡ Some x → stands_in a x ≡ true → IsActor (length nodes) (length clients) a → is_full q (put_lists nodes (put_lists (map (λ (l : ClientState). l.entries) clients) [])) ≡ true
-  full_by (Node n) q x is stands on = lists_fill q nodes (put_lists (map (λ (l : ClientState). l.entries) clients) []) n.0 (entries_from 0 (Node n) one.log) (one.lists (Node n) on) (subst (λ (p : ℕ). ListHasPlace p (entries_from 0 (Node n) one.log)) (zero_more q) (has_entry (Node n) 0 one.log q x is stands))
-    where
-      zero_more : (q : ℕ) → 0 + q ≡ q
-      zero_more q = omega arith
-  full_by (Client c) q x is stands on = lists_keep q nodes (put_lists (map (λ (l : ClientState). l.entries) clients) [])
+  -- an entry that a client has is put from the client's list
+  full_client : (c : ClientNo) (q : ℕ) (x : Line Entry) → slice_get one.log q ≡ Some x → stands_in (Client c) x ≡ true → c.0 < length clients → is_full q (put_lists (map lone nodes) (put_lists (map (λ (l : ClientState). l.entries) clients) [])) ≡ true
+  full_client c q x is stands on = lists_keep q (map lone nodes) (put_lists (map (λ (l : ClientState). l.entries) clients) [])
       (lists_fill q (map (λ (l : ClientState). l.entries) clients) [] c.0 (entries_from 0 (Client c) one.log) (one.lists (Client c) on) (subst (λ (p : ℕ). ListHasPlace p (entries_from 0 (Client c) one.log)) (zero_more q) (has_entry (Client c) 0 one.log q x is stands)))
-    where
-      zero_more : (q : ℕ) → 0 + q ≡ q
-      zero_more q = omega arith
 
-  all_full : (q : ℕ) → q < length one.log → is_full q (put_lists nodes (put_lists (map (λ (l : ClientState). l.entries) clients) [])) ≡ true
+  -- another from the list of its node
+  full_node : (n : NodeNo) (q : ℕ) (x : Line Entry) → slice_get one.log q ≡ Some x → stands_in (Node n) x ≡ true → x.entry.client ≡ None → n.0 < length nodes → is_full q (put_lists (map lone nodes) (put_lists (map (λ (l : ClientState). l.entries) clients) [])) ≡ true
+  full_node n q x is stands none on = lists_fill q (map lone nodes) (put_lists (map (λ (l : ClientState). l.entries) clients) []) n.0 (lone (entries_from 0 (Node n) one.log)) (lone_at nodes n.0 (entries_from 0 (Node n) one.log) (one.lists (Node n) on))
+      (subst (λ (p : ℕ). ListHasPlace p (lone (entries_from 0 (Node n) one.log))) (zero_more q) (lone_has (Node n) 0 one.log q x is stands none))
+
+  full_line : (q : ℕ) (x : Line Entry) → slice_get one.log q ≡ Some x → IsManned (length nodes) (length clients) x → x.entry.client ≡ x.client → (o : Option ClientNo) → x.client ≡ o → is_full q (put_lists (map lone nodes) (put_lists (map (λ (l : ClientState). l.entries) clients) [])) ≡ true
+  full_line q x is manned same (Some c) by =
+      let stands : stands_in (Client c) x ≡ true = ap (λ (o : Option ClientNo). is_client o c) by ∙ client_same-refl c in
+      full_client c q x is stands (manned.on_board (Client c) stands)
+  full_line q x is manned same None by = at manned.some_actor.0 manned.some_actor.1
+    where
+      at : (a : Actor) → stands_in a x ≡ true → is_full q (put_lists (map lone nodes) (put_lists (map (λ (l : ClientState). l.entries) clients) [])) ≡ true
+      at (Node n) stands = full_node n q x is stands (same ∙ by) (manned.on_board (Node n) stands)
+      at (Client c) stands = let no : false ≡ true = sym (ap (λ (o : Option ClientNo). is_client o c) by) ∙ stands in absurd (cc)
+
+  all_full : (q : ℕ) → q < length one.log → is_full q (put_lists (map lone nodes) (put_lists (map (λ (l : ClientState). l.entries) clients) [])) ≡ true
   all_full q lt =
       let at = one.once q (omega (arith, lt, one.clock_is)) in
-      let manned = one.manned q at.0 at.1 in
-      full_by manned.some_actor.0 q at.0 at.1 manned.some_actor.1 (manned.on_board manned.some_actor.0 manned.some_actor.1)
+      full_line q at.0 at.1 (one.manned q at.0 at.1) (one.legal_then q at.0 at.1).1 at.0.client refl
 
   -- the lists of one log, put together, are that log
-  pub merged_whole : (slots : List (ℕ × Entry)) → Hold 0 slots (put_lists nodes (put_lists (map (λ (l : ClientState). l.entries) clients) [])) → slots ≡ placed_from 0 one.log
-  merged_whole slots hold = whole 0 one.log slots (put_lists nodes (put_lists (map (λ (l : ClientState). l.entries) clients) [])) all_under all_full hold
+  pub merged_whole : (slots : List (ℕ × Entry)) → Hold 0 slots (put_lists (map lone nodes) (put_lists (map (λ (l : ClientState). l.entries) clients) [])) → slots ≡ placed_from 0 one.log
+  merged_whole slots hold = whole 0 one.log slots (put_lists (map lone nodes) (put_lists (map (λ (l : ClientState). l.entries) clients) [])) all_under all_full hold
+
+  manned_by : (x : Line Entry) → x.entry.node ≡ x.node → x.entry.client ≡ x.client → (a : Actor) → stands_in a x ≡ true → is_nobodys x.entry ≡ false
+  manned_by x node client (Node n) stands = ap (λ (b : Bool). b && is_none x.entry.client) (ap is_none node ∙ has_node x.node n stands)
+  manned_by x node client (Client c) stands = ap (λ (b : Bool). is_none x.entry.node && b) (ap is_none client ∙ has_client x.client c stands) ∙ and_false (is_none x.entry.node)
+
+  -- some actor has each of its entries
+  pub none_nobodys : (q : ℕ) → q < length one.log → is_nobodys (get_or (placed_from 0 one.log) q nobody).1 ≡ false
+  none_nobodys q lt =
+      let at = one.once q (omega (arith, lt, one.clock_is)) in
+      let legal = one.legal_then q at.0 at.1 in
+      let manned = one.manned q at.0 at.1 in
+      ap is_nobodys (placed_at 0 one.log q at.0 at.1) ∙ manned_by at.0 legal.0 legal.1 manned.some_actor.0 manned.some_actor.1

@@ -1,9 +1,8 @@
 -- An answer puts an operation into the history, at the place of a read.
 use Rattle.std.proofs.Common.{◌≡◌, ℕ, zero, suc, ◌+◌, ◌<◌, Bool, true, false, ◌&&◌, ◌||◌, List, [], ◌∷◌, length, map, Option, Some, None, refl, subst, sym, ap, ◌∙◌, arith, if◌then◌else◌}
-use Rattle.std.specs.Prelude.{nat_eq, nat_lt, slice_get, slice_set, slice_index_or, MatchBool, Result, Ok, Err, OnOk}
+use Rattle.std.specs.Prelude.{nat_eq, nat_lt, slice_get, slice_set, slice_index_or, MatchBool, Result, Ok, Err, OnErr, OnOk}
 use Rattle.mn_base.specs.declared.error.NoMemory.{NoMemory}
 use Rattle.std.proofs.lemmas.Option.{same_Some}
-use Rattle.std.specs.HashSet.{HashSet}
 use Rattle.mn_base.specs.Ids.{client_same}
 use Rattle.mn_base.specs.declared.answer.Answer.{Answer}
 use Rattle.mn_base.specs.declared.answer.Answer.TheVariants.{Replied}
@@ -13,7 +12,6 @@ use Rattle.mn_base.proofs.Naturals.{lt_true}
 use Rattle.mn_world.specs.declared.entry.Entry.{Entry}
 use Rattle.mn_world.specs.Calls.{Begun, client_entries, under_way}
 use Rattle.mn_world.specs.History.{Placed, placed_in, has_past, AnswerPuts}
-use Rattle.mn_hist.specs.declared.history.OpKey.{OpKey}
 use Rattle.mn_hist.specs.History.{Act, placed_act, acts_from, caller_state, IsNotedPlace, IsPutInto, StandsInSet, SlotsHoldHistory, AnswerIsInHistory, AnswerHasPlace, stands}
 use Rattle.mn_hist.proofs.Noted.{begun_is, noted_place}
 use Rattle.mn_hist.proofs.Planning.{or_swap}
@@ -82,7 +80,7 @@ past_more c n p (q ∷ qs) = by (nat_lt p.place q.place) (past_more c n p qs)
 -- An answer
 
 -- that puts nothing there
-pub puts_none : {S : Type 0} (past : List Entry) (c : ClientNo) (answer : Answer) (placed : List Placed) (standing : HashSet OpKey S) (slots : List (Option Act)) → AnswerPuts past c (under_way (client_entries c past)) answer placed placed → StandsInSet standing placed → SlotsHoldHistory slots placed → AnswerIsInHistory past c answer placed standing slots slots
+pub puts_none : (past : List Entry) (c : ClientNo) (answer : Answer) (placed : List Placed) (standing : List (List Bool)) (slots : List (Option Act)) → AnswerPuts past c (under_way (client_entries c past)) answer placed placed → StandsInSet standing placed → SlotsHoldHistory slots placed → AnswerIsInHistory past c answer placed standing slots slots
 puts_none past c answer placed standing slots puts st fills = record { next = placed; puts = puts; stands = st; fills = fills; long = refl }
 
 not_under_way : (past : List Entry) (c : ClientNo) (answer : Answer) (placed : List Placed) (o : Option Begun) → o ≡ None → AnswerPuts past c o answer placed placed
@@ -98,7 +96,7 @@ standing_puts past c begun reply placed b is true' = subst (λ t. MatchBool t (p
 pub stands_already : (past : List Entry) (c : ClientNo) (begun : Begun) (reply : Reply) (placed : List Placed) → (caller_state c past).begun ≡ Some begun → has_past c begun.number placed ≡ true → AnswerPuts past c (under_way (client_entries c past)) (Replied reply) placed placed
 stands_already past c begun reply placed is has = subst (λ o. AnswerPuts past c o (Replied reply) placed placed) (sym is ∙ begun_is c past) (standing_puts past c begun reply placed (has_past c begun.number placed) refl has)
 
-pub puts_read : {S : Type 0} (past : List Entry) (c : ClientNo) (begun : Begun) (reply : Reply) (placed : List Placed) (old standing : HashSet OpKey S) (slots new : List (Option Act)) (place : ℕ)
+pub puts_read : (past : List Entry) (c : ClientNo) (begun : Begun) (reply : Reply) (placed : List Placed) (old standing : List (List Bool)) (slots new : List (Option Act)) (place : ℕ)
     → (caller_state c past).begun ≡ Some begun → has_past c begun.number placed ≡ false → IsNotedPlace (caller_state c past).notes begun.op reply place
     → AnswerHasPlace past c (Replied reply) placed
     → StandsInSet old placed → SlotsHoldHistory slots placed → IsPutInto slots place (record { client = c; number = begun.number; op = begun.op }) new → length new ≡ length slots
@@ -128,6 +126,10 @@ puts_read past c begun reply placed old standing slots new place is none at has 
 pub on_ok : {A B : Type 0} (r : Result (Unit {0}) NoMemory) → OnOk r A → (A → B) → OnOk r B
 on_ok (Ok u) a to = to a
 on_ok (Err e) a to = tt
+
+pub on_err : {A B : Type 0} (r : Result (Unit {0}) NoMemory) → OnErr r A → (A → B) → OnErr r B
+on_err (Ok u) a to = tt
+on_err (Err e) a to = to a
 
 pub at_index : {X : Type 0} (xs : List X) (i : ℕ) (x s : X) → x ≡ slice_index_or xs i x → slice_get xs i ≡ Some s → x ≡ s
 at_index [] i x s is there = absurd cc

@@ -1,6 +1,5 @@
 -- What a log comes to.
-use Rattle.std.specs.Prelude.{◌≡◌, List, Option}
-use Rattle.std.specs.HashSet.{HashSet}
+use Rattle.std.specs.Prelude.{◌≡◌, Bool, List, Option}
 use Rattle.mn_base.specs.History.{store_after}
 use Rattle.mn_base.specs.Store.{Store}
 use Rattle.mn_world.specs.declared.entry.Entry.{Entry}
@@ -8,13 +7,12 @@ use Rattle.mn_world.specs.History.{Placed, pasts_of, IsHistory}
 use Rattle.mn_world.specs.OneHistory.{IsOneHistory}
 use Rattle.mn_world.specs.Protocol.{Start}
 use Rattle.mn_hist.specs.declared.history.Ending.{Ending}
-use Rattle.mn_hist.specs.declared.history.OpKey.{OpKey}
 use Rattle.mn_hist.specs.History.{Act, StandsInSet, acts_in, done_from}
 use Rattle.mn_hist.specs.Saying.{TellsAnswers}
 
 -- the operations in these slots, with the replies of the store, are the history of these entries,
 -- from this store on, and they stand in this set
-pub record TellsHistory {S : Type 0} (slots : List (Option Act)) (standing : HashSet OpKey S)
+pub record TellsHistory (slots : List (Option Act)) (standing : List (List Bool))
     (from : Start) (store : Store) (past : List Entry) (placed : List Placed) : Type 0 where
   pub is : IsHistory past placed
   pub one : IsOneHistory from store past placed

@@ -1,11 +1,9 @@
 -- What is kept of the entries so far to tell the history. Lists of entries and of reads stand
 -- newest first.
-use Rattle.std.specs.Prelude.{ℕ, ◌≡◌, ◌⊎◌, ◌+◌, ◌<◌, Bool, true, false, ◌&&◌, nat_eq}
+use Rattle.std.specs.Prelude.{ℕ, ◌≡◌, ◌⊎◌, ◌+◌, ◌<◌, Bool, true, false}
 use Rattle.std.specs.Prelude.{List, [], ◌∷◌, ◌++◌, length, map, Option, Some, None}
 use Rattle.std.specs.Prelude.{if◌then◌else◌, slice_get}
 use Rattle.std.specs.List.{AllByRecursion}
-use Rattle.std.specs.HashMap.{HashMap, get}
-use Rattle.std.specs.HashSet.{HashSet, contains}
 use Rattle.std.specs.Prelude.{slice_set}
 use Rattle.mn_base.specs.Ids.{tid_same}
 use Rattle.mn_base.specs.Store.{Store, applied}
@@ -27,9 +25,9 @@ use Rattle.mn_world.specs.declared.commit_reader.CommittedMini.{CommittedMini}
 use Rattle.mn_world.specs.CommitReader.{issued_of}
 use Rattle.mn_world.specs.History.{Placed, has_past, AnswerPuts, EntryPuts}
 use Rattle.mn_world.specs.Shown.{Seen, seen_at}
-use Rattle.mn_world.specs.Standing.{id_key, keys_same}
-use Rattle.mn_world.specs.declared.flat.IdKey.{IdKey}
-use Rattle.mn_hist.specs.declared.history.OpKey.{OpKey}
+use Rattle.mn_hist.specs.declared.plans.Plans.{Plans}
+use Rattle.mn_hist.specs.Plans.{Planner, planner_kept}
+use Rattle.mn_hist.specs.Table.{kept_at}
 use Rattle.mn_hist.specs.Shown.{is_of_catalog, IsShownBy, IsUnshown}
 
 -- Reads of a client
@@ -110,11 +108,6 @@ IsNotedPlace notes op reply place = IsOnlyNote notes place ⊎ IsLastNote notes 
 
 -- Plans
 
--- who issued a plan, and for which operation
-pub record Planner : Type 0 where
-  pub client : Option ClientNo
-  pub begun : Option Begun
-
 abbrev pub begun_by : Option ClientNo → List Entry → Option Begun
 begun_by None past = None
 begun_by (Some c) past = under_way (client_entries c past)
@@ -156,24 +149,16 @@ placed_act p = (p.place, act_of p.past)
 
 -- Keeping
 
-abbrev pub planner_kept : {S : Type 0} → HashMap IdKey Planner S → Tid → Option Planner
-planner_kept plans tid = get keys_same plans (id_key tid)
-
--- that of an operation's plan
+-- who issued an operation's plan
 abbrev pub planner_for : Act → Planner
 planner_for a = record {
   client = Some a.client;
   begun = Some (record { number = a.number; op = a.op });
 }
 
-abbrev pub op_key : ClientNo → ℕ → OpKey
-op_key c number = record { client = c.0; number = number }
-
-abbrev pub ops_same : OpKey → OpKey → Bool
-ops_same a b = nat_eq a.client b.client && nat_eq a.number b.number
-
-abbrev pub stands : {S : Type 0} → HashSet OpKey S → ClientNo → ℕ → Bool
-stands standing c number = contains ops_same standing (op_key c number)
+-- whether an operation is kept as one that stands in the history
+abbrev pub stands : List (List Bool) → ClientNo → ℕ → Bool
+stands standing c number = kept_at false standing c number
 
 -- the slot of this place was empty, and has the operation now
 abbrev pub IsPutInto : List (Option Act) → ℕ → Act → List (Option Act) → Type 0
@@ -181,7 +166,7 @@ IsPutInto old place act new =
     (slice_get old place ≡ Some None) × (new ≡ slice_set old place (Some act))
 
 -- these operations stand in the history
-abbrev pub StandsInSet : {S : Type 0} → HashSet OpKey S → List Placed → Type 0
+abbrev pub StandsInSet : List (List Bool) → List Placed → Type 0
 StandsInSet standing placed =
     (c : ClientNo) (number : ℕ) → stands standing c number ≡ has_past c number placed
 
@@ -200,8 +185,9 @@ EntryHasPlace past e committed placed =
     (next : List Placed) × EntryPuts past e committed placed next
 
 -- what the answer to a client's operation puts into the history stands there
-pub record AnswerIsInHistory {S : Type 0} (past : List Entry) (c : ClientNo) (answer : Answer)
-    (placed : List Placed) (standing : HashSet OpKey S) (old new : List (Option Act)) : Type 0 where
+pub record AnswerIsInHistory (past : List Entry) (c : ClientNo) (answer : Answer)
+    (placed : List Placed) (standing : List (List Bool)) (old new : List (Option Act))
+    : Type 0 where
   pub next : List Placed
   pub puts : AnswerPuts past c (under_way (client_entries c past)) answer placed next
   pub stands : StandsInSet standing next
@@ -214,7 +200,7 @@ IsPlanUnder tid past mini =
     (issue_named tid (issues_of past) ≡ Some mini) × (is_read mini.items ≡ false)
 
 -- what is kept of plans is who issued the last plan of each id
-abbrev pub KnowsPlanners : {S : Type 0} → HashMap IdKey Planner S → List Entry → Type 0
+abbrev pub KnowsPlanners : Plans → List Entry → Type 0
 KnowsPlanners plans past = (tid : Tid) (mini : Mini) → IsPlanUnder tid past mini
     → planner_kept plans tid ≡ planner_of tid past
 
@@ -232,9 +218,9 @@ placed_last place (Some a) reply placed =
     } ∷ []
 
 -- what a committed minitransaction puts into the history stands there
-pub record CommitIsInHistory {S : Type 0} (past : List Entry) (m : CommittedMini)
+pub record CommitIsInHistory (past : List Entry) (m : CommittedMini)
     (placed : List Placed)
-    (standing : HashSet OpKey S) (found : Option Act) : Type 0 where
+    (standing : List (List Bool)) (found : Option Act) : Type 0 where
   pub reply : Reply
   pub puts : (e : Entry) → EntryPuts past e (Some (issued_of m)) placed
       (placed_last (length past) found reply placed)
@@ -248,8 +234,8 @@ AreCallerStates callers past =
 -- The history so far
 
 -- what an entry that commits this puts into the history stands there, with its own place last
-pub record EntryIsInHistory {S : Type 0} (past : List Entry) (e : Entry) (committed : Option Issued)
-    (placed : List Placed) (standing : HashSet OpKey S) (old new : List (Option Act))
+pub record EntryIsInHistory (past : List Entry) (e : Entry) (committed : Option Issued)
+    (placed : List Placed) (standing : List (List Bool)) (old new : List (Option Act))
     (found : Option Act) : Type 0 where
   pub next : List Placed
   pub puts : EntryPuts past e committed placed next

@@ -1,3 +1,5 @@
+pub mod Table
+pub mod Plans
 pub mod Shown
 pub mod History
 pub mod Merging

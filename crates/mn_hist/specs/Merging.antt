@@ -1,6 +1,7 @@
 -- The lists of a run's actors, and the log that they are.
-use Rattle.std.specs.Prelude.{◌≡◌, ℕ, zero, suc, ◌+◌, List, [], ◌∷◌, length, map, Option, Some, None}
-use Rattle.std.specs.Prelude.{slice_get, is_none, ◌&&◌, Bool, true, if◌then◌else◌}
+use Rattle.std.specs.Prelude.{◌≡◌, ℕ, zero, suc, ◌+◌, List, [], ◌∷◌, length, map, filter, Option}
+use Rattle.std.specs.Prelude.{Some, None}
+use Rattle.std.specs.Prelude.{slice_get, is_none, not, ◌||◌, ◌++◌, take, drop, Bool}
 use Rattle.mn_actors.specs.declared.actor.Actor.{Actor}
 use Rattle.mn_actors.specs.declared.actor.Actor.TheVariants.{Node, Client}
 use Rattle.mn_actors.specs.Log.{IsOneLog}
@@ -19,16 +20,11 @@ abbrev pub AreOneLog : List (List (ℕ × Entry)) → List ClientState → ℕ �
 AreOneLog nodes clients clock =
     IsOneLog IsLegalLine (length nodes) (length clients) (actor_list nodes clients) clock
 
--- How it is put together: each entry into the slot of its place, unless that has one of some actor
-
--- no node and no client has it, as what a slot holds before its entry comes
-abbrev pub is_nobodys : Entry → Bool
-is_nobodys e = is_none e.node && is_none e.client
+-- How it is put together: each entry into the slot of its place
 
 abbrev pub put_at : ℕ → Entry → List (Option Entry) → List (Option Entry)
 put_at zero e [] = Some e ∷ []
-put_at zero e (None ∷ slots) = Some e ∷ slots
-put_at zero e (Some f ∷ slots) = Some (if is_nobodys f then e else f) ∷ slots
+put_at zero e (s ∷ slots) = Some e ∷ slots
 put_at (suc p) e [] = None ∷ put_at p e []
 put_at (suc p) e (s ∷ slots) = s ∷ put_at p e slots
 
@@ -42,11 +38,26 @@ abbrev pub put_lists : List (List (ℕ × Entry)) → List (Option Entry) → Li
 put_lists [] slots = slots
 put_lists (l ∷ ls) slots = put_lists ls (put_list l slots)
 
--- how the slots from a place on hold them: those that are filled, each with its place; what the
--- others hold is nobody's
+-- the entry is put: where those of the clients stand already, only what no client has
+abbrev pub is_put : Bool → Entry → Bool
+is_put lone e = not lone || is_none e.client
+
+-- what is put of a list
+abbrev pub chosen : Bool → List (ℕ × Entry) → List (ℕ × Entry)
+chosen lone entries = filter (λ x. is_put lone x.1) entries
+
+-- of a node's list the entries that no client has: the others stand in a client's list too
+abbrev pub lone : List (ℕ × Entry) → List (ℕ × Entry)
+lone entries = filter (λ x. is_none x.1.client) entries
+
+-- what is put of the lists, of which the first ones, so many, are those of the clients
+abbrev pub all_put : ℕ → List (List (ℕ × Entry)) → List (List (ℕ × Entry))
+all_put clients lists = take clients lists ++ map lone (drop clients lists)
+
+-- how the slots from a place on hold them: those that are filled, each with its place
 abbrev pub Hold : ℕ → List (ℕ × Entry) → List (Option Entry) → Type 0
 Hold p [] [] = Unit {0}
 Hold p [] (f ∷ filled) = ⊥
 Hold p (x ∷ slots) [] = ⊥
-Hold p (x ∷ slots) (None ∷ filled) = (is_nobodys x.1 ≡ true) × Hold (p + 1) slots filled
+Hold p (x ∷ slots) (None ∷ filled) = Hold (p + 1) slots filled
 Hold p (x ∷ slots) (Some e ∷ filled) = (x ≡ (p, e)) × Hold (p + 1) slots filled

@@ -10,14 +10,14 @@ ghost use Rattle.mn_hist.specs.Audit.{doubt_lines, doubts_from};
 ghost use Rattle.mn_hist.specs.History.{stands};
 ghost use Rattle.mn_hist.specs.Saying.{said_kept, TellsAnswers};
 
-use crate::history::{OpKey, is_standing};
-use crate::sayings::{AllSaid, Kept, Said};
-use mn_base::{Answer, ClientNo, Name, NoMemory, TryCopy};
+use crate::history::is_standing;
+use crate::sayings::{AllSaid, Kept, kept_answer};
+use crate::table::Table;
+use mn_base::{ClientNo, Name, NoMemory, TryCopy};
 use mn_report::{AnswerLine, AnswerLines, DoubtLine, LineAnswer, Outcomes};
 use mn_script::ScriptClient;
 use mn_world::{Entry, What};
 use std::alloc::Global;
-use std::collections::HashSet;
 
 /// Notes what the entry says of an operation of its client.
 pub fn note_entry<'a>(said: &mut AllSaid<'a>, entry: &'a Entry) -> Result<(), NoMemory>
@@ -25,9 +25,9 @@ pub fn note_entry<'a>(said: &mut AllSaid<'a>, entry: &'a Entry) -> Result<(), No
         → TellsAnswers said.new (entry.now ∷ past)) }
 {
     match (entry.client, &entry.what) {
-        (Some(client), What::Begin { number, .. }) => { said.note(client, *number, Said::died()) }
+        (Some(client), What::Begin { number, .. }) => { said.note(client, *number, Kept::Died) }
         (Some(client), What::Answered { number, answer }) => {
-            said.note(client, *number, Said::answered(answer))
+            said.note(client, *number, kept_answer(answer))
         }
         _ => Ok(()),
     }
@@ -43,7 +43,7 @@ fn line_answer(
     ensures { IfOk result (λ answer. answer ≡ said_kept said.now client number) }
 {
     match said.of(client, number) {
-        Kept::Answered(answer) => Ok(LineAnswer::Answered {
+        Kept::InDoubt(answer) | Kept::Answered(answer) => Ok(LineAnswer::Answered {
             answer: answer.try_copy(alloc)?,
         }),
         Kept::Died => Ok(LineAnswer::Died),
@@ -55,11 +55,7 @@ fn line_answer(
 fn is_said_in_doubt(said: &AllSaid<'_>, client: ClientNo, number: u32) -> bool
     ensures { result ≡ is_said_in_doubt (said_kept said.now client number) }
 {
-    match said.of(client, number) {
-        Kept::Answered(answer) => matches!(answer, Answer::InDoubt { .. }),
-        Kept::Died => true,
-        Kept::Never => false,
-    }
+    matches!(said.of(client, number), Kept::InDoubt(_) | Kept::Died)
 }
 
 /// The line of an operation.
@@ -142,7 +138,7 @@ fn push_doubt(
     alloc: Global,
     lines: &mut Vec<DoubtLine>,
     said: &AllSaid<'_>,
-    committed: &HashSet<OpKey>,
+    committed: &Table<bool>,
     number_of_client: ClientNo,
     name: &Name,
     number: u32,
@@ -168,7 +164,7 @@ fn push_doubts(
     alloc: Global,
     lines: &mut Vec<DoubtLine>,
     said: &AllSaid<'_>,
-    committed: &HashSet<OpKey>,
+    committed: &Table<bool>,
     number_of_client: ClientNo,
     client: &ScriptClient,
 ) -> Result<(), NoMemory>
@@ -198,7 +194,7 @@ fn push_doubts(
 pub fn doubts_of(
     alloc: Global,
     said: &AllSaid<'_>,
-    committed: &HashSet<OpKey>,
+    committed: &Table<bool>,
     clients: &[ScriptClient],
 ) -> Result<Outcomes, NoMemory>
     ensures { IfOk result (λ lines. lines

@@ -62,13 +62,12 @@ pub fn audit(alloc: Global, start: &Store, log: &Log, script: &Script) -> Result
     ensures can_report { (from : Start) → OpenedRun from start.now (entries_of log.now)
         → IfOk result CanReport }
 {
-    let entries = log.as_slice();
     let clients = script.clients();
     let ending = ending_of(alloc, start, log)?;
     let answers = answers_of(alloc, &ending.said, clients)?;
     let history = ranks_of(alloc, clients, &ending.slots)?;
     let doubts = doubts_of(alloc, &ending.said, &ending.standing, clients)?;
-    let points = points_met(alloc, script.points(), entries)?;
+    let points = points_met(alloc, script.points(), log)?;
     let versions = versions_of(alloc, &ending.store)?;
     Ok(Report {
         answers,

@@ -4,9 +4,8 @@ ghost use Rattle.std.specs.Prelude.{◌≡◌, ◌⊎◌, ◌<◌, ◌∷◌, []
 ghost use Rattle.std.specs.Prelude.{false, slice_get};
 ghost use Rattle.std.specs.Prelude.{IfOk, OnOk, if◌then◌else◌, ◌||◌, ◌&&◌, nat_eq, MatchOption, ⊤};
 ghost use Rattle.std.specs.Prelude.{reverse};
-ghost use Rattle.mn_base.specs.Ids.{client_same, tid_same};
+ghost use Rattle.mn_base.specs.Ids.{client_same};
 ghost use Rattle.mn_base.specs.declared.ids.ClientNo.{ClientNo as Who};
-ghost use Rattle.mn_base.specs.declared.ids.Tid.{Tid as Id};
 ghost use Rattle.mn_world.specs.Shown.{seen_at};
 ghost use Rattle.mn_hist.specs.History.{CallerState, ChangesNothing, idle, with_seen, state_after};
 ghost use Rattle.mn_world.specs.History.{Placed};
@@ -20,7 +19,8 @@ ghost use Rattle.mn_hist.specs.History.{KnowsPlanners, IsIssuedUnderId, CommitIs
 ghost use Rattle.mn_hist.specs.History.{AreCallerStates};
 ghost use Rattle.mn_world.specs.Protocol.{Start};
 ghost use Rattle.mn_world.specs.Run.{IsRun};
-ghost use Rattle.mn_hist.specs.History.{planner_kept, planner_for, op_key, stands, IsPutInto};
+ghost use Rattle.mn_hist.specs.History.{planner_for, stands, IsPutInto};
+ghost use Rattle.mn_hist.specs.Plans.{begun_of, planner_kept};
 ghost use Rattle.mn_hist.specs.History.{EntryIsInHistory, done_by, done_from, acts_in};
 ghost use Rattle.mn_hist.specs.Told.{ReaderHasRead, ReaderHasTold};
 ghost use Rattle.mn_hist.specs.Ending.{IsEndingOf, TellsHistory};
@@ -35,16 +35,17 @@ ghost use Rattle.mn_world.specs.OneHistory.{IsOneHistory};
 ghost use Rattle.mn_world.specs.Run.{entries_of};
 
 use crate::answers::note_entry;
+use crate::plans::{Begun, Plans};
 use crate::sayings::AllSaid;
 use crate::shown::{KnownCatalog, Read, shows};
+use crate::table::Table;
 use mn_base::{Answer, ClientNo, History, NoMemory, Op, Past, Reply, SharedOp, Tid, TryCopy};
 use mn_plain::Store;
 use mn_world::{
-    CommitReader, CommittedMini, Entry, IdKey, Log, What, history_is_one, id_key,
-    runs_are_one_history, runs_have_history,
+    CommitReader, CommittedMini, Entry, Log, What, history_is_one, runs_are_one_history,
+    runs_have_history,
 };
 use std::alloc::Global;
-use std::collections::{HashMap, HashSet};
 use std::marker::Model;
 use std::rc::Rc;
 
@@ -70,21 +71,6 @@ impl<'a> Model for Noted<'a> {
     } };
 }
 
-/// An operation that was begun.
-#[derive(Drop)]
-struct Begun<'a> {
-    number: u32,
-    op: &'a SharedOp,
-}
-
-impl<'a> Model for Begun<'a> {
-    ghost use Rattle.mn_world.specs.Calls.{Begun};
-
-    ghost Value = { Begun };
-
-    ghost view = { λ b. record { number = b.number; op = b.op.now } };
-}
-
 /// What the entries so far tell of a client: its operation under way, what it has read since that
 /// began, and the catalog that it read last.
 #[derive(Drop)]
@@ -98,11 +84,12 @@ impl<'a> Model for Caller<'a> {
     ghost use Rattle.std.specs.Prelude.{reverse};
     ghost use Rattle.std.specs.Option.{option_map};
     ghost use Rattle.mn_hist.specs.History.{CallerState};
+    ghost use Rattle.mn_hist.specs.Plans.{begun_of};
 
     ghost Value = { CallerState };
 
     ghost view = { λ c. record {
-      begun = c.begun;
+      begun = option_map begun_of c.begun;
       notes = reverse c.notes.items;
       catalog = option_map (λ b. b.value) c.catalog;
     } };
@@ -218,7 +205,8 @@ impl<'a> Caller<'a> {
                 catalog,
             })?;
             if read.is_catalog() {
-                self.catalog = Some(Rc::new(alloc, KnownCatalog::new(alloc, read.bytes)?)?);
+                let known = KnownCatalog::new(alloc, read.bytes.as_slice())?;
+                self.catalog = Some(Rc::new(alloc, known)?);
             }
         }
         Ok(())
@@ -249,29 +237,14 @@ impl<'a> Caller<'a> {
     }
 }
 
-/// Who issued a plan, and for which operation.
-#[derive(Drop)]
-struct Planner<'a> {
-    client: Option<ClientNo>,
-    begun: Option<Begun<'a>>,
-}
-
-impl<'a> Model for Planner<'a> {
-    ghost use Rattle.mn_hist.specs.History.{Planner};
-
-    ghost Value = { Planner };
-
-    ghost view = { λ p. record { client = p.client; begun = p.begun } };
-}
-
 /// An operation of the history without its reply.
 #[derive(Drop)]
 pub struct Act<'a> {
     pub client: ClientNo,
-    pub number: u32,
-    pub op: &'a SharedOp,
     /// Where it is false, the operation changes no store.
     may_change: bool,
+    pub number: u32,
+    pub op: &'a SharedOp,
 }
 
 impl<'a> Model for Act<'a> {
@@ -297,96 +270,49 @@ fn may_change(op: &Op) -> bool
     }
 }
 
-/// An operation as it is looked up.
-#[derive(Clone, Copy, PartialEq, Eq, Hash)]
-pub struct OpKey {
-    client: u8,
-    number: u32,
-}
-
-pub fn op_key(client: ClientNo, number: u32) -> OpKey
-    ensures { result ≡ op_key client number }
-{
-    OpKey {
-        client: client.0,
-        number,
-    }
-}
-
-#[inline(always)]
-fn same_begun<'a>(begun: &Begun<'a>) -> Begun<'a>
-    ensures { result ≡ begun.now }
-{
-    Begun {
-        number: begun.number,
-        op: begun.op,
-    }
-}
-
 /// The operation of the client that is under way.
 fn begun_by<'a>(callers: &[Caller<'a>], client: ClientNo) -> Option<Begun<'a>>
     requires { length callers.now ≡ 256 }
-    ensures begun { (s : CallerState) → slice_get callers.now client.0 ≡ Some s → result ≡ s.begun }
+    ensures begun { (s : CallerState) → slice_get callers.now client.0 ≡ Some s
+        → option_map begun_of result ≡ s.begun }
     ensures few { client.0 < 256 }
 {
     let caller = &callers[usize::from(client.0)];
-    match &caller.begun {
-        Some(begun) => Some(same_begun(begun)),
-        None => None,
-    }
-}
-
-/// Notes who issued a plan of this id.
-fn note_planner<'a>(
-    plans: &mut HashMap<IdKey, Planner<'a>>,
-    tid: Tid,
-    planner: Planner<'a>,
-) -> Result<(), NoMemory>
-    ensures { OnOk result ((q : Id)
-        → planner_kept plans.new q ≡ (if tid_same tid q then Some planner.entry
-        else planner_kept plans.old q)) }
-{
-    plans.insert(id_key(tid), planner)?;
-    Ok(())
+    caller.begun
 }
 
 /// The operation of a plan of this id. NoMemory: none is known, as for no plan of a run.
-fn planned<'a>(plans: &HashMap<IdKey, Planner<'a>>, tid: Tid) -> Result<Act<'a>, NoMemory>
+fn planned<'a>(plans: &Plans<'a>, tid: Tid) -> Result<Act<'a>, NoMemory>
     ensures { IfOk result (λ act. planner_kept plans.now tid ≡ Some (planner_for act)) }
 {
-    let Some(planner) = plans.get(&id_key(tid)) else {
+    let Some(plan) = plans.of(tid) else {
         return Err(NoMemory);
     };
-    let (Some(client), Some(begun)) = (planner.client, &planner.begun) else {
+    let (Some(client), Some(begun)) = (plan.client, plan.begun) else {
         return Err(NoMemory);
     };
     Ok(Act {
         client,
+        may_change: true,
         number: begun.number,
         op: begun.op,
-        may_change: true,
     })
 }
 
 /// Notes that the operation stands in the history.
-fn note_standing(
-    standing: &mut HashSet<OpKey>,
-    client: ClientNo,
-    number: u32,
-) -> Result<(), NoMemory>
+fn note_standing(standing: &mut Table<bool>, client: ClientNo, number: u32) -> Result<(), NoMemory>
     ensures { OnOk result ((c : Who) (n : ℕ)
         → stands standing.new c n ≡ ((client_same client c && nat_eq number n)
         || stands standing.old c n)) }
 {
-    standing.insert(op_key(client, number))?;
-    Ok(())
+    standing.keep(client, number, true, false)
 }
 
 /// Whether the operation stands in the history.
-pub fn is_standing(standing: &HashSet<OpKey>, client: ClientNo, number: u32) -> bool
+pub fn is_standing(standing: &Table<bool>, client: ClientNo, number: u32) -> bool
     ensures { result ≡ stands standing.now client number }
 {
-    standing.contains(&op_key(client, number))
+    standing.of(client, number, false)
 }
 
 /// Puts an operation into the empty slot of its place. NoMemory: another stands there, as at no
@@ -409,7 +335,7 @@ fn put<'a>(slots: &mut Vec<Option<Act<'a>>>, place: usize, act: Act<'a>) -> Resu
 fn take_answer<'a>(
     alloc: Global,
     callers: &[Caller<'a>],
-    standing: &mut HashSet<OpKey>,
+    standing: &mut Table<bool>,
     slots: &mut Vec<Option<Act<'a>>>,
     client: ClientNo,
     answer: &Answer,
@@ -435,9 +361,9 @@ fn take_answer<'a>(
     let place = read_place(alloc, &caller.notes, begun.op.get(), reply)?;
     let act = Act {
         client,
+        may_change: may_change(begun.op.get()),
         number: begun.number,
         op: begun.op,
-        may_change: may_change(begun.op.get()),
     };
     put(slots, place, act)?;
     note_standing(standing, client, begun.number)
@@ -446,8 +372,8 @@ fn take_answer<'a>(
 /// The operation of a committed plan, which stands in the history from now on; none for a read.
 /// NoMemory: there was no memory for it, or its plan is not known.
 fn take_commit<'a>(
-    plans: &HashMap<IdKey, Planner<'a>>,
-    standing: &mut HashSet<OpKey>,
+    plans: &Plans<'a>,
+    standing: &mut Table<bool>,
     committed: CommittedMini<'a>,
 ) -> Result<Option<Act<'a>>, NoMemory>
     ensures { IfOk result (λ found. (start : Start) (past : List Step) (placed : List Placed)
@@ -466,7 +392,7 @@ fn take_commit<'a>(
 /// Notes who issued a plan, and for which operation, where the entry issues one.
 fn note_issue<'a>(
     callers: &[Caller<'a>],
-    plans: &mut HashMap<IdKey, Planner<'a>>,
+    plans: &mut Plans<'a>,
     entry: &Entry,
 ) -> Result<(), NoMemory>
     requires { length callers.now ≡ 256 }
@@ -484,11 +410,7 @@ fn note_issue<'a>(
         Some(client) => begun_by(callers, client),
         None => None,
     };
-    let planner = Planner {
-        client: entry.client,
-        begun,
-    };
-    note_planner(plans, *tid, planner)
+    plans.note(*tid, entry.client, begun)
 }
 
 /// Notes what the entry of this client at this place tells of it.
@@ -526,10 +448,6 @@ fn note_step<'a>(
     }
 }
 
-/// How many entries stand in a log for an operation or an issue, mostly: for as many as that makes
-/// there is room at once.
-const ENTRIES: usize = 4;
-
 /// How many numbers of clients there are.
 const CLIENT_NUMBERS: usize = 256;
 
@@ -549,7 +467,7 @@ fn idle_callers<'a>(alloc: Global) -> Result<Vec<Caller<'a>>, NoMemory>
 fn take_step<'a>(
     alloc: Global,
     callers: &[Caller<'a>],
-    standing: &mut HashSet<OpKey>,
+    standing: &mut Table<bool>,
     slots: &mut Vec<Option<Act<'a>>>,
     entry: &Entry,
 ) -> Result<(), NoMemory>
@@ -573,8 +491,8 @@ fn take_step<'a>(
 fn take_entry<'a>(
     alloc: Global,
     callers: &[Caller<'a>],
-    plans: &HashMap<IdKey, Planner<'a>>,
-    standing: &mut HashSet<OpKey>,
+    plans: &Plans<'a>,
+    standing: &mut Table<bool>,
     slots: &mut Vec<Option<Act<'a>>>,
     entry: &Entry,
     committed: Option<CommittedMini<'a>>,
@@ -604,9 +522,9 @@ struct HistoryReader<'a> {
     /// By number of the client, what is told of it.
     callers: Vec<Caller<'a>>,
     /// Who issued the last plan of each id.
-    plans: HashMap<IdKey, Planner<'a>>,
+    plans: Plans<'a>,
     /// The operations of the history.
-    standing: HashSet<OpKey>,
+    standing: Table<bool>,
     /// They by place, one slot an entry.
     slots: Vec<Option<Act<'a>>>,
     /// What is said of each operation.
@@ -621,8 +539,8 @@ impl<'a> HistoryReader<'a> {
         Ok(HistoryReader {
             commits: CommitReader::new(alloc, entries)?,
             callers: idle_callers(alloc)?,
-            plans: HashMap::with_capacity(alloc, entries / ENTRIES)?,
-            standing: HashSet::with_capacity(alloc, entries / ENTRIES)?,
+            plans: Plans::new(alloc)?,
+            standing: Table::new(alloc)?,
             slots: Vec::with_capacity(alloc, entries)?,
             said: AllSaid::new(alloc)?,
         })
@@ -716,7 +634,7 @@ fn follow_all(alloc: Global, store: &mut Store, slots: &[Option<Act<'_>>]) -> Re
 }
 
 /// What the entries of a log tell of the history.
-fn read_log<'a>(alloc: Global, log: &'a [(u64, Entry)]) -> Result<HistoryReader<'a>, NoMemory>
+fn read_log<'a>(alloc: Global, log: &'a Log) -> Result<HistoryReader<'a>, NoMemory>
     ensures { IfOk result (λ reader. (start : Start) (store : Versions)
         → OpenedRun start store (entries_of log.now)
         → (placed : List Placed) × ReaderHasTold reader (entries_of log.now) placed) }
@@ -724,8 +642,8 @@ fn read_log<'a>(alloc: Global, log: &'a [(u64, Entry)]) -> Result<HistoryReader<
     runs_have_history();
     history_is_one();
     let mut reader = HistoryReader::new(alloc, log.len())?;
-    for (_, entry) in log {
-        reader.follow(alloc, entry)?;
+    for place in 0..log.len() {
+        reader.follow(alloc, log.entry(place))?;
     }
     Ok(reader)
 }
@@ -738,7 +656,7 @@ fn reader_of<'a>(alloc: Global, log: &'a Log) -> Result<HistoryReader<'a>, NoMem
         × TellsAnswers reader.said (entries_of log.now)) }
 {
     runs_are_one_history();
-    read_log(alloc, log.as_slice())
+    read_log(alloc, log)
 }
 
 /// What a log comes to: the operations of its history in order of place, some slots without one;
@@ -746,7 +664,7 @@ fn reader_of<'a>(alloc: Global, log: &'a Log) -> Result<HistoryReader<'a>, NoMem
 #[derive(Drop)]
 pub struct Ending<'a> {
     pub slots: Vec<Option<Act<'a>>>,
-    pub standing: HashSet<OpKey>,
+    pub standing: Table<bool>,
     pub said: AllSaid<'a>,
     pub store: Store,
 }

@@ -6,9 +6,11 @@ mod auditing;
 mod history;
 mod lists;
 mod merging;
+mod plans;
 mod points;
 mod sayings;
 mod shown;
+mod table;
 mod versions;
 
 pub use auditing::audit;

@@ -1,142 +1,163 @@
 //! Lists merged by place.
-ghost use Rattle.std.specs.Prelude.{◌≡◌, ℕ, List, Option, map, true, IfOk, OnOk};
+ghost use Rattle.std.specs.Prelude.{◌≡◌, ◌<◌, ◌+◌, ◌++◌, ◌∷◌, [], ℕ, List, Option, map, true, length};
+ghost use Rattle.std.specs.Prelude.{get_or, IfOk, OnOk};
 ghost use Rattle.mn_cell.specs.Runs.{placed_from};
+ghost use Rattle.mn_world.specs.Log.{entry_at, log_of, nobody};
 ghost use Rattle.mn_world.specs.declared.entry.Entry.{Entry as Step};
-ghost use Rattle.mn_hist.specs.Merging.{AreOneLog, Hold, is_nobodys, put_at, put_list, put_lists};
+ghost use Rattle.mn_hist.specs.Merging.{AreOneLog, Hold, all_put, chosen, is_put, put_at};
+ghost use Rattle.mn_hist.specs.Merging.{put_list, put_lists};
 
 use crate::lists::Lists;
 use mn_base::NoMemory;
-use mn_world::{ClientList, Entry, EntryList, Log, What};
+use mn_world::{Entry, Log, Spot};
 use std::alloc::Global;
-use std::mem::{replace, swap};
 
-/// The slot of a place before its entry comes: what it holds is nobody's.
-fn empty(place: usize) -> (u64, Entry)
-    ensures { is_nobodys result.1 ≡ true }
+/// Where no entry stands.
+const NOWHERE: Spot = Spot { list: 0, place: 0 };
+
+/// The spot of an entry of a list. NoMemory: it is too far behind.
+fn spot_of(list: usize, index: usize) -> Result<Spot, NoMemory>
+    ensures { IfOk result (λ spot. spot ≡ record { list = list; place = index + 1 }) }
 {
-    let entry = Entry {
-        node: None,
-        client: None,
-        what: What::Restarted { kept: false },
+    let (Ok(list), Ok(index)) = (u32::try_from(list), u32::try_from(index)) else {
+        return Err(NoMemory);
     };
-    (place as u64, entry)
+    match index.checked_add(1) {
+        Some(place) => Ok(Spot { list, place }),
+        None => Err(NoMemory),
+    }
 }
 
-/// Whether no node and no client has it.
-fn is_nobodys(entry: &Entry) -> bool
-    ensures { result ≡ is_nobodys entry.now }
-{
-    entry.node.is_none() && entry.client.is_none()
-}
-
-/// Puts an entry into the slot of its place: behind the other slots, or in exchange for what is
-/// there, unless that is some actor's: the two lists that tell of a call have the same entry of it.
+/// Puts the spot of an entry into the slot of its place.
 #[inline(always)]
-fn put(slots: &mut Vec<(u64, Entry)>, entry: &mut (u64, Entry)) -> Result<(), NoMemory>
-    ensures { OnOk result ((filled : List (Option Step)) → Hold 0 slots.old.items filled
-        → Hold 0 slots.new.items (put_at entry.old.0 entry.old.1 filled)) }
+fn put(
+    lists: &[Vec<(u64, Entry)>],
+    order: &mut Vec<Spot>,
+    at: usize,
+    spot: Spot,
+) -> Result<(), NoMemory>
+    requires { at ≡ (entry_at (map (λ list. list.items) lists.now) spot).0 }
+    ensures { OnOk result ((filled : List (Option Step))
+        → Hold 0 (log_of (map (λ list. list.items) lists.now) order.old.items) filled
+        → Hold 0 (log_of (map (λ list. list.items) lists.now) order.new.items)
+        (put_at at (entry_at (map (λ list. list.items) lists.now) spot).1 filled)) }
 {
-    let at = entry.0 as usize;
-    while slots.len() < at {
-        slots.push(empty(slots.len()))?;
+    while order.len() < at {
+        order.push(NOWHERE)?;
     }
-    if slots.len() == at {
-        slots.push(replace(entry, empty(at)))?;
+    if order.len() == at {
+        order.push(spot)?;
         return Ok(());
     }
-    if !is_nobodys(&slots[at].1) {
-        return Ok(());
-    }
-    swap(&mut slots[at], entry);
+    order[at] = spot;
     Ok(())
 }
 
-/// Puts each entry of a list into the slot of its place, in order, so that slots are added one
-/// after another.
+/// Whether an entry is put: where those of the clients stand already, only what no client has.
+#[inline(always)]
+fn is_put(entry: &Entry, lone: bool) -> bool
+    ensures { result ≡ is_put lone entry.now }
+{
+    !lone || entry.client.is_none()
+}
+
+/// Puts an entry of a list, if it is put.
+#[inline(always)]
+fn put_entry(
+    lists: &[Vec<(u64, Entry)>],
+    order: &mut Vec<Spot>,
+    list: usize,
+    index: usize,
+    lone: bool,
+) -> Result<(), NoMemory>
+    requires list { list < length lists.now }
+    requires index { index < length (get_or (map (λ list. list.items) lists.now) list []) }
+    ensures { OnOk result ((filled : List (Option Step))
+        → Hold 0 (log_of (map (λ list. list.items) lists.now) order.old.items) filled
+        → Hold 0 (log_of (map (λ list. list.items) lists.now) order.new.items)
+        (put_list (chosen lone
+        (get_or (get_or (map (λ list. list.items) lists.now) list []) index nobody ∷ [])) filled)) }
+{
+    let entry = &lists[list][index];
+    if !is_put(&entry.1, lone) {
+        return Ok(());
+    }
+    put(lists, order, entry.0 as usize, spot_of(list, index)?)
+}
+
+/// Puts the entries of a list, in order, so that slots are added one after another.
 fn put_entries(
-    slots: &mut Vec<(u64, Entry)>,
-    entries: &mut Vec<(u64, Entry)>,
+    lists: &[Vec<(u64, Entry)>],
+    order: &mut Vec<Spot>,
+    list: usize,
+    lone: bool,
 ) -> Result<(), NoMemory>
-    ensures { OnOk result ((filled : List (Option Step)) → Hold 0 slots.old.items filled
-        → Hold 0 slots.new.items (put_list entries.old.items filled)) }
+    requires { list < length lists.now }
+    ensures { OnOk result ((filled : List (Option Step))
+        → Hold 0 (log_of (map (λ list. list.items) lists.now) order.old.items) filled
+        → Hold 0 (log_of (map (λ list. list.items) lists.now) order.new.items)
+        (put_list (chosen lone (get_or (map (λ list. list.items) lists.now) list [])) filled)) }
 {
-    let mut next = 0;
-    while next < entries.len() {
-        put(slots, &mut entries[next])?;
-        next += 1;
+    for index in 0..lists[list].len() {
+        put_entry(lists, order, list, index, lone)?;
     }
     Ok(())
 }
 
-/// The same for each list of a node, from the first one on; what is left of the lists goes to
-/// `twins`.
-fn put_nodes(
-    slots: &mut Vec<(u64, Entry)>,
-    twins: &mut Vec<Vec<(u64, Entry)>>,
-    lists: Vec<EntryList>,
+/// Puts the entries of the first lists, so many, which are those of the clients; of the others,
+/// which are those of the nodes, only what no client has: the rest stands in the clients' lists.
+fn put_all(
+    lists: &[Vec<(u64, Entry)>],
+    order: &mut Vec<Spot>,
+    clients: usize,
 ) -> Result<(), NoMemory>
-    ensures { OnOk result ((filled : List (Option Step)) → Hold 0 slots.old.items filled
-        → Hold 0 slots.new.items (put_lists lists.items filled)) }
+    requires { order.old.items ≡ [] }
+    ensures { OnOk result (Hold 0
+        (log_of (map (λ list. list.items) lists.now) order.new.items)
+        (put_lists (all_put clients (map (λ list. list.items) lists.now)) [])) }
 {
-    for list in lists {
-        let mut entries = list.into_vec();
-        put_entries(slots, &mut entries)?;
-        twins.push(entries)?;
+    for list in 0..lists.len() {
+        put_entries(lists, order, list, list >= clients)?;
     }
     Ok(())
 }
 
-/// The same for each list of a client.
-fn put_clients(
-    slots: &mut Vec<(u64, Entry)>,
-    twins: &mut Vec<Vec<(u64, Entry)>>,
-    lists: Vec<ClientList>,
-) -> Result<(), NoMemory>
-    ensures { OnOk result ((filled : List (Option Step)) → Hold 0 slots.old.items filled
-        → Hold 0 slots.new.items (put_lists (map (λ l. l.entries) lists.items) filled)) }
+/// The lists of the clients, then those of the nodes.
+fn all_lists(alloc: Global, lists: Lists) -> Result<Vec<Vec<(u64, Entry)>>, NoMemory>
+    ensures { IfOk result (λ all. map (λ list. list.items) all.items
+        ≡ map (λ list. list.entries) lists.clients ++ lists.nodes) }
 {
-    for list in lists {
-        let mut entries = list.into_vec();
-        put_entries(slots, &mut entries)?;
-        twins.push(entries)?;
+    let mut all = Vec::new(alloc);
+    for list in lists.clients.into_vec() {
+        all.push(list.into_vec())?;
     }
-    Ok(())
-}
-
-/// The place after that of a list's last entry.
-fn end_of(entries: &[(u64, Entry)]) -> usize {
-    match entries.last() {
-        Some(entry) => (entry.0 as usize).saturating_add(1),
-        None => 0,
+    for list in lists.nodes.into_vec() {
+        all.push(list.into_vec())?;
     }
+    Ok(all)
 }
 
 /// How many places the lists tell of.
-fn places_of(lists: &Lists) -> usize {
-    let nodes = lists
-        .nodes
-        .as_slice()
-        .iter()
-        .map(|list| end_of(list.as_slice()));
-    let clients = lists
-        .clients
-        .as_slice()
-        .iter()
-        .map(|list| end_of(list.as_slice()));
-    nodes.chain(clients).max().unwrap_or(0)
+fn places_of(lists: &[Vec<(u64, Entry)>]) -> usize {
+    let mut places = 0;
+    for list in lists {
+        if let Some(entry) = list.last() {
+            places = places.max((entry.0 as usize).saturating_add(1));
+        }
+    }
+    places
 }
 
 /// The whole log of a run, from the lists of all its actors: each place once, in order. It takes
-/// time linear in the entries, and lets none of them go.
+/// time linear in the entries, and moves none of them.
 pub fn merge(alloc: Global, lists: Lists) -> Result<Log, NoMemory>
     requires { (clock : ℕ) × AreOneLog lists.nodes lists.clients clock }
     ensures { (clock : ℕ) (one : AreOneLog lists.nodes lists.clients clock)
         → IfOk result (λ log. log ≡ placed_from 0 one.log) }
 {
-    let mut slots = Vec::with_capacity(alloc, places_of(&lists))?;
-    let mut twins = Vec::new(alloc);
-    // Nearly every entry stands in a client's list: after these few of the nodes' are moved.
-    put_clients(&mut slots, &mut twins, lists.clients.into_vec())?;
-    put_nodes(&mut slots, &mut twins, lists.nodes.into_vec())?;
-    Ok(Log::with_twins(slots, twins))
+    let clients = lists.clients.as_slice().len();
+    let all = all_lists(alloc, lists)?;
+    let mut order = Vec::with_capacity(alloc, places_of(&all))?;
+    put_all(&all, &mut order, clients)?;
+    Ok(Log::of_lists(all, order))
 }

@@ -15,7 +15,7 @@ ghost use Rattle.mn_hist.specs.Watching.{IsWatchOf, TellsPointsMet};
 use mn_base::{ClientNo, NoMemory, NodeNo, StopAt, Tid};
 use mn_mini::{NodeReply, Request};
 use mn_script::Point;
-use mn_world::{Entry, IdKey, What, id_key};
+use mn_world::{Entry, IdKey, Log, What, id_key};
 use std::alloc::Global;
 use std::collections::HashMap;
 
@@ -289,19 +289,15 @@ impl Watch {
 /// Which of these crash points the log met, in order of number. It takes time linear in the
 /// entries, if there are points, and beside that looks at the points at each yes vote and each stop
 /// that was asked for. NoMemory: there was no memory for it.
-pub fn points_met(
-    alloc: Global,
-    points: &[Point],
-    log: &[(u64, Entry)],
-) -> Result<Vec<bool>, NoMemory>
+pub fn points_met(alloc: Global, points: &[Point], log: &Log) -> Result<Vec<bool>, NoMemory>
     ensures { IfOk result (λ met. met.items ≡ points_met points.now (entries_of log.now)) }
 {
     if points.is_empty() {
         return Ok(Vec::new(alloc));
     }
     let mut watch = Watch::new(alloc, points)?;
-    for (_, entry) in log {
-        watch.note(points, entry)?;
+    for place in 0..log.len() {
+        watch.note(points, log.entry(place))?;
     }
     Ok(watch.met)
 }

@@ -20,7 +20,7 @@ ghost use Rattle.mn_hist.specs.Shown.{TellsLeafBytesShow, lone_key, leaf_value, 
 use mn_base::{Key, Name, NoMemory, NodeNo, Op, Reply, Step, Steps, Value, Version};
 use mn_catalog::{CatError, Catalog};
 use mn_fence::covers;
-use mn_mini::{NodeReply, PartItem, Request};
+use mn_mini::{NodeReply, PartItem, ReadBytes, Request};
 use mn_page::{CatEntry, PageRef};
 use mn_path::value_in;
 use mn_vtree::{TreeError, VersionTree};
@@ -46,7 +46,7 @@ pub struct Read<'a> {
     pub node: NodeNo,
     pub start: u32,
     pub length: u32,
-    pub bytes: &'a [u8],
+    pub bytes: &'a ReadBytes,
 }
 
 /// Whether a slot begins there.
@@ -73,7 +73,7 @@ fn read_by<'a>(node: NodeNo, request: &Request, reply: &'a NodeReply) -> Option<
             node,
             start: *start,
             length: *length,
-            bytes: bytes.as_slice(),
+            bytes,
         }),
         _ => None,
     }
@@ -408,7 +408,7 @@ pub fn shows(
         (as_seen read.now) op.now reply.now) }
 {
     if read.is_catalog() {
-        return catalog_shows(alloc, read.bytes, op, reply);
+        return catalog_shows(alloc, read.bytes.as_slice(), op, reply);
     }
     let Op::Tx { version, steps } = op else {
         return Ok(false);
@@ -419,5 +419,5 @@ pub fn shows(
     if !read.is_page() {
         return Ok(false);
     }
-    leaf_shows(read.bytes, catalog, version, key, reply)
+    leaf_shows(read.bytes.as_slice(), catalog, version, key, reply)
 }

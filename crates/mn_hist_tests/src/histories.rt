@@ -252,7 +252,7 @@ fn worked(alloc: Global, kept: bool) -> Result<Log, Fail> {
     for (place, logged) in WORKED.iter().enumerate() {
         log.push((place as u64, entry_of(alloc, *logged, kept)?))?;
     }
-    Ok(Log::from_vec(log))
+    Ok(Log::of_list(alloc, log)?)
 }
 
 fn history(alloc: Global, kept: bool) -> Result<History, Fail> {

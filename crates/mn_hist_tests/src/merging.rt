@@ -241,7 +241,7 @@ fn finish(
         reached,
         beyond,
         clock,
-        entries: log.as_slice().len(),
+        entries: log.len(),
     };
     Some((told, log))
 }

@@ -52,7 +52,7 @@ pub fn without_log<D>(alloc: Global, disks: Vec<D>, due: Due) -> Ended<D>
     Ended {
         due,
         disks,
-        log: Log::from_vec(Vec::new(alloc)),
+        log: Log::empty(alloc),
     }
 }
 

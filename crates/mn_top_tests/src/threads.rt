@@ -4,7 +4,7 @@ use crate::rows::SCRIPTS_OF_ONE_CLIENT;
 use mn_base::{ClientNo, Gate, NodeNo, OpenGate};
 use mn_memdisk::{MeetDisk, Meeting};
 use mn_mini::Request;
-use mn_world::{Entry, What};
+use mn_world::{Entry, Log, What};
 use std::alloc::Global;
 use std::sync::atomic::{AtomicU64, Ordering};
 use std::sync::{Arc, Wait};
@@ -152,44 +152,41 @@ fn lists(entry: &Entry, node: u8) -> bool {
 }
 
 /// Whether the first recovery coordinator asks this node for its list somewhere in a log.
-fn has_list(log: &[(u64, Entry)], node: u8) -> bool {
-    for (_place, entry) in log {
-        if lists(entry, node) {
+fn has_list(log: &Log, node: u8) -> bool {
+    for place in 0..log.len() {
+        if lists(log.entry(place), node) {
             return true;
         }
     }
     false
 }
 
-/// How many operations are answered in a log.
-fn count_answered(log: &[(u64, Entry)]) -> u32 {
-    let mut count: u32 = 0;
-    for (_place, entry) in log {
+/// How many operations are answered in a log before the first entry of the recovery coordinator,
+/// and in all of it.
+fn count_answered(log: &Log) -> (u32, u32) {
+    let mut before: u32 = 0;
+    let mut all: u32 = 0;
+    let mut recovers = false;
+    for place in 0..log.len() {
+        let entry = log.entry(place);
+        recovers = recovers || is_of_recoverer(entry);
         if matches!(entry.what, What::Answered { .. }) {
-            count = count.saturating_add(1);
+            all = all.saturating_add(1);
+            if !recovers {
+                before = all;
+            }
         }
     }
-    count
-}
-
-/// The part of a log that stands before the first entry of the recovery coordinator.
-fn before_recoverer(log: &[(u64, Entry)]) -> &[(u64, Entry)] {
-    for (at, (_place, entry)) in log.iter().enumerate() {
-        if is_of_recoverer(entry) {
-            return &log[..at];
-        }
-    }
-    log
+    (before, all)
 }
 
 #[test]
 fn recovery_waits(rt: HostRuntime) -> Result<(), Fail> {
     let disks = fresh_disks(rt.alloc(), 2)?;
     let ran = play(&rt, "run", ONE_CLIENT_AND_RECOVERY, disks)?;
-    let log = ran.outcome.log.as_slice();
+    let log = &ran.outcome.log;
     assert!(rt; has_list(log, 0) && has_list(log, 1));
-    assert!(rt; count_answered(before_recoverer(log)) == 9);
-    assert!(rt; count_answered(log) == 9);
+    assert!(rt; count_answered(log) == (9, 9));
     Ok(())
 }
 

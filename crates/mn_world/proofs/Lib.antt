@@ -1,4 +1,5 @@
 pub mod Reading
+pub mod Logs
 pub mod Votes
 pub mod Bytes
 pub mod Commits

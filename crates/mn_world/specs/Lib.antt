@@ -1,4 +1,5 @@
 pub mod Lists
+pub mod Log
 pub mod Calls
 pub mod Nodes
 pub mod Clients

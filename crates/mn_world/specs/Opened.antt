@@ -12,7 +12,6 @@ use Rattle.mn_mini.specs.declared.part.PartItem.{PartItem}
 use Rattle.mn_mini.specs.declared.record.Record.{Record}
 use Rattle.mn_mini.specs.declared.record.Record.TheVariants.{Voted, Executed, Decided, Forced}
 use Rattle.mn_mini.specs.Mini.{parts_conflict}
-use Rattle.mn_mini.specs.Flat.{space_after_part}
 use Rattle.mn_mini.specs.Node.{is_of, HeldPart, held_parts, is_held, has_voted, has_executed}
 use Rattle.mn_mini.specs.Node.{has_decided_yes, has_decided_no, space_of, with_held}
 use Rattle.mn_page.specs.Holds.{Holds}

@@ -410,9 +410,9 @@ pub fn flat_after(alloc: Global, start: &Spaces, log: &Log) -> Result<Spaces, No
         → IfOk result (λ after. IsFlatRun from start.now after (entries_of log.now)) }
 {
     let mut memory = start.try_copy(alloc)?.into_vec();
-    let mut standing = nothing(alloc, log.as_slice().len())?;
-    for (_, entry) in log.as_slice() {
-        step(alloc, &mut standing, &mut memory, entry)?;
+    let mut standing = nothing(alloc, log.len())?;
+    for place in 0..log.len() {
+        step(alloc, &mut standing, &mut memory, log.entry(place))?;
     }
     Ok(Spaces::from_vec(memory))
 }

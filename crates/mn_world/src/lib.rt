@@ -9,6 +9,7 @@ mod flat;
 mod law;
 mod laws;
 mod lists;
+mod log;
 
 pub use commit_reader::{CommitReader, CommittedMini};
 pub use entry::{Entry, What};
@@ -28,4 +29,5 @@ pub use laws::{
     undisturbed_is_sure, unkept_is_never, up_is_sure, writes_leave_store, writes_leave_versions,
     yes_has_votes,
 };
-pub use lists::{ClientList, EntryList, Log};
+pub use lists::{ClientList, EntryList};
+pub use log::{Log, Spot};

@@ -9,60 +9,6 @@ use std::marker::Model;
 /// How many entries a list may have room for.
 const LONGEST: usize = 1 << 57;
 
-/// The entries of a whole run with their places, in order. Contracts see them as a list.
-#[derive(Debug, Drop)]
-pub struct Log {
-    entries: Vec<(u64, Entry)>,
-    /// The entries that stood in two lists, a second time. They are let go with the log: so many
-    /// small pieces, freed before more memory is asked for, cost the allocator more than all of a
-    /// log's reading.
-    twins: Option<Vec<Vec<(u64, Entry)>>>,
-}
-
-impl Model for Log {
-    ghost use Rattle.std.specs.Prelude.{ℕ, List};
-    ghost use Rattle.mn_world.specs.declared.entry.Entry.{Entry};
-
-    ghost Value = { List (ℕ × Entry) };
-
-    ghost view = { λ l. l.entries.items };
-}
-
-impl Log {
-    /// It takes no memory.
-    pub fn from_vec(entries: Vec<(u64, Entry)>) -> Self
-        ensures { result ≡ entries.items }
-    {
-        Log {
-            entries,
-            twins: None,
-        }
-    }
-
-    /// The log of these entries, with the lists from which they were taken and what was left in
-    /// those. It takes no memory.
-    pub fn with_twins(entries: Vec<(u64, Entry)>, twins: Vec<Vec<(u64, Entry)>>) -> Self
-        ensures { result ≡ entries.items }
-    {
-        Log {
-            entries,
-            twins: Some(twins),
-        }
-    }
-
-    pub fn into_vec(self) -> Vec<(u64, Entry)>
-        ensures { result.items ≡ self }
-    {
-        self.entries
-    }
-
-    pub fn as_slice(&self) -> &[(u64, Entry)]
-        ensures { result.now ≡ self.now }
-    {
-        &self.entries
-    }
-}
-
 /// The entries of one node with their places, in order. Contracts see them as a list.
 #[derive(Debug, Drop)]
 pub struct EntryList {

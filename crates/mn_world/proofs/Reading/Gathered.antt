@@ -1,6 +1,6 @@
 -- The leaves that a scan takes one by one show its reply.
-use Rattle.std.proofs.Common.{◌≡◌, ℕ, zero, suc, ◌≤◌, ◌⊎◌, inl, inr, List, [], ◌∷◌, ◌++◌, length, take, Option, Some, refl, sym, ap, ◌∙◌, arith}
-use Rattle.std.specs.Prelude.{Contains, IsTrue, filter, unwrap_or}
+use Rattle.std.proofs.Common.{◌≡◌, ℕ, zero, suc, ◌≤◌, ◌⊎◌, inl, inr, List, [], ◌∷◌, ◌++◌, length, take, Option, refl, sym, ap, ◌∙◌, arith}
+use Rattle.std.specs.Prelude.{unwrap_or}
 use Rattle.std.specs.List.{AllByRecursion}
 use Rattle.std.proofs.lemmas.Grind.{flat_map-append}
 use Rattle.std.proofs.lemmas.List.{append-nil}
@@ -12,7 +12,7 @@ use Rattle.mn_page.specs.declared.page.Page.{Page}
 use Rattle.mn_page.specs.declared.entry.CatEntry.{CatEntry}
 use Rattle.mn_page.specs.Holds.{pairs_in}
 use Rattle.mn_world.specs.Shown.{Seen, IsChain, BeginsAt, ReachesEnd, leaf_pairs, ShowsPairs}
-use Rattle.mn_world.specs.Scans.{IsLeafRead, MayFollow, AreInTurn, HasGathered, GatheredStays, LeavesAreGathered, GatheredIsShown}
+use Rattle.mn_world.specs.Scans.{IsLeafRead, MayFollow, AreInTurn, GatheredStays, LeavesAreGathered, GatheredIsShown}
 
 -- Lists
 

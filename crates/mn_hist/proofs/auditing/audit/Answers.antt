@@ -1,4 +1,4 @@
-use Rattle.std.proofs.Common.{ℕ, List, map, ap, subst, sym, ◌∙◌}
+use Rattle.std.proofs.Common.{ℕ, List, map, ap, sym, ◌∙◌}
 use Rattle.mn_base.specs.declared.ids.ClientNo.{ClientNo}
 use Rattle.mn_script.specs.declared.elements.Point.{Point}
 use Rattle.mn_script.specs.declared.elements.ScriptClient.{ScriptClient}

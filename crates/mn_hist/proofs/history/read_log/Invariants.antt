@@ -9,9 +9,9 @@ use Rattle.mn_hist.specs.Told.{ReaderHasRead, ReaderHasTold}
 use Rattle.mn_hist.proofs.history.read_log.Given as goal
 
 -- the entries so far are read, and their history is told
-abbrev pub invariant-loop-entry : goal.invariant-loop-entry
-invariant-loop-entry l = record {
-  reads : ReaderHasRead l.reader (entries_of (take l.entry-index l.log));
+abbrev pub invariant-loop-place : goal.invariant-loop-place
+invariant-loop-place l = record {
+  reads : ReaderHasRead l.reader (entries_of (take l.place l.log));
   laws : RunsHaveHistory × HistoryIsOne;
-  tells : (start : Start) (store : Store) → OpenedRun start store (entries_of (take l.entry-index l.log)) → (placed : List Placed) × ReaderHasTold l.reader (entries_of (take l.entry-index l.log)) placed;
+  tells : (start : Start) (store : Store) → OpenedRun start store (entries_of (take l.place l.log)) → (placed : List Placed) × ReaderHasTold l.reader (entries_of (take l.place l.log)) placed;
 }

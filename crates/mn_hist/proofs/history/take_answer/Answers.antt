@@ -1,8 +1,10 @@
 use Rattle.std.proofs.Common.{◌≡◌, ◌<◌, List, length, Some, reverse, ap, subst, sym, ◌∙◌, arith}
+use Rattle.std.specs.Option.{option_map}
 use Rattle.mn_base.specs.declared.answer.Answer.{Answer}
 use Rattle.mn_base.specs.declared.op.Op.{Op}
 use Rattle.mn_world.specs.Calls.{Begun}
 use Rattle.mn_hist.specs.History.{CallerState, Note, IsNotedPlace, AnswerHasPlace, AnswerIsInHistory, caller_state}
+use Rattle.mn_hist.specs.Plans.{begun_of}
 use Rattle.mn_hist.proofs.Putting.{on_ok, at_index, length_set, puts_none, idle_puts, stands_already, puts_read}
 use Rattle.mn_hist.proofs.history.take_answer.Goals as goal
 
@@ -12,19 +14,19 @@ returns-in_default-begun c = λ past placed are st fills has.
     let there = are c.args.client few in
     let same = at_index c.args.callers.now c.args.client.0 c.index-callers-from.result (caller_state c.args.client past) (subst (λ i. c.index-callers-from.result ≡ Rattle.std.specs.Prelude.slice_index_or c.args.callers.now i c.index-callers-from.result) c.from.ensures c.index-callers-from.is) there in
     puts_none past c.args.client c.args.answer.now placed c.args.standing.now c.args.slots.now.items
-    (idle_puts past c.args.client c.args.answer.now placed (sym (ap (λ (s : CallerState). s.begun) (c.caller.view_is ∙ same)) ∙ c.in_default-begun.is)) st fills
+    (idle_puts past c.args.client c.args.answer.now placed (sym (ap (λ (s : CallerState). s.begun) (c.caller.view_is ∙ same)) ∙ ap (option_map begun_of) c.in_default-begun.is)) st fills
 
 pub returns-then-is_standing : goal.returns-then-is_standing
 returns-then-is_standing c = λ past placed are st fills has.
     let few : c.args.client.0 < 256 = omega arith in
     let there = are c.args.client few in
     let same = at_index c.args.callers.now c.args.client.0 c.index-callers-from.result (caller_state c.args.client past) (subst (λ i. c.index-callers-from.result ≡ Rattle.std.specs.Prelude.slice_index_or c.args.callers.now i c.index-callers-from.result) c.from.ensures c.index-callers-from.is) there in
-    let begun : Begun = record { number = c.begun.inside.number; op = c.begun.inside.op.now } in
+    let begun : Begun = record { number = c.in-Some.begun.number; op = c.in-Some.begun.op.now } in
     subst (λ (a : Answer). AnswerIsInHistory past c.args.client a placed c.args.standing.now c.args.slots.now.items c.args.slots.now.items) (sym c.in-Replied.is)
     (puts_none past c.args.client (Rattle.mn_base.specs.declared.answer.Answer.TheVariants.Replied c.in-Replied.reply) placed c.args.standing.now c.args.slots.now.items
-    (stands_already past c.args.client (record { number = c.begun.inside.number; op = c.begun.inside.op.now }) c.in-Replied.reply placed
-    (sym (ap (λ (s : CallerState). s.begun) (c.caller.view_is ∙ same)) ∙ (c.in-Some.is ∙ ap Some (sym c.begun.view_is)))
-    (sym (st c.args.client c.begun.inside.number) ∙ (sym c.is_standing.ensures ∙ c.if-is_standing.true))) st fills)
+    (stands_already past c.args.client (record { number = c.in-Some.begun.number; op = c.in-Some.begun.op.now }) c.in-Replied.reply placed
+    (sym (ap (λ (s : CallerState). s.begun) (c.caller.view_is ∙ same)) ∙ ap (option_map begun_of) c.in-Some.is)
+    (sym (st c.args.client c.in-Some.begun.number) ∙ (sym c.is_standing.ensures ∙ c.if-is_standing.true))) st fills)
 
 pub returns : goal.returns
 returns c = on_ok c.note_standing.result c.note_standing.ensures (λ more past placed are st fills has.
@@ -32,12 +34,12 @@ returns c = on_ok c.note_standing.result c.note_standing.ensures (λ more past p
     let there = are c.args.client few in
     let same = at_index c.args.callers.now c.args.client.0 c.index-callers-from.result (caller_state c.args.client past) (subst (λ i. c.index-callers-from.result ≡ Rattle.std.specs.Prelude.slice_index_or c.args.callers.now i c.index-callers-from.result) c.from.ensures c.index-callers-from.is) there in
     subst (λ (a : Answer). AnswerIsInHistory past c.args.client a placed c.note_standing.new.standing c.args.slots.now.items c.put.new.slots.items) (sym c.in-Replied.is)
-    (puts_read past c.args.client (record { number = c.begun.inside.number; op = c.begun.inside.op.now }) c.in-Replied.reply placed c.args.standing.now c.note_standing.new.standing c.args.slots.now.items c.put.new.slots.items c.in_ok-place.place
-    (sym (ap (λ (s : CallerState). s.begun) (c.caller.view_is ∙ same)) ∙ (c.in-Some.is ∙ ap Some (sym c.begun.view_is)))
-    (sym (st c.args.client c.begun.inside.number) ∙ (sym c.is_standing.ensures ∙ c.if-is_standing.false))
-    (subst (λ (ns : List Note). IsNotedPlace ns c.begun.inside.op.now c.in-Replied.reply c.in_ok-place.place) (ap reverse c.deref.ensures.value ∙ ap (λ (s : CallerState). s.notes) (c.caller.view_is ∙ same))
+    (puts_read past c.args.client (record { number = c.in-Some.begun.number; op = c.in-Some.begun.op.now }) c.in-Replied.reply placed c.args.standing.now c.note_standing.new.standing c.args.slots.now.items c.put.new.slots.items c.in_ok-place.place
+    (sym (ap (λ (s : CallerState). s.begun) (c.caller.view_is ∙ same)) ∙ ap (option_map begun_of) c.in-Some.is)
+    (sym (st c.args.client c.in-Some.begun.number) ∙ (sym c.is_standing.ensures ∙ c.if-is_standing.false))
+    (subst (λ (ns : List Note). IsNotedPlace ns c.in-Some.begun.op.now c.in-Replied.reply c.in_ok-place.place) (ap reverse c.deref.ensures.value ∙ ap (λ (s : CallerState). s.notes) (c.caller.view_is ∙ same))
     (subst (λ (o : Op). IsNotedPlace (reverse c.deref.result.now) o c.in-Replied.reply c.in_ok-place.place) c.get.ensures c.in_ok-place.ensures))
     (subst (λ (a : Answer). AnswerHasPlace past c.args.client a placed) c.in-Replied.is has)
     st fills c.in_ok-put.ensures
-    (ap length c.in_ok-put.ensures.1 ∙ length_set c.args.slots.now.items c.in_ok-place.place (Some (record { client = c.args.client; number = c.begun.inside.number; op = c.begun.inside.op.now })))
+    (ap length c.in_ok-put.ensures.1 ∙ length_set c.args.slots.now.items c.in_ok-place.place (Some (record { client = c.args.client; number = c.in-Some.begun.number; op = c.in-Some.begun.op.now })))
     more))

@@ -1,32 +1,30 @@
-use Rattle.std.proofs.Common.{◌≡◌, ℕ, ◌<◌, List, Option, [], length, ap, subst, sym, ◌∙◌, arith}
-use Rattle.std.specs.Prelude.{drop}
+use Rattle.std.proofs.Common.{◌≡◌, ℕ, ◌+◌, ◌<◌, List, Option, [], ◌∷◌, length, map, drop, get_or, ap, subst, sym, ◌∙◌, arith}
 use Rattle.std.proofs.lemmas.List.{drop_all}
 use Rattle.mn_world.specs.declared.entry.Entry.{Entry}
-use Rattle.mn_hist.specs.Merging.{Hold, put_at, put_list}
-use Rattle.mn_hist.proofs.Placing.{drop_behind, drop_next}
-use Rattle.mn_hist.proofs.Putting.{length_set}
+use Rattle.mn_world.specs.Log.{log_of, nobody}
+use Rattle.mn_hist.specs.Merging.{Hold, chosen, put_list}
+use Rattle.mn_hist.proofs.Spots.{chosen_next, drop_at, list_at}
 use Rattle.mn_hist.proofs.merging.put_entries.Goals as goal
 
-pub loop-next-preserved : goal.loop-next-preserved
-loop-next-preserved c =
-    let n : ℕ = c.loop-next.next in
-    let there : n < length c.loop-next.entries.items = omega arith in
-    let x : ℕ × Entry = c.index_mut.result.now in
-    let y : ℕ × Entry = c.put.new.entry in (
-      omega (arith, there, length_set c.loop-next.entries.items n y),
-      λ filled hold.
-          let was = c.loop-next.invariant.1 filled hold in (
-            put_at x.0 x.1 was.0,
-            c.in_ok-put.ensures was.0 was.1,
-            ap (λ (l : List (ℕ × Entry)). put_list l (put_at x.0 x.1 was.0)) (drop_behind c.loop-next.entries.items n y)
-                ∙ sym (ap (λ (l : List (ℕ × Entry)). put_list l was.0) (drop_next c.loop-next.entries.items n x there c.index_mut.ensures.value))
-                ∙ was.2,
-          ),
+pub loop-index-preserved : goal.loop-index-preserved
+loop-index-preserved c = λ filled hold.
+    let lists : List (List (ℕ × Entry)) = map (λ list. list.items) c.args.lists.now in
+    let l : List (ℕ × Entry) = get_or lists c.args.list [] in
+    let i : ℕ = c.loop-index.index in
+    let x : ℕ × Entry = get_or l i nobody in
+    let was = c.loop-index.invariant filled hold in (
+      put_list (chosen c.args.lone (x ∷ [])) was.0,
+      c.in_ok-put_entry.ensures was.0 was.1,
+      chosen_next c.args.lone x (drop (i + 1) l) was.0
+          ∙ sym (ap (λ (m : List (ℕ × Entry)). put_list (chosen c.args.lone m) was.0) (drop_at l i nobody (omega (arith, c.loop-index-test.true, c.len-index-end.ensures, ap length (list_at c.args.lists.now c.args.list c.index-lists-list.result c.requires c.index-lists-list.is)))))
+          ∙ was.2,
     )
 
 pub returns : goal.returns
 returns c = λ filled hold.
-    let was = c.loop-next.invariant.1 filled hold in
-    let none : drop c.loop-next.next c.loop-next.entries.items ≡ [] = drop_all c.loop-next.next c.loop-next.entries.items (omega arith) in
-    subst (λ (f : List (Option Entry)). Hold 0 c.loop-next.slots.items f)
-    (sym (ap (λ (l : List (ℕ × Entry)). put_list l was.0) none) ∙ was.2) was.1
+    let lists : List (List (ℕ × Entry)) = map (λ list. list.items) c.args.lists.now in
+    let l : List (ℕ × Entry) = get_or lists c.args.list [] in
+    let was = c.loop-index.invariant filled hold in
+    let none : drop c.loop-index.index l ≡ [] = drop_all c.loop-index.index l (omega (arith, c.loop-index-test.false, c.len-index-end.ensures, ap length (list_at c.args.lists.now c.args.list c.index-lists-list.result c.requires c.index-lists-list.is))) in
+    subst (λ (f : List (Option Entry)). Hold 0 (log_of lists c.loop-index.order.items) f)
+    (sym (ap (λ (m : List (ℕ × Entry)). put_list (chosen c.args.lone m) was.0) none) ∙ was.2) was.1

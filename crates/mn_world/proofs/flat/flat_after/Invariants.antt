@@ -5,9 +5,9 @@ use Rattle.mn_world.specs.Standing.{StandingTells}
 use Rattle.mn_world.proofs.flat.flat_after.Given as goal
 
 -- the memory and what is told are those of the entries so far
-abbrev pub invariant-loop-entry : goal.invariant-loop-entry
-invariant-loop-entry l = record {
+abbrev pub invariant-loop-place : goal.invariant-loop-place
+invariant-loop-place l = record {
   long : length l.standing.stopped.items ≡ 256;
-  tells : StandingTells l.standing (entries_of (take l.entry-index l.entry-items));
-  memory : l.memory.items ≡ flat_after l.start (entries_of (take l.entry-index l.entry-items));
+  tells : StandingTells l.standing (entries_of (take l.place l.log));
+  memory : l.memory.items ≡ flat_after l.start (entries_of (take l.place l.log));
 }

@@ -1,0 +1,149 @@
+-- Spots of entries in the order of their places.
+use Rattle.std.proofs.Common.{◌≡◌, ℕ, zero, suc, ◌+◌, ◌-◌, ◌<◌, ◌≤◌, Bool, true, false, Option, Some, None, List, [], ◌∷◌, ◌++◌, Vec, Global, length, map, take, drop, get_or, nat_eq, nat_le, refl, sym, ap, ◌∙◌, subst, arith, if◌then◌else◌}
+use Rattle.std.specs.Prelude.{slice_get, slice_set, is_none}
+use Rattle.mn_actors.specs.declared.actor.Actor.{Actor}
+use Rattle.mn_actors.specs.declared.actor.Actor.TheVariants.{Node, Client}
+use Rattle.mn_actors.specs.Lines.{Line, is_client, is_node, stands_in}
+use Rattle.mn_base.specs.declared.ids.ClientNo.{ClientNo}
+use Rattle.mn_base.specs.declared.ids.NodeNo.{NodeNo}
+use Rattle.mn_world.specs.declared.entry.Entry.{Entry}
+use Rattle.mn_world.specs.declared.log.Spot.{Spot}
+use Rattle.mn_world.specs.Log.{AreSpots, IsSpot, entry_at, log_of, nobody}
+use Rattle.mn_hist.specs.Merging.{all_put, chosen, is_put, lone, put_at, put_list, put_lists}
+use Rattle.mn_world.proofs.Logs.{at_place, map_at, map_long, map_more}
+use Rattle.mn_hist.proofs.Placing.{is_nobodys}
+
+-- Lists
+
+map_set : {A B : Type 0} (f : A → B) (xs : List A) (i : ℕ) (x : A) → map f (slice_set xs i x) ≡ slice_set (map f xs) i (f x)
+map_set f [] i x = refl
+map_set f (y ∷ xs) zero x = refl
+map_set f (y ∷ xs) (suc i) x = ap (λ (l : List _). f y ∷ l) (map_set f xs i x)
+
+get_any : {A : Type 0} (xs : List A) (i : ℕ) (a b : A) → i < length xs → get_or xs i a ≡ get_or xs i b
+get_any [] i a b lt = absurd (omega (arith, lt))
+get_any (x ∷ xs) zero a b lt = refl
+get_any (x ∷ xs) (suc i) a b lt = get_any xs i a b (omega (arith, lt))
+
+-- what stands at a place, and what behind it
+pub drop_at : {A : Type 0} (xs : List A) (i : ℕ) (none : A) → i < length xs → drop i xs ≡ get_or xs i none ∷ drop (i + 1) xs
+drop_at xs i none lt = subst (λ (n : ℕ). drop i xs ≡ get_or xs i none ∷ drop n xs) (next i) (from xs i none lt)
+  where
+    next : (i : ℕ) → suc i ≡ i + 1
+    next i = omega arith
+
+    from : {A : Type 0} (xs : List A) (i : ℕ) (none : A) → i < length xs → drop i xs ≡ get_or xs i none ∷ drop (suc i) xs
+    from [] i none lt = absurd (omega (arith, lt))
+    from (x ∷ xs) zero none lt = refl
+    from (x ∷ xs) (suc i) none lt = from xs i none (omega (arith, lt))
+
+-- The log of an order
+
+pub log_long : (lists : List (List (ℕ × Entry))) (order : List Spot) → length (log_of lists order) ≡ length order
+log_long lists order = map_long (entry_at lists) order
+
+pub log_more : (lists : List (List (ℕ × Entry))) (order : List Spot) (s : Spot) → log_of lists (order ++ s ∷ []) ≡ log_of lists order ++ entry_at lists s ∷ []
+log_more lists order s = map_more (entry_at lists) order s
+
+pub log_set : (lists : List (List (ℕ × Entry))) (order : List Spot) (i : ℕ) (s : Spot) → log_of lists (slice_set order i s) ≡ slice_set (log_of lists order) i (entry_at lists s)
+log_set lists order i s = map_set (entry_at lists) order i s
+
+pub log_at : (lists : List (List (ℕ × Entry))) (order : List Spot) (i : ℕ) (s : Spot) → i < length order → s ≡ get_or order i s → entry_at lists s ≡ get_or (log_of lists order) i (entry_at lists s)
+log_at lists order i s lt is = sym (map_at (entry_at lists) order i s (entry_at lists s) lt is)
+
+-- The entry of a spot
+
+pub lists_long : (vecs : List (Vec (ℕ × Entry) Global)) → length (map (λ (list : Vec (ℕ × Entry) Global). list.items) vecs) ≡ length vecs
+lists_long vecs = map_long (λ (list : Vec (ℕ × Entry) Global). list.items) vecs
+
+pub list_at : (vecs : List (Vec (ℕ × Entry) Global)) (n : ℕ) (v : Vec (ℕ × Entry) Global) → n < length vecs → v ≡ get_or vecs n v → get_or (map (λ (list : Vec (ℕ × Entry) Global). list.items) vecs) n [] ≡ v.items
+list_at vecs n v lt is = map_at (λ (list : Vec (ℕ × Entry) Global). list.items) vecs n v [] lt is
+
+-- an entry of a list stands at its spot
+pub spot_has : (vecs : List (Vec (ℕ × Entry) Global)) (n i : ℕ) (v : Vec (ℕ × Entry) Global) (e : ℕ × Entry) (s : Spot) → s ≡ record { list = n; place = i + 1 } → n < length vecs → v ≡ get_or vecs n v → i < length v.items → e ≡ get_or v.items i e
+    → entry_at (map (λ (list : Vec (ℕ × Entry) Global). list.items) vecs) s ≡ e
+spot_has vecs n i v e s so lt is below at =
+    let lists : List (List (ℕ × Entry)) = map (λ (list : Vec (ℕ × Entry) Global). list.items) vecs in
+    let list : get_or lists n [] ≡ v.items = list_at vecs n v lt is in
+    ap (entry_at lists) so
+    ∙ at_place (get_or lists n []) (i + 1) i refl
+    ∙ ap (λ (l : List (ℕ × Entry)). get_or l i nobody) list
+    ∙ get_any v.items i nobody e below
+    ∙ sym at
+
+-- where some actor's entry stands is a spot
+spot_there : (l : List (ℕ × Entry)) (n : ℕ) (b : Bool) → nat_eq n 0 ≡ b → is_nobodys (if b then nobody else get_or l (n - 1) nobody).1 ≡ false → (1 ≤ n) × (n ≤ length l)
+spot_there l n true none some = absurd cc
+spot_there l n false none some =
+    let above : 1 ≤ n = grind (arith, none) in
+    let inside : n - 1 < length l = within l (n - 1) some in
+    (above, omega (arith, above, inside))
+  where
+    within : (l : List (ℕ × Entry)) (m : ℕ) → is_nobodys (get_or l m nobody).1 ≡ false → m < length l
+    within [] m some = absurd cc
+    within (x ∷ l) zero some = omega arith
+    within (x ∷ l) (suc m) some = let more = within l m some in omega (arith, more)
+
+pub spots_there : (lists : List (List (ℕ × Entry))) (order : List Spot) → ((n : ℕ) → n < length order → is_nobodys (get_or (log_of lists order) n nobody).1 ≡ false) → AreSpots lists order
+spots_there lists order some n s lt is =
+    let at : get_or (log_of lists order) n nobody ≡ entry_at lists s = map_at (entry_at lists) order n s nobody lt is in
+    spot_there (get_or lists s.list []) s.place (nat_eq s.place 0) refl (ap (λ (e : ℕ × Entry). is_nobodys e.1) (sym at) ∙ some n lt)
+
+-- What is put of each list
+
+pub put_long : (clients : ℕ) (lists : List (List (ℕ × Entry))) → length (all_put clients lists) ≡ length lists
+put_long zero lists = map_long lone lists
+put_long (suc clients) [] = refl
+put_long (suc clients) (l ∷ lists) = ap suc (put_long clients lists)
+
+-- all of a client's list
+all_chosen : (l : List (ℕ × Entry)) → chosen false l ≡ l
+all_chosen [] = refl
+all_chosen (x ∷ l) = ap (λ (m : List (ℕ × Entry)). x ∷ m) (all_chosen l)
+
+node_at : (lists : List (List (ℕ × Entry))) (n : ℕ) → n < length lists → get_or (map lone lists) n [] ≡ lone (get_or lists n [])
+node_at [] n lt = absurd (omega (arith, lt))
+node_at (l ∷ lists) zero lt = refl
+node_at (l ∷ lists) (suc n) lt = node_at lists n (omega (arith, lt))
+
+put_by : (clients : ℕ) (lists : List (List (ℕ × Entry))) (n : ℕ) (b : Bool) → n < length lists → nat_le clients n ≡ b → get_or (all_put clients lists) n [] ≡ chosen b (get_or lists n [])
+put_by zero lists n true lt is = node_at lists n lt
+put_by zero lists n false lt is = let no : true ≡ false = sym (low n) ∙ is in absurd cc
+  where
+    low : (n : ℕ) → nat_le 0 n ≡ true
+    low n = grind (arith)
+put_by (suc clients) [] n b lt is = absurd (omega (arith, lt))
+put_by (suc clients) (l ∷ lists) zero true lt is = let no : false ≡ true = sym (high clients) ∙ is in absurd cc
+  where
+    high : (c : ℕ) → nat_le (suc c) 0 ≡ false
+    high c = grind (arith)
+put_by (suc clients) (l ∷ lists) zero false lt is = sym (all_chosen l)
+put_by (suc clients) (l ∷ lists) (suc n) b lt is = put_by clients lists n b (omega (arith, lt)) (less clients n ∙ is)
+  where
+    less : (c n : ℕ) → nat_le c n ≡ nat_le (suc c) (suc n)
+    less c n = grind (arith)
+
+pub put_is : (clients : ℕ) (lists : List (List (ℕ × Entry))) (n : ℕ) → n < length lists → get_or (all_put clients lists) n [] ≡ chosen (nat_le clients n) (get_or lists n [])
+put_is clients lists n lt = put_by clients lists n (nat_le clients n) lt refl
+
+-- the entries that are chosen, one after another
+pub chosen_next : (lone : Bool) (x : ℕ × Entry) (l : List (ℕ × Entry)) (filled : List (Option Entry)) → put_list (chosen lone l) (put_list (chosen lone (x ∷ [])) filled) ≡ put_list (chosen lone (x ∷ l)) filled
+chosen_next lone x l filled = by (is_put lone x.1)
+  where
+    by : (b : Bool) → put_list (chosen lone l) (put_list (if b then x ∷ [] else []) filled) ≡ put_list (if b then x ∷ chosen lone l else chosen lone l) filled
+    by true = refl
+    by false = refl
+
+pub put_one : (lone : Bool) (x : ℕ × Entry) (filled : List (Option Entry)) → is_put lone x.1 ≡ true → put_at x.0 x.1 filled ≡ put_list (chosen lone (x ∷ [])) filled
+put_one lone x filled is = rw is refl
+
+pub put_none : (lone : Bool) (x : ℕ × Entry) (filled : List (Option Entry)) → is_put lone x.1 ≡ false → filled ≡ put_list (chosen lone (x ∷ [])) filled
+put_none lone x filled is = rw is refl
+
+pub put_first : (clients nodes : List (List (ℕ × Entry))) → all_put (length clients) (clients ++ nodes) ≡ clients ++ map lone nodes
+put_first [] nodes = refl
+put_first (l ∷ clients) nodes = ap (λ (ls : List (List (ℕ × Entry))). l ∷ ls) (put_first clients nodes)
+
+pub put_both : (a b : List (List (ℕ × Entry))) (slots : List (Option Entry)) → put_lists (a ++ b) slots ≡ put_lists b (put_lists a slots)
+put_both [] b slots = refl
+put_both (l ∷ a) b slots = put_both a b (put_list l slots)
