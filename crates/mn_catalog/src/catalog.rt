@@ -1,5 +1,5 @@
 ghost use Rattle.std.specs.List.{list_all};
-ghost use Rattle.std.specs.Prelude.{◌≡◌, ◌≢◌, ◌<◌, ℕ, Option, length, slice_get, option_map, All};
+ghost use Rattle.std.specs.Prelude.{◌≡◌, ◌≢◌, ◌<◌, ℕ, Option, length, option_map, All};
 ghost use Rattle.std.specs.Prelude.{IfOk, IfErr, MatchOption, List, ◌*◌, drop, nat_eq};
 ghost use Rattle.mn_page.specs.Space.{catalog_size, entry_size};
 ghost use Rattle.mn_page.specs.declared.entry.CatEntry.{CatEntry};
@@ -17,7 +17,8 @@ ghost use Rattle.mn_page.specs.Forest.{heads_in};
 ghost use Rattle.mn_page.specs.Grammar.{IsAddr};
 
 use crate::CatError;
-use mn_base::{Addr, Name, NoMemory, Op, Reply, Steps, TryCopy, VersionNo, are_zeros};
+use mn_base::{Addr, Name, NoMemory, Op, Reply, Steps, TryCopy, VersionNo};
+use mn_padded::Padded;
 use mn_page::{CatEntry, Entries, PageError, number_after};
 use std::alloc::Global;
 use std::marker::Model;
@@ -48,17 +49,17 @@ impl Model for Catalog {
 }
 
 // The bytes of a place.
-fn place(bytes: &[u8], version: u16) -> &[u8]
+fn place<'a>(bytes: &Padded<'a>, version: u16) -> &'a [u8]
     requires whole { length bytes.now ≡ catalog_size }
     requires there { version < max_entries }
     ensures { result.now ≡ place_bytes version bytes.now }
 {
     let start = ENTRY * usize::from(version);
-    &bytes[start..start + ENTRY]
+    &bytes.as_slice()[start..start + ENTRY]
 }
 
 // The entry of a place, or none for an unused one.
-fn entry_at(alloc: Global, bytes: &[u8], version: u16) -> Result<Option<CatEntry>, CatError>
+fn entry_at(alloc: Global, bytes: &Padded<'_>, version: u16) -> Result<Option<CatEntry>, CatError>
     requires whole { length bytes.now ≡ catalog_size }
     requires there { version < max_entries }
     ensures read { IfOk result (IsEntryRead (place_bytes version bytes.now)) }
@@ -72,16 +73,16 @@ fn entry_at(alloc: Global, bytes: &[u8], version: u16) -> Result<Option<CatEntry
 }
 
 // Whether this place and all behind it are unused.
-fn are_unused_from(bytes: &[u8], version: u16) -> bool
+fn are_unused_from(bytes: &Padded<'_>, version: u16) -> bool
     requires whole { length bytes.now ≡ catalog_size }
     requires there { version < max_entries }
     ensures { result ≡ list_all (λ b. nat_eq b 0) (drop (entry_size * version) bytes.now) }
 {
-    are_zeros(&bytes[ENTRY * usize::from(version)..])
+    bytes.are_zeros_from(ENTRY * usize::from(version))
 }
 
 // The used entries.
-fn used_entries(alloc: Global, bytes: &[u8]) -> Result<Vec<CatEntry>, CatError>
+fn used_entries(alloc: Global, bytes: &Padded<'_>) -> Result<Vec<CatEntry>, CatError>
     requires whole { length bytes.now ≡ catalog_size }
     ensures read { IfOk result (λ entries. AreRead max_entries bytes.now entries.items) }
     ensures bad { IfErr result (RefusesCatalog bytes.now) }
@@ -144,7 +145,18 @@ impl Catalog {
         ensures bad { IfErr result (RefusesCatalog bytes.now) }
         ensures outside { IfErr result (λ e. (IsWantOfMemory e → ⊥) → SpellsNoCatalog bytes.now) }
     {
-        if bytes.len() != CATALOG {
+        Catalog::read_padded(alloc, &Padded::plain(bytes))
+    }
+
+    /// The same of bytes whose zeros at the end may be known.
+    pub fn read_padded(alloc: Global, bytes: &Padded<'_>) -> Result<Self, CatError>
+        ensures read { IfOk result (SpellsCatalog bytes.now) }
+        ensures one { (entries : List CatEntry) → SpellsCatalog bytes.now entries
+            → IfOk result (λ catalog. catalog ≡ entries) }
+        ensures bad { IfErr result (RefusesCatalog bytes.now) }
+        ensures outside { IfErr result (λ e. (IsWantOfMemory e → ⊥) → SpellsNoCatalog bytes.now) }
+    {
+        if bytes.as_slice().len() != CATALOG {
             return Err(CatError::BadCatalog { entry: 0 });
         }
         Ok(Catalog {

@@ -26,7 +26,6 @@ ghost use Rattle.mn_hist.specs.Told.{ReaderHasRead, ReaderHasTold};
 ghost use Rattle.mn_hist.specs.Ending.{IsEndingOf, TellsHistory};
 ghost use Rattle.mn_base.specs.History.{store_after};
 ghost use Rattle.mn_base.specs.Store.{applied, Store as Versions};
-ghost use Rattle.mn_mini.specs.Mini.{is_read};
 ghost use Rattle.mn_world.specs.CommitReader.{issued_of};
 ghost use Rattle.mn_world.specs.Commits.{committed_by};
 ghost use Rattle.mn_world.specs.History.{IsHistory, pasts_of};

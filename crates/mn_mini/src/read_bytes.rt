@@ -2,6 +2,7 @@ ghost use Rattle.std.specs.Prelude.{◌≡◌, IfOk};
 
 use crate::{OwnBytes, SharedBytes};
 use mn_base::{NoMemory, TryCopy};
+use mn_padded::Padded;
 use std::alloc::Global;
 use std::marker::Model;
 
@@ -64,6 +65,17 @@ impl ReadBytes {
         match &self.held {
             Held::Own { bytes } => bytes.as_slice(),
             Held::Shared { bytes } => bytes.as_slice(),
+        }
+    }
+
+    /// The bytes, with what is known of zeros at their end: nothing of its own bytes.
+    #[inline(always)]
+    pub fn padded(&self) -> Padded<'_>
+        ensures { result ≡ self.now }
+    {
+        match &self.held {
+            Held::Own { bytes } => Padded::plain(bytes.as_slice()),
+            Held::Shared { bytes } => bytes.padded(),
         }
     }
 

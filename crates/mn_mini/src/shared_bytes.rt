@@ -1,25 +1,77 @@
-ghost use Rattle.std.specs.Prelude.{◌≡◌, ℕ, List, IfOk};
+ghost use Rattle.std.specs.Prelude.{◌≡◌, IfOk};
 
 use mn_base::{NoMemory, TryCopy};
+use mn_padded::{Padded, filled_in};
 use smallvec::SmallVec;
 use std::alloc::Global;
+use std::fmt;
 use std::marker::Model;
 use std::sync::Arc;
 
 /// How many bytes lie beside the count of their owners: an entry of the catalog has 64.
 const BYTES_IN_PLACE: usize = 64;
 
+/// Bytes, and a place from which on they are zeros, found while they are at hand.
+#[derive(Drop)]
+struct Filled {
+    bytes: SmallVec<u8, BYTES_IN_PLACE>,
+    filled: usize,
+}
+
+impl Model for Filled {
+    ghost use Rattle.std.specs.Prelude.{ℕ, List};
+    ghost use Rattle.mn_padded.specs.Zeros.{IsFilled};
+
+    ghost Value = { List ℕ };
+
+    ghost view = { λ f. f.bytes.items };
+
+    ghost invariant = { λ f. IsFilled f.filled f.bytes.items };
+}
+
+impl Filled {
+    fn new(bytes: SmallVec<u8, BYTES_IN_PLACE>) -> Self
+        ensures { result ≡ bytes.items }
+    {
+        let filled = filled_in(bytes.as_slice());
+        Filled { bytes, filled }
+    }
+
+    #[inline(always)]
+    fn as_slice(&self) -> &[u8]
+        ensures { result.now ≡ self.now }
+    {
+        self.bytes.as_slice()
+    }
+
+    #[inline(always)]
+    fn padded(&self) -> Padded<'_>
+        ensures { result ≡ self.now }
+    {
+        Padded::new(self.bytes.as_slice(), self.filled)
+    }
+}
+
+/// Only the bytes are shown.
+impl fmt::Debug for Filled {
+    fn fmt<W: fmt::Write>(&self, f: &mut fmt::Formatter<W>) -> fmt::Result {
+        self.bytes.fmt(f)
+    }
+}
+
 /// Bytes that an item compares or writes, or that a node has read. Copies share one memory.
 /// Contracts see them as a list.
 #[derive(Debug, Drop)]
 pub struct SharedBytes {
-    bytes: Arc<SmallVec<u8, BYTES_IN_PLACE>>,
+    bytes: Arc<Filled>,
 }
 
 impl Model for SharedBytes {
+    ghost use Rattle.std.specs.Prelude.{ℕ, List};
+
     ghost Value = { List ℕ };
 
-    ghost view = { λ b. b.bytes.value.items };
+    ghost view = { λ b. b.bytes.value };
 }
 
 impl SharedBytes {
@@ -32,7 +84,7 @@ impl SharedBytes {
             return SharedBytes::copy_of(alloc, &bytes);
         }
         Ok(SharedBytes {
-            bytes: Arc::new(alloc, SmallVec::from_vec(bytes))?,
+            bytes: Arc::new(alloc, Filled::new(SmallVec::from_vec(bytes)))?,
         })
     }
 
@@ -41,7 +93,7 @@ impl SharedBytes {
         ensures { IfOk result (λ b. b ≡ bytes.now) }
     {
         Ok(SharedBytes {
-            bytes: Arc::new(alloc, SmallVec::from_slice(alloc, bytes)?)?,
+            bytes: Arc::new(alloc, Filled::new(SmallVec::from_slice(alloc, bytes)?))?,
         })
     }
 
@@ -49,6 +101,14 @@ impl SharedBytes {
         ensures { result.now ≡ self.now }
     {
         self.bytes.as_slice()
+    }
+
+    /// The bytes, with a place from which on they are zeros.
+    #[inline(always)]
+    pub fn padded(&self) -> Padded<'_>
+        ensures { result ≡ self.now }
+    {
+        self.bytes.padded()
     }
 }
 

@@ -1,6 +1,6 @@
-ghost use Rattle.std.specs.Prelude.{◌≡◌, ◌≤◌, ◌+◌, length, IfOk, IfSome};
+ghost use Rattle.std.specs.Prelude.{◌≡◌, ◌≤◌, ◌+◌, length, IfOk};
 ghost use Rattle.mn_mini.specs.Mini.{space_size};
-ghost use Rattle.mn_mini.specs.Flat.{bytes_in, overwritten, part_mismatch_from, part_reads};
+ghost use Rattle.mn_mini.specs.Flat.{bytes_in, part_mismatch_from, part_reads};
 ghost use Rattle.mn_mini.specs.Flat.{space_after_part};
 ghost use Rattle.mn_node.specs.Part.{AreInside, IsMismatch, shared_of, alone_of};
 
@@ -62,9 +62,8 @@ pub fn first_mismatch(
     let mut item = 0;
     for compare in items {
         if let PartItem::Compare { start, bytes } = compare {
-            let bytes = bytes.as_slice();
             if !space.holds(*start, bytes) {
-                let found = copy_of(alloc, space, *start, bytes.len())?;
+                let found = copy_of(alloc, space, *start, bytes.as_slice().len())?;
                 return Ok(Some(Mismatch { item, found }));
             }
             item += 1;

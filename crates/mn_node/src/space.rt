@@ -79,8 +79,8 @@ impl Space {
         &self.kept[from..to]
     }
 
-    /// Whether these bytes stand there.
-    pub fn holds(&self, start: u32, bytes: &[u8]) -> bool
+    /// Whether these bytes stand there, by what is kept.
+    fn keeps(&self, start: u32, bytes: &[u8]) -> bool
         requires { start + length bytes.now ≤ length self.now }
         ensures { result ≡ bytes_eq (bytes_in self.now start (length bytes.now)) bytes.now }
     {
@@ -105,6 +105,18 @@ impl Space {
     {
         let block = block_of(start as usize, length)?;
         self.images.at(block)
+    }
+
+    /// Whether these bytes stand there.
+    pub fn holds(&self, start: u32, bytes: &SharedBytes) -> bool
+        requires { start + length bytes.now ≤ length self.now }
+        ensures { result ≡ bytes_eq (bytes_in self.now start (length bytes.now)) bytes.now }
+    {
+        let all = bytes.as_slice();
+        if let Some(image) = self.image_of(start, all.len()) {
+            return image.padded().is_same(&bytes.padded());
+        }
+        self.keeps(start, all)
     }
 
     /// The bytes of a range, for copies to share: a block's image or a copy. NoMemory: there was no

@@ -1,4 +1,4 @@
-ghost use Rattle.std.specs.Prelude.{◌≡◌, ◌≤◌, List, Option, Some, None, length, map, take, IfOk};
+ghost use Rattle.std.specs.Prelude.{◌≡◌, ◌≤◌, Some, None, length, map, IfOk};
 ghost use Rattle.std.specs.Prelude.{IfErr, IfSome, OnErr, IsOkAnd, MatchOption};
 ghost use Rattle.std.specs.Option.{option_map};
 ghost use Rattle.mn_page.specs.declared.page.Page.{Page};
@@ -14,6 +14,7 @@ use crate::page_ref::{BodyRef, ChildRef, Frame, PairRef};
 use crate::page_scan::{is_free, whole_page};
 use crate::{BadPage, Body, Branches, Child, Low, Page, PageError, PageRef};
 use mn_base::{Key, NoMemory, Pair, Pairs, Value};
+use mn_padded::Padded;
 use std::alloc::Global;
 
 /// The key of these bytes.
@@ -122,7 +123,7 @@ fn page_of(alloc: Global, frame: &Frame<'_>, body: &BodyRef<'_>) -> Result<Page,
 /// free slot. BadPage: they are neither's; `at` is how many of the first bytes still begin some
 /// page.
 #[inline(always)]
-fn frame_of<'a>(body: &mut BodyRef<'a>, bytes: &'a [u8]) -> Result<Option<Frame<'a>>, BadPage>
+fn frame_of<'a>(body: &mut BodyRef<'a>, bytes: &Padded<'a>) -> Result<Option<Frame<'a>>, BadPage>
     requires { HasSizes body.old }
     ensures read { IfOk result (λ found. MatchOption found (IsFree bytes.now)
         (λ frame. SpellsPage bytes.now (framed frame body.new))) }
@@ -141,7 +142,7 @@ fn frame_of<'a>(body: &mut BodyRef<'a>, bytes: &'a [u8]) -> Result<Option<Frame<
         return Ok(None);
     }
     Err(BadPage {
-        at: page_fault(bytes),
+        at: page_fault(bytes.as_slice()),
     })
 }
 
@@ -150,6 +151,21 @@ impl<'a> PageRef<'a> {
     /// is how many of the first bytes still begin some page. It takes no memory.
     #[inline(always)]
     pub fn new(bytes: &'a [u8]) -> Result<Option<PageRef<'a>>, BadPage>
+        ensures read { IfOk result (λ found.
+            MatchOption found (IsFree bytes.now) (SpellsPage bytes.now)) }
+        ensures page { (p : Page) → SpellsPage bytes.now p
+            → IsOkAnd result (λ found. found ≡ Some p) }
+        ensures free { IsFree bytes.now → IsOkAnd result (λ found. found ≡ None) }
+        ensures bad { OnErr result (SpellsNoPage bytes.now) }
+        ensures place { IfErr result (λ e. e.at ≤ length bytes.now) }
+        ensures longest { IfErr result (λ e. IsLongest BeginsPage bytes.now e.at) }
+    {
+        PageRef::of_padded(&Padded::plain(bytes))
+    }
+
+    /// The same of bytes whose zeros at the end may be known.
+    #[inline(always)]
+    pub fn of_padded(bytes: &Padded<'a>) -> Result<Option<PageRef<'a>>, BadPage>
         ensures read { IfOk result (λ found.
             MatchOption found (IsFree bytes.now) (SpellsPage bytes.now)) }
         ensures page { (p : Page) → SpellsPage bytes.now p
@@ -179,6 +195,19 @@ impl Page {
     /// The page whose bytes these are, or none for a free slot. BadPage: they are neither's; `at`
     /// is how many of the first bytes still begin some page. NoMemory: there was no memory for it.
     pub fn read(alloc: Global, bytes: &[u8]) -> Result<Option<Page>, PageError>
+        ensures read { IfOk result (λ found.
+            MatchOption found (IsFree bytes.now) (SpellsPage bytes.now)) }
+        ensures page { (p : Page) → SpellsPage bytes.now p → IfOk result (λ found. found ≡ Some p) }
+        ensures free { IsFree bytes.now → IfOk result (λ found. found ≡ None) }
+        ensures bad { IfErr result (λ e. (IsWantOfMemory e → ⊥) → SpellsNoPage bytes.now) }
+        ensures place { IfErr result (IsPlaceWithin (length bytes.now)) }
+        ensures longest { IfErr result (NamesLongest BeginsPage bytes.now) }
+    {
+        Page::read_padded(alloc, &Padded::plain(bytes))
+    }
+
+    /// The same of bytes whose zeros at the end may be known.
+    pub fn read_padded(alloc: Global, bytes: &Padded<'_>) -> Result<Option<Page>, PageError>
         ensures read { IfOk result (λ found.
             MatchOption found (IsFree bytes.now) (SpellsPage bytes.now)) }
         ensures page { (p : Page) → SpellsPage bytes.now p → IfOk result (λ found. found ≡ Some p) }

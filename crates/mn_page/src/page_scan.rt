@@ -1,9 +1,7 @@
-ghost use Rattle.std.specs.Prelude.{◌≡◌, ◌++◌, ℕ, List, Option, Some, None, length};
-ghost use Rattle.std.specs.Prelude.{replicate, IfOk, OnErr, IfSome, IsOkAnd, IsSomeAnd};
-ghost use Rattle.std.specs.Prelude.{MatchOption, IsTrue, ◌↔◌};
+ghost use Rattle.std.specs.Prelude.{◌≡◌, ◌++◌, ◌↔◌, ℕ, List, Option, IfSome, IsSomeAnd, IsTrue};
 ghost use Rattle.std.specs.Option.{option_map};
 ghost use Rattle.mn_page.specs.declared.page.Page.{Page};
-ghost use Rattle.mn_page.specs.Grammar.{IsPage, IsFree, SpellsPage, SpellsNoPage};
+ghost use Rattle.mn_page.specs.Grammar.{IsPage, IsFree, SpellsPage};
 ghost use Rattle.mn_page.specs.Reading.{Begins, AreFences, fences_text, page_text};
 ghost use Rattle.mn_page.specs.Reading.{HasCounted, HasSizes, framed};
 
@@ -11,7 +9,7 @@ use crate::body_scan::first_body;
 use crate::fault::SLOT;
 use crate::page_ref::{BodyRef, Frame};
 use crate::scan::{first_counted, first_head, first_high, is_below};
-use mn_base::are_zeros;
+use mn_padded::Padded;
 
 /// The fences, and what follows them.
 #[inline(always)]
@@ -51,26 +49,27 @@ fn first_page<'a>(body: &mut BodyRef<'a>, bytes: &'a [u8]) -> Option<(Frame<'a>,
 
 /// Reads the page that the bytes are, all of them. It gives what stands in front of the body.
 #[inline(always)]
-pub fn whole_page<'a>(body: &mut BodyRef<'a>, bytes: &'a [u8]) -> Option<Frame<'a>>
+pub fn whole_page<'a>(body: &mut BodyRef<'a>, bytes: &Padded<'a>) -> Option<Frame<'a>>
     requires { HasSizes body.old }
     ensures found { IfSome result (λ x. SpellsPage bytes.now (framed x body.new)) }
     ensures room { IfSome result (λ x. HasCounted body.new) }
     ensures only { (p : Page) → SpellsPage bytes.now p
         → IsSomeAnd result (λ x. framed x body.new ≡ p) }
 {
-    if bytes.len() != SLOT {
+    let all = bytes.as_slice();
+    if all.len() != SLOT {
         return None;
     }
-    let (frame, rest) = first_page(body, bytes)?;
-    if !are_zeros(rest) {
+    let (frame, rest) = first_page(body, all)?;
+    if !bytes.are_zeros_from(SLOT - rest.len()) {
         return None;
     }
     Some(frame)
 }
 
 /// Whether the bytes are those of a free slot.
-pub fn is_free(bytes: &[u8]) -> bool
+pub fn is_free(bytes: &Padded<'_>) -> bool
     ensures { IsTrue result ↔ IsFree bytes.now }
 {
-    bytes.len() == SLOT && are_zeros(bytes)
+    bytes.as_slice().len() == SLOT && bytes.are_zeros_from(0)
 }

@@ -4,7 +4,7 @@ use Rattle.mn_page.specs.declared.page.Page.{Page}
 use Rattle.mn_page.specs.declared.page_ref.Frame.{Frame}
 use Rattle.mn_page.specs.Grammar.{IsFree, SpellsPage}
 use Rattle.mn_page.specs.Reading.{framed}
-use Rattle.mn_page.proofs.page.Page.read.Goals as goal
+use Rattle.mn_page.proofs.page.Page.read_padded.Goals as goal
 
 pub returns-in_ok-page_of-in-Some-clause-read : goal.returns-in_ok-page_of-in-Some-clause-read
 returns-in_ok-page_of-in-Some-clause-read c =
