@@ -15,7 +15,7 @@ use Rattle.mn_mini.specs.RecordGrammar.{IsRecord}
 use Rattle.mn_base.specs.declared.gate.StopAt.{StopAt}
 use Rattle.mn_base.proofs.Lists.{all_append}
 use Rattle.mn_io.specs.DiskModel.{DiskState}
-use Rattle.mn_redo.specs.Redo.{RedoState}
+use Rattle.mn_redo.specs.Appender.{AppenderState}
 use Rattle.mn_mini.specs.declared.reply.NodeReply.{NodeReply}
 use Rattle.mn_mini.specs.declared.reply.NodeReply.TheVariants as Say
 use Rattle.mn_node.specs.declared.memory.Memory.{Memory}
@@ -81,7 +81,7 @@ left_sound records r p is = all_append IsRecord records (r ∷ []) p (is, tt)
 true_is : true ≡ false → ⊥
 true_is e = cc
 
-is_node : {D : Type 0} (state : D → DiskState) (faults : D → ℕ) (redo new : RedoState D) (m after : Memory) (down : Bool) (pending : Option Record) → IsNode state redo m down pending → down ≡ false → LogKeepsDisk state faults redo new → KeepsNodeNumbers m after
+is_node : {D : Type 0} (state : D → DiskState) (faults : D → ℕ) (redo new : AppenderState D) (m after : Memory) (down : Bool) (pending : Option Record) → IsNode state redo m down pending → down ≡ false → LogKeepsDisk state faults redo new → KeepsNodeNumbers m after
     → IsNodeUp state new after → PartsAreApart (held_parts (reverse after.records.items)) → IsNode state new after down pending
 is_node state faults redo new m after down pending was up goes same is apart =
     let none = was.settled up in record {
@@ -97,12 +97,12 @@ is_node state faults redo new m after down pending was up goes same is apart =
       some = subst (λ (n : ℕ). 0 < n) (sym goes.nodes) was.some;
     }
 
-apart_full : {D : Type 0} (state : D → DiskState) (new : RedoState D) (m after : Memory) (request : Request) (stop : Option StopAt) (reply : NodeReply) → HeldPartsStayApart → PartsAreApart (held_parts (reverse m.records.items))
+apart_full : {D : Type 0} (state : D → DiskState) (new : AppenderState D) (m after : Memory) (request : Request) (stop : Option StopAt) (reply : NodeReply) → HeldPartsStayApart → PartsAreApart (held_parts (reverse m.records.items))
     → IsNodeUp state new after × ((node_answer m request).reply ≡ reply) × (after.records.items ≡ added_to m.records.items (node_answer m request).added) × NoStopIsDue stop (node_answer m request).added
     → IsNodeUp state new after × PartsAreApart (held_parts (reverse after.records.items))
 apart_full state new m after request stop reply law apart told = (told.0, subst (λ (l : List Record). PartsAreApart (held_parts (reverse l))) (sym told.2) (apart_after law (base_of m.nodes m.node) m.records.items request apart))
 
-up_apart : {D : Type 0} (state : D → DiskState) (new : RedoState D) (m after : Memory) (request : Request) (stop : Option StopAt) (reply : NodeReply) → HeldPartsStayApart → PartsAreApart (held_parts (reverse m.records.items))
+up_apart : {D : Type 0} (state : D → DiskState) (new : AppenderState D) (m after : Memory) (request : Request) (stop : Option StopAt) (reply : NodeReply) → HeldPartsStayApart → PartsAreApart (held_parts (reverse m.records.items))
     → Replies state m request stop reply new after → IsNodeUp state new after × PartsAreApart (held_parts (reverse after.records.items))
 up_apart state new m after request stop Say.NoMemory law apart told = (told.0, subst (λ (l : List Record). PartsAreApart (held_parts (reverse l))) (sym told.1) apart)
 up_apart state new m after request stop Say.Stopped law apart told = absurd told
@@ -116,12 +116,12 @@ up_apart state new m after request stop Say.Decided law apart told = apart_full 
 up_apart state new m after request stop (Say.Listed doubts) law apart told = apart_full state new m after request stop (Say.Listed doubts) law apart told
 up_apart state new m after request stop (Say.Peeked bytes) law apart told = apart_full state new m after request stop (Say.Peeked bytes) law apart told
 
-pub node_replied : {D : Type 0} (state : D → DiskState) (faults : D → ℕ) (redo new : RedoState D) (m after : Memory) (down : Bool) (pending : Option Record) (request : Request) (stop : Option StopAt) (reply : NodeReply) → HeldPartsStayApart
+pub node_replied : {D : Type 0} (state : D → DiskState) (faults : D → ℕ) (redo new : AppenderState D) (m after : Memory) (down : Bool) (pending : Option Record) (request : Request) (stop : Option StopAt) (reply : NodeReply) → HeldPartsStayApart
     → IsNode state redo m down pending → down ≡ false → LogKeepsDisk state faults redo new → KeepsNodeNumbers m after → Replies state m request stop reply new after → IsNode state new after down pending
 node_replied state faults redo new m after down pending request stop reply law was up goes same told =
     let both = up_apart state new m after request stop reply law was.apart told in is_node state faults redo new m after down pending was up goes same both.0 both.1
 
-pub node_stopped : {D : Type 0} (state : D → DiskState) (faults : D → ℕ) (redo new : RedoState D) (m after : Memory) (down : Bool) (pending : Option Record) (request : Request) (stop : Option StopAt) (left : Record) → HeldPartsStayApart → IsSoundRequest request
+pub node_stopped : {D : Type 0} (state : D → DiskState) (faults : D → ℕ) (redo new : AppenderState D) (m after : Memory) (down : Bool) (pending : Option Record) (request : Request) (stop : Option StopAt) (left : Record) → HeldPartsStayApart → IsSoundRequest request
     → IsNode state redo m down pending → LogKeepsDisk state faults redo new → KeepsNodeNumbers m after
     → (after.records.items ≡ m.records.items) × ((node_answer m request).added ≡ Some left) × HasStopped state faults redo.disk new.disk redo.node redo.nodes m.records.items left stop → IsNode state new after true (Some left)
 node_stopped state faults redo new m after down pending request stop left law sound was goes same told =

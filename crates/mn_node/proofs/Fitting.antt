@@ -2,7 +2,7 @@
 use Rattle.std.proofs.Common.{◌≡◌, ℕ, List, length, reverse, Option, Some, ap, sym, ◌∙◌, subst}
 use Rattle.mn_base.specs.declared.gate.StopAt.{StopAt}
 use Rattle.mn_io.specs.DiskModel.{DiskState}
-use Rattle.mn_redo.specs.Redo.{RedoState}
+use Rattle.mn_redo.specs.Appender.{AppenderState}
 use Rattle.mn_mini.specs.declared.record.Record.{Record}
 use Rattle.mn_mini.specs.declared.request.Request.{Request}
 use Rattle.mn_mini.specs.declared.request.Request.TheVariants as Ask
@@ -28,7 +28,7 @@ answer_fits m request law keeps memory sound =
     let records = reverse m.records.items in
     law base records request (sym (keeps base records) ∙ sym (ap (λ (l : List ℕ). length l) memory.space_is) ∙ memory.size) (all-reverse IsRecord m.records.items memory.sound) sound
 
-pub reply_fits : {D : Type 0} (state : D → DiskState) (m after : Memory) (request : Request) (stop : Option StopAt) (reply : NodeReply) (new : RedoState D) → AnswersFit → KeepsSize → IsMemory m → IsSoundRequest request
+pub reply_fits : {D : Type 0} (state : D → DiskState) (m after : Memory) (request : Request) (stop : Option StopAt) (reply : NodeReply) (new : AppenderState D) → AnswersFit → KeepsSize → IsMemory m → IsSoundRequest request
     → Replies state m request stop reply new after → Fits request reply
 reply_fits state m after request stop Say.NoMemory new law keeps memory sound told = tt
 reply_fits state m after request stop Say.Stopped new law keeps memory sound told = absurd told

@@ -1,16 +1,16 @@
 -- What a crash leaves at the moments of a call.
-use Rattle.std.proofs.Common.{◌≡◌, ◌++◌, ◌∷◌, [], ◌∙◌, inl, inr, ⊎_elim, ℕ, Bool, List, Option, Some, None, true, false, refl, ap, sym, subst, arith}
+use Rattle.std.proofs.Common.{◌≡◌, ◌≢◌, ◌++◌, ◌∷◌, [], ◌∙◌, inl, inr, ⊎_elim, ℕ, Bool, List, Option, Some, None, true, false, refl, ap, sym, subst, arith}
 use Rattle.mn_io.specs.DiskModel.{DiskState, IsDisk, LeavesOnly, NoneNew, DiskStays, WritesNothing}
 use Rattle.mn_io.proofs.Moments.{LeavesOnly-trans, LeavesOnly-weaker}
 use Rattle.mn_redo.specs.Grammar.{IsBeforeOrAfter, Stands}
-use Rattle.mn_redo.specs.Redo.{RedoState}
+use Rattle.mn_redo.specs.Appender.{AppenderState}
 use Rattle.mn_mini.specs.declared.record.Record.{Record}
 use Rattle.mn_mini.specs.RecordGrammar.{record_bytes}
 use Rattle.mn_node.specs.declared.memory.Memory.{Memory}
 use Rattle.mn_mini.specs.declared.request.Request.{Request}
 use Rattle.mn_mini.specs.Node.{Response}
 use Rattle.mn_node.specs.Node.{LogKeepsDisk, IsNodeUp, IsWithOrWithout, CrashLeavesOnly, DiskStaysIfHonest, StandsWithOrWithout, bodies_of, node_answer}
-use Rattle.mn_node.specs.Restart.{AreBodiesWithOrWithout}
+use Rattle.mn_node.specs.Restart.{AreBodiesWithOrWithout, records_found}
 use Rattle.mn_node.specs.State.{response_to}
 use Rattle.mn_node.proofs.Replies.{same_answer, node_seen, up_stands}
 use Rattle.mn_node.proofs.Steps.{one_body_more}
@@ -43,14 +43,14 @@ at_then state old mid new P goes (inl e) second = subst (λ (d : _). CrashLeaves
 at_then state old mid new P goes (inr first) (inl e) = inr (λ h. subst (λ (d : _). LeavesOnly (state old) (state d) P) (sym e) (first h))
 at_then state old mid new P goes (inr first) (inr second) = inr (λ h. LeavesOnly-trans (state old) (state mid) (state new) P (first h) (second (goes h)))
 
-pub up_images : {D : Type 0} (state : D → DiskState) (redo : RedoState D) (m : Memory) (added : Option Record) → IsNodeUp state redo m → (state redo.disk).honest → (c : List ℕ) → (state redo.disk).images c → IsWithOrWithout redo.node redo.nodes m.records.items added c
+pub up_images : {D : Type 0} (state : D → DiskState) (redo : AppenderState D) (m : Memory) (added : Option Record) → IsNodeUp state redo m → (state redo.disk).honest → (c : List ℕ) → (state redo.disk).images c → IsWithOrWithout redo.node redo.nodes m.records.items added c
 up_images state redo m added up h c image = inl (up_stands state redo m up h c image)
 
-pub with_record : (node nodes : ℕ) (bodies : List (List ℕ)) (body : List ℕ) (records : List Record) (r : Record) → bodies ≡ bodies_of records → body ≡ record_bytes r → (c : List ℕ) → IsBeforeOrAfter node nodes bodies body c
+pub with_record : (node nodes : ℕ) (body : List ℕ) (records : List Record) (r : Record) → body ≡ record_bytes r → (c : List ℕ) → IsBeforeOrAfter node nodes (bodies_of records) body c
     → IsWithOrWithout node nodes records (Some r) c
-with_record node nodes bodies body records r e f c (inl before) = inl (subst (λ (l : List (List ℕ)). Stands node nodes c l) e before)
-with_record node nodes bodies body records r e f c (inr after) =
-    let same : bodies ++ body ∷ [] ≡ bodies_of (records ++ r ∷ []) = ap (λ (l : List (List ℕ)). l ++ body ∷ []) e ∙ ap (λ (b : List ℕ). bodies_of records ++ b ∷ []) f ∙ one_body_more records r in
+with_record node nodes body records r e c (inl before) = inl before
+with_record node nodes body records r e c (inr after) =
+    let same : bodies_of records ++ body ∷ [] ≡ bodies_of (records ++ r ∷ []) = ap (λ (b : List ℕ). bodies_of records ++ b ∷ []) e ∙ one_body_more records r in
     inr (subst (λ (l : List (List ℕ)). Stands node nodes c l) same after)
 
 -- of a node that is the same, the same list
@@ -66,14 +66,14 @@ moved node node2 nodes nodes2 records records2 added e f g c told =
     subst (λ (l : List Record). IsWithOrWithout node2 nodes2 l added c) g with_nodes
 
 -- a record is put into the log, after room was made
-pub logging_moments : {D : Type 0} (state : D → DiskState) (faults : D → ℕ) (old mid : RedoState D) (new : D) (m middle : Memory) (r : Record) (body : List ℕ) → ((state old.disk).honest → IsDisk (state old.disk)) → IsNodeUp state old m → IsNodeUp state mid middle
-    → LogKeepsDisk state faults old mid → middle.records.items ≡ m.records.items → body ≡ record_bytes r → DiskStaysIfHonest state old.disk mid.disk → CrashLeavesOnly state mid.disk new (IsBeforeOrAfter mid.node mid.nodes mid.bodies body)
+pub logging_moments : {D : Type 0} (state : D → DiskState) (faults : D → ℕ) (old mid : AppenderState D) (new : D) (m middle : Memory) (r : Record) (body : List ℕ) → ((state old.disk).honest → IsDisk (state old.disk)) → IsNodeUp state old m
+    → LogKeepsDisk state faults old mid → middle.records.items ≡ m.records.items → body ≡ record_bytes r → DiskStaysIfHonest state old.disk mid.disk → CrashLeavesOnly state mid.disk new (IsBeforeOrAfter mid.node mid.nodes (bodies_of middle.records.items) body)
     → CrashLeavesOnly state old.disk new (IsWithOrWithout old.node old.nodes m.records.items (Some r))
-logging_moments state faults old mid new m middle r body is_disk up still goes same spelled rests put =
+logging_moments state faults old mid new m middle r body is_disk up goes same spelled rests put =
     let P = IsWithOrWithout old.node old.nodes m.records.items (Some r) in
     let first = crash_leaves_at_rest state old.disk mid.disk P is_disk (up_images state old m (Some r) up) rests in
-    let second = crash_leaves_weaker state mid.disk new (IsBeforeOrAfter mid.node mid.nodes mid.bodies body) P
-    (λ c told. moved mid.node old.node mid.nodes old.nodes middle.records.items m.records.items (Some r) goes.node goes.nodes same c (with_record mid.node mid.nodes mid.bodies body middle.records.items r still.bodies spelled c told)) put in
+    let second = crash_leaves_weaker state mid.disk new (IsBeforeOrAfter mid.node mid.nodes (bodies_of middle.records.items) body) P
+    (λ c told. moved mid.node old.node mid.nodes old.nodes middle.records.items m.records.items (Some r) goes.node goes.nodes same c (with_record mid.node mid.nodes body middle.records.items r spelled c told)) put in
     at_then state old.disk mid.disk new P goes.honest first second
 
 pub at_only : {D : Type 0} (state : D → DiskState) (old new : D) (P : List ℕ → Type 0) → (state old).honest → IsDisk (state old) → ((c : List ℕ) → (state old).images c → P c) → CrashLeavesOnly state old new P → LeavesOnly (state old) (state new) P
@@ -81,7 +81,7 @@ at_only state old new P h is_disk all (inl e) = subst (λ (d : _). LeavesOnly (s
 at_only state old new P h is_disk all (inr told) = told h
 
 -- a request to a node that is up
-pub request_moments : {D : Type 0} (state : D → DiskState) (redo new : RedoState D) (m : Memory) (down : Bool) (pending : Option Record) (request : Request) → IsNodeUp state redo m → m.node ≡ redo.node → m.nodes ≡ redo.nodes
+pub request_moments : {D : Type 0} (state : D → DiskState) (redo new : AppenderState D) (m : Memory) (down : Bool) (pending : Option Record) (request : Request) → IsNodeUp state redo m → m.node ≡ redo.node → m.nodes ≡ redo.nodes
     → ((state redo.disk).honest → IsDisk (state redo.disk)) → CrashLeavesOnly state redo.disk new.disk (IsWithOrWithout redo.node redo.nodes m.records.items (node_answer m request).added)
     → (state redo.disk).honest → LeavesOnly (state redo.disk) (state new.disk) (IsWithOrWithout redo.node redo.nodes m.records.items (response_to (node_seen redo m down pending) request).added)
 request_moments state redo new m down pending request up e f is_disk told h =
@@ -91,23 +91,35 @@ request_moments state redo new m down pending request up e f is_disk told h =
 
 -- Starts and restarts
 
-pub listed_stands : (node nodes : ℕ) (bodies : List (List ℕ)) (records : List Record) (pending : Option Record) (there : Bool) → AreBodiesWithOrWithout bodies records pending there → (c : List ℕ) → Stands node nodes c bodies → IsWithOrWithout node nodes records pending c
-listed_stands node nodes bodies records pending false e c told = inl (subst (λ (l : List (List ℕ)). Stands node nodes c l) e told)
-listed_stands node nodes bodies records None true e c told = absurd e
-listed_stands node nodes bodies records (Some r) true e c told = inr (subst (λ (l : List (List ℕ)). Stands node nodes c l) e told)
+pub found_bodies : (bodies : List (List ℕ)) (records : List Record) (pending : Option Record) (there : Bool) → AreBodiesWithOrWithout bodies records pending there → bodies ≡ bodies_of (records_found records pending there)
+found_bodies bodies records None false e = e
+found_bodies bodies records (Some r) false e = e
+found_bodies bodies records None true e = absurd e
+found_bodies bodies records (Some r) true e = e
 
-pub reopened : {D : Type 0} (state : D → DiskState) (old : RedoState D) (mid : D) (records : List Record) (pending : Option Record) → StandsWithOrWithout (state old.disk) old.node old.nodes records pending → LeavesOnly (state old.disk) (state mid) (state old.disk).images
+pub found_pending : (bodies : List (List ℕ)) (records : List Record) (pending : Option Record) (there : Bool) → AreBodiesWithOrWithout bodies records pending there → there ≡ true → pending ≢ None
+found_pending bodies records (Some r) there e is = λ none. absurd cc
+found_pending bodies records None true e is = absurd e
+found_pending bodies records None false e is = absurd cc
+
+pub found_stands : (node nodes : ℕ) (records : List Record) (pending : Option Record) (there : Bool) → (c : List ℕ) → Stands node nodes c (bodies_of (records_found records pending there)) → IsWithOrWithout node nodes records pending c
+found_stands node nodes records None there c told = inl told
+found_stands node nodes records (Some r) false c told = inl told
+found_stands node nodes records (Some r) true c told = inr told
+
+pub reopened : {D : Type 0} (state : D → DiskState) (old : AppenderState D) (mid : D) (records : List Record) (pending : Option Record) → StandsWithOrWithout (state old.disk) old.node old.nodes records pending → LeavesOnly (state old.disk) (state mid) (state old.disk).images
     → LeavesOnly (state old.disk) (state mid) (IsWithOrWithout old.node old.nodes records pending)
 reopened state old mid records pending stands told = LeavesOnly-weaker (state old.disk) (state mid) (state old.disk).images (IsWithOrWithout old.node old.nodes records pending) stands told
 
-pub woken : {D : Type 0} (state : D → DiskState) (old mid : RedoState D) (new : D) (records : List Record) (pending : Option Record) (there : Bool) → mid.node ≡ old.node → mid.nodes ≡ old.nodes → AreBodiesWithOrWithout mid.bodies records pending there
-    → StandsWithOrWithout (state old.disk) old.node old.nodes records pending → LeavesOnly (state old.disk) (state mid.disk) (state old.disk).images → LeavesOnly (state mid.disk) (state new) (λ c. Stands mid.node mid.nodes c mid.bodies)
+pub woken : {D : Type 0} (state : D → DiskState) (old mid : AppenderState D) (new : D) (records : List Record) (pending : Option Record) (there : Bool) → mid.node ≡ old.node → mid.nodes ≡ old.nodes
+    → StandsWithOrWithout (state old.disk) old.node old.nodes records pending → LeavesOnly (state old.disk) (state mid.disk) (state old.disk).images
+    → LeavesOnly (state mid.disk) (state new) (λ c. Stands mid.node mid.nodes c (bodies_of (records_found records pending there)))
     → LeavesOnly (state old.disk) (state new) (IsWithOrWithout old.node old.nodes records pending)
-woken state old mid new records pending there e f listed stands first second =
+woken state old mid new records pending there e f stands first second =
     let P = IsWithOrWithout old.node old.nodes records pending in
     LeavesOnly-trans (state old.disk) (state mid.disk) (state new) P (reopened state old mid.disk records pending stands first)
-    (LeavesOnly-weaker (state mid.disk) (state new) (λ c. Stands mid.node mid.nodes c mid.bodies) P
-    (λ c told. moved mid.node old.node mid.nodes old.nodes records records pending e f refl c (listed_stands mid.node mid.nodes mid.bodies records pending there listed c told)) second)
+    (LeavesOnly-weaker (state mid.disk) (state new) (λ c. Stands mid.node mid.nodes c (bodies_of (records_found records pending there))) P
+    (λ c told. moved mid.node old.node mid.nodes old.nodes records records pending e f refl c (found_stands mid.node mid.nodes records pending there c told)) second)
 
 -- where nothing was written, and then nothing has changed
 pub writes_nothing : (old mid new : DiskState) → IsDisk mid → WritesNothing old mid → NoneNew old mid → DiskStays mid new

@@ -4,7 +4,7 @@ use Rattle.std.proofs.lemmas.List.{take_more, map-append}
 use Rattle.mn_base.specs.declared.gate.StopAt.{StopAt}
 use Rattle.mn_base.proofs.Lists.{all_append}
 use Rattle.mn_io.specs.DiskModel.{DiskState}
-use Rattle.mn_redo.specs.Redo.{RedoState, StandsFor}
+use Rattle.mn_redo.specs.Appender.{AppenderState}
 use Rattle.mn_mini.specs.declared.record.Record.{Record}
 use Rattle.mn_mini.specs.declared.request.Request.{Request}
 use Rattle.mn_mini.specs.declared.reply.NodeReply.{NodeReply}
@@ -16,13 +16,13 @@ use Rattle.mn_page.specs.Base.{base_of}
 use Rattle.mn_node.specs.Node.{IsNodeUp, NoStopIsDue, Replies, bodies_of, added_to, node_answer}
 use Rattle.mn_node.specs.State.{NodeState, Answers, AreRecords, StandsForRecords, response_to}
 
-abbrev pub node_seen : {D : Type 0} → RedoState D → Memory → Bool → Option Record → NodeState D
+abbrev pub node_seen : {D : Type 0} → AppenderState D → Memory → Bool → Option Record → NodeState D
 node_seen redo m down pending = record { disk = redo.disk; node = redo.node; nodes = redo.nodes; records = m.records.items; down = down; pending = pending }
 
-pub up_stands : {D : Type 0} (state : D → DiskState) (redo : RedoState D) (m : Memory) → IsNodeUp state redo m → StandsForRecords (state redo.disk) redo.node redo.nodes m.records.items
-up_stands state redo m up = λ h. subst (λ (l : List (List ℕ)). StandsFor (state redo.disk) redo.node redo.nodes l) up.bodies (up.stands h)
+pub up_stands : {D : Type 0} (state : D → DiskState) (redo : AppenderState D) (m : Memory) → IsNodeUp state redo m → StandsForRecords (state redo.disk) redo.node redo.nodes m.records.items
+up_stands state redo m up = up.log.stands
 
-pub same_answer : {D : Type 0} (redo : RedoState D) (m : Memory) (down : Bool) (pending : Option Record) (request : Request) → m.node ≡ redo.node → m.nodes ≡ redo.nodes
+pub same_answer : {D : Type 0} (redo : AppenderState D) (m : Memory) (down : Bool) (pending : Option Record) (request : Request) → m.node ≡ redo.node → m.nodes ≡ redo.nodes
     → node_answer m request ≡ response_to (node_seen redo m down pending) request
 same_answer redo m down pending request e f =
     ap (λ (n : ℕ). answer (base_of m.nodes n) (reverse m.records.items) request) e ∙ ap (λ (n : ℕ). answer (base_of n redo.node) (reverse m.records.items) request) f
@@ -33,7 +33,7 @@ IsWholeAnswer state old request stop reply new =
     (old.down ≡ false) × (new.down ≡ false) × ((response_to old request).reply ≡ reply) × (new.records ≡ added_to old.records (response_to old request).added)
     × NoStopIsDue stop (response_to old request).added × StandsForRecords (state new.disk) new.node new.nodes new.records
 
-whole : {D : Type 0} (state : D → DiskState) (redo new : RedoState D) (m after : Memory) (down : Bool) (pending : Option Record) (request : Request) (stop : Option StopAt) (reply : NodeReply)
+whole : {D : Type 0} (state : D → DiskState) (redo new : AppenderState D) (m after : Memory) (down : Bool) (pending : Option Record) (request : Request) (stop : Option StopAt) (reply : NodeReply)
     → down ≡ false → m.node ≡ redo.node → m.nodes ≡ redo.nodes
     → IsNodeUp state new after × ((node_answer m request).reply ≡ reply) × (after.records.items ≡ added_to m.records.items (node_answer m request).added) × NoStopIsDue stop (node_answer m request).added
     → IsWholeAnswer state (node_seen redo m down pending) request stop reply (node_seen new after down pending)
@@ -47,7 +47,7 @@ whole state redo new m after down pending request stop reply up e f told =
       up_stands state new after told.0,
     )
 
-pub replied : {D : Type 0} (state : D → DiskState) (faults : D → ℕ) (redo new : RedoState D) (m after : Memory) (down : Bool) (pending : Option Record) (request : Request) (stop : Option StopAt) (reply : NodeReply)
+pub replied : {D : Type 0} (state : D → DiskState) (faults : D → ℕ) (redo new : AppenderState D) (m after : Memory) (down : Bool) (pending : Option Record) (request : Request) (stop : Option StopAt) (reply : NodeReply)
     → down ≡ false → m.node ≡ redo.node → m.nodes ≡ redo.nodes → Replies state m request stop reply new after → Answers state faults (node_seen redo m down pending) request stop reply (node_seen new after down pending)
 replied state faults redo new m after down pending request stop Say.NoMemory up e f told = (up, up, told.1, up_stands state new after told.0)
 replied state faults redo new m after down pending request stop Say.Stopped up e f told = absurd told

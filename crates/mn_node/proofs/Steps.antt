@@ -13,50 +13,44 @@ use Rattle.mn_mini.specs.declared.reply.NodeReply.TheVariants as Say
 use Rattle.mn_mini.specs.Node.{Response, only_reply, answer, has_voted, has_forced}
 use Rattle.mn_base.specs.declared.gate.StopAt.{StopAt}
 use Rattle.mn_base.specs.declared.gate.StopAt.TheVariants.{Before, Half, After}
-use Rattle.mn_node.specs.Node.{StandsWithOrWithout, StopLeaves, HasStopped, LogKeepsDisk, NoStopIsDue, IsLogged, HasOneBodyMore, DiskStaysIfHonest, added_to}
+use Rattle.mn_node.specs.Node.{StandsWithOrWithout, StopLeaves, HasStopped, LogKeepsDisk, NoStopIsDue, IsLogged, DiskStaysIfHonest, added_to}
 use Rattle.mn_node.proofs.Resting.{rests_then}
 use Rattle.std.proofs.lemmas.List.{map-append}
 use Rattle.mn_io.specs.DiskModel.{DiskState, IsDisk}
 use Rattle.mn_redo.specs.Grammar.{Stands}
-use Rattle.mn_redo.specs.Redo.{RedoState, StandsFor}
+use Rattle.mn_redo.specs.Appender.{AppenderState, IsLogOf}
+use Rattle.mn_redo.specs.Redo.{StandsFor}
 use Rattle.mn_redo.specs.declared.redo.Phase.TheVariants.{Started}
 use Rattle.mn_mini.specs.declared.record.Record.{Record}
 use Rattle.mn_mini.specs.RecordGrammar.{record_bytes}
 use Rattle.mn_node.specs.declared.memory.Memory.{Memory}
 use Rattle.mn_node.specs.Memory.{IsMemory, HasDecisionRoom}
-use Rattle.mn_node.specs.Node.{IsNodeUp, bodies_of}
+use Rattle.mn_node.specs.Node.{IsLogFor, IsNodeUp, bodies_of}
 
 pub one_body_more : (records : List Record) (r : Record) → bodies_of records ++ record_bytes r ∷ [] ≡ bodies_of (records ++ r ∷ [])
 one_body_more records r = sym (map-append record_bytes records (r ∷ []))
 
-pub up_added : {D : Type 0} (state : D → DiskState) (old new : RedoState D) (before after : Memory) (r : Record)
-    → IsNodeUp state old before → new.phase ≡ Started → new.bodies ≡ old.bodies ++ record_bytes r ∷ [] → new.node ≡ old.node → new.nodes ≡ old.nodes
-    → ((state old.disk).honest → StandsFor (state new.disk) old.node old.nodes (old.bodies ++ record_bytes r ∷ []))
-    → ((state new.disk).honest → (state old.disk).honest)
+pub up_added : {D : Type 0} (state : D → DiskState) (new : AppenderState D) (before after : Memory) (r : Record) → new.phase ≡ Started → IsLogFor state new (bodies_of before.records.items ++ record_bytes r ∷ [])
     → IsMemory after → HasDecisionRoom after → after.records.items ≡ before.records.items ++ r ∷ []
     → vec_len after.held ≤ new.spare_bodies → 11 * vec_len after.held ≤ new.spare_bytes → IsNodeUp state new after
-up_added state old new before after r up started bodies node nodes stands better memory room records spare_bodies spare_bytes = record {
+up_added state new before after r started log memory room records spare_bodies spare_bytes = record {
   memory = memory;
   room = room;
   started = started;
-  bodies = bodies ∙ ap (λ (l : List (List ℕ)). l ++ record_bytes r ∷ []) up.bodies ∙ one_body_more before.records.items r ∙ ap bodies_of (sym records);
+  log = subst (IsLogFor state new) (one_body_more before.records.items r ∙ ap bodies_of (sym records)) log;
   spare_bodies = spare_bodies;
   spare_bytes = spare_bytes;
-  stands = λ h c image.
-      let told : Stands old.node old.nodes c (old.bodies ++ record_bytes r ∷ []) = stands (better h) c image in
-      let with_node = subst (λ (n : ℕ). Stands n old.nodes c (old.bodies ++ record_bytes r ∷ [])) (sym node) told in
-      let with_nodes = subst (λ (n : ℕ). Stands new.node n c (old.bodies ++ record_bytes r ∷ [])) (sym nodes) with_node in
-      subst (λ (l : List (List ℕ)). Stands new.node new.nodes c l) (sym bodies) with_nodes;
 }
 
--- a log that has one more body stands for its bodies
-pub appended_stands : {D : Type 0} (state : D → DiskState) (old new : RedoState D) (body : List ℕ) → HasOneBodyMore state old new body → new.node ≡ old.node → new.nodes ≡ old.nodes → ((state new.disk).honest → (state old.disk).honest)
-    → (state new.disk).honest → StandsFor (state new.disk) new.node new.nodes new.bodies
-appended_stands state old new body put node nodes better h c image =
-    let told : Stands old.node old.nodes c (old.bodies ++ body ∷ []) = put.stands (better h) c image in
-    let with_node = subst (λ (n : ℕ). Stands n old.nodes c (old.bodies ++ body ∷ [])) (sym node) told in
-    let with_nodes = subst (λ (n : ℕ). Stands new.node n c (old.bodies ++ body ∷ [])) (sym nodes) with_node in
-    subst (λ (l : List (List ℕ)). Stands new.node new.nodes c l) (sym put.bodies) with_nodes
+-- a log of the same node that stands for its bodies
+pub log_for : {D : Type 0} (state : D → DiskState) (old new : AppenderState D) (bodies : List (List ℕ)) → IsLogOf state new bodies → new.node ≡ old.node → new.nodes ≡ old.nodes
+    → ((state new.disk).honest → StandsFor (state new.disk) old.node old.nodes bodies) → IsLogFor state new bodies
+log_for state old new bodies log node nodes stands = record {
+  log = log;
+  stands = λ h c image.
+      let with_node = subst (λ (n : ℕ). Stands n old.nodes c bodies) (sym node) (stands h c image) in
+      subst (λ (n : ℕ). Stands new.node n c bodies) (sym nodes) with_node;
+}
 
 -- What a call told, by its result
 
@@ -65,16 +59,15 @@ on_ok (Ok x) P e p = p
 on_ok (Err x) P e p = absurd (false≢true (sym e))
 
 -- a node that stopped while its record was written
-pub stopped : {D : Type 0} (state : D → DiskState) (old new : RedoState D) (records : List Record) (r : Record) (added : Option Record) (body : List ℕ)
-    → old.bodies ≡ bodies_of records → body ≡ record_bytes r → added ≡ Some r
-    → ((c : List ℕ) → (state new.disk).images c → IsBeforeOrAfter old.node old.nodes old.bodies body c) → StandsWithOrWithout (state new.disk) old.node old.nodes records added
-stopped state old new records r added body bodies spelled one images c image = of (images c image)
+pub stopped : {D : Type 0} (state : D → DiskState) (old new : AppenderState D) (records : List Record) (r : Record) (added : Option Record) (body : List ℕ) → body ≡ record_bytes r → added ≡ Some r
+    → ((c : List ℕ) → (state new.disk).images c → IsBeforeOrAfter old.node old.nodes (bodies_of records) body c) → StandsWithOrWithout (state new.disk) old.node old.nodes records added
+stopped state old new records r added body spelled one images c image = of (images c image)
   where
-    of : IsBeforeOrAfter old.node old.nodes old.bodies body c → Stands old.node old.nodes c (bodies_of records) ⊎ Stands old.node old.nodes c (bodies_of (added_to records added))
-    of (inl before) = inl (subst (λ (l : List (List ℕ)). Stands old.node old.nodes c l) bodies before)
+    of : IsBeforeOrAfter old.node old.nodes (bodies_of records) body c → Stands old.node old.nodes c (bodies_of records) ⊎ Stands old.node old.nodes c (bodies_of (added_to records added))
+    of (inl before) = inl before
     of (inr after) =
-        let same : old.bodies ++ body ∷ [] ≡ bodies_of (added_to records added) =
-        ap (λ (l : List (List ℕ)). l ++ body ∷ []) bodies ∙ ap (λ (b : List ℕ). bodies_of records ++ b ∷ []) spelled ∙ one_body_more records r ∙ sym (ap (λ (o : Option Record). bodies_of (added_to records o)) one) in
+        let same : bodies_of records ++ body ∷ [] ≡ bodies_of (added_to records added) =
+        ap (λ (b : List ℕ). bodies_of records ++ b ∷ []) spelled ∙ one_body_more records r ∙ sym (ap (λ (o : Option Record). bodies_of (added_to records o)) one) in
         inr (subst (λ (l : List (List ℕ)). Stands old.node old.nodes c l) same after)
 
 pub rose_later : (a b n : ℕ) → a ≤ b → Rose b n → Rose a n
@@ -99,15 +92,12 @@ ok_both (Err x) P Q R f p q = tt
 pub unasked : (stop : Option StopAt) (added : Option Record) → stop ≡ None → NoStopIsDue stop added
 unasked stop added e = subst (λ (o : Option StopAt). NoStopIsDue o added) (sym e) tt
 
-pub stops_here : {D : Type 0} (state : D → DiskState) (faults : D → ℕ) (old new : RedoState D) (records : List Record) (r : Record) (body : List ℕ) (stop : Option StopAt)
-    → old.bodies ≡ bodies_of records → body ≡ record_bytes r
-    → ((state old.disk).honest → (c : List ℕ) → (state new.disk).images c → IsBeforeOrAfter old.node old.nodes old.bodies body c)
-    → StopLeaves state faults old.disk new.disk old.node old.nodes old.bodies body stop → HasStopped state faults old.disk new.disk old.node old.nodes records r stop
-stops_here state faults old new records r body stop bodies spelled images told = record {
-  stands = λ h. stopped state old new records r (Some r) body bodies spelled refl (images h);
-  at =
-      let with_bodies = subst (λ (l : List (List ℕ)). StopLeaves state faults old.disk new.disk old.node old.nodes l body stop) bodies told in
-      subst (λ (b : List ℕ). StopLeaves state faults old.disk new.disk old.node old.nodes (bodies_of records) b stop) spelled with_bodies;
+pub stops_here : {D : Type 0} (state : D → DiskState) (faults : D → ℕ) (old new : AppenderState D) (records : List Record) (r : Record) (body : List ℕ) (stop : Option StopAt) → body ≡ record_bytes r
+    → ((state old.disk).honest → (c : List ℕ) → (state new.disk).images c → IsBeforeOrAfter old.node old.nodes (bodies_of records) body c)
+    → StopLeaves state faults old.disk new.disk old.node old.nodes (bodies_of records) body stop → HasStopped state faults old.disk new.disk old.node old.nodes records r stop
+stops_here state faults old new records r body stop spelled images told = record {
+  stands = λ h. stopped state old new records r (Some r) body spelled refl (images h);
+  at = subst (λ (b : List ℕ). StopLeaves state faults old.disk new.disk old.node old.nodes (bodies_of records) b stop) spelled told;
 }
 
 -- the same, since an earlier time
@@ -125,7 +115,7 @@ stops_since state faults old mid new node nodes bodies body (Some After) later h
     inl (rose_later (faults old) (faults mid) (faults new) later rose)
 stops_since state faults old mid new node nodes bodies body (Some After) later honest is_disk rests (inr told) = inr (λ h. told (honest h))
 
-pub stops_earlier : {D : Type 0} (state : D → DiskState) (faults : D → ℕ) (old mid : RedoState D) (new : D) (records before : List Record) (r : Record) (stop : Option StopAt)
+pub stops_earlier : {D : Type 0} (state : D → DiskState) (faults : D → ℕ) (old mid : AppenderState D) (new : D) (records before : List Record) (r : Record) (stop : Option StopAt)
     → LogKeepsDisk state faults old mid → ((state old.disk).honest → IsDisk (state old.disk)) → DiskStaysIfHonest state old.disk mid.disk → records ≡ before
     → HasStopped state faults mid.disk new mid.node mid.nodes records r stop → HasStopped state faults old.disk new old.node old.nodes before r stop
 stops_earlier state faults old mid new records before r stop goes is_disk rests same told = record {
@@ -138,16 +128,15 @@ stops_earlier state faults old mid new records before r stop goes is_disk rests 
 }
 
 -- a logged record that the memory then takes leaves the node up
-pub up_logged : {D : Type 0} (state : D → DiskState) (redo : RedoState D) (m after : Memory) (r : Record) (count : ℕ) → IsLogged state redo m r count → IsMemory after → HasDecisionRoom after
+pub up_logged : {D : Type 0} (state : D → DiskState) (redo : AppenderState D) (m after : Memory) (r : Record) (count : ℕ) → IsLogged state redo m r count → IsMemory after → HasDecisionRoom after
     → after.records.items ≡ m.records.items ++ r ∷ [] → vec_len after.held ≤ vec_len m.held + 1 → IsNodeUp state redo after
 up_logged state redo m after r count logged memory room records held = record {
   memory = memory;
   room = room;
   started = logged.started;
-  bodies = logged.bodies ∙ ap bodies_of (sym records);
+  log = subst (λ (l : List Record). IsLogFor state redo (bodies_of l)) (sym records) logged.log;
   spare_bodies = omega (arith, held, logged.spare_bodies);
   spare_bytes = omega (arith, held, logged.spare_bytes);
-  stands = logged.stands;
 }
 
 -- a Force of an id that has not voted and is not forced

@@ -4,7 +4,8 @@ use Rattle.std.specs.Prelude.{length, map, reverse, Option, Some, None, ⊤, vec
 use Rattle.mn_io.specs.DiskModel.{DiskState, IsStable, LeavesOnly, DiskStays}
 use Rattle.mn_io.specs.Faults.{Rose}
 use Rattle.mn_redo.specs.Grammar.{header, IsStaged, Stands}
-use Rattle.mn_redo.specs.Redo.{HasHeader, RedoState, StandsFor}
+use Rattle.mn_redo.specs.Appender.{AppenderState, IsLogOf}
+use Rattle.mn_redo.specs.Redo.{HasHeader, StandsFor}
 use Rattle.mn_redo.specs.declared.redo.Phase.TheVariants.{Started}
 use Rattle.mn_mini.specs.declared.record.Record.{Record}
 use Rattle.mn_mini.specs.declared.request.Request.{Request}
@@ -26,21 +27,25 @@ use Rattle.mn_node.specs.Memory.{IsMemory, HasDecisionRoom}
 abbrev pub bodies_of : List Record → List (List ℕ)
 bodies_of records = map record_bytes records
 
--- a node that is up: its log is its records, an honest disk stands for them, and there is room for
--- a decision of each held part
-pub record IsNodeUp {D : Type 0} (state : D → DiskState) (redo : RedoState D) (m : Memory)
+-- the log is that of these bodies, and an honest disk stands for them
+pub record IsLogFor {D : Type 0} (state : D → DiskState) (redo : AppenderState D)
+    (bodies : List (List ℕ)) : Type 0 where
+  pub log : IsLogOf state redo bodies
+  pub stands : (state redo.disk).honest → StandsFor (state redo.disk) redo.node redo.nodes bodies
+
+-- a node that is up: its log is that of its records, and there is room for a decision of each held
+-- part
+pub record IsNodeUp {D : Type 0} (state : D → DiskState) (redo : AppenderState D) (m : Memory)
     : Type 0 where
   pub memory : IsMemory m
   pub room : HasDecisionRoom m
   pub started : redo.phase ≡ Started
-  pub bodies : redo.bodies ≡ bodies_of m.records.items
+  pub log : IsLogFor state redo (bodies_of m.records.items)
   pub spare_bodies : vec_len m.held ≤ redo.spare_bodies
   pub spare_bytes : 11 * vec_len m.held ≤ redo.spare_bytes
-  pub stands : (state redo.disk).honest
-      → StandsFor (state redo.disk) redo.node redo.nodes redo.bodies
 
 -- room for one record more, of so many bytes, and so many ranges
-pub record HasRoomForRecord {D : Type 0} (redo : RedoState D) (m : Memory) (size count : ℕ)
+pub record HasRoomForRecord {D : Type 0} (redo : AppenderState D) (m : Memory) (size count : ℕ)
     : Type 0 where
   pub held : vec_len m.held < 2 ^ 32 - 2
   pub size_fits : size < 2 ^ 32
@@ -53,7 +58,7 @@ pub record HasRoomForRecord {D : Type 0} (redo : RedoState D) (m : Memory) (size
 
 -- the log is on the same disk, and its node is the same
 pub record LogKeepsDisk {D : Type 0} (state : D → DiskState) (faults : D → ℕ)
-    (old new : RedoState D) : Type 0 where
+    (old new : AppenderState D) : Type 0 where
   pub node : new.node ≡ old.node
   pub nodes : new.nodes ≡ old.nodes
   pub honest : (state old.disk).honest → (state new.disk).honest
@@ -121,16 +126,13 @@ StopLeaves state faults old new node nodes bodies body (Some After) =
     Rose (faults old) (faults new)
     ⊎ ((state old).honest → StandsFor (state new) node nodes (bodies ++ body ∷ []))
 
--- the log has one body more, stable on an honest disk
-pub record HasOneBodyMore {D : Type 0} (state : D → DiskState) (old new : RedoState D)
-    (body : List ℕ)
-    : Type 0 where
+-- the log, which was that of these bodies, has one more, stable on an honest disk
+pub record HasOneBodyMore {D : Type 0} (state : D → DiskState) (old new : AppenderState D)
+    (bodies : List (List ℕ)) (body : List ℕ) : Type 0 where
   pub started : new.phase ≡ Started
-  pub bodies : new.bodies ≡ old.bodies ++ body ∷ []
+  pub log : IsLogFor state new (bodies ++ body ∷ [])
   pub spare_bodies : old.spare_bodies ≤ new.spare_bodies + 1
   pub spare_bytes : old.spare_bytes ≤ new.spare_bytes + length body
-  pub stands : (state old.disk).honest
-      → StandsFor (state new.disk) old.node old.nodes (old.bodies ++ body ∷ [])
 
 -- a node that stopped inside a request which adds this record: its disk stands for its records,
 -- with the record or without, as far as the stop says
@@ -147,7 +149,7 @@ NoStopIsDue (Some stop) added = added ≡ None
 -- what a reply says of a node that is up: nothing has changed for want of memory; else the reply is
 -- the answer, and its record is added
 abbrev pub Replies : {D : Type 0} → (D → DiskState) → Memory → Request → Option StopAt → NodeReply
-    → RedoState D → Memory → Type 0
+    → AppenderState D → Memory → Type 0
 Replies state m request stop Say.NoMemory new after =
     IsNodeUp state new after × (after.records.items ≡ m.records.items)
 Replies state m request stop Say.Stopped new after = ⊥
@@ -159,8 +161,8 @@ Replies state m request stop reply new after =
 
 -- what a request does to a node that is up: it replies, or it stops, and then its record may stand
 -- on the disk or not
-abbrev pub Handled : {D : Type 0} → (D → DiskState) → (D → ℕ) → RedoState D → Memory → Request
-    → Option StopAt → Served → RedoState D → Memory → Type 0
+abbrev pub Handled : {D : Type 0} → (D → DiskState) → (D → ℕ) → AppenderState D → Memory → Request
+    → Option StopAt → Served → AppenderState D → Memory → Type 0
 Handled state faults redo m request stop (Serve.Replied reply) new after =
     Replies state m request stop reply new after
 Handled state faults redo m request stop (Serve.Stopped left) new after =
@@ -168,7 +170,7 @@ Handled state faults redo m request stop (Serve.Stopped left) new after =
     × HasStopped state faults redo.disk new.disk redo.node redo.nodes m.records.items left stop
 
 -- the log has the record, stable on an honest disk, and the memory has the room for it
-pub record IsLogged {D : Type 0} (state : D → DiskState) (redo : RedoState D) (m : Memory)
+pub record IsLogged {D : Type 0} (state : D → DiskState) (redo : AppenderState D) (m : Memory)
     (r : Record) (count : ℕ) : Type 0 where
   pub memory : IsMemory m
   pub room : HasDecisionRoom m
@@ -178,16 +180,14 @@ pub record IsLogged {D : Type 0} (state : D → DiskState) (redo : RedoState D) 
   pub votes : vec_len m.held < vec_capacity m.held
   pub ranges : count ≤ m.locks.spare
   pub started : redo.phase ≡ Started
-  pub bodies : redo.bodies ≡ bodies_of (m.records.items ++ r ∷ [])
+  pub log : IsLogFor state redo (bodies_of (m.records.items ++ r ∷ []))
   pub spare_bodies : vec_len m.held + 1 ≤ redo.spare_bodies
   pub spare_bytes : 11 * (vec_len m.held + 1) ≤ redo.spare_bytes
-  pub stands : (state redo.disk).honest
-      → StandsFor (state redo.disk) redo.node redo.nodes redo.bodies
 
 -- what the attempt to log a record leaves
-abbrev pub LoggingLeaves : {D : Type 0} → (D → DiskState) → (D → ℕ) → RedoState D → Memory → Record
+abbrev pub LoggingLeaves : {D : Type 0} → (D → DiskState) → (D → ℕ) → AppenderState D → Memory → Record
     → ℕ
-    → Option StopAt → Logging → RedoState D → Memory → Type 0
+    → Option StopAt → Logging → AppenderState D → Memory → Type 0
 LoggingLeaves state faults redo m r count stop NoRoom new after =
     IsNodeUp state new after × (after.records.items ≡ m.records.items)
 LoggingLeaves state faults redo m r count stop Stopped new after =

@@ -41,6 +41,12 @@ abbrev pub AreBodiesWithOrWithout : List (List ℕ) → List Record → Option R
 AreBodiesWithOrWithout bodies records pending false = bodies ≡ bodies_of records
 AreBodiesWithOrWithout bodies records pending true = AreBodiesWithPending bodies records pending
 
+-- the records, with the one that may be behind them where that is there
+abbrev pub records_found : List Record → Option Record → Bool → List Record
+records_found records None there = records
+records_found records (Some r) false = records
+records_found records (Some r) true = records ++ r ∷ []
+
 -- they are neither
 abbrev pub AreOtherBodies : List (List ℕ) → List Record → Option Record → Type 0
 AreOtherBodies bodies records pending =

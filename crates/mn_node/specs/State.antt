@@ -4,6 +4,7 @@ use Rattle.std.specs.Prelude.{length, Option, Some, None, take}
 use Rattle.std.specs.List.{AllByRecursion}
 use Rattle.mn_base.specs.declared.gate.StopAt.{StopAt}
 use Rattle.mn_io.specs.DiskModel.{DiskState}
+use Rattle.mn_redo.specs.Appender.{AppenderState}
 use Rattle.mn_redo.specs.Grammar.{places}
 use Rattle.mn_redo.specs.Redo.{HasHeader, RedoState, StandsFor}
 use Rattle.mn_mini.specs.declared.record.Record.{Record}
@@ -31,7 +32,7 @@ pub record NodeState (D : Type 0) : Type 0 where
 
 -- an honest disk stands for the records, and while the node is down, for these or for these and the
 -- pending one
-pub record IsNode {D : Type 0} (state : D → DiskState) (redo : RedoState D) (m : Memory)
+pub record IsNode {D : Type 0} (state : D → DiskState) (redo : AppenderState D) (m : Memory)
     (down : Bool) (pending : Option Record) : Type 0 where
   pub up : down ≡ false → IsNodeUp state redo m
   pub settled : down ≡ false → pending ≡ None

@@ -4,9 +4,9 @@ ghost use Rattle.std.specs.Prelude.{Some, None, true, false};
 ghost use Rattle.mn_mini.specs.declared.record.Record.{Record};
 ghost use Rattle.mn_mini.specs.RecordGrammar.{record_bytes, IsRecord};
 ghost use Rattle.mn_redo.specs.Grammar.{IsBeforeOrAfter};
-ghost use Rattle.mn_redo.specs.Redo.{StandsFor};
 ghost use Rattle.mn_redo.specs.declared.redo.Phase.TheVariants.{Started};
-ghost use Rattle.mn_node.specs.Node.{IsNodeUp, HasOneBodyMore, IsWithOrWithout, CrashLeavesOnly};
+ghost use Rattle.mn_node.specs.Node.{IsNodeUp, IsLogFor, HasOneBodyMore, IsWithOrWithout};
+ghost use Rattle.mn_node.specs.Node.{CrashLeavesOnly};
 ghost use Rattle.mn_node.specs.Node.{DiskStaysIfHonest, StopLeaves, HasRoomForRecord, LogKeepsDisk};
 ghost use Rattle.mn_node.specs.Node.{KeepsNodeNumbers, LoggingLeaves};
 
@@ -14,12 +14,12 @@ use crate::memory::Memory;
 use mn_base::{NoMemory, StopAt};
 use mn_io::Disk;
 use mn_mini::Record;
-use mn_redo::Redo;
+use mn_redo::Appender;
 
 /// Makes room for one record more, of so many bytes, and so many ranges, beside a decision of each
 /// held part.
 pub fn make_room<D: Disk>(
-    redo: &mut Redo<D>,
+    redo: &mut Appender<D>,
     memory: &mut Memory,
     bytes: usize,
     ranges: usize,
@@ -46,24 +46,24 @@ pub fn make_room<D: Disk>(
 
 /// Puts a record of these bytes into the log, for which there is room, or stops where that is
 /// asked. Whether it is in the log: if not, the node stops.
-pub fn append_or_stop<D: Disk>(redo: &mut Redo<D>, body: &[u8], stop: Option<StopAt>) -> bool
+pub fn append_or_stop<D: Disk>(redo: &mut Appender<D>, body: &[u8], stop: Option<StopAt>) -> bool
     requires started { redo.old.phase ≡ Started }
     requires size { length body.now < 2 ^ 32 }
     requires spare_body { 0 < redo.old.spare_bodies }
     requires spare_bytes { length body.now ≤ redo.old.spare_bytes }
-    requires stands { (D.state redo.old.disk).honest
-        → StandsFor (D.state redo.old.disk) redo.old.node redo.old.nodes redo.old.bodies }
-    ensures appended { result ≡ true → HasOneBodyMore D.state redo.old redo.new body.now }
+    ensures appended { result ≡ true → (bodies : List (List ℕ)) → IsLogFor D.state redo.old bodies
+        → HasOneBodyMore D.state redo.old redo.new bodies body.now }
     ensures unasked { result ≡ true → stop ≡ None }
-    ensures stopped { result ≡ false
+    ensures stopped { result ≡ false → (bodies : List (List ℕ)) → IsLogFor D.state redo.old bodies
         → StopLeaves D.state D.faults redo.old.disk redo.new.disk redo.old.node redo.old.nodes
-        redo.old.bodies body.now stop }
-    ensures images { (D.state redo.old.disk).honest → (c : List ℕ)
-        → (D.state redo.new.disk).images c
-        → IsBeforeOrAfter redo.old.node redo.old.nodes redo.old.bodies body.now c }
+        bodies body.now stop }
+    ensures images { (bodies : List (List ℕ)) → IsLogFor D.state redo.old bodies
+        → (D.state redo.old.disk).honest → (c : List ℕ) → (D.state redo.new.disk).images c
+        → IsBeforeOrAfter redo.old.node redo.old.nodes bodies body.now c }
     ensures continues { LogKeepsDisk D.state D.faults redo.old redo.new }
-    ensures moments { CrashLeavesOnly D.state redo.old.disk redo.new.disk
-        (IsBeforeOrAfter redo.old.node redo.old.nodes redo.old.bodies body.now) }
+    ensures moments { (bodies : List (List ℕ)) → IsLogFor D.state redo.old bodies
+        → CrashLeavesOnly D.state redo.old.disk redo.new.disk
+        (IsBeforeOrAfter redo.old.node redo.old.nodes bodies body.now) }
 {
     match stop {
         None => redo.append(body).is_ok(),
@@ -93,7 +93,7 @@ pub enum Logging {
 /// Makes room for a record of these bytes and for so many ranges, and puts it into the log, or
 /// stops where that is asked.
 pub fn log_bytes<D: Disk>(
-    redo: &mut Redo<D>,
+    redo: &mut Appender<D>,
     memory: &mut Memory,
     body: &[u8],
     ranges: usize,
@@ -121,7 +121,7 @@ pub fn log_bytes<D: Disk>(
 /// Makes room for a record and so many ranges, and puts it into the log. It is spelled in `line`,
 /// in place of what that holds, so that its bytes lie where those of the last one lay.
 pub fn log_record<D: Disk>(
-    redo: &mut Redo<D>,
+    redo: &mut Appender<D>,
     memory: &mut Memory,
     line: &mut Vec<u8>,
     added: &Record,

@@ -20,11 +20,11 @@ ghost use Rattle.mn_node.specs.declared.start.StartCause.TheVariants as causes;
 use crate::memory::Memory;
 use crate::requests::{Served, answer};
 use crate::restart::{RestartError, back};
-use crate::start::{StartCause, ready};
+use crate::start::{StartCause, ready, records_of};
 use mn_base::StopAt;
 use mn_io::Disk;
 use mn_mini::{NodeReply, Record, Request, answers_fit, held_parts_apart};
-use mn_redo::{Redo, one_list};
+use mn_redo::{Appender, Redo, one_list};
 use std::alloc::Global;
 use std::marker::Model;
 
@@ -35,7 +35,7 @@ use std::marker::Model;
 /// down, for these, or for these and the record of the request inside which it stopped.
 #[derive(Drop)]
 pub struct Node<D: Disk> {
-    redo: Box<Redo<D>>,
+    redo: Box<Appender<D>>,
     memory: Memory,
     /// The room in which records are spelled, one after another.
     line: Vec<u8>,
@@ -120,7 +120,16 @@ impl<D: Disk> Node<D> {
         ensures no_better_err { IfErr result
             (λ failed. (D.state failed.disk).honest → (D.state redo.disk).honest) }
     {
-        let mut redo = match Box::new(alloc, redo) {
+        let records = match records_of(alloc, &redo) {
+            Ok(records) => records,
+            Err(cause) => {
+                return Err(StartFailed {
+                    disk: redo.close(),
+                    cause,
+                });
+            }
+        };
+        let mut redo = match Box::new(alloc, redo.into_appender()) {
             Ok(redo) => redo,
             Err(failed) => {
                 return Err(StartFailed {
@@ -129,7 +138,7 @@ impl<D: Disk> Node<D> {
                 });
             }
         };
-        match ready(alloc, &mut redo) {
+        match ready(alloc, &mut redo, records) {
             Ok(memory) => Ok(Node {
                 redo,
                 memory,

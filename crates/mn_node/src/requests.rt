@@ -22,7 +22,7 @@ use crate::part::{Ranges, ranges_of, shared_copy_of};
 use mn_base::{Nodes, StopAt, Tid, TryCopy};
 use mn_io::Disk;
 use mn_mini::{NodeReply, Part, Reads, Record, Request};
-use mn_redo::Redo;
+use mn_redo::Appender;
 use std::alloc::Global;
 
 /// What became of a request.
@@ -36,7 +36,7 @@ pub enum Served {
 
 /// A Force: the vote of the node, which votes no from now on if it hasn't voted.
 pub fn force<D: Disk>(
-    redo: &mut Redo<D>,
+    redo: &mut Appender<D>,
     memory: &mut Memory,
     tid: Tid,
     stop: Option<StopAt>,
@@ -79,7 +79,7 @@ pub fn force<D: Disk>(
 
 /// A Decide: ends the part that is held for the id, if one is. It takes no memory.
 pub fn decide<D: Disk>(
-    redo: &mut Redo<D>,
+    redo: &mut Appender<D>,
     memory: &mut Memory,
     tid: Tid,
     yes: bool,
@@ -115,7 +115,7 @@ pub fn decide<D: Disk>(
 /// Runs a part that was tested.
 fn execute<D: Disk>(
     alloc: Global,
-    redo: &mut Redo<D>,
+    redo: &mut Appender<D>,
     memory: &mut Memory,
     line: &mut Vec<u8>,
     tid: Tid,
@@ -167,7 +167,7 @@ fn execute<D: Disk>(
 /// An Exec: tests a part and, if it may, runs it. No lock is kept.
 pub fn exec<D: Disk>(
     alloc: Global,
-    redo: &mut Redo<D>,
+    redo: &mut Appender<D>,
     memory: &mut Memory,
     line: &mut Vec<u8>,
     tid: Tid,
@@ -209,7 +209,7 @@ pub fn exec<D: Disk>(
 /// Votes yes for a part that was tested, and holds it.
 fn vote_yes<D: Disk>(
     alloc: Global,
-    redo: &mut Redo<D>,
+    redo: &mut Appender<D>,
     memory: &mut Memory,
     line: &mut Vec<u8>,
     tid: Tid,
@@ -272,7 +272,7 @@ fn vote_yes<D: Disk>(
 /// A Prepare: tests a part and, if it may, votes yes and holds it.
 pub fn prepare<D: Disk>(
     alloc: Global,
-    redo: &mut Redo<D>,
+    redo: &mut Appender<D>,
     memory: &mut Memory,
     line: &mut Vec<u8>,
     tid: Tid,
@@ -339,7 +339,7 @@ pub fn prepare<D: Disk>(
 /// What a node that is up does with a request.
 pub fn answer<D: Disk>(
     alloc: Global,
-    redo: &mut Redo<D>,
+    redo: &mut Appender<D>,
     memory: &mut Memory,
     line: &mut Vec<u8>,
     request: &Request,

@@ -3,6 +3,7 @@ ghost use Rattle.std.specs.Prelude.{get_or, Some, None, true, false, IfOk, IfErr
 ghost use Rattle.std.specs.Prelude.{MatchOption};
 ghost use Rattle.std.specs.List.{AllByRecursion};
 ghost use Rattle.mn_io.specs.DiskModel.{LeavesOnly, NoneNew, DiskStays, WritesNothing};
+ghost use Rattle.mn_redo.specs.Appender.{IsLogOf};
 ghost use Rattle.mn_redo.specs.Grammar.{Stands};
 ghost use Rattle.mn_redo.specs.Redo.{HasHeader, StandsFor};
 ghost use Rattle.mn_redo.specs.declared.redo.Phase.TheVariants.{Closing, Started};
@@ -16,14 +17,14 @@ ghost use Rattle.mn_node.specs.Node.{StandsWithOrWithout, added_to, bodies_of};
 ghost use Rattle.mn_node.specs.Restart.{TellsOtherRecords, TellsDifferenceAt, FailsRestart};
 ghost use Rattle.mn_node.specs.Restart.{AreBodiesWithPending, FailsWithoutDamage, IsSpelledAt};
 ghost use Rattle.mn_node.specs.Restart.{BeginsWithRecords, AreBodiesWithOrWithout, DiffersFirstAt};
-ghost use Rattle.mn_node.specs.Restart.{TellsBadBody, RestartLeaves};
+ghost use Rattle.mn_node.specs.Restart.{TellsBadBody, RestartLeaves, records_found};
 
 use crate::memory::Memory;
 use crate::start::{StartCause, start_log};
 use mn_base::{NoMemory, TryCopy};
 use mn_io::Disk;
 use mn_mini::{Record, RecordError};
-use mn_redo::{OpenCause, Redo, damaged_or_not, one_list};
+use mn_redo::{Appender, Front, OpenCause, damaged_or_not, one_list};
 use std::alloc::{AllocFailed, Global};
 
 /// Why a node wasn't restarted. It is still down.
@@ -92,42 +93,35 @@ fn no_log() -> RestartError
 }
 
 /// Whether a body of the log is the record's.
-fn spells<D: Disk>(
-    alloc: Global,
-    redo: &Redo<D>,
-    number: u32,
-    kept: &Record,
-) -> Result<bool, NoMemory>
-    requires going { redo.now.phase ≢ Closing }
-    requires number { number < length redo.now.bodies }
+fn spells(alloc: Global, log: &Front, number: u32, kept: &Record) -> Result<bool, NoMemory>
+    requires number { number < length log.now }
     requires sound { IsRecord kept.now }
     ensures yes { IfOk result (λ same. same ≡ true
-        → get_or redo.now.bodies number [] ≡ record_bytes kept.now) }
+        → get_or log.now number [] ≡ record_bytes kept.now) }
     ensures no { IfOk result (λ same. same ≡ false
-        → get_or redo.now.bodies number [] ≢ record_bytes kept.now) }
+        → get_or log.now number [] ≢ record_bytes kept.now) }
 {
     let bytes = kept.write(alloc)?;
-    Ok(bytes.as_slice() == redo.body(number))
+    Ok(bytes.as_slice() == log.body(number))
 }
 
 /// The number of the first of these records that the log has not.
-fn first_difference<D: Disk>(
+fn first_difference(
     alloc: Global,
-    redo: &Redo<D>,
+    log: &Front,
     records: &[Record],
 ) -> Result<Option<usize>, NoMemory>
-    requires going { redo.now.phase ≢ Closing }
     requires sound { AllByRecursion IsRecord records.now }
     ensures { IfOk result (λ found.
-        MatchOption found (BeginsWithRecords redo.now.bodies records.now)
-        (λ at. (at < length records.now) × DiffersFirstAt redo.now.bodies records.now at)) }
+        MatchOption found (BeginsWithRecords log.now records.now)
+        (λ at. (at < length records.now) × DiffersFirstAt log.now records.now at)) }
 {
-    let count = redo.count() as usize;
+    let count = log.count() as usize;
     for number in 0..records.len() {
         if number >= count {
             return Ok(Some(number));
         }
-        if !spells(alloc, redo, number as u32, &records[number])? {
+        if !spells(alloc, log, number as u32, &records[number])? {
             return Ok(Some(number));
         }
     }
@@ -135,22 +129,17 @@ fn first_difference<D: Disk>(
 }
 
 /// The record that a body of the log spells, if there is that body.
-fn found_at<D: Disk>(
-    alloc: Global,
-    redo: &Redo<D>,
-    at: usize,
-) -> Result<Option<Record>, RestartError>
-    requires going { redo.now.phase ≢ Closing }
-    ensures found { IfOk result (IsSpelledAt redo.now.bodies at) }
-    ensures unread { IfErr result (TellsBadBody redo.now.bodies) }
+fn found_at(alloc: Global, log: &Front, at: usize) -> Result<Option<Record>, RestartError>
+    ensures found { IfOk result (IsSpelledAt log.now at) }
+    ensures unread { IfErr result (TellsBadBody log.now) }
 {
-    if at >= redo.count() as usize {
+    if at >= log.count() as usize {
         return Ok(None);
     }
-    match Record::read(alloc, redo.body(at as u32)) {
+    match Record::read(alloc, log.body(at as u32)) {
         Ok(record) => Ok(Some(record)),
         Err(RecordError::BadRecord) => Err(RestartError::Damaged {
-            at: redo.gate(at as u32),
+            at: log.gate(at as u32),
             kept: None,
             found: None,
         }),
@@ -159,11 +148,10 @@ fn found_at<D: Disk>(
 }
 
 /// What a log says that differs at this number from the node's record, if it has one.
-fn differs<D: Disk>(alloc: Global, redo: &Redo<D>, at: usize, kept: Option<Record>) -> RestartError
-    requires going { redo.now.phase ≢ Closing }
-    ensures { TellsDifferenceAt redo.now.bodies at kept result }
+fn differs(alloc: Global, log: &Front, at: usize, kept: Option<Record>) -> RestartError
+    ensures { TellsDifferenceAt log.now at kept result }
 {
-    match found_at(alloc, redo, at) {
+    match found_at(alloc, log, at) {
         Ok(found) => RestartError::Damaged {
             at: at as u64,
             kept,
@@ -175,74 +163,78 @@ fn differs<D: Disk>(alloc: Global, redo: &Redo<D>, at: usize, kept: Option<Recor
 
 /// Compares what the log has behind a node's records with the record that may be there. It has
 /// something.
-fn compare_rest<D: Disk>(
+fn compare_rest(
     alloc: Global,
-    redo: &Redo<D>,
+    log: &Front,
     records: &[Record],
     pending: &Option<Record>,
 ) -> Result<bool, RestartError>
-    requires going { redo.now.phase ≢ Closing }
     requires sound { AllByRecursion IsRecord (added_to records.now pending.now) }
-    requires front { BeginsWithRecords redo.now.bodies records.now }
-    requires more { length records.now < length redo.now.bodies }
+    requires front { BeginsWithRecords log.now records.now }
+    requires more { length records.now < length log.now }
     ensures more { IfOk result (λ there. there ≡ true) }
-    ensures listed { OnOk result (AreBodiesWithPending redo.now.bodies records.now pending.now) }
-    ensures differs { IfErr result (TellsOtherRecords redo.now.bodies records.now pending.now) }
+    ensures listed { OnOk result (AreBodiesWithPending log.now records.now pending.now) }
+    ensures differs { IfErr result (TellsOtherRecords log.now records.now pending.now) }
 {
-    let total = redo.count();
+    let total = log.count();
     let count = records.len();
     let Some(left) = pending else {
-        return Err(differs(alloc, redo, count, None));
+        return Err(differs(alloc, log, count, None));
     };
-    if !spells(alloc, redo, count as u32, left)? {
-        return Err(differs(alloc, redo, count, None));
+    if !spells(alloc, log, count as u32, left)? {
+        return Err(differs(alloc, log, count, None));
     }
     if total as usize > count + 1 {
-        return Err(differs(alloc, redo, count + 1, None));
+        return Err(differs(alloc, log, count + 1, None));
     }
     Ok(true)
 }
 
 /// Compares the log with a node's records and the record that may be behind them. Whether that is
-/// there.
-fn compare<D: Disk>(
+/// there. The log's bodies go, so that the memory is made anew in their place.
+fn compare(
     alloc: Global,
-    redo: &Redo<D>,
+    log: Front,
     records: &[Record],
     pending: &Option<Record>,
 ) -> Result<bool, RestartError>
-    requires going { redo.now.phase ≢ Closing }
     requires sound { AllByRecursion IsRecord (added_to records.now pending.now) }
-    ensures listed { IfOk result (AreBodiesWithOrWithout redo.now.bodies records.now pending.now) }
-    ensures differs { IfErr result (TellsOtherRecords redo.now.bodies records.now pending.now) }
+    ensures listed { IfOk result (AreBodiesWithOrWithout log records.now pending.now) }
+    ensures differs { IfErr result (TellsOtherRecords log records.now pending.now) }
 {
-    if let Some(at) = first_difference(alloc, redo, records)? {
+    if let Some(at) = first_difference(alloc, &log, records)? {
         let kept = records[at].try_copy(alloc)?;
-        return Err(differs(alloc, redo, at, Some(kept)));
+        return Err(differs(alloc, &log, at, Some(kept)));
     }
-    if redo.count() as usize == records.len() {
+    if log.count() as usize == records.len() {
         return Ok(false);
     }
-    compare_rest(alloc, redo, records, pending)
+    compare_rest(alloc, &log, records, pending)
 }
 
 /// Makes a node's memory anew from its records, which the log has, and makes the log ready for
 /// more.
-fn wake<D: Disk>(alloc: Global, redo: &mut Redo<D>, memory: &mut Memory) -> Result<(), RestartError>
+fn wake<D: Disk>(
+    alloc: Global,
+    redo: &mut Appender<D>,
+    memory: &mut Memory,
+) -> Result<(), RestartError>
     requires going { redo.old.phase ≢ Closing }
     requires nodes { 0 < memory.old.nodes }
-    requires bodies { redo.old.bodies ≡ bodies_of memory.old.records.items }
+    requires log { IsLogOf D.state redo.old (bodies_of memory.old.records.items) }
     requires sound { AllByRecursion IsRecord memory.old.records.items }
     requires apart { PartsAreApart (held_parts (reverse memory.old.records.items)) }
     requires stands { (D.state redo.old.disk).honest
-        → StandsFor (D.state redo.old.disk) redo.old.node redo.old.nodes redo.old.bodies }
+        → StandsFor (D.state redo.old.disk) redo.old.node redo.old.nodes
+        (bodies_of memory.old.records.items) }
     ensures up { OnOk result (IsNodeUp D.state redo.new memory.new) }
     ensures records { memory.new.records.items ≡ memory.old.records.items }
     ensures stands { (D.state redo.new.disk).honest
-        → StandsFor (D.state redo.new.disk) redo.old.node redo.old.nodes redo.old.bodies }
+        → StandsFor (D.state redo.new.disk) redo.old.node redo.old.nodes
+        (bodies_of memory.old.records.items) }
     ensures moments { (D.state redo.old.disk).honest
         → LeavesOnly (D.state redo.old.disk) (D.state redo.new.disk)
-        (λ c. Stands redo.old.node redo.old.nodes c redo.old.bodies) }
+        (λ c. Stands redo.old.node redo.old.nodes c (bodies_of memory.old.records.items)) }
     ensures rests { redo.old.phase ≡ Started → (D.state redo.old.disk).honest
         → DiskStays (D.state redo.old.disk) (D.state redo.new.disk) }
     ensures continues { LogKeepsDisk D.state D.faults redo.old redo.new }
@@ -260,27 +252,29 @@ fn wake<D: Disk>(alloc: Global, redo: &mut Redo<D>, memory: &mut Memory) -> Resu
 /// The same with one record more, which the log has too.
 fn wake_with<D: Disk>(
     alloc: Global,
-    redo: &mut Redo<D>,
+    redo: &mut Appender<D>,
     memory: &mut Memory,
     left: &Record,
 ) -> Result<(), RestartError>
     requires going { redo.old.phase ≢ Closing }
     requires nodes { 0 < memory.old.nodes }
-    requires bodies { redo.old.bodies ≡ bodies_of (memory.old.records.items ++ left.now ∷ []) }
+    requires log { IsLogOf D.state redo.old (bodies_of (memory.old.records.items ++ left.now ∷ [])) }
     requires sound { AllByRecursion IsRecord (memory.old.records.items ++ left.now ∷ []) }
     requires apart { PartsAreApart
         (held_parts (reverse (memory.old.records.items ++ left.now ∷ []))) }
     requires stands { (D.state redo.old.disk).honest
-        → StandsFor (D.state redo.old.disk) redo.old.node redo.old.nodes redo.old.bodies }
+        → StandsFor (D.state redo.old.disk) redo.old.node redo.old.nodes
+        (bodies_of (memory.old.records.items ++ left.now ∷ [])) }
     ensures up { OnOk result (IsNodeUp D.state redo.new memory.new) }
     ensures records { OnOk result
         (memory.new.records.items ≡ memory.old.records.items ++ left.now ∷ []) }
     ensures before { OnErr result (memory.new.records.items ≡ memory.old.records.items) }
     ensures stands { (D.state redo.new.disk).honest
-        → StandsFor (D.state redo.new.disk) redo.old.node redo.old.nodes redo.old.bodies }
+        → StandsFor (D.state redo.new.disk) redo.old.node redo.old.nodes
+        (bodies_of (memory.old.records.items ++ left.now ∷ [])) }
     ensures moments { (D.state redo.old.disk).honest
         → LeavesOnly (D.state redo.old.disk) (D.state redo.new.disk)
-        (λ c. Stands redo.old.node redo.old.nodes c redo.old.bodies) }
+        (λ c. Stands redo.old.node redo.old.nodes c (bodies_of (memory.old.records.items ++ left.now ∷ []))) }
     ensures rests { redo.old.phase ≡ Started → (D.state redo.old.disk).honest
         → DiskStays (D.state redo.old.disk) (D.state redo.new.disk) }
     ensures continues { LogKeepsDisk D.state D.faults redo.old redo.new }
@@ -302,30 +296,32 @@ fn wake_with<D: Disk>(
 /// behind them.
 fn wake_found<D: Disk>(
     alloc: Global,
-    redo: &mut Redo<D>,
+    redo: &mut Appender<D>,
     memory: &mut Memory,
     pending: &Option<Record>,
     there: bool,
 ) -> Result<(), RestartError>
     requires going { redo.old.phase ≢ Closing }
     requires nodes { 0 < memory.old.nodes }
-    requires listed { AreBodiesWithOrWithout redo.old.bodies memory.old.records.items pending.now
-        there }
+    requires listed { there ≡ true → pending.now ≢ None }
+    requires log { IsLogOf D.state redo.old (bodies_of (records_found memory.old.records.items pending.now there)) }
     requires sound { AllByRecursion IsRecord (added_to memory.old.records.items pending.now) }
     requires apart { PartsAreApart (held_parts (reverse memory.old.records.items)) }
     requires apart_left { PartsAreApart
         (held_parts (reverse (added_to memory.old.records.items pending.now))) }
     requires stands { (D.state redo.old.disk).honest
-        → StandsFor (D.state redo.old.disk) redo.old.node redo.old.nodes redo.old.bodies }
+        → StandsFor (D.state redo.old.disk) redo.old.node redo.old.nodes
+        (bodies_of (records_found memory.old.records.items pending.now there)) }
     ensures up { OnOk result (IsNodeUp D.state redo.new memory.new) }
     ensures records { OnOk result
         (RestartLeaves memory.old.records.items pending.now memory.new.records.items there) }
     ensures before { OnErr result (memory.new.records.items ≡ memory.old.records.items) }
     ensures stands { (D.state redo.new.disk).honest
-        → StandsFor (D.state redo.new.disk) redo.old.node redo.old.nodes redo.old.bodies }
+        → StandsFor (D.state redo.new.disk) redo.old.node redo.old.nodes
+        (bodies_of (records_found memory.old.records.items pending.now there)) }
     ensures moments { (D.state redo.old.disk).honest
         → LeavesOnly (D.state redo.old.disk) (D.state redo.new.disk)
-        (λ c. Stands redo.old.node redo.old.nodes c redo.old.bodies) }
+        (λ c. Stands redo.old.node redo.old.nodes c (bodies_of (records_found memory.old.records.items pending.now there))) }
     ensures rests { redo.old.phase ≡ Started → (D.state redo.old.disk).honest
         → DiskStays (D.state redo.old.disk) (D.state redo.new.disk) }
     ensures continues { LogKeepsDisk D.state D.faults redo.old redo.new }
@@ -348,7 +344,7 @@ fn wake_found<D: Disk>(
 /// may have been behind the others is there.
 pub fn back<D: Disk>(
     alloc: Global,
-    redo: &mut Redo<D>,
+    redo: &mut Appender<D>,
     memory: &mut Memory,
     pending: &Option<Record>,
 ) -> Result<bool, RestartError>
@@ -385,13 +381,14 @@ pub fn back<D: Disk>(
 {
     one_list();
     damaged_or_not();
-    if let Err(cause) = redo.reopen(alloc) {
-        return Err(error_of(cause));
-    }
+    let log = match redo.reopen(alloc) {
+        Ok(log) => log,
+        Err(cause) => return Err(error_of(cause)),
+    };
     if redo.is_fresh() {
         return Err(no_log());
     }
-    let there = match compare(alloc, redo, &memory.records, pending) {
+    let there = match compare(alloc, log, &memory.records, pending) {
         Ok(there) => there,
         Err(error) => return Err(error),
     };

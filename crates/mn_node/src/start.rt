@@ -1,19 +1,25 @@
-ghost use Rattle.std.specs.Prelude.{◌≡◌, ◌≢◌, ◌≤◌, ◌<◌, ◌*◌, ℕ, IfOk, OnOk, IsErrOf};
+ghost use Rattle.std.specs.Prelude.{◌≡◌, ◌≢◌, ◌≤◌, ◌<◌, ◌*◌, ℕ, List, IfOk, OnOk, IsErrOf};
+ghost use Rattle.std.specs.Prelude.{reverse};
+ghost use Rattle.std.specs.List.{AllByRecursion};
 ghost use Rattle.mn_io.specs.Faults.{Rose};
 ghost use Rattle.mn_io.specs.DiskModel.{LeavesOnly, DiskStays};
+ghost use Rattle.mn_mini.specs.Laws.{PartsAreApart};
+ghost use Rattle.mn_mini.specs.Node.{held_parts};
+ghost use Rattle.mn_mini.specs.RecordGrammar.{IsRecord};
+ghost use Rattle.mn_redo.specs.Appender.{IsLogOf};
 ghost use Rattle.mn_redo.specs.Grammar.{Stands};
 ghost use Rattle.mn_redo.specs.Redo.{HasHeader, StandsFor};
 ghost use Rattle.mn_redo.specs.declared.redo.Phase.TheVariants.{Started, Closing};
 ghost use Rattle.mn_node.specs.declared.start.StartCause.TheVariants as causes;
-ghost use Rattle.mn_node.specs.Node.{LogKeepsDisk, IsNodeUp};
-ghost use Rattle.mn_node.specs.State.{AreRecords, IsFirstBadBody, HoldsPartsApart};
+ghost use Rattle.mn_node.specs.Node.{LogKeepsDisk, IsNodeUp, bodies_of};
+ghost use Rattle.mn_node.specs.State.{AreRecords, IsFirstBadBody};
 
 use crate::memory::Memory;
 use crate::replay::memory_of;
 use mn_base::NoMemory;
 use mn_io::{Disk, Fault};
 use mn_mini::{Record, RecordError};
-use mn_redo::Redo;
+use mn_redo::{Appender, Redo};
 use std::alloc::{AllocFailed, Global};
 
 /// Why a node wasn't started.
@@ -83,26 +89,28 @@ pub fn records_of<D: Disk>(alloc: Global, redo: &Redo<D>) -> Result<Vec<Record>,
 }
 
 /// Makes room for a decision of each held part in the log, and starts it.
-pub fn start_log<D: Disk>(redo: &mut Redo<D>, held: usize) -> Result<(), StartCause>
+pub fn start_log<D: Disk>(redo: &mut Appender<D>, held: usize) -> Result<(), StartCause>
     requires going { redo.old.phase ≢ Closing }
     ensures started { OnOk result (redo.new.phase ≡ Started) }
-    ensures bodies { redo.new.bodies ≡ redo.old.bodies }
+    ensures log { (bodies : List (List ℕ)) → IsLogOf D.state redo.old bodies
+        → OnOk result (IsLogOf D.state redo.new bodies) }
     ensures spare_bodies { OnOk result (held ≤ redo.new.spare_bodies) }
     ensures spare_bytes { OnOk result (11 * held ≤ redo.new.spare_bytes) }
     ensures header { OnOk result ((D.state redo.new.disk).honest
         → HasHeader (D.state redo.new.disk)) }
-    ensures stands { OnOk result ((D.state redo.new.disk).honest
-        → StandsFor (D.state redo.new.disk) redo.old.node redo.old.nodes redo.old.bodies) }
-    ensures keeps { ((D.state redo.old.disk).honest
-        → StandsFor (D.state redo.old.disk) redo.old.node redo.old.nodes redo.old.bodies)
+    ensures stands { (bodies : List (List ℕ)) → IsLogOf D.state redo.old bodies
+        → OnOk result ((D.state redo.new.disk).honest
+        → StandsFor (D.state redo.new.disk) redo.old.node redo.old.nodes bodies) }
+    ensures keeps { (bodies : List (List ℕ)) → IsLogOf D.state redo.old bodies
+        → ((D.state redo.old.disk).honest
+        → StandsFor (D.state redo.old.disk) redo.old.node redo.old.nodes bodies)
         → (D.state redo.new.disk).honest
-        → StandsFor (D.state redo.new.disk) redo.old.node redo.old.nodes redo.old.bodies }
-    ensures moments { (D.state redo.old.disk).honest
-        → StandsFor (D.state redo.old.disk) redo.old.node redo.old.nodes redo.old.bodies
+        → StandsFor (D.state redo.new.disk) redo.old.node redo.old.nodes bodies }
+    ensures moments { (bodies : List (List ℕ)) → IsLogOf D.state redo.old bodies
+        → (D.state redo.old.disk).honest
+        → StandsFor (D.state redo.old.disk) redo.old.node redo.old.nodes bodies
         → LeavesOnly (D.state redo.old.disk) (D.state redo.new.disk)
-        (λ c. Stands redo.old.node redo.old.nodes c redo.old.bodies) }
-    ensures stands_closing { redo.new.phase ≡ Closing → (D.state redo.new.disk).honest
-        → StandsFor (D.state redo.new.disk) redo.old.node redo.old.nodes redo.old.bodies }
+        (λ c. Stands redo.old.node redo.old.nodes c bodies) }
     ensures rests { redo.old.phase ≡ Started → (D.state redo.old.disk).honest
         → DiskStays (D.state redo.old.disk) (D.state redo.new.disk) }
     ensures continues { LogKeepsDisk D.state D.faults redo.old redo.new }
@@ -120,33 +128,40 @@ pub fn start_log<D: Disk>(redo: &mut Redo<D>, held: usize) -> Result<(), StartCa
     Ok(())
 }
 
-/// Reads what a node keeps in memory from its log, and makes the log ready for more.
-pub fn ready<D: Disk>(alloc: Global, redo: &mut Redo<D>) -> Result<Memory, StartCause>
+/// Makes what a node keeps in memory of its records, which its log has, and makes the log ready for
+/// more.
+pub fn ready<D: Disk>(
+    alloc: Global,
+    redo: &mut Appender<D>,
+    records: Vec<Record>,
+) -> Result<Memory, StartCause>
     requires going { redo.old.phase ≢ Closing }
     requires nodes { 0 < redo.old.nodes }
-    requires apart { HoldsPartsApart redo.old.bodies }
+    requires log { IsLogOf D.state redo.old (bodies_of records.items) }
+    requires stands { (D.state redo.old.disk).honest
+        → StandsFor (D.state redo.old.disk) redo.old.node redo.old.nodes
+        (bodies_of records.items) }
+    requires sound { AllByRecursion IsRecord records.items }
+    requires apart { PartsAreApart (held_parts (reverse records.items)) }
     ensures up { IfOk result (λ memory. IsNodeUp D.state redo.new memory) }
     ensures header { OnOk result ((D.state redo.new.disk).honest
         → HasHeader (D.state redo.new.disk)) }
-    ensures records { IfOk result (λ memory. AreRecords redo.old.bodies memory.records.items) }
+    ensures records { IfOk result (λ memory. memory.records.items ≡ records.items) }
     ensures node { IfOk result (λ memory. memory.node ≡ redo.old.node) }
     ensures nodes { IfOk result (λ memory. memory.nodes ≡ redo.old.nodes) }
-    ensures bodies { redo.new.bodies ≡ redo.old.bodies }
-    ensures stands { redo.new.phase ≡ Closing → (D.state redo.new.disk).honest
-        → StandsFor (D.state redo.new.disk) redo.old.node redo.old.nodes redo.old.bodies }
+    ensures stands { (D.state redo.new.disk).honest
+        → StandsFor (D.state redo.new.disk) redo.old.node redo.old.nodes
+        (bodies_of records.items) }
     ensures moments { (D.state redo.old.disk).honest
-        → StandsFor (D.state redo.old.disk) redo.old.node redo.old.nodes redo.old.bodies
         → LeavesOnly (D.state redo.old.disk) (D.state redo.new.disk)
-        (λ c. Stands redo.old.node redo.old.nodes c redo.old.bodies) }
+        (λ c. Stands redo.old.node redo.old.nodes c (bodies_of records.items)) }
     ensures rests { redo.old.phase ≡ Started → (D.state redo.old.disk).honest
         → DiskStays (D.state redo.old.disk) (D.state redo.new.disk) }
     ensures continues { LogKeepsDisk D.state D.faults redo.old redo.new }
     ensures fault { IsErrOf result causes.Fault
         → Rose (D.faults redo.old.disk) (D.faults redo.new.disk) }
-    ensures damaged { (at : ℕ) → IsErrOf result (causes.Damaged at)
-        → IsFirstBadBody redo.old.bodies at }
+    ensures not_damaged { (at : ℕ) → IsErrOf result (causes.Damaged at) → ⊥ }
 {
-    let records = records_of(alloc, redo)?;
     let memory = memory_of(alloc, redo.node(), redo.nodes(), records)?;
     start_log(redo, memory.held.len())?;
     Ok(memory)

@@ -1,9 +1,10 @@
 -- What each moment of an append leaves.
-use Rattle.std.proofs.Common.{◌≡◌, ◌<◌, ◌≤◌, ◌^◌, ◌⊎◌, inl, inr, ℕ, ◌+◌, List, [], ◌∷◌, ◌++◌, length, take, drop, set, ◌-◌, sym, ◌∙◌, ap, subst, arith, append_assoc, length-append}
+use Rattle.std.proofs.Common.{◌≡◌, ◌<◌, ◌≤◌, ◌^◌, ◌⊎◌, inl, inr, ℕ, ◌+◌, List, [], ◌∷◌, ◌++◌, length, drop, set, sym, ◌∙◌, ap, subst, arith, append_assoc, length-append}
 use Rattle.std.proofs.lemmas.Bool.{cases_eq}
-use Rattle.std.proofs.lemmas.List.{drop_at, take_rest, set_at}
-use Rattle.mn_io.specs.DiskModel.{Torn, written_at}
-use Rattle.mn_redo.specs.Grammar.{header, behind_gate, records, HaveSizes, IsBeforeOrAfter, IsLog, IsStaged}
+use Rattle.std.proofs.lemmas.List.{set_at}
+use Rattle.mn_io.proofs.Moments.{LeavesOnly-weaker, LeavesOnly-trans}
+use Rattle.mn_io.specs.DiskModel.{DiskState, LeavesOnly, Torn, written_at}
+use Rattle.mn_redo.specs.Grammar.{header, behind_gate, records, HaveSizes, IsBeforeOrAfter, IsLog, IsLogBeforeOrAfter, IsStaged}
 use Rattle.mn_redo.proofs.Pieces.{torn_behind, written_behind, torn_gate, written_gate}
 use Rattle.mn_redo.proofs.Parse.{records_push, sizes_push, length-behind_gate}
 
@@ -15,9 +16,6 @@ abbrev pub front : List ℕ → List (List ℕ) → List ℕ
 front before bodies = before ++ records bodies
 
 module _ (before : List ℕ) (bodies : List (List ℕ)) (body : List ℕ) (m : ℕ) where
-  pub staged_length : (content : List ℕ) → IsStaged before bodies body content → length (front before bodies) ≤ length content
-  staged_length content staged = omega (arith, ap length staged.bytes, length-append (front before bodies) (staged.gate ∷ (behind_gate body ++ 0 ∷ staged.tail)))
-
   -- each outcome of the first write stands for the old list
   pub stage_torn : (content c : List ℕ) (n : ℕ) → IsLog before content bodies → m ≡ length (front before bodies) + 1 → Torn m n content c → IsLog before c bodies
   stage_torn content c n log is torn =
@@ -64,15 +62,23 @@ module _ (before : List ℕ) (bodies : List (List ℕ)) (body : List ℕ) (m : �
   gate_done content new staged size is done =
       opened staged.tail new staged.sizes size (done ∙ ap (λ (l : List ℕ). written_at l m (1 ∷ [])) staged.bytes ∙ written_gate (front before bodies) (behind_gate body ++ 0 ∷ staged.tail) staged.gate m 1 is)
 
-  -- what is staged in memory is the piece to be written
-  pub piece_is : (bytes staged : List ℕ) → bytes ≡ front before bodies ++ 0 ∷ [] → m ≡ length (front before bodies) + 1 → staged ≡ bytes ++ (behind_gate body ++ 0 ∷ []) → take (length staged - m) (drop m staged) ≡ behind_gate body ++ 0 ∷ []
-  piece_is bytes staged is at more =
-      take_rest staged m ∙ ap (λ (l : List ℕ). drop m l) more
-      ∙ drop_at bytes (behind_gate body ++ 0 ∷ []) m (omega (arith, at, ap length is, length-append (front before bodies) (0 ∷ [])))
+-- Both writes: the record behind its closed gate, and then the gate
 
-  pub piece_length : (bytes staged : List ℕ) → bytes ≡ front before bodies ++ 0 ∷ [] → m ≡ length (front before bodies) + 1 → staged ≡ bytes ++ (behind_gate body ++ 0 ∷ []) → length (take (length staged - m) (drop m staged)) ≡ 5 + length body
-  piece_length bytes staged is at more = omega (arith, ap length (piece_is bytes staged is at more), length-append (behind_gate body) (0 ∷ []), length-behind_gate body)
+module _ (node nodes : ℕ) (bodies : List (List ℕ)) (body : List ℕ) (gate : ℕ) (at : gate ≡ 16 + length (records bodies)) (size : length body < 2 ^ 32) where
+  gate_at : gate ≡ length (front (header node nodes) bodies)
+  gate_at = omega (arith, at, length-append (header node nodes) (records bodies))
 
-  pub staged_now : (content new bytes staged : List ℕ) → IsLog before content bodies → bytes ≡ front before bodies ++ 0 ∷ [] → m ≡ length (front before bodies) + 1 → staged ≡ bytes ++ (behind_gate body ++ 0 ∷ [])
-      → new ≡ written_at content m (take (length staged - m) (drop m staged)) → IsStaged before bodies body new
-  staged_now content new bytes staged log is at more done = stage_done content new (take (length staged - m) (drop m staged)) log at (piece_is bytes staged is at more) done
+  pub within_staged : (content : List ℕ) → IsStaged (header node nodes) bodies body content → gate ≤ length content
+  within_staged content staged = omega (arith, gate_at, ap length staged.bytes, length-append (front (header node nodes) bodies) (staged.gate ∷ (behind_gate body ++ 0 ∷ staged.tail)))
+
+  pub both_moments : (old mid new : DiskState) → LeavesOnly old mid (λ c. IsLog (header node nodes) c bodies) → IsStaged (header node nodes) bodies body mid.content → LeavesOnly mid new (Torn gate 1 mid.content)
+      → LeavesOnly old new (IsLogBeforeOrAfter node nodes bodies body)
+  both_moments old mid new first staged second =
+      LeavesOnly-trans old mid new (IsLogBeforeOrAfter node nodes bodies body) (LeavesOnly-weaker old mid _ _ (λ c log. inl log) first)
+      (LeavesOnly-weaker mid new _ _ (λ c torn. gate_torn (header node nodes) bodies body gate mid.content c staged size gate_at torn) second)
+
+  pub both_done : (content new : List ℕ) → IsStaged (header node nodes) bodies body content → new ≡ written_at content gate (1 ∷ []) → IsLog (header node nodes) new (bodies ++ body ∷ [])
+  both_done content new staged done = gate_done (header node nodes) bodies body gate content new staged size gate_at done
+
+  pub gate_after : gate + (5 + length body) ≡ 16 + length (records (bodies ++ body ∷ []))
+  gate_after = omega (arith, at, ap length (records_push bodies body), length-append (records bodies) (1 ∷ behind_gate body), length-behind_gate body)

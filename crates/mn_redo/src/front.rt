@@ -2,16 +2,17 @@ ghost use Rattle.std.specs.Prelude.{◌≡◌, ◌≤◌, ◌<◌, ℕ, [], leng
 ghost use Rattle.mn_io.specs.DiskModel.{DiskStays};
 ghost use Rattle.mn_io.specs.Faults.{Rose};
 ghost use Rattle.mn_redo.specs.Grammar.{AreInFront, IsDamaged, places};
+ghost use Rattle.mn_redo.specs.Log.{IsFrontKept, listed_in};
 ghost use Rattle.mn_redo.specs.declared.open.OpenCause.TheVariants as causes;
 
 use crate::body::body_of;
-use crate::open::{OpenCause, read_log, read_whole};
+use crate::open::{Found, OpenCause, read_log, read_whole};
 use mn_base::NodeNo;
 use mn_io::Disk;
 use std::alloc::Global;
 use std::marker::Model;
 
-/// The bodies of the whole records in front of the damage of a log.
+/// The bodies of the whole records in front of the closed gate or the damage of a log.
 #[derive(Drop)]
 pub struct Front {
     node: u8,
@@ -62,12 +63,20 @@ impl Front {
         bytes.truncate(at as usize);
         bytes.push(0)?;
         let found = read_log(alloc, bytes, node.0, nodes)?;
-        Ok(Front {
-            node: node.0,
+        Ok(Front::of(found, node.0, nodes))
+    }
+
+    /// The bodies of a log that was read.
+    pub fn of(found: Found, node: u8, nodes: u8) -> Front
+        requires { IsFrontKept node nodes found.bytes.items found.gates.items }
+        ensures { result ≡ listed_in 16 found.bytes.items }
+    {
+        Front {
+            node,
             nodes,
             bytes: found.bytes,
             gates: found.gates,
-        })
+        }
     }
 
     /// How many bodies there are.

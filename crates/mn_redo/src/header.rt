@@ -14,6 +14,15 @@ pub fn header_of(node: u8, nodes: u8) -> [u8; 16]
     [1, 77, 78, 76, 79, 71, 1, node, nodes, 0, 0, 0, 0, 0, 0, 0]
 }
 
+/// The bytes of a log of no bodies, up to its closed gate.
+pub fn empty_log(node: u8, nodes: u8) -> [u8; 17]
+    ensures { result ≡ header node nodes ++ 0 ∷ [] }
+{
+    [
+        1, 77, 78, 76, 79, 71, 1, node, nodes, 0, 0, 0, 0, 0, 0, 0, 0,
+    ]
+}
+
 /// Whether a disk with these bytes has no header yet.
 pub fn is_fresh(bytes: &[u8]) -> bool
     ensures { IsTrue result ↔ IsFresh bytes.now }

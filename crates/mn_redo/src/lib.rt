@@ -2,15 +2,16 @@
 //! an append leaves the list from before it or the one after it.
 #![tactic(auto)]
 
+mod appender;
 mod body;
 mod change;
 mod front;
 mod header;
 mod laws;
-mod log;
 mod open;
 mod redo;
 
+pub use appender::Appender;
 pub use front::Front;
 pub use laws::{damaged_or_not, one_list, one_place};
 pub use open::OpenCause;

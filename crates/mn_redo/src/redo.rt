@@ -2,19 +2,25 @@ ghost use Rattle.std.specs.Prelude.{◌≡◌, ◌≢◌, ◌≤◌, ◌<◌, �
 ghost use Rattle.std.specs.Prelude.{get_or, IfOk, IfErr, IsErrOf, OnOk, OnErr, IsOk, IsTrue, ◌↔◌};
 ghost use Rattle.mn_io.specs.DiskModel.{IsStable, LeavesOnly, NoneNew, DiskStays, WritesNothing};
 ghost use Rattle.mn_io.specs.Faults.{HasCause, Rose};
+ghost use Rattle.mn_redo.specs.Appender.{IsLogOf};
 ghost use Rattle.mn_redo.specs.Grammar.{header, IsBeforeOrAfter, IsDamaged, IsFresh, IsLog};
 ghost use Rattle.mn_redo.specs.Grammar.{IsStaged, Stands, places};
 ghost use Rattle.mn_redo.specs.Redo.{HasHeader, StandsFor};
 ghost use Rattle.mn_redo.specs.declared.open.OpenCause.TheVariants as causes;
 
+use crate::appender::Appender;
 use crate::body::body_of;
-use crate::header::write_header;
-use crate::log::{Log, half};
-use crate::open::{OpenCause, prepare};
+use crate::change::stage;
+use crate::open::OpenCause;
 use mn_base::NodeNo;
-use mn_io::{Disk, Fault, NoMemory};
+use mn_io::{Disk, Fault, NoMemory, make_room};
 use std::alloc::Global;
 use std::marker::Model;
+
+/// For how many bytes and gates there is room at once.
+const BYTES_AT_ONCE: usize = 1 << 20;
+
+const GATES_AT_ONCE: usize = 1 << 12;
 
 /// How far a log has come.
 #[derive(Clone, Copy, Debug, PartialEq, Eq)]
@@ -27,31 +33,40 @@ pub enum Phase {
     Closing,
 }
 
-/// A list of bodies on a disk.
+/// A list of bodies on a disk, with a copy of its bytes in memory.
 #[derive(Drop)]
 pub struct Redo<D: Disk> {
-    log: Log<D>,
-    phase: Phase,
+    appender: Appender<D>,
+    /// The log up to its closed gate.
+    bytes: Vec<u8>,
+    /// The places of the gates of its bodies.
+    gates: Vec<u64>,
+    spare_bodies: u32,
+    spare_bytes: usize,
 }
 
 impl<D: Disk> Model for Redo<D> {
-    ghost use Rattle.mn_redo.specs.Log.{listed};
-    ghost use Rattle.mn_redo.specs.Redo.{RedoState, IsSound};
+    ghost use Rattle.std.specs.Prelude.{◌≢◌, vec_capacity};
+    ghost use Rattle.mn_redo.specs.Log.{listed_in};
+    ghost use Rattle.mn_redo.specs.Redo.{RedoState, IsCopied};
+    ghost use Rattle.mn_redo.specs.declared.redo.Phase.TheVariants.{Closing};
 
     ghost Value = { RedoState D };
 
     ghost view = { λ r. record {
-      disk = r.log.disk;
-      node = r.log.node;
-      nodes = r.log.nodes;
-      phase = r.phase;
-      bodies = listed r.log;
-      spare_bodies = r.log.spare_bodies;
+      disk = r.appender.disk;
+      node = r.appender.node;
+      nodes = r.appender.nodes;
+      phase = r.appender.phase;
+      bodies = listed_in 16 r.bytes.items;
+      spare_bodies = r.spare_bodies;
       spare_bytes =
-          r.log.spare_bytes;
+          r.spare_bytes;
     } };
 
-    ghost invariant = { λ r. IsSound D.state D.spare_changes D.spare_bytes r.phase r.log };
+    ghost invariant = { λ r. r.appender.phase ≢ Closing
+        → IsCopied D.state r.appender r.bytes.items r.gates.items (vec_capacity r.bytes)
+        (vec_capacity r.gates) r.spare_bodies r.spare_bytes };
 }
 
 /// A disk that wasn't opened, and why.
@@ -113,25 +128,19 @@ impl<D: Disk> Redo<D> {
         ensures no_better_err { IfErr result
             (λ failed. (D.state failed.disk).honest → (D.state disk).honest) }
     {
-        let mut disk = disk;
-        match prepare(alloc, &mut disk, node.0, nodes) {
+        let mut appender = Appender::new(alloc, disk, node.0, nodes);
+        match appender.read(alloc) {
             Ok(found) => Ok(Redo {
-                phase: if found.is_fresh {
-                    Phase::Fresh
-                } else {
-                    Phase::Started
-                },
-                log: Log {
-                    disk,
-                    node: node.0,
-                    nodes,
-                    bytes: found.bytes,
-                    gates: found.gates,
-                    spare_bodies: 0,
-                    spare_bytes: 0,
-                },
+                appender,
+                bytes: found.bytes,
+                gates: found.gates,
+                spare_bodies: 0,
+                spare_bytes: 0,
             }),
-            Err(cause) => Err(OpenFailed { disk, cause }),
+            Err(cause) => Err(OpenFailed {
+                disk: appender.close(),
+                cause,
+            }),
         }
     }
 
@@ -175,17 +184,11 @@ impl<D: Disk> Redo<D> {
         ensures honest { (D.state self.old.disk).honest → (D.state self.new.disk).honest }
         ensures no_better { (D.state self.new.disk).honest → (D.state self.old.disk).honest }
     {
-        self.phase = Phase::Closing;
-        let found = prepare(alloc, &mut self.log.disk, self.log.node, self.log.nodes)?;
-        self.log.bytes = found.bytes;
-        self.log.gates = found.gates;
-        self.log.spare_bodies = 0;
-        self.log.spare_bytes = 0;
-        self.phase = if found.is_fresh {
-            Phase::Fresh
-        } else {
-            Phase::Started
-        };
+        let found = self.appender.read(alloc)?;
+        self.bytes = found.bytes;
+        self.gates = found.gates;
+        self.spare_bodies = 0;
+        self.spare_bytes = 0;
         Ok(())
     }
 
@@ -219,18 +222,7 @@ impl<D: Disk> Redo<D> {
         ensures no_better { (D.state self.new.disk).honest → (D.state self.old.disk).honest }
         ensures cause { HasCause (D.faults self.old.disk) (D.faults self.new.disk) result }
     {
-        if self.phase != Phase::Fresh {
-            return Ok(());
-        }
-        self.phase = Phase::Closing;
-        write_header(
-            &mut self.log.disk,
-            self.log.node,
-            self.log.nodes,
-            &self.log.bytes,
-        )?;
-        self.phase = Phase::Started;
-        Ok(())
+        self.appender.start()
     }
 
     /// Takes the memory for so many more bodies with so many bytes in them, on the disk too: the
@@ -253,7 +245,15 @@ impl<D: Disk> Redo<D> {
         ensures no_better { (D.state self.new.disk).honest → (D.state self.old.disk).honest }
         ensures faults { D.faults self.new.disk ≡ D.faults self.old.disk }
     {
-        self.log.reserve(bodies, bytes)
+        let bodies = self.spare_bodies.max(bodies);
+        let bytes = self.spare_bytes.max(bytes);
+        self.appender.reserve(bodies, bytes)?;
+        let count = bodies as usize;
+        make_room(&mut self.gates, count, GATES_AT_ONCE)?;
+        make_room(&mut self.bytes, bytes + 5 * count, BYTES_AT_ONCE)?;
+        self.spare_bodies = bodies;
+        self.spare_bytes = bytes;
+        Ok(())
     }
 
     /// Adds a body of fewer than 2^32 bytes at the end of the list; at `Ok` it is stable. It uses
@@ -291,9 +291,13 @@ impl<D: Disk> Redo<D> {
         ensures no_better { (D.state self.new.disk).honest → (D.state self.old.disk).honest }
         ensures cause { HasCause (D.faults self.old.disk) (D.faults self.new.disk) result }
     {
-        self.phase = Phase::Closing;
-        self.log.append(body)?;
-        self.phase = Phase::Started;
+        self.appender.append(body)?;
+        let gate = self.bytes.len() - 1;
+        stage(&mut self.bytes, body);
+        self.bytes[gate] = 1;
+        self.gates.push(gate as u64).unwrap();
+        self.spare_bodies -= 1;
+        self.spare_bytes -= body.len();
         Ok(())
     }
 
@@ -326,29 +330,21 @@ impl<D: Disk> Redo<D> {
         ensures no_better { (D.state self.new.disk).honest → (D.state self.old.disk).honest }
         ensures cause { HasCause (D.faults self.old.disk) (D.faults self.new.disk) result }
     {
-        self.phase = Phase::Closing;
-        half(
-            &mut self.log.disk,
-            self.log.node,
-            self.log.nodes,
-            &mut self.log.bytes,
-            body,
-        )?;
-        Ok(())
+        self.appender.write_half(body)
     }
 
     /// The number of the node whose log it is.
     pub fn node(&self) -> u8
         ensures { result ≡ self.now.node }
     {
-        self.log.node
+        self.appender.node()
     }
 
     /// How many nodes there are.
     pub fn nodes(&self) -> u8
         ensures { result ≡ self.now.nodes }
     {
-        self.log.nodes
+        self.appender.nodes()
     }
 
     /// How many bodies there are.
@@ -356,7 +352,7 @@ impl<D: Disk> Redo<D> {
         requires going { self.now.phase ≢ Phase.Closing }
         ensures { result ≡ length self.now.bodies }
     {
-        self.log.gates.len() as u32
+        self.gates.len() as u32
     }
 
     /// The bytes of a body, whose number is below the count.
@@ -366,10 +362,10 @@ impl<D: Disk> Redo<D> {
         ensures { result.now ≡ get_or self.now.bodies number [] }
     {
         body_of(
-            &self.log.bytes,
-            &self.log.gates,
-            self.log.node,
-            self.log.nodes,
+            &self.bytes,
+            &self.gates,
+            self.appender.node(),
+            self.appender.nodes(),
             number as usize,
         )
     }
@@ -380,14 +376,14 @@ impl<D: Disk> Redo<D> {
         requires number { number < length self.now.bodies }
         ensures { result ≡ get_or (places 16 self.now.bodies) number 0 }
     {
-        self.log.gates[number as usize]
+        self.gates[number as usize]
     }
 
     /// Whether the disk was read as fresh and `start` hasn't written its header.
     pub fn is_fresh(&self) -> bool
         ensures { IsTrue result ↔ (self.now.phase ≡ Phase.Fresh) }
     {
-        self.phase == Phase::Fresh
+        self.appender.is_fresh()
     }
 
     /// The disk, as the last call left it.
@@ -398,6 +394,17 @@ impl<D: Disk> Redo<D> {
         ensures stands { self.phase ≢ Phase.Closing → (D.state result).honest
             → StandsFor (D.state result) self.node self.nodes self.bodies }
     {
-        self.log.disk
+        self.appender.close()
+    }
+
+    /// The same log without the copy of its bodies.
+    pub fn into_appender(self) -> Appender<D>
+        ensures disk { result.disk ≡ self.disk }
+        ensures node { result.node ≡ self.node }
+        ensures nodes { result.nodes ≡ self.nodes }
+        ensures phase { result.phase ≡ self.phase }
+        ensures log { self.phase ≢ Phase.Closing → IsLogOf D.state result self.bodies }
+    {
+        self.appender
     }
 }

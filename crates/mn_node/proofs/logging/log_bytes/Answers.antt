@@ -1,6 +1,6 @@
-use Rattle.mn_node.proofs.Steps.{on_ok, one_body_more, appended_stands, stops_here, stops_earlier}
-use Rattle.std.proofs.Common.{◌++◌, ◌∷◌, [], ℕ, List, Some, ap, arith, length, sym, ◌∙◌}
-use Rattle.mn_node.specs.Node.{HasRoomForRecord, IsWithOrWithout}
+use Rattle.mn_node.proofs.Steps.{on_ok, one_body_more, stops_here, stops_earlier}
+use Rattle.std.proofs.Common.{◌++◌, ◌∷◌, [], ℕ, List, Some, ap, arith, length, subst, sym, ◌∙◌}
+use Rattle.mn_node.specs.Node.{HasRoomForRecord, IsLogFor, IsWithOrWithout, bodies_of}
 use Rattle.mn_mini.specs.RecordGrammar.{record_bytes}
 use Rattle.mn_node.proofs.Moments.{crash_leaves_at_rest, logging_moments, up_images}
 use Rattle.mn_node.proofs.logging.log_bytes.Goals as goal
@@ -9,7 +9,7 @@ pub returns-then-not-append_or_stop-clause-leaves : goal.returns-then-not-append
 returns-then-not-append_or_stop-clause-leaves g c = λ r spelled.
     let mid = c.make_room.new.redo in
     let memory = c.make_room.new.memory in
-    let here = stops_here g.D.Disk.state g.D.Disk.faults mid c.append_or_stop.new.redo memory.records.items r c.args.body.now c.args.stop c.make_room.ensures.up.bodies spelled c.append_or_stop.ensures.images (c.append_or_stop.ensures.stopped c.if-not-append_or_stop.true) in (
+    let here = stops_here g.D.Disk.state g.D.Disk.faults mid c.append_or_stop.new.redo memory.records.items r c.args.body.now c.args.stop spelled (c.append_or_stop.ensures.images _ c.make_room.ensures.up.log) (c.append_or_stop.ensures.stopped c.if-not-append_or_stop.true _ c.make_room.ensures.up.log) in (
       c.make_room.ensures.records,
       stops_earlier g.D.Disk.state g.D.Disk.faults c.args.redo.now mid c.append_or_stop.new.redo.disk memory.records.items c.args.memory.now.records.items r c.args.stop c.make_room.ensures.continues (g.D.Disk.is_disk c.args.redo.now.disk)
           c.make_room.ensures.rests c.make_room.ensures.records here,
@@ -23,20 +23,19 @@ returns-then-is_err-clause-moments g c = λ r spelled.
 pub returns-then-not-append_or_stop-clause-moments : goal.returns-then-not-append_or_stop-clause-moments
 returns-then-not-append_or_stop-clause-moments g c = λ r spelled.
     let old = c.args.redo.now in
-    logging_moments g.D.Disk.state g.D.Disk.faults old c.make_room.new.redo c.append_or_stop.new.redo.disk c.args.memory.now c.make_room.new.memory r c.args.body.now (g.D.Disk.is_disk old.disk) c.requires.up c.make_room.ensures.up c.make_room.ensures.continues c.make_room.ensures.records spelled c.make_room.ensures.rests c.append_or_stop.ensures.moments
+    logging_moments g.D.Disk.state g.D.Disk.faults old c.make_room.new.redo c.append_or_stop.new.redo.disk c.args.memory.now c.make_room.new.memory r c.args.body.now (g.D.Disk.is_disk old.disk) c.requires.up c.make_room.ensures.continues c.make_room.ensures.records spelled c.make_room.ensures.rests (c.append_or_stop.ensures.moments _ c.make_room.ensures.up.log)
 
 pub returns-clause-moments : goal.returns-clause-moments
 returns-clause-moments g c = λ r spelled.
     let old = c.args.redo.now in
-    logging_moments g.D.Disk.state g.D.Disk.faults old c.make_room.new.redo c.append_or_stop.new.redo.disk c.args.memory.now c.make_room.new.memory r c.args.body.now (g.D.Disk.is_disk old.disk) c.requires.up c.make_room.ensures.up c.make_room.ensures.continues c.make_room.ensures.records spelled c.make_room.ensures.rests c.append_or_stop.ensures.moments
+    logging_moments g.D.Disk.state g.D.Disk.faults old c.make_room.new.redo c.append_or_stop.new.redo.disk c.args.memory.now c.make_room.new.memory r c.args.body.now (g.D.Disk.is_disk old.disk) c.requires.up c.make_room.ensures.continues c.make_room.ensures.records spelled c.make_room.ensures.rests (c.append_or_stop.ensures.moments _ c.make_room.ensures.up.log)
 
 pub returns-clause-leaves : goal.returns-clause-leaves
 returns-clause-leaves g c = λ r spelled.
     let mid = c.make_room.new.redo in
     let m = c.make_room.new.memory in
     let up = c.make_room.ensures.up in
-    let appended = c.append_or_stop.ensures.appended c.if-not-append_or_stop.false in
-    let goes = c.append_or_stop.ensures.continues in
+    let appended = c.append_or_stop.ensures.appended c.if-not-append_or_stop.false _ up.log in
     let more = on_ok c.make_room.result (HasRoomForRecord mid m (length c.args.body.now) c.args.ranges) (sym c.is_err.ensures.value ∙ c.if-is_err.false) c.make_room.ensures.more in (
       record {
         memory = up.memory;
@@ -47,10 +46,9 @@ returns-clause-leaves g c = λ r spelled.
         votes = more.votes;
         ranges = more.ranges;
         started = appended.started;
-        bodies = appended.bodies ∙ ap (λ (b : List ℕ). mid.bodies ++ b ∷ []) spelled ∙ ap (λ (l : List (List ℕ)). l ++ record_bytes r ∷ []) up.bodies ∙ one_body_more m.records.items r;
+        log = subst (IsLogFor g.D.Disk.state c.append_or_stop.new.redo) (ap (λ (b : List ℕ). bodies_of m.records.items ++ b ∷ []) spelled ∙ one_body_more m.records.items r) appended.log;
         spare_bodies = omega (arith, more.bodies, appended.spare_bodies);
         spare_bytes = omega (arith, more.bytes, appended.spare_bytes);
-        stands = appended_stands g.D.Disk.state mid c.append_or_stop.new.redo c.args.body.now appended goes.node goes.nodes goes.no_better;
       },
       c.make_room.ensures.records,
       c.make_room.ensures.held,

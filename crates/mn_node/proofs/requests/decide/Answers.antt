@@ -1,10 +1,9 @@
 use Rattle.std.proofs.Common.{◌≡◌, ◌++◌, ◌∷◌, [], ℕ, Bool, true, List, Option, length, reverse, Some, None, refl, ap, sym, ◌∙◌, subst, arith, rules, if◌then◌else◌}
-use Rattle.mn_redo.specs.Redo.{StandsFor}
 use Rattle.mn_mini.specs.declared.record.Record.{Record}
 use Rattle.mn_mini.specs.declared.record.Record.TheVariants.{Decided}
 use Rattle.mn_mini.specs.Node.{is_held}
 use Rattle.mn_redo.specs.Grammar.{IsBeforeOrAfter}
-use Rattle.mn_node.specs.Node.{IsWithOrWithout, CrashLeavesOnly, added_to}
+use Rattle.mn_node.specs.Node.{IsLogFor, IsWithOrWithout, CrashLeavesOnly, added_to, bodies_of}
 use Rattle.mn_node.proofs.Moments.{crash_leaves_weaker, with_record}
 use Rattle.mn_node.proofs.Steps.{up_added, stops_here, unasked}
 use Rattle.mn_node.proofs.requests.decide.Goals as goal
@@ -25,24 +24,21 @@ returns-then-not-append_or_stop-clause-handled g c =
     let held : is_held (reverse records) c.args.tid ≡ true = search rules in (
       refl,
       ap (λ (b : Bool). if b then Some r else None) held,
-      stops_here g.D.Disk.state g.D.Disk.faults c.args.redo.now c.append_or_stop.new.redo records r c.decided_body.result c.args.stop c.requires.up.bodies c.decided_body.ensures c.append_or_stop.ensures.images (c.append_or_stop.ensures.stopped c.if-not-append_or_stop.true),
+      stops_here g.D.Disk.state g.D.Disk.faults c.args.redo.now c.append_or_stop.new.redo records r c.decided_body.result c.args.stop c.decided_body.ensures (c.append_or_stop.ensures.images _ c.requires.up.log) (c.append_or_stop.ensures.stopped c.if-not-append_or_stop.true _ c.requires.up.log),
     )
 
 pub returns-clause-handled : goal.returns-clause-handled
 returns-clause-handled g c =
     let records = c.args.memory.now.records.items in
-    let old = c.args.redo.now in
     let new = c.append_or_stop.new.redo in
     let r : Record = Decided c.args.tid c.args.yes in
     let held : is_held (reverse records) c.args.tid ≡ true = search rules in
-    let appended = c.append_or_stop.ensures.appended c.if-not-append_or_stop.false in
+    let appended = c.append_or_stop.ensures.appended c.if-not-append_or_stop.false _ c.requires.up.log in
     let size : length c.decided_body.result ≡ 11 = ap (λ (l : List ℕ). length l) c.decided_body.ensures in (
-      up_added g.D.Disk.state old new c.args.memory.now c.add_decision.new.self r c.requires.up
+      up_added g.D.Disk.state new c.args.memory.now c.add_decision.new.self r
           appended.started
-          (appended.bodies ∙ ap (λ (b : List ℕ). old.bodies ++ b ∷ []) c.decided_body.ensures)
-          c.append_or_stop.ensures.continues.node c.append_or_stop.ensures.continues.nodes
-          (λ h. subst (λ (b : List ℕ). StandsFor (g.D.Disk.state new.disk) old.node old.nodes (old.bodies ++ b ∷ [])) c.decided_body.ensures (appended.stands h))
-          c.append_or_stop.ensures.continues.no_better c.add_decision.ensures.memory c.add_decision.ensures.room c.add_decision.ensures.records
+          (subst (λ (b : List ℕ). IsLogFor g.D.Disk.state new (bodies_of records ++ b ∷ [])) c.decided_body.ensures appended.log)
+          c.add_decision.ensures.memory c.add_decision.ensures.room c.add_decision.ensures.records
           (omega (arith, appended.spare_bodies, c.add_decision.ensures.held, c.requires.up.spare_bodies))
           (omega (arith, appended.spare_bytes, size, c.add_decision.ensures.held, c.requires.up.spare_bytes)),
       refl,
@@ -58,7 +54,7 @@ returns-then-not-append_or_stop-clause-moments g c =
     let held : is_held (reverse records) c.args.tid ≡ true = search rules in
     let one : (if is_held (reverse records) c.args.tid then Some r else None) ≡ Some r = ap (λ (b : Bool). if b then Some r else None) held in
     subst (λ (o : Option Record). CrashLeavesOnly g.D.Disk.state old.disk c.append_or_stop.new.redo.disk (IsWithOrWithout old.node old.nodes records o)) (sym one)
-    (crash_leaves_weaker g.D.Disk.state old.disk c.append_or_stop.new.redo.disk (IsBeforeOrAfter old.node old.nodes old.bodies c.decided_body.result) (IsWithOrWithout old.node old.nodes records (Some r)) (with_record old.node old.nodes old.bodies c.decided_body.result records r c.requires.up.bodies c.decided_body.ensures) c.append_or_stop.ensures.moments)
+    (crash_leaves_weaker g.D.Disk.state old.disk c.append_or_stop.new.redo.disk (IsBeforeOrAfter old.node old.nodes (bodies_of records) c.decided_body.result) (IsWithOrWithout old.node old.nodes records (Some r)) (with_record old.node old.nodes c.decided_body.result records r c.decided_body.ensures) (c.append_or_stop.ensures.moments _ c.requires.up.log))
 
 pub returns-clause-moments : goal.returns-clause-moments
 returns-clause-moments g c =
@@ -68,4 +64,4 @@ returns-clause-moments g c =
     let held : is_held (reverse records) c.args.tid ≡ true = search rules in
     let one : (if is_held (reverse records) c.args.tid then Some r else None) ≡ Some r = ap (λ (b : Bool). if b then Some r else None) held in
     subst (λ (o : Option Record). CrashLeavesOnly g.D.Disk.state old.disk c.append_or_stop.new.redo.disk (IsWithOrWithout old.node old.nodes records o)) (sym one)
-    (crash_leaves_weaker g.D.Disk.state old.disk c.append_or_stop.new.redo.disk (IsBeforeOrAfter old.node old.nodes old.bodies c.decided_body.result) (IsWithOrWithout old.node old.nodes records (Some r)) (with_record old.node old.nodes old.bodies c.decided_body.result records r c.requires.up.bodies c.decided_body.ensures) c.append_or_stop.ensures.moments)
+    (crash_leaves_weaker g.D.Disk.state old.disk c.append_or_stop.new.redo.disk (IsBeforeOrAfter old.node old.nodes (bodies_of records) c.decided_body.result) (IsWithOrWithout old.node old.nodes records (Some r)) (with_record old.node old.nodes c.decided_body.result records r c.decided_body.ensures) (c.append_or_stop.ensures.moments _ c.requires.up.log))

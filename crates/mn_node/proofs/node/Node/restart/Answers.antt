@@ -1,3 +1,4 @@
+use Rattle.std.proofs.Common.{refl}
 use Rattle.mn_node.specs.Node.{bodies_of}
 use Rattle.mn_node.proofs.Moments.{still_stands}
 use Rattle.mn_node.proofs.node.Node.restart.Goals as goal
@@ -26,5 +27,5 @@ returns-in-Ok-clause-found g c =
     (λ honest records stands.
     let image = (g.D.Disk.is_disk new.disk (continues.honest honest)).read in
     c.one_list.ensures old.node old.nodes disk.content (bodies_of c.back.new.memory.records.items) (bodies_of records)
-    (still_stands new.node old.node new.nodes old.nodes continues.node continues.nodes new.bodies (bodies_of c.back.new.memory.records.items) up.bodies disk.content (up.stands (continues.honest honest) disk.content image))
+    (still_stands new.node old.node new.nodes old.nodes continues.node continues.nodes (bodies_of c.back.new.memory.records.items) (bodies_of c.back.new.memory.records.items) refl disk.content (up.log.stands (continues.honest honest) disk.content image))
     (keeps honest (bodies_of records) (stands honest) disk.content image))

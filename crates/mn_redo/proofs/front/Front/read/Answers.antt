@@ -1,6 +1,6 @@
-use Rattle.std.proofs.Common.{◌≡◌, ◌∷◌, ◌++◌, [], ℕ, List, Err, Bool, true, false, inl, inr, refl, take, sym, ◌∙◌, ap}
+use Rattle.std.proofs.Common.{◌≡◌, ◌∷◌, ◌++◌, [], ℕ, List, Err, Bool, true, false, inl, inr, refl, take, sym, ◌∙◌, ap, subst}
 use Rattle.std.proofs.lemmas.Result.{err_from_is_err_and}
-use Rattle.mn_redo.specs.Grammar.{header, IsFresh, IsLog, Stands}
+use Rattle.mn_redo.specs.Grammar.{header, AreInFront, IsFresh, IsLog, Stands}
 use Rattle.mn_redo.specs.declared.open.OpenCause.TheVariants as causes
 use Rattle.mn_redo.proofs.Causes.{cause_in}
 use Rattle.mn_redo.proofs.Unique.{in_front, whole_in_front}
@@ -16,7 +16,7 @@ returns-clause-front g c honest damaged =
     let found = c.in_ok-found.found in
     let read = c.in_ok-found.ensures in
     let kept = c.in_ok-push.ensures.items ∙ ap (λ (l : List ℕ). l ++ 0 ∷ []) (c.truncate.ensures.items ∙ ap (λ (l : List ℕ). take c.args.at l) (c.in_ok-bytes.ensures.content honest)) in
-    in_front c.args.node.0 c.args.nodes content _ c.args.at _ damaged kept (stands c.args.node.0 c.args.nodes _ _ found.is_fresh read.fresh read.none read.log)
+    subst (AreInFront c.args.node.0 c.args.nodes content c.args.at) (sym c.of.ensures) (in_front c.args.node.0 c.args.nodes content _ c.args.at _ damaged kept (stands c.args.node.0 c.args.nodes _ _ found.is_fresh read.fresh read.none read.log))
 
 pub returns-in_err-found-clause-damaged : goal.returns-in_err-found-clause-damaged
 returns-in_err-found-clause-damaged g c honest damaged other is =

@@ -8,5 +8,5 @@ pub returns-in_err-found-clause-told : goal.returns-in_err-found-clause-told
 returns-in_err-found-clause-told g c at is =
     let r = err_from_is_err_and c.from_residual.result c.from_residual.ensures.1 in
     let same : r.0 ≡ Damaged at = ap cause_in (sym r.1 ∙ is) in
-    let told = c.prepare.ensures.told at (c.in_err-found.was ∙ ap Err (sym r.2 ∙ same)) in
+    let told = c.read.ensures.told at (c.in_err-found.was ∙ ap Err (sym r.2 ∙ same)) in
     rw (← c.self.view_is) told
