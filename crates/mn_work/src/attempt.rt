@@ -386,7 +386,7 @@ impl Attempt {
     {
         pages_are_known();
         let key = key_of(&steps.as_slice()[self.done]);
-        let Some(page) = page_in(alloc, bytes.as_slice())? else {
+        let Some(page) = page_in(alloc, &bytes)? else {
             self.pages.push(SeenPage {
                 addr,
                 bytes,

@@ -9,6 +9,7 @@ ghost use Rattle.mn_work.specs.Catalogs.{found, name_in, parent_in, root_named};
 
 use mn_base::{Addr, Listing, Name, NoMemory, Op, Reply, TryCopy, Version, VersionNo};
 use mn_catalog::{CatError, Catalog};
+use mn_mini::SharedBytes;
 use mn_page::CatEntry;
 use mn_vtree::{TreeError, VersionTree};
 use std::alloc::Global;
@@ -51,10 +52,10 @@ pub fn tree_of(alloc: Global, catalog: &Catalog) -> Result<VersionTree, TreeErro
 
 /// The catalog that the bytes spell, with parents below their children, or none. NoMemory: there
 /// was no memory for it.
-pub fn kept_of(alloc: Global, bytes: &[u8]) -> Result<Option<Kept>, NoMemory>
+pub fn kept_of(alloc: Global, bytes: &SharedBytes) -> Result<Option<Kept>, NoMemory>
     ensures { IfOk result (TellsVersions bytes.now) }
 {
-    let catalog = match Catalog::read(alloc, bytes) {
+    let catalog = match Catalog::read_padded(alloc, &bytes.padded()) {
         Ok(catalog) => catalog,
         Err(CatError::BadCatalog { .. }) => return Ok(None),
         Err(CatError::NoMemory) => return Err(NoMemory),

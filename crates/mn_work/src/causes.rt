@@ -52,7 +52,7 @@ fn met_page(kept: &Kept, version: VersionNo, seen: &SeenPage, key: &[u8], above:
     ensures high { IsHigh result }
     ensures met { (nodes : ℕ) → MeetsAt nodes kept.now version key.now above seen.now result }
 {
-    let Ok(Some(page)) = PageRef::new(seen.bytes.as_slice()) else {
+    let Ok(Some(page)) = PageRef::of_padded(&seen.bytes.padded()) else {
         return Met::Fault {
             busy: path_fault(seen.addr, 0),
         };

@@ -150,7 +150,7 @@ impl Child {
         ensures taken { IfOk result (TakesRootBytes known.old.catalog self.old bytes.now self.new) }
         ensures stays { KeepsTry self.old self.new }
     {
-        let Some(page) = page_in(alloc, bytes.as_slice())? else {
+        let Some(page) = page_in(alloc, bytes)? else {
             return Ok(Taken::Fails {
                 cause: fault_at(self.root, 0),
             });

@@ -276,7 +276,7 @@ impl Descent {
         ensures taken { DescentGoesOn known.old.catalog self.old key.now bytes.now self.new result }
     {
         let key = key.as_slice();
-        let Ok(Some(page)) = PageRef::new(bytes.as_slice()) else {
+        let Ok(Some(page)) = PageRef::of_padded(&bytes.padded()) else {
             return Ok(Taken::Fails {
                 cause: fault_at(self.addr, 0),
             });

@@ -35,7 +35,7 @@ impl Known {
     }
 
     /// Keeps the catalog that the bytes spell, in place of the older one. Whether they spell one.
-    pub fn learn(&mut self, alloc: Global, bytes: &[u8]) -> Result<bool, NoMemory>
+    pub fn learn(&mut self, alloc: Global, bytes: &SharedBytes) -> Result<bool, NoMemory>
         ensures learnt { IfOk result (LearnsFrom bytes.now self.new.catalog) }
         ensures left { OnErr result (self.new.catalog ≡ self.old.catalog) }
         ensures kept { (self.new.nodes ≡ self.old.nodes) × (self.new.cache ≡ self.old.cache) }

@@ -204,7 +204,7 @@ pub fn take_page(
     ensures taken { IfOk result (ScanGoesOn known.old name.now scan.old addr bytes.now scan.new) }
     ensures stays { IfOk result (StaysBefore scan.old scan.new) }
 {
-    let Some(page) = page_in(alloc, bytes.as_slice())? else {
+    let Some(page) = page_in(alloc, bytes)? else {
         return Ok(Taken::Fails {
             cause: fault_at(addr, 0),
         });

@@ -3,6 +3,7 @@ ghost use Rattle.mn_page.specs.Grammar.{IsPage, height_of};
 ghost use Rattle.mn_work.specs.Seen.{TellsPage};
 
 use mn_base::NoMemory;
+use mn_mini::SharedBytes;
 use mn_page::{Body, Page, PageError, SharedPage};
 use std::alloc::Global;
 
@@ -18,10 +19,10 @@ pub fn is_leaf(page: &Page) -> bool
 
 /// The page that these bytes spell, or none. NoMemory: there was no memory for it.
 #[inline(always)]
-pub fn page_in(alloc: Global, bytes: &[u8]) -> Result<Option<SharedPage>, NoMemory>
+pub fn page_in(alloc: Global, bytes: &SharedBytes) -> Result<Option<SharedPage>, NoMemory>
     ensures { IfOk result (TellsPage bytes.now) }
 {
-    match Page::read(alloc, bytes) {
+    match Page::read_padded(alloc, &bytes.padded()) {
         Ok(Some(page)) => Ok(Some(SharedPage::new(alloc, page)?)),
         Ok(None) => Ok(None),
         Err(PageError::BadPage { .. }) => Ok(None),

@@ -332,7 +332,7 @@ impl Work {
         &mut self,
         alloc: Global,
         known: &mut Known,
-        bytes: &[u8],
+        bytes: &SharedBytes,
     ) -> Result<Taken, NoMemory>
         requires startable { IsStartable self.old.op self.old.job }
         ensures kept { (known.new.nodes ≡ known.old.nodes) × (known.new.cache ≡ known.old.cache) }

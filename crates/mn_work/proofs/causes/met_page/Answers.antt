@@ -29,7 +29,7 @@ on_path parents tree version key above front its on result same is told e =
 pub returns-then-not-is_on_path-clause-met : goal.returns-then-not-is_on_path-clause-met
 returns-then-not-is_on_path-clause-met c nodes seens op walks brought =
     let page = c.in-Ok-Some.page in
-    let spells = spelled c.args.seen.now.bytes c.as_slice.result.now c.in-Ok-Some.field-0 page c.as_slice.ensures c.in-Ok-Some.field-0-is c.in-Ok-Some.ensures.read in
+    let spells = spelled c.args.seen.now.bytes c.padded.result c.in-Ok-Some.field-0 page c.padded.ensures c.in-Ok-Some.field-0-is c.in-Ok-Some.ensures.read in
     let off = on_path _ c.tree.result.now c.args.version.0 c.args.key.now c.args.above c.of_ref.result _ c.is_on_path.result false c.tree.ensures c.of_ref.ensures c.is_on_path.ensures c.if-not-is_on_path.true in
     subst (λ (b : Busy). MeetsFault nodes seens op b)
     (sym (c.path_fault-then-not-is_on_path.ensures ∙ ap (Path c.args.seen.now.addr) c.seq.ensures))
@@ -38,7 +38,7 @@ returns-then-not-is_on_path-clause-met c nodes seens op walks brought =
 pub returns-clause-met : goal.returns-clause-met
 returns-clause-met c nodes seens op walks brought =
     let page = c.in-Ok-Some.page in
-    let spells = spelled c.args.seen.now.bytes c.as_slice.result.now c.in-Ok-Some.field-0 page c.as_slice.ensures c.in-Ok-Some.field-0-is c.in-Ok-Some.ensures.read in
+    let spells = spelled c.args.seen.now.bytes c.padded.result c.in-Ok-Some.field-0 page c.padded.ensures c.in-Ok-Some.field-0-is c.in-Ok-Some.ensures.read in
     let on = on_path _ c.tree.result.now c.args.version.0 c.args.key.now c.args.above c.of_ref.result _ c.is_on_path.result true c.tree.ensures c.of_ref.ensures c.is_on_path.ensures c.if-not-is_on_path.false in
     let high : 1 ≤ height_of page.body = let none = c.if-height-eq0.false in let is = c.height.ensures in omega arith in
     subst (λ (h : ℕ). ReachesAddr seens op c.args.kept.now c.args.key.now c.child_in.result (height_below (Some h))) (sym c.height-2.ensures)
