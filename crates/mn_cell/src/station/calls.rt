@@ -178,8 +178,9 @@ fn restart_entry(number: NodeNo, client: ClientNo, kept: bool) -> Entry
 }
 
 /// Adds an entry, which is there twice, and puts it at the end of both lists. `own` is the node's
-/// pass, which comes back.
-#[inline(always)]
+/// pass, which comes back. It is a call of its own, so that entries go whole from their making to
+/// their lists.
+#[inline(never)]
 fn enter(
     board: &Board<CoreLaw>,
     own: Pass<CoreLaw>,
