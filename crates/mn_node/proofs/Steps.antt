@@ -18,8 +18,7 @@ use Rattle.mn_node.proofs.Resting.{rests_then}
 use Rattle.std.proofs.lemmas.List.{map-append}
 use Rattle.mn_io.specs.DiskModel.{DiskState, IsDisk}
 use Rattle.mn_redo.specs.Grammar.{Stands}
-use Rattle.mn_redo.specs.Appender.{AppenderState, IsLogOf}
-use Rattle.mn_redo.specs.Redo.{StandsFor}
+use Rattle.mn_redo.specs.Appender.{AppenderState}
 use Rattle.mn_redo.specs.declared.redo.Phase.TheVariants.{Started}
 use Rattle.mn_mini.specs.declared.record.Record.{Record}
 use Rattle.mn_mini.specs.RecordGrammar.{record_bytes}
@@ -40,16 +39,6 @@ up_added state new before after r started log memory room records spare_bodies s
   log = subst (IsLogFor state new) (one_body_more before.records.items r ∙ ap bodies_of (sym records)) log;
   spare_bodies = spare_bodies;
   spare_bytes = spare_bytes;
-}
-
--- a log of the same node that stands for its bodies
-pub log_for : {D : Type 0} (state : D → DiskState) (old new : AppenderState D) (bodies : List (List ℕ)) → IsLogOf state new bodies → new.node ≡ old.node → new.nodes ≡ old.nodes
-    → ((state new.disk).honest → StandsFor (state new.disk) old.node old.nodes bodies) → IsLogFor state new bodies
-log_for state old new bodies log node nodes stands = record {
-  log = log;
-  stands = λ h c image.
-      let with_node = subst (λ (n : ℕ). Stands n old.nodes c bodies) (sym node) (stands h c image) in
-      subst (λ (n : ℕ). Stands new.node n c bodies) (sym nodes) with_node;
 }
 
 -- What a call told, by its result

@@ -185,9 +185,8 @@ pub record IsLogged {D : Type 0} (state : D → DiskState) (redo : AppenderState
   pub spare_bytes : 11 * (vec_len m.held + 1) ≤ redo.spare_bytes
 
 -- what the attempt to log a record leaves
-abbrev pub LoggingLeaves : {D : Type 0} → (D → DiskState) → (D → ℕ) → AppenderState D → Memory → Record
-    → ℕ
-    → Option StopAt → Logging → AppenderState D → Memory → Type 0
+abbrev pub LoggingLeaves : {D : Type 0} → (D → DiskState) → (D → ℕ) → AppenderState D → Memory
+    → Record → ℕ → Option StopAt → Logging → AppenderState D → Memory → Type 0
 LoggingLeaves state faults redo m r count stop NoRoom new after =
     IsNodeUp state new after × (after.records.items ≡ m.records.items)
 LoggingLeaves state faults redo m r count stop Stopped new after =

@@ -1,5 +1,5 @@
-ghost use Rattle.std.specs.Prelude.{◌≡◌, ◌<◌, ◌≤◌, ◌+◌, ◌*◌, List, [], ℕ, length, IfOk, IfSome};
-ghost use Rattle.std.specs.Prelude.{slice_index_or, vec_capacity, vec_len};
+ghost use Rattle.std.specs.Prelude.{◌≡◌, ◌≢◌, ◌<◌, ◌≤◌, ◌+◌, ◌*◌, List, [], ℕ, length, IfOk, IfSome};
+ghost use Rattle.std.specs.Prelude.{IsNone, slice_index_or, vec_capacity, vec_len};
 ghost use Rattle.mn_mini.specs.Flat.{overwritten};
 ghost use Rattle.mn_mini.specs.Mini.{space_size};
 ghost use Rattle.mn_node.specs.Images.{AreImages, AreLeft, IsKept, block_size};
@@ -36,7 +36,8 @@ impl Model for Images {
 
 /// The block that a range is.
 pub fn block_of(start: usize, length: usize) -> Option<usize>
-    ensures { IfSome result (λ block. (start ≡ block_size * block) × (length ≡ block_size)) }
+    ensures some { IfSome result (λ block. (start ≡ block_size * block) × (length ≡ block_size)) }
+    ensures none { IsNone result → (block : ℕ) → start ≡ block_size * block → length ≢ block_size }
 {
     if length == BLOCK && start % BLOCK == 0 {
         Some(start / BLOCK)
@@ -70,7 +71,9 @@ impl Images {
 
     /// The image of a block.
     pub fn at(&self, block: usize) -> Option<&SharedBytes>
-        ensures { IfSome result (λ image. slice_index_or self.now block None ≡ Some image.now) }
+        ensures some { IfSome result (λ image. slice_index_or self.now block None
+            ≡ Some image.now) }
+        ensures none { IsNone result → slice_index_or self.now block None ≡ None }
     {
         match self.images.get(block) {
             Some(Some(image)) => Some(image),

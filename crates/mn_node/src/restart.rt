@@ -258,7 +258,8 @@ fn wake_with<D: Disk>(
 ) -> Result<(), RestartError>
     requires going { redo.old.phase ≢ Closing }
     requires nodes { 0 < memory.old.nodes }
-    requires log { IsLogOf D.state redo.old (bodies_of (memory.old.records.items ++ left.now ∷ [])) }
+    requires log { IsLogOf D.state redo.old
+        (bodies_of (memory.old.records.items ++ left.now ∷ [])) }
     requires sound { AllByRecursion IsRecord (memory.old.records.items ++ left.now ∷ []) }
     requires apart { PartsAreApart
         (held_parts (reverse (memory.old.records.items ++ left.now ∷ []))) }
@@ -274,7 +275,8 @@ fn wake_with<D: Disk>(
         (bodies_of (memory.old.records.items ++ left.now ∷ [])) }
     ensures moments { (D.state redo.old.disk).honest
         → LeavesOnly (D.state redo.old.disk) (D.state redo.new.disk)
-        (λ c. Stands redo.old.node redo.old.nodes c (bodies_of (memory.old.records.items ++ left.now ∷ []))) }
+        (λ c. Stands redo.old.node redo.old.nodes c
+        (bodies_of (memory.old.records.items ++ left.now ∷ []))) }
     ensures rests { redo.old.phase ≡ Started → (D.state redo.old.disk).honest
         → DiskStays (D.state redo.old.disk) (D.state redo.new.disk) }
     ensures continues { LogKeepsDisk D.state D.faults redo.old redo.new }
@@ -304,7 +306,8 @@ fn wake_found<D: Disk>(
     requires going { redo.old.phase ≢ Closing }
     requires nodes { 0 < memory.old.nodes }
     requires listed { there ≡ true → pending.now ≢ None }
-    requires log { IsLogOf D.state redo.old (bodies_of (records_found memory.old.records.items pending.now there)) }
+    requires log { IsLogOf D.state redo.old
+        (bodies_of (records_found memory.old.records.items pending.now there)) }
     requires sound { AllByRecursion IsRecord (added_to memory.old.records.items pending.now) }
     requires apart { PartsAreApart (held_parts (reverse memory.old.records.items)) }
     requires apart_left { PartsAreApart
@@ -321,7 +324,8 @@ fn wake_found<D: Disk>(
         (bodies_of (records_found memory.old.records.items pending.now there)) }
     ensures moments { (D.state redo.old.disk).honest
         → LeavesOnly (D.state redo.old.disk) (D.state redo.new.disk)
-        (λ c. Stands redo.old.node redo.old.nodes c (bodies_of (records_found memory.old.records.items pending.now there))) }
+        (λ c. Stands redo.old.node redo.old.nodes c
+        (bodies_of (records_found memory.old.records.items pending.now there))) }
     ensures rests { redo.old.phase ≡ Started → (D.state redo.old.disk).honest
         → DiskStays (D.state redo.old.disk) (D.state redo.new.disk) }
     ensures continues { LogKeepsDisk D.state D.faults redo.old redo.new }

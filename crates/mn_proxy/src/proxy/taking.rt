@@ -65,7 +65,7 @@ fn taken_for(
     ensures cache { PutsRead (Some (purpose, bytes)) known.old.cache known.new.cache result }
 {
     match purpose {
-        Purpose::Catalog => work.get_mut().take_catalog(alloc, known, bytes.as_slice()),
+        Purpose::Catalog => work.get_mut().take_catalog(alloc, known, &bytes),
         Purpose::Page { addr } => work.get_mut().take_page(alloc, known, addr, bytes),
         Purpose::Count => work.get_mut().take_count(bytes.as_slice()),
         Purpose::Plan { .. } => Err(NoMemory),

@@ -1,7 +1,6 @@
 use Rattle.mn_node.proofs.Steps.{on_ok, one_body_more, stops_here, stops_earlier}
 use Rattle.std.proofs.Common.{◌++◌, ◌∷◌, [], ℕ, List, Some, ap, arith, length, subst, sym, ◌∙◌}
 use Rattle.mn_node.specs.Node.{HasRoomForRecord, IsLogFor, IsWithOrWithout, bodies_of}
-use Rattle.mn_mini.specs.RecordGrammar.{record_bytes}
 use Rattle.mn_node.proofs.Moments.{crash_leaves_at_rest, logging_moments, up_images}
 use Rattle.mn_node.proofs.logging.log_bytes.Goals as goal
 

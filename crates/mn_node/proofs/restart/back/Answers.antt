@@ -2,7 +2,6 @@ use Rattle.std.proofs.Common.{List, inr, refl, Err, ap, sym, subst, ◌∙◌}
 use Rattle.mn_mini.specs.declared.record.Record.{Record}
 use Rattle.mn_node.specs.declared.restart.RestartError.{RestartError}
 use Rattle.mn_redo.specs.Appender.{IsLogOf}
-use Rattle.mn_redo.specs.Redo.{StandsFor}
 use Rattle.mn_node.specs.Node.{added_to, bodies_of}
 use Rattle.mn_node.specs.Restart.{TellsOtherRecords, FailsRestart, AreBodiesWithOrWithout}
 use Rattle.mn_node.proofs.Moments.{found_bodies, found_pending, found_stands, moved, still_stands, woken}
