@@ -110,7 +110,7 @@ impl<D: Disk> Model for Appender<D> {
 
 impl<D: Disk> Appender<D> {
     /// A log whose disk wasn't read yet: only `read`, `reopen` and `close` may be called.
-    pub fn new(alloc: Global, disk: D, node: u8, nodes: u8) -> Self
+    pub(crate) fn new(alloc: Global, disk: D, node: u8, nodes: u8) -> Self
         ensures disk { result.disk ≡ disk }
         ensures node { result.node ≡ node }
         ensures nodes { result.nodes ≡ nodes }
@@ -133,7 +133,7 @@ impl<D: Disk> Appender<D> {
     ///
     /// The causes are those of `Redo::open`. After an error only `read`, `reopen` and `close` may
     /// be called.
-    pub fn read(&mut self, alloc: Global) -> Result<Found, OpenCause>
+    pub(crate) fn read(&mut self, alloc: Global) -> Result<Found, OpenCause>
         ensures kept { IfOk result (λ found.
             IsFrontKept self.old.node self.old.nodes found.bytes.items found.gates.items) }
         ensures log { IfOk result (λ found.

@@ -67,7 +67,7 @@ impl Front {
     }
 
     /// The bodies of a log that was read.
-    pub fn of(found: Found, node: u8, nodes: u8) -> Front
+    pub(crate) fn of(found: Found, node: u8, nodes: u8) -> Front
         requires { IsFrontKept node nodes found.bytes.items found.gates.items }
         ensures { result ≡ listed_in 16 found.bytes.items }
     {

@@ -35,13 +35,25 @@ pub fn word(line: &[u8], at: usize) -> &[u8]
     &rest[..length_to(rest, b' ')]
 }
 
+/// Where the word behind this one begins, which begins at a place.
+#[inline(always)]
+fn behind(line: &[u8], at: usize, word: &[u8]) -> usize
+    requires place { at ≤ length line.now + 1 }
+    requires word { word.now ≡ word_at line.now at }
+    requires within { length word.now ≤ length line.now - at }
+    ensures next { result ≡ next_at line.now at }
+    ensures within { result ≤ length line.now + 1 }
+{
+    (at + word.len() + 1).min(line.len() + 1)
+}
+
 /// Where the next word begins.
 pub fn next(line: &[u8], at: usize) -> usize
     requires { at ≤ length line.now + 1 }
     ensures next { result ≡ next_at line.now at }
     ensures within { result ≤ length line.now + 1 }
 {
-    (at + word(line, at).len() + 1).min(line.len() + 1)
+    behind(line, at, word(line, at))
 }
 
 /// The refusal of the word at a place.
@@ -73,9 +85,10 @@ pub fn name(alloc: Global, line: &[u8], at: &mut usize) -> Result<Name, LineErro
         (told_at line.now at.old (name_word (word_at line.now at.old))) }
     ensures within { OnOk result (at.new ≤ length line.now + 1) }
 {
-    match Name::new(alloc, word(line, *at)) {
+    let text = word(line, *at);
+    match Name::new(alloc, text) {
         Ok(name) => {
-            *at = next(line, *at);
+            *at = behind(line, *at, text);
             Ok(name)
         }
         Err(BaseError::BadName { .. }) => Err(wrong(line, *at)),
@@ -134,15 +147,15 @@ pub fn number(line: &[u8], at: &mut usize, low: u32, high: u32) -> Result<u32, L
     ensures within { OnOk result (at.new ≤ length line.now + 1) }
     ensures range { IfOk result (λ n. (low ≤ n) × (n ≤ high)) }
 {
-    let word = word(line, *at);
-    if !is_decimal(word) {
+    let text = word(line, *at);
+    if !is_decimal(text) {
         return Err(wrong(line, *at));
     }
-    let value = value_of(word);
+    let value = value_of(text);
     if value < low || value > high {
         return Err(wrong(line, *at));
     }
-    *at = next(line, *at);
+    *at = behind(line, *at, text);
     Ok(value)
 }
 
@@ -153,12 +166,13 @@ pub fn key(alloc: Global, line: &[u8], at: &mut usize) -> Result<Key, LineError>
         (told_at line.now at.old (key_word (word_at line.now at.old))) }
     ensures within { OnOk result (at.new ≤ length line.now + 1) }
 {
-    let Some(bytes) = string_of(alloc, word(line, *at))? else {
+    let text = word(line, *at);
+    let Some(bytes) = string_of(alloc, text)? else {
         return Err(wrong(line, *at));
     };
     match Key::new(alloc, bytes.as_slice()) {
         Ok(key) => {
-            *at = next(line, *at);
+            *at = behind(line, *at, text);
             Ok(key)
         }
         Err(BaseError::Empty) => Err(wrong(line, *at)),
@@ -176,12 +190,13 @@ pub fn value(alloc: Global, line: &[u8], at: &mut usize) -> Result<Value, LineEr
         (told_at line.now at.old (value_word (word_at line.now at.old))) }
     ensures within { OnOk result (at.new ≤ length line.now + 1) }
 {
-    let Some(bytes) = string_of(alloc, word(line, *at))? else {
+    let text = word(line, *at);
+    let Some(bytes) = string_of(alloc, text)? else {
         return Err(wrong(line, *at));
     };
     match Value::new(alloc, bytes.as_slice()) {
         Ok(value) => {
-            *at = next(line, *at);
+            *at = behind(line, *at, text);
             Ok(value)
         }
         Err(BaseError::TooLong { .. }) => Err(wrong(line, *at)),
