@@ -204,7 +204,7 @@ impl<'a> Caller<'a> {
                 catalog,
             })?;
             if read.is_catalog() {
-                let known = KnownCatalog::new(alloc, read.bytes.as_slice())?;
+                let known = KnownCatalog::new(alloc, read.bytes)?;
                 self.catalog = Some(Rc::new(alloc, known)?);
             }
         }

@@ -108,13 +108,13 @@ impl<'a> Read<'a> {
 
 /// The catalog that the bytes spell.
 #[inline(always)]
-fn catalog_in(alloc: Global, bytes: &[u8]) -> Result<Option<Catalog>, NoMemory>
+fn catalog_in(alloc: Global, bytes: &ReadBytes) -> Result<Option<Catalog>, NoMemory>
     ensures { IfOk result (λ found.
         MatchOption found ((entries : List Head) → SpellsCatalog bytes.now entries → ⊥)
         (λ catalog. SpellsCatalog bytes.now catalog
         × ((entries : List Head) → SpellsCatalog bytes.now entries → catalog ≡ entries))) }
 {
-    match Catalog::read(alloc, bytes) {
+    match Catalog::read_padded(alloc, &bytes.padded()) {
         Ok(catalog) => Ok(Some(catalog)),
         Err(CatError::NoMemory) => Err(NoMemory),
         Err(CatError::BadCatalog { .. }) => Ok(None),
@@ -208,7 +208,7 @@ fn entries_show(catalog: &Catalog, op: &Op, reply: &Reply) -> Result<bool, NoMem
 }
 
 /// Whether the catalog that the bytes spell shows the reply.
-fn catalog_shows(alloc: Global, bytes: &[u8], op: &Op, reply: &Reply) -> Result<bool, NoMemory>
+fn catalog_shows(alloc: Global, bytes: &ReadBytes, op: &Op, reply: &Reply) -> Result<bool, NoMemory>
     ensures { IfOk result (λ b. TestDecides b (CatalogBytesShow bytes.now op.now reply.now)) }
 {
     match catalog_in(alloc, bytes)? {
@@ -234,7 +234,7 @@ fn tree_of(alloc: Global, entries: &[CatEntry]) -> Result<Option<VersionTree>, N
 }
 
 /// The catalog that the bytes spell, with the tree of its versions.
-fn known_in(alloc: Global, bytes: &[u8]) -> Result<Option<(Catalog, VersionTree)>, NoMemory>
+fn known_in(alloc: Global, bytes: &ReadBytes) -> Result<Option<(Catalog, VersionTree)>, NoMemory>
     ensures { IfOk result (λ known. IsKnownOf bytes.now known) }
 {
     let Some(catalog) = catalog_in(alloc, bytes)? else {
@@ -250,7 +250,7 @@ fn known_in(alloc: Global, bytes: &[u8]) -> Result<Option<(Catalog, VersionTree)
 /// Contracts see the bytes.
 #[derive(Drop)]
 pub struct KnownCatalog<'a> {
-    bytes: &'a [u8],
+    bytes: &'a ReadBytes,
     known: Option<(Catalog, VersionTree)>,
 }
 
@@ -267,7 +267,7 @@ impl<'a> Model for KnownCatalog<'a> {
 
 impl<'a> KnownCatalog<'a> {
     /// NoMemory: there was no memory for it.
-    pub fn new(alloc: Global, bytes: &'a [u8]) -> Result<KnownCatalog<'a>, NoMemory>
+    pub fn new(alloc: Global, bytes: &'a ReadBytes) -> Result<KnownCatalog<'a>, NoMemory>
         ensures { IfOk result (λ known. known ≡ bytes.now) }
     {
         Ok(KnownCatalog {
@@ -358,12 +358,12 @@ fn is_found(reply: &Reply, value: Option<&[u8]>) -> bool
 }
 
 /// The page that the bytes spell.
-fn page_in<'a>(bytes: &'a [u8]) -> Option<PageRef<'a>>
+fn page_in<'a>(bytes: &'a ReadBytes) -> Option<PageRef<'a>>
     ensures { MatchOption result ((page : Leaf) → SpellsPage bytes.now page → ⊥)
         (λ page. SpellsPage bytes.now page
         × ((other : Leaf) → SpellsPage bytes.now other → page ≡ other)) }
 {
-    match PageRef::new(bytes) {
+    match PageRef::of_padded(&bytes.padded()) {
         Ok(found) => found,
         Err(_) => None,
     }
@@ -371,7 +371,7 @@ fn page_in<'a>(bytes: &'a [u8]) -> Option<PageRef<'a>>
 
 /// Whether the leaf that the bytes spell shows what a lone Get of the key finds in the version.
 fn leaf_shows(
-    bytes: &[u8],
+    bytes: &ReadBytes,
     catalog: Option<&KnownCatalog<'_>>,
     version: &Name,
     key: &Key,
@@ -408,7 +408,7 @@ pub fn shows(
         (as_seen read.now) op.now reply.now) }
 {
     if read.is_catalog() {
-        return catalog_shows(alloc, read.bytes.as_slice(), op, reply);
+        return catalog_shows(alloc, read.bytes, op, reply);
     }
     let Op::Tx { version, steps } = op else {
         return Ok(false);
@@ -419,5 +419,5 @@ pub fn shows(
     if !read.is_page() {
         return Ok(false);
     }
-    leaf_shows(read.bytes.as_slice(), catalog, version, key, reply)
+    leaf_shows(read.bytes, catalog, version, key, reply)
 }
