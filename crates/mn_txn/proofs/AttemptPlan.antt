@@ -375,10 +375,10 @@ module _ (moves_read : MovesRead) (kept : List Head) (nodes : ℕ) (a : Attempt)
 -- What a try has read and is to write
 
 module _ (kept : List Head) (r : Tried) (a : Attempt) (tried : HasTried kept r a) where
-  entry_as : entry_read r.steps.now r.version r.entry.now ≡ entry_images a
+  entry_as : entry_read r.steps.now r.version r.entry ≡ entry_images a
   entry_as =
-      ap (λ (s : List Step). entry_read s r.version r.entry.now) (sym tried.steps)
-      ∙ (ap (λ (v : VersionNo). entry_read a.steps v r.entry.now) (sym tried.version) ∙ ap (λ (e : CatEntry). entry_read a.steps a.version e) (sym tried.entry))
+      ap (λ (s : List Step). entry_read s r.version r.entry) (sym tried.steps)
+      ∙ (ap (λ (v : VersionNo). entry_read a.steps v r.entry) (sym tried.version) ∙ ap (λ (e : CatEntry). entry_read a.steps a.version e) (sym tried.entry))
 
   pages_as : (leaves : Bool) → pages_read leaves r.pages.now r.read_set.now
       ≡ pages_read leaves (map seen_as (comes_in a.moves)) a.draft.read
@@ -392,12 +392,12 @@ module _ (kept : List Head) (r : Tried) (a : Attempt) (tried : HasTried kept r a
 
   all_tried : tried_state false r ≡ begun (came_images a.moves a.draft.read) (entry_images a)
   all_tried =
-      ap (λ (l : List Image). begun l (entry_read r.steps.now r.version r.entry.now)) (pages_as false ∙ all_came a.moves a.draft.read)
+      ap (λ (l : List Image). begun l (entry_read r.steps.now r.version r.entry)) (pages_as false ∙ all_came a.moves a.draft.read)
       ∙ ap (λ (l : List Image). begun (came_images a.moves a.draft.read) l) entry_as
 
   leaves_tried : tried_state true r ≡ begun (came_images a.moves (leaves_at a.moves a.draft.read)) (entry_images a)
   leaves_tried =
-      ap (λ (l : List Image). begun l (entry_read r.steps.now r.version r.entry.now)) (pages_as true ∙ leaves_came a.moves a.draft.read)
+      ap (λ (l : List Image). begun l (entry_read r.steps.now r.version r.entry)) (pages_as true ∙ leaves_came a.moves a.draft.read)
       ∙ ap (λ (l : List Image). begun (came_images a.moves (leaves_at a.moves a.draft.read)) l) entry_as
 
 -- Where a Check is unmet

@@ -41,7 +41,7 @@ use Rattle.mn_txn.specs.Tries.{IsWornPage}
 pub record HasTried (kept : List Head) (r : Tried) (a : Attempt) : Type 0 where
   pub is : IsAttempt kept r.nodes a
   pub version : a.version ≡ r.version
-  pub entry : a.entry ≡ r.entry.now
+  pub entry : a.entry ≡ r.entry
   pub steps : a.steps ≡ r.steps.now
   pub some : 1 ≤ length a.steps
   pub few : r.nodes ≤ 8
@@ -143,7 +143,7 @@ tried_state leaves r =
     with_reads
     (with_reads (record { nodes = r.nodes; dirty = []; reads = []; writes = [] })
     (pages_read leaves r.pages.now r.read_set.now))
-    (entry_read r.steps.now r.version r.entry.now)
+    (entry_read r.steps.now r.version r.entry)
 
 -- the transaction with the count of a node that gives so many slots
 abbrev pub with_given : State → ℕ → ℕ → ℕ → State

@@ -19,7 +19,7 @@ ghost use Rattle.mn_txn.specs.Seen.{seen_at};
 use crate::image::COUNT_START;
 use crate::seen::{SeenPage, page_at};
 use crate::spelled::{
-    CATALOG_NODE, count_bytes, entry_bytes, entry_start, placed_bytes, slot_start,
+    CATALOG_NODE, SpelledEntry, count_bytes, entry_start, placed_bytes, slot_start,
 };
 use crate::{
     PlanError, Txn, attempts_stand_in_order, done_is_planned, done_may_be_planned,
@@ -27,16 +27,16 @@ use crate::{
 };
 use mn_base::{Addr, NoMemory, NodeNo, Steps, TryCopy, VersionNo};
 use mn_mini::Minitransaction;
-use mn_page::{CatEntry, Pages, PlacedPage};
+use mn_page::{Pages, PlacedPage};
 use std::alloc::Global;
 
 /// What a try of a transaction has read, on so many nodes: the version with its entry in the
 /// catalog, for these steps, the pages that came in, and where those of the read set stand.
-#[derive(Clone, Copy)]
+#[derive(Drop)]
 pub struct Tried<'a> {
     pub nodes: u8,
     pub version: VersionNo,
-    pub entry: &'a CatEntry,
+    pub entry: SpelledEntry<'a>,
     pub steps: &'a Steps,
     pub pages: &'a [SeenPage],
     pub read_set: &'a [Addr],
@@ -93,14 +93,14 @@ fn read_entry(
     txn: &mut Txn,
     steps: &Steps,
     version: VersionNo,
-    entry: &CatEntry,
+    entry: &SpelledEntry<'_>,
 ) -> Result<(), NoMemory>
     ensures { OnOk result (txn.new ≡ with_reads txn.old (entry_read steps.now version entry.now)) }
 {
     if !steps.has_change() {
         return Ok(());
     }
-    let bytes = entry_bytes(alloc, entry)?;
+    let bytes = entry.share(alloc)?;
     txn.read(CATALOG_NODE, entry_start(version), bytes)
 }
 
@@ -112,7 +112,7 @@ fn tried_txn(alloc: Global, tried: Tried<'_>, leaves: bool) -> Result<Txn, NoMem
 {
     let mut txn = Txn::new(alloc, tried.nodes)?;
     read_pages(alloc, &mut txn, tried.pages, tried.read_set, leaves)?;
-    read_entry(alloc, &mut txn, tried.steps, tried.version, tried.entry)?;
+    read_entry(alloc, &mut txn, tried.steps, tried.version, &tried.entry)?;
     Ok(txn)
 }
 

@@ -21,6 +21,7 @@ pub use laws::{
     plans_name_their_places, snapshot_is_planned, unmet_is_planned,
 };
 pub use seen::{SeenPage, page_at};
+pub use spelled::{SpelledEntry, entry_bytes};
 pub use tries::{
     done_may_be_planned, free_slots_are_left, planned_is_done, tries_show_causes,
     unmet_may_be_planned, worn_is_changed, worn_pages_show,

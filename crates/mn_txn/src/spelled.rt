@@ -5,10 +5,11 @@ ghost use Rattle.mn_page.specs.Space.{count_size, entry_start, slot_start};
 
 use crate::image::SLOTS_START;
 use byteorder::{BigEndian, ByteOrder};
-use mn_base::{NoMemory, NodeNo, VersionNo};
+use mn_base::{NoMemory, NodeNo, TryCopy, VersionNo};
 use mn_mini::SharedBytes;
 use mn_page::{CatEntry, Page, PlacedPage};
 use std::alloc::Global;
+use std::marker::Model;
 
 /// The node of the catalog.
 pub const CATALOG_NODE: NodeNo = NodeNo(0);
@@ -64,6 +65,43 @@ pub fn entry_bytes(alloc: Global, entry: &CatEntry) -> Result<SharedBytes, NoMem
     let mut bytes = [0u8; 64];
     entry.write(&mut bytes);
     SharedBytes::copy_of(alloc, &bytes)
+}
+
+/// An entry of the catalog with its bytes, which each plan that compares them shares. Contracts see
+/// it as the entry.
+#[derive(Drop)]
+pub struct SpelledEntry<'a> {
+    entry: &'a CatEntry,
+    bytes: &'a SharedBytes,
+}
+
+impl<'a> Model for SpelledEntry<'a> {
+    ghost use Rattle.std.specs.Prelude.{◌≡◌};
+    ghost use Rattle.mn_page.specs.declared.entry.CatEntry.{CatEntry};
+    ghost use Rattle.mn_page.specs.Grammar.{entry_bytes};
+
+    ghost Value = { CatEntry };
+
+    ghost view = { λ e. e.entry.now };
+
+    ghost invariant = { λ e. e.bytes.now ≡ entry_bytes e.entry.now };
+}
+
+impl<'a> SpelledEntry<'a> {
+    /// The entry with these bytes.
+    pub fn new(entry: &'a CatEntry, bytes: &'a SharedBytes) -> Self
+        requires { bytes.now ≡ entry_bytes entry.now }
+        ensures { result ≡ entry.now }
+    {
+        SpelledEntry { entry, bytes }
+    }
+
+    /// Its bytes, of which there is one owner more.
+    pub fn share(&self, alloc: Global) -> Result<SharedBytes, NoMemory>
+        ensures { IfOk result (λ bytes. bytes ≡ entry_bytes self.now) }
+    {
+        self.bytes.try_copy(alloc)
+    }
 }
 
 /// The bytes of an unused entry.

@@ -311,7 +311,7 @@ KeepsSteps before after =
 -- what a plan is made of
 abbrev pub IsTold : ℕ → CatEntry → List Step → Attempt → Told → Type 0
 IsTold nodes entry all a r =
-    (r.nodes ≡ nodes) × (r.version ≡ a.version) × (r.entry.now ≡ entry) × (r.steps.now ≡ all)
+    (r.nodes ≡ nodes) × (r.version ≡ a.version) × (r.entry ≡ entry) × (r.steps.now ≡ all)
     × (r.pages.now ≡ a.pages.items) × (r.read_set.now ≡ a.overlay.draft.read)
 
 -- its next step is a Check that is unmet: by this catalog the moves before it led to the draft

@@ -6,7 +6,6 @@ ghost use Rattle.mn_alloc.specs.Plan.{new_slots, free_slots};
 ghost use Rattle.mn_base.specs.Store.{step_key};
 ghost use Rattle.mn_base.specs.declared.answer.Busy.{Busy};
 ghost use Rattle.mn_page.specs.Grammar.{IsPage, height_of, page_bytes};
-ghost use Rattle.mn_page.specs.declared.entry.CatEntry.{CatEntry};
 ghost use Rattle.mn_tree.specs.State.{IsWanted, fits, stepped, with_page};
 ghost use Rattle.mn_tree.specs.declared.stepped.Stepped.TheVariants as steps;
 ghost use Rattle.mn_base.specs.declared.reply.Reply.TheVariants.{Values};
@@ -36,9 +35,9 @@ use mn_base::{
     VersionNo,
 };
 use mn_mini::SharedBytes;
-use mn_page::{CatEntry, SharedPage};
+use mn_page::SharedPage;
 use mn_tree::{AddError, Overlay, Stepped};
-use mn_txn::{Placing, PlanError, SeenPage, Tried, done_plan, page_at, unmet_plan};
+use mn_txn::{Placing, PlanError, SeenPage, SpelledEntry, Tried, done_plan, page_at, unmet_plan};
 use mn_vtree::VersionTree;
 use std::alloc::Global;
 use std::mem;
@@ -416,8 +415,8 @@ impl Attempt {
     }
 
     /// What it has read, of which its plan is made.
-    fn tried<'a>(&'a self, nodes: u8, entry: &'a CatEntry, steps: &'a Steps) -> Tried<'a>
-        ensures { IsTold nodes entry.now steps.now self.now result }
+    fn tried<'a>(&'a self, nodes: u8, entry: SpelledEntry<'a>, steps: &'a Steps) -> Tried<'a>
+        ensures { IsTold nodes entry.entry steps.now self.now result }
     {
         Tried {
             nodes,
@@ -445,7 +444,7 @@ impl Attempt {
         let Some(kept) = &known.catalog else {
             return Err(NoMemory);
         };
-        let entry = &kept.catalog().entries()[usize::from(self.version.0)];
+        let entry = kept.entry(self.version);
         let mini = unmet_plan(alloc, self.tried(known.nodes, entry, steps))?;
         Ok(Next::Plan {
             mini,
@@ -529,7 +528,7 @@ impl Attempt {
         if was_read(self.pages.as_slice(), slots) {
             return Ok(Next::Fails { cause: None });
         }
-        let entry = &kept.catalog().entries()[usize::from(self.version.0)];
+        let entry = kept.entry(self.version);
         let pages = self.overlay.place(alloc, slots)?;
         let placing = Placing {
             pages: &pages,

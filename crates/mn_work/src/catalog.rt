@@ -1,9 +1,10 @@
-ghost use Rattle.std.specs.Prelude.{◌≡◌, IfErr, IfOk, OnOk};
+ghost use Rattle.std.specs.Prelude.{◌≡◌, ◌<◌, IfErr, IfOk, OnOk, Some, length, map, slice_get};
 ghost use Rattle.std.specs.Option.{option_map};
 ghost use Rattle.mn_base.specs.Store.{listed, listing_of, refusal};
 ghost use Rattle.mn_base.specs.Tree.{parents_of};
 ghost use Rattle.mn_catalog.specs.Grammar.{IsCatalog};
 ghost use Rattle.mn_page.specs.Forest.{entry_head, heads_in};
+ghost use Rattle.mn_page.specs.Grammar.{entry_bytes};
 ghost use Rattle.mn_work.specs.Catalogs.{HasParentsBelow, RefusesTree, TellsVersions};
 ghost use Rattle.mn_work.specs.Catalogs.{found, name_in, parent_in, root_named};
 
@@ -11,28 +12,33 @@ use mn_base::{Addr, Listing, Name, NoMemory, Op, Reply, TryCopy, Version, Versio
 use mn_catalog::{CatError, Catalog};
 use mn_mini::SharedBytes;
 use mn_page::CatEntry;
+use mn_txn::{SpelledEntry, entry_bytes};
 use mn_vtree::{TreeError, VersionTree};
 use std::alloc::Global;
 use std::marker::Model;
 
-/// A catalog with the tree of its versions.
+/// A catalog with the tree of its versions, and with the bytes of each entry: they are spelled once
+/// for all plans that compare them.
 #[derive(Drop)]
 pub struct Kept {
     catalog: Catalog,
     tree: VersionTree,
+    spelled: Vec<SharedBytes>,
 }
 
 impl Model for Kept {
-    ghost use Rattle.std.specs.Prelude.{◌≡◌, List};
+    ghost use Rattle.std.specs.Prelude.{◌≡◌, List, map};
     ghost use Rattle.mn_base.specs.Tree.{parents_of};
     ghost use Rattle.mn_page.specs.Forest.{heads_in};
+    ghost use Rattle.mn_page.specs.Grammar.{entry_bytes};
     ghost use Rattle.mn_page.specs.declared.entry.CatEntry.{CatEntry};
 
     ghost Value = { List CatEntry };
 
     ghost view = { λ k. k.catalog };
 
-    ghost invariant = { λ k. k.tree ≡ parents_of (heads_in k.catalog) };
+    ghost invariant = { λ k. (k.tree ≡ parents_of (heads_in k.catalog))
+        × (k.spelled.items ≡ map entry_bytes k.catalog) };
 }
 
 /// The tree of the versions of a catalog. BadParent: a parent has no lower number than its child.
@@ -50,6 +56,18 @@ pub fn tree_of(alloc: Global, catalog: &Catalog) -> Result<VersionTree, TreeErro
     VersionTree::new(alloc, &parents)
 }
 
+/// The bytes of each entry of a catalog.
+fn spelled_of(alloc: Global, catalog: &Catalog) -> Result<Vec<SharedBytes>, NoMemory>
+    ensures { IfOk result (λ spelled. spelled.items ≡ map entry_bytes catalog.now) }
+{
+    let entries = catalog.entries();
+    let mut spelled = Vec::with_capacity(alloc, entries.len())?;
+    for entry in entries {
+        spelled.push(entry_bytes(alloc, entry)?)?;
+    }
+    Ok(spelled)
+}
+
 /// The catalog that the bytes spell, with parents below their children, or none. NoMemory: there
 /// was no memory for it.
 pub fn kept_of(alloc: Global, bytes: &SharedBytes) -> Result<Option<Kept>, NoMemory>
@@ -61,7 +79,14 @@ pub fn kept_of(alloc: Global, bytes: &SharedBytes) -> Result<Option<Kept>, NoMem
         Err(CatError::NoMemory) => return Err(NoMemory),
     };
     match tree_of(alloc, &catalog) {
-        Ok(tree) => Ok(Some(Kept { catalog, tree })),
+        Ok(tree) => {
+            let spelled = spelled_of(alloc, &catalog)?;
+            Ok(Some(Kept {
+                catalog,
+                tree,
+                spelled,
+            }))
+        }
         Err(TreeError::BadParent { .. }) => Ok(None),
         Err(TreeError::NoMemory) => Err(NoMemory),
     }
@@ -121,6 +146,15 @@ impl Kept {
         ensures { result.now ≡ self.now }
     {
         &self.catalog
+    }
+
+    /// The entry of a version, with its bytes.
+    pub fn entry(&self, version: VersionNo) -> SpelledEntry<'_>
+        requires { version.0 < length self.now }
+        ensures { slice_get self.now version.0 ≡ Some result }
+    {
+        let at = usize::from(version.0);
+        SpelledEntry::new(&self.catalog.entries()[at], &self.spelled[at])
     }
 
     /// The tree of its versions.

@@ -2,7 +2,6 @@ use Rattle.std.proofs.Common.{ℕ, List, map, ap, sym, ◌∙◌}
 use Rattle.mn_base.specs.declared.ids.ClientNo.{ClientNo}
 use Rattle.mn_script.specs.declared.elements.Point.{Point}
 use Rattle.mn_script.specs.declared.elements.ScriptClient.{ScriptClient}
-use Rattle.mn_world.specs.declared.entry.Entry.{Entry}
 use Rattle.mn_world.specs.History.{has_past, pasts_of}
 use Rattle.mn_world.specs.Run.{entries_of}
 use Rattle.mn_hist.specs.Audit.{answers_from, doubts_from, ranked_act, ranked_as, said_by, versions_told}
@@ -32,7 +31,7 @@ returns-clause-audit c = λ from h.
           (c.in_ok-answers.ensures ∙ (answers_same (said_kept said) (said_by past) says 0 clients ∙ ap (answers_from (said_by past) 0) c.clients-clients.ensures.value))
           (c.in_ok-history.ensures ∙ (ap (λ l. map (ranked_act clients) (acts_in l)) c.deref.ensures.value ∙ sym (ranked_same clients c.args.start.now (acts_in c.in_ok-ending.ending.slots.items)) ∙ ap (map (ranked_as clients)) ends.1.told.history ∙ ap (λ (l : List ScriptClient). map (ranked_as l) (pasts_of ends.0)) c.clients-clients.ensures.value))
           (c.in_ok-doubts.ensures ∙ (doubts_same (said_kept said) (said_by past) (stands c.in_ok-ending.ending.standing) stood says ends.1.told.stands 0 clients ∙ ap (doubts_from (said_by past) stood 0) c.clients-clients.ensures.value))
-          (c.from_vec.ensures ∙ (c.in_ok-points.ensures ∙ (ap (λ (l : List Point). points_met l (entries_of c.as_slice-entries.result.now)) c.points.ensures.value ∙ ap (λ (l : List (ℕ × Entry)). points_met script.points (entries_of l)) c.as_slice-entries.ensures)))
+          (c.from_vec.ensures ∙ (c.in_ok-points.ensures ∙ ap (λ (l : List Point). points_met l past) c.points.ensures.value))
           (c.in_ok-versions.ensures ∙ ap versions_told ends.1.after);
     }
 
