@@ -12,7 +12,7 @@ use Rattle.mn_base.proofs.Booleans.{or_split}
 use Rattle.mn_base.proofs.Frozen.{kept_by_step}
 use Rattle.mn_script.specs.declared.elements.ScriptClient.{ScriptClient}
 use Rattle.mn_hist.specs.Audit.{ranked_act, ranked_as}
-use Rattle.mn_hist.specs.History.{Act, done_from}
+use Rattle.mn_hist.specs.Acts.{Act, done_from}
 
 -- steps that are no changes leave the pairs
 ran_same : (old : List Pair) (n : ℕ) (found : List (Option (List ℕ))) (steps : List Step) → list_any is_change steps ≡ false → (ran_from old n old found steps).pairs ≡ old

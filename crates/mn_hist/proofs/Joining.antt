@@ -36,8 +36,10 @@ use Rattle.mn_world.proofs.Reading.Same.{client_same-refl, client_same-true}
 use Rattle.mn_world.proofs.Meaning.Effects.{with_named}
 use Rattle.mn_hist.specs.declared.plans.Plans.{Plans}
 use Rattle.mn_hist.specs.Plans.{Planner, planner_kept}
-use Rattle.mn_hist.specs.History.{Act, CallerState, placed_act, act_of, acts_from, acts_in, begun_by, done_by, done_from, idle, planner_after, planner_of, placed_last, state_after, caller_state}
-use Rattle.mn_hist.specs.History.{AreCallerStates, SlotsHoldHistory, KnowsPlanners, IsIssuedUnderId, AnswerIsInHistory, CommitIsInHistory, StandsInSet, AnswerHasPlace, EntryHasPlace, EntryIsInHistory}
+use Rattle.mn_hist.specs.declared.history.PlacedAct.{PlacedAct}
+use Rattle.mn_hist.specs.Acts.{Act, act_of, done_by, done_from}
+use Rattle.mn_hist.specs.History.{CallerState, placed_act, acts_in, begun_by, idle, planner_after, planner_of, state_after, caller_state}
+use Rattle.mn_hist.specs.History.{AreCallerStates, AreActsOf, KnowsPlanners, IsIssuedUnderId, AnswerIsInHistory, CommitIsInHistory, StandsInSet, AnswerHasPlace, EntryHasPlace, EntryIsInHistory}
 use Rattle.mn_hist.proofs.Loops.{drop_here}
 use Rattle.mn_hist.proofs.Noted.{begun_is}
 
@@ -127,49 +129,21 @@ one_issue old new past e t mini planner is who more knows = λ q m plan.
 pub begun_there : (past : List Entry) (c : ClientNo) → (caller_state c past).begun ≡ begun_by (Some c) past
 begun_there past c = begun_is c past
 
--- Slots
-
-acts_last : (k : ℕ) (slots : List (Option Act)) → acts_from k (slots ++ None ∷ []) ≡ acts_from k slots
-acts_last k [] = refl
-acts_last k (None ∷ slots) = acts_last (k + 1) slots
-acts_last k (Some a ∷ slots) = ap (λ (l : List (ℕ × Act)). (k, a) ∷ l) (acts_last (k + 1) slots)
-
-acts_more : (k : ℕ) (a : Act) (slots : List (Option Act)) → acts_from k (slots ++ Some a ∷ []) ≡ acts_from k slots ++ (k + length slots, a) ∷ []
-acts_more k a [] = ap (λ (n : ℕ). (n, a) ∷ []) (no_more k)
-  where
-    no_more : (k : ℕ) → k ≡ k + 0
-    no_more k = omega arith
-acts_more k a (None ∷ slots) = acts_more (k + 1) a slots ∙ ap (λ (n : ℕ). acts_from (k + 1) slots ++ (n, a) ∷ []) (further k (length slots))
-  where
-    further : (k n : ℕ) → k + 1 + n ≡ k + suc n
-    further k n = omega arith
-acts_more k a (Some b ∷ slots) = ap (λ (l : List (ℕ × Act)). (k, b) ∷ l) (acts_more (k + 1) a slots ∙ ap (λ (n : ℕ). acts_from (k + 1) slots ++ (n, a) ∷ []) (further k (length slots)))
-  where
-    further : (k n : ℕ) → k + 1 + n ≡ k + suc n
-    further k n = omega arith
+-- What is committed here comes last
 
 map_last : (p : Placed) (placed : List Placed) → map placed_act (placed ++ p ∷ []) ≡ map placed_act placed ++ placed_act p ∷ []
 map_last p [] = refl
-map_last p (q ∷ qs) = ap (λ (l : List (ℕ × Act)). placed_act q ∷ l) (map_last p qs)
+map_last p (q ∷ qs) = ap (λ (l : List PlacedAct). placed_act q ∷ l) (map_last p qs)
 
--- what is committed here comes last
-fills_last : (n : ℕ) (slots : List (Option Act)) (placed : List Placed) (found : Option Act) (reply : Reply) → SlotsHoldHistory slots placed → length slots ≡ n → SlotsHoldHistory (slots ++ found ∷ []) (placed_last n found reply placed)
-fills_last n slots placed None reply fills long = acts_last 0 slots ∙ fills
-fills_last n slots placed (Some a) reply fills long =
-    acts_more 0 a slots
-    ∙ (ap (λ (l : List (ℕ × Act)). l ++ (0 + length slots, a) ∷ []) fills
-    ∙ (ap (λ (k : ℕ). map placed_act placed ++ (k, a) ∷ []) (from_zero (length slots) ∙ long)
-    ∙ sym (map_last (record { place = n; past = record { client = a.client; number = a.number; op = a.op; reply = reply } }) placed)))
-  where
-    from_zero : (n : ℕ) → 0 + n ≡ n
-    from_zero n = omega arith
+pub acts_last : (old new : List PlacedAct) (placed : List Placed) (p : Placed) → AreActsOf old placed → new ≡ old ++ placed_act p ∷ [] → AreActsOf new (placed ++ p ∷ [])
+acts_last old new placed p are push = push ∙ (ap (λ (l : List PlacedAct). l ++ placed_act p ∷ []) are ∙ sym (map_last p placed))
 
 -- What an entry puts into the history
 
 -- that answers nothing
-pub takes_none : (past : List Entry) (e : Entry) (placed : List Placed) (standing : List (List Bool)) (slots : List (Option Act)) → StepPuts past e.client e.what placed placed → StandsInSet standing placed → SlotsHoldHistory slots placed
-    → EntryIsInHistory past e None placed standing slots slots None
-takes_none past e placed standing slots puts st fills = record { next = placed; puts = puts; stands = st; fills = λ l. acts_last 0 slots ∙ fills; long = refl }
+pub takes_none : (past : List Entry) (e : Entry) (placed : List Placed) (standing : List (List Bool)) (acts : List PlacedAct) → StepPuts past e.client e.what placed placed → StandsInSet standing placed → AreActsOf acts placed
+    → EntryIsInHistory past e None placed standing acts
+takes_none past e placed standing acts puts st are = record { next = placed; puts = puts; stands = st; are = are }
 
 pub quiet_puts : (past : List Entry) (by : Option ClientNo) (what : What) (placed : List Placed) → ((c : ClientNo) (number : ℕ) (answer : Answer) → by ≡ Some c → what ≡ Answered number answer → ⊥) → StepPuts past by what placed placed
 quiet_puts past None what placed none = refl
@@ -182,14 +156,13 @@ quiet_puts past (Some c) (Restarted kept) placed none = refl
 quiet_puts past (Some c) (Abandoned t) placed none = refl
 
 -- that answers
-pub takes_answer : (past : List Entry) (e : Entry) (c : ClientNo) (number : ℕ) (answer : Answer) (placed : List Placed) (standing : List (List Bool)) (old new : List (Option Act)) → e.client ≡ Some c → e.what ≡ Answered number answer
-    → AnswerIsInHistory past c answer placed standing old new → EntryIsInHistory past e None placed standing old new None
-takes_answer past e c number answer placed standing old new by is p = record {
+pub takes_answer : (past : List Entry) (e : Entry) (c : ClientNo) (number : ℕ) (answer : Answer) (placed : List Placed) (standing : List (List Bool)) (acts : List PlacedAct) → e.client ≡ Some c → e.what ≡ Answered number answer
+    → AnswerIsInHistory past c answer placed standing acts → EntryIsInHistory past e None placed standing acts
+takes_answer past e c number answer placed standing acts by is p = record {
   next = p.next;
   puts = subst (λ (o : Option ClientNo). StepPuts past o e.what placed p.next) (sym by) (subst (λ (w : What). StepPuts past (Some c) w placed p.next) (sym is) p.puts);
   stands = p.stands;
-  fills = λ l. acts_last 0 new ∙ p.fills;
-  long = p.long;
+  are = p.are;
 }
 
 -- its answer has its place where the entry has
@@ -199,15 +172,9 @@ answer_has past e c number answer placed by is (next, puts) =
     (next, subst (λ (w : What). StepPuts past (Some c) w placed next) is (subst (λ (o : Option ClientNo). StepPuts past o e.what placed next) by puts))
 
 -- that commits
-pub takes_commit : (past : List Entry) (e : Entry) (m : CommittedMini) (placed : List Placed) (standing : List (List Bool)) (slots : List (Option Act)) (found : Option Act) → SlotsHoldHistory slots placed
-    → CommitIsInHistory past m placed standing found → EntryIsInHistory past e (Some (issued_of m)) placed standing slots slots found
-takes_commit past e m placed standing slots found fills p = record {
-  next = placed_last (length past) found p.reply placed;
-  puts = p.puts e;
-  stands = p.stands;
-  fills = λ l. fills_last (length past) slots placed found p.reply fills l;
-  long = refl;
-}
+pub takes_commit : (past : List Entry) (e : Entry) (m : CommittedMini) (placed : List Placed) (standing : List (List Bool)) (acts : List PlacedAct)
+    → CommitIsInHistory past m placed standing acts → EntryIsInHistory past e (Some (issued_of m)) placed standing acts
+takes_commit past e m placed standing acts p = record { next = p.next; puts = p.puts e; stands = p.stands; are = p.are }
 
 pub named_here : (past : List Entry) (e : Entry) (m : CommittedMini) → Some (issued_of m) ≡ committed_by past e → IsIssuedUnderId past m
 named_here past e m is = at e.node (sym is)
@@ -238,19 +205,13 @@ replies_same store (p ∷ history) legal =
     ap (λ (r : Reply). let q : Past = record { client = p.client; number = p.number; op = p.op; reply = r } in q ∷ done_from (applied store p.op).store (map act_of history)) (sym legal.0)
     ∙ ap (λ (l : List Past). p ∷ l) (replies_same (applied store p.op).store history legal.1)
 
-acts_of_slots : (k : ℕ) (slots : List (Option Act)) → acts_in slots ≡ map (λ (x : ℕ × Act). x.1) (acts_from k slots)
-acts_of_slots k [] = refl
-acts_of_slots k (None ∷ slots) = acts_of_slots (k + 1) slots
-acts_of_slots k (Some a ∷ slots) = ap (λ (l : List Act). a ∷ l) (acts_of_slots (k + 1) slots)
-
-acts_of_placed : (placed : List Placed) → map (λ (x : ℕ × Act). x.1) (map placed_act placed) ≡ map act_of (pasts_of placed)
+acts_of_placed : (placed : List Placed) → acts_in (map placed_act placed) ≡ map act_of (pasts_of placed)
 acts_of_placed [] = refl
 acts_of_placed (p ∷ placed) = ap (λ (l : List Act). act_of p.past ∷ l) (acts_of_placed placed)
 
--- the operations of the slots are the history, with the store's replies
-pub told_whole : (store : Store) (slots : List (Option Act)) (placed : List Placed) → SlotsHoldHistory slots placed → IsLegal store (pasts_of placed) → done_from store (acts_in slots) ≡ pasts_of placed
-told_whole store slots placed fills legal =
-    ap (done_from store) (acts_of_slots 0 slots ∙ (ap (map (λ (x : ℕ × Act). x.1)) fills ∙ acts_of_placed placed)) ∙ replies_same store (pasts_of placed) legal
+-- the operations are the history, with the store's replies
+pub told_whole : (store : Store) (acts : List PlacedAct) (placed : List Placed) → AreActsOf acts placed → IsLegal store (pasts_of placed) → done_from store (acts_in acts) ≡ pasts_of placed
+told_whole store acts placed are legal = ap (done_from store) (ap acts_in are ∙ acts_of_placed placed) ∙ replies_same store (pasts_of placed) legal
 
 -- What a program finds
 
@@ -276,38 +237,27 @@ take_whole [] (suc i) le = refl
 take_whole (x ∷ xs) zero le = absurd (omega (arith, le))
 take_whole (x ∷ xs) (suc i) le = ap (λ l. x ∷ l) (take_whole xs i (omega (arith, le)))
 
--- one more slot
-drop_at : (slots : List (Option Act)) (i : ℕ) (x : Option Act) → i < length slots → x ≡ slice_index_or slots i x → drop i slots ≡ x ∷ drop (i + 1) slots
-drop_at slots i x lt is = drop_here slots i x lt is ∙ ap (λ (n : ℕ). x ∷ drop n slots) (plus i)
+-- one more operation
+drop_at : (acts : List PlacedAct) (i : ℕ) (x : PlacedAct) → i < length acts → x ≡ slice_index_or acts i x → drop i acts ≡ x ∷ drop (i + 1) acts
+drop_at acts i x lt is = drop_here acts i x lt is ∙ ap (λ (n : ℕ). x ∷ drop n acts) (plus i)
   where
     plus : (n : ℕ) → suc n ≡ n + 1
     plus n = omega arith
 
-pub done_none : (history : List Past) (store : Store) (slots : List (Option Act)) (i : ℕ) (x : Option Act) → i < length slots → x ≡ slice_index_or slots i x → x ≡ None
-    → history ++ done_from store (acts_in (drop (i + 1) slots)) ≡ history ++ done_from store (acts_in (drop i slots))
-done_none history store slots i x lt is none =
-    sym (ap (λ (l : List (Option Act)). history ++ done_from store (acts_in l)) (drop_at slots i x lt is ∙ ap (λ (y : Option Act). y ∷ drop (i + 1) slots) none))
-
-pub done_more : (history new : List Past) (store after : Store) (slots : List (Option Act)) (i : ℕ) (x : Option Act) (a : Act) (p : Past) → i < length slots → x ≡ slice_index_or slots i x → x ≡ Some a
-    → p ≡ done_by store a → after ≡ (applied store a.op).store → new ≡ history ++ p ∷ []
-    → new ++ done_from after (acts_in (drop (i + 1) slots)) ≡ history ++ done_from store (acts_in (drop i slots))
-done_more history new store after slots i x a p lt is some past left push =
-    let rest = acts_in (drop (i + 1) slots) in
-    ap (λ (l : List Past). l ++ done_from after (acts_in (drop (i + 1) slots))) push
-    ∙ (append_assoc history (p ∷ []) (done_from after (acts_in (drop (i + 1) slots)))
-    ∙ (ap (λ (q : Past). history ++ q ∷ done_from after (acts_in (drop (i + 1) slots))) past
-    ∙ (ap (λ (s : Store). history ++ done_by store a ∷ done_from s (acts_in (drop (i + 1) slots))) left
-    ∙ sym (ap (λ (l : List (Option Act)). history ++ done_from store (acts_in l)) (drop_at slots i x lt is ∙ ap (λ (y : Option Act). y ∷ drop (i + 1) slots) some)))))
+pub done_more : (history new : List Past) (store after : Store) (acts : List PlacedAct) (i : ℕ) (x : PlacedAct) (p : Past) → i < length acts → x ≡ slice_index_or acts i x
+    → p ≡ done_by store x.act → after ≡ (applied store x.act.op).store → new ≡ history ++ p ∷ []
+    → new ++ done_from after (acts_in (drop (i + 1) acts)) ≡ history ++ done_from store (acts_in (drop i acts))
+done_more history new store after acts i x p lt is past left push =
+    ap (λ (l : List Past). l ++ done_from after (acts_in (drop (i + 1) acts))) push
+    ∙ (append_assoc history (p ∷ []) (done_from after (acts_in (drop (i + 1) acts)))
+    ∙ (ap (λ (q : Past). history ++ q ∷ done_from after (acts_in (drop (i + 1) acts))) past
+    ∙ (ap (λ (s : Store). history ++ done_by store x.act ∷ done_from s (acts_in (drop (i + 1) acts))) left
+    ∙ sym (ap (λ (l : List PlacedAct). history ++ done_from store (acts_in l)) (drop_at acts i x lt is)))))
 
 -- the store after what is left
-pub left_none : (store : Store) (slots : List (Option Act)) (i : ℕ) (x : Option Act) → i < length slots → x ≡ slice_index_or slots i x → x ≡ None
-    → store_after store (done_from store (acts_in (drop (i + 1) slots))) ≡ store_after store (done_from store (acts_in (drop i slots)))
-left_none store slots i x lt is none =
-    sym (ap (λ (l : List (Option Act)). store_after store (done_from store (acts_in l))) (drop_at slots i x lt is ∙ ap (λ (y : Option Act). y ∷ drop (i + 1) slots) none))
-
-pub left_more : (store after : Store) (slots : List (Option Act)) (i : ℕ) (x : Option Act) (a : Act) → i < length slots → x ≡ slice_index_or slots i x → x ≡ Some a
-    → after ≡ (applied store a.op).store
-    → store_after after (done_from after (acts_in (drop (i + 1) slots))) ≡ store_after store (done_from store (acts_in (drop i slots)))
-left_more store after slots i x a lt is some left =
-    ap (λ (s : Store). store_after s (done_from s (acts_in (drop (i + 1) slots)))) left
-    ∙ sym (ap (λ (l : List (Option Act)). store_after store (done_from store (acts_in l))) (drop_at slots i x lt is ∙ ap (λ (y : Option Act). y ∷ drop (i + 1) slots) some))
+pub left_more : (store after : Store) (acts : List PlacedAct) (i : ℕ) (x : PlacedAct) → i < length acts → x ≡ slice_index_or acts i x
+    → after ≡ (applied store x.act.op).store
+    → store_after after (done_from after (acts_in (drop (i + 1) acts))) ≡ store_after store (done_from store (acts_in (drop i acts)))
+left_more store after acts i x lt is left =
+    ap (λ (s : Store). store_after s (done_from s (acts_in (drop (i + 1) acts)))) left
+    ∙ sym (ap (λ (l : List PlacedAct). store_after store (done_from store (acts_in l))) (drop_at acts i x lt is))

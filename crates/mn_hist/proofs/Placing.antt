@@ -1,6 +1,6 @@
 -- Entries in the slots of their places.
 use Rattle.std.proofs.Common.{◌≡◌, ℕ, zero, suc, ◌+◌, ◌<◌, ◌≤◌, ◌⊎◌, Bool, true, false, Option, Some, None, List, [], ◌∷◌, ◌++◌, length, map, refl, sym, ap, ◌∙◌, subst, inl, inr, arith, length-append, if◌then◌else◌}
-use Rattle.std.specs.Prelude.{slice_get, slice_index_or, slice_set, drop, get_or, is_none, ◌&&◌}
+use Rattle.std.specs.Prelude.{slice_get, slice_set, get_or, is_none, ◌&&◌}
 use Rattle.mn_world.specs.Log.{nobody}
 use Rattle.std.proofs.lemmas.Option.{same_Some}
 use Rattle.mn_actors.specs.declared.actor.Actor.{Actor}

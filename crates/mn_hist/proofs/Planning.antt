@@ -20,7 +20,8 @@ use Rattle.mn_world.specs.Protocol.{Start}
 use Rattle.mn_world.specs.Run.{IsRun, Means}
 use Rattle.mn_world.proofs.Reading.Same.{tid_same-true}
 use Rattle.mn_hist.specs.Plans.{Planner}
-use Rattle.mn_hist.specs.History.{Act, begun_by, planner_after, planner_for, planner_of}
+use Rattle.mn_hist.specs.Acts.{Act}
+use Rattle.mn_hist.specs.History.{begun_by, planner_after, planner_for, planner_of}
 
 -- the plan of this id, for this operation, with some reply
 abbrev HasPlan : List Entry → Tid → Mini → Act → Type 0

@@ -1,6 +1,7 @@
 -- An answer puts an operation into the history, at the place of a read.
-use Rattle.std.proofs.Common.{◌≡◌, ℕ, zero, suc, ◌+◌, ◌<◌, Bool, true, false, ◌&&◌, ◌||◌, List, [], ◌∷◌, length, map, Option, Some, None, refl, subst, sym, ap, ◌∙◌, arith, if◌then◌else◌}
-use Rattle.std.specs.Prelude.{nat_eq, nat_lt, slice_get, slice_set, slice_index_or, MatchBool, Result, Ok, Err, OnErr, OnOk}
+use Rattle.std.proofs.Common.{◌≡◌, ℕ, zero, suc, ◌<◌, Bool, true, false, ◌&&◌, ◌||◌, List, [], ◌∷◌, length, map, Option, Some, None, refl, subst, sym, ap, ◌∙◌, arith, if◌then◌else◌}
+use Rattle.std.specs.Prelude.{nat_eq, nat_lt, slice_get, slice_index_or, take, insert, MatchBool, Result, Ok, Err, OnErr, OnOk}
+use Rattle.std.specs.List.{AllByRecursion}
 use Rattle.mn_base.specs.declared.error.NoMemory.{NoMemory}
 use Rattle.std.proofs.lemmas.Option.{same_Some}
 use Rattle.mn_base.specs.Ids.{client_same}
@@ -12,59 +13,54 @@ use Rattle.mn_base.proofs.Naturals.{lt_true}
 use Rattle.mn_world.specs.declared.entry.Entry.{Entry}
 use Rattle.mn_world.specs.Calls.{Begun, client_entries, under_way}
 use Rattle.mn_world.specs.History.{Placed, placed_in, has_past, AnswerPuts}
-use Rattle.mn_hist.specs.History.{Act, placed_act, acts_from, caller_state, IsNotedPlace, IsPutInto, StandsInSet, SlotsHoldHistory, AnswerIsInHistory, AnswerHasPlace, stands}
+use Rattle.mn_world.specs.OneHistory.{Ascend}
+use Rattle.mn_hist.specs.declared.history.PlacedAct.{PlacedAct}
+use Rattle.mn_hist.specs.History.{placed_act, caller_state, AreActsOf, IsNotedPlace, IsPutInto, IsSpotIn, StandsInSet, AnswerIsInHistory, AnswerHasPlace, stands}
 use Rattle.mn_hist.proofs.Noted.{begun_is, noted_place}
 use Rattle.mn_hist.proofs.Planning.{or_swap}
 
--- Slots
+-- Where it is put in
 
 lt_false : (a b : ℕ) → b < a → nat_lt a b ≡ false
 lt_false a b lt = grind (arith)
 
--- operations in order of place with one more
-abbrev insert_act : (ℕ × Act) → List (ℕ × Act) → List (ℕ × Act)
-insert_act a [] = a ∷ []
-insert_act a (b ∷ l) = if nat_lt a.0 b.0 then a ∷ b ∷ l else b ∷ insert_act a l
+above_at : (m : ℕ) (placed : List Placed) (i : ℕ) (x : PlacedAct) → AllByRecursion (λ (q : Placed). m < q.place) placed → i < length (map placed_act placed) → x ≡ slice_index_or (map placed_act placed) i x → m < x.place
+above_at m [] i x all lt is = absurd (omega (arith, lt))
+above_at m (q ∷ qs) zero x all lt is =
+    let here : x.place ≡ q.place = ap (λ (y : PlacedAct). y.place) is in
+    let high : m < q.place = all.0 in omega (arith, here, high)
+above_at m (q ∷ qs) (suc i) x all lt is = above_at m qs i x all.1 (omega (arith, lt)) is
 
-in_front : (k j : ℕ) (a : Act) (slots : List (Option Act)) → k < j → insert_act (k, a) (acts_from j slots) ≡ (k, a) ∷ acts_from j slots
-in_front k j a [] lt = refl
-in_front k j a (None ∷ slots) lt = in_front k (j + 1) a slots (omega (arith, lt))
-in_front k j a (Some b ∷ slots) lt = ap (λ t. if t then (k, a) ∷ (j, b) ∷ acts_from (j + 1) slots else (j, b) ∷ insert_act (k, a) (acts_from (j + 1) slots)) (lt_true k j lt)
+lower : (placed : List Placed) (i : ℕ) (x : PlacedAct) (n : ℕ) → Ascend placed → i < length (map placed_act placed) → x ≡ slice_index_or (map placed_act placed) i x → x.place < n
+    → AllByRecursion (λ (a : PlacedAct). a.place < n) (take (suc i) (map placed_act placed))
+lower [] i x n up lt is less = absurd (omega (arith, lt))
+lower (q ∷ qs) zero x n up lt is less =
+    let here : x.place ≡ q.place = ap (λ (y : PlacedAct). y.place) is in
+    (omega (arith, here, less), tt)
+lower (q ∷ qs) (suc i) x n up lt is less =
+    let low : q.place < x.place = above_at q.place qs i x up.0 (omega (arith, lt)) is in
+    (omega (arith, low, less), lower qs i x n up.1 (omega (arith, lt)) is less)
 
-put_act : (k p : ℕ) (a : Act) (slots : List (Option Act)) → slice_get slots p ≡ Some None → acts_from k (slice_set slots p (Some a)) ≡ insert_act (k + p, a) (acts_from k slots)
-put_act k p a [] is = absurd cc
-put_act k zero a (None ∷ slots) is = sym (in_front k (k + 1) a slots (omega arith)) ∙ ap (λ n. insert_act (n, a) (acts_from (k + 1) slots)) (no_more k)
-  where
-    no_more : (k : ℕ) → k ≡ k + 0
-    no_more k = omega arith
-put_act k zero a (Some b ∷ slots) is = absurd cc
-put_act k (suc p) a (None ∷ slots) is = put_act (k + 1) p a slots is ∙ ap (λ n. insert_act (n, a) (acts_from (k + 1) slots)) (further k p)
-  where
-    further : (k p : ℕ) → k + 1 + p ≡ k + suc p
-    further k p = omega arith
-put_act k (suc p) a (Some b ∷ slots) is =
-    ap (λ l. (k, b) ∷ l) (put_act (k + 1) p a slots is ∙ ap (λ n. insert_act (n, a) (acts_from (k + 1) slots)) (further k p))
-    ∙ sym (ap (λ t. if t then (k + suc p, a) ∷ (k, b) ∷ acts_from (k + 1) slots else (k, b) ∷ insert_act (k + suc p, a) (acts_from (k + 1) slots)) (lt_false (k + suc p) k (omega arith)))
-  where
-    further : (k p : ℕ) → k + 1 + p ≡ k + suc p
-    further k p = omega arith
+-- those up to one of a lower place have lower ones
+pub lower_ones : (acts : List PlacedAct) (placed : List Placed) (i : ℕ) (x : PlacedAct) (n : ℕ) → Ascend placed → AreActsOf acts placed → i < length acts → x ≡ slice_index_or acts i x → x.place < n
+    → AllByRecursion (λ (a : PlacedAct). a.place < n) (take (suc i) acts)
+lower_ones acts placed i x n up are lt is less =
+    subst (λ (l : List PlacedAct). AllByRecursion (λ (a : PlacedAct). a.place < n) (take (suc i) l)) (sym are)
+    (lower placed i x n up (subst (λ (l : List PlacedAct). i < length l) are lt) (subst (λ (l : List PlacedAct). x ≡ slice_index_or l i x) are is) less)
 
-acts_in : (p : Placed) (placed : List Placed) → map placed_act (placed_in p placed) ≡ insert_act (placed_act p) (map placed_act placed)
-acts_in p [] = refl
-acts_in p (q ∷ qs) = by (nat_lt p.place q.place) (acts_in p qs)
-  where
-    by : (b : Bool) → map placed_act (placed_in p qs) ≡ insert_act (placed_act p) (map placed_act qs) → map placed_act (if b then p ∷ q ∷ qs else q ∷ placed_in p qs) ≡ (if b then placed_act p ∷ placed_act q ∷ map placed_act qs else placed_act q ∷ insert_act (placed_act p) (map placed_act qs))
-    by true rest = refl
-    by false rest = ap (λ l. placed_act q ∷ l) rest
+put_acts : (p : Placed) (placed : List Placed) (at : ℕ) → IsSpotIn (map placed_act placed) p.place at → insert (map placed_act placed) at (placed_act p) ≡ map placed_act (placed_in p placed)
+put_acts p [] zero spot = refl
+put_acts p [] (suc at) spot = refl
+put_acts p (q ∷ qs) zero spot = ap (λ t. map placed_act (if t then p ∷ q ∷ qs else q ∷ placed_in p qs)) (sym (lt_true p.place q.place spot.1.0))
+put_acts p (q ∷ qs) (suc at) spot =
+    ap (λ l. placed_act q ∷ l) (put_acts p qs at (spot.0.1, spot.1))
+    ∙ ap (λ t. map placed_act (if t then p ∷ q ∷ qs else q ∷ placed_in p qs)) (sym (lt_false p.place q.place spot.0.0))
 
-pub filled_more : (slots new : List (Option Act)) (placed : List Placed) (p : Placed) (a : Act) → SlotsHoldHistory slots placed → IsPutInto slots p.place a new → placed_act p ≡ (p.place, a) → SlotsHoldHistory new (placed_in p placed)
-filled_more slots new placed p a fills put is =
-    ap (acts_from 0) put.1
-    ∙ (put_act 0 p.place a slots put.0 ∙ ap (λ n. insert_act (n, a) (acts_from 0 slots)) (from_zero p.place)
-    ∙ (ap (λ l. insert_act (p.place, a) l) fills ∙ (ap (λ x. insert_act x (map placed_act placed)) (sym is) ∙ sym (acts_in p placed))))
-  where
-    from_zero : (n : ℕ) → 0 + n ≡ n
-    from_zero n = omega arith
+pub acts_more : (old new : List PlacedAct) (placed : List Placed) (p : Placed) → AreActsOf old placed → IsPutInto old (placed_act p) new → AreActsOf new (placed_in p placed)
+acts_more old new placed p are (at, spot, is) =
+    is
+    ∙ (ap (λ (l : List PlacedAct). insert l at (placed_act p)) are
+    ∙ put_acts p placed at (subst (λ (l : List PlacedAct). IsSpotIn l p.place at) are spot))
 
 -- What stands
 
@@ -80,8 +76,8 @@ past_more c n p (q ∷ qs) = by (nat_lt p.place q.place) (past_more c n p qs)
 -- An answer
 
 -- that puts nothing there
-pub puts_none : (past : List Entry) (c : ClientNo) (answer : Answer) (placed : List Placed) (standing : List (List Bool)) (slots : List (Option Act)) → AnswerPuts past c (under_way (client_entries c past)) answer placed placed → StandsInSet standing placed → SlotsHoldHistory slots placed → AnswerIsInHistory past c answer placed standing slots slots
-puts_none past c answer placed standing slots puts st fills = record { next = placed; puts = puts; stands = st; fills = fills; long = refl }
+pub puts_none : (past : List Entry) (c : ClientNo) (answer : Answer) (placed : List Placed) (standing : List (List Bool)) (acts : List PlacedAct) → AnswerPuts past c (under_way (client_entries c past)) answer placed placed → StandsInSet standing placed → AreActsOf acts placed → AnswerIsInHistory past c answer placed standing acts
+puts_none past c answer placed standing acts puts st are = record { next = placed; puts = puts; stands = st; are = are }
 
 not_under_way : (past : List Entry) (c : ClientNo) (answer : Answer) (placed : List Placed) (o : Option Begun) → o ≡ None → AnswerPuts past c o answer placed placed
 not_under_way past c answer placed None e = refl
@@ -96,13 +92,13 @@ standing_puts past c begun reply placed b is true' = subst (λ t. MatchBool t (p
 pub stands_already : (past : List Entry) (c : ClientNo) (begun : Begun) (reply : Reply) (placed : List Placed) → (caller_state c past).begun ≡ Some begun → has_past c begun.number placed ≡ true → AnswerPuts past c (under_way (client_entries c past)) (Replied reply) placed placed
 stands_already past c begun reply placed is has = subst (λ o. AnswerPuts past c o (Replied reply) placed placed) (sym is ∙ begun_is c past) (standing_puts past c begun reply placed (has_past c begun.number placed) refl has)
 
-pub puts_read : (past : List Entry) (c : ClientNo) (begun : Begun) (reply : Reply) (placed : List Placed) (old standing : List (List Bool)) (slots new : List (Option Act)) (place : ℕ)
+pub puts_read : (past : List Entry) (c : ClientNo) (begun : Begun) (reply : Reply) (placed : List Placed) (old standing : List (List Bool)) (acts new : List PlacedAct) (place : ℕ)
     → (caller_state c past).begun ≡ Some begun → has_past c begun.number placed ≡ false → IsNotedPlace (caller_state c past).notes begun.op reply place
     → AnswerHasPlace past c (Replied reply) placed
-    → StandsInSet old placed → SlotsHoldHistory slots placed → IsPutInto slots place (record { client = c; number = begun.number; op = begun.op }) new → length new ≡ length slots
+    → StandsInSet old placed → AreActsOf acts placed → IsPutInto acts (record { place = place; act = record { client = c; number = begun.number; op = begun.op } }) new
     → ((d : ClientNo) (n : ℕ) → stands standing d n ≡ ((client_same c d && nat_eq begun.number n) || stands old d n))
-    → AnswerIsInHistory past c (Replied reply) placed standing slots new
-puts_read past c begun reply placed old standing slots new place is none at has st fills put long more =
+    → AnswerIsInHistory past c (Replied reply) placed standing new
+puts_read past c begun reply placed old standing acts new place is none at has st are put more =
     let p : Placed = record { place = place; past = record { client = c; number = begun.number; op = begun.op; reply = reply } } in
     record {
       next = placed_in (record { place = place; past = record { client = c; number = begun.number; op = begun.op; reply = reply } }) placed;
@@ -110,8 +106,7 @@ puts_read past c begun reply placed old standing slots new place is none at has 
           (subst (λ t. MatchBool t (placed_in (record { place = place; past = record { client = c; number = begun.number; op = begun.op; reply = reply } }) placed ≡ placed) ((place' : ℕ) × Rattle.mn_world.specs.History.ReadPlace c past begun.op reply place' × (placed_in (record { place = place; past = record { client = c; number = begun.number; op = begun.op; reply = reply } }) placed ≡ placed_in (record { place = place'; past = record { client = c; number = begun.number; op = begun.op; reply = reply } }) placed))) (sym none)
           (place, noted_place c past begun.op reply place begun is (some_place has) at, refl));
       stands = λ d n. more d n ∙ (ap (λ t. (client_same c d && nat_eq begun.number n) || t) (st d n) ∙ sym (past_more d n p placed));
-      fills = filled_more slots new placed p (record { client = c; number = begun.number; op = begun.op }) fills put refl;
-      long = long;
+      are = acts_more acts new placed p are put;
     }
   where
     some_place : AnswerHasPlace past c (Replied reply) placed → (p : ℕ) × Rattle.mn_world.specs.History.ReadPlace c past begun.op reply p
@@ -135,8 +130,3 @@ pub at_index : {X : Type 0} (xs : List X) (i : ℕ) (x s : X) → x ≡ slice_in
 at_index [] i x s is there = absurd cc
 at_index (a ∷ xs) zero x s is there = is ∙ same_Some _ _ there
 at_index (a ∷ xs) (suc i) x s is there = at_index xs i x s is there
-
-pub length_set : {X : Type 0} (xs : List X) (i : ℕ) (x : X) → length (slice_set xs i x) ≡ length xs
-length_set [] i x = refl
-length_set (a ∷ xs) zero x = refl
-length_set (a ∷ xs) (suc i) x = ap suc (length_set xs i x)

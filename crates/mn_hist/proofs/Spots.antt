@@ -1,14 +1,9 @@
 -- Spots of entries in the order of their places.
-use Rattle.std.proofs.Common.{◌≡◌, ℕ, zero, suc, ◌+◌, ◌-◌, ◌<◌, ◌≤◌, Bool, true, false, Option, Some, None, List, [], ◌∷◌, ◌++◌, Vec, Global, length, map, take, drop, get_or, nat_eq, nat_le, refl, sym, ap, ◌∙◌, subst, arith, if◌then◌else◌}
-use Rattle.std.specs.Prelude.{slice_get, slice_set, is_none}
-use Rattle.mn_actors.specs.declared.actor.Actor.{Actor}
-use Rattle.mn_actors.specs.declared.actor.Actor.TheVariants.{Node, Client}
-use Rattle.mn_actors.specs.Lines.{Line, is_client, is_node, stands_in}
-use Rattle.mn_base.specs.declared.ids.ClientNo.{ClientNo}
-use Rattle.mn_base.specs.declared.ids.NodeNo.{NodeNo}
+use Rattle.std.proofs.Common.{◌≡◌, ℕ, zero, suc, ◌+◌, ◌-◌, ◌<◌, ◌≤◌, Bool, true, false, Option, List, [], ◌∷◌, ◌++◌, Vec, Global, length, map, drop, get_or, nat_eq, nat_le, refl, sym, ap, ◌∙◌, subst, arith, if◌then◌else◌}
+use Rattle.std.specs.Prelude.{slice_set}
 use Rattle.mn_world.specs.declared.entry.Entry.{Entry}
 use Rattle.mn_world.specs.declared.log.Spot.{Spot}
-use Rattle.mn_world.specs.Log.{AreSpots, IsSpot, entry_at, log_of, nobody}
+use Rattle.mn_world.specs.Log.{AreSpots, entry_at, log_of, nobody}
 use Rattle.mn_hist.specs.Merging.{all_put, chosen, is_put, lone, put_at, put_list, put_lists}
 use Rattle.mn_world.proofs.Logs.{at_place, map_at, map_long, map_more}
 use Rattle.mn_hist.proofs.Placing.{is_nobodys}

@@ -28,7 +28,7 @@ use Rattle.mn_world.specs.Calls.{client_entries}
 use Rattle.mn_world.specs.History.{Placed, pasts_of, has_past, IsHistory}
 use Rattle.mn_world.specs.OneHistory.{IsOneHistory}
 use Rattle.mn_world.specs.Protocol.{Start}
-use Rattle.mn_hist.specs.History.{Act}
+use Rattle.mn_hist.specs.Acts.{Act}
 use Rattle.mn_hist.specs.Points.{points_met}
 
 -- Answers

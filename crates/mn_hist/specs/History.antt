@@ -1,14 +1,11 @@
 -- What is kept of the entries so far to tell the history. Lists of entries and of reads stand
 -- newest first.
-use Rattle.std.specs.Prelude.{ℕ, ◌≡◌, ◌⊎◌, ◌+◌, ◌<◌, Bool, true, false}
+use Rattle.std.specs.Prelude.{ℕ, ◌≡◌, ◌⊎◌, ◌<◌, Bool, true, false}
 use Rattle.std.specs.Prelude.{List, [], ◌∷◌, ◌++◌, length, map, Option, Some, None}
-use Rattle.std.specs.Prelude.{if◌then◌else◌, slice_get}
+use Rattle.std.specs.Prelude.{if◌then◌else◌, slice_get, take, drop, insert}
 use Rattle.std.specs.List.{AllByRecursion}
-use Rattle.std.specs.Prelude.{slice_set}
 use Rattle.mn_base.specs.Ids.{tid_same}
-use Rattle.mn_base.specs.Store.{Store, applied}
 use Rattle.mn_base.specs.declared.answer.Answer.{Answer}
-use Rattle.mn_base.specs.declared.history.Past.{Past}
 use Rattle.mn_base.specs.declared.ids.ClientNo.{ClientNo}
 use Rattle.mn_base.specs.declared.ids.Tid.{Tid}
 use Rattle.mn_base.specs.declared.op.Op.{Op}
@@ -25,7 +22,9 @@ use Rattle.mn_world.specs.declared.commit_reader.CommittedMini.{CommittedMini}
 use Rattle.mn_world.specs.CommitReader.{issued_of}
 use Rattle.mn_world.specs.History.{Placed, has_past, AnswerPuts, EntryPuts}
 use Rattle.mn_world.specs.Shown.{Seen, seen_at}
+use Rattle.mn_hist.specs.declared.history.PlacedAct.{PlacedAct}
 use Rattle.mn_hist.specs.declared.plans.Plans.{Plans}
+use Rattle.mn_hist.specs.Acts.{Act, act_of}
 use Rattle.mn_hist.specs.Plans.{Planner, planner_kept}
 use Rattle.mn_hist.specs.Table.{kept_at}
 use Rattle.mn_hist.specs.Shown.{is_of_catalog, IsShownBy, IsUnshown}
@@ -125,27 +124,19 @@ planner_of tid (e ∷ past) = planner_after tid e.client e.what past (planner_of
 
 -- Operations at their places
 
--- an operation without its reply
-pub record Act : Type 0 where
-  pub client : ClientNo
-  pub number : ℕ
-  pub op : Op
+-- an operation of the history without its reply
+abbrev pub placed_act : Placed → PlacedAct
+placed_act p = record { place = p.place; act = act_of p.past }
 
--- the operation leaves every store as it is
-abbrev pub ChangesNothing : Op → Type 0
-ChangesNothing op = (store : Store) → (applied store op).store ≡ store
+-- they without their places
+abbrev pub acts_in : List PlacedAct → List Act
+acts_in acts = map (λ a. a.act) acts
 
-abbrev pub act_of : Past → Act
-act_of p = record { client = p.client; number = p.number; op = p.op }
-
--- the filled slots, with their places
-abbrev pub acts_from : ℕ → List (Option Act) → List (ℕ × Act)
-acts_from k [] = []
-acts_from k (None ∷ slots) = acts_from (k + 1) slots
-acts_from k (Some a ∷ slots) = (k, a) ∷ acts_from (k + 1) slots
-
-abbrev pub placed_act : Placed → ℕ × Act
-placed_act p = (p.place, act_of p.past)
+-- all before the spot have lower places than this one, and all behind it greater ones
+abbrev pub IsSpotIn : List PlacedAct → ℕ → ℕ → Type 0
+IsSpotIn acts place at =
+    AllByRecursion (λ a. a.place < place) (take at acts)
+    × AllByRecursion (λ a. place < a.place) (drop at acts)
 
 -- Keeping
 
@@ -160,19 +151,18 @@ planner_for a = record {
 abbrev pub stands : List (List Bool) → ClientNo → ℕ → Bool
 stands standing c number = kept_at false standing c number
 
--- the slot of this place was empty, and has the operation now
-abbrev pub IsPutInto : List (Option Act) → ℕ → Act → List (Option Act) → Type 0
-IsPutInto old place act new =
-    (slice_get old place ≡ Some None) × (new ≡ slice_set old place (Some act))
+-- no operation had its place, and it stands there now
+abbrev pub IsPutInto : List PlacedAct → PlacedAct → List PlacedAct → Type 0
+IsPutInto old put new = (at : ℕ) × IsSpotIn old put.place at × (new ≡ insert old at put)
 
 -- these operations stand in the history
 abbrev pub StandsInSet : List (List Bool) → List Placed → Type 0
 StandsInSet standing placed =
     (c : ClientNo) (number : ℕ) → stands standing c number ≡ has_past c number placed
 
--- the slots hold them
-abbrev pub SlotsHoldHistory : List (Option Act) → List Placed → Type 0
-SlotsHoldHistory slots placed = acts_from 0 slots ≡ map placed_act placed
+-- these are the operations of the history
+abbrev pub AreActsOf : List PlacedAct → List Placed → Type 0
+AreActsOf acts placed = acts ≡ map placed_act placed
 
 -- the answer to a client's operation has its place in the history, if it puts something there
 abbrev pub AnswerHasPlace : List Entry → ClientNo → Answer → List Placed → Type 0
@@ -186,13 +176,11 @@ EntryHasPlace past e committed placed =
 
 -- what the answer to a client's operation puts into the history stands there
 pub record AnswerIsInHistory (past : List Entry) (c : ClientNo) (answer : Answer)
-    (placed : List Placed) (standing : List (List Bool)) (old new : List (Option Act))
-    : Type 0 where
+    (placed : List Placed) (standing : List (List Bool)) (acts : List PlacedAct) : Type 0 where
   pub next : List Placed
   pub puts : AnswerPuts past c (under_way (client_entries c past)) answer placed next
   pub stands : StandsInSet standing next
-  pub fills : SlotsHoldHistory new next
-  pub long : length new ≡ length old
+  pub are : AreActsOf acts next
 
 -- it is a plan, and was issued under this id
 abbrev pub IsPlanUnder : Tid → List Entry → Mini → Type 0
@@ -208,23 +196,13 @@ KnowsPlanners plans past = (tid : Tid) (mini : Mini) → IsPlanUnder tid past mi
 abbrev pub IsIssuedUnderId : List Entry → CommittedMini → Type 0
 IsIssuedUnderId past m = issue_named m.tid (issues_of past) ≡ Some m.mini.now
 
--- the history with the operation of a commit at its end
-abbrev pub placed_last : ℕ → Option Act → Reply → List Placed → List Placed
-placed_last place None reply placed = placed
-placed_last place (Some a) reply placed =
-    placed ++ record {
-      place = place;
-      past = record { client = a.client; number = a.number; op = a.op; reply = reply };
-    } ∷ []
-
 -- what a committed minitransaction puts into the history stands there
-pub record CommitIsInHistory (past : List Entry) (m : CommittedMini)
-    (placed : List Placed)
-    (standing : List (List Bool)) (found : Option Act) : Type 0 where
-  pub reply : Reply
-  pub puts : (e : Entry) → EntryPuts past e (Some (issued_of m)) placed
-      (placed_last (length past) found reply placed)
-  pub stands : StandsInSet standing (placed_last (length past) found reply placed)
+pub record CommitIsInHistory (past : List Entry) (m : CommittedMini) (placed : List Placed)
+    (standing : List (List Bool)) (acts : List PlacedAct) : Type 0 where
+  pub next : List Placed
+  pub puts : (e : Entry) → EntryPuts past e (Some (issued_of m)) placed next
+  pub stands : StandsInSet standing next
+  pub are : AreActsOf acts next
 
 -- of each client it is told what the entries so far tell of it
 abbrev pub AreCallerStates : List CallerState → List Entry → Type 0
@@ -233,30 +211,10 @@ AreCallerStates callers past =
 
 -- The history so far
 
--- what an entry that commits this puts into the history stands there, with its own place last
+-- what an entry that commits this puts into the history stands there
 pub record EntryIsInHistory (past : List Entry) (e : Entry) (committed : Option Issued)
-    (placed : List Placed) (standing : List (List Bool)) (old new : List (Option Act))
-    (found : Option Act) : Type 0 where
+    (placed : List Placed) (standing : List (List Bool)) (acts : List PlacedAct) : Type 0 where
   pub next : List Placed
   pub puts : EntryPuts past e committed placed next
   pub stands : StandsInSet standing next
-  pub fills : length old ≡ length past → SlotsHoldHistory (new ++ found ∷ []) next
-  pub long : length new ≡ length old
-
--- Replies
-
--- the operation as the store does it
-abbrev pub done_by : Store → Act → Past
-done_by store a =
-    record { client = a.client; number = a.number; op = a.op; reply = (applied store a.op).reply }
-
--- one after another
-abbrev pub done_from : Store → List Act → List Past
-done_from store [] = []
-done_from store (a ∷ acts) = done_by store a ∷ done_from (applied store a.op).store acts
-
--- those in the slots
-abbrev pub acts_in : List (Option Act) → List Act
-acts_in [] = []
-acts_in (None ∷ slots) = acts_in slots
-acts_in (Some a ∷ slots) = a ∷ acts_in slots
+  pub are : AreActsOf acts next

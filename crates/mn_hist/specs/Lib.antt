@@ -1,6 +1,7 @@
 pub mod Table
 pub mod Plans
 pub mod Shown
+pub mod Acts
 pub mod History
 pub mod Merging
 pub mod Told

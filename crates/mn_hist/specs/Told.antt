@@ -4,7 +4,7 @@ use Rattle.mn_world.specs.declared.entry.Entry.{Entry}
 use Rattle.mn_world.specs.CommitReader.{HasRead}
 use Rattle.mn_world.specs.History.{Placed, IsHistory}
 use Rattle.mn_hist.specs.declared.history.HistoryReader.{HistoryReader}
-use Rattle.mn_hist.specs.History.{AreCallerStates, KnowsPlanners, StandsInSet, SlotsHoldHistory}
+use Rattle.mn_hist.specs.History.{AreCallerStates, KnowsPlanners, StandsInSet, AreActsOf}
 use Rattle.mn_hist.specs.Saying.{TellsAnswers}
 
 -- these entries are what the reader has read
@@ -20,6 +20,5 @@ pub record ReaderHasTold (reader : HistoryReader) (past : List Entry) (placed : 
   pub callers : AreCallerStates reader.callers.items past
   pub plans : KnowsPlanners reader.plans past
   pub stands : StandsInSet reader.standing placed
-  pub fills : SlotsHoldHistory reader.slots.items placed
-  pub places : length reader.slots.items ≡ length past
+  pub acts : AreActsOf reader.acts.items placed
   pub history : IsHistory past placed

@@ -8,7 +8,7 @@ ghost use Rattle.mn_hist.specs.Audit.{client_name, ranked_act, IsAudit};
 ghost use Rattle.mn_hist.specs.History.{acts_in};
 
 use crate::answers::{answers_of, doubts_of};
-use crate::history::{Act, ending_of};
+use crate::history::{PlacedAct, ending_of};
 use crate::points::points_met;
 use crate::versions::versions_of;
 use mn_base::{ClientNo, Name, NoMemory, TryCopy};
@@ -32,18 +32,16 @@ fn client_name(alloc: Global, clients: &[ScriptClient], client: ClientNo) -> Res
 fn ranks_of(
     alloc: Global,
     clients: &[ScriptClient],
-    slots: &[Option<Act<'_>>],
+    acts: &[PlacedAct<'_>],
 ) -> Result<Ranks, NoMemory>
-    ensures { IfOk result (λ ranks. ranks ≡ map (ranked_act clients.now) (acts_in slots.now)) }
+    ensures { IfOk result (λ ranks. ranks ≡ map (ranked_act clients.now) (acts_in acts.now)) }
 {
     let mut ranks = Vec::new(alloc);
-    for slot in slots {
-        if let Some(act) = slot {
-            ranks.push(Ranked {
-                client: client_name(alloc, clients, act.client)?,
-                number: act.number,
-            })?;
-        }
+    for placed in acts {
+        ranks.push(Ranked {
+            client: client_name(alloc, clients, placed.act.client)?,
+            number: placed.act.number,
+        })?;
     }
     Ok(Ranks::from_vec(ranks))
 }
@@ -65,7 +63,7 @@ pub fn audit(alloc: Global, start: &Store, log: &Log, script: &Script) -> Result
     let clients = script.clients();
     let ending = ending_of(alloc, start, log)?;
     let answers = answers_of(alloc, &ending.said, clients)?;
-    let history = ranks_of(alloc, clients, &ending.slots)?;
+    let history = ranks_of(alloc, clients, &ending.acts)?;
     let doubts = doubts_of(alloc, &ending.said, &ending.standing, clients)?;
     let points = points_met(alloc, script.points(), log)?;
     let versions = versions_of(alloc, &ending.store)?;

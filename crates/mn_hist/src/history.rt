@@ -1,19 +1,20 @@
 //! The operations of a log in order of place.
 ghost use Rattle.std.specs.Option.{option_map};
 ghost use Rattle.std.specs.Prelude.{◌≡◌, ◌⊎◌, ◌<◌, ◌∷◌, [], ℕ, List, Some, None, length, replicate};
-ghost use Rattle.std.specs.Prelude.{false, slice_get};
+ghost use Rattle.std.specs.Prelude.{◌≤◌, false, slice_get};
 ghost use Rattle.std.specs.Prelude.{IfOk, OnOk, if◌then◌else◌, ◌||◌, ◌&&◌, nat_eq, MatchOption, ⊤};
 ghost use Rattle.std.specs.Prelude.{reverse};
 ghost use Rattle.mn_base.specs.Ids.{client_same};
 ghost use Rattle.mn_base.specs.declared.ids.ClientNo.{ClientNo as Who};
 ghost use Rattle.mn_world.specs.Shown.{seen_at};
-ghost use Rattle.mn_hist.specs.History.{CallerState, ChangesNothing, idle, with_seen, state_after};
+ghost use Rattle.mn_hist.specs.Acts.{ChangesNothing, done_by, done_from};
+ghost use Rattle.mn_hist.specs.History.{CallerState, idle, with_seen, state_after};
 ghost use Rattle.mn_world.specs.History.{Placed};
 ghost use Rattle.mn_world.specs.declared.entry.Entry.{Entry as Step};
 ghost use Rattle.mn_hist.specs.History.{IsLastNote, IsFirstNote, IsOnlyNote, IsNotedPlace};
 ghost use Rattle.mn_hist.specs.Saying.{TellsAnswers};
 ghost use Rattle.mn_hist.specs.History.{AnswerHasPlace, EntryHasPlace, StandsInSet};
-ghost use Rattle.mn_hist.specs.History.{SlotsHoldHistory};
+ghost use Rattle.mn_hist.specs.History.{AreActsOf, IsSpotIn};
 ghost use Rattle.mn_hist.specs.History.{AnswerIsInHistory};
 ghost use Rattle.mn_hist.specs.History.{KnowsPlanners, IsIssuedUnderId, CommitIsInHistory};
 ghost use Rattle.mn_hist.specs.History.{AreCallerStates};
@@ -21,7 +22,7 @@ ghost use Rattle.mn_world.specs.Protocol.{Start};
 ghost use Rattle.mn_world.specs.Run.{IsRun};
 ghost use Rattle.mn_hist.specs.History.{planner_for, stands, IsPutInto};
 ghost use Rattle.mn_hist.specs.Plans.{begun_of, planner_kept};
-ghost use Rattle.mn_hist.specs.History.{EntryIsInHistory, done_by, done_from, acts_in};
+ghost use Rattle.mn_hist.specs.History.{EntryIsInHistory, acts_in};
 ghost use Rattle.mn_hist.specs.Told.{ReaderHasRead, ReaderHasTold};
 ghost use Rattle.mn_hist.specs.Ending.{IsEndingOf, TellsHistory};
 ghost use Rattle.mn_base.specs.History.{store_after};
@@ -30,7 +31,7 @@ ghost use Rattle.mn_world.specs.CommitReader.{issued_of};
 ghost use Rattle.mn_world.specs.Commits.{committed_by};
 ghost use Rattle.mn_world.specs.History.{IsHistory, pasts_of};
 ghost use Rattle.mn_world.specs.Meaning.{OpenedRun};
-ghost use Rattle.mn_world.specs.OneHistory.{IsOneHistory};
+ghost use Rattle.mn_world.specs.OneHistory.{Ascend, IsOneHistory};
 ghost use Rattle.mn_world.specs.Run.{entries_of};
 
 use crate::answers::note_entry;
@@ -248,13 +249,20 @@ pub struct Act<'a> {
 
 impl<'a> Model for Act<'a> {
     ghost use Rattle.std.specs.Prelude.{◌≡◌, false};
-    ghost use Rattle.mn_hist.specs.History.{Act, ChangesNothing};
+    ghost use Rattle.mn_hist.specs.Acts.{Act, ChangesNothing};
 
     ghost Value = { Act };
 
     ghost view = { λ a. record { client = a.client; number = a.number; op = a.op.now } };
 
     ghost invariant = { λ a. a.may_change ≡ false → ChangesNothing a.op.now };
+}
+
+/// An operation of the history with its place.
+#[derive(Drop)]
+pub struct PlacedAct<'a> {
+    pub place: usize,
+    pub act: Act<'a>,
 }
 
 /// Whether the operation may change a store: a refused one doesn't.
@@ -314,17 +322,39 @@ pub fn is_standing(standing: &Table<bool>, client: ClientNo, number: u32) -> boo
     standing.of(client, number, false)
 }
 
-/// Puts an operation into the empty slot of its place. NoMemory: another stands there, as at no
-/// place of a run.
-#[inline(always)]
-fn put<'a>(slots: &mut Vec<Option<Act<'a>>>, place: usize, act: Act<'a>) -> Result<(), NoMemory>
-    ensures { OnOk result (IsPutInto slots.old.items place act.entry slots.new.items) }
+/// Where an operation of this place is put in: behind the last one whose place is not greater,
+/// which is looked for from the end. Those that it passes got their places while the operation was
+/// under way, and a client has one at a time: so over a whole log each operation is passed at most
+/// once by each client. NoMemory: another stands at the place, as at no place of a run.
+fn spot_for(acts: &[PlacedAct<'_>], place: usize) -> Result<usize, NoMemory>
+    ensures within { IfOk result (λ at. at ≤ length acts.now) }
+    ensures spot { IfOk result (λ at. (placed : List Placed) → Ascend placed
+        → AreActsOf acts.now placed → IsSpotIn acts.now place at) }
 {
-    match slots.get(place) {
-        Some(None) => {}
-        _ => return Err(NoMemory),
+    let mut at = acts.len();
+    while at > 0 {
+        let before = acts[at - 1].place;
+        if before == place {
+            return Err(NoMemory);
+        }
+        if before < place {
+            return Ok(at);
+        }
+        at -= 1;
     }
-    slots[place] = Some(act);
+    Ok(0)
+}
+
+/// Puts in an operation by its place. NoMemory: there was no memory for it, or another stands at
+/// the place.
+#[inline(always)]
+fn put<'a>(acts: &mut Vec<PlacedAct<'a>>, act: PlacedAct<'a>) -> Result<(), NoMemory>
+    ensures { OnOk result ((placed : List Placed) → Ascend placed
+        → AreActsOf acts.old.items placed
+        → IsPutInto acts.old.items act.entry acts.new.items) }
+{
+    let at = spot_for(acts, act.place)?;
+    acts.insert(at, act)?;
     Ok(())
 }
 
@@ -335,17 +365,17 @@ fn take_answer<'a>(
     alloc: Global,
     callers: &[Caller<'a>],
     standing: &mut Table<bool>,
-    slots: &mut Vec<Option<Act<'a>>>,
+    acts: &mut Vec<PlacedAct<'a>>,
     client: ClientNo,
     answer: &Answer,
 ) -> Result<(), NoMemory>
     requires { length callers.now ≡ 256 }
     ensures { OnOk result ((past : List Step) (placed : List Placed)
         → AreCallerStates callers.now past
-        → StandsInSet standing.old placed → SlotsHoldHistory slots.old.items placed
+        → StandsInSet standing.old placed
+        → Ascend placed → AreActsOf acts.old.items placed
         → AnswerHasPlace past client answer.now placed
-        → AnswerIsInHistory past client answer.now placed standing.new slots.old.items
-        slots.new.items) }
+        → AnswerIsInHistory past client answer.now placed standing.new acts.new.items) }
 {
     let Answer::Replied { reply } = answer else {
         return Ok(());
@@ -364,28 +394,32 @@ fn take_answer<'a>(
         number: begun.number,
         op: begun.op,
     };
-    put(slots, place, act)?;
+    put(acts, PlacedAct { place, act })?;
     note_standing(standing, client, begun.number)
 }
 
-/// The operation of a committed plan, which stands in the history from now on; none for a read.
-/// NoMemory: there was no memory for it, or its plan is not known.
+/// Takes what is committed at this place: the operation of a plan comes last in the history, a read
+/// puts none there. NoMemory: there was no memory for it, or its plan is not known.
 fn take_commit<'a>(
     plans: &Plans<'a>,
     standing: &mut Table<bool>,
+    acts: &mut Vec<PlacedAct<'a>>,
+    place: usize,
     committed: CommittedMini<'a>,
-) -> Result<Option<Act<'a>>, NoMemory>
-    ensures { IfOk result (λ found. (start : Start) (past : List Step) (placed : List Placed)
+) -> Result<(), NoMemory>
+    ensures { OnOk result ((start : Start) (past : List Step) (placed : List Placed)
         → IsRun start past → KnowsPlanners plans.now past → IsIssuedUnderId past committed.entry
-        → StandsInSet standing.old placed
-        → CommitIsInHistory past committed.entry placed standing.new found) }
+        → place ≡ length past
+        → StandsInSet standing.old placed → AreActsOf acts.old.items placed
+        → CommitIsInHistory past committed.entry placed standing.new acts.new.items) }
 {
     if committed.mini.is_read() {
-        return Ok(None);
+        return Ok(());
     }
     let act = planned(plans, committed.tid)?;
     note_standing(standing, act.client, act.number)?;
-    Ok(Some(act))
+    acts.push(PlacedAct { place, act })?;
+    Ok(())
 }
 
 /// Notes who issued a plan, and for which operation, where the entry issues one.
@@ -467,50 +501,48 @@ fn take_step<'a>(
     alloc: Global,
     callers: &[Caller<'a>],
     standing: &mut Table<bool>,
-    slots: &mut Vec<Option<Act<'a>>>,
+    acts: &mut Vec<PlacedAct<'a>>,
     entry: &Entry,
 ) -> Result<(), NoMemory>
     requires { length callers.now ≡ 256 }
     ensures { OnOk result ((past : List Step) (placed : List Placed)
         → AreCallerStates callers.now past
-        → StandsInSet standing.old placed → SlotsHoldHistory slots.old.items placed
+        → StandsInSet standing.old placed
+        → Ascend placed → AreActsOf acts.old.items placed
         → EntryHasPlace past entry.now None placed
-        → EntryIsInHistory past entry.now None placed standing.new slots.old.items slots.new.items
-        None) }
+        → EntryIsInHistory past entry.now None placed standing.new acts.new.items) }
 {
     let (Some(client), What::Answered { answer, .. }) = (entry.client, &entry.what) else {
         return Ok(());
     };
-    take_answer(alloc, callers, standing, slots, client, answer)
+    take_answer(alloc, callers, standing, acts, client, answer)
 }
 
-/// Takes what the entry commits, or else the answer that it gives. The operation of a plan that it
-/// commits has the place of the entry. NoMemory: there was no memory for it, or no read tells the
-/// place of what was answered.
+/// Takes what the entry at this place commits, or else the answer that it gives. NoMemory: there
+/// was no memory for it, or no read tells the place of what was answered.
 fn take_entry<'a>(
     alloc: Global,
     callers: &[Caller<'a>],
     plans: &Plans<'a>,
     standing: &mut Table<bool>,
-    slots: &mut Vec<Option<Act<'a>>>,
+    acts: &mut Vec<PlacedAct<'a>>,
+    place: usize,
     entry: &Entry,
     committed: Option<CommittedMini<'a>>,
-) -> Result<Option<Act<'a>>, NoMemory>
+) -> Result<(), NoMemory>
     requires { length callers.now ≡ 256 }
-    ensures { IfOk result (λ found. (start : Start) (past : List Step) (placed : List Placed)
+    ensures { OnOk result ((start : Start) (past : List Step) (placed : List Placed)
         → IsRun start past → AreCallerStates callers.now past → KnowsPlanners plans.now past
         → option_map issued_of committed.entry ≡ committed_by past entry.now
-        → StandsInSet standing.old placed → SlotsHoldHistory slots.old.items placed
+        → place ≡ length past
+        → StandsInSet standing.old placed → Ascend placed → AreActsOf acts.old.items placed
         → EntryHasPlace past entry.now (committed_by past entry.now) placed
         → EntryIsInHistory past entry.now (committed_by past entry.now) placed standing.new
-        slots.old.items slots.new.items found) }
+        acts.new.items) }
 {
     match committed {
-        Some(committed) => take_commit(plans, standing, committed),
-        None => {
-            take_step(alloc, callers, standing, slots, entry)?;
-            Ok(None)
-        }
+        Some(committed) => take_commit(plans, standing, acts, place, committed),
+        None => take_step(alloc, callers, standing, acts, entry),
     }
 }
 
@@ -524,8 +556,8 @@ struct HistoryReader<'a> {
     plans: Plans<'a>,
     /// The operations of the history.
     standing: Table<bool>,
-    /// They by place, one slot an entry.
-    slots: Vec<Option<Act<'a>>>,
+    /// They in order of place.
+    acts: Vec<PlacedAct<'a>>,
     /// What is said of each operation.
     said: AllSaid<'a>,
 }
@@ -540,37 +572,37 @@ impl<'a> HistoryReader<'a> {
             callers: idle_callers(alloc)?,
             plans: Plans::new(alloc)?,
             standing: Table::new(alloc)?,
-            slots: Vec::with_capacity(alloc, entries)?,
+            acts: Vec::new(alloc),
             said: AllSaid::new(alloc)?,
         })
     }
 
-    /// Takes the next entry. NoMemory: there was no memory for it, or no read tells the place of
-    /// what was answered.
-    fn follow(&mut self, alloc: Global, entry: &'a Entry) -> Result<(), NoMemory>
+    /// Takes the next entry, which has this place. NoMemory: there was no memory for it, or no read
+    /// tells the place of what was answered.
+    fn follow(&mut self, alloc: Global, place: usize, entry: &'a Entry) -> Result<(), NoMemory>
         requires { (past : List Step) × ReaderHasRead self.old past }
         ensures reads { (past : List Step) → ReaderHasRead self.old past
             → OnOk result (ReaderHasRead self.new (entry.now ∷ past)) }
         ensures tells { OnOk result ((start : Start) (past : List Step) (placed : List Placed)
-            → IsRun start past → EntryHasPlace past entry.now (committed_by past entry.now) placed
+            → IsRun start past → place ≡ length past → Ascend placed
+            → EntryHasPlace past entry.now (committed_by past entry.now) placed
             → ReaderHasTold self.old past placed → (next : List Placed)
             × ReaderHasTold self.new (entry.now ∷ past) next) }
     {
         let committed = self.commits.follow(entry)?;
-        let act = take_entry(
+        take_entry(
             alloc,
             &self.callers,
             &self.plans,
             &mut self.standing,
-            &mut self.slots,
+            &mut self.acts,
+            place,
             entry,
             committed,
         )?;
         note_issue(&self.callers, &mut self.plans, entry)?;
-        note_step(alloc, &mut self.callers, self.slots.len(), entry)?;
-        note_entry(&mut self.said, entry)?;
-        self.slots.push(act)?;
-        Ok(())
+        note_step(alloc, &mut self.callers, place, entry)?;
+        note_entry(&mut self.said, entry)
     }
 }
 
@@ -590,21 +622,15 @@ fn done(alloc: Global, store: &mut Store, act: &Act<'_>) -> Result<Past, NoMemor
     })
 }
 
-/// Does the operations in these slots one after another, which tells each with the store's reply.
-fn all_done(
-    alloc: Global,
-    store: &mut Store,
-    slots: &[Option<Act<'_>>],
-) -> Result<History, NoMemory>
-    ensures history { IfOk result (λ history. history ≡ done_from store.old (acts_in slots.now)) }
+/// Does these operations one after another, which tells each with the store's reply.
+fn all_done(alloc: Global, store: &mut Store, acts: &[PlacedAct<'_>]) -> Result<History, NoMemory>
+    ensures history { IfOk result (λ history. history ≡ done_from store.old (acts_in acts.now)) }
     ensures store { OnOk result (store.new
-        ≡ store_after store.old (done_from store.old (acts_in slots.now))) }
+        ≡ store_after store.old (done_from store.old (acts_in acts.now))) }
 {
     let mut history = Vec::new(alloc);
-    for slot in slots {
-        if let Some(act) = slot {
-            history.push(done(alloc, store, act)?)?;
-        }
+    for placed in acts {
+        history.push(done(alloc, store, &placed.act)?)?;
     }
     Ok(History::from_vec(history))
 }
@@ -619,15 +645,13 @@ fn follow(alloc: Global, store: &mut Store, act: &Act<'_>) -> Result<(), NoMemor
     Ok(())
 }
 
-/// Does the operations in these slots one after another.
-fn follow_all(alloc: Global, store: &mut Store, slots: &[Option<Act<'_>>]) -> Result<(), NoMemory>
+/// Does these operations one after another.
+fn follow_all(alloc: Global, store: &mut Store, acts: &[PlacedAct<'_>]) -> Result<(), NoMemory>
     ensures { OnOk result (store.new
-        ≡ store_after store.old (done_from store.old (acts_in slots.now))) }
+        ≡ store_after store.old (done_from store.old (acts_in acts.now))) }
 {
-    for slot in slots {
-        if let Some(act) = slot {
-            follow(alloc, store, act)?;
-        }
+    for placed in acts {
+        follow(alloc, store, &placed.act)?;
     }
     Ok(())
 }
@@ -640,9 +664,10 @@ fn read_log<'a>(alloc: Global, log: &'a Log) -> Result<HistoryReader<'a>, NoMemo
 {
     runs_have_history();
     history_is_one();
+    runs_are_one_history();
     let mut reader = HistoryReader::new(alloc, log.len())?;
     for place in 0..log.len() {
-        reader.follow(alloc, log.entry(place))?;
+        reader.follow(alloc, place, log.entry(place))?;
     }
     Ok(reader)
 }
@@ -650,7 +675,7 @@ fn read_log<'a>(alloc: Global, log: &'a Log) -> Result<HistoryReader<'a>, NoMemo
 /// The reader of a whole log.
 fn reader_of<'a>(alloc: Global, log: &'a Log) -> Result<HistoryReader<'a>, NoMemory>
     ensures { (from : Start) (store : Versions) → OpenedRun from store (entries_of log.now)
-        → IfOk result (λ reader. (placed : List Placed) × TellsHistory reader.slots.items
+        → IfOk result (λ reader. (placed : List Placed) × TellsHistory reader.acts.items
         reader.standing from store (entries_of log.now) placed
         × TellsAnswers reader.said (entries_of log.now)) }
 {
@@ -658,11 +683,11 @@ fn reader_of<'a>(alloc: Global, log: &'a Log) -> Result<HistoryReader<'a>, NoMem
     read_log(alloc, log)
 }
 
-/// What a log comes to: the operations of its history in order of place, some slots without one;
-/// the same to look up; what is said of each operation; and the store after them.
+/// What a log comes to: the operations of its history in order of place; the same to look up; what
+/// is said of each operation; and the store after them.
 #[derive(Drop)]
 pub struct Ending<'a> {
-    pub slots: Vec<Option<Act<'a>>>,
+    pub acts: Vec<PlacedAct<'a>>,
     pub standing: Table<bool>,
     pub said: AllSaid<'a>,
     pub store: Store,
@@ -676,9 +701,9 @@ pub fn ending_of<'a>(alloc: Global, start: &Store, log: &'a Log) -> Result<Endin
 {
     let reader = reader_of(alloc, log)?;
     let mut store = start.try_copy(alloc)?;
-    follow_all(alloc, &mut store, &reader.slots)?;
+    follow_all(alloc, &mut store, &reader.acts)?;
     Ok(Ending {
-        slots: reader.slots,
+        acts: reader.acts,
         standing: reader.standing,
         said: reader.said,
         store,
@@ -704,6 +729,6 @@ pub fn history_of(alloc: Global, start: &Store, log: &Log) -> Result<History, No
 {
     let reader = reader_of(alloc, log)?;
     let mut store = start.try_copy(alloc)?;
-    let history = all_done(alloc, &mut store, &reader.slots)?;
+    let history = all_done(alloc, &mut store, &reader.acts)?;
     Ok(history)
 }

@@ -29,7 +29,7 @@ returns-clause-audit c = λ from h.
       told = report_is c.args.start.now script past ends.0
           (record { answers = c.in_ok-answers.answers; history = c.in_ok-history.history; doubts = c.in_ok-doubts.doubts; points = c.from_vec.result; versions = c.in_ok-versions.versions })
           (c.in_ok-answers.ensures ∙ (answers_same (said_kept said) (said_by past) says 0 clients ∙ ap (answers_from (said_by past) 0) c.clients-clients.ensures.value))
-          (c.in_ok-history.ensures ∙ (ap (λ l. map (ranked_act clients) (acts_in l)) c.deref.ensures.value ∙ sym (ranked_same clients c.args.start.now (acts_in c.in_ok-ending.ending.slots.items)) ∙ ap (map (ranked_as clients)) ends.1.told.history ∙ ap (λ (l : List ScriptClient). map (ranked_as l) (pasts_of ends.0)) c.clients-clients.ensures.value))
+          (c.in_ok-history.ensures ∙ (ap (λ l. map (ranked_act clients) (acts_in l)) c.deref.ensures.value ∙ sym (ranked_same clients c.args.start.now (acts_in c.in_ok-ending.ending.acts.items)) ∙ ap (map (ranked_as clients)) ends.1.told.history ∙ ap (λ (l : List ScriptClient). map (ranked_as l) (pasts_of ends.0)) c.clients-clients.ensures.value))
           (c.in_ok-doubts.ensures ∙ (doubts_same (said_kept said) (said_by past) (stands c.in_ok-ending.ending.standing) stood says ends.1.told.stands 0 clients ∙ ap (doubts_from (said_by past) stood 0) c.clients-clients.ensures.value))
           (c.from_vec.ensures ∙ (c.in_ok-points.ensures ∙ ap (λ (l : List Point). points_met l past) c.points.ensures.value))
           (c.in_ok-versions.ensures ∙ ap versions_told ends.1.after);

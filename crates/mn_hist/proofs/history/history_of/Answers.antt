@@ -1,6 +1,7 @@
 use Rattle.std.proofs.Common.{ap, ◌∙◌}
 use Rattle.mn_base.specs.Store.{Store}
-use Rattle.mn_hist.specs.History.{acts_in, done_from}
+use Rattle.mn_hist.specs.Acts.{done_from}
+use Rattle.mn_hist.specs.History.{acts_in}
 use Rattle.mn_hist.proofs.history.history_of.Goals as goal
 
 pub returns-clause-history : goal.returns-clause-history

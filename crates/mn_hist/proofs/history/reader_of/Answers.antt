@@ -8,6 +8,6 @@ returns c = λ from store run.
     let told = tells from store run in
     let one = c.runs_are_one_history.ensures from store (entries_of c.args.log.now) told.0 (record { opened = run; history = told.1.history }) in (
       told.0,
-      record { is = told.1.history; one = one; history = told_whole store reader.slots.items told.0 told.1.fills one.legal; stands = told.1.stands },
+      record { is = told.1.history; one = one; history = told_whole store reader.acts.items told.0 told.1.acts one.legal; stands = told.1.stands },
       told.1.reading.said,
     ))

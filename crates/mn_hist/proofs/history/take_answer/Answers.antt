@@ -1,45 +1,44 @@
-use Rattle.std.proofs.Common.{◌≡◌, ◌<◌, List, length, Some, reverse, ap, subst, sym, ◌∙◌, arith}
+use Rattle.std.proofs.Common.{◌≡◌, ◌<◌, List, reverse, ap, subst, sym, ◌∙◌, arith}
 use Rattle.std.specs.Option.{option_map}
 use Rattle.mn_base.specs.declared.answer.Answer.{Answer}
 use Rattle.mn_base.specs.declared.op.Op.{Op}
 use Rattle.mn_world.specs.Calls.{Begun}
 use Rattle.mn_hist.specs.History.{CallerState, Note, IsNotedPlace, AnswerHasPlace, AnswerIsInHistory, caller_state}
 use Rattle.mn_hist.specs.Plans.{begun_of}
-use Rattle.mn_hist.proofs.Putting.{on_ok, at_index, length_set, puts_none, idle_puts, stands_already, puts_read}
+use Rattle.mn_hist.proofs.Putting.{on_ok, at_index, puts_none, idle_puts, stands_already, puts_read}
 use Rattle.mn_hist.proofs.history.take_answer.Goals as goal
 
 pub returns-in_default-begun : goal.returns-in_default-begun
-returns-in_default-begun c = λ past placed are st fills has.
+returns-in_default-begun c = λ past placed are st up acts has.
     let few : c.args.client.0 < 256 = omega arith in
     let there = are c.args.client few in
     let same = at_index c.args.callers.now c.args.client.0 c.index-callers-from.result (caller_state c.args.client past) (subst (λ i. c.index-callers-from.result ≡ Rattle.std.specs.Prelude.slice_index_or c.args.callers.now i c.index-callers-from.result) c.from.ensures c.index-callers-from.is) there in
-    puts_none past c.args.client c.args.answer.now placed c.args.standing.now c.args.slots.now.items
-    (idle_puts past c.args.client c.args.answer.now placed (sym (ap (λ (s : CallerState). s.begun) (c.caller.view_is ∙ same)) ∙ ap (option_map begun_of) c.in_default-begun.is)) st fills
+    puts_none past c.args.client c.args.answer.now placed c.args.standing.now c.args.acts.now.items
+    (idle_puts past c.args.client c.args.answer.now placed (sym (ap (λ (s : CallerState). s.begun) (c.caller.view_is ∙ same)) ∙ ap (option_map begun_of) c.in_default-begun.is)) st acts
 
 pub returns-then-is_standing : goal.returns-then-is_standing
-returns-then-is_standing c = λ past placed are st fills has.
+returns-then-is_standing c = λ past placed are st up acts has.
     let few : c.args.client.0 < 256 = omega arith in
     let there = are c.args.client few in
     let same = at_index c.args.callers.now c.args.client.0 c.index-callers-from.result (caller_state c.args.client past) (subst (λ i. c.index-callers-from.result ≡ Rattle.std.specs.Prelude.slice_index_or c.args.callers.now i c.index-callers-from.result) c.from.ensures c.index-callers-from.is) there in
     let begun : Begun = record { number = c.in-Some.begun.number; op = c.in-Some.begun.op.now } in
-    subst (λ (a : Answer). AnswerIsInHistory past c.args.client a placed c.args.standing.now c.args.slots.now.items c.args.slots.now.items) (sym c.in-Replied.is)
-    (puts_none past c.args.client (Rattle.mn_base.specs.declared.answer.Answer.TheVariants.Replied c.in-Replied.reply) placed c.args.standing.now c.args.slots.now.items
+    subst (λ (a : Answer). AnswerIsInHistory past c.args.client a placed c.args.standing.now c.args.acts.now.items) (sym c.in-Replied.is)
+    (puts_none past c.args.client (Rattle.mn_base.specs.declared.answer.Answer.TheVariants.Replied c.in-Replied.reply) placed c.args.standing.now c.args.acts.now.items
     (stands_already past c.args.client (record { number = c.in-Some.begun.number; op = c.in-Some.begun.op.now }) c.in-Replied.reply placed
     (sym (ap (λ (s : CallerState). s.begun) (c.caller.view_is ∙ same)) ∙ ap (option_map begun_of) c.in-Some.is)
-    (sym (st c.args.client c.in-Some.begun.number) ∙ (sym c.is_standing.ensures ∙ c.if-is_standing.true))) st fills)
+    (sym (st c.args.client c.in-Some.begun.number) ∙ (sym c.is_standing.ensures ∙ c.if-is_standing.true))) st acts)
 
 pub returns : goal.returns
-returns c = on_ok c.note_standing.result c.note_standing.ensures (λ more past placed are st fills has.
+returns c = on_ok c.note_standing.result c.note_standing.ensures (λ more past placed are st up acts has.
     let few : c.args.client.0 < 256 = omega arith in
     let there = are c.args.client few in
     let same = at_index c.args.callers.now c.args.client.0 c.index-callers-from.result (caller_state c.args.client past) (subst (λ i. c.index-callers-from.result ≡ Rattle.std.specs.Prelude.slice_index_or c.args.callers.now i c.index-callers-from.result) c.from.ensures c.index-callers-from.is) there in
-    subst (λ (a : Answer). AnswerIsInHistory past c.args.client a placed c.note_standing.new.standing c.args.slots.now.items c.put.new.slots.items) (sym c.in-Replied.is)
-    (puts_read past c.args.client (record { number = c.in-Some.begun.number; op = c.in-Some.begun.op.now }) c.in-Replied.reply placed c.args.standing.now c.note_standing.new.standing c.args.slots.now.items c.put.new.slots.items c.in_ok-place.place
+    subst (λ (a : Answer). AnswerIsInHistory past c.args.client a placed c.note_standing.new.standing c.put.new.acts.items) (sym c.in-Replied.is)
+    (puts_read past c.args.client (record { number = c.in-Some.begun.number; op = c.in-Some.begun.op.now }) c.in-Replied.reply placed c.args.standing.now c.note_standing.new.standing c.args.acts.now.items c.put.new.acts.items c.in_ok-place.place
     (sym (ap (λ (s : CallerState). s.begun) (c.caller.view_is ∙ same)) ∙ ap (option_map begun_of) c.in-Some.is)
     (sym (st c.args.client c.in-Some.begun.number) ∙ (sym c.is_standing.ensures ∙ c.if-is_standing.false))
     (subst (λ (ns : List Note). IsNotedPlace ns c.in-Some.begun.op.now c.in-Replied.reply c.in_ok-place.place) (ap reverse c.deref.ensures.value ∙ ap (λ (s : CallerState). s.notes) (c.caller.view_is ∙ same))
     (subst (λ (o : Op). IsNotedPlace (reverse c.deref.result.now) o c.in-Replied.reply c.in_ok-place.place) c.get.ensures c.in_ok-place.ensures))
     (subst (λ (a : Answer). AnswerHasPlace past c.args.client a placed) c.in-Replied.is has)
-    st fills c.in_ok-put.ensures
-    (ap length c.in_ok-put.ensures.1 ∙ length_set c.args.slots.now.items c.in_ok-place.place (Some (record { client = c.args.client; number = c.in-Some.begun.number; op = c.in-Some.begun.op.now })))
+    st acts (c.in_ok-put.ensures placed up acts)
     more))

@@ -1,4 +1,4 @@
-use Rattle.std.proofs.Common.{◌≡◌, ℕ, ◌<◌, Option, List, [], ◌++◌, Vec, Global, length, map, get_or, ap, subst, sym, ◌∙◌, arith}
+use Rattle.std.proofs.Common.{◌≡◌, ℕ, Option, List, [], ◌++◌, Vec, Global, length, map, get_or, ap, subst, sym, ◌∙◌, arith}
 use Rattle.mn_cell.specs.Runs.{placed_from}
 use Rattle.mn_world.specs.declared.entry.Entry.{Entry}
 use Rattle.mn_world.specs.declared.log.Spot.{Spot}

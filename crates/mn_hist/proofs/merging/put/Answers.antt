@@ -1,4 +1,4 @@
-use Rattle.std.proofs.Common.{Option, None, List, [], ◌∷◌, ◌++◌, ap, sym, subst, ◌≡◌, ℕ, ◌+◌, ◌∙◌, length, map, ◌<◌, ◌≤◌, true, false, refl, arith}
+use Rattle.std.proofs.Common.{Option, None, List, [], ◌∷◌, ◌++◌, sym, subst, ◌≡◌, ℕ, ◌+◌, ◌∙◌, length, map, ◌<◌, ◌≤◌, arith}
 use Rattle.std.specs.Prelude.{slice_set}
 use Rattle.mn_world.specs.declared.entry.Entry.{Entry}
 use Rattle.mn_world.specs.declared.log.Spot.{Spot}

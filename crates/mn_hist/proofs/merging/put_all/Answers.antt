@@ -1,4 +1,4 @@
-use Rattle.std.proofs.Common.{◌≡◌, ℕ, ◌+◌, ◌<◌, List, Option, [], ◌∷◌, length, map, drop, get_or, nat_le, ap, subst, sym, ◌∙◌, arith}
+use Rattle.std.proofs.Common.{ℕ, ◌+◌, ◌<◌, List, [], length, map, drop, get_or, nat_le, ap, sym, ◌∙◌, arith}
 use Rattle.mn_world.specs.declared.entry.Entry.{Entry}
 use Rattle.mn_hist.specs.Merging.{all_put, chosen, put_list, put_lists}
 use Rattle.mn_hist.proofs.Spots.{drop_at, lists_long, put_is, put_long}

@@ -8,7 +8,6 @@ returns c = record {
   callers = all_idle c.in_ok-idle_callers.field-0.items c.in_ok-idle_callers.ensures;
   plans = λ tid mini plan. search rules;
   stands = λ d n. search rules;
-  fills = search rules;
-  places = search rules;
+  acts = search rules;
   history = refl;
 }
