@@ -212,7 +212,7 @@ fn log_of(alloc: Global, count: u64) -> Result<Log, Fail> {
     for place in 0..count {
         entries.push((place, entry_at(alloc, place)?))?;
     }
-    Ok(Log::from_vec(entries))
+    Ok(Log::of_list(alloc, entries)?)
 }
 
 fn zeros(alloc: Global) -> Result<Spaces, Fail> {
