@@ -1,5 +1,6 @@
 pub mod Spaces
 pub mod Blocks
+pub mod Pieces
 pub mod Tids
 pub mod Votes
 pub mod Ties

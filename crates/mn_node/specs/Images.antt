@@ -1,26 +1,31 @@
 -- The images of blocks: the bytes that were last written to each of them as a whole.
-use Rattle.std.specs.Prelude.{◌≡◌, ◌≢◌, ◌↔◌, ◌≤◌, ◌+◌, ◌*◌, ◌⊎◌, ℕ, List, Option, Some, None, slice_index_or}
-use Rattle.mn_mini.specs.Flat.{bytes_in}
+use Rattle.std.specs.Prelude.{◌≡◌, ◌≤◌, ◌+◌, ◌*◌, ◌⊎◌, ℕ, suc, List, [], ◌∷◌, length}
+use Rattle.std.specs.Prelude.{Option, Some, None, slice_index_or}
+use Rattle.mn_mini.specs.Flat.{overwritten}
 
 -- how many bytes a block has
 abbrev pub block_size : ℕ
 block_size = 1024
 
--- each image is what the space has at its block
-abbrev pub AreImages : List (Option (List ℕ)) → List ℕ → Type 0
-AreImages images space =
+-- a space with the image over the block, if there is one
+abbrev pub with_image : ℕ → Option (List ℕ) → List ℕ → List ℕ
+with_image block None space = space
+with_image block (Some image) space = overwritten space (block_size * block) image
+
+-- a space with the images over its blocks, from this block on
+abbrev pub with_images : ℕ → List (Option (List ℕ)) → List ℕ → List ℕ
+with_images block [] space = space
+with_images block (image ∷ images) space =
+    with_images (suc block) images (with_image block image space)
+
+-- each image is as long as a block
+abbrev pub AreBlocks : List (Option (List ℕ)) → Type 0
+AreBlocks images =
     (block : ℕ) (image : List ℕ) → slice_index_or images block None ≡ Some image
-    → image ≡ bytes_in space (block_size * block) block_size
+    → length image ≡ block_size
 
--- the images are those from before of the blocks that the range doesn't meet
-abbrev pub AreLeft : ℕ → ℕ → List (Option (List ℕ)) → List (Option (List ℕ)) → Type 0
-AreLeft start length before after =
-    (block : ℕ) (image : List ℕ) → (slice_index_or after block None ≡ Some image)
-    ↔ ((slice_index_or before block None ≡ Some image)
-    × ((block_size * block + block_size ≤ start) ⊎ (start + length ≤ block_size * block)))
-
--- this one is the image of this block, and each other block has the one from before
-abbrev pub IsKept : ℕ → List ℕ → List (Option (List ℕ)) → List (Option (List ℕ)) → Type 0
-IsKept at kept before after =
-    (slice_index_or after at None ≡ Some kept)
-    × ((block : ℕ) → block ≢ at → slice_index_or after block None ≡ slice_index_or before block None)
+-- no image is one of a block that the range meets
+abbrev pub AreApart : ℕ → ℕ → List (Option (List ℕ)) → Type 0
+AreApart start count images =
+    (block : ℕ) (image : List ℕ) → slice_index_or images block None ≡ Some image
+    → (block_size * block + block_size ≤ start) ⊎ (start + count ≤ block_size * block)

@@ -1,9 +1,12 @@
-ghost use Rattle.std.specs.Prelude.{◌≡◌, ◌≢◌, ◌<◌, ◌≤◌, ◌+◌, ◌*◌, List, [], ℕ, length, IfOk, IfSome};
-ghost use Rattle.std.specs.Prelude.{IsNone, slice_index_or, vec_capacity, vec_len};
+ghost use Rattle.std.specs.Prelude.{◌≡◌, ◌≢◌, ◌<◌, ◌≤◌, ◌+◌, ◌*◌, ◌/◌, List, [], ℕ, true, false};
+ghost use Rattle.std.specs.Prelude.{length, IfOk, IfSome, IsNone, None, Some, slice_index_or};
+ghost use Rattle.std.specs.Prelude.{vec_capacity, vec_len};
 ghost use Rattle.mn_mini.specs.Flat.{overwritten};
 ghost use Rattle.mn_mini.specs.Mini.{space_size};
-ghost use Rattle.mn_node.specs.Images.{AreImages, AreLeft, IsKept, block_size};
+ghost use Rattle.mn_page.specs.Grammar.{padded};
+ghost use Rattle.mn_node.specs.Images.{AreApart, AreBlocks, block_size, with_images};
 
+use crate::kept::write;
 use mn_base::{NoMemory, TryCopy};
 use mn_mini::{SPACE, SharedBytes};
 use std::alloc::Global;
@@ -11,13 +14,14 @@ use std::marker::Model;
 
 /// How many bytes a block has: as many as a slot of a page. Blocks begin at its multiples, and so
 /// do slots.
-const BLOCK: usize = 1_024;
+pub const BLOCK: usize = 1_024;
 
 /// How many blocks a space has.
 const BLOCKS: usize = SPACE as usize / BLOCK;
 
-/// The images of blocks, by block: the bytes of each that was last written as a whole. What is
-/// missing behind them is none, but there is room for all, so a write takes no memory.
+/// The images of blocks, by block: the bytes of each that was last written as a whole, which stand
+/// here alone. What is missing behind them is none, but there is room for all, so a write takes no
+/// memory.
 #[derive(Drop)]
 pub struct Images {
     images: Vec<Option<SharedBytes>>,
@@ -81,41 +85,99 @@ impl Images {
         }
     }
 
-    /// Forgets the images of the blocks that a range meets.
-    fn forget(&mut self, start: usize, length: usize)
-        requires { start + length ≤ space_size }
-        ensures { AreLeft start length self.old self.new }
+    /// How many bytes of a range stand before the first block with an image that it meets. It
+    /// begins in a block without one.
+    pub fn free_in(&self, start: usize, length: usize) -> usize
+        requires within { start + length ≤ space_size }
+        requires first { slice_index_or self.now (start / block_size) None ≡ None }
+        ensures apart { AreApart start result self.now }
+        ensures within { result ≤ length }
+        ensures more { 0 < length → 0 < result }
     {
-        let first = start / BLOCK;
-        let end = (start + length).div_ceil(BLOCK).min(self.images.len());
-        for block in first..end {
-            self.images[block] = None;
+        let end = start + length;
+        let mut block = start / BLOCK + 1;
+        while block * BLOCK < end {
+            if self.at(block).is_some() {
+                return block * BLOCK - start;
+            }
+            block += 1;
         }
+        length
     }
 
     /// Keeps the image of a block.
     fn keep(&mut self, block: usize, image: SharedBytes)
-        requires { block < BLOCKS }
-        ensures { IsKept block image self.old self.new }
+        requires sized { AreBlocks self.old }
+        requires inside { block < BLOCKS }
+        requires long { length image ≡ block_size }
+        ensures sized { AreBlocks self.new }
+        ensures kept { (space : List ℕ) → with_images 0 self.new space
+            ≡ overwritten (with_images 0 self.old space) (block_size * block) image }
     {
         lengthen(&mut self.images, block + 1);
         self.images[block] = Some(image);
     }
 
-    /// Follows bytes that are put over a range of the space. The images of the blocks that it meets
-    /// go; where it is a block, that has the bytes, unless they have too many owners.
-    pub fn put(&mut self, start: usize, bytes: &SharedBytes)
-        requires { start + length bytes.now ≤ space_size }
-        ensures { (space : List ℕ) → length space ≡ space_size → AreImages self.old space
-            → AreImages self.new (overwritten space start bytes.now) }
+    /// Keeps bytes that are put over a range, where it is a block. Otherwise, or where they have
+    /// too many owners, it changes nothing. Whether it kept them.
+    pub fn take(&mut self, start: usize, bytes: &SharedBytes) -> bool
+        requires sized { AreBlocks self.old }
+        requires within { start + length bytes.now ≤ space_size }
+        ensures sized { AreBlocks self.new }
+        ensures taken { result ≡ true → (space : List ℕ) → with_images 0 self.new space
+            ≡ overwritten (with_images 0 self.old space) start bytes.now }
+        ensures left { result ≡ false → self.new ≡ self.old }
     {
-        let length = bytes.as_slice().len();
-        self.forget(start, length);
-        if let Some(block) = block_of(start, length) {
-            let alloc = *self.images.allocator();
-            if let Ok(image) = bytes.try_copy(alloc) {
-                self.keep(block, image);
-            }
+        let Some(block) = block_of(start, bytes.as_slice().len()) else {
+            return false;
+        };
+        let alloc = *self.images.allocator();
+        let Ok(image) = bytes.try_copy(alloc) else {
+            return false;
+        };
+        self.keep(block, image);
+        true
+    }
+
+    /// Moves the image of a block, if it has one, into the bytes that are kept flat.
+    fn flatten_block(&mut self, kept: &mut Vec<u8>, block: usize)
+        requires sized { AreBlocks self.old }
+        requires short { length kept.old.items ≤ space_size }
+        requires room { space_size ≤ vec_capacity kept.old }
+        requires inside { block < BLOCKS }
+        ensures same { with_images 0 self.new (padded space_size kept.new.items)
+            ≡ with_images 0 self.old (padded space_size kept.old.items) }
+        ensures gone { slice_index_or self.new block None ≡ None }
+        ensures others { (other : ℕ) → other ≢ block → slice_index_or self.new other None
+            ≡ slice_index_or self.old other None }
+        ensures sized { AreBlocks self.new }
+        ensures short { length kept.new.items ≤ space_size }
+        ensures room { space_size ≤ vec_capacity kept.new }
+    {
+        if let Some(image) = self.at(block) {
+            write(kept, block * BLOCK, image.as_slice());
+            self.images[block] = None;
+        }
+    }
+
+    /// Moves the images of the blocks that a range meets into the bytes that are kept flat. It
+    /// takes no memory.
+    pub fn flatten(&mut self, kept: &mut Vec<u8>, start: usize, length: usize)
+        requires sized { AreBlocks self.old }
+        requires short { Rattle.std.specs.Prelude.length kept.old.items ≤ space_size }
+        requires room { space_size ≤ vec_capacity kept.old }
+        requires within { start + length ≤ space_size }
+        ensures same { with_images 0 self.new (padded space_size kept.new.items)
+            ≡ with_images 0 self.old (padded space_size kept.old.items) }
+        ensures apart { AreApart start length self.new }
+        ensures sized { AreBlocks self.new }
+        ensures short { Rattle.std.specs.Prelude.length kept.new.items ≤ space_size }
+        ensures room { space_size ≤ vec_capacity kept.new }
+    {
+        let first = start / BLOCK;
+        let end = (start + length).div_ceil(BLOCK);
+        for block in first..end {
+            self.flatten_block(kept, block);
         }
     }
 }

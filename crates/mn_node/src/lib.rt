@@ -5,6 +5,7 @@
 mod bodies;
 mod held;
 mod images;
+mod kept;
 mod list;
 mod logging;
 mod memory;

@@ -35,6 +35,7 @@ pub enum Served {
 }
 
 /// A Force: the vote of the node, which votes no from now on if it hasn't voted.
+#[inline(never)]
 pub fn force<D: Disk>(
     redo: &mut Appender<D>,
     memory: &mut Memory,
@@ -78,6 +79,7 @@ pub fn force<D: Disk>(
 }
 
 /// A Decide: ends the part that is held for the id, if one is. It takes no memory.
+#[inline(never)]
 pub fn decide<D: Disk>(
     redo: &mut Appender<D>,
     memory: &mut Memory,
@@ -165,6 +167,7 @@ fn execute<D: Disk>(
 }
 
 /// An Exec: tests a part and, if it may, runs it. No lock is kept.
+#[inline(never)]
 pub fn exec<D: Disk>(
     alloc: Global,
     redo: &mut Appender<D>,
@@ -270,6 +273,7 @@ fn vote_yes<D: Disk>(
 }
 
 /// A Prepare: tests a part and, if it may, votes yes and holds it.
+#[inline(never)]
 pub fn prepare<D: Disk>(
     alloc: Global,
     redo: &mut Appender<D>,
@@ -336,6 +340,48 @@ pub fn prepare<D: Disk>(
     }
 }
 
+/// A List: the votes that are held.
+#[inline(never)]
+fn list<D: Disk>(alloc: Global, redo: &Appender<D>, memory: &Memory, stop: Option<StopAt>) -> Served
+    requires up { IsNodeUp D.state redo.now memory.now }
+    ensures handled { Handled D.state D.faults redo.now memory.now
+        Request.List stop result redo.now memory.now }
+{
+    match doubts(alloc, &memory.records, &memory.held) {
+        Ok(doubts) => Served::Replied {
+            reply: NodeReply::Listed { doubts },
+        },
+        Err(_) => Served::Replied {
+            reply: NodeReply::NoMemory,
+        },
+    }
+}
+
+/// A Peek: the bytes of a range.
+#[inline(never)]
+fn peek<D: Disk>(
+    alloc: Global,
+    redo: &Appender<D>,
+    memory: &Memory,
+    start: u32,
+    length: u32,
+    stop: Option<StopAt>,
+) -> Served
+    requires up { IsNodeUp D.state redo.now memory.now }
+    requires sound { IsSoundRequest (Request.Peek start length) }
+    ensures handled { Handled D.state D.faults redo.now memory.now
+        (Request.Peek start length) stop result redo.now memory.now }
+{
+    match shared_copy_of(alloc, &memory.space, start, length as usize) {
+        Ok(bytes) => Served::Replied {
+            reply: NodeReply::Peeked { bytes },
+        },
+        Err(_) => Served::Replied {
+            reply: NodeReply::NoMemory,
+        },
+    }
+}
+
 /// What a node that is up does with a request.
 pub fn answer<D: Disk>(
     alloc: Global,
@@ -365,26 +411,7 @@ pub fn answer<D: Disk>(
         Request::Exec { tid, part } => exec(alloc, redo, memory, line, *tid, part, stop),
         Request::Decide { tid, yes } => decide(redo, memory, *tid, *yes, stop),
         Request::Force { tid } => force(redo, memory, *tid, stop),
-        Request::List => match doubts(alloc, &memory.records, &memory.held) {
-            Ok(doubts) => Served::Replied {
-                reply: NodeReply::Listed { doubts },
-            },
-            Err(_) => Served::Replied {
-                reply: NodeReply::NoMemory,
-            },
-        },
-        Request::Peek { start, length } => match shared_copy_of(
-            alloc,
-            &memory.space,
-            *start,
-            *length as usize,
-        ) {
-            Ok(bytes) => Served::Replied {
-                reply: NodeReply::Peeked { bytes },
-            },
-            Err(_) => Served::Replied {
-                reply: NodeReply::NoMemory,
-            },
-        },
+        Request::List => list(alloc, redo, memory, stop),
+        Request::Peek { start, length } => peek(alloc, redo, memory, *start, *length, stop),
     }
 }

@@ -1,21 +1,21 @@
-ghost use Rattle.std.specs.Prelude.{◌≡◌, ◌≤◌, ◌<◌, ◌+◌, length, bytes_eq, vec_capacity};
-ghost use Rattle.std.specs.Prelude.{IfOk, IfSome};
+ghost use Rattle.std.specs.Prelude.{◌≡◌, ◌≤◌, ◌<◌, ◌+◌, length, bytes_eq, IfOk, IfSome};
 ghost use Rattle.mn_mini.specs.Flat.{bytes_in, overwritten};
 ghost use Rattle.mn_mini.specs.Mini.{space_size};
 ghost use Rattle.mn_page.specs.Base.{base_of};
 ghost use Rattle.mn_page.specs.Grammar.{padded};
 
-use crate::images::{Images, block_of};
-use mn_base::{NoMemory, TryCopy, are_zeros};
+use crate::images::{BLOCK, Images, block_of};
+use crate::kept::{is_kept, kept_in, write};
+use mn_base::{NoMemory, TryCopy};
 use mn_mini::{SPACE, SharedBytes};
 use mn_page::base_bytes;
 use std::alloc::Global;
 use std::marker::Model;
 
-/// The space of a node. Contracts see all its bytes. The zeros behind the last byte that was
-/// written aren't kept, so a node uses memory for what it holds alone; but there is room for them,
-/// so a write takes none. Beside them stand the images of blocks: a read of a whole block gives the
-/// bytes that were last written there.
+/// The space of a node. Contracts see all its bytes. A block that was last written as a whole is
+/// its image, which a read of it shares; the others are kept flat, and what is kept flat of a block
+/// with an image is old. The zeros behind the last byte that was written flat aren't kept, so a
+/// node uses memory for what it holds alone; but there is room for them, so a write takes none.
 #[derive(Drop)]
 pub struct Space {
     kept: Vec<u8>,
@@ -26,38 +26,22 @@ impl Model for Space {
     ghost use Rattle.std.specs.Prelude.{◌≤◌, List, ℕ, length, vec_capacity};
     ghost use Rattle.mn_mini.specs.Mini.{space_size};
     ghost use Rattle.mn_page.specs.Grammar.{padded};
-    ghost use Rattle.mn_node.specs.Images.{AreImages};
+    ghost use Rattle.mn_node.specs.Images.{AreBlocks, with_images};
 
     ghost Value = { List ℕ };
 
-    ghost view = { λ s. padded space_size s.kept.items };
+    ghost view = { λ s. with_images 0 s.images (padded space_size s.kept.items) };
 
     ghost invariant = { λ s. (length s.kept.items ≤ space_size)
-        × (space_size ≤ vec_capacity s.kept)
-        × AreImages s.images (padded space_size s.kept.items) };
-}
-
-/// Puts bytes over a range of what is kept, and keeps what it needs for that. It takes no memory.
-fn write(kept: &mut Vec<u8>, start: usize, bytes: &[u8])
-    requires short { length kept.old.items ≤ space_size }
-    requires room { space_size ≤ vec_capacity kept.old }
-    requires within { start + length bytes.now ≤ space_size }
-    ensures bytes { padded space_size kept.new.items
-        ≡ overwritten (padded space_size kept.old.items) start bytes.now }
-    ensures short { length kept.new.items ≤ space_size }
-    ensures room { space_size ≤ vec_capacity kept.new }
-{
-    let end = start + bytes.len();
-    let length = kept.len().max(end);
-    kept.resize(length, 0).unwrap();
-    kept[start..end].copy_from_slice(bytes);
+        × (space_size ≤ vec_capacity s.kept) × AreBlocks s.images };
 }
 
 impl Space {
     /// The space that this node, of so many, begins with. NoMemory: there was no memory for it.
     pub fn base(alloc: Global, node: u8, nodes: u8) -> Result<Self, NoMemory>
         requires { 0 < nodes }
-        ensures { IfOk result (λ space. space ≡ base_of nodes node) }
+        ensures base { IfOk result (λ space. space ≡ base_of nodes node) }
+        ensures whole { IfOk result (λ space. length space ≡ space_size) }
     {
         let mut kept = base_bytes(alloc, node, nodes)?;
         kept.reserve(SPACE as usize - kept.len())?;
@@ -67,25 +51,36 @@ impl Space {
         })
     }
 
-    /// What is kept of a range. What is missing is zeros.
-    fn kept_in(&self, start: u32, length: usize) -> &[u8]
+    /// The image of a range that is a block.
+    fn image_of(&self, start: usize, length: usize) -> Option<&SharedBytes>
         requires { start + length ≤ Rattle.std.specs.Prelude.length self.now }
-        ensures bytes { padded length result.now ≡ bytes_in self.now start length }
-        ensures short { Rattle.std.specs.Prelude.length result.now ≤ length }
+        ensures { IfSome result (λ image. image.now ≡ bytes_in self.now start length) }
     {
-        let start = start as usize;
-        let from = self.kept.len().min(start);
-        let to = self.kept.len().min(start + length);
-        &self.kept[from..to]
+        let block = block_of(start, length)?;
+        self.images.at(block)
     }
 
-    /// Whether these bytes stand there, by what is kept.
-    fn keeps(&self, start: u32, bytes: &[u8]) -> bool
-        requires { start + length bytes.now ≤ length self.now }
-        ensures { result ≡ bytes_eq (bytes_in self.now start (length bytes.now)) bytes.now }
+    /// The first piece of a range that stands in one place, and its length. What is missing at its
+    /// end is zeros.
+    fn piece(&self, start: usize, length: usize) -> (&[u8], usize)
+        requires { start + length ≤ Rattle.std.specs.Prelude.length self.now }
+        ensures bytes { padded result.1 result.0.now ≡ bytes_in self.now start result.1 }
+        ensures short { Rattle.std.specs.Prelude.length result.0.now ≤ result.1 }
+        ensures within { result.1 ≤ length }
+        ensures more { 0 < length → 0 < result.1 }
+        ensures inside { start + result.1 ≤ space_size }
     {
-        let kept = self.kept_in(start, bytes.len());
-        kept == &bytes[..kept.len()] && are_zeros(&bytes[kept.len()..])
+        match self.images.at(start / BLOCK) {
+            Some(image) => {
+                let from = start % BLOCK;
+                let count = length.min(BLOCK - from);
+                (&image.as_slice()[from..from + count], count)
+            }
+            None => {
+                let count = self.images.free_in(start, length);
+                (kept_in(&self.kept, start, count), count)
+            }
+        }
     }
 
     /// A copy of the bytes of a range. NoMemory: there was no memory for it.
@@ -94,17 +89,32 @@ impl Space {
         ensures { IfOk result (λ copy. copy.items ≡ bytes_in self.now start length) }
     {
         let mut copy = Vec::with_capacity(alloc, length)?;
-        copy.extend_from_slice(self.kept_in(start, length))?;
-        copy.resize(length, 0)?;
+        let mut at = 0;
+        while at < length {
+            let (kept, count) = self.piece(start as usize + at, length - at);
+            at += count;
+            copy.extend_from_slice(kept)?;
+            copy.resize(at, 0)?;
+        }
         Ok(copy)
     }
 
-    /// The image of a range that is a block.
-    fn image_of(&self, start: u32, length: usize) -> Option<&SharedBytes>
-        ensures { IfSome result (λ image. image.now ≡ bytes_in self.now start length) }
+    /// Whether these bytes stand there, piece by piece.
+    fn stand(&self, start: usize, bytes: &[u8]) -> bool
+        requires { start + length bytes.now ≤ length self.now }
+        ensures { result ≡ bytes_eq (bytes_in self.now start (length bytes.now)) bytes.now }
     {
-        let block = block_of(start as usize, length)?;
-        self.images.at(block)
+        let mut from = start;
+        let mut rest = bytes;
+        while !rest.is_empty() {
+            let (kept, count) = self.piece(from, rest.len());
+            if !is_kept(kept, &rest[..count]) {
+                return false;
+            }
+            from += count;
+            rest = &rest[count..];
+        }
+        true
     }
 
     /// Whether these bytes stand there.
@@ -113,10 +123,10 @@ impl Space {
         ensures { result ≡ bytes_eq (bytes_in self.now start (length bytes.now)) bytes.now }
     {
         let all = bytes.as_slice();
-        if let Some(image) = self.image_of(start, all.len()) {
+        if let Some(image) = self.image_of(start as usize, all.len()) {
             return image.padded().is_same(&bytes.padded());
         }
-        self.keeps(start, all)
+        self.stand(start as usize, all)
     }
 
     /// The bytes of a range, for copies to share: a block's image or a copy. NoMemory: there was no
@@ -130,10 +140,10 @@ impl Space {
         requires { start + length ≤ Rattle.std.specs.Prelude.length self.now }
         ensures { IfOk result (λ copy. copy ≡ bytes_in self.now start length) }
     {
-        if let Some(image) = self.image_of(start, length) {
+        if let Some(image) = self.image_of(start as usize, length) {
             return image.try_copy(alloc);
         }
-        let kept = self.kept_in(start, length);
+        let (kept, _) = self.piece(start as usize, length);
         if kept.len() == length {
             return SharedBytes::copy_of(alloc, kept);
         }
@@ -147,7 +157,11 @@ impl Space {
         ensures whole { length self.new ≡ length self.old }
     {
         let start = start as usize;
-        write(&mut self.kept, start, bytes.as_slice());
-        self.images.put(start, bytes);
+        if self.images.take(start, bytes) {
+            return;
+        }
+        let all = bytes.as_slice();
+        self.images.flatten(&mut self.kept, start, all.len());
+        write(&mut self.kept, start, all);
     }
 }
