@@ -49,7 +49,6 @@ fn no_reads(alloc: Global, participants: usize) -> Result<Vec<Reads>, NoMemory>
 
 impl AllReads {
     /// Nothing for each of so many participants. NoMemory: there was no memory for it.
-    #[inline(never)]
     pub(crate) fn new(alloc: Global, participants: usize) -> Result<Self, NoMemory>
         ensures { IfOk result (λ reads. reads ≡ replicate participants []) }
     {

@@ -76,7 +76,6 @@ fn tries_for(
 impl Requests {
     /// The requests by which the participants take part, in order. NoMemory: there was no memory
     /// for them.
-    #[inline(never)]
     pub fn new(alloc: Global, tid: Tid, mini: &Minitransaction) -> Result<Self, NoMemory>
         ensures { IfOk result (λ tries. tries ≡ tries_of tid mini.now) }
     {

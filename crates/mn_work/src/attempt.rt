@@ -160,6 +160,7 @@ impl Attempt {
 
     /// The fault that the walk for a key meets among the pages as they were read. The first try
     /// tells none.
+    #[inline(never)]
     fn fault(&self, known: &Known, key: &Key, later: bool) -> Option<Busy>
         ensures { IsFault known.now later self.now key.now result }
     {
@@ -429,6 +430,7 @@ impl Attempt {
     }
 
     /// Where a Check is unmet: it wants its plan, which compares the leaves that it touched.
+    #[inline(never)]
     fn end_unmet(
         &self,
         alloc: Global,

@@ -139,6 +139,7 @@ impl Child {
     }
 
     /// Takes the root page that it asked for, by its bytes.
+    #[inline(never)]
     pub fn take_page(
         &mut self,
         alloc: Global,
@@ -169,6 +170,7 @@ impl Child {
     }
 
     /// What it wants next.
+    #[inline(never)]
     pub fn advance(
         &mut self,
         alloc: Global,

@@ -163,6 +163,7 @@ fn reach_kept(
 
 /// The page that a scan needs next and that isn't kept. A page that may be a leaf, and in a later
 /// try each page, is read by an Exec. None where the scan has ended.
+#[inline(never)]
 pub fn advance(
     alloc: Global,
     scan: &mut ScanRun,
@@ -188,6 +189,7 @@ pub fn advance(
 }
 
 /// Takes the page that a scan asked for, by its bytes.
+#[inline(never)]
 pub fn take_page(
     alloc: Global,
     scan: &mut ScanRun,

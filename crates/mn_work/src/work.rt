@@ -308,6 +308,7 @@ impl Work {
     }
 
     /// The answer of a scan that has ended.
+    #[inline(never)]
     fn end_scan(&mut self) -> Next
         requires { IsScan self.old.job }
         ensures ends { ends_with self.old.job ≡ Some result }
@@ -328,6 +329,7 @@ impl Work {
     }
 
     /// Takes the catalog that was read, by its bytes.
+    #[inline(never)]
     pub fn take_catalog(
         &mut self,
         alloc: Global,
@@ -395,6 +397,7 @@ impl Work {
     }
 
     /// Takes the count of the next node, by its bytes.
+    #[inline(never)]
     pub fn take_count(&mut self, bytes: &[u8]) -> Result<Taken, NoMemory>
         requires asks { AsksCount self.old }
         ensures op { KeepsOp self.old self.new }

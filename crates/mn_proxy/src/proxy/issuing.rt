@@ -77,7 +77,7 @@ fn causes_are_shown()
 
 impl Proxy {
     /// Goes on with what the try wants next.
-    #[inline(always)]
+    #[inline(never)]
     pub(super) fn advance(&mut self, alloc: Global, work: Task) -> Result<ProxyStep, NoMemory>
         requires idle { self.old.work ≡ None }
         requires few { work.failed < max_tries }
@@ -142,7 +142,7 @@ impl Proxy {
     }
 
     /// Reads the catalog.
-    #[inline(always)]
+    #[inline(never)]
     pub(super) fn read_catalog(&mut self, alloc: Global, work: Task) -> Result<ProxyStep, NoMemory>
         requires idle { self.old.work ≡ None }
         requires few { work.failed < max_tries }
@@ -240,7 +240,7 @@ impl Proxy {
     }
 
     /// Issues a minitransaction under the next serial.
-    #[inline(always)]
+    #[inline(never)]
     fn issue(
         &mut self,
         alloc: Global,
