@@ -13,6 +13,7 @@ use Rattle.mn_base.proofs.Lists.{all_append, before_last, last_at}
 use Rattle.mn_cell.specs.Calls.{numbered}
 use Rattle.mn_cell.specs.Passes.{OwnsJust}
 use Rattle.mn_cell.specs.Station.{StationState}
+use Rattle.mn_hist.specs.Merging.{HaveCallers}
 use Rattle.mn_io.specs.DiskModel.{DiskState}
 use Rattle.mn_node.specs.State.{NodeState}
 use Rattle.mn_world.specs.declared.entry.Entry.{Entry}
@@ -172,3 +173,11 @@ pub nodes_back : {D : Type 0} (nodes : List (NodeState D)) (left : List (Station
     → nodes ++ reverse (map (λ s. s.node) (left ++ s ∷ [])) ≡ (nodes ++ s.node ∷ []) ++ reverse (map (λ s. s.node) left)
 nodes_back {D} nodes left s =
     ap (λ (l : List (NodeState D)). nodes ++ reverse l) (map-append (λ (s : StationState D). s.node) left (s ∷ [])) ∙ turned_last nodes (map (λ (s : StationState D). s.node) left) s.node
+
+-- Callers
+
+-- what nodes have made, clients and coordinators have asked for
+pub have_callers : {D : Type 0} (state : D → DiskState) (faults : D → ℕ) (start : Start) (counts : ℕ → ℕ) (honest : ℕ → Type 0) (stations : List (StationState D)) → AllHaveMade state faults start counts honest stations
+    → HaveCallers (map (λ (s : StationState D). s.list) stations)
+have_callers {D} state faults start counts honest [] made = tt
+have_callers {D} state faults start counts honest (s ∷ stations) made = ((made zero s refl).called, have_callers state faults start counts honest stations (λ k x at. made (suc k) x at))

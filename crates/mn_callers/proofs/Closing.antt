@@ -12,7 +12,7 @@ use Rattle.mn_base.specs.declared.ids.Tid.{Tid}
 use Rattle.mn_base.proofs.Lists.{all_append, weaker}
 use Rattle.mn_cell.specs.Calls.{entry_at, numbered, what_said}
 use Rattle.mn_cell.specs.Station.{StationState}
-use Rattle.mn_cell.proofs.Owing.{newest_entry}
+use Rattle.mn_cell.proofs.Owed.{newest_entry}
 use Rattle.mn_cell.specs.declared.trace.RunCause.{RunCause}
 use Rattle.mn_cell.specs.declared.trace.RunCause.TheVariants as cause
 use Rattle.mn_mini.specs.declared.record.Record.{Record}

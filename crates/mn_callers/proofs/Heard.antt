@@ -16,7 +16,7 @@ use Rattle.mn_base.specs.declared.ids.NodeNo.{NodeNo}
 use Rattle.mn_cell.specs.Calls.{IsLegalLine, numbered}
 use Rattle.mn_cell.specs.Hearing.{HasOneLog, StationsStay}
 use Rattle.mn_cell.specs.Station.{HasCaller, StationState}
-use Rattle.mn_cell.proofs.Owing.{newest_entry}
+use Rattle.mn_cell.proofs.Owed.{newest_entry}
 use Rattle.mn_cell.proofs.Running.{at_same, by_same}
 use Rattle.mn_world.specs.declared.entry.Entry.{Entry}
 use Rattle.mn_world.specs.Calls.{is_at, is_by}

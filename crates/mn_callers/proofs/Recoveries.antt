@@ -5,7 +5,7 @@ use Rattle.mn_base.specs.declared.ids.ClientNo.{ClientNo}
 use Rattle.mn_base.specs.declared.ids.NodeNo.{NodeNo}
 use Rattle.mn_base.specs.declared.ids.Tid.{Tid}
 use Rattle.mn_cell.specs.Calls.{entry_at, what_said}
-use Rattle.mn_cell.proofs.Owing.{newest_entry}
+use Rattle.mn_cell.proofs.Owed.{newest_entry}
 use Rattle.mn_mini.specs.declared.request.Request.{Request}
 use Rattle.mn_mini.specs.declared.reply.NodeReply.{NodeReply}
 use Rattle.mn_mini.specs.declared.reply.NodeReply.TheVariants as Say

@@ -19,7 +19,7 @@ use Rattle.mn_node.specs.declared.restart.RestartError.TheVariants as error
 use Rattle.mn_node.specs.Restart.{AreAbsent, FailsRestart, DamageNames, IsNoLog}
 use Rattle.mn_cell.specs.Calls.{EndsBoth, IsUndamaged, entry_at, what_said}
 use Rattle.mn_cell.specs.Station.{HasMadeEntries, IsAsBefore, RoseBy, StationState, unasked, unasked_in}
-use Rattle.mn_cell.proofs.Owing.{newest_entry}
+use Rattle.mn_cell.proofs.Owed.{newest_entry}
 use Rattle.mn_cell.specs.declared.trace.RunCause.TheVariants.{Disk}
 use Rattle.mn_world.specs.declared.entry.Entry.{Entry}
 use Rattle.mn_world.specs.declared.entry.What.{What}

@@ -1,5 +1,5 @@
 -- A run that has ended: its stations are taken apart, and its lists are one log.
-use Rattle.std.specs.Prelude.{ℕ, ◌+◌, ◌≡◌, ◌≤◌, ◌<◌, vec_capacity, List, [], length, map, slice_get}
+use Rattle.std.specs.Prelude.{ℕ, ◌+◌, ◌≡◌, ◌<◌, List, length, map, slice_get}
 use Rattle.std.specs.Prelude.{Some, Result, IfErr}
 use Rattle.std.specs.Prelude.{OnOk}
 use Rattle.mn_base.specs.declared.ids.ClientNo.{ClientNo}
@@ -17,7 +17,6 @@ use Rattle.mn_world.specs.Calls.{node_entries}
 use Rattle.mn_world.specs.Lists.{ClientState}
 use Rattle.mn_world.specs.Protocol.{Start, start_nodes}
 use Rattle.mn_world.specs.Run.{IsLogOfRun, entries_of}
-use Rattle.mn_callers.specs.declared.ending.Rooms.{Rooms}
 use Rattle.mn_callers.specs.declared.callers.Callers.{Callers}
 use Rattle.mn_callers.specs.Causes.{IsCaused}
 use Rattle.mn_callers.specs.Plays.{list_by}
@@ -54,13 +53,6 @@ SameCallers v w = (c : ClientNo) → held w (Client c) ≡ held v (Client c)
 abbrev pub AreMadeFromLast : {D : Type 0} → ℕ → List (StationState D) → Type 0
 AreMadeFromLast {D} count stations =
     (k : ℕ) (s : StationState D) → slice_get stations k ≡ Some s → s.number.0 + k + 1 ≡ count
-
--- there is room for the lists of so many nodes and of all callers, and nothing stands there
-pub record HasRoomFor (nodes : ℕ) (rooms : Rooms) : Type 0 where
-  pub no_nodes : rooms.node_lists.items ≡ []
-  pub no_clients : rooms.client_lists.items ≡ []
-  pub nodes_room : nodes ≤ vec_capacity rooms.node_lists
-  pub clients_room : callers_count ≤ vec_capacity rooms.client_lists
 
 -- these are the lists of the callers, in order of number
 pub record AreLists (callers : Callers) (lists : List ClientState) : Type 0 where

@@ -1,5 +1,5 @@
 //! How a run of a script begins, on a board of its own.
-ghost use Rattle.std.specs.Prelude.{◌≡◌, ◌≤◌, [], IfErr, IfOk, None, OnOk, Some, length};
+ghost use Rattle.std.specs.Prelude.{◌≡◌, [], IfErr, IfOk, None, OnOk, Some, length};
 ghost use Rattle.mn_actors.specs.declared.actor.Actor.{Actor as Who};
 ghost use Rattle.mn_actors.specs.Lines.{IsActor};
 ghost use Rattle.mn_actors.specs.Lists.{held};
@@ -20,7 +20,7 @@ ghost use Rattle.mn_callers.specs.Trace.{IsTrace, MayBegin};
 ghost use Rattle.mn_callers.specs.Turn.{callers_count};
 
 use crate::callers::Callers;
-use crate::ending::{Rooms, end, without_log};
+use crate::ending::{end, room_for_lists, without_log};
 use crate::gated::Gated;
 use crate::stage::Stage;
 use crate::staging::stations_of;
@@ -31,7 +31,7 @@ use mn_cell::{Named, RunCause, RunFailed, Trace};
 use mn_io::Disk;
 use mn_node::Node;
 use mn_script::Script;
-use mn_world::CoreLaw;
+use mn_world::{ClientList, CoreLaw};
 use std::alloc::Global;
 
 /// A run that has begun: its stage, and the rooms for its end, which were taken before.
@@ -39,7 +39,7 @@ use std::alloc::Global;
 pub struct Begun<'a, N: Named, D: Disk, G: Gate> {
     pub stage: Stage<'a, N, D, G>,
     nodes: Vec<Node<D>>,
-    rooms: Rooms,
+    lists: Vec<ClientList>,
 }
 
 impl<'a, N: Named, D: Disk, G: Gate> Begun<'a, N, D, G> {
@@ -77,7 +77,7 @@ impl<'a, N: Named, D: Disk, G: Gate> Begun<'a, N, D, G> {
         let Ok(callers) = Callers::new(alloc, script, run) else {
             return Err(without_log(alloc, board, rest, nodes));
         };
-        let Ok(rooms) = Rooms::new(alloc, nodes.len()) else {
+        let Ok(lists) = room_for_lists(alloc) else {
             return Err(without_log(alloc, board, rest, nodes));
         };
         let Ok(stations) = stations_of::<N, D>(alloc, &board, &mut rest, &mut nodes) else {
@@ -92,7 +92,7 @@ impl<'a, N: Named, D: Disk, G: Gate> Begun<'a, N, D, G> {
         Ok(Begun {
             stage,
             nodes,
-            rooms,
+            lists,
         })
     }
 
@@ -118,7 +118,7 @@ impl<'a, N: Named, D: Disk, G: Gate> Begun<'a, N, D, G> {
         let Begun {
             stage,
             nodes,
-            rooms,
+            lists,
         } = self;
         let Stage {
             calls,
@@ -129,6 +129,6 @@ impl<'a, N: Named, D: Disk, G: Gate> Begun<'a, N, D, G> {
             inner: table,
             gate: _gate,
         } = calls;
-        end(alloc, table, rest, callers, nodes, rooms, played)
+        end(alloc, table, rest, callers, nodes, lists, played)
     }
 }

@@ -10,7 +10,7 @@ ghost use Rattle.mn_world.specs.declared.entry.Entry.{Entry as Noted};
 ghost use Rattle.mn_world.specs.Protocol.{start_of};
 ghost use Rattle.mn_world.specs.Run.{entries_of};
 ghost use Rattle.mn_callers.specs.Causes.{IsCaused};
-ghost use Rattle.mn_callers.specs.Ended.{AllHaveMade, AreLists, AreMadeFromLast, HasRoomFor};
+ghost use Rattle.mn_callers.specs.Ended.{AllHaveMade, AreLists, AreMadeFromLast};
 ghost use Rattle.mn_callers.specs.Ended.{HoldsNodes, IsEnded, OwnsNodes, SameCallers};
 ghost use Rattle.mn_callers.specs.Failed.{FailsSo, IsRunOn};
 ghost use Rattle.mn_callers.specs.Logs.{HasLog};
@@ -27,29 +27,18 @@ use crate::table::Table;
 use mn_actors::{Board, Pass};
 use mn_base::{ClientNo, NoMemory};
 use mn_cell::{Named, RunCause, RunFailed, Station, Trace, parts_make_run};
-use mn_hist::{ClientLists, Lists, NodeLists, merge};
+use mn_hist::{ClientLists, merge};
 use mn_io::Disk;
 use mn_node::Node;
-use mn_world::{ClientList, CoreLaw, EntryList, Log, records_stay_sound, runs_follow_protocol};
+use mn_world::{ClientList, CoreLaw, Log, records_stay_sound, runs_follow_protocol};
 use std::alloc::Global;
 
-/// Room for the lists of a run, taken before it begins.
-#[derive(Drop)]
-pub struct Rooms {
-    node_lists: Vec<EntryList>,
-    client_lists: Vec<ClientList>,
-}
-
-impl Rooms {
-    /// Room for so many nodes and for all callers. NoMemory: there was none.
-    pub fn new(alloc: Global, nodes: usize) -> Result<Rooms, NoMemory>
-        ensures { IfOk result (HasRoomFor nodes) }
-    {
-        Ok(Rooms {
-            node_lists: Vec::with_capacity(alloc, nodes)?,
-            client_lists: Vec::with_capacity(alloc, usize::from(CALLERS))?,
-        })
-    }
+/// Room for the lists of all callers, taken before a run begins. NoMemory: there was none.
+pub fn room_for_lists(alloc: Global) -> Result<Vec<ClientList>, NoMemory>
+    ensures none { IfOk result (λ lists. lists.items ≡ []) }
+    ensures room { IfOk result (λ lists. callers_count ≤ vec_capacity lists) }
+{
+    Ok(Vec::with_capacity(alloc, usize::from(CALLERS))?)
 }
 
 /// Puts the nodes of stations that were made from the last one on behind the others, and their
@@ -72,7 +61,7 @@ pub fn give_back<N: Named, D: Disk>(
 {
     let mut left = stations;
     while let Some(station) = left.pop() {
-        let (node, _list, pass) = station.into_parts();
+        let (node, pass) = station.into_parts();
         nodes.push_reserved(node);
         board.join(all, pass);
     }
@@ -109,34 +98,30 @@ pub fn without_log<D: Disk>(
     no_memory(alloc, nodes)
 }
 
-/// Takes the stations apart: the nodes in order, their lists, and their actors.
+/// Takes the stations apart: the nodes in order, and their actors with their lists.
 fn take_apart<N: Named, D: Disk>(
     board: &Board<CoreLaw>,
     all: &mut Pass<CoreLaw>,
     stations: Vec<Station<N, D>>,
     nodes: &mut Vec<Node<D>>,
-    lists: &mut Vec<EntryList>,
 )
     requires board { (id_of board.now ≡ N.board) × (board_of all.old ≡ N.board) }
     requires stations { AreStations (length N.records) stations.items }
-    requires empty { (nodes.old.items ≡ []) × (lists.old.items ≡ []) }
-    requires nodes_room { length N.records ≤ vec_capacity nodes.old }
-    requires lists_room { length N.records ≤ vec_capacity lists.old }
+    requires empty { nodes.old.items ≡ [] }
+    requires room { length N.records ≤ vec_capacity nodes.old }
     requires no_nodes { HoldsNodes (view_of all.old) [] }
     ensures board { board_of all.new ≡ N.board }
     ensures nodes { nodes.new.items ≡ map (λ s. s.node) stations.items }
-    ensures lists { lists.new.items ≡ map (λ s. s.list) stations.items }
     ensures made { AllHaveMade D.state D.faults
         (start_of N.records) N.faults N.honest stations.items }
-    ensures holds { HoldsNodes (view_of all.new) lists.new.items }
+    ensures holds { HoldsNodes (view_of all.new) (map (λ s. s.list) stations.items) }
     ensures callers { SameCallers (view_of all.old) (view_of all.new) }
 {
     let mut left = stations;
     left.reverse();
     while let Some(station) = left.pop() {
-        let (node, list, pass) = station.into_parts();
+        let (node, pass) = station.into_parts();
         nodes.push_reserved(node);
-        lists.push_reserved(list);
         board.join(all, pass);
     }
     left.destroy_empty();
@@ -264,14 +249,15 @@ fn result_of<N: Named, D: Disk>(
     }
 }
 
-/// Ends a run that was played so: its nodes go into `nodes`, which has the room.
+/// Ends a run that was played so: its nodes go into `nodes` and the lists of its callers into
+/// `lists`, which have the room.
 pub fn end<N: Named, D: Disk>(
     alloc: Global,
     table: Table<N, D>,
     rest: Pass<CoreLaw>,
     callers: Callers,
     nodes: Vec<Node<D>>,
-    rooms: Rooms,
+    lists: Vec<ClientList>,
     played: Result<(), RunCause>,
 ) -> Result<Trace<D>, RunFailed<D>>
     requires rests { IsAtRest N.board (start_of N.records) (state_at table rest callers) }
@@ -279,7 +265,8 @@ pub fn end<N: Named, D: Disk>(
     requires caused { IfErr played (IsCaused D.faults N.faults N.honest table.stations.items) }
     requires empty { nodes.items ≡ [] }
     requires room { length N.records ≤ vec_capacity nodes }
-    requires rooms { HasRoomFor (length N.records) rooms }
+    requires no_lists { lists.items ≡ [] }
+    requires lists_room { callers_count ≤ vec_capacity lists }
     ensures trace { (given : List (NodeState D))
         → NamesGiven D.state D.faults N.records N.faults N.honest given
         → IfOk result (λ trace. IsTrace D.state D.faults given trace.nodes.items trace.log) }
@@ -293,18 +280,12 @@ pub fn end<N: Named, D: Disk>(
 {
     let Table { board, stations } = table;
     let mut nodes = nodes;
+    let mut lists = lists;
     let mut all = rest;
-    let Rooms {
-        mut node_lists,
-        mut client_lists,
-    } = rooms;
-    take_apart(&board, &mut all, stations, &mut nodes, &mut node_lists);
-    take_lists(alloc, callers, &mut client_lists);
+    take_apart(&board, &mut all, stations, &mut nodes);
+    take_lists(alloc, callers, &mut lists);
     board.close(all);
-    let lists = Lists {
-        nodes: NodeLists::from_vec(node_lists),
-        clients: ClientLists::from_vec(client_lists),
-    };
     parts_make_run();
-    result_of::<N, D>(alloc, nodes, merge(alloc, lists), played)
+    let merged = merge(alloc, ClientLists::from_vec(lists));
+    result_of::<N, D>(alloc, nodes, merged, played)
 }

@@ -1,6 +1,7 @@
 pub mod Calls
 pub mod Fills
-pub mod Owing
+pub mod Owed
+pub mod Passed
 pub mod OneLog
 pub mod Made
 pub mod Numbers

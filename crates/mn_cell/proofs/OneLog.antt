@@ -14,7 +14,7 @@ use Rattle.mn_world.specs.Run.{entries_of}
 use Rattle.mn_cell.specs.Calls.{IsLegalLine}
 use Rattle.mn_cell.specs.Passes.{AreOfOneLog}
 use Rattle.mn_cell.specs.Promises.{IsOwed, IsOwedAt, is_owed, is_owed_at, owed_by}
-use Rattle.mn_cell.proofs.Owing.{newest_entry}
+use Rattle.mn_cell.proofs.Owed.{newest_entry}
 
 head_at : (tid : Tid) (n : NodeNo) (e : Entry) (es : List Entry) (a : Bool) → is_at n e ≡ a → is_owed_at tid n (e ∷ es) ≡ (if a then owed_by tid e.what (is_owed_at tid n es) else is_owed_at tid n es)
 head_at tid n e es a is = ap (λ (b : Bool). if b then owed_by tid e.what (is_owed_at tid n es) else is_owed_at tid n es) is

@@ -1,6 +1,6 @@
--- The room that a node's list keeps: with each vote, for the decision that its caller will send.
+-- The decisions that a node's list is owed: with each vote that which its caller will send.
 use Rattle.std.specs.Prelude.{ℕ, ◌≡◌, ◌+◌, ◌≤◌, ◌<◌, ◌^◌, ◌⊎◌, Bool, true, false, not, ◌&&◌, ◌||◌}
-use Rattle.std.specs.Prelude.{List, [], ◌∷◌, ◌++◌, filter, Option, Some, None, if◌then◌else◌}
+use Rattle.std.specs.Prelude.{List, [], ◌∷◌, ◌++◌, length, filter, Option, Some, None, if◌then◌else◌}
 use Rattle.std.specs.List.{list_any}
 use Rattle.std.specs.Option.{option_map_or}
 use Rattle.mn_base.specs.Ids.{client_same, tid_same}
@@ -16,7 +16,7 @@ use Rattle.mn_world.specs.declared.entry.What.{What}
 use Rattle.mn_world.specs.declared.entry.What.TheVariants.{Called, Stopped}
 use Rattle.mn_world.specs.Calls.{is_at, is_by}
 use Rattle.mn_world.specs.Run.{entries_of}
-use Rattle.mn_cell.specs.declared.node_list.Owed.{Owed}
+use Rattle.mn_cell.specs.declared.owing.Owed.{Owed}
 
 -- Votes and decisions
 
@@ -86,21 +86,18 @@ is_owed_to tid c o = tid_same o.tid tid && client_same o.client c
 abbrev pub owes : Tid → ClientNo → List Owed → Bool
 owes tid c os = list_any (is_owed_to tid c) os
 
--- the entries of a node's list, the decisions for which it keeps room, and for how many further
--- entries and decisions it has room
-pub record NodeListState : Type 0 where
-  pub entries : List (ℕ × Entry)
+-- how long a node's list is, the decisions that it is owed, and for how many further ones there is
+-- room
+pub record OwingState : Type 0 where
+  pub size : ℕ
   pub owed : List Owed
   pub spare : ℕ
-  pub spare_owed : ℕ
 
--- each decision that is owed has its room, and within it the list stays as short as a log's may be
-pub record IsNodeList (entries : List (ℕ × Entry)) (owed : List Owed) (size capacity count : ℕ)
-    : Type 0 where
-  pub covered : (tid : Tid) (c : ClientNo) → is_owed tid c (entries_of entries) ≡ true
+-- the list is so long, and each decision that it is owed is among these
+pub record IsOwing (list : List (ℕ × Entry)) (size : ℕ) (owed : List Owed) : Type 0 where
+  pub counted : size ≡ length list
+  pub covered : (tid : Tid) (c : ClientNo) → is_owed tid c (entries_of list) ≡ true
       → owes tid c owed ≡ true
-  pub there : size + count ≤ capacity
-  pub short : size + count ≤ 2 ^ 57
 
 -- the decision of this id, if there is one, by the client is among these
 abbrev pub OwesTo : Option ClientNo → Option Tid → List Owed → Type 0
@@ -116,8 +113,9 @@ IsOwed (Some c) (Some tid) es = is_owed tid c es ≡ true
 
 -- there is room for a step: for it and the decision that it may owe, or it is itself a decision
 -- that is owed
-abbrev pub HasRoomForStep : NodeListState → Option ClientNo → Option Tid → Type 0
-HasRoomForStep s c decided = ((2 ≤ s.spare) × (0 < s.spare_owed)) ⊎ OwesTo c decided s.owed
+abbrev pub HasRoomForStep : OwingState → Option ClientNo → Option Tid → Type 0
+HasRoomForStep s c decided =
+    ((s.size + length s.owed + 2 ≤ 2 ^ 57) × (0 < s.spare)) ⊎ OwesTo c decided s.owed
 
 abbrev pub owed_without : Tid → ClientNo → List Owed → List Owed
 owed_without tid c os = filter (λ o. not (is_owed_to tid c o)) os

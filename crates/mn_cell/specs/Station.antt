@@ -15,7 +15,7 @@ use Rattle.mn_io.specs.Faults.{Rose}
 use Rattle.mn_node.specs.State.{NodeState, StandsForRecords}
 use Rattle.mn_actors.specs.declared.board.Pass.{Pass}
 use Rattle.mn_actors.specs.declared.actor.Actor.TheVariants.{Node}
-use Rattle.mn_actors.specs.Lists.{held}
+use Rattle.mn_actors.specs.Lists.{held, or_empty}
 use Rattle.mn_actors.specs.Sight.{board_of, view_of}
 use Rattle.mn_world.specs.declared.entry.Entry.{Entry}
 use Rattle.mn_world.specs.declared.entry.What.{What}
@@ -165,6 +165,15 @@ pub record StationState (D : Type 0) : Type 0 where
 abbrev pub known_by : {L E : Type 0} {g : _} → Option (Pass L E g) → ℕ
 known_by None = 0
 known_by (Some p) = (view_of p).known
+
+-- the list of the node in its pass
+abbrev pub list_in : {L E : Type 0} {g : _} → NodeNo → Pass L E g → List (ℕ × E)
+list_in n p = or_empty (held (view_of p) (Node n))
+
+-- the same, if the pass is there
+abbrev pub list_by : {L E : Type 0} {g : _} → NodeNo → Option (Pass L E g) → List (ℕ × E)
+list_by n None = []
+list_by n (Some p) = list_in n p
 
 -- the pass is there, of this board, owns just the node, and has this list
 abbrev pub IsPassOf : {L E : Type 0} {g : _} → TableId → NodeNo → List (ℕ × E) → Option (Pass L E g)

@@ -13,7 +13,7 @@ ghost use Rattle.mn_cell.specs.Calls.{EndsList, IsUndamaged, ObeysStop, MaySend,
 ghost use Rattle.mn_cell.specs.Calls.{numbered, what_said};
 ghost use Rattle.mn_cell.specs.Passes.{IsSameView, OwnsJust};
 ghost use Rattle.mn_cell.specs.Promises.{IsOwedAt, decided_by};
-ghost use Rattle.mn_cell.specs.Station.{HasMadeEntries, IsNodeAtStart};
+ghost use Rattle.mn_cell.specs.Station.{HasMadeEntries, IsNodeAtStart, list_in};
 ghost use Rattle.mn_world.specs.Protocol.{start_of};
 
 use crate::named::Named;
@@ -23,7 +23,7 @@ use mn_base::{NoMemory, NodeNo, StopAt};
 use mn_io::Disk;
 use mn_mini::{NodeReply, Request};
 use mn_node::{Node, RestartError};
-use mn_world::{ClientList, CoreLaw, EntryList};
+use mn_world::{ClientList, CoreLaw};
 use std::alloc::Global;
 use std::marker::Model;
 use std::sync::{Mutex, Wait};
@@ -200,14 +200,15 @@ impl<N: Named, D: Disk, const NODE: u8> Cell<N, D, NODE> {
         guard.station.restart(alloc, board, pass, list)
     }
 
-    /// The node, its list and its pass.
-    pub fn into_parts(self) -> (Node<D>, EntryList, Pass<CoreLaw>)
+    /// The node and its pass, which has its list.
+    pub fn into_parts(self) -> (Node<D>, Pass<CoreLaw>)
         ensures made { HasMadeEntries D.state D.faults (start_of N.records) (numbered NODE)
             (N.faults NODE)
-            (N.honest NODE) (entries_of result.1) result.0 }
-        ensures board { board_of result.2 ≡ N.board }
-        ensures owns { OwnsJust (view_of result.2) (node_at NODE) }
-        ensures pass { held (view_of result.2) (node_at NODE) ≡ Some result.1 }
+            (N.honest NODE) (entries_of (list_in (numbered NODE) result.1)) result.0 }
+        ensures board { board_of result.1 ≡ N.board }
+        ensures owns { OwnsJust (view_of result.1) (node_at NODE) }
+        ensures pass { held (view_of result.1) (node_at NODE)
+            ≡ Some (list_in (numbered NODE) result.1) }
     {
         self.into_station().into_parts()
     }

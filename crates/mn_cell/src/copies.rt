@@ -1,9 +1,10 @@
 //! Copies of requests and replies. What the copy of a reply needs that comes with a new record is
 //! taken before the node is asked.
-ghost use Rattle.std.specs.Prelude.{◌≡◌, ◌≤◌, ℕ, [], length, vec_capacity, IfOk, OnErr};
+ghost use Rattle.std.specs.Prelude.{◌≡◌, ◌≤◌, ℕ, [], length, vec_capacity, None, IfOk, OnErr};
 ghost use Rattle.mn_mini.specs.declared.reply.NodeReply.TheVariants.{Done};
 ghost use Rattle.mn_cell.specs.Calls.{HasLengths, IsLarge, lengths_by, lengths_of, read_lengths};
 ghost use Rattle.mn_cell.specs.Calls.{what_said};
+ghost use Rattle.mn_cell.specs.Promises.{decided_by};
 
 use mn_base::{NoMemory, StopAt, TryCopy};
 use mn_mini::{NodeReply, OwnBytes, PartItem, ReadBytes, Reads, Request};
@@ -135,9 +136,10 @@ impl Blanks {
 }
 
 /// Room for a copy of what the request may read. None: it adds no record, whatever is answered, so
-/// a copy shares what was read, for which there may be no memory.
+/// a copy shares what was read, for which there may be no memory. NoMemory never comes for a Decide.
 pub fn blanks_for(alloc: Global, request: &Request) -> Result<Option<Blanks>, NoMemory>
-    ensures { IfOk result (λ blanks. blanks ≡ lengths_by request.now) }
+    ensures blanks { IfOk result (λ blanks. blanks ≡ lengths_by request.now) }
+    ensures failed { OnErr result (decided_by request.now ≡ None) }
 {
     match request {
         Request::Prepare { part, .. } => Ok(Some(Blanks::of(alloc, part.as_slice())?)),

@@ -39,7 +39,7 @@ pub fn hear_all<N: Named, D: Disk>(
     let Station {
         number,
         node,
-        list,
+        owing,
         pass,
         named,
     } = station;
@@ -50,7 +50,7 @@ pub fn hear_all<N: Named, D: Disk>(
     stations.push_reserved(Station {
         number,
         node,
-        list,
+        owing,
         pass: Some(pass),
         named,
     });

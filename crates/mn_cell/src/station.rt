@@ -1,4 +1,4 @@
-//! A node with its list and its pass.
+//! A node with the pass that owns its list.
 ghost use Rattle.std.specs.Prelude.{◌≡◌, [], Some, IfOk, IfErr};
 ghost use Rattle.mn_actors.specs.declared.actor.Actor.TheVariants.{Node as AtNode};
 ghost use Rattle.mn_actors.specs.Lists.{held};
@@ -9,27 +9,28 @@ ghost use Rattle.mn_cell.specs.Station.{HasMadeEntries, IsNodeAtStart};
 ghost use Rattle.mn_world.specs.Protocol.{start_of};
 
 use crate::named::Named;
-use crate::node_list::NodeList;
+use crate::owing::Owing;
 use mn_actors::Pass;
 use mn_base::NodeNo;
 use mn_io::Disk;
 use mn_node::Node;
-use mn_world::{CoreLaw, EntryList};
+use mn_world::CoreLaw;
 use std::alloc::Global;
 use std::marker::{Model, PhantomData};
 
 mod calls;
 
-/// A memory node of the run that `N` names, with its list of entries and the pass that owns it.
-/// Contracts see its number, the node, the list and the place that the pass knows.
+/// A memory node of the run that `N` names, with the pass that owns its list of entries. Contracts
+/// see its number, the node, the list and the place that the pass knows.
 ///
-/// The list is the pass's, which is of the run's board. Each entry is one that the records allow
-/// which the node started with, and the node has the records that they leave.
+/// The list is the pass's, which is of the run's board; its entries stand in the lists of their
+/// callers. Each is one that the records allow which the node started with, and the node has the
+/// records that they leave.
 #[derive(Drop)]
 pub struct Station<N: Named, D: Disk> {
     pub(crate) number: NodeNo,
     pub(crate) node: Node<D>,
-    pub(crate) list: NodeList,
+    pub(crate) owing: Owing,
     pub(crate) pass: Option<Pass<CoreLaw>>,
     pub(crate) named: PhantomData<N>,
 }
@@ -37,20 +38,23 @@ pub struct Station<N: Named, D: Disk> {
 impl<N: Named, D: Disk> Model for Station<N, D> {
     ghost use Rattle.mn_world.specs.Protocol.{start_of};
     ghost use Rattle.mn_world.specs.Run.{entries_of};
+    ghost use Rattle.mn_cell.specs.Promises.{IsOwing};
     ghost use Rattle.mn_cell.specs.Station.{HasMadeEntries, IsPassOf, StationState, known_by};
+    ghost use Rattle.mn_cell.specs.Station.{list_by};
 
     ghost Value = { StationState D };
 
     ghost view = { λ s. record {
       number = s.number;
       node = s.node;
-      list = s.list.entries;
+      list = list_by s.number s.pass;
       known = known_by s.pass;
     } };
 
-    ghost invariant = { λ s. IsPassOf N.board s.number s.list.entries s.pass
+    ghost invariant = { λ s. IsPassOf N.board s.number (list_by s.number s.pass) s.pass
+        × IsOwing (list_by s.number s.pass) s.owing.size s.owing.owed
         × HasMadeEntries D.state D.faults (start_of N.records) s.number (N.faults s.number.0)
-        (N.honest s.number.0) (entries_of s.list.entries) s.node };
+        (N.honest s.number.0) (entries_of (list_by s.number s.pass)) s.node };
 }
 
 /// A node and a pass of which no station was made: there was no memory.
@@ -79,11 +83,11 @@ impl<N: Named, D: Disk> Station<N, D> {
             ≡ record { number = number; node = node; list = []; known = (view_of pass).known }) }
         ensures refused { IfErr result (λ refused. (refused.node ≡ node) × (refused.pass ≡ pass)) }
     {
-        match NodeList::new(alloc) {
-            Ok(list) => Ok(Station {
+        match Owing::new(alloc) {
+            Ok(owing) => Ok(Station {
                 number,
                 node,
-                list,
+                owing,
                 pass: Some(pass),
                 named: PhantomData,
             }),
@@ -100,25 +104,24 @@ impl<N: Named, D: Disk> Station<N, D> {
         let _ = &self.node;
     }
 
-    /// The node, its list and its pass.
-    pub fn into_parts(self) -> (Node<D>, EntryList, Pass<CoreLaw>)
+    /// The node and its pass, which has its list.
+    pub fn into_parts(self) -> (Node<D>, Pass<CoreLaw>)
         ensures node { result.0 ≡ self.node }
-        ensures list { result.1 ≡ self.list }
         ensures made { HasMadeEntries D.state D.faults (start_of N.records) self.number
             (N.faults self.number.0) (N.honest self.number.0) (entries_of self.list) self.node }
-        ensures board { board_of result.2 ≡ N.board }
-        ensures owns { OwnsJust (view_of result.2) (AtNode self.number) }
-        ensures pass { held (view_of result.2) (AtNode self.number) ≡ Some self.list }
-        ensures known { (view_of result.2).known ≡ self.known }
+        ensures board { board_of result.1 ≡ N.board }
+        ensures owns { OwnsJust (view_of result.1) (AtNode self.number) }
+        ensures pass { held (view_of result.1) (AtNode self.number) ≡ Some self.list }
+        ensures known { (view_of result.1).known ≡ self.known }
     {
         let Station {
             number: _,
             node,
-            list,
+            owing: _,
             pass,
             named: _,
         } = self;
         let Some(pass) = pass else { unreachable!() };
-        (node, list.into_list(), pass)
+        (node, pass)
     }
 }

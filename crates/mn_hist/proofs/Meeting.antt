@@ -25,7 +25,8 @@ use Rattle.mn_world.specs.Run.{IsLogOfRun, entries_of}
 use Rattle.mn_cell.specs.Calls.{EndsList, IsLegalLine, MaySend, entry_at, what_said}
 use Rattle.mn_cell.specs.Passes.{OwnsJust}
 use Rattle.mn_cell.specs.Runs.{ArePartsOfRun, IsIssueOf, PartsMakeRun, placed_from}
-use Rattle.mn_hist.specs.Merging.{AreOneLog, actor_list}
+use Rattle.mn_cell.specs.Station.{HasCaller}
+use Rattle.mn_hist.specs.Merging.{AreOneLog, HaveCallers, actor_list}
 
 -- Peeks
 
@@ -202,19 +203,25 @@ module _ (ln0 ln1 : List (ℕ × Entry)) (k0 k1 : ClientState) (owned : Actor �
   as_listed (Node k) on = either k.0 (λ (n : ℕ). actor_list (ln0 ∷ ln1 ∷ []) (k0 ∷ k1 ∷ []) (node_at n) ≡ owned (node_at n)) on (sym n0) (sym n1)
   as_listed (Client k) on = either k.0 (λ (n : ℕ). actor_list (ln0 ∷ ln1 ∷ []) (k0 ∷ k1 ∷ []) (client_at n) ≡ owned (client_at n)) on (sym c0) (sym c1)
 
-  pub one_log : (ns : List (List (ℕ × Entry))) (cs : List ClientState) (nodes clients clock : ℕ) → ns ≡ ln0 ∷ ln1 ∷ [] → cs ≡ k0 ∷ k1 ∷ [] → nodes ≡ 2 → clients ≡ 2 → IsOneLog IsLegalLine nodes clients owned clock → AreOneLog ns cs clock
-  one_log ns cs nodes clients clock nodes_are clients_are two two' one =
+  one_log : (cs : List ClientState) (nodes clients clock : ℕ) → cs ≡ k0 ∷ k1 ∷ [] → nodes ≡ 2 → clients ≡ 2 → IsOneLog IsLegalLine nodes clients owned clock → AreOneLog (ln0 ∷ ln1 ∷ []) cs clock
+  one_log cs nodes clients clock clients_are two two' one =
       let here = subst (λ (n : ℕ × ℕ). IsOneLog IsLegalLine n.0 n.1 owned clock) (λ i. (two i, two' i)) one in
-      subst (λ (l : List (List (ℕ × Entry)) × List ClientState). AreOneLog l.0 l.1 clock) (λ i. (sym nodes_are i, sym clients_are i)) (one_of clock owned (actor_list (ln0 ∷ ln1 ∷ []) (k0 ∷ k1 ∷ [])) as_listed here)
+      subst (λ (l : List ClientState). AreOneLog (ln0 ∷ ln1 ∷ []) l clock) (sym clients_are) (one_of clock owned (actor_list (ln0 ∷ ln1 ∷ []) (k0 ∷ k1 ∷ [])) as_listed here)
 
-  pub listed_parts : (start : Start) (ns : List (List (ℕ × Entry))) (cs : List ClientState) → ns ≡ ln0 ∷ ln1 ∷ [] → cs ≡ k0 ∷ k1 ∷ [] → ArePartsOfRun start 2 2 owned → ArePartsOfRun start (length ns) (length cs) (actor_list ns cs)
-  listed_parts start ns cs nodes_are clients_are parts =
-      subst (λ (l : List (List (ℕ × Entry)) × List ClientState). ArePartsOfRun start (length l.0) (length l.1) (actor_list l.0 l.1)) (λ i. (sym nodes_are i, sym clients_are i))
+  -- so the clients' lists can be merged
+  pub can_merge : (cs : List ClientState) (nodes clients clock : ℕ) → cs ≡ k0 ∷ k1 ∷ [] → nodes ≡ 2 → clients ≡ 2 → AllByRecursion HasCaller (entries_of ln0) → AllByRecursion HasCaller (entries_of ln1) → IsOneLog IsLegalLine nodes clients owned clock
+      → (ns : List (List (ℕ × Entry))) × (clock : ℕ) × AreOneLog ns cs clock × HaveCallers ns
+  can_merge cs nodes clients clock clients_are two two' called called' one = (ln0 ∷ ln1 ∷ [], clock, one_log cs nodes clients clock clients_are two two' one, (called, (called', tt)))
+
+  listed_parts : (start : Start) (cs : List ClientState) → cs ≡ k0 ∷ k1 ∷ [] → ArePartsOfRun start 2 2 owned → ArePartsOfRun start 2 (length cs) (actor_list (ln0 ∷ ln1 ∷ []) cs)
+  listed_parts start cs clients_are parts =
+      subst (λ (l : List ClientState). ArePartsOfRun start 2 (length l) (actor_list (ln0 ∷ ln1 ∷ []) l)) (sym clients_are)
       (same_parts start owned (actor_list (ln0 ∷ ln1 ∷ []) (k0 ∷ k1 ∷ [])) as_listed parts)
 
-  -- so the log that is put together is a run
-  pub ended_run : (start : Start) (ns : List (List (ℕ × Entry))) (cs : List ClientState) (nodes clients clock : ℕ) (log : List (ℕ × Entry)) → ns ≡ ln0 ∷ ln1 ∷ [] → cs ≡ k0 ∷ k1 ∷ [] → nodes ≡ 2 → clients ≡ 2
-      → PartsMakeRun → ((clock : ℕ) (one : AreOneLog ns cs clock) → log ≡ placed_from 0 one.log) → IsOneLog IsLegalLine nodes clients owned clock → ArePartsOfRun start 2 2 owned → IsLogOfRun start log
-  ended_run start ns cs nodes clients clock log nodes_are clients_are two two' law merged one parts =
-      let all = one_log ns cs nodes clients clock nodes_are clients_are two two' one in
-      subst (IsLogOfRun start) (sym (merged clock all)) (law start (length ns) (length cs) clock (actor_list ns cs) all (listed_parts start ns cs nodes_are clients_are parts))
+  -- and the log that is put together is a run
+  pub ended_run : (start : Start) (cs : List ClientState) (nodes clients clock : ℕ) (log : List (ℕ × Entry)) → cs ≡ k0 ∷ k1 ∷ [] → nodes ≡ 2 → clients ≡ 2 → PartsMakeRun
+      → ((ns : List (List (ℕ × Entry))) (clock : ℕ) (one : AreOneLog ns cs clock) → HaveCallers ns → log ≡ placed_from 0 one.log) → AllByRecursion HasCaller (entries_of ln0) → AllByRecursion HasCaller (entries_of ln1)
+      → IsOneLog IsLegalLine nodes clients owned clock → ArePartsOfRun start 2 2 owned → IsLogOfRun start log
+  ended_run start cs nodes clients clock log clients_are two two' law merged called called' one parts =
+      let all = one_log cs nodes clients clock clients_are two two' one in
+      subst (IsLogOfRun start) (sym (merged (ln0 ∷ ln1 ∷ []) clock all (called, (called', tt)))) (law start 2 (length cs) clock (actor_list (ln0 ∷ ln1 ∷ []) cs) all (listed_parts start cs clients_are parts))

@@ -1,19 +1,24 @@
 -- Entries in the slots of their places.
 use Rattle.std.proofs.Common.{◌≡◌, ℕ, zero, suc, ◌+◌, ◌<◌, ◌≤◌, ◌⊎◌, Bool, true, false, Option, Some, None, List, [], ◌∷◌, ◌++◌, length, map, refl, sym, ap, ◌∙◌, subst, inl, inr, arith, length-append, if◌then◌else◌}
-use Rattle.std.specs.Prelude.{slice_get, slice_set, get_or, is_none, ◌&&◌}
+use Rattle.std.specs.Prelude.{slice_get, slice_set, get_or, is_none, IsSome, ◌&&◌}
+use Rattle.std.specs.List.{AllByRecursion}
 use Rattle.mn_world.specs.Log.{nobody}
 use Rattle.std.proofs.lemmas.Option.{same_Some}
+use Rattle.mn_page.proofs.Grid.{all_at_place, all_split}
 use Rattle.mn_actors.specs.declared.actor.Actor.{Actor}
 use Rattle.mn_actors.specs.declared.actor.Actor.TheVariants.{Node, Client}
 use Rattle.mn_actors.specs.Lines.{Line, is_client, is_node, stands_in}
-use Rattle.mn_actors.specs.Log.{entries_from, IsManned}
+use Rattle.mn_actors.specs.Log.{entries_from, entries_of as entries_of_actor, IsManned, IsPlace, StandsAt}
 use Rattle.mn_base.specs.declared.ids.ClientNo.{ClientNo}
 use Rattle.mn_base.specs.declared.ids.NodeNo.{NodeNo}
 use Rattle.mn_world.specs.declared.entry.Entry.{Entry}
 use Rattle.mn_world.specs.Lists.{ClientState}
+use Rattle.mn_world.specs.Run.{entries_of}
 use Rattle.mn_world.proofs.Reading.Same.{client_same-refl}
 use Rattle.mn_cell.specs.Runs.{placed_from}
-use Rattle.mn_hist.specs.Merging.{AreOneLog, Hold, lone, put_at, put_list, put_lists}
+use Rattle.mn_cell.specs.Station.{HasCaller}
+use Rattle.mn_cell.proofs.Running.{reverse_more}
+use Rattle.mn_hist.specs.Merging.{AreOneLog, HaveCallers, Hold, put_at, put_list, put_lists}
 
 -- Loops
 
@@ -99,21 +104,9 @@ list_under : (log : List (Line Entry)) (l : List (ℕ × Entry)) (slots : List (
 list_under log [] slots are under = under
 list_under log (x ∷ l) slots are under = list_under log l (put_at x.0 x.1 slots) are.1 (put_under log x.0 x.1 slots are.0 under)
 
-lone_lines : (log : List (Line Entry)) (l : List (ℕ × Entry)) → AreLines log l → AreLines log (lone l)
-lone_lines log [] are = tt
-lone_lines log (x ∷ l) are = by (is_none x.1.client) (lone_lines log l are.1)
-  where
-    by : (b : Bool) → AreLines log (lone l) → AreLines log (if b then x ∷ lone l else lone l)
-    by true rest = (are.0, rest)
-    by false rest = rest
-
 abbrev pub AreListsOf : List (Line Entry) → List (List (ℕ × Entry)) → Type 0
 AreListsOf log [] = Unit {0}
 AreListsOf log (l ∷ ls) = AreLines log l × AreListsOf log ls
-
-lone_lists : (log : List (Line Entry)) (ls : List (List (ℕ × Entry))) → AreListsOf log ls → AreListsOf log (map lone ls)
-lone_lists log [] are = tt
-lone_lists log (l ∷ ls) are = (lone_lines log l are.0, lone_lists log ls are.1)
 
 lists_under : (log : List (Line Entry)) (ls : List (List (ℕ × Entry))) (slots : List (Option Entry)) → AreListsOf log ls → SlotsAreOfLog log slots → SlotsAreOfLog log (put_lists ls slots)
 lists_under log [] slots are under = under
@@ -202,22 +195,6 @@ has_entry a k (y ∷ log) (suc i) x is stands =
     let place : k + 1 + i ≡ k + suc i = omega arith in
     still_has (stands_in a y) (k + suc i) (k, y.entry) (entries_from (k + 1) a log) (subst (λ (q : ℕ). ListHasPlace q (entries_from (k + 1) a log)) place (has_entry a (k + 1) log i x is stands))
 
--- an entry that no client has stands among those
-lone_has : (a : Actor) (k : ℕ) (log : List (Line Entry)) (i : ℕ) (x : Line Entry) → slice_get log i ≡ Some x → stands_in a x ≡ true → x.entry.client ≡ None → ListHasPlace (k + i) (lone (entries_from k a log))
-lone_has a k [] i x is stands none = absurd (cc)
-lone_has a k (y ∷ log) zero x is stands none =
-    let here : stands_in a y ≡ true = ap (λ (z : Line Entry). stands_in a z) (same_Some _ _ is) ∙ stands in
-    let no_client : is_none y.entry.client ≡ true = ap (λ (z : Line Entry). is_none z.entry.client) (same_Some _ _ is) ∙ ap is_none none in
-    let place : k ≡ k + 0 = omega arith in
-    rw here (rw no_client (inl place))
-lone_has a k (y ∷ log) (suc i) x is stands none =
-    let place : k + 1 + i ≡ k + suc i = omega arith in
-    by (stands_in a y) (is_none y.entry.client) (subst (λ (q : ℕ). ListHasPlace q (lone (entries_from (k + 1) a log))) place (lone_has a (k + 1) log i x is stands none))
-  where
-    by : (b n : Bool) → ListHasPlace (k + suc i) (lone (entries_from (k + 1) a log)) → ListHasPlace (k + suc i) (lone (if b then (k, y.entry) ∷ entries_from (k + 1) a log else entries_from (k + 1) a log))
-    by false n has = has
-    by true n has = still_has (is_none y.entry.client) (k + suc i) (k, y.entry) (lone (entries_from (k + 1) a log)) has
-
 lists_are : (log : List (Line Entry)) (ls : List (List (ℕ × Entry))) (actor : ℕ → Actor) → ((i : ℕ) → i < length ls → slice_get ls i ≡ Some (entries_from 0 (actor i) log)) → AreListsOf log ls
 lists_are log [] actor each = tt
 lists_are log (l ∷ ls) actor each =
@@ -262,52 +239,55 @@ pub as_many : (clients : List ClientState) → length (map (λ (l : ClientState)
 as_many [] = refl
 as_many (c ∷ clients) = ap suc (as_many clients)
 
-lone_at : (ls : List (List (ℕ × Entry))) (i : ℕ) (l : List (ℕ × Entry)) → slice_get ls i ≡ Some l → slice_get (map lone ls) i ≡ Some (lone l)
-lone_at [] i l is = absurd (cc)
-lone_at (m ∷ ls) zero l is = ap (λ (n : List (ℕ × Entry)). Some (lone n)) (same_Some _ _ is)
-lone_at (m ∷ ls) (suc i) l is = lone_at ls i l is
+-- an entry of a list, of which each has a caller
+has_caller : (l : List (ℕ × Entry)) (k : ℕ) (x : ℕ × Entry) → slice_get l k ≡ Some x → AllByRecursion HasCaller (entries_of l) → HasCaller x.1
+has_caller l k x is all = all_at_place (λ (y : ℕ × Entry). HasCaller y.1) l k x (in_order l all) is
+  where
+    in_order : (l : List (ℕ × Entry)) → AllByRecursion HasCaller (entries_of l) → AllByRecursion (λ y. HasCaller y.1) l
+    in_order [] all = tt
+    in_order (y ∷ l) all =
+        let both = subst (AllByRecursion HasCaller) (reverse_more y.1 (map (λ (z : ℕ × Entry). z.1) l)) all in
+        let parts = all_split HasCaller (entries_of l) (y.1 ∷ []) both in (parts.1.0, in_order l parts.0)
 
 zero_more : (q : ℕ) → 0 + q ≡ q
 zero_more q = omega arith
 
 module _ (nodes : List (List (ℕ × Entry))) (clients : List ClientState) (clock : ℕ) (one : AreOneLog nodes clients clock) where
-  node_lists : AreListsOf one.log nodes
-  node_lists = lists_are one.log nodes (λ n. Node (record { 0 = n })) (λ n lt. one.lists (Node (record { 0 = n })) lt)
+  abbrev entries : List (List (ℕ × Entry))
+  entries = map (λ (l : ClientState). l.entries) clients
 
-  client_lists : AreListsOf one.log (map (λ (l : ClientState). l.entries) clients)
-  client_lists = lists_are one.log (map (λ (l : ClientState). l.entries) clients) (λ c. Client (record { 0 = c })) (λ c lt. one.lists (Client (record { 0 = c })) (omega (arith, lt, as_many clients)))
-
-  all_under : SlotsAreOfLog one.log (put_lists (map lone nodes) (put_lists (map (λ (l : ClientState). l.entries) clients) []))
-  all_under = lists_under one.log (map lone nodes) (put_lists (map (λ (l : ClientState). l.entries) clients) []) (lone_lists one.log nodes node_lists) (lists_under one.log (map (λ (l : ClientState). l.entries) clients) [] client_lists tt)
+  all_under : SlotsAreOfLog one.log (put_lists entries [])
+  all_under = lists_under one.log entries [] (lists_are one.log entries (λ c. Client (record { 0 = c })) (λ c lt. one.lists (Client (record { 0 = c })) (omega (arith, lt, as_many clients)))) tt
 
   -- an entry that a client has is put from the client's list
-  full_client : (c : ClientNo) (q : ℕ) (x : Line Entry) → slice_get one.log q ≡ Some x → stands_in (Client c) x ≡ true → c.0 < length clients → is_full q (put_lists (map lone nodes) (put_lists (map (λ (l : ClientState). l.entries) clients) [])) ≡ true
-  full_client c q x is stands on = lists_keep q (map lone nodes) (put_lists (map (λ (l : ClientState). l.entries) clients) [])
-      (lists_fill q (map (λ (l : ClientState). l.entries) clients) [] c.0 (entries_from 0 (Client c) one.log) (one.lists (Client c) on) (subst (λ (p : ℕ). ListHasPlace p (entries_from 0 (Client c) one.log)) (zero_more q) (has_entry (Client c) 0 one.log q x is stands)))
+  full_client : (c : ClientNo) (q : ℕ) (x : Line Entry) → slice_get one.log q ≡ Some x → stands_in (Client c) x ≡ true → c.0 < length clients → is_full q (put_lists entries []) ≡ true
+  full_client c q x is stands on =
+      lists_fill q entries [] c.0 (entries_from 0 (Client c) one.log) (one.lists (Client c) on) (subst (λ (p : ℕ). ListHasPlace p (entries_from 0 (Client c) one.log)) (zero_more q) (has_entry (Client c) 0 one.log q x is stands))
 
-  -- another from the list of its node
-  full_node : (n : NodeNo) (q : ℕ) (x : Line Entry) → slice_get one.log q ≡ Some x → stands_in (Node n) x ≡ true → x.entry.client ≡ None → n.0 < length nodes → is_full q (put_lists (map lone nodes) (put_lists (map (λ (l : ClientState). l.entries) clients) [])) ≡ true
-  full_node n q x is stands none on = lists_fill q (map lone nodes) (put_lists (map (λ (l : ClientState). l.entries) clients) []) n.0 (lone (entries_from 0 (Node n) one.log)) (lone_at nodes n.0 (entries_from 0 (Node n) one.log) (one.lists (Node n) on))
-      (subst (λ (p : ℕ). ListHasPlace p (lone (entries_from 0 (Node n) one.log))) (zero_more q) (lone_has (Node n) 0 one.log q x is stands none))
+  -- one that only a node has would have a caller
+  none_alone : (n : NodeNo) (q : ℕ) (x : Line Entry) → HaveCallers nodes → StandsAt q x.entry (entries_of_actor (Node n) one.log) → x.entry.client ≡ None → n.0 < length nodes → ⊥
+  none_alone n q x callers at none on =
+      let some : IsSome {T = ClientNo} None = subst (λ (o : Option ClientNo). IsSome o) none (has_caller (entries_of_actor (Node n) one.log) at.0 (q, x.entry) at.1 (all_at_place (λ (l : List (ℕ × Entry)). AllByRecursion HasCaller (entries_of l)) nodes n.0 (entries_of_actor (Node n) one.log) callers (one.lists (Node n) on))) in
+      absurd (cc)
 
-  full_line : (q : ℕ) (x : Line Entry) → slice_get one.log q ≡ Some x → IsManned (length nodes) (length clients) x → x.entry.client ≡ x.client → (o : Option ClientNo) → x.client ≡ o → is_full q (put_lists (map lone nodes) (put_lists (map (λ (l : ClientState). l.entries) clients) [])) ≡ true
-  full_line q x is manned same (Some c) by =
+  full_line : (q : ℕ) (x : Line Entry) → HaveCallers nodes → slice_get one.log q ≡ Some x → IsManned (length nodes) (length clients) x → IsPlace (λ a. entries_of_actor a one.log) q x → x.entry.client ≡ x.client → (o : Option ClientNo) → x.client ≡ o → is_full q (put_lists entries []) ≡ true
+  full_line q x callers is manned place same (Some c) by =
       let stands : stands_in (Client c) x ≡ true = ap (λ (o : Option ClientNo). is_client o c) by ∙ client_same-refl c in
       full_client c q x is stands (manned.on_board (Client c) stands)
-  full_line q x is manned same None by = at manned.some_actor.0 manned.some_actor.1
+  full_line q x callers is manned place same None by = at manned.some_actor.0 manned.some_actor.1
     where
-      at : (a : Actor) → stands_in a x ≡ true → is_full q (put_lists (map lone nodes) (put_lists (map (λ (l : ClientState). l.entries) clients) [])) ≡ true
-      at (Node n) stands = full_node n q x is stands (same ∙ by) (manned.on_board (Node n) stands)
+      at : (a : Actor) → stands_in a x ≡ true → is_full q (put_lists entries []) ≡ true
+      at (Node n) stands = absurd (none_alone n q x callers (place.stands (Node n) stands) (same ∙ by) (manned.on_board (Node n) stands))
       at (Client c) stands = let no : false ≡ true = sym (ap (λ (o : Option ClientNo). is_client o c) by) ∙ stands in absurd (cc)
 
-  all_full : (q : ℕ) → q < length one.log → is_full q (put_lists (map lone nodes) (put_lists (map (λ (l : ClientState). l.entries) clients) [])) ≡ true
-  all_full q lt =
+  all_full : HaveCallers nodes → (q : ℕ) → q < length one.log → is_full q (put_lists entries []) ≡ true
+  all_full callers q lt =
       let at = one.once q (omega (arith, lt, one.clock_is)) in
-      full_line q at.0 at.1 (one.manned q at.0 at.1) (one.legal_then q at.0 at.1).1 at.0.client refl
+      full_line q at.0 callers at.1 (one.manned q at.0 at.1) at.2 (one.legal_then q at.0 at.1).1 at.0.client refl
 
-  -- the lists of one log, put together, are that log
-  pub merged_whole : (slots : List (ℕ × Entry)) → Hold 0 slots (put_lists (map lone nodes) (put_lists (map (λ (l : ClientState). l.entries) clients) [])) → slots ≡ placed_from 0 one.log
-  merged_whole slots hold = whole 0 one.log slots (put_lists (map lone nodes) (put_lists (map (λ (l : ClientState). l.entries) clients) [])) all_under all_full hold
+  -- the clients' lists of one log, put together, are that log
+  pub merged_whole : HaveCallers nodes → (slots : List (ℕ × Entry)) → Hold 0 slots (put_lists entries []) → slots ≡ placed_from 0 one.log
+  merged_whole callers slots hold = whole 0 one.log slots (put_lists entries []) all_under (all_full callers) hold
 
   manned_by : (x : Line Entry) → x.entry.node ≡ x.node → x.entry.client ≡ x.client → (a : Actor) → stands_in a x ≡ true → is_nobodys x.entry ≡ false
   manned_by x node client (Node n) stands = ap (λ (b : Bool). b && is_none x.entry.client) (ap is_none node ∙ has_node x.node n stands)

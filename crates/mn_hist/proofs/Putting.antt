@@ -15,7 +15,7 @@ use Rattle.mn_world.specs.Calls.{Begun, client_entries, under_way}
 use Rattle.mn_world.specs.History.{Placed, placed_in, has_past, AnswerPuts}
 use Rattle.mn_world.specs.OneHistory.{Ascend}
 use Rattle.mn_hist.specs.declared.history.PlacedAct.{PlacedAct}
-use Rattle.mn_hist.specs.History.{placed_act, caller_state, AreActsOf, IsNotedPlace, IsPutInto, IsSpotIn, StandsInSet, AnswerIsInHistory, AnswerHasPlace, stands}
+use Rattle.mn_hist.specs.History.{placed_act, caller_state, AreActsOf, IsNotedPlace, IsPutInto, IsIndexIn, StandsInSet, AnswerIsInHistory, AnswerHasPlace, stands}
 use Rattle.mn_hist.proofs.Noted.{begun_is, noted_place}
 use Rattle.mn_hist.proofs.Planning.{or_swap}
 
@@ -48,19 +48,19 @@ lower_ones acts placed i x n up are lt is less =
     subst (λ (l : List PlacedAct). AllByRecursion (λ (a : PlacedAct). a.place < n) (take (suc i) l)) (sym are)
     (lower placed i x n up (subst (λ (l : List PlacedAct). i < length l) are lt) (subst (λ (l : List PlacedAct). x ≡ slice_index_or l i x) are is) less)
 
-put_acts : (p : Placed) (placed : List Placed) (at : ℕ) → IsSpotIn (map placed_act placed) p.place at → insert (map placed_act placed) at (placed_act p) ≡ map placed_act (placed_in p placed)
-put_acts p [] zero spot = refl
-put_acts p [] (suc at) spot = refl
-put_acts p (q ∷ qs) zero spot = ap (λ t. map placed_act (if t then p ∷ q ∷ qs else q ∷ placed_in p qs)) (sym (lt_true p.place q.place spot.1.0))
-put_acts p (q ∷ qs) (suc at) spot =
-    ap (λ l. placed_act q ∷ l) (put_acts p qs at (spot.0.1, spot.1))
-    ∙ ap (λ t. map placed_act (if t then p ∷ q ∷ qs else q ∷ placed_in p qs)) (sym (lt_false p.place q.place spot.0.0))
+put_acts : (p : Placed) (placed : List Placed) (at : ℕ) → IsIndexIn (map placed_act placed) p.place at → insert (map placed_act placed) at (placed_act p) ≡ map placed_act (placed_in p placed)
+put_acts p [] zero index = refl
+put_acts p [] (suc at) index = refl
+put_acts p (q ∷ qs) zero index = ap (λ t. map placed_act (if t then p ∷ q ∷ qs else q ∷ placed_in p qs)) (sym (lt_true p.place q.place index.1.0))
+put_acts p (q ∷ qs) (suc at) index =
+    ap (λ l. placed_act q ∷ l) (put_acts p qs at (index.0.1, index.1))
+    ∙ ap (λ t. map placed_act (if t then p ∷ q ∷ qs else q ∷ placed_in p qs)) (sym (lt_false p.place q.place index.0.0))
 
 pub acts_more : (old new : List PlacedAct) (placed : List Placed) (p : Placed) → AreActsOf old placed → IsPutInto old (placed_act p) new → AreActsOf new (placed_in p placed)
-acts_more old new placed p are (at, spot, is) =
+acts_more old new placed p are (at, index, is) =
     is
     ∙ (ap (λ (l : List PlacedAct). insert l at (placed_act p)) are
-    ∙ put_acts p placed at (subst (λ (l : List PlacedAct). IsSpotIn l p.place at) are spot))
+    ∙ put_acts p placed at (subst (λ (l : List PlacedAct). IsIndexIn l p.place at) are index))
 
 -- What stands
 

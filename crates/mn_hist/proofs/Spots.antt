@@ -1,10 +1,9 @@
 -- Spots of entries in the order of their places.
-use Rattle.std.proofs.Common.{◌≡◌, ℕ, zero, suc, ◌+◌, ◌-◌, ◌<◌, ◌≤◌, Bool, true, false, Option, List, [], ◌∷◌, ◌++◌, Vec, Global, length, map, drop, get_or, nat_eq, nat_le, refl, sym, ap, ◌∙◌, subst, arith, if◌then◌else◌}
+use Rattle.std.proofs.Common.{◌≡◌, ℕ, zero, suc, ◌+◌, ◌-◌, ◌<◌, ◌≤◌, Bool, true, false, List, [], ◌∷◌, ◌++◌, Vec, Global, length, map, drop, get_or, nat_eq, refl, sym, ap, ◌∙◌, subst, arith, if◌then◌else◌}
 use Rattle.std.specs.Prelude.{slice_set}
 use Rattle.mn_world.specs.declared.entry.Entry.{Entry}
 use Rattle.mn_world.specs.declared.log.Spot.{Spot}
 use Rattle.mn_world.specs.Log.{AreSpots, entry_at, log_of, nobody}
-use Rattle.mn_hist.specs.Merging.{all_put, chosen, is_put, lone, put_at, put_list, put_lists}
 use Rattle.mn_world.proofs.Logs.{at_place, map_at, map_long, map_more}
 use Rattle.mn_hist.proofs.Placing.{is_nobodys}
 
@@ -83,62 +82,3 @@ pub spots_there : (lists : List (List (ℕ × Entry))) (order : List Spot) → (
 spots_there lists order some n s lt is =
     let at : get_or (log_of lists order) n nobody ≡ entry_at lists s = map_at (entry_at lists) order n s nobody lt is in
     spot_there (get_or lists s.list []) s.place (nat_eq s.place 0) refl (ap (λ (e : ℕ × Entry). is_nobodys e.1) (sym at) ∙ some n lt)
-
--- What is put of each list
-
-pub put_long : (clients : ℕ) (lists : List (List (ℕ × Entry))) → length (all_put clients lists) ≡ length lists
-put_long zero lists = map_long lone lists
-put_long (suc clients) [] = refl
-put_long (suc clients) (l ∷ lists) = ap suc (put_long clients lists)
-
--- all of a client's list
-all_chosen : (l : List (ℕ × Entry)) → chosen false l ≡ l
-all_chosen [] = refl
-all_chosen (x ∷ l) = ap (λ (m : List (ℕ × Entry)). x ∷ m) (all_chosen l)
-
-node_at : (lists : List (List (ℕ × Entry))) (n : ℕ) → n < length lists → get_or (map lone lists) n [] ≡ lone (get_or lists n [])
-node_at [] n lt = absurd (omega (arith, lt))
-node_at (l ∷ lists) zero lt = refl
-node_at (l ∷ lists) (suc n) lt = node_at lists n (omega (arith, lt))
-
-put_by : (clients : ℕ) (lists : List (List (ℕ × Entry))) (n : ℕ) (b : Bool) → n < length lists → nat_le clients n ≡ b → get_or (all_put clients lists) n [] ≡ chosen b (get_or lists n [])
-put_by zero lists n true lt is = node_at lists n lt
-put_by zero lists n false lt is = let no : true ≡ false = sym (low n) ∙ is in absurd cc
-  where
-    low : (n : ℕ) → nat_le 0 n ≡ true
-    low n = grind (arith)
-put_by (suc clients) [] n b lt is = absurd (omega (arith, lt))
-put_by (suc clients) (l ∷ lists) zero true lt is = let no : false ≡ true = sym (high clients) ∙ is in absurd cc
-  where
-    high : (c : ℕ) → nat_le (suc c) 0 ≡ false
-    high c = grind (arith)
-put_by (suc clients) (l ∷ lists) zero false lt is = sym (all_chosen l)
-put_by (suc clients) (l ∷ lists) (suc n) b lt is = put_by clients lists n b (omega (arith, lt)) (less clients n ∙ is)
-  where
-    less : (c n : ℕ) → nat_le c n ≡ nat_le (suc c) (suc n)
-    less c n = grind (arith)
-
-pub put_is : (clients : ℕ) (lists : List (List (ℕ × Entry))) (n : ℕ) → n < length lists → get_or (all_put clients lists) n [] ≡ chosen (nat_le clients n) (get_or lists n [])
-put_is clients lists n lt = put_by clients lists n (nat_le clients n) lt refl
-
--- the entries that are chosen, one after another
-pub chosen_next : (lone : Bool) (x : ℕ × Entry) (l : List (ℕ × Entry)) (filled : List (Option Entry)) → put_list (chosen lone l) (put_list (chosen lone (x ∷ [])) filled) ≡ put_list (chosen lone (x ∷ l)) filled
-chosen_next lone x l filled = by (is_put lone x.1)
-  where
-    by : (b : Bool) → put_list (chosen lone l) (put_list (if b then x ∷ [] else []) filled) ≡ put_list (if b then x ∷ chosen lone l else chosen lone l) filled
-    by true = refl
-    by false = refl
-
-pub put_one : (lone : Bool) (x : ℕ × Entry) (filled : List (Option Entry)) → is_put lone x.1 ≡ true → put_at x.0 x.1 filled ≡ put_list (chosen lone (x ∷ [])) filled
-put_one lone x filled is = rw is refl
-
-pub put_none : (lone : Bool) (x : ℕ × Entry) (filled : List (Option Entry)) → is_put lone x.1 ≡ false → filled ≡ put_list (chosen lone (x ∷ [])) filled
-put_none lone x filled is = rw is refl
-
-pub put_first : (clients nodes : List (List (ℕ × Entry))) → all_put (length clients) (clients ++ nodes) ≡ clients ++ map lone nodes
-put_first [] nodes = refl
-put_first (l ∷ clients) nodes = ap (λ (ls : List (List (ℕ × Entry))). l ∷ ls) (put_first clients nodes)
-
-pub put_both : (a b : List (List (ℕ × Entry))) (slots : List (Option Entry)) → put_lists (a ++ b) slots ≡ put_lists b (put_lists a slots)
-put_both [] b slots = refl
-put_both (l ∷ a) b slots = put_both a b (put_list l slots)

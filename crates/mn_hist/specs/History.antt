@@ -132,9 +132,9 @@ placed_act p = record { place = p.place; act = act_of p.past }
 abbrev pub acts_in : List PlacedAct → List Act
 acts_in acts = map (λ a. a.act) acts
 
--- all before the spot have lower places than this one, and all behind it greater ones
-abbrev pub IsSpotIn : List PlacedAct → ℕ → ℕ → Type 0
-IsSpotIn acts place at =
+-- all before the index have lower places than this one, and all behind it greater ones
+abbrev pub IsIndexIn : List PlacedAct → ℕ → ℕ → Type 0
+IsIndexIn acts place at =
     AllByRecursion (λ a. a.place < place) (take at acts)
     × AllByRecursion (λ a. place < a.place) (drop at acts)
 
@@ -153,7 +153,7 @@ stands standing c number = kept_at false standing c number
 
 -- no operation had its place, and it stands there now
 abbrev pub IsPutInto : List PlacedAct → PlacedAct → List PlacedAct → Type 0
-IsPutInto old put new = (at : ℕ) × IsSpotIn old put.place at × (new ≡ insert old at put)
+IsPutInto old put new = (at : ℕ) × IsIndexIn old put.place at × (new ≡ insert old at put)
 
 -- these operations stand in the history
 abbrev pub StandsInSet : List (List Bool) → List Placed → Type 0

@@ -1,13 +1,15 @@
 -- The lists of a run's actors, and the log that they are.
-use Rattle.std.specs.Prelude.{◌≡◌, ℕ, zero, suc, ◌+◌, List, [], ◌∷◌, length, map, filter, Option}
-use Rattle.std.specs.Prelude.{Some, None}
-use Rattle.std.specs.Prelude.{slice_get, is_none, not, ◌||◌, ◌++◌, take, drop, Bool}
+use Rattle.std.specs.Prelude.{◌≡◌, ℕ, zero, suc, ◌+◌, List, [], ◌∷◌, length, map, Option}
+use Rattle.std.specs.Prelude.{Some, None, slice_get}
+use Rattle.std.specs.List.{AllByRecursion}
 use Rattle.mn_actors.specs.declared.actor.Actor.{Actor}
 use Rattle.mn_actors.specs.declared.actor.Actor.TheVariants.{Node, Client}
 use Rattle.mn_actors.specs.Log.{IsOneLog}
 use Rattle.mn_world.specs.declared.entry.Entry.{Entry}
 use Rattle.mn_world.specs.Lists.{ClientState}
+use Rattle.mn_world.specs.Run.{entries_of}
 use Rattle.mn_cell.specs.Calls.{IsLegalLine}
+use Rattle.mn_cell.specs.Station.{HasCaller}
 
 -- the list of an actor, if there is such an actor
 abbrev pub actor_list : List (List (ℕ × Entry)) → List ClientState → Actor
@@ -19,6 +21,10 @@ actor_list nodes clients (Client c) = slice_get (map (λ l. l.entries) clients) 
 abbrev pub AreOneLog : List (List (ℕ × Entry)) → List ClientState → ℕ → Type 0
 AreOneLog nodes clients clock =
     IsOneLog IsLegalLine (length nodes) (length clients) (actor_list nodes clients) clock
+
+-- a client or a coordinator made each entry of these lists
+abbrev pub HaveCallers : List (List (ℕ × Entry)) → Type 0
+HaveCallers lists = AllByRecursion (λ l. AllByRecursion HasCaller (entries_of l)) lists
 
 -- How it is put together: each entry into the slot of its place
 
@@ -37,22 +43,6 @@ put_list (x ∷ l) slots = put_list l (put_at x.0 x.1 slots)
 abbrev pub put_lists : List (List (ℕ × Entry)) → List (Option Entry) → List (Option Entry)
 put_lists [] slots = slots
 put_lists (l ∷ ls) slots = put_lists ls (put_list l slots)
-
--- the entry is put: where those of the clients stand already, only what no client has
-abbrev pub is_put : Bool → Entry → Bool
-is_put lone e = not lone || is_none e.client
-
--- what is put of a list
-abbrev pub chosen : Bool → List (ℕ × Entry) → List (ℕ × Entry)
-chosen lone entries = filter (λ x. is_put lone x.1) entries
-
--- of a node's list the entries that no client has: the others stand in a client's list too
-abbrev pub lone : List (ℕ × Entry) → List (ℕ × Entry)
-lone entries = filter (λ x. is_none x.1.client) entries
-
--- what is put of the lists, of which the first ones, so many, are those of the clients
-abbrev pub all_put : ℕ → List (List (ℕ × Entry)) → List (List (ℕ × Entry))
-all_put clients lists = take clients lists ++ map lone (drop clients lists)
 
 -- how the slots from a place on hold them: those that are filled, each with its place
 abbrev pub Hold : ℕ → List (ℕ × Entry) → List (Option Entry) → Type 0

@@ -86,6 +86,15 @@ fn op_count(client: &ScriptClient) -> Result<u32, NoMemory>
     }
 }
 
+/// How many operations the clients have.
+pub fn op_total(clients: &[ScriptClient]) -> usize {
+    let mut total = 0usize;
+    for client in clients {
+        total = total.saturating_add(client.ops.as_slice().len());
+    }
+    total
+}
+
 /// Adds the lines of a client's operations.
 fn push_answers(
     alloc: Global,
@@ -99,7 +108,6 @@ fn push_answers(
         (op_numbers client.now)) }
 {
     let count = op_count(client)?;
-    lines.reserve(count as usize)?;
     for before in 0..count {
         let number = before + 1;
         lines.push(answer_line_at(alloc, said, number_of_client, client, number)?)?;
@@ -126,7 +134,7 @@ pub fn answers_of(
 ) -> Result<AnswerLines, NoMemory>
     ensures { IfOk result (λ lines. lines ≡ answers_from (said_kept said.now) 0 clients.now) }
 {
-    let mut lines = Vec::new(alloc);
+    let mut lines = Vec::with_capacity(alloc, op_total(clients))?;
     for (at, client) in clients.iter().enumerate() {
         push_answers(alloc, &mut lines, said, client_at(at)?, client)?;
     }

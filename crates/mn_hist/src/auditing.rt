@@ -7,7 +7,7 @@ ghost use Rattle.mn_world.specs.Run.{entries_of};
 ghost use Rattle.mn_hist.specs.Audit.{client_name, ranked_act, IsAudit};
 ghost use Rattle.mn_hist.specs.History.{acts_in};
 
-use crate::answers::{answers_of, doubts_of};
+use crate::answers::{answers_of, doubts_of, op_total};
 use crate::history::{PlacedAct, ending_of};
 use crate::points::points_met;
 use crate::versions::versions_of;
@@ -36,7 +36,7 @@ fn ranks_of(
 ) -> Result<Ranks, NoMemory>
     ensures { IfOk result (λ ranks. ranks ≡ map (ranked_act clients.now) (acts_in acts.now)) }
 {
-    let mut ranks = Vec::new(alloc);
+    let mut ranks = Vec::with_capacity(alloc, acts.len())?;
     for placed in acts {
         ranks.push(Ranked {
             client: client_name(alloc, clients, placed.act.client)?,
@@ -61,7 +61,7 @@ pub fn audit(alloc: Global, start: &Store, log: &Log, script: &Script) -> Result
         → IfOk result CanReport }
 {
     let clients = script.clients();
-    let ending = ending_of(alloc, start, log)?;
+    let ending = ending_of(alloc, start, log, op_total(clients))?;
     let answers = answers_of(alloc, &ending.said, clients)?;
     let history = ranks_of(alloc, clients, &ending.acts)?;
     let doubts = doubts_of(alloc, &ending.said, &ending.standing, clients)?;

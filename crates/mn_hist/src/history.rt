@@ -14,7 +14,7 @@ ghost use Rattle.mn_world.specs.declared.entry.Entry.{Entry as Step};
 ghost use Rattle.mn_hist.specs.History.{IsLastNote, IsFirstNote, IsOnlyNote, IsNotedPlace};
 ghost use Rattle.mn_hist.specs.Saying.{TellsAnswers};
 ghost use Rattle.mn_hist.specs.History.{AnswerHasPlace, EntryHasPlace, StandsInSet};
-ghost use Rattle.mn_hist.specs.History.{AreActsOf, IsSpotIn};
+ghost use Rattle.mn_hist.specs.History.{AreActsOf, IsIndexIn};
 ghost use Rattle.mn_hist.specs.History.{AnswerIsInHistory};
 ghost use Rattle.mn_hist.specs.History.{KnowsPlanners, IsIssuedUnderId, CommitIsInHistory};
 ghost use Rattle.mn_hist.specs.History.{AreCallerStates};
@@ -326,10 +326,10 @@ pub fn is_standing(standing: &Table<bool>, client: ClientNo, number: u32) -> boo
 /// which is looked for from the end. Those that it passes got their places while the operation was
 /// under way, and a client has one at a time: so over a whole log each operation is passed at most
 /// once by each client. NoMemory: another stands at the place, as at no place of a run.
-fn spot_for(acts: &[PlacedAct<'_>], place: usize) -> Result<usize, NoMemory>
+fn index_for(acts: &[PlacedAct<'_>], place: usize) -> Result<usize, NoMemory>
     ensures within { IfOk result (λ at. at ≤ length acts.now) }
-    ensures spot { IfOk result (λ at. (placed : List Placed) → Ascend placed
-        → AreActsOf acts.now placed → IsSpotIn acts.now place at) }
+    ensures index { IfOk result (λ at. (placed : List Placed) → Ascend placed
+        → AreActsOf acts.now placed → IsIndexIn acts.now place at) }
 {
     let mut at = acts.len();
     while at > 0 {
@@ -353,7 +353,7 @@ fn put<'a>(acts: &mut Vec<PlacedAct<'a>>, act: PlacedAct<'a>) -> Result<(), NoMe
         → AreActsOf acts.old.items placed
         → IsPutInto acts.old.items act.entry acts.new.items) }
 {
-    let at = spot_for(acts, act.place)?;
+    let at = index_for(acts, act.place)?;
     acts.insert(at, act)?;
     Ok(())
 }
@@ -563,8 +563,9 @@ struct HistoryReader<'a> {
 }
 
 impl<'a> HistoryReader<'a> {
-    /// No entry has come of so many. NoMemory: there was no memory for it.
-    fn new(alloc: Global, entries: usize) -> Result<HistoryReader<'a>, NoMemory>
+    /// No entry has come of so many, and there is room for so many operations. NoMemory: there was
+    /// no memory for it.
+    fn new(alloc: Global, entries: usize, ops: usize) -> Result<HistoryReader<'a>, NoMemory>
         ensures { IfOk result (λ reader. ReaderHasTold reader [] []) }
     {
         Ok(HistoryReader {
@@ -572,7 +573,7 @@ impl<'a> HistoryReader<'a> {
             callers: idle_callers(alloc)?,
             plans: Plans::new(alloc)?,
             standing: Table::new(alloc)?,
-            acts: Vec::new(alloc),
+            acts: Vec::with_capacity(alloc, ops)?,
             said: AllSaid::new(alloc)?,
         })
     }
@@ -628,7 +629,7 @@ fn all_done(alloc: Global, store: &mut Store, acts: &[PlacedAct<'_>]) -> Result<
     ensures store { OnOk result (store.new
         ≡ store_after store.old (done_from store.old (acts_in acts.now))) }
 {
-    let mut history = Vec::new(alloc);
+    let mut history = Vec::with_capacity(alloc, acts.len())?;
     for placed in acts {
         history.push(done(alloc, store, &placed.act)?)?;
     }
@@ -656,8 +657,8 @@ fn follow_all(alloc: Global, store: &mut Store, acts: &[PlacedAct<'_>]) -> Resul
     Ok(())
 }
 
-/// What the entries of a log tell of the history.
-fn read_log<'a>(alloc: Global, log: &'a Log) -> Result<HistoryReader<'a>, NoMemory>
+/// What the entries of a log tell of the history. There is room for so many operations at once.
+fn read_log<'a>(alloc: Global, log: &'a Log, ops: usize) -> Result<HistoryReader<'a>, NoMemory>
     ensures { IfOk result (λ reader. (start : Start) (store : Versions)
         → OpenedRun start store (entries_of log.now)
         → (placed : List Placed) × ReaderHasTold reader (entries_of log.now) placed) }
@@ -665,22 +666,22 @@ fn read_log<'a>(alloc: Global, log: &'a Log) -> Result<HistoryReader<'a>, NoMemo
     runs_have_history();
     history_is_one();
     runs_are_one_history();
-    let mut reader = HistoryReader::new(alloc, log.len())?;
+    let mut reader = HistoryReader::new(alloc, log.len(), ops)?;
     for place in 0..log.len() {
         reader.follow(alloc, place, log.entry(place))?;
     }
     Ok(reader)
 }
 
-/// The reader of a whole log.
-fn reader_of<'a>(alloc: Global, log: &'a Log) -> Result<HistoryReader<'a>, NoMemory>
+/// The reader of a whole log, with room for so many operations at once.
+fn reader_of<'a>(alloc: Global, log: &'a Log, ops: usize) -> Result<HistoryReader<'a>, NoMemory>
     ensures { (from : Start) (store : Versions) → OpenedRun from store (entries_of log.now)
         → IfOk result (λ reader. (placed : List Placed) × TellsHistory reader.acts.items
         reader.standing from store (entries_of log.now) placed
         × TellsAnswers reader.said (entries_of log.now)) }
 {
     runs_are_one_history();
-    read_log(alloc, log)
+    read_log(alloc, log, ops)
 }
 
 /// What a log comes to: the operations of its history in order of place; the same to look up; what
@@ -693,13 +694,19 @@ pub struct Ending<'a> {
     pub store: Store,
 }
 
-/// What the log comes to, from `start` on. NoMemory: as for `history_of`.
-pub fn ending_of<'a>(alloc: Global, start: &Store, log: &'a Log) -> Result<Ending<'a>, NoMemory>
+/// What the log comes to, from `start` on, with room for so many operations at once. NoMemory: as
+/// for `history_of`.
+pub fn ending_of<'a>(
+    alloc: Global,
+    start: &Store,
+    log: &'a Log,
+    ops: usize,
+) -> Result<Ending<'a>, NoMemory>
     ensures { (from : Start) → OpenedRun from start.now (entries_of log.now)
         → IfOk result (λ ending. (placed : List Placed)
         × IsEndingOf ending from start.now (entries_of log.now) placed) }
 {
-    let reader = reader_of(alloc, log)?;
+    let reader = reader_of(alloc, log, ops)?;
     let mut store = start.try_copy(alloc)?;
     follow_all(alloc, &mut store, &reader.acts)?;
     Ok(Ending {
@@ -727,7 +734,7 @@ pub fn history_of(alloc: Global, start: &Store, log: &Log) -> Result<History, No
         → IfOk result (λ history. (placed : List Placed)
         × IsOneHistory from start.now (entries_of log.now) placed × (history ≡ pasts_of placed)) }
 {
-    let reader = reader_of(alloc, log)?;
+    let reader = reader_of(alloc, log, 0)?;
     let mut store = start.try_copy(alloc)?;
     let history = all_done(alloc, &mut store, &reader.acts)?;
     Ok(history)

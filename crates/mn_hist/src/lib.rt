@@ -1,4 +1,4 @@
-//! The one log of a run, from the lists of its actors, its history, and its audit.
+//! The one log of a run, from the lists of its clients, its history, and its audit.
 #![tactic(auto)]
 
 mod answers;
@@ -15,7 +15,7 @@ mod versions;
 
 pub use auditing::audit;
 pub use history::history_of;
-pub use lists::{ClientLists, Lists, NodeLists};
+pub use lists::ClientLists;
 pub use merging::merge;
 pub use points::{Step, asked_in, may_stop, meet, none_met, voted_id};
 pub use shown::{KnownCatalog, Read, shows};

@@ -1,13 +1,12 @@
 //! Lists merged by place.
-ghost use Rattle.std.specs.Prelude.{◌≡◌, ◌<◌, ◌+◌, ◌++◌, ◌∷◌, [], ℕ, List, Option, map, true, length};
+ghost use Rattle.std.specs.Prelude.{◌≡◌, ◌<◌, ◌+◌, ◌∷◌, [], ℕ, List, Option, map, length};
 ghost use Rattle.std.specs.Prelude.{get_or, IfOk, OnOk};
 ghost use Rattle.mn_cell.specs.Runs.{placed_from};
 ghost use Rattle.mn_world.specs.Log.{entry_at, log_of, nobody};
 ghost use Rattle.mn_world.specs.declared.entry.Entry.{Entry as Step};
-ghost use Rattle.mn_hist.specs.Merging.{AreOneLog, Hold, all_put, chosen, is_put, put_at};
-ghost use Rattle.mn_hist.specs.Merging.{put_list, put_lists};
+ghost use Rattle.mn_hist.specs.Merging.{AreOneLog, HaveCallers, Hold, put_at, put_list, put_lists};
 
-use crate::lists::Lists;
+use crate::lists::ClientLists;
 use mn_base::NoMemory;
 use mn_world::{Entry, Log, Spot};
 use std::alloc::Global;
@@ -53,35 +52,23 @@ fn put(
     Ok(())
 }
 
-/// Whether an entry is put: where those of the clients stand already, only what no client has.
-#[inline(always)]
-fn is_put(entry: &Entry, lone: bool) -> bool
-    ensures { result ≡ is_put lone entry.now }
-{
-    !lone || entry.client.is_none()
-}
-
-/// Puts an entry of a list, if it is put.
+/// Puts an entry of a list.
 #[inline(always)]
 fn put_entry(
     lists: &[Vec<(u64, Entry)>],
     order: &mut Vec<Spot>,
     list: usize,
     index: usize,
-    lone: bool,
 ) -> Result<(), NoMemory>
     requires list { list < length lists.now }
     requires index { index < length (get_or (map (λ list. list.items) lists.now) list []) }
     ensures { OnOk result ((filled : List (Option Step))
         → Hold 0 (log_of (map (λ list. list.items) lists.now) order.old.items) filled
         → Hold 0 (log_of (map (λ list. list.items) lists.now) order.new.items)
-        (put_list (chosen lone
-        (get_or (get_or (map (λ list. list.items) lists.now) list []) index nobody ∷ [])) filled)) }
+        (put_list (get_or (get_or (map (λ list. list.items) lists.now) list []) index nobody ∷ [])
+        filled)) }
 {
     let entry = &lists[list][index];
-    if !is_put(&entry.1, lone) {
-        return Ok(());
-    }
     put(lists, order, entry.0 as usize, spot_of(list, index)?)
 }
 
@@ -90,48 +77,39 @@ fn put_entries(
     lists: &[Vec<(u64, Entry)>],
     order: &mut Vec<Spot>,
     list: usize,
-    lone: bool,
 ) -> Result<(), NoMemory>
     requires { list < length lists.now }
     ensures { OnOk result ((filled : List (Option Step))
         → Hold 0 (log_of (map (λ list. list.items) lists.now) order.old.items) filled
         → Hold 0 (log_of (map (λ list. list.items) lists.now) order.new.items)
-        (put_list (chosen lone (get_or (map (λ list. list.items) lists.now) list [])) filled)) }
+        (put_list (get_or (map (λ list. list.items) lists.now) list []) filled)) }
 {
     for index in 0..lists[list].len() {
-        put_entry(lists, order, list, index, lone)?;
+        put_entry(lists, order, list, index)?;
     }
     Ok(())
 }
 
-/// Puts the entries of the first lists, so many, which are those of the clients; of the others,
-/// which are those of the nodes, only what no client has: the rest stands in the clients' lists.
-fn put_all(
-    lists: &[Vec<(u64, Entry)>],
-    order: &mut Vec<Spot>,
-    clients: usize,
-) -> Result<(), NoMemory>
+/// Puts the entries of all lists.
+fn put_all(lists: &[Vec<(u64, Entry)>], order: &mut Vec<Spot>) -> Result<(), NoMemory>
     requires { order.old.items ≡ [] }
     ensures { OnOk result (Hold 0
         (log_of (map (λ list. list.items) lists.now) order.new.items)
-        (put_lists (all_put clients (map (λ list. list.items) lists.now)) [])) }
+        (put_lists (map (λ list. list.items) lists.now) [])) }
 {
     for list in 0..lists.len() {
-        put_entries(lists, order, list, list >= clients)?;
+        put_entries(lists, order, list)?;
     }
     Ok(())
 }
 
-/// The lists of the clients, then those of the nodes.
-fn all_lists(alloc: Global, lists: Lists) -> Result<Vec<Vec<(u64, Entry)>>, NoMemory>
+/// The lists as plain ones.
+fn all_lists(alloc: Global, lists: ClientLists) -> Result<Vec<Vec<(u64, Entry)>>, NoMemory>
     ensures { IfOk result (λ all. map (λ list. list.items) all.items
-        ≡ map (λ list. list.entries) lists.clients ++ lists.nodes) }
+        ≡ map (λ list. list.entries) lists) }
 {
-    let mut all = Vec::new(alloc);
-    for list in lists.clients.into_vec() {
-        all.push(list.into_vec())?;
-    }
-    for list in lists.nodes.into_vec() {
+    let mut all = Vec::with_capacity(alloc, lists.as_slice().len())?;
+    for list in lists.into_vec() {
         all.push(list.into_vec())?;
     }
     Ok(all)
@@ -148,16 +126,17 @@ fn places_of(lists: &[Vec<(u64, Entry)>]) -> usize {
     places
 }
 
-/// The whole log of a run, from the lists of all its actors: each place once, in order. It takes
-/// time linear in the entries, and moves none of them.
-pub fn merge(alloc: Global, lists: Lists) -> Result<Log, NoMemory>
-    requires { (clock : ℕ) × AreOneLog lists.nodes lists.clients clock }
-    ensures { (clock : ℕ) (one : AreOneLog lists.nodes lists.clients clock)
-        → IfOk result (λ log. log ≡ placed_from 0 one.log) }
+/// The whole log of a run, from the lists of its clients and coordinators: each place once, in
+/// order. The nodes' lists tell no more, since a client or a coordinator made each entry of them.
+/// It takes time linear in the entries, and moves none of them.
+pub fn merge(alloc: Global, lists: ClientLists) -> Result<Log, NoMemory>
+    requires { (nodes : List (List (ℕ × Step))) × (clock : ℕ) × AreOneLog nodes lists clock
+        × HaveCallers nodes }
+    ensures { (nodes : List (List (ℕ × Step))) (clock : ℕ) (one : AreOneLog nodes lists clock)
+        → HaveCallers nodes → IfOk result (λ log. log ≡ placed_from 0 one.log) }
 {
-    let clients = lists.clients.as_slice().len();
     let all = all_lists(alloc, lists)?;
     let mut order = Vec::with_capacity(alloc, places_of(&all))?;
-    put_all(&all, &mut order, clients)?;
+    put_all(&all, &mut order)?;
     Ok(Log::of_lists(all, order))
 }

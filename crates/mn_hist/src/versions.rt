@@ -55,7 +55,7 @@ pub fn versions_of(alloc: Global, store: &Store) -> Result<VersionLines, NoMemor
     ensures { IfOk result (λ lines. lines ≡ versions_told store.now) }
 {
     let listing = store.listing(alloc)?;
-    let mut lines = Vec::new(alloc);
+    let mut lines = Vec::with_capacity(alloc, listing.as_slice().len())?;
     for (at, version) in listing.as_slice().iter().enumerate() {
         lines.push(version_line(alloc, store, version_at(at)?, version)?)?;
     }

@@ -1,5 +1,6 @@
-//! Two threads call two nodes, and the lists of all actors are merged.
-ghost use Rattle.std.specs.Prelude.{◌≡◌, ◌≢◌, ◌∷◌, [], Some, None, false, length, IfOk, IfSome};
+//! Two threads call two nodes, and the lists of both clients are merged.
+ghost use Rattle.std.specs.Prelude.{◌≡◌, ◌≢◌, ◌∷◌, [], ℕ, List, Some, None, false, length, IfOk};
+ghost use Rattle.std.specs.Prelude.{IfSome};
 ghost use Rattle.std.specs.List.{AllByRecursion};
 ghost use Rattle.mn_redo.specs.declared.redo.Phase.TheVariants.{Closing};
 ghost use Rattle.mn_actors.specs.declared.actor.Actor.{Actor as Who};
@@ -8,23 +9,24 @@ ghost use Rattle.mn_actors.specs.Lines.{IsActor, client_at, node_at};
 ghost use Rattle.mn_actors.specs.Lists.{held, OwnsAll};
 ghost use Rattle.mn_actors.specs.Sight.{board_of, clients_of, id_of, nodes_of, view_of};
 ghost use Rattle.mn_node.specs.State.{HoldsPartsApart};
+ghost use Rattle.mn_world.specs.declared.entry.Entry.{Entry as Step};
 ghost use Rattle.mn_world.specs.Protocol.{Start, start_of};
 ghost use Rattle.mn_world.specs.Run.{IsLogOfRun, entries_of};
 ghost use Rattle.mn_cell.specs.Calls.{numbered};
 ghost use Rattle.mn_cell.specs.Passes.{OwnsJust};
 ghost use Rattle.mn_cell.specs.Runs.{ArePartsOfRun, IsIssueOf};
-ghost use Rattle.mn_cell.specs.Station.{IsNodeAtStart};
+ghost use Rattle.mn_cell.specs.Station.{HasCaller, IsNodeAtStart};
 
 use mn_actors::{Actor, Board, Pass};
 use mn_base::{ClientNo, NodeNo};
 use mn_cell::{Cell, Named, Refused, parts_make_run};
-use mn_hist::{ClientLists, Lists, NodeLists, merge};
+use mn_hist::{ClientLists, merge};
 use mn_io::{Bytes, Calls, Disk};
 use mn_memdisk::MemoryDisk;
 use mn_mini::Request;
 use mn_node::Node;
 use mn_redo::Redo;
-use mn_world::{ClientList, CoreLaw, EntryList, Log};
+use mn_world::{ClientList, CoreLaw, Log};
 use std::alloc::Global;
 use std::marker::Brand;
 use std::process::Abort;
@@ -203,14 +205,15 @@ fn finish(
     alloc: Global,
     board: Board<CoreLaw>,
     all: Pass<CoreLaw>,
-    nodes: (EntryList, EntryList),
     clients: (ClientList, ClientList),
 ) -> Option<(Told, Log)>
     requires board { board_of all ≡ id_of board }
     requires size { (nodes_of board ≡ 2) × (clients_of board ≡ 2) }
     requires all { OwnsAll 2 2 (view_of all) }
-    requires nodes { (held (view_of all) (node_at 0) ≡ Some nodes.0)
-        × (held (view_of all) (node_at 1) ≡ Some nodes.1) }
+    requires node { (list : List (ℕ × Step)) × (held (view_of all) (node_at 0) ≡ Some list)
+        × AllByRecursion HasCaller (entries_of list) }
+    requires other_node { (list : List (ℕ × Step)) × (held (view_of all) (node_at 1) ≡ Some list)
+        × AllByRecursion HasCaller (entries_of list) }
     requires clients { (held (view_of all) (client_at 0) ≡ Some clients.0.entries)
         × (held (view_of all) (client_at 1) ≡ Some clients.1.entries) }
     ensures run { (start : Start) → ArePartsOfRun start 2 2 (held (view_of all))
@@ -220,20 +223,12 @@ fn finish(
     let mut all = all;
     let reached = board.hear(&mut all, 200);
     let beyond = board.hear(&mut all, 201);
-    let nodes = match Vec::from_array(alloc, [nodes.0, nodes.1]) {
-        Ok(nodes) => nodes,
-        Err(_) => return None,
-    };
     let clients = match Vec::from_array(alloc, [clients.0, clients.1]) {
         Ok(clients) => clients,
         Err(_) => return None,
     };
-    let lists = Lists {
-        nodes: NodeLists::from_vec(nodes),
-        clients: ClientLists::from_vec(clients),
-    };
     let clock = board.close(all);
-    let log = match merge(alloc, lists) {
+    let log = match merge(alloc, ClientLists::from_vec(clients)) {
         Ok(log) => log,
         Err(_) => return None,
     };
@@ -279,7 +274,7 @@ fn meet<N: Named + Send + Sync, D: Disk + Send, T: Threads + Wait + Sync>(
     let other_cell = match Cell::<N, D, 1>::new(alloc, second, other_node) {
         Ok(cell) => cell,
         Err(Refused { node, pass: _ }) => {
-            let (first, _list, _pass) = cell.into_parts();
+            let (first, _pass) = cell.into_parts();
             return (None, (first, node));
         }
     };
@@ -290,8 +285,8 @@ fn meet<N: Named + Send + Sync, D: Disk + Send, T: Threads + Wait + Sync>(
         (&cell, &other_cell),
         (client, other_client),
     );
-    let (first, list, node) = cell.into_parts();
-    let (second, other_list, other_node) = other_cell.into_parts();
+    let (first, node) = cell.into_parts();
+    let (second, other_node) = other_cell.into_parts();
     let all = gather(
         &board,
         Dealt {
@@ -301,7 +296,7 @@ fn meet<N: Named + Send + Sync, D: Disk + Send, T: Threads + Wait + Sync>(
             other_client: right.0,
         },
     );
-    let ended = finish(alloc, board, all, (list, other_list), (left.1, right.1));
+    let ended = finish(alloc, board, all, (left.1, right.1));
     (ended, (first, second))
 }
 

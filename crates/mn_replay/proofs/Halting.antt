@@ -9,7 +9,7 @@ use Rattle.mn_base.specs.declared.ids.Tid.{Tid}
 use Rattle.mn_cell.specs.Calls.{entry_at}
 use Rattle.mn_cell.specs.Runs.{IsIssueOf}
 use Rattle.mn_cell.specs.Station.{StationState}
-use Rattle.mn_cell.proofs.Owing.{newest_entry}
+use Rattle.mn_cell.proofs.Owed.{newest_entry}
 use Rattle.mn_world.specs.declared.entry.Entry.{Entry}
 use Rattle.mn_world.specs.declared.entry.What.{What}
 use Rattle.mn_world.specs.declared.entry.What.TheVariants.{Stopped, Restarted}

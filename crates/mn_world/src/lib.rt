@@ -29,5 +29,5 @@ pub use laws::{
     undisturbed_is_sure, unkept_is_never, up_is_sure, writes_leave_store, writes_leave_versions,
     yes_has_votes,
 };
-pub use lists::{ClientList, EntryList};
+pub use lists::ClientList;
 pub use log::{Log, Spot};

@@ -9,42 +9,6 @@ use std::marker::Model;
 /// How many entries a list may have room for.
 const LONGEST: usize = 1 << 57;
 
-/// The entries of one node with their places, in order. Contracts see them as a list.
-#[derive(Debug, Drop)]
-pub struct EntryList {
-    entries: Vec<(u64, Entry)>,
-}
-
-impl Model for EntryList {
-    ghost use Rattle.std.specs.Prelude.{ℕ, List};
-    ghost use Rattle.mn_world.specs.declared.entry.Entry.{Entry};
-
-    ghost Value = { List (ℕ × Entry) };
-
-    ghost view = { λ l. l.entries.items };
-}
-
-impl EntryList {
-    /// It takes no memory.
-    pub fn from_vec(entries: Vec<(u64, Entry)>) -> Self
-        ensures { result ≡ entries.items }
-    {
-        EntryList { entries }
-    }
-
-    pub fn into_vec(self) -> Vec<(u64, Entry)>
-        ensures { result.items ≡ self }
-    {
-        self.entries
-    }
-
-    pub fn as_slice(&self) -> &[(u64, Entry)]
-        ensures { result.now ≡ self.now }
-    {
-        &self.entries
-    }
-}
-
 /// The entries of one client with their places, in order. Contracts see them as a list, beside the
 /// client's number and the number of further entries for which there is room.
 #[derive(Debug, Drop)]

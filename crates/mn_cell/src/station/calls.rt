@@ -17,106 +17,65 @@ ghost use Rattle.mn_world.specs.Run.{IsLegalBy, entries_of};
 ghost use Rattle.mn_cell.specs.Calls.{EndsBoth, HasLengths, IsLarge, IsLegalLine, IsUndamaged};
 ghost use Rattle.mn_cell.specs.Calls.{ObeysStop, MaySend, entry_at, lengths_by, what_said};
 ghost use Rattle.mn_cell.specs.Passes.{AreOfOneLog, IsSameView, OwnsJust};
-ghost use Rattle.mn_cell.specs.Promises.{HasRoomForStep, IsOwed, IsOwedAt, decided_by, decided_in};
-ghost use Rattle.mn_cell.specs.Station.{IsAsBefore, RoseBy, unasked};
+ghost use Rattle.mn_cell.specs.Promises.{HasRoomForStep, IsOwedAt, IsOwing, OwesTo, decided_by};
+ghost use Rattle.mn_cell.specs.Promises.{decided_in};
+ghost use Rattle.mn_cell.specs.Station.{IsAsBefore, RoseBy, list_in, unasked};
 
 use super::Station;
 use crate::add::{add, compare};
 use crate::copies::{Blanks, blanks_for, copy_of, what_of};
 use crate::named::Named;
-use crate::node_list::{NodeList, decided_id};
+use crate::owing::{Owing, decided_id};
 use mn_actors::{Board, Pass};
-use mn_base::{ClientNo, NoMemory, NodeNo, StopAt, Tid, TryCopy};
+use mn_base::{ClientNo, NoMemory, NodeNo, StopAt, Tid};
 use mn_io::Disk;
 use mn_mini::{NodeReply, Request};
 use mn_node::RestartError;
 use mn_world::{ClientList, CoreLaw, Entry, What};
 use std::alloc::Global;
 
-/// What a call takes before the node is asked: a second request, and room for two copies of what is
-/// read, if the request may add a record.
-#[derive(Drop)]
-struct Spare {
-    request: Request,
-    first: Option<Blanks>,
-    second: Option<Blanks>,
-}
-
-/// A second request, and room for two copies of what it may read, if it may add a record. NoMemory
-/// never comes for a Decide.
-#[inline(always)]
-fn spare_of(alloc: Global, request: &Request) -> Result<Spare, NoMemory>
-    ensures request { IfOk result (λ spare. spare.request ≡ request.now) }
-    ensures first { IfOk result (λ spare. spare.first ≡ lengths_by request.now) }
-    ensures second { IfOk result (λ spare. spare.second ≡ lengths_by request.now) }
-    ensures failed { OnErr result (decided_by request.now ≡ None) }
-{
-    match request {
-        Request::Decide { tid, yes } => Ok(Spare {
-            request: Request::Decide {
-                tid: *tid,
-                yes: *yes,
-            },
-            first: None,
-            second: None,
-        }),
-        _ => Ok(Spare {
-            request: request.try_copy(alloc)?,
-            first: blanks_for(alloc, request)?,
-            second: blanks_for(alloc, request)?,
-        }),
-    }
-}
-
-/// Makes room in both lists for a step of the client, which may decide an id. NoMemory: there is
-/// none. It never comes for a decision that is owed, where the client's list has room.
-fn make_room(
-    own: &mut NodeList,
-    list: &mut ClientList,
-    decided: Option<Tid>,
-) -> Result<(), NoMemory>
-    ensures place { OnOk result (HasRoomForStep own.new (Some list.old.client) decided) }
-    ensures short { OnOk result ((length own.new.entries < 2 ^ 58)
-        × (length list.new.entries < 2 ^ 58)) }
+/// Makes room in the caller's list for a step of it, which may decide an id, and for the decision
+/// that the step may owe the node's. NoMemory: there is none. It never comes for a decision that is
+/// owed, where the caller's list has room.
+fn make_room(owing: &mut Owing, list: &mut ClientList, decided: Option<Tid>) -> Result<(), NoMemory>
+    ensures place { OnOk result (HasRoomForStep owing.new (Some list.old.client) decided) }
+    ensures short { OnOk result ((owing.new.size < 2 ^ 58) × (length list.new.entries < 2 ^ 58)) }
     ensures room { OnOk result (0 < list.new.room) }
-    ensures owed { OnErr result (IsOwed (Some list.old.client) decided (entries_of own.old.entries)
+    ensures owed { OnErr result (OwesTo (Some list.old.client) decided owing.old.owed
         → 0 < list.old.room → ⊥) }
-    ensures own { own.new.entries ≡ own.old.entries }
+    ensures owing { (owing.new.size ≡ owing.old.size) × (owing.new.owed ≡ owing.old.owed) }
     ensures client { list.new.client ≡ list.old.client }
     ensures entries { list.new.entries ≡ list.old.entries }
     ensures no_less { list.old.room ≤ list.new.room }
 {
     list.reserve(1)?;
-    own.make_place(list.client(), decided)
+    owing.make_place(list.client(), decided)
 }
 
-/// Takes all that a call needs: room in both lists, a second request, and room for what is read, if
-/// the request may add a record. NoMemory never comes for a decision that is owed, where the
-/// client's list has room.
+/// Takes all that a call needs: room for its entry, and for a copy of what is read, if the request
+/// may add a record. NoMemory never comes for a decision that is owed, where the caller's list has
+/// room.
 #[inline(always)]
 fn prepare(
     alloc: Global,
-    own: &mut NodeList,
+    owing: &mut Owing,
     list: &mut ClientList,
     request: &Request,
-) -> Result<Spare, NoMemory>
-    ensures request { IfOk result (λ spare. spare.request ≡ request.now) }
-    ensures first { IfOk result (λ spare. spare.first ≡ lengths_by request.now) }
-    ensures second { IfOk result (λ spare. spare.second ≡ lengths_by request.now) }
-    ensures place { OnOk result (HasRoomForStep own.new (Some list.old.client)
+) -> Result<Option<Blanks>, NoMemory>
+    ensures blanks { IfOk result (λ blanks. blanks ≡ lengths_by request.now) }
+    ensures place { OnOk result (HasRoomForStep owing.new (Some list.old.client)
         (decided_by request.now)) }
-    ensures short { OnOk result ((length own.new.entries < 2 ^ 58)
-        × (length list.new.entries < 2 ^ 58)) }
+    ensures short { OnOk result ((owing.new.size < 2 ^ 58) × (length list.new.entries < 2 ^ 58)) }
     ensures room { OnOk result (0 < list.new.room) }
-    ensures owed { OnErr result (IsOwed (Some list.old.client) (decided_by request.now)
-        (entries_of own.old.entries) → 0 < list.old.room → ⊥) }
-    ensures own { own.new.entries ≡ own.old.entries }
+    ensures owed { OnErr result (OwesTo (Some list.old.client) (decided_by request.now)
+        owing.old.owed → 0 < list.old.room → ⊥) }
+    ensures owing { (owing.new.size ≡ owing.old.size) × (owing.new.owed ≡ owing.old.owed) }
     ensures client { list.new.client ≡ list.old.client }
     ensures entries { list.new.entries ≡ list.old.entries }
     ensures no_less { list.old.room ≤ list.new.room }
 {
-    make_room(own, list, decided_id(request))?;
-    spare_of(alloc, request)
+    make_room(owing, list, decided_id(request))?;
+    blanks_for(alloc, request)
 }
 
 /// Whether the reply is one of an entry: want of memory is none.
@@ -177,46 +136,42 @@ fn restart_entry(number: NodeNo, client: ClientNo, kept: bool) -> Entry
     }
 }
 
-/// Adds an entry, which is there twice, and puts it at the end of both lists. `own` is the node's
-/// pass, which comes back. It is a call of its own, so that entries go whole from their making to
-/// their lists.
-#[inline(never)]
+/// Adds an entry, and puts it at the end of the client's list. `own` is the node's pass, which comes
+/// back.
+#[inline(always)]
 fn enter(
     board: &Board<CoreLaw>,
     own: Pass<CoreLaw>,
-    node_list: &mut NodeList,
+    owing: &mut Owing,
     number: NodeNo,
     pass: &mut Pass<CoreLaw>,
     list: &mut ClientList,
-    first: Entry,
-    second: Entry,
+    entry: Entry,
 ) -> Pass<CoreLaw>
     requires board { (board_of own ≡ id_of board.now) × (board_of pass.old ≡ id_of board.now) }
     requires owns { OwnsJust (view_of own) (AtNode number)
         × OwnsJust (view_of pass.old) (Client list.old.client) }
-    requires lists { (held (view_of own) (AtNode number) ≡ Some node_list.old.entries)
-        × (held (view_of pass.old) (Client list.old.client) ≡ Some list.old.entries) }
-    requires same { second ≡ first }
-    requires actors { (first.node ≡ Some number) × (first.client ≡ Some list.old.client) }
-    requires legal { IsLegalBy (entries_of list.old.entries) first }
-    requires place { HasRoomForStep node_list.old (Some list.old.client)
-        (decided_in first.what) }
-    requires short { (length node_list.old.entries < 2 ^ 58) × (length list.old.entries < 2 ^ 58) }
+    requires list { held (view_of pass.old) (Client list.old.client) ≡ Some list.old.entries }
+    requires actors { (entry.node ≡ Some number) × (entry.client ≡ Some list.old.client) }
+    requires legal { IsLegalBy (entries_of list.old.entries) entry }
+    requires owing { IsOwing (list_in number own) owing.old.size owing.old.owed }
+    requires place { HasRoomForStep owing.old (Some list.old.client) (decided_in entry.what) }
+    requires short { (owing.old.size < 2 ^ 58) × (length list.old.entries < 2 ^ 58) }
     requires room { 0 < list.old.room }
     ensures board { (board_of result ≡ id_of board.now) × (board_of pass.new ≡ id_of board.now) }
     ensures owns { OwnsJust (view_of result) (AtNode number)
         × OwnsJust (view_of pass.new) (Client list.old.client) }
-    ensures lists { (held (view_of result) (AtNode number) ≡ Some node_list.new.entries)
-        × (held (view_of pass.new) (Client list.old.client) ≡ Some list.new.entries) }
+    ensures list { held (view_of pass.new) (Client list.old.client) ≡ Some list.new.entries }
     ensures ends { EndsBoth (view_of pass.old).known (view_of result).known
-        (view_of pass.new).known first node_list.old.entries node_list.new.entries
+        (view_of pass.new).known entry (list_in number own) (list_in number result)
         list.old.entries list.new.entries }
+    ensures owing { IsOwing (list_in number result) owing.new.size owing.new.owed }
     ensures client { list.new.client ≡ list.old.client }
     ensures room { list.old.room ≤ list.new.room + 1 }
 {
-    let (own, place) = add(board, own, pass, &first, number, list.client());
-    node_list.push(place, first);
-    list.push(place, second);
+    let (own, place) = add(board, own, pass, &entry, number, list.client());
+    owing.add(&entry);
+    list.push(place, entry);
     own
 }
 
@@ -290,7 +245,7 @@ impl<N: Named, D: Disk> Station<N, D> {
     {
         let client = list.client();
         let _down = self.node.is_down();
-        let Ok(spare) = prepare(alloc, &mut self.list, list, &request) else {
+        let Ok(blanks) = prepare(alloc, &mut self.owing, list, &request) else {
             self.compare(board, pass, client);
             return NodeReply::NoMemory;
         };
@@ -299,35 +254,14 @@ impl<N: Named, D: Disk> Station<N, D> {
             return NodeReply::NoMemory;
         }
         let number = self.number;
-        let one = call_entry(alloc, number, client, request, stop, &reply, spare.first);
-        let Ok(first) = one else {
-            return NodeReply::NoMemory;
-        };
-        let two = call_entry(
-            alloc,
-            number,
-            client,
-            spare.request,
-            stop,
-            &reply,
-            spare.second,
-        );
-        let Ok(second) = two else {
+        let made = call_entry(alloc, number, client, request, stop, &reply, blanks);
+        let Ok(entry) = made else {
             return NodeReply::NoMemory;
         };
         let Some(own) = self.pass.take() else {
             unreachable!()
         };
-        let own = enter(
-            board,
-            own,
-            &mut self.list,
-            number,
-            pass,
-            list,
-            first,
-            second,
-        );
+        let own = enter(board, own, &mut self.owing, number, pass, list, entry);
         self.pass = Some(own);
         reply
     }
@@ -366,23 +300,14 @@ impl<N: Named, D: Disk> Station<N, D> {
         if self.node.is_down() {
             return Ok(false);
         }
-        make_room(&mut self.list, list, None)?;
+        make_room(&mut self.owing, list, None)?;
         self.node.halt();
         let Some(own) = self.pass.take() else {
             unreachable!()
         };
-        let first = stop_entry(self.number, list.client());
-        let second = stop_entry(self.number, list.client());
-        let own = enter(
-            board,
-            own,
-            &mut self.list,
-            self.number,
-            pass,
-            list,
-            first,
-            second,
-        );
+        let number = self.number;
+        let entry = stop_entry(number, list.client());
+        let own = enter(board, own, &mut self.owing, number, pass, list, entry);
         self.pass = Some(own);
         Ok(true)
     }
@@ -441,7 +366,7 @@ impl<N: Named, D: Disk> Station<N, D> {
         if !self.node.is_down() {
             return Ok(None);
         }
-        make_room(&mut self.list, list, None)?;
+        make_room(&mut self.owing, list, None)?;
         let kept = match self.node.restart(alloc) {
             Ok(kept) => kept,
             Err(error) => return Err(error),
@@ -449,18 +374,9 @@ impl<N: Named, D: Disk> Station<N, D> {
         let Some(own) = self.pass.take() else {
             unreachable!()
         };
-        let first = restart_entry(self.number, list.client(), kept);
-        let second = restart_entry(self.number, list.client(), kept);
-        let own = enter(
-            board,
-            own,
-            &mut self.list,
-            self.number,
-            pass,
-            list,
-            first,
-            second,
-        );
+        let number = self.number;
+        let entry = restart_entry(number, list.client(), kept);
+        let own = enter(board, own, &mut self.owing, number, pass, list, entry);
         self.pass = Some(own);
         Ok(Some(kept))
     }

@@ -24,7 +24,7 @@ use Rattle.mn_world.proofs.Meaning.Splits.{SameSplit, same_split, shorter_by}
 use Rattle.mn_world.proofs.Meaning.Prefixes.{follows_before}
 use Rattle.mn_world.proofs.Meaning.Effects.{read_call, no_plan_at_read}
 use Rattle.mn_world.proofs.Meaning.Positions.{client_split}
-use Rattle.mn_world.proofs.Meaning.Origins.{RepliedAt, Origin, by_plan, by_answer, Puts, nothing_new, read_new, plan_new, all_put, puts_of, origins, begun_as}
+use Rattle.mn_world.proofs.Meaning.Origins.{RepliedAt, Origin, by_plan, by_answer, Puts, nothing_new, read_new, plan_new, all_put, puts_of, origin_more, origins, begun_as}
 use Rattle.mn_world.proofs.Meaning.Once.{Differs, none_past}
 use Rattle.mn_world.proofs.Meaning.Between.{none_begun, read_low}
 use Rattle.mn_world.proofs.Meaning.Clients.{same_begun}
@@ -220,10 +220,6 @@ origin_low past q (by_plan a) =
 origin_low past q (by_answer r) =
     let low = read_low q.past.client r.answer.at.before q.past.op q.past.reply q.place r.read in
     let less = shorter_by past r.answer.at.later r.answer.at.entry r.answer.at.before r.answer.at.split in omega arith
-
-origin_more : (e : Entry) (past : List Entry) (q : Placed) → Origin past q → Origin (e ∷ past) q
-origin_more e past q (by_plan a) = by_plan (Rattle.mn_world.proofs.Meaning.Once.plan_more e past q.place q.past a)
-origin_more e past q (by_answer r) = by_answer (record { answer = Rattle.mn_world.proofs.Meaning.Once.answer_more e past q.past.client q.past.number (Rattle.mn_base.specs.declared.answer.Answer.TheVariants.Replied q.past.reply) r.answer; of = r.of; read = r.read })
 
 pub ascending : (start : Start) (past : List Entry) (placed : List Placed) → StartsSound start
     → FollowsProtocol start past → IsHistory past placed → Ascend placed

@@ -22,7 +22,7 @@ use Rattle.mn_world.proofs.Reading.Same.{client_same-refl, nat_eq-refl}
 use Rattle.mn_world.proofs.Reading.MakeRun.{runs_follow_protocol}
 use Rattle.mn_world.proofs.Meaning.Splits.{shorter_by}
 use Rattle.mn_world.proofs.Meaning.Positions.{AnswerAt, answered_once}
-use Rattle.mn_world.proofs.Meaning.Origins.{PlanAt, RepliedAt, Origin, by_plan, by_answer, Puts, nothing_new, read_new, plan_new, all_put, puts_of, origins}
+use Rattle.mn_world.proofs.Meaning.Origins.{PlanAt, plan_more, RepliedAt, Origin, by_plan, by_answer, Puts, nothing_new, read_new, plan_new, all_put, puts_of, origins}
 use Rattle.mn_world.proofs.Meaning.Plans.{PlanIn, plan_in, one_plan, given_up_none}
 use Rattle.mn_world.proofs.Meaning.Answered.{shown_answer, gives_up, plan_replied}
 
@@ -84,20 +84,6 @@ answer_as past p c number client is r = subst (λ (d : ClientNo). AnswerAt past 
 
 abbrev pub answer_more : (e : Entry) (past : List Entry) (c : ClientNo) (number : ℕ) (answer : Answer) → AnswerAt past c number answer → AnswerAt (e ∷ past) c number answer
 answer_more e past c number answer a = record { at = record { entry = a.at.entry; later = e ∷ a.at.later; before = a.at.before; split = ap (λ (l : List Entry). e ∷ l) a.at.split; by = a.at.by }; answers = a.answers }
-
-abbrev pub plan_more : (e : Entry) (past : List Entry) (place : ℕ) (p : Past) → PlanAt past place p
-    → PlanAt (e ∷ past) place p
-plan_more e past place p a = record {
-  entry = a.entry;
-  later = e ∷ a.later;
-  before = a.before;
-  issued = a.issued;
-  split = ap (λ (l : List Entry). e ∷ l) a.split;
-  is_place = a.is_place;
-  commits = a.commits;
-  no_read = a.no_read;
-  plan = a.plan;
-}
 
 -- a plan that commits now is of an operation that stands nowhere yet
 new_plan : (start : Start) (past : List Entry) (e : Entry) → StartsSound start

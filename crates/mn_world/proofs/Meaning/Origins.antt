@@ -73,8 +73,9 @@ pub data Origin (past : List Entry) (p : Placed) : Type 0 where
 abbrev own_more : (e : Entry) (past : List Entry) (c : ClientNo) → OwnAt past c → OwnAt (e ∷ past) c
 own_more e past c at = record { entry = at.entry; later = e ∷ at.later; before = at.before; split = ap (λ (l : List Entry). e ∷ l) at.split; by = at.by }
 
-origin_more : (e : Entry) (past : List Entry) (p : Placed) → Origin past p → Origin (e ∷ past) p
-origin_more e past p (by_plan a) = by_plan (record {
+abbrev pub plan_more : (e : Entry) (past : List Entry) (place : ℕ) (p : Past) → PlanAt past place p
+    → PlanAt (e ∷ past) place p
+plan_more e past place p a = record {
   entry = a.entry;
   later = e ∷ a.later;
   before = a.before;
@@ -84,7 +85,10 @@ origin_more e past p (by_plan a) = by_plan (record {
   commits = a.commits;
   no_read = a.no_read;
   plan = a.plan;
-})
+}
+
+pub origin_more : (e : Entry) (past : List Entry) (p : Placed) → Origin past p → Origin (e ∷ past) p
+origin_more e past p (by_plan a) = by_plan (plan_more e past p.place p.past a)
 origin_more e past p (by_answer a) = by_answer (record { answer = record { at = own_more e past p.past.client a.answer.at; answers = a.answer.answers }; of = a.of; read = a.read })
 
 origins_more : (e : Entry) (past : List Entry) (ps : List Placed) → AllByRecursion (Origin past) ps

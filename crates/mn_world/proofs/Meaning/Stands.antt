@@ -39,10 +39,10 @@ use Rattle.mn_world.proofs.Meaning.Kept.{Known, some_store}
 use Rattle.mn_world.proofs.Meaning.Legal.{known_run, plan_acts}
 use Rattle.mn_world.proofs.Meaning.Clients.{Allowed, same_op, serial_of, issues_grow}
 use Rattle.mn_world.proofs.Meaning.Positions.{IssueAt, AnswerAt, allowed_at, older_own, answered_op, answered_once, issue_before_answer, behind_issue, ordered}
-use Rattle.mn_world.proofs.Meaning.Origins.{PlanAt, Origin, by_plan, by_answer, Puts, nothing_new, read_new, plan_new, puts_of, origins, issue_of, begun_as}
+use Rattle.mn_world.proofs.Meaning.Origins.{PlanAt, plan_more, Origin, by_plan, by_answer, Puts, nothing_new, read_new, plan_new, puts_of, origins, issue_of, begun_as}
 use Rattle.mn_world.proofs.Meaning.Plans.{plan_in}
 use Rattle.mn_world.proofs.Meaning.Answered.{plan_replied}
-use Rattle.mn_world.proofs.Meaning.Once.{answer_more, plan_more}
+use Rattle.mn_world.proofs.Meaning.Once.{answer_more}
 
 -- What stands in a list
 

@@ -33,7 +33,7 @@ loop-station-preserved g c =
       room = omega arith;
       numbers = made_before total left s numbers;
       owns = subst (λ (k : ℕ). OwnsNodes k (view_of c.join.new.into)) (sym len)
-          (owns_more (view_of c.loop-station.all) (view_of parts.result.2) (view_of c.join.new.into) s.number s.list (vec_len c.loop-station.nodes) old.owns number parts.ensures.pass c.join.ensures.view);
+          (owns_more (view_of c.loop-station.all) (view_of parts.result.1) (view_of c.join.new.into) s.number s.list (vec_len c.loop-station.nodes) old.owns number parts.ensures.pass c.join.ensures.view);
       callers = callers_then (view_of c.args.all.now) (view_of c.loop-station.all) (view_of c.join.new.into) old.callers
-          (same_callers (view_of c.loop-station.all) (view_of parts.result.2) (view_of c.join.new.into) s.number parts.ensures.owns c.join.ensures.view);
+          (same_callers (view_of c.loop-station.all) (view_of parts.result.1) (view_of c.join.new.into) s.number parts.ensures.owns c.join.ensures.view);
     }

@@ -1,8 +1,14 @@
-use Rattle.std.proofs.Common.{◌≡◌, ◌+◌, vec_len, length, ap, ◌∙◌, arith, refl}
+use Rattle.std.proofs.Common.{◌≡◌, ◌+◌, ℕ, List, Some, vec_len, length, ap, sym, subst, ◌∙◌, arith, refl}
 use Rattle.mn_actors.specs.Sight.{view_of}
+use Rattle.mn_world.specs.declared.entry.Entry.{Entry}
+use Rattle.mn_world.specs.Protocol.{start_of}
+use Rattle.mn_world.specs.Run.{entries_of}
+use Rattle.mn_cell.specs.Promises.{IsOwing}
+use Rattle.mn_cell.specs.Station.{HasMadeEntries, list_by}
 use Rattle.std.proofs.lemmas.List.{append-nil}
 use Rattle.mn_cell.proofs.Filled.{none_left}
 use Rattle.mn_cell.proofs.Heard.{all_stay, heard, heard_owns, joined_apart, last_numbered, last_stays, part_node, part_owns, pass_of, rest_known, rest_lists, rest_numbered, rest_one_log}
+use Rattle.mn_cell.proofs.Passed.{held_in, same_list}
 use Rattle.mn_cell.proofs.hearing.+hear_all.Goals as goal
 
 pub returns-in_default-clause-stations : goal.returns-in_default-clause-stations
@@ -23,7 +29,7 @@ hear_all-requires g t c κs within =
     let count : less ≡ length c.pop.new.self.items = omega arith in
     let more : long ≡ less + 1 = omega (arith, c.in-Some.ensures.cases) in
     let last = last_numbered c.args.stations.now.items c.pop.new.self.items c.in-Some.station n less items c.requires.numbers (ap (λ s. s.number) c.station.view_is) count in
-    let pass = pass_of g.N.Named.board n c.station.inside.list.entries c.station.inside.pass c.in-Some-pass.pass c.in-Some-pass.is c.station.invariant.0 in (
+    let pass = pass_of g.N.Named.board n (list_by n c.station.inside.pass) c.station.inside.pass c.in-Some-pass.pass c.in-Some-pass.is c.station.invariant.0 in (
       omega (arith, more),
       (
         within.0,
@@ -52,7 +58,7 @@ split-pass-requires-clause-owns g t c =
     let count : less ≡ length c.pop.new.self.items = omega arith in
     let more : long ≡ less + 1 = omega (arith, c.in-Some.ensures.cases) in
     let last = last_numbered c.args.stations.now.items c.pop.new.self.items c.in-Some.station n less items c.requires.numbers (ap (λ s. s.number) c.station.view_is) count in
-    let pass = pass_of g.N.Named.board n c.station.inside.list.entries c.station.inside.pass c.in-Some-pass.pass c.in-Some-pass.is c.station.invariant.0 in
+    let pass = pass_of g.N.Named.board n (list_by n c.station.inside.pass) c.station.inside.pass c.in-Some-pass.pass c.in-Some-pass.is c.station.invariant.0 in
     heard_owns n less long own old joined last more c.requires.apart pass.1 c.join.ensures.view (view_of c.hear_all.new.rest) c.hear_all.ensures.lists
 
 pub invariant_of-push_reserved : goal.invariant_of-push_reserved
@@ -67,13 +73,33 @@ invariant_of-push_reserved g t c =
     let count : less ≡ length c.pop.new.self.items = omega arith in
     let more : long ≡ less + 1 = omega (arith, c.in-Some.ensures.cases) in
     let last = last_numbered c.args.stations.now.items c.pop.new.self.items c.in-Some.station n less items c.requires.numbers (ap (λ s. s.number) c.station.view_is) count in
-    let pass = pass_of g.N.Named.board n c.station.inside.list.entries c.station.inside.pass c.in-Some-pass.pass c.in-Some-pass.is c.station.invariant.0 in
-    ((c.split-pass.ensures.board.1 ∙ c.hear_all.ensures.board, part_owns n less long own old joined last more c.requires.apart pass.1 c.join.ensures.view (view_of c.hear_all.new.rest) c.hear_all.ensures.lists (view_of c.split-pass.new.from) (view_of c.split-pass.result) c.split-pass.ensures.view, part_node n less long own old joined last more c.requires.apart pass.1 c.join.ensures.view (view_of c.hear_all.new.rest) c.hear_all.ensures.lists (view_of c.split-pass.new.from) (view_of c.split-pass.result) c.split-pass.ensures.view ∙ pass.2), c.station.invariant.1)
+    let pass = pass_of g.N.Named.board n (list_by n c.station.inside.pass) c.station.inside.pass c.in-Some-pass.pass c.in-Some-pass.is c.station.invariant.0 in
+    let owns = part_owns n less long own old joined last more c.requires.apart pass.1 c.join.ensures.view (view_of c.hear_all.new.rest) c.hear_all.ensures.lists (view_of c.split-pass.new.from) (view_of c.split-pass.result) c.split-pass.ensures.view in
+    let at = part_node n less long own old joined last more c.requires.apart pass.1 c.join.ensures.view (view_of c.hear_all.new.rest) c.hear_all.ensures.lists (view_of c.split-pass.new.from) (view_of c.split-pass.result) c.split-pass.ensures.view in
+    let list = same_list n c.station.inside.pass c.in-Some-pass.pass c.split-pass.result c.in-Some-pass.is at in
+    let kept = c.station.inside in (
+      (c.split-pass.ensures.board.1 ∙ c.hear_all.ensures.board, owns, held_in n c.split-pass.result owns.0),
+      subst (λ (l : List (ℕ × Entry)). IsOwing l kept.owing.size kept.owing.owed) list c.station.invariant.1,
+      subst (λ (l : List (ℕ × Entry)). HasMadeEntries g.D.Disk.state g.D.Disk.faults (start_of g.N.Named.records) n (g.N.Named.faults n.0) (g.N.Named.honest n.0) (entries_of l) kept.node) list c.station.invariant.2,
+    )
 
 pub returns-clause-stations : goal.returns-clause-stations
 returns-clause-stations g t c =
+    let n = c.station.inside.number in
+    let less = vec_len c.pop.new.self in
+    let long = vec_len c.args.stations.now in
+    let own = view_of c.in-Some-pass.pass in
+    let old = view_of c.args.rest.now in
+    let joined = view_of c.join.new.into in
+    let items = c.in-Some.ensures.items in
+    let count : less ≡ length c.pop.new.self.items = omega arith in
+    let more : long ≡ less + 1 = omega (arith, c.in-Some.ensures.cases) in
+    let last = last_numbered c.args.stations.now.items c.pop.new.self.items c.in-Some.station n less items c.requires.numbers (ap (λ s. s.number) c.station.view_is) count in
+    let pass = pass_of g.N.Named.board n (list_by n c.station.inside.pass) c.station.inside.pass c.in-Some-pass.pass c.in-Some-pass.is c.station.invariant.0 in
+    let at = part_node n less long own old joined last more c.requires.apart pass.1 c.join.ensures.view (view_of c.hear_all.new.rest) c.hear_all.ensures.lists (view_of c.split-pass.new.from) (view_of c.split-pass.result) c.split-pass.ensures.view in
+    let list = same_list n c.station.inside.pass c.in-Some-pass.pass c.split-pass.result c.in-Some-pass.is at in
     last_stays c.args.stations.now.items c.push_reserved.new.self.items c.pop.new.self.items c.hear_all.new.stations.items c.in-Some.station _ c.in-Some.ensures.items c.push_reserved.ensures.items
-    (record { number = ap (λ s. s.number) c.station.view_is; node = ap (λ s. s.node) c.station.view_is; list = ap (λ s. s.list) c.station.view_is }) c.hear_all.ensures.stations
+    (record { number = ap (λ s. s.number) c.station.view_is; node = ap (λ s. s.node) c.station.view_is; list = sym list ∙ ap (λ s. s.list) c.station.view_is }) c.hear_all.ensures.stations
 
 pub returns-clause-lists : goal.returns-clause-lists
 returns-clause-lists g t c =
@@ -87,7 +113,7 @@ returns-clause-lists g t c =
     let count : less ≡ length c.pop.new.self.items = omega arith in
     let more : long ≡ less + 1 = omega (arith, c.in-Some.ensures.cases) in
     let last = last_numbered c.args.stations.now.items c.pop.new.self.items c.in-Some.station n less items c.requires.numbers (ap (λ s. s.number) c.station.view_is) count in
-    let pass = pass_of g.N.Named.board n c.station.inside.list.entries c.station.inside.pass c.in-Some-pass.pass c.in-Some-pass.is c.station.invariant.0 in
+    let pass = pass_of g.N.Named.board n (list_by n c.station.inside.pass) c.station.inside.pass c.in-Some-pass.pass c.in-Some-pass.is c.station.invariant.0 in
     rest_lists n less long own old joined last more c.requires.apart pass.1 c.join.ensures.view (view_of c.hear_all.new.rest) c.hear_all.ensures.lists (view_of c.split-pass.new.from) (view_of c.split-pass.result) c.split-pass.ensures.view
 
 pub returns-clause-known : goal.returns-clause-known
@@ -102,7 +128,7 @@ returns-clause-known g t c =
     let count : less ≡ length c.pop.new.self.items = omega arith in
     let more : long ≡ less + 1 = omega (arith, c.in-Some.ensures.cases) in
     let last = last_numbered c.args.stations.now.items c.pop.new.self.items c.in-Some.station n less items c.requires.numbers (ap (λ s. s.number) c.station.view_is) count in
-    let pass = pass_of g.N.Named.board n c.station.inside.list.entries c.station.inside.pass c.in-Some-pass.pass c.in-Some-pass.is c.station.invariant.0 in
+    let pass = pass_of g.N.Named.board n (list_by n c.station.inside.pass) c.station.inside.pass c.in-Some-pass.pass c.in-Some-pass.is c.station.invariant.0 in
     rest_known n less long own old joined last more c.requires.apart pass.1 c.join.ensures.view (view_of c.hear_all.new.rest) c.hear_all.ensures.lists (view_of c.split-pass.new.from) (view_of c.split-pass.result) c.split-pass.ensures.view c.hear_all.ensures.known
 
 pub returns-clause-one_log : goal.returns-clause-one_log
@@ -117,5 +143,7 @@ returns-clause-one_log g t c =
     let count : less ≡ length c.pop.new.self.items = omega arith in
     let more : long ≡ less + 1 = omega (arith, c.in-Some.ensures.cases) in
     let last = last_numbered c.args.stations.now.items c.pop.new.self.items c.in-Some.station n less items c.requires.numbers (ap (λ s. s.number) c.station.view_is) count in
-    let pass = pass_of g.N.Named.board n c.station.inside.list.entries c.station.inside.pass c.in-Some-pass.pass c.in-Some-pass.is c.station.invariant.0 in
-    rest_one_log n less long own old joined last more c.requires.apart pass.1 c.join.ensures.view (view_of c.hear_all.new.rest) c.hear_all.ensures.lists (view_of c.split-pass.new.from) (view_of c.split-pass.result) c.split-pass.ensures.view c.hear_all.new.stations.items c.push_reserved.new.self.items _ c.push_reserved.ensures.items refl pass.2 c.hear_all.ensures.one_log
+    let pass = pass_of g.N.Named.board n (list_by n c.station.inside.pass) c.station.inside.pass c.in-Some-pass.pass c.in-Some-pass.is c.station.invariant.0 in
+    let at = part_node n less long own old joined last more c.requires.apart pass.1 c.join.ensures.view (view_of c.hear_all.new.rest) c.hear_all.ensures.lists (view_of c.split-pass.new.from) (view_of c.split-pass.result) c.split-pass.ensures.view in
+    let list = same_list n c.station.inside.pass c.in-Some-pass.pass c.split-pass.result c.in-Some-pass.is at in
+    rest_one_log n less long own old joined last more c.requires.apart pass.1 c.join.ensures.view (view_of c.hear_all.new.rest) c.hear_all.ensures.lists (view_of c.split-pass.new.from) (view_of c.split-pass.result) c.split-pass.ensures.view c.hear_all.new.stations.items c.push_reserved.new.self.items _ c.push_reserved.ensures.items refl (pass.2 ∙ ap (λ (l : List (ℕ × Entry)). Some l) list) c.hear_all.ensures.one_log

@@ -17,9 +17,9 @@ pub returns-in_default-clause-failed : goal.returns-in_default-clause-failed
 returns-in_default-clause-failed g c =
     c.without_log.ensures c.args.nodes.items refl [] (not_begun g.D.Disk.state g.D.Disk.faults c.args.script.now.nodes c.args.nodes.items c.requires.nodes)
 
-pub returns-in_default-new-clause-failed : goal.returns-in_default-new-clause-failed
-returns-in_default-new-clause-failed g c =
-    c.without_log-in_default-new.ensures c.args.nodes.items refl [] (not_begun g.D.Disk.state g.D.Disk.faults c.args.script.now.nodes c.args.nodes.items c.requires.nodes)
+pub returns-in_default-room_for_lists-clause-failed : goal.returns-in_default-room_for_lists-clause-failed
+returns-in_default-room_for_lists-clause-failed g c =
+    c.without_log-in_default-room_for_lists.ensures c.args.nodes.items refl [] (not_begun g.D.Disk.state g.D.Disk.faults c.args.script.now.nodes c.args.nodes.items c.requires.nodes)
 
 pub stations_of-requires-clause-empty : goal.stations_of-requires-clause-empty
 stations_of-requires-clause-empty g c =

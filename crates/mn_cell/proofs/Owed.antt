@@ -1,5 +1,5 @@
 -- Decisions that are owed.
-use Rattle.std.proofs.Common.{◌≡◌, ℕ, ◌+◌, ◌<◌, ◌≤◌, ◌⊎◌, ◌-◌, ◌^◌, min, Bool, true, false, not, ◌&&◌, ◌||◌, Option, Some, None, List, [], ◌∷◌, ◌++◌, length, reverse, map, refl, ap, ◌∙◌, inl, inr, ⊎_elim, arith, length-append, if◌then◌else◌}
+use Rattle.std.proofs.Common.{◌≡◌, ℕ, ◌+◌, ◌<◌, ◌≤◌, ◌⊎◌, ◌^◌, Bool, true, false, not, ◌&&◌, ◌||◌, Option, Some, None, List, [], ◌∷◌, ◌++◌, length, reverse, map, refl, sym, ap, ◌∙◌, subst, inl, inr, ⊎_elim, arith, length-append, if◌then◌else◌}
 use Rattle.std.specs.List.{list_any}
 use Rattle.std.specs.Option.{option_map_or}
 use Rattle.std.proofs.lemmas.List.{reverse-append, map-append}
@@ -16,8 +16,8 @@ use Rattle.mn_world.specs.declared.entry.Entry.{Entry}
 use Rattle.mn_world.specs.declared.entry.What.{What}
 use Rattle.mn_world.specs.declared.entry.What.TheVariants.{Begin, Issue, Called, Stopped, Restarted, Abandoned, Answered}
 use Rattle.mn_world.specs.Run.{entries_of}
-use Rattle.mn_cell.specs.declared.node_list.Owed.{Owed}
-use Rattle.mn_cell.specs.Promises.{is_owed_to, owes, owed_without, is_owed, owed_after, is_id, voted_in, decided_in, voted_by, decided_by, OwesTo}
+use Rattle.mn_cell.specs.declared.owing.Owed.{Owed}
+use Rattle.mn_cell.specs.Promises.{is_owed_to, owes, owed_without, is_owed, owed_after, is_id, voted_in, decided_in, voted_by, decided_by, IsOwed, IsOwing, OwesTo}
 
 -- the newest entry of a list that grew
 pub newest_entry : (l : List (ℕ × Entry)) (p : ℕ) (e : Entry) → entries_of (l ++ (p, e) ∷ []) ≡ e ∷ entries_of l
@@ -128,8 +128,22 @@ OwedAreListed es os = (tid : Tid) (c : ClientNo) → is_owed tid c es ≡ true �
 pub covers : (e : Entry) (es : List Entry) (os : List Owed) → OwedAreListed es os → OwedAreListed (e ∷ es) (owed_after e.client (decided_in e.what) (voted_in e.what) os)
 covers e es os owed tid c is = after_step e.client (decided_in e.what) (voted_in e.what) (apart e.what) (is_owed tid c es) tid c os (owed tid c) is
 
+-- what is owed a list after one entry more
+pub owing_more : (list : List (ℕ × Entry)) (p : ℕ) (e : Entry) (size : ℕ) (os : List Owed) → IsOwing list size os → IsOwing (list ++ (p, e) ∷ []) (size + 1) (owed_after e.client (decided_in e.what) (voted_in e.what) os)
+owing_more list p e size os owing = record {
+  counted = ap (λ n. n + 1) owing.counted ∙ sym (length-append list ((p, e) ∷ []));
+  covered = λ tid c is. covers e (entries_of list) os owing.covered tid c (ap (λ (m : List Entry). is_owed tid c m) (sym (newest_entry list p e)) ∙ is);
+}
+
+pub owing_stays : (list : List (ℕ × Entry)) (size size' : ℕ) (os os' : List Owed) → IsOwing list size os → size' ≡ size → os' ≡ os → IsOwing list size' os'
+owing_stays list size size' os os' owing is same = subst (λ n. IsOwing list n os') (sym is) (subst (λ (o : List Owed). IsOwing list size o) (sym same) owing)
+
 -- the room after one entry more
-pub room_after : (size capacity count count' other : ℕ) (O : Type 0) → size + count ≤ capacity → size + count ≤ 2 ^ 57 → count' ≤ count + 1 → (O → count' < count)
-    → ((2 ≤ min capacity (2 ^ 57) - (size + count)) × (0 < other)) ⊎ O → (size + 1 + count' ≤ capacity) × (size + 1 + count' ≤ 2 ^ 57)
-room_after size capacity count count' other O there short more less (inl room) = (omega (arith, room.0), omega (arith, room.0))
-room_after size capacity count count' other O there short more less (inr o) = (omega (arith, less o), omega (arith, less o))
+pub room_after : (size count count' spare : ℕ) (O : Type 0) → size + count ≤ 2 ^ 57 → count' ≤ count + 1 → (O → count' < count) → ((size + count + 2 ≤ 2 ^ 57) × (0 < spare)) ⊎ O → size + 1 + count' ≤ 2 ^ 57
+room_after size count count' spare O short more less (inl room) = omega (arith, room.0)
+room_after size count count' spare O short more less (inr o) = omega (arith, less o)
+
+-- a decision that the list owes is among those that are kept
+pub owes_what_is_owed : (list : List (ℕ × Entry)) (size : ℕ) (os : List Owed) → IsOwing list size os → (c : ClientNo) (decided : Option Tid) → IsOwed (Some c) decided (entries_of list) → OwesTo (Some c) decided os
+owes_what_is_owed list size os owing c None owed = absurd owed
+owes_what_is_owed list size os owing c (Some tid) owed = owing.covered tid c owed

@@ -4,7 +4,7 @@ use Rattle.std.proofs.lemmas.Bool.Decides.{nat_tests}
 use Rattle.mn_hist.specs.declared.history.PlacedAct.{PlacedAct}
 use Rattle.mn_hist.proofs.Loops.{all_drop}
 use Rattle.mn_hist.proofs.Putting.{lower_ones}
-use Rattle.mn_hist.proofs.history.spot_for.Goals as goal
+use Rattle.mn_hist.proofs.history.index_for.Goals as goal
 
 back : (n : ℕ) → 0 < n → suc (n - 1) ≡ n
 back n lt = omega (arith, lt)
@@ -12,8 +12,8 @@ back n lt = omega (arith, lt)
 again : (n : ℕ) → 0 < n → n ≡ n - 1 + 1
 again n lt = omega (arith, lt)
 
-pub returns-then-before-place-2-clause-spot : goal.returns-then-before-place-2-clause-spot
-returns-then-before-place-2-clause-spot c = λ placed up are.
+pub returns-then-before-place-2-clause-index : goal.returns-then-before-place-2-clause-index
+returns-then-before-place-2-clause-index c = λ placed up are.
     let within = c.loop-at.invariant.within in
     let less : c.index-acts-at.result.place < c.args.place = grind (arith, nat_tests) in (
       subst (λ (n : ℕ). AllByRecursion (λ (a : PlacedAct). a.place < c.args.place) (take n c.args.acts.now)) (back c.loop-at.at c.loop-at-test.true)

@@ -1,26 +1,23 @@
-//! The list of a node, with room for the decisions that it is owed.
-ghost use Rattle.std.specs.Prelude.{◌≡◌, ◌≤◌, ◌<◌, ◌+◌, ◌^◌, ◌⊎◌, ◌++◌, ◌∷◌, [], length, Some};
+//! What is kept of a node's list, whose entries stand in the lists of their callers: how long it is,
+//! and the decisions that it is owed.
+ghost use Rattle.std.specs.Prelude.{◌≡◌, ◌≤◌, ◌<◌, ◌+◌, ◌^◌, ◌⊎◌, ◌++◌, ◌∷◌, [], ℕ, List, Some};
 ghost use Rattle.std.specs.Prelude.{true, false, IfOk, OnOk, OnErr, vec_len, vec_capacity};
-ghost use Rattle.mn_world.specs.Run.{entries_of};
-ghost use Rattle.mn_cell.specs.Promises.{HasRoomForStep, IsOwed, OwesTo, decided_by, decided_in};
+ghost use Rattle.mn_world.specs.declared.entry.Entry.{Entry as Step};
+ghost use Rattle.mn_cell.specs.Promises.{HasRoomForStep, IsOwing, OwesTo, decided_by, decided_in};
 ghost use Rattle.mn_cell.specs.Promises.{is_owed_to, owed_after, owes, voted_by, voted_in};
 ghost use Rattle.mn_cell.specs.Promises.{owed_without};
 
 use mn_base::{ClientNo, NoMemory, Tid};
-use mn_io::make_room;
 use mn_mini::{NodeReply, Request};
-use mn_world::{Entry, EntryList, What};
+use mn_world::{Entry, What};
 use std::alloc::Global;
 use std::marker::Model;
 
-/// How many entries a list may have room for.
+/// How many entries a list may have.
 const LONGEST: usize = 1 << 57;
 
-/// Room that a new list has at once.
-const FIRST_ROOM: usize = 64;
-
-/// For how many entries there is room at once, where there was too little.
-const ENTRIES_AT_ONCE: usize = 1 << 13;
+/// For how many decisions there is room at once.
+const FIRST_ROOM: usize = 8;
 
 /// A decision that a client will send, of an id whose vote it got.
 #[derive(Clone, Copy, Debug)]
@@ -29,29 +26,27 @@ pub struct Owed {
     pub client: ClientNo,
 }
 
-/// The entries of one node with their places. With each vote it keeps room for one decision of that
-/// id by that caller.
+/// How long the list of a node is, and the decisions that it is owed: with each vote one of that id
+/// by that caller. With all of them the list is as short as a log's may be.
 #[derive(Drop)]
-pub struct NodeList {
-    entries: Vec<(u64, Entry)>,
+pub struct Owing {
+    size: usize,
     owed: Vec<Owed>,
 }
 
-impl Model for NodeList {
-    ghost use Rattle.std.specs.Prelude.{◌-◌, ◌+◌, ◌^◌, min, vec_len, vec_capacity};
-    ghost use Rattle.mn_cell.specs.Promises.{NodeListState, IsNodeList};
+impl Model for Owing {
+    ghost use Rattle.std.specs.Prelude.{◌≤◌, ◌-◌, ◌+◌, ◌^◌, vec_len, vec_capacity};
+    ghost use Rattle.mn_cell.specs.Promises.{OwingState};
 
-    ghost Value = { NodeListState };
+    ghost Value = { OwingState };
 
-    ghost view = { λ l. record {
-      entries = l.entries.items;
-      owed = l.owed.items;
-      spare = min (vec_capacity l.entries) (2 ^ 57) - (vec_len l.entries + vec_len l.owed);
-      spare_owed = vec_capacity l.owed - vec_len l.owed;
+    ghost view = { λ o. record {
+      size = o.size;
+      owed = o.owed.items;
+      spare = vec_capacity o.owed - vec_len o.owed;
     } };
 
-    ghost invariant = { λ l. IsNodeList l.entries.items l.owed.items (vec_len l.entries)
-        (vec_capacity l.entries) (vec_len l.owed) };
+    ghost invariant = { λ o. o.size + vec_len o.owed ≤ 2 ^ 57 };
 }
 
 /// The two are one decision.
@@ -166,55 +161,46 @@ fn note(owed: &mut Vec<Owed>, client: Option<ClientNo>, what: &What)
     }
 }
 
-impl NodeList {
-    /// The empty list, with its first room. NoMemory: there was none.
-    pub fn new(alloc: Global) -> Result<NodeList, NoMemory>
-        ensures { IfOk result (λ list. list.entries ≡ []) }
+impl Owing {
+    /// An empty list, which is owed nothing. NoMemory: there was no room for decisions.
+    pub fn new(alloc: Global) -> Result<Owing, NoMemory>
+        ensures { IfOk result (λ owing. IsOwing [] owing.size owing.owed) }
     {
-        Ok(NodeList {
-            entries: Vec::with_capacity(alloc, FIRST_ROOM)?,
-            owed: Vec::new(alloc),
+        Ok(Owing {
+            size: 0,
+            owed: Vec::with_capacity(alloc, FIRST_ROOM)?,
         })
-    }
-
-    /// The entries.
-    pub fn into_list(self) -> EntryList
-        ensures { result ≡ self.entries }
-    {
-        EntryList::from_vec(self.entries)
     }
 
     /// Makes room for a step of the client, which may decide an id, and for the decision that the
     /// step may owe. NoMemory: there is none, or the list would be longer than a log may be. It
-    /// never comes for a decision that is owed. The entries are as before.
+    /// never comes for a decision that is owed.
     pub fn make_place(&mut self, client: ClientNo, decided: Option<Tid>) -> Result<(), NoMemory>
         ensures place { OnOk result (HasRoomForStep self.new (Some client) decided) }
-        ensures owed { OnErr result (IsOwed (Some client) decided (entries_of self.old.entries)
-            → ⊥) }
-        ensures entries { self.new.entries ≡ self.old.entries }
+        ensures owed { OnErr result (OwesTo (Some client) decided self.old.owed → ⊥) }
+        ensures size { self.new.size ≡ self.old.size }
         ensures kept { self.new.owed ≡ self.old.owed }
-        ensures short { length self.new.entries ≤ 2 ^ 57 }
+        ensures short { self.new.size ≤ 2 ^ 57 }
     {
         if is_owed(&self.owed, decided, client) {
             return Ok(());
         }
-        let size = self.entries.len();
         let count = self.owed.len();
-        if size >= LONGEST - 2 || count >= LONGEST - 2 - size {
+        if self.size >= LONGEST - 2 || count >= LONGEST - 2 - self.size {
             return Err(NoMemory);
         }
-        make_room(&mut self.entries, count + 2, ENTRIES_AT_ONCE)?;
         self.owed.reserve(1)?;
         Ok(())
     }
 
-    /// Puts an entry at the end. It takes no memory.
+    /// Notes an entry that ends the list. It takes no memory.
     #[inline(always)]
-    pub fn push(&mut self, place: u64, entry: Entry)
-        requires place { HasRoomForStep self.old entry.client (decided_in entry.what) }
-        ensures { self.new.entries ≡ self.old.entries ++ (place, entry) ∷ [] }
+    pub fn add(&mut self, entry: &Entry)
+        requires place { HasRoomForStep self.old entry.now.client (decided_in entry.now.what) }
+        ensures { (list : List (ℕ × Step)) (place : ℕ) → IsOwing list self.old.size self.old.owed
+            → IsOwing (list ++ (place, entry.now) ∷ []) self.new.size self.new.owed }
     {
         note(&mut self.owed, entry.client, &entry.what);
-        self.entries.push_reserved((place, entry));
+        self.size += 1;
     }
 }

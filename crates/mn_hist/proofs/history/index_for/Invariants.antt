@@ -1,6 +1,6 @@
 use Rattle.std.proofs.Common.{◌≤◌, ◌<◌, length, drop}
 use Rattle.std.specs.List.{AllByRecursion}
-use Rattle.mn_hist.proofs.history.spot_for.Given as goal
+use Rattle.mn_hist.proofs.history.index_for.Given as goal
 
 -- all behind have greater places
 abbrev pub invariant-loop-at : goal.invariant-loop-at
