@@ -79,7 +79,7 @@ fn reads(alloc: Global) -> Result<Minitransaction, Fail> {
         start: 64,
         length: 4_096,
     };
-    Ok(Minitransaction::new(alloc, 2, Items::one(alloc, item)?)?)
+    Ok(Minitransaction::new(alloc, 2, Items::one(item))?)
 }
 
 /// Asks for the vote of client 0's plan on a node.

@@ -1,4 +1,5 @@
 pub mod Outside
+pub mod Named
 pub mod Participants
 pub mod Apart
 pub mod Parts

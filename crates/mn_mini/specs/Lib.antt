@@ -1,4 +1,5 @@
 pub mod Mini
+pub mod Lone
 pub mod ReadBytes
 pub mod Reads
 pub mod Refusal

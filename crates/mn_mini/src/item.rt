@@ -6,6 +6,7 @@ use smallvec::SmallVec;
 use std::alloc::Global;
 use std::default::MadeWith;
 use std::marker::Model;
+use std::slice;
 use std::sync::Arc;
 
 /// How many items lie in a list itself: the plan of a put has three.
@@ -109,19 +110,37 @@ impl TryCopy for Item {
     }
 }
 
-/// Items in the order given. Copies share one memory. Contracts see them as a list.
+/// Where the items lie.
 #[derive(Debug, Drop)]
+enum Held {
+    /// A lone one lies in place, which takes no memory of its own.
+    Lone(Item),
+    /// Copies share one memory.
+    Shared(Arc<SmallVec<Item, ITEMS_IN_PLACE>>),
+}
+
+/// Items in the order given. Contracts see them as a list.
+#[derive(Debug)]
 pub struct Items {
-    items: Arc<SmallVec<Item, ITEMS_IN_PLACE>>,
+    held: Held,
+}
+
+/// They are let go by a call, which is proved once, and not in place wherever they go.
+impl Drop for Items {
+    fn drop(self) {
+        let Items { held } = self;
+        drop(held);
+    }
 }
 
 impl Model for Items {
     ghost use Rattle.std.specs.Prelude.{List};
     ghost use Rattle.mn_mini.specs.declared.item.Item.{Item};
+    ghost use Rattle.mn_mini.specs.Lone.{items_in};
 
     ghost Value = { List Item };
 
-    ghost view = { λ s. s.items.value.items };
+    ghost view = { λ s. items_in s.held };
 }
 
 impl Items {
@@ -132,13 +151,13 @@ impl Items {
         Items::new(alloc, SmallVec::from_vec(items))
     }
 
-    /// One item. NoMemory: there was no memory for it.
-    pub fn one(alloc: Global, item: Item) -> Result<Self, NoMemory>
-        ensures { IfOk result (λ list. list ≡ item ∷ []) }
+    /// One item. It takes no memory.
+    pub fn one(item: Item) -> Self
+        ensures { result ≡ item ∷ [] }
     {
-        let mut items = SmallVec::new(alloc);
-        items.push_reserved(item);
-        Items::new(alloc, items)
+        Items {
+            held: Held::Lone(item),
+        }
     }
 
     /// These items. NoMemory: there was no memory for them.
@@ -146,21 +165,27 @@ impl Items {
         ensures { IfOk result (λ list. list ≡ items.items) }
     {
         Ok(Items {
-            items: Arc::new(alloc, items)?,
+            held: Held::Shared(Arc::new(alloc, items)?),
         })
     }
 
     pub fn as_slice(&self) -> &[Item]
         ensures { result.now ≡ self.now }
     {
-        self.items.as_slice()
+        match &self.held {
+            Held::Lone(item) => slice::from_ref(item),
+            Held::Shared(items) => items.as_slice(),
+        }
     }
 }
 
 impl TryCopy for Items {
-    fn try_copy(&self, _alloc: Global) -> Result<Self, NoMemory> {
-        Ok(Items {
-            items: Arc::try_clone(&self.items)?,
-        })
+    fn try_copy(&self, alloc: Global) -> Result<Self, NoMemory> {
+        match &self.held {
+            Held::Lone(item) => Ok(Items::one(item.try_copy(alloc)?)),
+            Held::Shared(items) => Ok(Items {
+                held: Held::Shared(Arc::try_clone(items)?),
+            }),
+        }
     }
 }

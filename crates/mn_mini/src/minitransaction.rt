@@ -1,5 +1,5 @@
 ghost use Rattle.std.specs.Prelude.{◌≡◌, ◌++◌, ◌↔◌, IfOk, IfErr, OnOk, IsTrue, IfSome, IfNone};
-ghost use Rattle.std.specs.Prelude.{filter, length};
+ghost use Rattle.std.specs.Prelude.{◌<◌, Some, filter, length, slice_get};
 ghost use Rattle.std.specs.List.{AllByRecursion, flat_map};
 ghost use Rattle.mn_mini.specs.Mini.{IsSound, IsSoundItem, IsInSpace, is_named, is_read, part_of};
 ghost use Rattle.mn_mini.specs.Mini.{participants_of, compare_at, read_at, write_at, item_node};
@@ -19,6 +19,9 @@ pub const MAX_ITEMS: usize = 1_024;
 
 /// The most memory nodes.
 pub const MAX_NODES: u8 = 8;
+
+/// How many numbers of nodes there are.
+const NUMBERS: usize = 256;
 
 /// A minitransaction: 1 to 1,024 items, each at a range inside the space of a node, chosen before
 /// it starts, and the number of nodes that it was made for. Contracts see the items and that
@@ -79,11 +82,16 @@ fn first_outside(nodes: u8, items: &[Item]) -> Option<usize>
     None
 }
 
-/// Whether some item is at the node.
-fn is_named_by(items: &[Item], node: NodeNo) -> bool
-    ensures { result ≡ is_named items.now node }
+/// By the number of a node, whether some item is at it.
+fn named_by(items: &[Item]) -> [bool; NUMBERS]
+    ensures { (node : NodeNo) → node.0 < 256
+        → slice_get result node.0 ≡ Some (is_named items.now node) }
 {
-    items.iter().any(|item| item.node() == node)
+    let mut named = [false; NUMBERS];
+    for item in items {
+        named[usize::from(item.node().0)] = true;
+    }
+    named
 }
 
 /// The nodes, out of so many, that some item is at, in order.
@@ -92,9 +100,10 @@ fn participants_among(nodes: u8, items: &[Item]) -> Result<Nodes, NoMemory>
     ensures { IfOk result (λ participants. participants
         ≡ filter (is_named items.now) (node_numbers nodes)) }
 {
+    let named = named_by(items);
     let mut participants = Nodes::new();
     for number in 0..nodes {
-        if is_named_by(items, NodeNo(number)) {
+        if named[usize::from(number)] {
             participants.push(NodeNo(number))?;
         }
     }
@@ -250,6 +259,20 @@ impl Minitransaction {
         ensures { IfOk result (λ part. part ≡ part_of self.now node) }
     {
         let items = self.items.as_slice();
+        if let [
+            Item::Read {
+                node: at,
+                start,
+                length,
+            },
+        ] = items
+            && *at == node
+        {
+            return Ok(Part::one(PartItem::Read {
+                start: *start,
+                length: *length,
+            }));
+        }
         let mut part = SmallVec::with_capacity(alloc, count_at(items, node))?;
         push_compares(alloc, &mut part, items, node)?;
         push_reads(&mut part, items, node);

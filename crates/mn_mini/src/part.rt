@@ -1,4 +1,4 @@
-ghost use Rattle.std.specs.Prelude.{◌≡◌, IfOk};
+ghost use Rattle.std.specs.Prelude.{◌≡◌, ◌∷◌, [], IfOk};
 
 use crate::SharedBytes;
 use mn_base::{NoMemory, TryCopy};
@@ -6,6 +6,7 @@ use smallvec::SmallVec;
 use std::alloc::Global;
 use std::default::MadeWith;
 use std::marker::Model;
+use std::slice;
 use std::sync::Arc;
 
 /// How many items lie in a part itself: a put has three.
@@ -69,20 +70,38 @@ impl TryCopy for PartItem {
     }
 }
 
-/// A node's items: compares, then reads, then writes, each in the order given. Copies share one
-/// memory. Contracts see them as a list.
+/// Where the items lie.
 #[derive(Debug, Drop)]
+enum Held {
+    /// A lone one lies in place, which takes no memory of its own.
+    Lone(PartItem),
+    /// Copies share one memory.
+    Shared(Arc<SmallVec<PartItem, PART_IN_PLACE>>),
+}
+
+/// A node's items: compares, then reads, then writes, each in the order given. Contracts see them
+/// as a list.
+#[derive(Debug)]
 pub struct Part {
-    items: Arc<SmallVec<PartItem, PART_IN_PLACE>>,
+    held: Held,
+}
+
+/// It is let go by a call, which is proved once, and not in place wherever it goes.
+impl Drop for Part {
+    fn drop(self) {
+        let Part { held } = self;
+        drop(held);
+    }
 }
 
 impl Model for Part {
     ghost use Rattle.std.specs.Prelude.{List};
     ghost use Rattle.mn_mini.specs.declared.part.PartItem.{PartItem};
+    ghost use Rattle.mn_mini.specs.Lone.{part_items_in};
 
     ghost Value = { List PartItem };
 
-    ghost view = { λ p. p.items.value.items };
+    ghost view = { λ p. part_items_in p.held };
 }
 
 impl Part {
@@ -103,14 +122,26 @@ impl Part {
         ensures { IfOk result (λ part. part ≡ items.items) }
     {
         Ok(Part {
-            items: Arc::new(alloc, items)?,
+            held: Held::Shared(Arc::new(alloc, items)?),
         })
+    }
+
+    /// One item. It takes no memory.
+    pub(crate) fn one(item: PartItem) -> Self
+        ensures { result ≡ item ∷ [] }
+    {
+        Part {
+            held: Held::Lone(item),
+        }
     }
 
     pub fn as_slice(&self) -> &[PartItem]
         ensures { result.now ≡ self.now }
     {
-        self.items.as_slice()
+        match &self.held {
+            Held::Lone(item) => slice::from_ref(item),
+            Held::Shared(items) => items.as_slice(),
+        }
     }
 
     /// Some item writes.
@@ -128,9 +159,12 @@ impl Part {
 }
 
 impl TryCopy for Part {
-    fn try_copy(&self, _alloc: Global) -> Result<Self, NoMemory> {
-        Ok(Part {
-            items: Arc::try_clone(&self.items)?,
-        })
+    fn try_copy(&self, alloc: Global) -> Result<Self, NoMemory> {
+        match &self.held {
+            Held::Lone(item) => Ok(Part::one(item.try_copy(alloc)?)),
+            Held::Shared(items) => Ok(Part {
+                held: Held::Shared(Arc::try_clone(items)?),
+            }),
+        }
     }
 }

@@ -8,8 +8,8 @@ use std::fmt;
 use std::marker::Model;
 use std::sync::Arc;
 
-/// How many bytes lie beside the count of their owners: an entry of the catalog has 64.
-const BYTES_IN_PLACE: usize = 64;
+/// How many bytes lie beside the count of their owners: the count of a node's slots has 8.
+const BYTES_IN_PLACE: usize = 16;
 
 /// Bytes, and a place from which on they are zeros, found while they are at hand.
 #[derive(Drop)]

@@ -42,7 +42,7 @@ fn read_of(alloc: Global, nodes: u8, place: Place) -> Result<Minitransaction, No
         start: place.start,
         length: place.length,
     };
-    match Minitransaction::new(alloc, nodes, Items::one(alloc, item)?) {
+    match Minitransaction::new(alloc, nodes, Items::one(item)) {
         Ok(mini) => Ok(mini),
         Err(_) => Err(NoMemory),
     }
