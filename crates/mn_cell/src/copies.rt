@@ -136,7 +136,7 @@ impl Blanks {
 }
 
 /// Room for a copy of what the request may read. None: it adds no record, whatever is answered, so
-/// a copy shares what was read, for which there may be no memory. NoMemory never comes for a Decide.
+/// a copy shares what was read, for which there may be no memory. A Decide never meets NoMemory.
 pub fn blanks_for(alloc: Global, request: &Request) -> Result<Option<Blanks>, NoMemory>
     ensures blanks { IfOk result (λ blanks. blanks ≡ lengths_by request.now) }
     ensures failed { OnErr result (decided_by request.now ≡ None) }

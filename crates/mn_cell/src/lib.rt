@@ -1,5 +1,5 @@
-//! A memory node behind a lock, with the pass that owns its list. Each call of it is one entry, which
-//! ends the node's list and the caller's; it stands in memory once, in the caller's.
+//! A memory node behind a lock, with the pass that owns its list. Each call of it is one entry,
+//! which ends the node's list and the caller's; it stands in memory once, in the caller's.
 #![tactic(auto)]
 
 mod add;

@@ -1,5 +1,5 @@
-//! What is kept of a node's list, whose entries stand in the lists of their callers: how long it is,
-//! and the decisions that it is owed.
+//! What is kept of a node's list, whose entries stand in the lists of their callers: how long it
+//! is, and the decisions that it is owed.
 ghost use Rattle.std.specs.Prelude.{◌≡◌, ◌≤◌, ◌<◌, ◌+◌, ◌^◌, ◌⊎◌, ◌++◌, ◌∷◌, [], ℕ, List, Some};
 ghost use Rattle.std.specs.Prelude.{true, false, IfOk, OnOk, OnErr, vec_len, vec_capacity};
 ghost use Rattle.mn_world.specs.declared.entry.Entry.{Entry as Step};

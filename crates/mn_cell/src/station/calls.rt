@@ -136,8 +136,8 @@ fn restart_entry(number: NodeNo, client: ClientNo, kept: bool) -> Entry
     }
 }
 
-/// Adds an entry, and puts it at the end of the client's list. `own` is the node's pass, which comes
-/// back.
+/// Adds an entry, and puts it at the end of the client's list. `own` is the node's pass, which
+/// comes back.
 #[inline(always)]
 fn enter(
     board: &Board<CoreLaw>,
