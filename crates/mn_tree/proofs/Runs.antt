@@ -1,17 +1,20 @@
 -- What the writes of a step leave is what the step leaves.
-use Rattle.std.proofs.Common.{◌≡◌, ℕ, ◌+◌, ◌≤◌, ◌^◌, List, ◌∷◌, ◌++◌, length, None, refl, sym, ap, ◌∙◌, arith, length-append}
+use Rattle.std.specs.Prelude.{◌≢◌, if◌then◌else◌, is_some, Bool, true, false, Option, Some, Result, Ok, Err, IfOk}
+use Rattle.std.proofs.Common.{◌≡◌, ℕ, ◌+◌, ◌≤◌, List, ◌∷◌, ◌++◌, length, None, refl, sym, ap, subst, ◌∙◌, arith, length-append}
 use Rattle.mn_base.specs.declared.ids.Addr.{Addr}
 use Rattle.mn_base.specs.declared.ids.VersionNo.{VersionNo}
 use Rattle.mn_base.specs.declared.op.Step.{Step}
-use Rattle.mn_page.specs.Overlay.{Held, Overlay}
-use Rattle.mn_tree.specs.declared.draft.Draft.{Draft}
-use Rattle.mn_tree.specs.declared.effect.Effect.{Effect}
-use Rattle.mn_tree.specs.declared.effect.Progress.TheVariants as come
+use Rattle.mn_base.specs.Store.{is_unmet, value_at}
+use Rattle.mn_base.specs.declared.error.NoMemory.{NoMemory}
+use Rattle.mn_base.specs.declared.op.Step.TheVariants.{Get, Put, Del, Check}
+use Rattle.mn_base.specs.declared.reply.Pair.{Pair}
+use Rattle.mn_page.specs.declared.page.Page.{Page}
+use Rattle.mn_page.specs.Overlay.{Held, Overlay, path_pairs}
+use Rattle.mn_tree.specs.declared.stepped.Stepped.{Stepped}
+use Rattle.mn_tree.specs.declared.stepped.Stepped.TheVariants.{Changed, Same, Unmet}
 use Rattle.mn_tree.specs.declared.write.Write.{Write}
-use Rattle.mn_tree.specs.Effects.{IsProgress}
-use Rattle.mn_tree.specs.Walk.{Walk}
 use Rattle.mn_tree.specs.Writes.{origins_in, step_writes, all_written, joined, all_joined}
-use Rattle.mn_tree.specs.State.{TreeState, Drafted, drafted, touched, all_drafted, drafted_after, with_draft, stepping}
+use Rattle.mn_tree.specs.State.{TreeState, Drafted, AsksFor, told, touched, all_drafted, drafted_after}
 use Rattle.mn_tree.proofs.Changes.{drafted_is, step_is}
 
 pub runs : (v : VersionNo) (d : Drafted) (step : Step) (h : Held) (above : List Held) (leaf : Addr) (ws : List Write) → d.overlay.fresh ≡ length d.origins → h.addr ≡ leaf
@@ -30,14 +33,27 @@ stays_within n d new leaf ws is few =
     let e : new.origins ≡ d.origins ++ origins_in ws = ap (λ (x : Drafted). x.origins) (is ∙ drafted_is (touched d leaf) ws) in
     omega (arith, ap (λ (l : List Addr). length l) e, length-append d.origins (origins_in ws), few)
 
--- a step that is done, once its writes are made
-module _ (s : TreeState) (d : Draft) (step : Step) (way : Walk) (leaf : Addr) (effect : Effect) (does : IsProgress s.version d step way (come.Runs leaf effect))
-    (new : Drafted) (written : new ≡ all_drafted (touched (drafted d) leaf) effect.writes.items) where
-  pub done_is : s.draft ≡ drafted d → with_draft s new None ≡ (stepping s step way).state
-  done_is is =
-      let after : new ≡ drafted_after s.version (drafted d) step (does.0 ∷ does.1) = written ∙ runs s.version (drafted d) step does.0 does.1 leaf effect.writes.items refl does.2 does.4.writes in
-      ap (λ (x : Drafted). with_draft s x None) (after ∙ ap (λ (x : Drafted). drafted_after s.version x step (does.0 ∷ does.1)) (sym is))
-      ∙ sym (ap (λ (w : Walk). (stepping s step w).state) does.3)
+-- a step that is done asks for nothing
+told_asks : (s : TreeState) (step : Step) (ps : List Pair) → AsksFor s (told step ps)
+told_asks s (Get key) ps = tt
+told_asks s (Put key value) ps = tt
+told_asks s (Del key) ps = by (is_some (value_at ps key))
+  where
+    by : (b : Bool) → AsksFor s (if b then Changed else Same)
+    by true = tt
+    by false = tt
+told_asks s (Check key want) ps = by (is_unmet ps (Check key want))
+  where
+    by : (b : Bool) → AsksFor s (if b then Unmet (value_at ps key) else Same)
+    by true = tt
+    by false = tt
 
-  pub done_within : length new.origins ≤ 2 ^ 16
-  done_within = stays_within (2 ^ 16) (drafted d) new leaf effect.writes.items written does.4.bound
+pub asks_nothing : (s : TreeState) (step : Step) (path : Page → List Held) (o : Option Page) (p : Page) → o ≡ Some p
+    → (r : Result Stepped NoMemory) → IfOk r (λ answer. (leaf : Page) → o ≡ Some leaf → answer ≡ told step (path_pairs (path leaf))) → IfOk r (AsksFor s)
+asks_nothing s step path o p is (Ok answer) tells = subst (AsksFor s) (sym (tells p is)) (told_asks s step (path_pairs (path p)))
+asks_nothing s step path o p is (Err e) tells = tt
+
+-- a page is there
+pub there : (o : Option Page) → o ≢ None → (p : Page) × (o ≡ Some p)
+there None some = absurd (some refl)
+there (Some p) some = (p, refl)

@@ -1,6 +1,6 @@
 -- How a walk goes on at an inner page, and how its way does.
-use Rattle.std.specs.Prelude.{if◌then◌else◌}
-use Rattle.std.proofs.Common.{◌≡◌, ◌<◌, ℕ, zero, suc, ◌+◌, Bool, true, false, not, ◌&&◌, nat_eq, List, [], ◌∷◌, map, Option, Some, None, refl, sym, ap, ◌∙◌, arith, eq-eqb, ne_eqb, eqb-true}
+use Rattle.std.specs.Prelude.{if◌then◌else◌, IfSome}
+use Rattle.std.proofs.Common.{◌≡◌, ◌<◌, ℕ, zero, suc, ◌+◌, Bool, true, false, not, ◌&&◌, nat_eq, List, [], ◌∷◌, map, Option, Some, None, refl, sym, ap, subst, ◌∙◌, arith, eq-eqb, ne_eqb, eqb-true}
 use Rattle.std.specs.Option.{option_map_or}
 use Rattle.mn_base.specs.Order.{key_lt, key_le, below_bound}
 use Rattle.mn_base.specs.declared.ids.Addr.{Addr}
@@ -16,8 +16,8 @@ use Rattle.mn_path.specs.Walk.{child_from}
 use Rattle.mn_tree.specs.declared.held.HeldPage.{HeldPage}
 use Rattle.mn_tree.specs.declared.way.Way.{Way}
 use Rattle.mn_tree.specs.Walk.{held, held_of, is_met, goes_on, Walk, Missing, Wrong, Reached, walk_down, walk}
-use Rattle.mn_tree.specs.Way.{IsWay, AreHeld, may_follow, walk_at}
-use Rattle.mn_tree.specs.Found.{IsMet, those_at}
+use Rattle.mn_tree.specs.Way.{IsWay, CameTo, AreHeld, may_follow, walk_at}
+use Rattle.mn_tree.specs.Found.{IsMet, path_at, those_at}
 
 pub child_is : (first : Addr) (rest : List Child) (low : List ℕ) (high : Option (List ℕ)) (key : List ℕ) → key_le low key ≡ true → below_bound key high ≡ true → child_for (ranges_from first low rest high) key ≡ Some (child_from first rest key)
 child_is first [] low high key above below = rw (above, below) refl
@@ -76,10 +76,12 @@ module _ (parents : List (Option ℕ)) (v : ℕ) (root : Addr) (pages : List Hel
   comes_to others among h met there = by_held others among (Some h.page) there ∙ rw met.follows (ap (λ a. walk_down parents v (height_of h.page.body) others key (held a h.page) come.passed) (sym met.addr))
 
   pub reaches : (h : HeldPage) → IsMet parents v pages key way h → height_of h.page.body ≡ 0
-      → Reached (held_of h ∷ those_at pages (held_of h) way.passed.items) ≡ walk parents v pages root key
+      → (p : Page) × (held_at pages way.next ≡ Some p) × (walk parents v pages root key ≡ Reached (path_at pages way p))
   reaches h met leaf =
-      sym (comes_to pages come.held h met met.there ∙ ap (λ n. walk_down parents v n pages key (held_of h) come.passed) leaf
-      ∙ ap (λ l. Reached (held_of h ∷ l)) (sym (ap (those_at pages (held_of h)) come.addrs ∙ those_held pages (held_of h) come.passed come.held)))
+      let path : held_of h ∷ come.passed ≡ path_at pages way h.page =
+      ap (λ l. held_of h ∷ l) (sym (ap (those_at pages (held_of h)) come.addrs ∙ those_held pages (held_of h) come.passed come.held))
+      ∙ ap (λ a. held a h.page ∷ those_at pages (held a h.page) way.passed.items) met.addr in
+      (h.page, met.there, comes_to pages come.held h met met.there ∙ ap (λ n. walk_down parents v n pages key (held_of h) come.passed) leaf ∙ ap Reached path)
 
   -- the way below an inner page
   pub way_below : (h : HeldPage) → IsMet parents v pages key way h → (below : Way) → below.passed.items ≡ way.next ∷ way.passed.items
@@ -91,3 +93,18 @@ module _ (parents : List (Option ℕ)) (v : ℕ) (root : Addr) (pages : List Hel
     held = (ap (held_at pages) met.addr ∙ met.there, come.held);
     leads = λ others among. comes_to others among.1 h met (ap (held_at others) (sym met.addr) ∙ among.0) ∙ next parents v others come.passed;
   }
+
+-- the key of a walk
+pub key_is : (o : Option (List ℕ)) (a b : List ℕ) → o ≡ Some a → o ≡ Some b → a ≡ b
+key_is o a b e f = cc
+
+module _ (parents : List (Option ℕ)) (v : ℕ) (root : Addr) (pages : List Held) (old new : Way) (h : HeldPage) where
+  -- the way below the page to which it has come
+  pub follows_way : (key : Option (List ℕ)) → old.key ≡ key → new.key ≡ old.key → new.passed.items ≡ old.next ∷ old.passed.items
+      → ((key : List ℕ) → old.key ≡ Some key → (parents : List (Option ℕ)) (v : ℕ) (pages passed : List Held) → walk_down parents v (height_of h.page.body) pages key (held_of h) passed ≡ walk_at parents v pages key new.next new.above (held_of h ∷ passed))
+      → CameTo parents v root pages old → IfSome old.key (λ key. IsMet parents v pages key old h) → CameTo parents v root pages new
+  follows_way None is same addrs next come met = subst (λ k. IfSome k (λ k'. IsWay parents v root pages k' new)) (sym (same ∙ is)) tt
+  follows_way (Some key) is same addrs next come met =
+      let came : IsWay parents v root pages key old = subst (λ k. IfSome k (λ k'. IsWay parents v root pages k' old)) is come in
+      let meets : IsMet parents v pages key old h = subst (λ k. IfSome k (λ k'. IsMet parents v pages k' old h)) is met in
+      subst (λ k. IfSome k (λ k'. IsWay parents v root pages k' new)) (sym (same ∙ is)) (way_below parents v root pages key old came h meets new addrs (next key is))

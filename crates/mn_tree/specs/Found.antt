@@ -1,6 +1,6 @@
 -- What the code's walk finds, in the words of the walk over lists.
 use Rattle.std.specs.Prelude.{◌≡◌, ℕ, ◌<◌, true, false, List, [], ◌∷◌, Option, Some}
-use Rattle.std.specs.Prelude.{None, ⊤}
+use Rattle.std.specs.Prelude.{None}
 use Rattle.std.specs.Option.{option_map_or}
 use Rattle.mn_base.specs.declared.ids.Addr.{Addr}
 use Rattle.mn_page.specs.declared.page.Page.{Page}
@@ -12,7 +12,7 @@ use Rattle.mn_tree.specs.declared.walk.Found.TheVariants as found
 use Rattle.mn_tree.specs.declared.walk.Walked.{Walked}
 use Rattle.mn_tree.specs.declared.walk.Walked.TheVariants as end
 use Rattle.mn_tree.specs.declared.way.Way.{Way}
-use Rattle.mn_tree.specs.Walk.{held, held_of, Walk, Missing, Wrong, Reached}
+use Rattle.mn_tree.specs.Walk.{held, Walk, Missing, Wrong, Reached}
 use Rattle.mn_tree.specs.Way.{may_follow}
 
 -- a page is held where the way of the key goes on, and the walk goes on at it
@@ -39,15 +39,14 @@ those_at pages at [] = []
 those_at pages at (addr ∷ addrs) =
     let next = option_map_or (held addr) (held_at pages addr) at in next ∷ those_at pages next addrs
 
--- where a walk ended that passed the pages at these addresses
-abbrev pub seen_walk : List Held → List Addr → Walked → Walk
-seen_walk pages passed (end.Missing addr above) = Missing addr above
-seen_walk pages passed (end.Wrong addr) = Wrong addr
-seen_walk pages passed (end.Reached leaf) =
-    let h = held_of leaf.now in Reached (h ∷ those_at pages h passed)
+-- the page at which a way goes on, with those that it passed
+abbrev pub path_at : List Held → Way → Page → List Held
+path_at pages way p = let h = held way.next p in h ∷ those_at pages h way.passed.items
 
--- the page before which a walk stops isn't held
-abbrev pub StopsBefore : List Held → Walked → Type 0
-StopsBefore pages (end.Missing addr above) = held_at pages addr ≡ None
-StopsBefore pages (end.Wrong addr) = ⊤
-StopsBefore pages (end.Reached leaf) = ⊤
+-- where a walk ended whose way came this far
+abbrev pub Ended : List Held → Way → Walk → Walked → Type 0
+Ended pages way walk end.Missing =
+    (held_at pages way.next ≡ None) × (walk ≡ Missing way.next way.above)
+Ended pages way walk end.Wrong = walk ≡ Wrong way.next
+Ended pages way walk end.Reached =
+    (p : Page) × (held_at pages way.next ≡ Some p) × (walk ≡ Reached (path_at pages way p))

@@ -21,7 +21,6 @@ use Rattle.mn_tree.specs.declared.draft.Draft.{Draft}
 use Rattle.mn_tree.specs.declared.stepped.Stepped.{Stepped}
 use Rattle.mn_tree.specs.declared.stepped.Stepped.TheVariants.{Need, BadPath, Found, Changed, Same}
 use Rattle.mn_tree.specs.declared.stepped.Stepped.TheVariants.{Unmet}
-use Rattle.mn_tree.specs.declared.held.Wanted.{Wanted}
 use Rattle.mn_tree.specs.declared.write.Write.{Write}
 use Rattle.mn_tree.specs.Walk.{Walk, Missing, Wrong, Reached, helds, walk}
 use Rattle.mn_tree.specs.Writes.{origins_in, step_writes, joined, all_joined, written}
@@ -63,6 +62,13 @@ all_drafted d (w ∷ ws) = all_drafted (draft_written d w) ws
 -- a leaf that is touched joins the read set
 abbrev pub touched : Drafted → Addr → Drafted
 touched d leaf = record { overlay = d.overlay; read = joined d.read leaf; origins = d.origins }
+
+-- the page that a step asked for: where it stands, the step's key, and the height of the page that
+-- names it, if one does
+pub record Wanted : Type 0 where
+  pub addr : Addr
+  pub key : List ℕ
+  pub above : Option ℕ
 
 -- the version tree by its parents, the version that is read and changed, its root, the pages, and
 -- what the last step asked for

@@ -39,6 +39,12 @@ pub record IsWay (parents : List (Option ℕ)) (v : ℕ) (root : Addr) (pages : 
 abbrev pub CameTo : List (Option ℕ) → ℕ → Addr → List Held → Way → Type 0
 CameTo parents v root pages way = IfSome way.key (λ key. IsWay parents v root pages key way)
 
+-- the walk is where it was
+abbrev pub IsSameWay : Way → Way → Type 0
+IsSameWay old new =
+    (new.key ≡ old.key) × (new.passed.items ≡ old.passed.items) × (new.next ≡ old.next)
+    × (new.above ≡ old.above)
+
 -- more than the height of the page to which a walk comes
 abbrev pub left_above : Option ℕ → ℕ
 left_above above = option_map_or (λ height. height) above 65536

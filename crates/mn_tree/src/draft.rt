@@ -5,7 +5,6 @@ use crate::held::HeldPage;
 use crate::held_pages::HeldPages;
 use crate::write::Write;
 use mn_base::{Addr, NoMemory};
-use mn_page::SharedPage;
 use std::alloc::Global;
 
 /// The pages as the steps left them, the old ones that were changed, the old ones of the read set,
@@ -20,7 +19,7 @@ pub struct Draft {
 
 impl Draft {
     ghost use Rattle.std.specs.Prelude.{ℕ};
-    ghost use Rattle.mn_tree.specs.State.{drafted, no_pages, drafted_with, draft_written};
+    ghost use Rattle.mn_tree.specs.State.{drafted, no_pages, draft_written};
     ghost use Rattle.mn_tree.specs.State.{all_drafted, touched};
     ghost use Rattle.mn_tree.specs.Room.{HasListRoom};
 
@@ -46,16 +45,6 @@ impl Draft {
         self.changed.reserve(writes)?;
         self.read.reserve(writes + 1)?;
         self.origins.reserve(writes)?;
-        Ok(())
-    }
-
-    /// Puts a page that was read at its address.
-    pub fn add(&mut self, addr: Addr, page: SharedPage) -> Result<(), NoMemory>
-        ensures added { OnOk result (drafted self.new ≡ drafted_with (drafted self.old) addr page) }
-        ensures same { OnErr result (drafted self.new ≡ drafted self.old) }
-    {
-        self.pages.reserve(1)?;
-        self.pages.put(HeldPage { addr, page });
         Ok(())
     }
 

@@ -1,9 +1,10 @@
-ghost use Rattle.std.specs.Prelude.{◌≡◌, ◌≤◌, ◌<◌, ◌+◌, ◌^◌, [], length, IfOk};
+ghost use Rattle.std.specs.Prelude.{◌≡◌, ◌≤◌, ◌<◌, ◌+◌, ◌^◌, ◌≢◌, [], None, Some, length, IfOk};
+ghost use Rattle.mn_page.specs.declared.page.Page.{Page};
+ghost use Rattle.mn_page.specs.Overlay.{held_at};
 ghost use Rattle.mn_base.specs.Store.{step_key};
-ghost use Rattle.mn_tree.specs.Walk.{held_of, helds, walk};
+ghost use Rattle.mn_tree.specs.Walk.{held, held_of, helds};
 ghost use Rattle.mn_tree.specs.Found.{those_at};
-ghost use Rattle.mn_tree.specs.Way.{CameTo};
-ghost use Rattle.mn_tree.specs.Effects.{IsEffect, IsProgress, StopsAt};
+ghost use Rattle.mn_tree.specs.Effects.{IsEffect};
 ghost use Rattle.mn_tree.specs.Writes.{origins_in, writes_up};
 ghost use Rattle.mn_tree.specs.declared.stepped.Stepped.TheVariants.{Changed};
 ghost use Rattle.mn_page.specs.declared.page.Body.TheVariants.{Leaf};
@@ -13,12 +14,10 @@ use crate::body::{leaf_of, pairs_of};
 use crate::draft::Draft;
 use crate::held::HeldPage;
 use crate::pairs::{copy_of, is_found, value_of, with_pair, without_pair};
-use crate::walk::{Walked, walk_to};
 use crate::way::Way;
 use crate::write::Write;
 use crate::writer::raise;
 use mn_base::{Addr, Key, NoMemory, Pair, Step, VersionNo};
-use mn_vtree::VersionTree;
 use std::alloc::Global;
 
 /// What a step does on the leaf of its key: its answer, and the pages that it writes.
@@ -26,14 +25,6 @@ use std::alloc::Global;
 pub struct Effect {
     pub answer: Stepped,
     pub writes: Vec<Write>,
-}
-
-/// How far a step comes.
-#[derive(Drop)]
-pub enum Progress {
-    Missing { addr: Addr, above: Option<u16> },
-    Wrong { addr: Addr },
-    Runs { leaf: Addr, effect: Effect },
 }
 
 /// The key that a step names.
@@ -127,33 +118,25 @@ fn effect_on(
     }
 }
 
-/// How far a step comes on these pages. It goes on where an earlier one of its key has come to.
-pub fn come_down(
+/// What a step does on the leaf at which its way goes on.
+pub fn effect_at(
     alloc: Global,
-    tree: &VersionTree,
     version: VersionNo,
-    root: Addr,
     draft: &Draft,
-    way: &mut Way,
+    way: &Way,
     step: &Step,
-) -> Result<Progress, NoMemory>
+) -> Result<Effect, NoMemory>
     requires version { version.0 < 64 }
     requires bound { length draft.now.origins.items ≤ 2 ^ 16 }
-    requires way { CameTo tree.now version.0 root (helds draft.now.pages.items) way.old }
-    ensures progress { IfOk result (IsProgress version draft.now step.now
-        (walk tree.now version.0 (helds draft.now.pages.items) root (step_key step.now))) }
-    ensures stops { IfOk result (StopsAt (helds draft.now.pages.items)) }
-    ensures came { CameTo tree.now version.0 root (helds draft.now.pages.items) way.new }
+    requires leaf { held_at (helds draft.now.pages.items) way.now.next ≢ None }
+    ensures { IfOk result (λ effect. (p : Page)
+        → held_at (helds draft.now.pages.items) way.now.next ≡ Some p
+        → IsEffect version draft.now.origins.items (held way.now.next p)
+        (those_at (helds draft.now.pages.items) (held way.now.next p) way.now.passed.items)
+        step.now effect) }
 {
-    match walk_to(alloc, tree, version, &draft.pages, root, way, key_of(step))? {
-        Walked::Missing { addr, above } => Ok(Progress::Missing { addr, above }),
-        Walked::Wrong { addr } => Ok(Progress::Wrong { addr }),
-        Walked::Reached { leaf } => {
-            let effect = effect_on(alloc, version, draft, leaf, way.passed.as_slice(), step)?;
-            Ok(Progress::Runs {
-                leaf: leaf.addr,
-                effect,
-            })
-        }
-    }
+    let Some(leaf) = draft.pages.get(way.next) else {
+        unreachable!();
+    };
+    effect_on(alloc, version, draft, leaf, way.passed.as_slice(), step)
 }

@@ -2,7 +2,7 @@ ghost use Rattle.std.specs.Prelude.{◌≡◌, ◌<◌, ◌^◌, IfOk};
 ghost use Rattle.mn_base.specs.Ids.{addr_same};
 ghost use Rattle.mn_page.specs.Overlay.{is_new, new_addr, placed_addr};
 
-use mn_base::{Addr, Key, NoMemory, NodeNo};
+use mn_base::{Addr, NoMemory, NodeNo};
 use mn_page::SharedPage;
 
 /// New pages have no slot yet: they go by their number, on this node, which there is not.
@@ -21,15 +21,6 @@ impl Drop for HeldPage {
         let HeldPage { addr: _addr, page } = self;
         drop(page);
     }
-}
-
-/// The page that a step asked for: where it stands, the step's key, and the height of the page that
-/// names it, if one does.
-#[derive(Debug, Drop)]
-pub struct Wanted {
-    pub addr: Addr,
-    pub key: Key,
-    pub above: Option<u16>,
 }
 
 pub fn is_same(a: Addr, b: Addr) -> bool

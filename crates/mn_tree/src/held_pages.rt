@@ -1,4 +1,5 @@
-ghost use Rattle.std.specs.Prelude.{◌≡◌, ◌≤◌, ◌<◌, ◌+◌, ◌++◌, ◌∷◌, [], length, take, drop};
+ghost use Rattle.std.specs.Prelude.{◌≡◌, ◌≤◌, ◌<◌, ◌+◌, ◌++◌, ◌∷◌, [], None, length};
+ghost use Rattle.std.specs.Prelude.{take, drop};
 ghost use Rattle.std.specs.Prelude.{option_map, IfSome, OnOk};
 ghost use Rattle.std.specs.Option.{option_map_or};
 ghost use Rattle.mn_page.specs.declared.page.Page.{Page};
@@ -105,5 +106,14 @@ impl HeldPages {
         } else {
             self.pages.push_reserved(held);
         }
+    }
+
+    /// Puts a page behind the others, where none is held at its address. There is room for one.
+    pub fn push(&mut self, held: HeldPage)
+        requires room { 0 < self.old.room }
+        requires absent { held_at (helds self.old.items) held.addr ≡ None }
+        ensures { helds self.new.items ≡ held_with (helds self.old.items) held.addr held.page }
+    {
+        self.pages.push_reserved(held);
     }
 }

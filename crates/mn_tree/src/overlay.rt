@@ -61,18 +61,19 @@ impl Overlay {
     fn is_right(&self, page: &Page) -> bool
         ensures { result ≡ fits self.now page.now }
     {
-        match &self.kept.wanted {
-            Some(wanted) => {
-                let front = Front::of_page(page);
-                front.is_on_path(
-                    &self.tree,
-                    self.version,
-                    wanted.key.as_slice(),
-                    wanted.above,
-                )
-            }
-            None => false,
+        if !self.kept.asks {
+            return false;
         }
+        let Some(key) = &self.kept.way.key else {
+            return false;
+        };
+        let front = Front::of_page(page);
+        front.is_on_path(
+            &self.tree,
+            self.version,
+            key.as_slice(),
+            self.kept.way.above,
+        )
     }
 
     /// Takes the page that was read at the address that the last step asked for. BadPath: it
@@ -95,6 +96,7 @@ impl Overlay {
 
     /// Makes a step on the pages, with the splits and copies that it takes, or says which page it
     /// needs first. NoMemory: there was no memory for it, and the tree is as before.
+    #[inline(never)]
     pub fn step(&mut self, alloc: Global, step: &Step) -> Result<Stepped, NoMemory>
         ensures answer { IfOk result (λ answer. answer ≡ (stepped self.old step.now).answer) }
         ensures state { OnOk result (self.new ≡ (stepped self.old step.now).state) }

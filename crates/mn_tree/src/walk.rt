@@ -1,8 +1,8 @@
-ghost use Rattle.std.specs.Prelude.{◌≡◌, IfOk};
+ghost use Rattle.std.specs.Prelude.{◌≡◌, IfOk, OnOk, Some};
 ghost use Rattle.mn_page.specs.Holds.{page_covers};
 ghost use Rattle.mn_tree.specs.Walk.{helds, is_met, walk};
 ghost use Rattle.mn_tree.specs.Way.{may_follow, CameTo};
-ghost use Rattle.mn_tree.specs.Found.{IsFound, StopsBefore, seen_walk};
+ghost use Rattle.mn_tree.specs.Found.{Ended, IsFound};
 
 use crate::held::HeldPage;
 use crate::held_pages::HeldPages;
@@ -14,16 +14,15 @@ use mn_path::{height, is_one_below};
 use mn_vtree::VersionTree;
 use std::alloc::Global;
 
-/// Where a walk ended.
-#[derive(Drop)]
-pub enum Walked<'a> {
-    /// Before a page that isn't there; `above` is the height of the page that names it, if one
-    /// does.
-    Missing { addr: Addr, above: Option<u16> },
+/// Where a walk ended, to which its way has come.
+#[derive(Clone, Copy)]
+pub enum Walked {
+    /// Before a page that isn't there.
+    Missing,
     /// At a page that doesn't serve the version, doesn't cover the key or isn't one height below.
-    Wrong { addr: Addr },
+    Wrong,
     /// At the leaf. The pages that were passed lead up to the root.
-    Reached { leaf: &'a HeldPage },
+    Reached,
 }
 
 /// What stands where a walk goes on.
@@ -92,34 +91,28 @@ fn look<'a>(
 
 /// The walk from the root to the leaf of a key, by pages that serve the version. It goes on where
 /// an earlier one of the same key has come to.
-pub fn walk_to<'a>(
+pub fn walk_to(
     alloc: Global,
     tree: &VersionTree,
     version: VersionNo,
-    pages: &'a HeldPages,
+    pages: &HeldPages,
     root: Addr,
     way: &mut Way,
     key: &Key,
-) -> Result<Walked<'a>, NoMemory>
+) -> Result<Walked, NoMemory>
     requires { CameTo tree.now version.0 root (helds pages.now.items) way.old }
-    ensures walk { IfOk result (λ walked.
-        seen_walk (helds pages.now.items) way.new.passed.items walked
-        ≡ walk tree.now version.0 (helds pages.now.items) root key.now) }
-    ensures stops { IfOk result (StopsBefore (helds pages.now.items)) }
+    ensures walk { IfOk result (Ended (helds pages.now.items) way.new
+        (walk tree.now version.0 (helds pages.now.items) root key.now)) }
+    ensures key { OnOk result (way.new.key ≡ Some key.now) }
     ensures came { CameTo tree.now version.0 root (helds pages.now.items) way.new }
 {
     way.begin(alloc, root, key)?;
     loop {
         match look(tree, version, pages, way, key) {
-            Found::Missing => {
-                return Ok(Walked::Missing {
-                    addr: way.next,
-                    above: way.above,
-                });
-            }
-            Found::Wrong => return Ok(Walked::Wrong { addr: way.next }),
-            Found::Leaf { held } => return Ok(Walked::Reached { leaf: held }),
-            Found::Inner { held } => way.pass(held, key)?,
+            Found::Missing => return Ok(Walked::Missing),
+            Found::Wrong => return Ok(Walked::Wrong),
+            Found::Leaf { .. } => return Ok(Walked::Reached),
+            Found::Inner { held } => way.pass(held)?,
         }
     }
 }

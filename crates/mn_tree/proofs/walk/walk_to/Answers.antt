@@ -12,6 +12,6 @@ loop-held-preserved c =
     let come = c.loop-held.invariant in
     let below = c.in_ok-pass-in-Inner.ensures in
     record {
-      comes = way_below c.args.tree.now c.args.version.0 c.args.root (helds c.args.pages.now.items) c.args.key.now c.loop-held.way come.comes c.in-Inner.held.now c.in-Inner.ensures.0 c.pass.new.self below.passed below.next;
+      comes = way_below c.args.tree.now c.args.version.0 c.args.root (helds c.args.pages.now.items) c.args.key.now c.loop-held.way come.comes c.in-Inner.held.now c.in-Inner.ensures.0 c.pass.new.self below.passed (below.next c.args.key.now come.of_key);
       of_key = c.pass.ensures.key ∙ come.of_key;
     }
