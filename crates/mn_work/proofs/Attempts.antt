@@ -65,8 +65,7 @@ use Rattle.mn_work.specs.declared.next.Next.{Next}
 use Rattle.mn_work.specs.declared.next.Taken.{Taken}
 use Rattle.mn_work.specs.Among.{FaultIsMet}
 use Rattle.mn_work.specs.Attempts.{HasCome, IsCause, IsFault, IsStuck, TakesBytes, TakesNone, TakesPage}
-use Rattle.mn_work.specs.Attempts.{MovesOn, TakesRead, WantsBy}
-use Rattle.mn_work.specs.declared.attempt.Moved.TheVariants as moved
+use Rattle.mn_work.specs.Attempts.{MayFail, TakesRead, WantsBy, with_overlay}
 use Rattle.mn_work.specs.Seen.{SpellsNone}
 use Rattle.mn_work.specs.Knows.{KeepsKnown}
 use Rattle.mn_work.specs.Walks.{Admits}
@@ -848,16 +847,26 @@ fault_kept known new later a key (Some busy) keeps fault = (
 -- What became of a step
 
 -- it is stuck
-pub stuck_moves : (known : Known) (later : Bool) (all : List Step) (a : Attempt) (step : Step) (key : List ℕ)
-    (cause : Option Busy) → IsOnItsWay known all a → IsNextStep all a step → key ≡ step_key step
-    → IsStuck known.nodes all a → IsFault known later a key cause
-    → MovesOn known later all a (moved.Wants (Next.Fails cause))
-stuck_moves known later all a step key cause way next is stuck fault = (
-  with_catalog known.catalog (λ es. IsUnderWay known.nodes es all a)
-      (λ es. WantsBy known.nodes es later all a (Next.Fails cause)) way
-      (λ entries at its. stuck_fails known later all a step entries cause next at stuck (subst (λ (k : List ℕ). IsFault known later a k cause) is fault)),
-  tt,
-)
+pub stuck_may : (known : Known) (later : Bool) (all : List Step) (a : Attempt) → IsOnItsWay known all a
+    → IsStuck known.nodes all a → MayFail known later all a
+stuck_may known later all a way stuck = λ step cause next fault.
+    with_catalog known.catalog (λ es. IsUnderWay known.nodes es all a)
+    (λ es. WantsBy known.nodes es later all a (Next.Fails cause)) way
+    (λ entries at its. stuck_fails known later all a step entries cause next at stuck fault)
+
+-- a first try fails without a cause
+untold : (known : Known) (entries : List CatEntry) (all : List Step) (a : Attempt) (key : List ℕ) (cause : Option Busy)
+    → IsFault known false a key cause → WantsBy known.nodes entries false all a (Next.Fails cause)
+untold known entries all a key None fault = λ later. absurd cc
+untold known entries all a key (Some busy) fault = let off = fault.0 in absurd cc
+
+pub unfit_may : (known new : Known) (all : List Step) (before a : Attempt) → KeepsKnown known new
+    → IsOnItsWay known all before → MayFail new false all a
+unfit_may known new all before a keeps way = λ step cause next fault.
+    with_catalog new.catalog (λ es. IsUnderWay known.nodes es all before)
+    (λ es. WantsBy new.nodes es false all a (Next.Fails cause))
+    (subst (λ (o : Option (List CatEntry)). MatchOption o ⊥ (λ es. IsUnderWay known.nodes es all before)) (sym keeps.1) way)
+    (λ entries at its. untold new entries all a (step_key step) cause fault)
 
 -- it has asked for a page
 pub asks_for : (all : List Step) (before after : Attempt) (step : Step) (addr : Addr)
@@ -1001,16 +1010,4 @@ runs_on k1 k2 k3 later all a b c so kept stays counts same way = record {
   counts = counts ∙ so.counts;
   same = λ l. same l ∙ so.same l;
   way = way;
-}
-
--- the same try over another state of its tree
-abbrev pub with_overlay : Attempt → TreeState → Attempt
-with_overlay a s = record {
-  version = a.version;
-  root = a.root;
-  overlay = s;
-  pages = a.pages;
-  found = a.found;
-  done = a.done;
-  counts = a.counts;
 }

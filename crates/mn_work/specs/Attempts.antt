@@ -26,7 +26,8 @@ use Rattle.mn_page.specs.Forest.{heads_in}
 use Rattle.mn_page.specs.Grammar.{IsEntry, SpellsPage, entry_bytes, height_of, page_bytes}
 use Rattle.mn_page.specs.Overlay.{Held}
 use Rattle.mn_page.specs.Space.{count_size, count_start, entry_start, max_slots, slot_start}
-use Rattle.mn_tree.specs.State.{IsWanted, fits, new_state, stepped, with_page}
+use Rattle.mn_tree.specs.State.{IsWanted, TreeState, fits, new_state, stepped, with_page}
+use Rattle.mn_tree.specs.declared.stepped.Stepped.{Stepped}
 use Rattle.mn_tree.specs.MoveLaws.{IsStep}
 use Rattle.mn_tree.specs.Moves.{Move}
 use Rattle.mn_tree.specs.Tries.{ComeTo, EndsUnmet}
@@ -41,8 +42,8 @@ use Rattle.mn_txn.specs.declared.attempt.Tried.{Tried as Told}
 use Rattle.mn_txn.specs.declared.seen.SeenPage.{SeenPage}
 use Rattle.mn_txn.specs.Seen.{seen_as, seen_at}
 use Rattle.mn_work.specs.declared.attempt.Attempt.{Attempt}
-use Rattle.mn_work.specs.declared.attempt.Moved.{Moved}
-use Rattle.mn_work.specs.declared.attempt.Moved.TheVariants as moved
+use Rattle.mn_work.specs.declared.attempt.Reached.{Reached}
+use Rattle.mn_work.specs.declared.attempt.Reached.TheVariants as reached
 use Rattle.mn_work.specs.declared.known.Known.{Known}
 use Rattle.mn_work.specs.declared.next.Next.{Next}
 use Rattle.mn_work.specs.declared.next.Taken.{Taken}
@@ -254,14 +255,63 @@ StaysOnItsWay known all a (Next.Count node peek) = IsOnItsWay known all a
 StaysOnItsWay known all a (Next.Answers answer) = IsOnItsWay known all a
 StaysOnItsWay known all a next = ⊤
 
--- what became of its next step: it is done, or a kept page came in for it, in a first try, or it
--- can't go on
-abbrev pub MovesOn : Known → Bool → List Step → Attempt → Moved → Type 0
-MovesOn known later all a moved.Done = IsOnItsWay known all a
-MovesOn known later all a moved.Came =
-    (later ≡ false) × (a.done < length all) × IsOnItsWay known all a
-MovesOn known later all a (moved.Wants next) =
-    WantsNext known later all a next × StaysOnItsWay known all a next
+-- a fault that is found is one of the pages as read; the first try tells none
+abbrev pub IsFault : Known → Bool → Attempt → List ℕ → Option Busy → Type 0
+IsFault known later a key None = ⊤
+IsFault known later a key (Some busy) =
+    (later ≡ true)
+    × MatchOption known.catalog ⊥
+    (λ entries. FaultIsMet known.nodes entries a.version key a.root a.pages.items (Some busy))
+
+-- whatever fault its walk meets, it may fail by that cause
+abbrev pub MayFail : Known → Bool → List Step → Attempt → Type 0
+MayFail known later all a =
+    (step : Step) (cause : Option Busy) → IsNextStep all a step
+    → IsFault known later a (step_key step) cause → WantsNext known later all a (Next.Fails cause)
+
+-- what became of the page that its next step needs: a kept one came in, in a first try, or it has
+-- to be read, or the try may fail by it
+abbrev pub ReachesOn : Known → Bool → List Step → Addr → Attempt → Reached → Type 0
+ReachesOn known later all addr a reached.Came = (later ≡ false) × IsOnItsWay known all a
+ReachesOn known later all addr a reached.Needed =
+    WantsNext known later all a (Next.Page addr (not later)) × IsOnItsWay known all a
+ReachesOn known later all addr a reached.Unfit = MayFail known later all a
+
+-- the same try over another state of its tree
+abbrev pub with_overlay : Attempt → TreeState → Attempt
+with_overlay a s = record {
+  version = a.version;
+  root = a.root;
+  overlay = s;
+  pages = a.pages;
+  found = a.found;
+  done = a.done;
+  counts = a.counts;
+}
+
+-- its next step was made on the state of its tree before, and has this answer
+pub record HasStepped (known : Known) (all : List Step) (a : Attempt) (answer : Stepped) : Type 0
+  where
+    pub before : TreeState
+    pub way : IsOnItsWay known all (with_overlay a before)
+    pub step : Step
+    pub next : IsNextStep all a step
+    pub answer_is : (stepped before step).answer ≡ answer
+    pub state : a.overlay ≡ (stepped before step).state
+
+-- the answer needs no page
+abbrev pub NeedsNone : Stepped → Type 0
+NeedsNone (steps.Need addr) = ⊥
+NeedsNone answer = ⊤
+
+-- no page is to be read next
+abbrev pub NamesNoPage : Option Next → Type 0
+NamesNoPage (Some (Next.Page addr peek)) = ⊥
+NamesNoPage next = ⊤
+
+abbrev pub IsFailure : Next → Type 0
+IsFailure (Next.Fails cause) = ⊤
+IsFailure next = ⊥
 
 -- what came of the next step's run: it is done, or it can't go on
 abbrev pub RunsOn : Known → Bool → List Step → Attempt → Option Next → Type 0
@@ -270,24 +320,11 @@ RunsOn known later all a (Some next) =
     WantsNext known later all a next × StaysOnItsWay known all a next
 
 -- the next step alone is done
-abbrev pub MovesFurther : Attempt → Attempt → Moved → Type 0
-MovesFurther before after moved.Done = after.done ≡ before.done + 1
-MovesFurther before after moved.Came = after.done ≡ before.done
-MovesFurther before after (moved.Wants next) = ⊤
-
 abbrev pub RunsFurther : Attempt → Attempt → Option Next → Type 0
 RunsFurther before after None = after.done ≡ before.done + 1
 RunsFurther before after (Some next) = ⊤
 
 -- Inside
-
--- a fault that is found is one of the pages as read; the first try tells none
-abbrev pub IsFault : Known → Bool → Attempt → List ℕ → Option Busy → Type 0
-IsFault known later a key None = ⊤
-IsFault known later a key (Some busy) =
-    (later ≡ true)
-    × MatchOption known.catalog ⊥
-    (λ entries. FaultIsMet known.nodes entries a.version key a.root a.pages.items (Some busy))
 
 -- the page came in
 abbrev pub HasCome : Attempt → Addr → List ℕ → Bool → Attempt → Type 0

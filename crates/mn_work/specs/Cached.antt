@@ -2,15 +2,15 @@
 -- An inner page that was read is put in, some are used, and in a later try the page that it reads
 -- next may leave; all else stays, as far as the cache has room.
 use Rattle.std.specs.Prelude.{ℕ, ◌≡◌, ◌⊎◌, Bool, true, false, nat_eq, List, [], ◌∷◌, Option, Some}
-use Rattle.std.specs.Prelude.{None}
+use Rattle.std.specs.Prelude.{None, not}
 use Rattle.std.specs.Prelude.{if◌then◌else◌, Result, Ok, Err}
 use Rattle.mn_base.specs.declared.ids.Addr.{Addr}
 use Rattle.mn_base.specs.declared.error.NoMemory.{NoMemory}
 use Rattle.mn_cache.specs.Pages.{pages_put, pages_used, pages_without}
 use Rattle.mn_page.specs.declared.page.Page.{Page}
 use Rattle.mn_page.specs.Grammar.{SpellsPage, height_of}
-use Rattle.mn_work.specs.declared.attempt.Moved.{Moved}
-use Rattle.mn_work.specs.declared.attempt.Moved.TheVariants as moved
+use Rattle.mn_work.specs.declared.attempt.Reached.{Reached}
+use Rattle.mn_work.specs.declared.attempt.Reached.TheVariants as reached
 use Rattle.mn_work.specs.declared.next.Next.{Next}
 use Rattle.mn_work.specs.Seen.{SpellsNone}
 
@@ -68,6 +68,7 @@ abbrev pub next_then : Result (Option Next) NoMemory → Option Next
 next_then (Ok next) = next
 next_then (Err none) = None
 
-abbrev pub next_by : Result Moved NoMemory → Option Next
-next_by (Ok (moved.Wants next)) = Some next
-next_by result = None
+-- where a page is to be read for a step
+abbrev pub next_at : Bool → Addr → Result Reached NoMemory → Option Next
+next_at later addr (Ok reached.Needed) = Some (Next.Page addr (not later))
+next_at later addr result = None

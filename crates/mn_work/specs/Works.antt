@@ -124,12 +124,20 @@ pub record IsNewChild (version : VersionNo) (root : Addr) (c : Child) : Type 0 w
   pub page : c.page ≡ None
   pub counts : c.counts.items ≡ []
 
+-- a new try of several steps on the tree of a version with this root
+abbrev pub BeginsSteps : List CatEntry → VersionNo → Addr → Job → Type 0
+BeginsSteps entries version root job =
+    (a : Attempt) × (job ≡ at.Transaction a)
+    × attempts.IsBegun (parents_of (heads_in entries)) version root a
+
+abbrev pub IsScanOp : Op → Type 0
+IsScanOp (Scan name low high limit) = ⊤
+IsScanOp op = ⊥
+
 -- a new job on the tree of a version with this root
 abbrev pub BeginsOn : List CatEntry → Op → Bool → VersionNo → Addr → Job → Type 0
 BeginsOn entries (Tx name steps) spoiled version root job =
-    MatchOption (lone_key steps)
-    ((a : Attempt) × (job ≡ at.Transaction a)
-    × attempts.IsBegun (parents_of (heads_in entries)) version root a)
+    MatchOption (lone_key steps) (BeginsSteps entries version root job)
     (λ key. job ≡ at.Get (record { version = version; addr = root; above = None }))
 BeginsOn entries (Scan name low high limit) spoiled version root job =
     (spoiled ≡ false)

@@ -1,27 +1,18 @@
-ghost use Rattle.std.specs.Prelude.{◌≡◌, ◌≢◌, ◌≤◌, ◌<◌, ◌+◌, [], List, Some, None, IfOk, IfSome};
-ghost use Rattle.std.specs.Prelude.{OnOk};
-ghost use Rattle.std.specs.Prelude.{MatchOption, length, nat_eq, slice_get, true, false};
-ghost use Rattle.std.specs.Option.{option_map};
-ghost use Rattle.mn_alloc.specs.Plan.{new_slots, free_slots};
+ghost use Rattle.std.specs.Prelude.{◌≡◌, ◌≤◌, ◌<◌, ◌+◌, [], None, Some, IfOk, length, true, false};
+ghost use Rattle.mn_alloc.specs.Plan.{new_slots};
 ghost use Rattle.mn_base.specs.Store.{step_key};
 ghost use Rattle.mn_base.specs.declared.answer.Busy.{Busy};
-ghost use Rattle.mn_page.specs.Grammar.{IsPage, height_of, page_bytes};
-ghost use Rattle.mn_tree.specs.State.{IsWanted, fits, stepped, with_page};
-ghost use Rattle.mn_tree.specs.declared.stepped.Stepped.TheVariants as steps;
 ghost use Rattle.mn_base.specs.declared.reply.Reply.TheVariants.{Values};
+ghost use Rattle.mn_page.specs.Grammar.{IsPage, page_bytes};
+ghost use Rattle.mn_tree.specs.State.{IsWanted};
 ghost use Rattle.mn_tree.specs.Tries.{MovesTakePages, NeedsAreSlots, NeedsMayCome};
-ghost use Rattle.mn_work.specs.declared.next.Next.TheVariants as next;
-ghost use Rattle.mn_work.specs.declared.attempt.Moved.TheVariants as moved;
-ghost use Rattle.mn_work.specs.Among.{FaultIsMet};
-ghost use Rattle.mn_work.specs.Answers.{worn_by};
-ghost use Rattle.mn_work.specs.Attempts.{Asks, CameBySteps, CountsOn};
-ghost use Rattle.mn_work.specs.Attempts.{ComesIn, HasCounts, HasUnmet, IsFault, IsTold, RunsOn};
-ghost use Rattle.mn_work.specs.Attempts.{IsBegun, KeepsSteps, MovesFurther, RunsFurther};
-ghost use Rattle.mn_work.specs.Attempts.{SameButFound};
-ghost use Rattle.mn_work.specs.Attempts.{IsNextStep, IsOnItsWay, KeepsVersion, MovesOn};
-ghost use Rattle.mn_work.specs.Attempts.{SameButCounts, StaysOnItsWay, TakesRead, WantsNext};
-ghost use Rattle.mn_work.specs.Attempts.{was_read};
-ghost use Rattle.mn_work.specs.Cached.{AreUsed, Puts, Walks, next_of, next_by, next_then};
+ghost use Rattle.mn_work.specs.Attempts.{Asks, CameBySteps, ComesIn, CountsOn, HasCounts};
+ghost use Rattle.mn_work.specs.Attempts.{HasStepped, HasUnmet, IsBegun, IsFailure, IsFault};
+ghost use Rattle.mn_work.specs.Attempts.{IsOnItsWay, IsTold, KeepsSteps, KeepsVersion, MayFail};
+ghost use Rattle.mn_work.specs.Attempts.{NamesNoPage, NeedsNone, ReachesOn, RunsFurther, RunsOn};
+ghost use Rattle.mn_work.specs.Attempts.{SameButCounts, SameButFound, StaysOnItsWay, TakesRead};
+ghost use Rattle.mn_work.specs.Attempts.{WantsNext, was_read};
+ghost use Rattle.mn_work.specs.Cached.{AreUsed, Puts, Walks, next_at, next_of, next_then};
 ghost use Rattle.mn_work.specs.Knows.{ArePages, KeepsKnown};
 
 use crate::causes::{LEVELS, fault_among};
@@ -80,15 +71,15 @@ impl Drop for Attempt {
     }
 }
 
-/// What became of a step.
-#[derive(Debug, Drop)]
-enum Moved {
-    /// It is done.
-    Done,
-    /// A page came in that it needs.
+/// What became of the page that a step needs.
+#[derive(Clone, Copy, Debug)]
+enum Reached {
+    /// It came in.
     Came,
-    /// It can't go on before this.
-    Wants { next: Next },
+    /// It has to be read.
+    Needed,
+    /// It is on no node, or it doesn't fit.
+    Unfit,
 }
 
 /// The key that a step names.
@@ -99,16 +90,6 @@ fn key_of(step: &Step) -> &Key
         Step::Get { key } | Step::Put { key, .. } | Step::Del { key } | Step::Check { key, .. } => {
             key
         }
-    }
-}
-
-/// The try failed.
-#[inline(always)]
-fn fails(cause: Option<Busy>) -> Moved
-    ensures { result ≡ moved.Wants (next.Fails cause) }
-{
-    Moved::Wants {
-        next: Next::Fails { cause },
     }
 }
 
@@ -182,6 +163,7 @@ impl Attempt {
 
     /// What it wants next. A first try goes on at the inner pages that are kept, and reads each
     /// other page by a Peek; a later one reads each page anew, by an Exec.
+    #[inline(never)]
     pub fn advance(
         &mut self,
         alloc: Global,
@@ -230,57 +212,77 @@ impl Attempt {
         ensures ran { IfOk result (RunsOn known.new later steps.now self.new) }
         ensures further { IfOk result (RunsFurther self.old self.new) }
     {
+        mn_tree::moves_take_steps();
         for _level in 0..LEVELS {
-            match self.step(alloc, known, steps, later)? {
-                Moved::Came => {}
-                Moved::Done => return Ok(None),
-                Moved::Wants { next } => return Ok(Some(next)),
+            let addr = match self.overlay.step(alloc, &steps.as_slice()[self.done]) {
+                Ok(Stepped::Need { addr }) => addr,
+                Ok(answer) => return self.take(alloc, known, steps, answer, later),
+                Err(error) => return Err(error),
+            };
+            match self.reach(alloc, known, steps, addr, later)? {
+                Reached::Came => {}
+                Reached::Needed => return Ok(Some(Next::Page { addr, peek: !later })),
+                Reached::Unfit => return Ok(Some(self.fails(known, steps, later))),
             }
         }
         Ok(Some(Next::Fails { cause: None }))
     }
 
-    /// Tries the next step on the pages that are there.
-    fn step(
+    /// Takes the answer of the next step, whose pages are there.
+    #[inline(never)]
+    fn take(
         &mut self,
         alloc: Global,
-        known: &mut Known,
+        known: &Known,
         steps: &Steps,
+        answer: Stepped,
         later: bool,
-    ) -> Result<Moved, NoMemory>
-        requires pages { ArePages known.old.cache }
-        requires nodes { known.old.nodes ≤ 8 }
-        requires way { IsOnItsWay known.old steps.now self.old }
+    ) -> Result<Option<Next>, NoMemory>
+        requires nodes { known.now.nodes ≤ 8 }
         requires more { self.old.done < length steps.now }
-        ensures kept { KeepsKnown known.old known.new }
-        ensures cache { Walks later (next_by result) known.old.cache known.new.cache }
+        requires stepped { HasStepped known.now steps.now self.old answer }
+        requires there { NeedsNone answer }
         ensures stays { KeepsVersion self.old self.new }
         ensures counts { self.new.counts ≡ self.old.counts }
-        ensures later { later ≡ true → self.new.pages ≡ self.old.pages }
-        ensures moved { IfOk result (MovesOn known.new later steps.now self.new) }
-        ensures further { IfOk result (MovesFurther self.old self.new) }
+        ensures pages { self.new.pages ≡ self.old.pages }
+        ensures ran { IfOk result (RunsOn known.now later steps.now self.new) }
+        ensures further { IfOk result (RunsFurther self.old self.new) }
+        ensures fails { IfOk result (λ next. NamesNoPage next) }
     {
         mn_tree::moves_take_steps();
-        let step = &steps.as_slice()[self.done];
-        match self.overlay.step(alloc, step)? {
-            Stepped::Need { addr } => self.reach(alloc, known, steps, addr, later),
-            Stepped::BadPath { .. } => Ok(fails(self.fault(known, key_of(step), later))),
+        match answer {
+            Stepped::Need { .. } => unreachable!(),
+            Stepped::BadPath { .. } => Ok(Some(self.fails(known, steps, later))),
             Stepped::Found { value } => {
                 self.found.push(value)?;
                 self.done += 1;
-                Ok(Moved::Done)
+                Ok(None)
             }
             Stepped::Changed | Stepped::Same => {
                 self.done += 1;
-                Ok(Moved::Done)
+                Ok(None)
             }
-            Stepped::Unmet { found } => Ok(Moved::Wants {
-                next: self.end_unmet(alloc, known, steps, found, later)?,
-            }),
+            Stepped::Unmet { found } => {
+                Ok(Some(self.end_unmet(alloc, known, steps, found, later)?))
+            }
         }
     }
 
-    /// Takes the page that a step needs from the cache, in a first try, or asks for it.
+    /// The walk of the next step can't go on: the try fails.
+    #[inline(never)]
+    fn fails(&self, known: &Known, steps: &Steps, later: bool) -> Next
+        requires more { self.now.done < length steps.now }
+        requires may { MayFail known.now later steps.now self.now }
+        ensures fails { IsFailure result }
+        ensures wants { WantsNext known.now later steps.now self.now result }
+    {
+        Next::Fails {
+            cause: self.fault(known, key_of(&steps.as_slice()[self.done]), later),
+        }
+    }
+
+    /// Takes the page that a step needs from the cache, in a first try, or tells that it has to be
+    /// read.
     fn reach(
         &mut self,
         alloc: Global,
@@ -288,39 +290,36 @@ impl Attempt {
         steps: &Steps,
         addr: Addr,
         later: bool,
-    ) -> Result<Moved, NoMemory>
+    ) -> Result<Reached, NoMemory>
         requires pages { ArePages known.old.cache }
         requires way { IsOnItsWay known.old steps.now self.old }
         requires asks { Asks steps.now self.old addr }
         ensures kept { KeepsKnown known.old known.new }
-        ensures cache { Walks later (next_by result) known.old.cache known.new.cache }
+        ensures cache { Walks later (next_at later addr result) known.old.cache known.new.cache }
         ensures stays { KeepsVersion self.old self.new }
         ensures counts { self.new.counts ≡ self.old.counts }
         ensures later { later ≡ true → self.new.pages ≡ self.old.pages }
-        ensures moved { IfOk result (MovesOn known.new later steps.now self.new) }
-        ensures further { IfOk result (MovesFurther self.old self.new) }
+        ensures done { self.new.done ≡ self.old.done }
+        ensures reached { IfOk result (ReachesOn known.new later steps.now addr self.new) }
     {
-        let key = key_of(&steps.as_slice()[self.done]);
         if !known.has_node(addr) {
-            return Ok(fails(self.fault(known, key, later)));
+            return Ok(Reached::Unfit);
         }
         if !later {
             return self.reach_kept(alloc, known, steps, addr);
         }
         known.cache.drop_page(addr);
-        Ok(Moved::Wants {
-            next: Next::Page { addr, peek: false },
-        })
+        Ok(Reached::Needed)
     }
 
-    /// Takes the page from the cache, or asks for it by a Peek.
+    /// Takes the page from the cache, or tells that it has to be read.
     fn reach_kept(
         &mut self,
         alloc: Global,
         known: &mut Known,
         steps: &Steps,
         addr: Addr,
-    ) -> Result<Moved, NoMemory>
+    ) -> Result<Reached, NoMemory>
         requires pages { ArePages known.old.cache }
         requires way { IsOnItsWay known.old steps.now self.old }
         requires asks { Asks steps.now self.old addr }
@@ -329,19 +328,17 @@ impl Attempt {
         ensures cache { AreUsed known.old.cache known.new.cache }
         ensures stays { KeepsVersion self.old self.new }
         ensures counts { self.new.counts ≡ self.old.counts }
-        ensures moved { IfOk result (MovesOn known.new false steps.now self.new) }
-        ensures further { IfOk result (MovesFurther self.old self.new) }
+        ensures done { self.new.done ≡ self.old.done }
+        ensures reached { IfOk result (ReachesOn known.new false steps.now addr self.new) }
     {
         pages_are_known();
         let Some(kept) = known.kept_page(alloc, addr)? else {
-            return Ok(Moved::Wants {
-                next: Next::Page { addr, peek: true },
-            });
+            return Ok(Reached::Needed);
         };
         if self.keep(addr, kept.bytes, kept.page)? {
-            Ok(Moved::Came)
+            Ok(Reached::Came)
         } else {
-            Ok(fails(None))
+            Ok(Reached::Unfit)
         }
     }
 

@@ -210,6 +210,28 @@ impl Descent {
         self.want(true)
     }
 
+    /// Goes on at the pages that are kept, as far as they lead. On: it went on at as many pages as
+    /// a path has.
+    fn go_down(&mut self, known: &mut Known, key: &[u8]) -> Passed
+        requires pages { ArePages known.old.cache }
+        requires above { IsAbove self.old.above }
+        ensures kept { KeepsKnown known.old known.new }
+        ensures cache { AreUsed known.old.cache known.new.cache }
+        ensures above { IsAbove self.new.above }
+        ensures version { self.new.version ≡ self.old.version }
+        ensures path { (leaf : Descent) → LeadsTo known.old key.now self.old leaf
+            → (self.new ≡ leaf) × (result ≡ passed.Missing) }
+    {
+        for _level in 0..LEVELS {
+            match self.pass_kept(known, key) {
+                Passed::On => {}
+                Passed::Missing => return Passed::Missing,
+                Passed::Fault { seq } => return Passed::Fault { seq },
+            }
+        }
+        Passed::On
+    }
+
     /// What it wants next in a first try, which goes on at the pages that are kept.
     fn reach_kept(&mut self, known: &mut Known, key: &[u8]) -> Next
         requires pages { ArePages known.old.cache }
@@ -222,18 +244,13 @@ impl Descent {
         ensures path { (leaf : Descent) → LeadsTo known.old key.now self.old leaf
             → (self.new ≡ leaf) × (result ≡ wanted false leaf) }
     {
-        for _level in 0..LEVELS {
-            match self.pass_kept(known, key) {
-                Passed::On => {}
-                Passed::Missing => return self.want_on(known),
-                Passed::Fault { seq } => {
-                    return Next::Fails {
-                        cause: fault_at(self.addr, seq),
-                    };
-                }
-            }
+        match self.go_down(known, key) {
+            Passed::On => Next::Fails { cause: None },
+            Passed::Missing => self.want_on(known),
+            Passed::Fault { seq } => Next::Fails {
+                cause: fault_at(self.addr, seq),
+            },
         }
-        Next::Fails { cause: None }
     }
 
     /// The page that it needs in a first try, if its address is on one of the nodes.

@@ -1,5 +1,5 @@
-//! One try of an operation, as far as the client's own memory goes: what it wants to read next, what
-//! it makes of the bytes that came, and the plan or the answer that it ends with. It knows no
+//! One try of an operation, as far as the client's own memory goes: what it wants to read next,
+//! what it makes of the bytes that came, and the plan or the answer that it ends with. It knows no
 //! request and no reply (Minuet, PVLDB 2012).
 #![tactic(auto)]
 

@@ -36,9 +36,10 @@ impl Task {
     pub fn new(alloc: Global, op: SharedOp) -> Result<Self, NoMemory>
         ensures { IfOk result (λ task. task ≡ new_work op) }
     {
-        Ok(Task {
-            work: Box::new(alloc, Work::new(op))?,
-        })
+        match Box::new(alloc, Work::new(op)) {
+            Ok(work) => Ok(Task { work }),
+            Err(_) => Err(NoMemory),
+        }
     }
 
     /// The operation.

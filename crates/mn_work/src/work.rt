@@ -15,6 +15,7 @@ ghost use Rattle.mn_work.specs.Walks.{is_later};
 ghost use Rattle.mn_work.specs.Works.{AsksCount, AsksPage, BeginsJob, GoesOnBy, IsJobIfOn};
 ghost use Rattle.mn_work.specs.Works.{IsJobOf, IsScan, IsStartable, KeepsOp, MayStart, StartsBy};
 ghost use Rattle.mn_work.specs.Works.{TakesCatalog, TakesCountBytes, TakesPageBytes, WantsNext};
+ghost use Rattle.mn_work.specs.Works.{BeginsSteps, IsScanOp};
 ghost use Rattle.mn_work.specs.Works.{ends_with, lacks_catalog, lone_key, new_work, retried};
 ghost use Rattle.mn_work.specs.Works.{version_name};
 
@@ -242,33 +243,72 @@ impl Work {
                     };
                     return Ok(());
                 }
-                let tree = kept.copy_tree(alloc)?;
-                let attempt = Attempt::new(alloc, tree, version, root)?;
-                self.job = Job::Transaction { attempt };
+                self.begin_steps(alloc, kept, version, root)?;
             }
             Op::Snapshot { .. } | Op::Branch { .. } => {
                 self.job = Job::Child {
                     child: Child::new(alloc, version, root),
                 };
             }
-            Op::Scan {
-                low,
-                high,
-                limit,
-                ..
-            } => {
-                // The pairs have their place at the first catalog, which was none.
-                if self.spoiled {
-                    return Err(NoMemory);
-                }
-                let tree = kept.copy_tree(alloc)?;
-                let low = low.try_copy(alloc)?;
-                let high = high.try_copy(alloc)?;
-                let scan = ScanRun::new(alloc, tree, version, root, low, high, *limit)?;
-                self.job = Job::Scan { scan };
-            }
+            Op::Scan { .. } => self.begin_scan(alloc, kept, version, root)?,
             Op::Versions => unreachable!(),
         }
+        Ok(())
+    }
+
+    /// Begins a try of several steps.
+    #[inline(never)]
+    fn begin_steps(
+        &mut self,
+        alloc: Global,
+        kept: &Kept,
+        version: VersionNo,
+        root: Addr,
+    ) -> Result<(), NoMemory>
+        requires there { version.0 < length kept.now }
+        requires within { length kept.now ≤ 64 }
+        ensures begins { OnOk result (BeginsSteps kept.now version root self.new.job) }
+        ensures same { self.new ≡ record self.old { job = self.new.job } }
+    {
+        let tree = kept.copy_tree(alloc)?;
+        let attempt = Attempt::new(alloc, tree, version, root)?;
+        self.job = Job::Transaction { attempt };
+        Ok(())
+    }
+
+    /// Begins a scan.
+    #[inline(never)]
+    fn begin_scan(
+        &mut self,
+        alloc: Global,
+        kept: &Kept,
+        version: VersionNo,
+        root: Addr,
+    ) -> Result<(), NoMemory>
+        requires scan { IsScanOp self.old.op }
+        requires there { version.0 < length kept.now }
+        requires within { length kept.now ≤ 64 }
+        ensures begins { OnOk result (BeginsJob kept.now self.old version root self.new.job) }
+        ensures same { self.new ≡ record self.old { job = self.new.job } }
+    {
+        let Op::Scan {
+            low,
+            high,
+            limit,
+            ..
+        } = self.op.get()
+        else {
+            unreachable!();
+        };
+        // The pairs have their place at the first catalog, which was none.
+        if self.spoiled {
+            return Err(NoMemory);
+        }
+        let tree = kept.copy_tree(alloc)?;
+        let low = low.try_copy(alloc)?;
+        let high = high.try_copy(alloc)?;
+        let scan = ScanRun::new(alloc, tree, version, root, low, high, *limit)?;
+        self.job = Job::Scan { scan };
         Ok(())
     }
 

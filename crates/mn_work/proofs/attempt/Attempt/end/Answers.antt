@@ -5,9 +5,9 @@ use Rattle.mn_txn.specs.declared.seen.SeenPage.{SeenPage}
 use Rattle.mn_txn.specs.AttemptPlan.{RefusesDone}
 use Rattle.mn_base.specs.declared.reply.Reply.TheVariants.{Values}
 use Rattle.mn_work.specs.declared.next.Next.TheVariants as next
-use Rattle.mn_work.specs.Attempts.{IsOnItsWay, IsTold, IsUnderWay, StaysOnItsWay, WantsBy, WantsNext, IsPlanWanted, was_read}
+use Rattle.mn_work.specs.Attempts.{IsOnItsWay, IsTold, IsUnderWay, StaysOnItsWay, WantsBy, WantsNext, IsPlanWanted, was_read, with_overlay}
 use Rattle.mn_work.specs.Answers.{worn_by}
-use Rattle.mn_work.proofs.Attempts.{done_may, of_kept, plan_wanted, slots_are_many, to_kept, wanted_kept, with_overlay, worn_page, worn_wants, worn_way}
+use Rattle.mn_work.proofs.Attempts.{done_may, of_kept, plan_wanted, slots_are_many, to_kept, wanted_kept, worn_page, worn_wants, worn_way}
 use Rattle.mn_work.proofs.attempt.Attempt.end.Goals as goal
 
 pub place-requires : goal.place-requires

@@ -1,14 +1,11 @@
-use Rattle.std.proofs.Common.{◌<◌, refl, sym, subst, ℕ, length}
-use Rattle.std.proofs.lemmas.Option.{slice_get_within}
+use Rattle.std.proofs.Common.{refl, subst}
 use Rattle.mn_work.specs.Attempts.{ComesIn}
-use Rattle.mn_work.proofs.Attempts.{by_kept, comes_on}
+use Rattle.mn_work.proofs.Attempts.{by_kept, comes_on, unfit_may}
 use Rattle.mn_work.proofs.attempt.Attempt.reach_kept.Goals as goal
 
-pub returns-then-branch-clause-moved : goal.returns-then-branch-clause-moved
-returns-then-branch-clause-moved c = (
+pub returns-then-branch-clause-reached : goal.returns-then-branch-clause-reached
+returns-then-branch-clause-reached c = (
   refl,
-  subst (λ (n : ℕ). n < length c.args.steps.now) (sym c.in_ok-keep.ensures.stays.2)
-      (slice_get_within c.args.steps.now c.args.self.now.done c.requires.asks.step c.requires.asks.next),
   by_kept c.args.known.now c.kept_page.new.self c.args.steps.now c.in_ok-kept.ensures.kept c.args.self.now c.keep.new.self
       (λ entries is way.
       comes_on c.args.known.now.nodes entries c.args.steps.now c.args.self.now c.keep.new.self way c.args.addr c.requires.asks c.requires.node c.in-Some.kept.page
@@ -17,3 +14,7 @@ returns-then-branch-clause-moved c = (
       (subst (ComesIn c.args.self.now c.args.addr c.in-Some.kept.page c.keep.new.self) c.if-branch.true c.in_ok-keep.ensures.comes))
       c.requires.way,
 )
+
+pub returns-else-branch-clause-reached : goal.returns-else-branch-clause-reached
+returns-else-branch-clause-reached c =
+    unfit_may c.args.known.now c.kept_page.new.self c.args.steps.now c.args.self.now c.keep.new.self c.in_ok-kept.ensures.kept c.requires.way

@@ -1,32 +1,63 @@
 -- None of the cached pages has left before the next one is wanted.
-use Rattle.std.proofs.Common.{Ok, rules, subst}
-use Rattle.mn_work.specs.declared.attempt.Moved.{Moved}
-use Rattle.mn_work.specs.Cached.{Walks, next_by}
+use Rattle.std.proofs.Common.{◌∙◌, ◌<◌, ℕ, Ok, length, refl, subst, sym}
+use Rattle.std.proofs.lemmas.Option.{slice_get_read}
+use Rattle.mn_tree.specs.State.{AsksFor}
+use Rattle.mn_work.specs.declared.attempt.Reached.{Reached}
+use Rattle.mn_work.specs.Attempts.{ReachesOn}
+use Rattle.mn_work.specs.Cached.{Walks, next_at}
+use Rattle.mn_work.proofs.Attempts.{asks_for, needs_on, on_its_way, runs_on}
 use Rattle.mn_work.proofs.Cached.{then_used, uses, walks_none, walks_on}
 use Rattle.mn_work.proofs.attempt.Attempt.run_step.Goals as goal
 
-pub returns-in_err-step-clause-cache : goal.returns-in_err-step-clause-cache
-returns-in_err-step-clause-cache c =
-    uses c.args.later _ c.args.known.now.cache c.step.new.known.cache
-    (then_used c.args.known.now.cache c.loop-level.known.cache c.step.new.known.cache c.loop-level.invariant.1
-    (walks_none c.args.later c.loop-level.known.cache c.step.new.known.cache c.in_err-step.ensures.cache))
+pub reach-requires-clause-way : goal.reach-requires-clause-way
+reach-requires-clause-way c =
+    let all = c.args.steps.now in
+    let before = c.loop-level.self in
+    let step = c.index-as_slice-self.result in
+    let more = subst (λ (n : ℕ). n < length all) (sym c.loop-level.invariant.2) c.requires.more in
+    let next = slice_get_read all (length all) before.done step refl more (rw c.as_slice.ensures.steps at c.index-as_slice-self.is) in
+    let need = sym c.in-Ok-Need.ensures.answer ∙ c.in-Ok-Need.field-0-is in
+    on_its_way c.loop-level.known all before _
+    (λ entries way. needs_on c.loop-level.known.nodes entries all before _ way (refl, refl) step next c.in-Ok-Need.ensures.state refl refl c.moves_take_steps.ensures c.in-Ok-Need.addr need refl refl) c.loop-level.invariant.0.way
 
-pub returns-in-Done-clause-cache : goal.returns-in-Done-clause-cache
-returns-in-Done-clause-cache c =
-    walks_on c.args.later _ c.args.known.now.cache c.loop-level.known.cache c.step.new.known.cache c.loop-level.invariant.1
-    (subst (λ (m : Moved). Walks c.args.later (next_by (Ok m)) c.loop-level.known.cache c.step.new.known.cache) c.in-Done.is c.in_ok-step.ensures.cache)
+pub reach-requires-clause-asks : goal.reach-requires-clause-asks
+reach-requires-clause-asks c =
+    let all = c.args.steps.now in
+    let before = c.loop-level.self in
+    let step = c.index-as_slice-self.result in
+    let more = subst (λ (n : ℕ). n < length all) (sym c.loop-level.invariant.2) c.requires.more in
+    let next = slice_get_read all (length all) before.done step refl more (rw c.as_slice.ensures.steps at c.index-as_slice-self.is) in
+    let need = sym c.in-Ok-Need.ensures.answer ∙ c.in-Ok-Need.field-0-is in
+    asks_for all before _ step c.in-Ok-Need.addr next need c.in-Ok-Need.ensures.state
+    (subst (AsksFor c.step.new.self) c.in-Ok-Need.field-0-is c.in-Ok-Need.ensures.wanted)
 
-pub returns-in-Wants-clause-cache : goal.returns-in-Wants-clause-cache
-returns-in-Wants-clause-cache c =
-    walks_on c.args.later _ c.args.known.now.cache c.loop-level.known.cache c.step.new.known.cache c.loop-level.invariant.1
-    (subst (λ (m : Moved). Walks c.args.later (next_by (Ok m)) c.loop-level.known.cache c.step.new.known.cache) c.in-Wants.is c.in_ok-step.ensures.cache)
+pub returns-in_err-reach-clause-cache : goal.returns-in_err-reach-clause-cache
+returns-in_err-reach-clause-cache c =
+    uses c.args.later _ c.args.known.now.cache c.reach.new.known.cache
+    (then_used c.args.known.now.cache c.loop-level.known.cache c.reach.new.known.cache c.loop-level.invariant.1
+    (walks_none c.args.later c.loop-level.known.cache c.reach.new.known.cache c.in_err-reach.ensures.cache))
+
+pub returns-in-Needed-clause-cache : goal.returns-in-Needed-clause-cache
+returns-in-Needed-clause-cache c =
+    walks_on c.args.later _ c.args.known.now.cache c.loop-level.known.cache c.reach.new.known.cache c.loop-level.invariant.1
+    (subst (λ (r : Reached). Walks c.args.later (next_at c.args.later c.in-Ok-Need.addr (Ok r)) c.loop-level.known.cache c.reach.new.known.cache) c.in-Needed.is c.in_ok-reach.ensures.cache)
+
+pub returns-in-Unfit-clause-cache : goal.returns-in-Unfit-clause-cache
+returns-in-Unfit-clause-cache c =
+    uses c.args.later _ c.args.known.now.cache c.reach.new.known.cache
+    (then_used c.args.known.now.cache c.loop-level.known.cache c.reach.new.known.cache c.loop-level.invariant.1
+    (walks_none c.args.later c.loop-level.known.cache c.reach.new.known.cache
+    (subst (λ (r : Reached). Walks c.args.later (next_at c.args.later c.in-Ok-Need.addr (Ok r)) c.loop-level.known.cache c.reach.new.known.cache) c.in-Unfit.is c.in_ok-reach.ensures.cache)))
 
 pub loop-level-preserved : goal.loop-level-preserved
-loop-level-preserved c = (
-  search rules,
-  then_used c.args.known.now.cache c.loop-level.known.cache c.step.new.known.cache c.loop-level.invariant.1
-      (walks_none c.args.later c.loop-level.known.cache c.step.new.known.cache
-      (subst (λ (m : Moved). Walks c.args.later (next_by (Ok m)) c.loop-level.known.cache c.step.new.known.cache) c.in-Came.is c.in_ok-step.ensures.cache)),
-  search rules,
-  search rules,
-)
+loop-level-preserved c =
+    let came = subst (ReachesOn c.reach.new.known c.args.later c.args.steps.now c.in-Ok-Need.addr c.reach.new.self) c.in-Came.is c.in_ok-reach.ensures.reached in
+    let so_far = c.loop-level.invariant in
+    let first = came.0 in (
+      runs_on c.args.known.now c.loop-level.known c.reach.new.known c.args.later c.args.steps.now c.args.self.now c.loop-level.self c.reach.new.self so_far.0 c.reach.ensures.kept c.reach.ensures.stays c.reach.ensures.counts c.reach.ensures.later came.1,
+      then_used c.args.known.now.cache c.loop-level.known.cache c.reach.new.known.cache so_far.1
+          (walks_none c.args.later c.loop-level.known.cache c.reach.new.known.cache
+          (subst (λ (r : Reached). Walks c.args.later (next_at c.args.later c.in-Ok-Need.addr (Ok r)) c.loop-level.known.cache c.reach.new.known.cache) c.in-Came.is c.in_ok-reach.ensures.cache)),
+      c.reach.ensures.done ∙ so_far.2,
+      λ l. absurd cc,
+    )

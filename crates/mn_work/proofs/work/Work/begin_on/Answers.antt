@@ -7,23 +7,19 @@ use Rattle.mn_base.specs.declared.op.Op.{Op}
 use Rattle.mn_base.specs.declared.op.Op.TheVariants.{Tx, Snapshot, Branch}
 use Rattle.mn_base.specs.declared.op.Step.{Step}
 use Rattle.mn_page.specs.declared.entry.CatEntry.{CatEntry}
-use Rattle.mn_page.specs.Forest.{heads_in}
-use Rattle.mn_base.specs.Tree.{parents_of}
-use Rattle.mn_work.specs.declared.attempt.Attempt.{Attempt}
+use Rattle.mn_work.specs.declared.work.Job.{Job}
 use Rattle.mn_work.specs.declared.child.Child.{Child}
 use Rattle.mn_work.specs.declared.work.Job.TheVariants as at
-use Rattle.mn_work.specs.Attempts.{IsBegun}
-use Rattle.mn_work.specs.Works.{BeginsOn, IsNewChild, lone_key}
+use Rattle.mn_work.specs.Works.{BeginsOn, BeginsSteps, IsNewChild, lone_key}
 use Rattle.mn_work.proofs.work.Work.begin_on.Goals as goal
 
 begins_steps : (entries : List CatEntry) (op : Op) (spoiled : Bool) (version : VersionNo) (root : Addr) (name : List ℕ)
-    (steps : List Step) (a : Attempt) (o : Option (List ℕ)) → op ≡ Tx name steps → lone_key steps ≡ o → o ≡ None
-    → IsBegun (parents_of (heads_in entries)) version root a
-    → BeginsOn entries op spoiled version root (at.Transaction a)
-begins_steps entries op spoiled version root name steps a o is key none begun =
-    subst (λ (p : Op). BeginsOn entries p spoiled version root (at.Transaction a)) (sym is)
-    (subst (λ (k : Option (List ℕ)). MatchOption k ((b : Attempt) × (at.Transaction a ≡ at.Transaction b) × IsBegun (parents_of (heads_in entries)) version root b) (λ key. at.Transaction a ≡ at.Get (record { version = version; addr = root; above = None })))
-    (sym (key ∙ none)) (a, refl, begun))
+    (steps : List Step) (job : Job) (o : Option (List ℕ)) → op ≡ Tx name steps → lone_key steps ≡ o → o ≡ None
+    → BeginsSteps entries version root job → BeginsOn entries op spoiled version root job
+begins_steps entries op spoiled version root name steps job o is key none begins =
+    subst (λ (p : Op). BeginsOn entries p spoiled version root job) (sym is)
+    (subst (λ (k : Option (List ℕ)). MatchOption k (BeginsSteps entries version root job) (λ key. job ≡ at.Get (record { version = version; addr = root; above = None })))
+    (sym (key ∙ none)) begins)
 
 not_lone : {X : Type 0} (f : X → List ℕ) (o : Option X) (k : Option (List ℕ)) → is_some o ≡ false
     → option_map f o ≡ k → k ≡ None
@@ -42,11 +38,11 @@ begins_child entries op spoiled version root c (inl is) new =
 begins_child entries op spoiled version root c (inr is) new =
     subst (λ (p : Op). BeginsOn entries p spoiled version root (at.Child c)) (sym is.2) (c, refl, new)
 
-pub returns-in_ok-attempt-in-Tx-clause-begins : goal.returns-in_ok-attempt-in-Tx-clause-begins
-returns-in_ok-attempt-in-Tx-clause-begins c =
-    begins_steps c.args.kept.now c.args.self.now.op c.args.self.now.spoiled c.args.version c.args.root c.in-Tx.version c.in-Tx.steps c.in_ok-attempt-in-Tx.attempt _ (sym c.get.ensures ∙ c.in-Tx.is) refl
+pub returns-in_ok-begin_steps-in-Tx-clause-begins : goal.returns-in_ok-begin_steps-in-Tx-clause-begins
+returns-in_ok-begin_steps-in-Tx-clause-begins c =
+    begins_steps c.args.kept.now c.args.self.now.op c.args.self.now.spoiled c.args.version c.args.root c.in-Tx.version c.in-Tx.steps c.begin_steps.new.self.job _ (sym c.get.ensures ∙ c.in-Tx.is) refl
     (not_lone (λ k. k.now) c.lone_get.result (lone_key c.in-Tx.steps) (sym c.is_some.ensures ∙ c.if-is_some.false) c.lone_get.ensures)
-    (subst (λ (tree : List (Option ℕ)). IsBegun tree c.args.version c.args.root c.in_ok-attempt-in-Tx.attempt) c.in_ok-tree-in-Tx.ensures c.in_ok-attempt-in-Tx.ensures)
+    c.in_ok-begin_steps-in-Tx.ensures.begins
 
 pub returns-in-Snapshot-clause-begins : goal.returns-in-Snapshot-clause-begins
 returns-in-Snapshot-clause-begins c =

@@ -6,7 +6,7 @@ use Rattle.mn_work.specs.Knows.{KeepsKnown}
 use Rattle.mn_work.specs.Paths.{LeadsTo}
 use Rattle.mn_work.specs.Walks.{IsAbove}
 use Rattle.mn_work.proofs.Paths.{HasGone}
-use Rattle.mn_work.proofs.get.Descent.reach_kept.Given as goal
+use Rattle.mn_work.proofs.get.Descent.go_down.Given as goal
 
 abbrev pub invariant-loop-level : goal.invariant-loop-level
 invariant-loop-level l = record {
