@@ -11,7 +11,7 @@ use Rattle.mn_mini.specs.Mini.{Mini, participants_of, part_of}
 use Rattle.mn_mini.specs.Sound.{IsSoundRequest}
 use Rattle.mn_coord.specs.declared.stage.Stage.TheVariants as At
 use Rattle.mn_coord.specs.declared.step.CoordStep.TheVariants.{Send}
-use Rattle.mn_coord.specs.declared.machine.Machine.TheInside.{Inside}
+use Rattle.mn_coord.specs.declared.machine.Machine.{Machine}
 use Rattle.mn_coord.specs.Coordination.{Coordination, IsSoundCoordination, IsSoundStep, is_stopped_at_last, participant, stage_of, step_at, step_of}
 use Rattle.mn_coord.specs.Inside.{view_of, IsSoundInside}
 
@@ -79,7 +79,7 @@ module _ (c : Coordination) (law : PartsAreSound) (sound : IsSoundCoordination c
   step_sound = stage_sound c.refused
 
 -- what is so of its fields
-pub inside_sound : (c : Inside) → IsSoundInside c → IsSoundCoordination (view_of c)
+pub inside_sound : (c : Machine) → IsSoundInside c → IsSoundCoordination (view_of c)
 inside_sound c is = record { id = is.id; mini = is.mini; done = no_more c.refused is.done }
   where
     no_more : (refused : Option NodeReply) → MatchOption refused (c.done ≤ length (participants_of c.mini)) (λ reply. c.done < length (participants_of c.mini)) → c.done ≤ length (participants_of c.mini)

@@ -17,7 +17,7 @@ use Rattle.mn_mini.proofs.Parts.{named_takes_part}
 use Rattle.mn_coord.specs.declared.stage.Stage.{Stage}
 use Rattle.mn_coord.specs.declared.stage.Stage.TheVariants as At
 use Rattle.mn_coord.specs.declared.step.CoordStep.TheVariants.{Send}
-use Rattle.mn_coord.specs.declared.machine.Machine.TheInside.{Inside}
+use Rattle.mn_coord.specs.declared.machine.Machine.{Machine}
 use Rattle.mn_coord.specs.Coordination.{Coordination, is_stopped_at_last, stage_of, stage_in, try_request, step_at, step_of, fed_at}
 use Rattle.mn_coord.specs.Tries.{tries_of}
 use Rattle.mn_coord.specs.Inside.{view_of, sent_of, IsSoundInside}
@@ -70,11 +70,11 @@ first_left tid mini (p ∷ ps) zero request rest e = cc
 first_left tid mini (p ∷ ps) (suc i) request rest e = first_left tid mini ps i request rest e
 
 -- where none is out, as many were asked as have answered
-idle_sent : (c : Inside) → c.asked ≡ false → c.refused ≡ None → sent_of (length (participants_of c.mini)) c.done c.refused c.asked ≡ c.done
+idle_sent : (c : Machine) → c.asked ≡ false → c.refused ≡ None → sent_of (length (participants_of c.mini)) c.done c.refused c.asked ≡ c.done
 idle_sent c idle none =
     ap (λ (r : Option NodeReply). sent_of (length (participants_of c.mini)) c.done r c.asked) none ∙ ap (λ b. sent_of (length (participants_of c.mini)) c.done None b) idle
 
-pub asks : (c : Inside) → IsSoundInside c → c.asked ≡ false → stage_in (view_of c) ≡ At.Ask → (request : Request) (rest : List Request) → c.requests ≡ request ∷ rest
+pub asks : (c : Machine) → IsSoundInside c → c.asked ≡ false → stage_in (view_of c) ≡ At.Ask → (request : Request) (rest : List Request) → c.requests ≡ request ∷ rest
     → (node : NodeNo) → node ≡ slice_index_or (participants_of c.mini) c.done (record { 0 = 0 }) → Send node request ≡ step_of (view_of c)
 asks c is idle stage request rest first node at =
     let facts = asking (length (participants_of c.mini)) c.done c.refused c.told c.decided stage in
@@ -83,7 +83,7 @@ asks c is idle stage request rest first node at =
     ap (λ (m : NodeNo). Send m request) at ∙ (ap (λ (r : Request). Send (slice_index_or (participants_of c.mini) c.done (record { 0 = 0 })) r) request_is ∙ sym (ap (step_at (view_of c)) stage))
 
 -- once the next one is asked, the others are left
-pub asked_left : (c : Inside) → IsSoundInside c → c.asked ≡ false → stage_in (view_of c) ≡ At.Ask → (rest : List Request) → rest ≡ drop 1 c.requests → IsSoundInside (record c { requests = rest; asked = true })
+pub asked_left : (c : Machine) → IsSoundInside c → c.asked ≡ false → stage_in (view_of c) ≡ At.Ask → (rest : List Request) → rest ≡ drop 1 c.requests → IsSoundInside (record c { requests = rest; asked = true })
 asked_left c is idle stage rest next =
     let n = length (participants_of c.mini) in
     let tries = tries_of c.tid c.mini in

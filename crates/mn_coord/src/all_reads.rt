@@ -1,4 +1,4 @@
-ghost use Rattle.std.specs.Prelude.{◌≡◌, ◌<◌, ◌^◌, [], length, replicate, slice_set, IfOk};
+ghost use Rattle.std.specs.Prelude.{◌≡◌, ◌<◌, ◌^◌, [], ◌∷◌, length, replicate, slice_set, IfOk};
 
 use mn_base::NoMemory;
 use mn_mini::Reads;
@@ -6,7 +6,7 @@ use std::alloc::Global;
 use std::marker::Model;
 use std::slice;
 
-/// What each participant read, by participant. Contracts see it as a list. What a lone one read
+/// What each participant read, by participant. Contracts see it as a list. What one or two read
 /// lies in place.
 #[derive(Debug)]
 pub struct AllReads {
@@ -16,11 +16,13 @@ pub struct AllReads {
 #[derive(Debug, Drop)]
 enum Kept {
     One(Reads),
+    Two([Reads; 2]),
     Several(Vec<Reads>),
 }
 
 /// It is let go by a call, which is proved once, and not in place wherever one goes.
 impl Drop for AllReads {
+    #[inline(always)]
     fn drop(self) {
         let AllReads { kept } = self;
         drop(kept);
@@ -48,13 +50,23 @@ fn no_reads(alloc: Global, participants: usize) -> Result<Vec<Reads>, NoMemory>
 }
 
 impl AllReads {
+    /// Nothing for a lone participant. It takes no memory.
+    pub(crate) fn of_one() -> Self
+        ensures { result ≡ [] ∷ [] }
+    {
+        AllReads {
+            kept: Kept::One(Reads::none()),
+        }
+    }
+
     /// Nothing for each of so many participants. NoMemory: there was no memory for it.
+    #[inline(never)]
     pub(crate) fn new(alloc: Global, participants: usize) -> Result<Self, NoMemory>
         ensures { IfOk result (λ reads. reads ≡ replicate participants []) }
     {
-        if participants == 1 {
+        if participants == 2 {
             return Ok(AllReads {
-                kept: Kept::One(Reads::none()),
+                kept: Kept::Two([Reads::none(), Reads::none()]),
             });
         }
         let reads = no_reads(alloc, participants)?;
@@ -71,6 +83,8 @@ impl AllReads {
     {
         match &mut self.kept {
             Kept::One(one) => *one = reads,
+            Kept::Two(two) if at == 0 => two[0] = reads,
+            Kept::Two(two) => two[1] = reads,
             Kept::Several(several) => several[at] = reads,
         }
     }
@@ -80,6 +94,7 @@ impl AllReads {
     {
         match &self.kept {
             Kept::One(one) => slice::from_ref(one),
+            Kept::Two(two) => two,
             Kept::Several(several) => several,
         }
     }

@@ -26,10 +26,13 @@ impl Drop for Coordinator {
 
 impl Model for Coordinator {
     ghost use Rattle.mn_coord.specs.Coordination.{Coordination};
+    ghost use Rattle.mn_coord.specs.Inside.{view_of, IsSoundInside};
 
     ghost Value = { Coordination };
 
-    ghost view = { λ c. c.machine.value };
+    ghost view = { λ c. view_of c.machine.value };
+
+    ghost invariant = { λ c. IsSoundInside c.machine.value };
 }
 
 impl Coordinator {

@@ -1,8 +1,8 @@
-ghost use Rattle.std.specs.Prelude.{◌≡◌, ◌<◌, ◌≤◌, true, false, length, slice_index_or};
+ghost use Rattle.std.specs.Prelude.{◌≡◌, ◌<◌, ◌≤◌, true, false, [], ◌∷◌, length, slice_index_or};
 ghost use Rattle.std.specs.Prelude.{IfOk, OnOk};
 ghost use Rattle.std.specs.Option.{option_map};
 ghost use Rattle.mn_mini.specs.Mini.{IsSound, participants_of};
-ghost use Rattle.mn_mini.specs.RecordGrammar.{IsTid};
+ghost use Rattle.mn_coord.specs.Inside.{view_of, unfilled, filled, IsSoundInside};
 
 use crate::requests::Requests;
 use crate::stage::stage_for;
@@ -10,9 +10,8 @@ use crate::{AllReads, CoordStep, Outcome, Stage};
 use mn_base::{NoMemory, NodeNo, Tid};
 use mn_mini::{Minitransaction, NodeReply, Reads, Request};
 use std::alloc::Global;
-use std::marker::Model;
 
-/// What a coordinator keeps. Contracts see what it was answered so far.
+/// What a coordinator keeps.
 #[derive(Debug)]
 pub struct Machine {
     tid: Tid,
@@ -47,17 +46,6 @@ impl Drop for Machine {
     }
 }
 
-impl Model for Machine {
-    ghost use Rattle.mn_coord.specs.Coordination.{Coordination};
-    ghost use Rattle.mn_coord.specs.Inside.{view_of, IsSoundInside};
-
-    ghost Value = { Coordination };
-
-    ghost view = { view_of };
-
-    ghost invariant = { IsSoundInside };
-}
-
 /// How many participants it has. There is one, since it has an item.
 fn participants_in(mini: &Minitransaction) -> usize
     ensures count { result ≡ length (participants_of mini.now) }
@@ -76,45 +64,77 @@ fn node_at(mini: &Minitransaction, number: usize) -> NodeNo
     mini.participants().as_slice()[number]
 }
 
+/// What is kept of a minitransaction before its requests are made. What is handed back where there
+/// is no memory is large: it is let go at once, and not moved through a `?`.
+fn machine_for(alloc: Global, tid: Tid, mini: Minitransaction) -> Result<Box<Machine>, NoMemory>
+    ensures { IfOk result (λ machine. machine.value ≡ unfilled tid mini) }
+{
+    let made = Box::new(
+        alloc,
+        Machine {
+            tid,
+            mini,
+            requests: Requests::none(),
+            reads: AllReads::of_one(),
+            done: 0,
+            refused: None,
+            told: false,
+            decided: 0,
+            asked: false,
+        },
+    );
+    match made {
+        Ok(machine) => Ok(machine),
+        Err(_) => Err(NoMemory),
+    }
+}
+
 impl Machine {
-    ghost use Rattle.mn_coord.specs.Coordination.{IsSoundCoordination, stage_in};
-    ghost use Rattle.mn_coord.specs.Coordination.{new_coordination, step_of, after_step, fed};
+    ghost use Rattle.mn_mini.specs.declared.request.Request.TheVariants.{Decide};
+    ghost use Rattle.mn_coord.specs.declared.stage.Stage.TheVariants.{Ask};
+    ghost use Rattle.mn_coord.specs.declared.step.CoordStep.TheVariants.{Send};
+    ghost use Rattle.mn_coord.specs.Coordination.{IsSoundCoordination, participant, stage_in};
+    ghost use Rattle.mn_coord.specs.Coordination.{step_of, after_step, fed};
 
     /// That of a minitransaction that was not asked for yet, made in the memory where it stays.
     /// NoMemory: there was no memory for all that it will need.
     pub fn new(alloc: Global, tid: Tid, mini: Minitransaction) -> Result<Box<Self>, NoMemory>
-        requires id { IsTid tid }
-        ensures starts { IfOk result (λ c. c.value ≡ new_coordination tid mini) }
+        ensures starts { IfOk result (λ m. m.value
+            ≡ filled (unfilled tid mini) (length (participants_of mini))) }
         ensures some { OnOk result (1 ≤ length (participants_of mini)) }
+        ensures sound { OnOk result (IsSound mini) }
     {
-        let requests = Requests::new(alloc, tid, &mini)?;
-        let reads = AllReads::new(alloc, participants_in(&mini))?;
-        let machine = Box::new(
-            alloc,
-            Machine {
-                tid,
-                mini,
-                requests,
-                reads,
-                done: 0,
-                refused: None,
-                told: false,
-                decided: 0,
-                asked: false,
-            },
-        )?;
+        let mut machine = machine_for(alloc, tid, mini)?;
+        machine.fill(alloc)?;
         Ok(machine)
+    }
+
+    /// Makes its requests, and room for what its participants read.
+    fn fill(&mut self, alloc: Global) -> Result<(), NoMemory>
+        requires none { self.old.requests ≡ [] }
+        requires one { self.old.reads ≡ [] ∷ [] }
+        ensures filled { OnOk result
+            (self.new ≡ filled self.old (length (participants_of self.old.mini))) }
+        ensures some { OnOk result (1 ≤ length (participants_of self.old.mini)) }
+        ensures sound { OnOk result (IsSound self.old.mini) }
+    {
+        let participants = participants_in(&self.mini);
+        self.requests.make(alloc, self.tid, &self.mini)?;
+        if participants != 1 {
+            self.reads = AllReads::new(alloc, participants)?;
+        }
+        Ok(())
     }
 
     // What is so of each.
     pub fn is_sound(&self)
-        ensures { IsSoundCoordination self.now }
-    {
-        let _items = self.mini.items();
-    }
+        requires { IsSoundInside self.now }
+        ensures { IsSoundCoordination (view_of self.now) }
+    {}
 
     fn stage(&self) -> Stage
-        ensures { result ≡ stage_in self.now }
+        requires { IsSoundInside self.now }
+        ensures { result ≡ stage_in (view_of self.now) }
     {
         stage_for(
             self.mini.participants().as_slice().len(),
@@ -125,45 +145,56 @@ impl Machine {
         )
     }
 
-    /// What it wants next.
-    pub fn advance(&mut self) -> CoordStep
+    /// Hands out the request to the next participant.
+    #[inline(never)]
+    fn ask(&mut self) -> CoordStep
+        requires sound { IsSoundInside self.old }
         requires idle { self.old.asked ≡ false }
-        ensures step { result ≡ step_of self.old }
-        ensures after { self.new ≡ after_step self.old result }
+        requires stage { stage_in (view_of self.old) ≡ Ask }
+        ensures sound { IsSoundInside self.new }
+        ensures step { result ≡ step_of (view_of self.old) }
+        ensures after { view_of self.new ≡ after_step (view_of self.old) result }
+    {
+        self.asked = true;
+        let node = node_at(&self.mini, self.done);
+        match self.requests.pop_front() {
+            Some(request) => CoordStep::Send { node, request },
+            None => unreachable!(),
+        }
+    }
+
+    /// Tells the next participant the decision.
+    #[inline(never)]
+    fn decide(&mut self, yes: bool) -> CoordStep
+        requires { self.old.decided < length (participants_of self.old.mini) }
+        ensures step { result
+            ≡ Send (participant (view_of self.old) self.old.decided) (Decide self.old.tid yes) }
+        ensures after { self.new ≡ record self.old { asked = true } }
+    {
+        self.asked = true;
+        CoordStep::Send {
+            node: node_at(&self.mini, self.decided),
+            request: Request::Decide { tid: self.tid, yes },
+        }
+    }
+
+    /// What it wants next.
+    #[inline(always)]
+    pub fn advance(&mut self) -> CoordStep
+        requires sound { IsSoundInside self.old }
+        requires idle { self.old.asked ≡ false }
+        ensures sound { IsSoundInside self.new }
+        ensures step { result ≡ step_of (view_of self.old) }
+        ensures after { view_of self.new ≡ after_step (view_of self.old) result }
     {
         match self.stage() {
-            Stage::Ask => {
-                self.asked = true;
-                let node = node_at(&self.mini, self.done);
-                match self.requests.pop_front() {
-                    Some(request) => CoordStep::Send { node, request },
-                    None => unreachable!(),
-                }
-            }
-            Stage::Commit => {
-                self.asked = true;
-                CoordStep::Send {
-                    node: node_at(&self.mini, self.decided),
-                    request: Request::Decide {
-                        tid: self.tid,
-                        yes: true,
-                    },
-                }
-            }
+            Stage::Ask => self.ask(),
+            Stage::Commit => self.decide(true),
             Stage::Abandon => {
                 self.told = true;
                 CoordStep::Abandon
             }
-            Stage::Cancel => {
-                self.asked = true;
-                CoordStep::Send {
-                    node: node_at(&self.mini, self.decided),
-                    request: Request::Decide {
-                        tid: self.tid,
-                        yes: false,
-                    },
-                }
-            }
+            Stage::Cancel => self.decide(false),
             Stage::Committed => CoordStep::Committed,
             Stage::Failed => CoordStep::Failed {
                 node: node_at(&self.mini, self.done),
@@ -176,8 +207,10 @@ impl Machine {
 
     /// The reply to the request that is out.
     pub fn take(&mut self, reply: NodeReply)
-        requires { self.old.asked ≡ true }
-        ensures { self.new ≡ fed self.old reply }
+        requires sound { IsSoundInside self.old }
+        requires asked { self.old.asked ≡ true }
+        ensures sound { IsSoundInside self.new }
+        ensures fed { view_of self.new ≡ fed (view_of self.old) reply }
     {
         let stage = self.stage();
         self.asked = false;
