@@ -19,3 +19,5 @@ pub mod Lines
 pub mod Moved
 pub mod Reported
 pub mod Following
+pub mod Taking
+pub mod Notings

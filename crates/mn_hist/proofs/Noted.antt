@@ -400,7 +400,8 @@ only_shown c op reply (e ∷ past) place b note l under one =
 
 only_or_last : (c : ClientNo) (op : Op) (reply : Reply) (past : List Entry) (place : ℕ) (b : Begun) → (caller_state c past).begun ≡ Some b
     → ((p : ℕ) × LastShown c op reply past p) → IsOnlyNote (caller_state c past).notes place ⊎ IsLastNote (caller_state c past).notes op reply place → LastShown c op reply past place
-only_or_last c op reply past place b under has (inl one) =
+only_or_last c op reply past place b under has (inl (inl none)) = absurd (none_shown c op reply past has.0 b has.1 under none)
+only_or_last c op reply past place b under has (inl (inr one)) =
     subst (λ p. LastShown c op reply past p) (only_shown c op reply past has.0 b one.0 has.1 under one.1 ∙ sym one.2) has.1
 only_or_last c op reply past place b under has (inr last) = last_note c op reply past place last
 

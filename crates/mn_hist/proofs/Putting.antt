@@ -122,6 +122,10 @@ pub on_ok : {A B : Type 0} (r : Result (Unit {0}) NoMemory) → OnOk r A → (A 
 on_ok (Ok u) a to = to a
 on_ok (Err e) a to = tt
 
+pub on_both : (A B : Type 0) (r : Result (Unit {0}) NoMemory) → OnOk r A → OnOk r B → OnOk r (A × B)
+on_both A B (Ok u) a b = (a, b)
+on_both A B (Err e) a b = tt
+
 pub on_err : {A B : Type 0} (r : Result (Unit {0}) NoMemory) → OnErr r A → (A → B) → OnErr r B
 on_err (Ok u) a to = tt
 on_err (Err e) a to = to a

@@ -1,7 +1,7 @@
 -- What is kept of the entries so far to tell the history. Lists of entries and of reads stand
 -- newest first.
 use Rattle.std.specs.Prelude.{ℕ, ◌≡◌, ◌⊎◌, ◌<◌, Bool, true, false}
-use Rattle.std.specs.Prelude.{List, [], ◌∷◌, ◌++◌, length, map, Option, Some, None}
+use Rattle.std.specs.Prelude.{List, [], ◌∷◌, ◌++◌, length, map, flat_map, Option, Some, None}
 use Rattle.std.specs.Prelude.{if◌then◌else◌, slice_get, take, drop, insert}
 use Rattle.std.specs.List.{AllByRecursion}
 use Rattle.mn_base.specs.Ids.{tid_same}
@@ -37,6 +37,20 @@ pub record Note : Type 0 where
   pub seen : Seen
   pub catalog : Option (List ℕ)
 
+-- an entry that may bring a read, with its place, what it read, and the bytes of the catalog that
+-- its client had read last before it
+pub record Noting : Type 0 where
+  pub place : ℕ
+  pub seens : List Seen
+  pub catalog : Option (List ℕ)
+
+abbrev pub noted_in : Noting → List Note
+noted_in n = map (λ seen. record { place = n.place; seen = seen; catalog = n.catalog }) n.seens
+
+-- the reads of these
+abbrev pub notes_in : List Noting → List Note
+notes_in ns = flat_map noted_in ns
+
 -- what the entries so far tell of a client: its operation under way, what it has read since that
 -- began, and the catalog that it read last
 pub record CallerState : Type 0 where
@@ -53,6 +67,15 @@ with_seen place [] s = s
 with_seen place (seen ∷ seens) s = record {
   begun = s.begun;
   notes = record { place = place; seen = seen; catalog = s.catalog } ∷ s.notes;
+  catalog = if is_of_catalog seen then Some seen.bytes else s.catalog;
+}
+
+-- with the catalog that was read now
+abbrev pub with_catalog : List Seen → CallerState → CallerState
+with_catalog [] s = s
+with_catalog (seen ∷ seens) s = record {
+  begun = s.begun;
+  notes = s.notes;
   catalog = if is_of_catalog seen then Some seen.bytes else s.catalog;
 }
 
@@ -96,9 +119,22 @@ pub record IsFirstNote (notes : List Note) (place : ℕ) : Type 0 where
   pub catalog : is_of_catalog note.seen ≡ true
   pub none : AllByRecursion (λ n. is_of_catalog n.seen ≡ false) older
 
--- the place is that of the only read
+-- the place is that of the only read, if there is one
 abbrev pub IsOnlyNote : List Note → ℕ → Type 0
-IsOnlyNote notes place = (note : Note) × (notes ≡ note ∷ []) × (place ≡ note.place)
+IsOnlyNote notes place =
+    (notes ≡ []) ⊎ ((note : Note) × (notes ≡ note ∷ []) × (place ≡ note.place))
+
+-- whether the catalog was read
+abbrev pub TellsCatalogRead : Bool → List Seen → Type 0
+TellsCatalogRead true seens =
+    (seen : Seen) × (seens ≡ seen ∷ []) × (is_of_catalog seen ≡ true)
+TellsCatalogRead false seens = AllByRecursion (λ seen. is_of_catalog seen ≡ false) seens
+
+-- whether what was read shows the reply
+abbrev pub TellsNoteShows : Bool → Noting → Op → Reply → Type 0
+TellsNoteShows true n op reply =
+    (seen : Seen) × (n.seens ≡ seen ∷ []) × IsShownBy n.catalog seen op reply
+TellsNoteShows false n op reply = AllByRecursion (λ seen. IsUnshown seen op reply) n.seens
 
 -- where a reply that no plan gives, and that has a place, has it
 abbrev pub IsNotedPlace : List Note → Op → Reply → ℕ → Type 0
@@ -203,6 +239,14 @@ pub record CommitIsInHistory (past : List Entry) (m : CommittedMini) (placed : L
   pub puts : (e : Entry) → EntryPuts past e (Some (issued_of m)) placed next
   pub stands : StandsInSet standing next
   pub are : AreActsOf acts next
+
+-- what is committed, if anything is, stands in the history
+abbrev pub CommitsAreInHistory : List Entry → Option CommittedMini → List Placed
+    → List (List Bool) → List PlacedAct → Type 0
+CommitsAreInHistory past None placed standing acts =
+    StandsInSet standing placed × AreActsOf acts placed
+CommitsAreInHistory past (Some m) placed standing acts =
+    CommitIsInHistory past m placed standing acts
 
 -- of each client it is told what the entries so far tell of it
 abbrev pub AreCallerStates : List CallerState → List Entry → Type 0

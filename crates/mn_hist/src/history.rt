@@ -1,6 +1,7 @@
 //! The operations of a log in order of place.
 ghost use Rattle.std.specs.Option.{option_map};
-ghost use Rattle.std.specs.Prelude.{◌≡◌, ◌⊎◌, ◌<◌, ◌∷◌, [], ℕ, List, Some, None, length, replicate};
+ghost use Rattle.std.specs.Prelude.{◌≡◌, ◌⊎◌, ◌<◌, ◌∷◌, [], ℕ, List, Option, Some, None, length};
+ghost use Rattle.std.specs.Prelude.{replicate};
 ghost use Rattle.std.specs.Prelude.{◌≤◌, false, slice_get};
 ghost use Rattle.std.specs.Prelude.{IfOk, OnOk, if◌then◌else◌, ◌||◌, ◌&&◌, nat_eq, MatchOption, ⊤};
 ghost use Rattle.std.specs.Prelude.{reverse};
@@ -8,7 +9,8 @@ ghost use Rattle.mn_base.specs.Ids.{client_same};
 ghost use Rattle.mn_base.specs.declared.ids.ClientNo.{ClientNo as Who};
 ghost use Rattle.mn_world.specs.Shown.{seen_at};
 ghost use Rattle.mn_hist.specs.Acts.{ChangesNothing, done_by, done_from};
-ghost use Rattle.mn_hist.specs.History.{CallerState, idle, with_seen, state_after};
+ghost use Rattle.mn_hist.specs.History.{CallerState, idle, notes_in, with_catalog, with_seen};
+ghost use Rattle.mn_hist.specs.History.{TellsNoteShows, state_after};
 ghost use Rattle.mn_world.specs.History.{Placed};
 ghost use Rattle.mn_world.specs.declared.entry.Entry.{Entry as Step};
 ghost use Rattle.mn_hist.specs.History.{IsLastNote, IsFirstNote, IsOnlyNote, IsNotedPlace};
@@ -17,6 +19,7 @@ ghost use Rattle.mn_hist.specs.History.{AnswerHasPlace, EntryHasPlace, StandsInS
 ghost use Rattle.mn_hist.specs.History.{AreActsOf, IsIndexIn};
 ghost use Rattle.mn_hist.specs.History.{AnswerIsInHistory};
 ghost use Rattle.mn_hist.specs.History.{KnowsPlanners, IsIssuedUnderId, CommitIsInHistory};
+ghost use Rattle.mn_hist.specs.History.{CommitsAreInHistory};
 ghost use Rattle.mn_hist.specs.History.{AreCallerStates};
 ghost use Rattle.mn_world.specs.Protocol.{Start};
 ghost use Rattle.mn_world.specs.Run.{IsRun};
@@ -29,6 +32,7 @@ ghost use Rattle.mn_base.specs.History.{store_after};
 ghost use Rattle.mn_base.specs.Store.{applied, Store as Versions};
 ghost use Rattle.mn_world.specs.CommitReader.{issued_of};
 ghost use Rattle.mn_world.specs.Commits.{committed_by};
+ghost use Rattle.mn_world.specs.declared.commit_reader.CommittedMini.{CommittedMini as Committed};
 ghost use Rattle.mn_world.specs.History.{IsHistory, pasts_of};
 ghost use Rattle.mn_world.specs.Meaning.{OpenedRun};
 ghost use Rattle.mn_world.specs.OneHistory.{Ascend, IsOneHistory};
@@ -37,7 +41,7 @@ ghost use Rattle.mn_world.specs.Run.{entries_of};
 use crate::answers::note_entry;
 use crate::plans::{Begun, Plans};
 use crate::sayings::AllSaid;
-use crate::shown::{KnownCatalog, Read, shows};
+use crate::shown::{KnownCatalog, Read, is_at_catalog, may_bring, reads_catalog, shows};
 use crate::table::Table;
 use mn_base::{Answer, ClientNo, History, NoMemory, Op, Past, Reply, SharedOp, Tid, TryCopy};
 use mn_plain::Store;
@@ -49,30 +53,31 @@ use std::alloc::Global;
 use std::marker::Model;
 use std::rc::Rc;
 
-/// A read of a client with its place, and the catalog that the client had read last before it.
+/// An entry of a client that may bring a read, with its place, and the catalog that the client had
+/// read last before it. What it brought is looked at where it is asked for.
 #[derive(Drop)]
 struct Noted<'a> {
     place: usize,
-    read: Read<'a>,
+    entry: &'a Entry,
     catalog: Option<Rc<KnownCatalog<'a>>>,
 }
 
 impl<'a> Model for Noted<'a> {
     ghost use Rattle.std.specs.Option.{option_map};
-    ghost use Rattle.mn_hist.specs.History.{Note};
-    ghost use Rattle.mn_hist.specs.Shown.{as_seen};
+    ghost use Rattle.mn_world.specs.Shown.{seen_at};
+    ghost use Rattle.mn_hist.specs.History.{Noting};
 
-    ghost Value = { Note };
+    ghost Value = { Noting };
 
     ghost view = { λ n. record {
       place = n.place;
-      seen = as_seen n.read;
+      seens = seen_at n.entry.now;
       catalog = option_map (λ c. c.value) n.catalog;
     } };
 }
 
-/// What the entries so far tell of a client: its operation under way, what it has read since that
-/// began, and the catalog that it read last.
+/// What the entries so far tell of a client: its operation under way, the entries since that began
+/// that may bring reads, and the catalog that it read last.
 #[derive(Drop)]
 struct Caller<'a> {
     begun: Option<Begun<'a>>,
@@ -83,14 +88,14 @@ struct Caller<'a> {
 impl<'a> Model for Caller<'a> {
     ghost use Rattle.std.specs.Prelude.{reverse};
     ghost use Rattle.std.specs.Option.{option_map};
-    ghost use Rattle.mn_hist.specs.History.{CallerState};
+    ghost use Rattle.mn_hist.specs.History.{CallerState, notes_in};
     ghost use Rattle.mn_hist.specs.Plans.{begun_of};
 
     ghost Value = { CallerState };
 
     ghost view = { λ c. record {
       begun = option_map begun_of c.begun;
-      notes = reverse c.notes.items;
+      notes = notes_in (reverse c.notes.items);
       catalog = option_map (λ b. b.value) c.catalog;
     } };
 }
@@ -119,14 +124,24 @@ fn lent<'b, 'a>(catalog: &'b Option<Rc<KnownCatalog<'a>>>) -> Option<&'b KnownCa
 
 /// The place of the first read of the catalog. `notes` stand oldest first.
 fn first_catalog(notes: &[Noted<'_>]) -> Option<usize>
-    ensures { MatchOption result ⊤ (IsFirstNote (reverse notes.now)) }
+    ensures { MatchOption result ⊤ (IsFirstNote (notes_in (reverse notes.now))) }
 {
     for note in notes {
-        if note.read.is_catalog() {
+        if reads_catalog(note.entry) {
             return Some(note.place);
         }
     }
     None
+}
+
+/// Whether what the entry brought shows the reply. NoMemory: there was no memory to tell.
+fn note_shows(alloc: Global, note: &Noted<'_>, op: &Op, reply: &Reply) -> Result<bool, NoMemory>
+    ensures { IfOk result (λ b. TellsNoteShows b note.now op.now reply.now) }
+{
+    match Read::of(note.entry) {
+        Some(read) => shows(alloc, &read, lent(&note.catalog), op, reply),
+        None => Ok(false),
+    }
 }
 
 /// The place of the last read that shows the reply. NoMemory: there was no memory to tell.
@@ -137,21 +152,21 @@ fn last_shown(
     reply: &Reply,
 ) -> Result<Option<usize>, NoMemory>
     ensures { IfOk result (λ found.
-        MatchOption found ⊤ (IsLastNote (reverse notes.now) op.now reply.now)) }
+        MatchOption found ⊤ (IsLastNote (notes_in (reverse notes.now)) op.now reply.now)) }
 {
     let mut left = notes.len();
     while left > 0 {
         left -= 1;
         let note = &notes[left];
-        if shows(alloc, &note.read, lent(&note.catalog), op, reply)? {
+        if note_shows(alloc, note, op, reply)? {
             return Ok(Some(note.place));
         }
     }
     Ok(None)
 }
 
-/// The place of the only read, or else of the last one that shows the reply. NoMemory: there was no
-/// memory to tell.
+/// The place of the only entry that may bring a read, or else of the last read that shows the
+/// reply. NoMemory: there was no memory to tell.
 fn only_or_last(
     alloc: Global,
     notes: &[Noted<'_>],
@@ -159,8 +174,8 @@ fn only_or_last(
     reply: &Reply,
 ) -> Result<Option<usize>, NoMemory>
     ensures { IfOk result (λ found. MatchOption found ⊤
-        (λ place. IsOnlyNote (reverse notes.now) place
-        ⊎ IsLastNote (reverse notes.now) op.now reply.now place)) }
+        (λ place. IsOnlyNote (notes_in (reverse notes.now)) place
+        ⊎ IsLastNote (notes_in (reverse notes.now)) op.now reply.now place)) }
 {
     if let [only] = notes {
         return Ok(Some(only.place));
@@ -172,7 +187,7 @@ fn only_or_last(
 /// catalog read, each other at the last read that shows it, which is the only one where there is
 /// one. NoMemory: there was no memory to tell, or none shows it.
 fn read_place(alloc: Global, notes: &[Noted<'_>], op: &Op, reply: &Reply) -> Result<usize, NoMemory>
-    ensures { IfOk result (IsNotedPlace (reverse notes.now) op.now reply.now) }
+    ensures { IfOk result (IsNotedPlace (notes_in (reverse notes.now)) op.now reply.now) }
 {
     let place = match (op, reply) {
         (Op::Scan { .. }, Reply::Pairs { .. }) => first_catalog(notes),
@@ -192,18 +207,40 @@ impl<'a> Caller<'a> {
         }
     }
 
-    /// Notes what an entry of its own at this place has read.
+    /// Notes what an entry of its own at this place has read, if it may have read something.
     #[inline(always)]
     fn note(&mut self, alloc: Global, place: usize, entry: &'a Entry) -> Result<(), NoMemory>
         ensures { OnOk result (self.new ≡ with_seen place (seen_at entry.now) self.old) }
     {
+        if may_bring(entry) {
+            return self.note_read(alloc, place, entry);
+        }
+        Ok(())
+    }
+
+    /// Notes an entry of its own at this place.
+    #[inline(always)]
+    fn note_read(&mut self, alloc: Global, place: usize, entry: &'a Entry) -> Result<(), NoMemory>
+        ensures { OnOk result (self.new ≡ with_seen place (seen_at entry.now) self.old) }
+    {
+        let catalog = shared(&self.catalog)?;
+        self.notes.push(Noted {
+            place,
+            entry,
+            catalog,
+        })?;
+        if is_at_catalog(entry) {
+            return self.note_catalog(alloc, entry);
+        }
+        Ok(())
+    }
+
+    /// Notes the catalog that an entry of its own brought, if it did.
+    #[inline(never)]
+    fn note_catalog(&mut self, alloc: Global, entry: &'a Entry) -> Result<(), NoMemory>
+        ensures { OnOk result (self.new ≡ with_catalog (seen_at entry.now) self.old) }
+    {
         if let Some(read) = Read::of(entry) {
-            let catalog = shared(&self.catalog)?;
-            self.notes.push(Noted {
-                place,
-                read,
-                catalog,
-            })?;
             if read.is_catalog() {
                 let known = KnownCatalog::new(alloc, read.bytes)?;
                 self.catalog = Some(Rc::new(alloc, known)?);
@@ -463,24 +500,6 @@ fn note_own<'a>(
     callers[usize::from(client.0)].take(alloc, place, entry)
 }
 
-/// Notes what the entry at this place tells of its client.
-fn note_step<'a>(
-    alloc: Global,
-    callers: &mut [Caller<'a>],
-    place: usize,
-    entry: &'a Entry,
-) -> Result<(), NoMemory>
-    requires { length callers.old ≡ 256 }
-    ensures long { length callers.new ≡ 256 }
-    ensures tells { OnOk result ((past : List Step) → place ≡ length past
-        → AreCallerStates callers.old past → AreCallerStates callers.new (entry.now ∷ past)) }
-{
-    match entry.client {
-        Some(client) => note_own(alloc, callers, client, place, entry),
-        None => Ok(()),
-    }
-}
-
 /// How many numbers of clients there are.
 const CLIENT_NUMBERS: usize = 256;
 
@@ -518,31 +537,113 @@ fn take_step<'a>(
     take_answer(alloc, callers, standing, acts, client, answer)
 }
 
-/// Takes what the entry at this place commits, or else the answer that it gives. NoMemory: there
-/// was no memory for it, or no read tells the place of what was answered.
-fn take_entry<'a>(
-    alloc: Global,
-    callers: &[Caller<'a>],
+/// Takes what is committed at this place, if anything is. NoMemory: there was no memory for it, or
+/// its plan is not known.
+#[inline(always)]
+fn take_committed<'a>(
     plans: &Plans<'a>,
     standing: &mut Table<bool>,
     acts: &mut Vec<PlacedAct<'a>>,
     place: usize,
-    entry: &Entry,
     committed: Option<CommittedMini<'a>>,
 ) -> Result<(), NoMemory>
-    requires { length callers.now ≡ 256 }
-    ensures { OnOk result ((start : Start) (past : List Step) (placed : List Placed)
-        → IsRun start past → AreCallerStates callers.now past → KnowsPlanners plans.now past
-        → option_map issued_of committed.entry ≡ committed_by past entry.now
+    ensures { OnOk result ((start : Start) (past : List Step) (e : Step) (placed : List Placed)
+        → IsRun start past → KnowsPlanners plans.now past
+        → option_map issued_of committed.entry ≡ committed_by past e
         → place ≡ length past
-        → StandsInSet standing.old placed → Ascend placed → AreActsOf acts.old.items placed
-        → EntryHasPlace past entry.now (committed_by past entry.now) placed
-        → EntryIsInHistory past entry.now (committed_by past entry.now) placed standing.new
-        acts.new.items) }
+        → StandsInSet standing.old placed → AreActsOf acts.old.items placed
+        → CommitsAreInHistory past committed.entry placed standing.new acts.new.items) }
 {
     match committed {
         Some(committed) => take_commit(plans, standing, acts, place, committed),
-        None => take_step(alloc, callers, standing, acts, entry),
+        None => Ok(()),
+    }
+}
+
+/// Takes what the entry of this client at this place tells beside what it commits. NoMemory: there
+/// was no memory for it, or no read tells the place of what was answered.
+#[inline(always)]
+fn take_own<'a>(
+    alloc: Global,
+    callers: &mut [Caller<'a>],
+    plans: &mut Plans<'a>,
+    standing: &mut Table<bool>,
+    acts: &mut Vec<PlacedAct<'a>>,
+    said: &mut AllSaid<'a>,
+    client: ClientNo,
+    place: usize,
+    entry: &'a Entry,
+) -> Result<(), NoMemory>
+    requires { length callers.old ≡ 256 }
+    ensures long { length callers.new ≡ 256 }
+    ensures callers { OnOk result ((past : List Step) → place ≡ length past
+        → entry.now.client ≡ Some client → AreCallerStates callers.old past
+        → AreCallerStates callers.new (entry.now ∷ past)) }
+    ensures plans { OnOk result ((past : List Step) → AreCallerStates callers.old past
+        → KnowsPlanners plans.old past → KnowsPlanners plans.new (entry.now ∷ past)) }
+    ensures said { OnOk result ((past : List Step) → TellsAnswers said.old past
+        → TellsAnswers said.new (entry.now ∷ past)) }
+    ensures answers { OnOk result
+        ((past : List Step) (committed : Option Committed) (placed : List Placed)
+        → AreCallerStates callers.old past
+        → option_map issued_of committed ≡ committed_by past entry.now
+        → Ascend placed → EntryHasPlace past entry.now (committed_by past entry.now) placed
+        → CommitsAreInHistory past committed placed standing.old acts.old.items
+        → EntryIsInHistory past entry.now (committed_by past entry.now) placed standing.new
+        acts.new.items) }
+{
+    match &entry.what {
+        What::Begin { .. } => {
+            note_own(alloc, callers, client, place, entry)?;
+            note_entry(said, entry)
+        }
+        What::Issue { .. } => note_issue(callers, plans, entry),
+        What::Answered { .. } => {
+            take_step(alloc, callers, standing, acts, entry)?;
+            note_own(alloc, callers, client, place, entry)?;
+            note_entry(said, entry)
+        }
+        _ => note_own(alloc, callers, client, place, entry),
+    }
+}
+
+/// Takes what the entry at this place tells beside what it commits. NoMemory: there was no memory
+/// for it, or no read tells the place of what was answered.
+#[inline(always)]
+fn take_entry<'a>(
+    alloc: Global,
+    callers: &mut [Caller<'a>],
+    plans: &mut Plans<'a>,
+    standing: &mut Table<bool>,
+    acts: &mut Vec<PlacedAct<'a>>,
+    said: &mut AllSaid<'a>,
+    place: usize,
+    entry: &'a Entry,
+) -> Result<(), NoMemory>
+    requires { length callers.old ≡ 256 }
+    ensures long { length callers.new ≡ 256 }
+    ensures callers { OnOk result ((past : List Step) → place ≡ length past
+        → AreCallerStates callers.old past → AreCallerStates callers.new (entry.now ∷ past)) }
+    ensures plans { OnOk result ((past : List Step) → AreCallerStates callers.old past
+        → KnowsPlanners plans.old past → KnowsPlanners plans.new (entry.now ∷ past)) }
+    ensures said { OnOk result ((past : List Step) → TellsAnswers said.old past
+        → TellsAnswers said.new (entry.now ∷ past)) }
+    ensures answers { OnOk result
+        ((past : List Step) (committed : Option Committed) (placed : List Placed)
+        → AreCallerStates callers.old past
+        → option_map issued_of committed ≡ committed_by past entry.now
+        → Ascend placed → EntryHasPlace past entry.now (committed_by past entry.now) placed
+        → CommitsAreInHistory past committed placed standing.old acts.old.items
+        → EntryIsInHistory past entry.now (committed_by past entry.now) placed standing.new
+        acts.new.items) }
+{
+    match entry.client {
+        Some(client) => {
+            take_own(
+                alloc, callers, plans, standing, acts, said, client, place, entry,
+            )
+        }
+        None => note_issue(callers, plans, entry),
     }
 }
 
@@ -591,19 +692,23 @@ impl<'a> HistoryReader<'a> {
             × ReaderHasTold self.new (entry.now ∷ past) next) }
     {
         let committed = self.commits.follow(entry)?;
-        take_entry(
-            alloc,
-            &self.callers,
+        take_committed(
             &self.plans,
             &mut self.standing,
             &mut self.acts,
             place,
-            entry,
             committed,
         )?;
-        note_issue(&self.callers, &mut self.plans, entry)?;
-        note_step(alloc, &mut self.callers, place, entry)?;
-        note_entry(&mut self.said, entry)
+        take_entry(
+            alloc,
+            &mut self.callers,
+            &mut self.plans,
+            &mut self.standing,
+            &mut self.acts,
+            &mut self.said,
+            place,
+            entry,
+        )
     }
 }
 

@@ -1,10 +1,11 @@
 //! What a read of a client shows: the catalog, or a leaf.
-ghost use Rattle.std.specs.Prelude.{◌≡◌, ◌+◌, ◌*◌, ◌∷◌, [], ℕ, true, ⊤, IfOk, OnOk, List};
+ghost use Rattle.std.specs.Prelude.{◌≡◌, ◌+◌, ◌*◌, ◌∷◌, [], ℕ, true, false, ⊤, IfOk, OnOk, List};
 ghost use Rattle.std.specs.Prelude.{MatchOption};
 ghost use Rattle.std.specs.Option.{option_map, option_to_list};
 ghost use Rattle.mn_base.specs.Store.{listed, listing_of};
 ghost use Rattle.mn_base.specs.Tree.{parents_of};
 ghost use Rattle.mn_base.specs.declared.ids.Addr.{Addr as Place};
+ghost use Rattle.mn_base.specs.declared.ids.NodeNo.{NodeNo as Node};
 ghost use Rattle.mn_base.specs.declared.reply.Reply.TheVariants as Say;
 ghost use Rattle.mn_catalog.specs.Grammar.{SpellsCatalog};
 ghost use Rattle.mn_page.specs.Forest.{entry_head, heads_in};
@@ -13,6 +14,8 @@ ghost use Rattle.mn_page.specs.declared.entry.CatEntry.{CatEntry as Head};
 ghost use Rattle.mn_page.specs.declared.page.Page.{Page as Leaf};
 ghost use Rattle.mn_world.specs.Places.{page_place};
 ghost use Rattle.mn_world.specs.Shown.{seen_by, seen_at, CatalogReplies};
+ghost use Rattle.std.specs.List.{AllByRecursion};
+ghost use Rattle.mn_hist.specs.History.{TellsCatalogRead};
 ghost use Rattle.mn_hist.specs.Shown.{as_seen, TestDecides, is_of_catalog, TellsShown};
 ghost use Rattle.mn_hist.specs.Shown.{CatalogBytesShow, CatalogServes, IsKnownOf};
 ghost use Rattle.mn_hist.specs.Shown.{TellsLeafBytesShow, lone_key, leaf_value, IsServedByCatalog};
@@ -60,6 +63,28 @@ fn is_slot(start: u32) -> bool
     SLOT * slot == start - SLOTS_START
 }
 
+/// Whether a call may bring a read: it is told without a look at what was read.
+#[inline(always)]
+fn may_show(request: &Request, reply: &NodeReply) -> bool
+    ensures { result ≡ false → (n : Node) → seen_by n request.now reply.now ≡ [] }
+{
+    matches!(
+        (request, reply),
+        (Request::Exec { .. }, NodeReply::Done { .. })
+    )
+}
+
+/// Whether an entry may bring a read.
+#[inline(always)]
+pub fn may_bring(entry: &Entry) -> bool
+    ensures { result ≡ false → seen_at entry.now ≡ [] }
+{
+    match (entry.node, &entry.what) {
+        (Some(_), What::Called { request, reply }) => may_show(request, reply),
+        _ => false,
+    }
+}
+
 /// The read that a call brings: one of one read item that was done.
 #[inline(always)]
 fn read_by<'a>(node: NodeNo, request: &Request, reply: &'a NodeReply) -> Option<Read<'a>>
@@ -103,6 +128,28 @@ impl<'a> Read<'a> {
             ((addr : Place) × ((as_seen self.now).place ≡ page_place addr)) }
     {
         self.length == SLOT && is_slot(self.start)
+    }
+}
+
+/// Whether the entry is at the catalog's node: no other brings the catalog.
+#[inline(always)]
+pub fn is_at_catalog(entry: &Entry) -> bool
+    ensures { result ≡ false → AllByRecursion (λ seen. is_of_catalog seen ≡ false)
+        (seen_at entry.now) }
+{
+    match entry.node {
+        Some(node) => node == CATALOG_NODE,
+        None => false,
+    }
+}
+
+/// Whether the entry brings the catalog.
+pub fn reads_catalog(entry: &Entry) -> bool
+    ensures { TellsCatalogRead result (seen_at entry.now) }
+{
+    match Read::of(entry) {
+        Some(read) => read.is_catalog(),
+        None => false,
     }
 }
 

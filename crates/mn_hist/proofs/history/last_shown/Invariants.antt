@@ -1,5 +1,6 @@
 use Rattle.std.proofs.Common.{◌≤◌, length, drop}
 use Rattle.std.specs.List.{AllByRecursion}
+use Rattle.mn_hist.specs.History.{Noting}
 use Rattle.mn_hist.specs.Shown.{IsUnshown}
 use Rattle.mn_hist.proofs.history.last_shown.Given as goal
 
@@ -7,7 +8,7 @@ use Rattle.mn_hist.proofs.history.last_shown.Given as goal
 abbrev pub invariant-loop-left : goal.invariant-loop-left
 invariant-loop-left l = record {
   within : l.left ≤ length l.notes;
-  none : AllByRecursion (λ n. IsUnshown n.seen l.op l.reply) (drop l.left l.notes);
+  none : AllByRecursion (λ (n : Noting). AllByRecursion (λ s. IsUnshown s l.op l.reply) n.seens) (drop l.left l.notes);
 }
 
 abbrev pub decreases-loop-left : goal.decreases-loop-left

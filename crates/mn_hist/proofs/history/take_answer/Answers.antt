@@ -3,7 +3,7 @@ use Rattle.std.specs.Option.{option_map}
 use Rattle.mn_base.specs.declared.answer.Answer.{Answer}
 use Rattle.mn_base.specs.declared.op.Op.{Op}
 use Rattle.mn_world.specs.Calls.{Begun}
-use Rattle.mn_hist.specs.History.{CallerState, Note, IsNotedPlace, AnswerHasPlace, AnswerIsInHistory, caller_state}
+use Rattle.mn_hist.specs.History.{CallerState, Note, Noting, IsNotedPlace, AnswerHasPlace, AnswerIsInHistory, caller_state, notes_in}
 use Rattle.mn_hist.specs.Plans.{begun_of}
 use Rattle.mn_hist.proofs.Putting.{on_ok, at_index, puts_none, idle_puts, stands_already, puts_read}
 use Rattle.mn_hist.proofs.history.take_answer.Goals as goal
@@ -37,8 +37,8 @@ returns c = on_ok c.note_standing.result c.note_standing.ensures (λ more past p
     (puts_read past c.args.client (record { number = c.in-Some.begun.number; op = c.in-Some.begun.op.now }) c.in-Replied.reply placed c.args.standing.now c.note_standing.new.standing c.args.acts.now.items c.put.new.acts.items c.in_ok-place.place
     (sym (ap (λ (s : CallerState). s.begun) (c.caller.view_is ∙ same)) ∙ ap (option_map begun_of) c.in-Some.is)
     (sym (st c.args.client c.in-Some.begun.number) ∙ (sym c.is_standing.ensures ∙ c.if-is_standing.false))
-    (subst (λ (ns : List Note). IsNotedPlace ns c.in-Some.begun.op.now c.in-Replied.reply c.in_ok-place.place) (ap reverse c.deref.ensures.value ∙ ap (λ (s : CallerState). s.notes) (c.caller.view_is ∙ same))
-    (subst (λ (o : Op). IsNotedPlace (reverse c.deref.result.now) o c.in-Replied.reply c.in_ok-place.place) c.get.ensures c.in_ok-place.ensures))
+    (subst (λ (ns : List Note). IsNotedPlace ns c.in-Some.begun.op.now c.in-Replied.reply c.in_ok-place.place) (ap (λ (l : List Noting). notes_in (reverse l)) c.deref.ensures.value ∙ ap (λ (s : CallerState). s.notes) (c.caller.view_is ∙ same))
+    (subst (λ (o : Op). IsNotedPlace (notes_in (reverse c.deref.result.now)) o c.in-Replied.reply c.in_ok-place.place) c.get.ensures c.in_ok-place.ensures))
     (subst (λ (a : Answer). AnswerHasPlace past c.args.client a placed) c.in-Replied.is has)
     st acts (c.in_ok-put.ensures placed up acts)
     more))
