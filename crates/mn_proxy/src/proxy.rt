@@ -196,7 +196,7 @@ impl Proxy {
     }
 
     /// Goes on with what is on its way.
-    #[inline(always)]
+    #[inline(never)]
     fn turn(&mut self, alloc: Global, work: Task, errand: Errand) -> Result<ProxyStep, NoMemory>
         requires idle { self.old.work ≡ None }
         requires ready { IsOutIn (Some (work, errand)) → ⊥ }
