@@ -1,7 +1,6 @@
 ghost use Rattle.std.specs.Prelude.{◌≡◌, IfOk};
 
 use crate::NoMemory;
-use arrayvec::ArrayVec;
 use std::alloc::Global;
 
 /// A value that takes memory of its own and can be copied where memory is left.
@@ -17,16 +16,6 @@ impl<T: TryCopy> TryCopy for Option<T> {
         match self {
             Some(value) => Ok(Some(value.try_copy(alloc)?)),
             None => Ok(None),
-        }
-    }
-}
-
-impl<T: Copy + Default, const N: usize> TryCopy for ArrayVec<T, N> {
-    #[inline(always)]
-    fn try_copy(&self, _alloc: Global) -> Result<Self, NoMemory> {
-        match ArrayVec::try_from(self.as_slice()) {
-            Ok(copy) => Ok(copy),
-            Err(_) => Err(NoMemory),
         }
     }
 }

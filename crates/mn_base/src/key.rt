@@ -2,8 +2,8 @@ ghost use Rattle.std.specs.Prelude.{◌≡◌, ◌<◌, ◌≤◌, ℕ, List, le
 ghost use Rattle.mn_base.specs.Refusal.{RefusesKey};
 ghost use Rattle.mn_base.specs.declared.key.TheConstants.{MAX_KEY};
 
+use crate::short_list::ShortList;
 use crate::{BaseError, NoMemory, TryCopy};
-use arrayvec::ArrayVec;
 use std::alloc::Global;
 use std::marker::Model;
 
@@ -13,15 +13,15 @@ pub const MAX_KEY: usize = 32;
 /// A key: 1 to 32 bytes. Contracts see it as a list.
 #[derive(Debug, Drop)]
 pub struct Key {
-    bytes: ArrayVec<u8, MAX_KEY>,
+    bytes: ShortList<u8, MAX_KEY>,
 }
 
 impl Model for Key {
     ghost Value = { List ℕ };
 
-    ghost view = { λ k. k.bytes.items };
+    ghost view = { λ k. k.bytes };
 
-    ghost invariant = { λ k. (1 ≤ length k.bytes.items) × (length k.bytes.items ≤ MAX_KEY) };
+    ghost invariant = { λ k. (1 ≤ length k.bytes) × (length k.bytes ≤ MAX_KEY) };
 }
 
 impl Key {
@@ -36,16 +36,16 @@ impl Key {
         if bytes.is_empty() {
             return Err(BaseError::Empty);
         }
-        match ArrayVec::try_from(bytes) {
-            Ok(bytes) => Ok(Key { bytes }),
-            Err(_) => Err(BaseError::TooLong { n: bytes.len() }),
+        match ShortList::of(bytes) {
+            Some(bytes) => Ok(Key { bytes }),
+            None => Err(BaseError::TooLong { n: bytes.len() }),
         }
     }
 
     /// A key of zeros, which stands where none was put yet.
     pub(crate) fn blank() -> Self {
         Key {
-            bytes: ArrayVec::from([0; MAX_KEY]),
+            bytes: ShortList::blank(),
         }
     }
 
@@ -53,15 +53,15 @@ impl Key {
         ensures bytes { result.now ≡ self.now }
         ensures within { (1 ≤ length self.now) × (length self.now ≤ MAX_KEY) }
     {
-        &self.bytes
+        self.bytes.as_slice()
     }
 }
 
 impl TryCopy for Key {
     #[inline(always)]
-    fn try_copy(&self, alloc: Global) -> Result<Self, NoMemory> {
+    fn try_copy(&self, _alloc: Global) -> Result<Self, NoMemory> {
         Ok(Key {
-            bytes: self.bytes.try_copy(alloc)?,
+            bytes: self.bytes.copy(),
         })
     }
 }

@@ -17,6 +17,7 @@ mod op;
 mod order;
 mod reply;
 mod shared_op;
+mod short_list;
 #[cfg(test)]
 mod tests;
 mod value;
@@ -36,4 +37,5 @@ pub use op::{MAX_STEPS, Op, Step, Steps};
 pub use order::{key_order, key_precedes};
 pub use reply::{Found, Founds, Listing, Pair, Pairs, Reply, Version};
 pub use shared_op::SharedOp;
+pub use short_list::ShortList;
 pub use value::{MAX_VALUE, Value};

@@ -2,8 +2,8 @@ ghost use Rattle.std.specs.Prelude.{◌≡◌, ℕ, List, IfOk, IfErr, OnOk};
 ghost use Rattle.mn_base.specs.Refusal.{RefusesName};
 ghost use Rattle.mn_base.specs.Name.{IsName, name_fault, is_name_place};
 
+use crate::short_list::ShortList;
 use crate::{BaseError, NoMemory, TryCopy};
-use arrayvec::ArrayVec;
 use std::alloc::Global;
 use std::marker::Model;
 
@@ -14,15 +14,15 @@ pub const MAX_NAME: usize = 16;
 /// as a list.
 #[derive(Debug, Drop)]
 pub struct Name {
-    bytes: ArrayVec<u8, MAX_NAME>,
+    bytes: ShortList<u8, MAX_NAME>,
 }
 
 impl Model for Name {
     ghost Value = { List ℕ };
 
-    ghost view = { λ n. n.bytes.items };
+    ghost view = { λ n. n.bytes };
 
-    ghost invariant = { λ n. IsName n.bytes.items };
+    ghost invariant = { λ n. IsName n.bytes };
 }
 
 fn is_allowed(at: usize, byte: u8) -> bool
@@ -59,9 +59,9 @@ impl Name {
         if let Some(at) = fault_of(bytes) {
             return Err(BaseError::BadName { at });
         }
-        match ArrayVec::try_from(bytes) {
-            Ok(bytes) => Ok(Name { bytes }),
-            Err(_) => Err(BaseError::NoMemory),
+        match ShortList::of(bytes) {
+            Some(bytes) => Ok(Name { bytes }),
+            None => Err(BaseError::NoMemory),
         }
     }
 
@@ -69,15 +69,15 @@ impl Name {
         ensures bytes { result.now ≡ self.now }
         ensures right { IsName self.now }
     {
-        &self.bytes
+        self.bytes.as_slice()
     }
 }
 
 impl TryCopy for Name {
     #[inline(always)]
-    fn try_copy(&self, alloc: Global) -> Result<Self, NoMemory> {
+    fn try_copy(&self, _alloc: Global) -> Result<Self, NoMemory> {
         Ok(Name {
-            bytes: self.bytes.try_copy(alloc)?,
+            bytes: self.bytes.copy(),
         })
     }
 }

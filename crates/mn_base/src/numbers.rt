@@ -1,7 +1,7 @@
 ghost use Rattle.std.specs.Prelude.{◌≡◌, ◌<◌, [], ◌∷◌, ◌++◌, length, IsOk, OnOk, OnErr};
 
+use crate::short_list::ShortList;
 use crate::{Addr, NoMemory, NodeNo, TryCopy};
-use arrayvec::ArrayVec;
 use std::alloc::Global;
 use std::marker::Model;
 
@@ -11,7 +11,7 @@ const MOST: usize = 8;
 /// Numbers of nodes, at most 8, which lie in the value itself. Contracts see them as a list.
 #[derive(Debug, Drop)]
 pub struct Nodes {
-    nodes: ArrayVec<NodeNo, MOST>,
+    nodes: ShortList<NodeNo, MOST>,
 }
 
 impl Model for Nodes {
@@ -20,7 +20,7 @@ impl Model for Nodes {
 
     ghost Value = { List NodeNo };
 
-    ghost view = { λ n. n.nodes.items };
+    ghost view = { λ n. n.nodes };
 }
 
 impl Nodes {
@@ -29,7 +29,7 @@ impl Nodes {
         ensures { result ≡ [] }
     {
         Nodes {
-            nodes: ArrayVec::new(),
+            nodes: ShortList::new(),
         }
     }
 
@@ -40,24 +40,21 @@ impl Nodes {
         ensures room { length self.old < 8 → IsOk result }
         ensures err { OnErr result (self.new ≡ self.old) }
     {
-        match self.nodes.try_push(node) {
-            Ok(()) => Ok(()),
-            Err(_) => Err(NoMemory),
-        }
+        self.nodes.push(node)
     }
 
     pub fn as_slice(&self) -> &[NodeNo]
         ensures { result.now ≡ self.now }
     {
-        &self.nodes
+        self.nodes.as_slice()
     }
 }
 
 impl TryCopy for Nodes {
     #[inline(always)]
-    fn try_copy(&self, alloc: Global) -> Result<Self, NoMemory> {
+    fn try_copy(&self, _alloc: Global) -> Result<Self, NoMemory> {
         Ok(Nodes {
-            nodes: self.nodes.try_copy(alloc)?,
+            nodes: self.nodes.copy(),
         })
     }
 }

@@ -25,9 +25,10 @@ impl SharedOp {
     pub fn new(alloc: Global, op: Op) -> Result<Self, NoMemory>
         ensures { IfOk result (λ shared. shared ≡ op) }
     {
-        Ok(SharedOp {
-            op: Arc::new(alloc, op)?,
-        })
+        match Arc::new(alloc, op) {
+            Ok(op) => Ok(SharedOp { op }),
+            Err(_) => Err(NoMemory),
+        }
     }
 
     #[inline(always)]

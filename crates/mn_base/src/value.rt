@@ -2,8 +2,8 @@ ghost use Rattle.std.specs.Prelude.{◌≡◌, ◌≤◌, ℕ, List, length, IfO
 ghost use Rattle.mn_base.specs.Refusal.{RefusesValue};
 ghost use Rattle.mn_base.specs.declared.value.TheConstants.{MAX_VALUE};
 
+use crate::short_list::ShortList;
 use crate::{BaseError, NoMemory, TryCopy};
-use arrayvec::ArrayVec;
 use std::alloc::Global;
 use std::marker::Model;
 
@@ -13,15 +13,15 @@ pub const MAX_VALUE: usize = 64;
 /// A value: 0 to 64 bytes. Contracts see it as a list.
 #[derive(Debug, Drop)]
 pub struct Value {
-    bytes: ArrayVec<u8, MAX_VALUE>,
+    bytes: ShortList<u8, MAX_VALUE>,
 }
 
 impl Model for Value {
     ghost Value = { List ℕ };
 
-    ghost view = { λ v. v.bytes.items };
+    ghost view = { λ v. v.bytes };
 
-    ghost invariant = { λ v. length v.bytes.items ≤ MAX_VALUE };
+    ghost invariant = { λ v. length v.bytes ≤ MAX_VALUE };
 }
 
 impl Value {
@@ -33,9 +33,9 @@ impl Value {
         ensures within { OnOk result (length bytes.now ≤ MAX_VALUE) }
         ensures refused { IfErr result (RefusesValue bytes.now) }
     {
-        match ArrayVec::try_from(bytes) {
-            Ok(bytes) => Ok(Value { bytes }),
-            Err(_) => Err(BaseError::TooLong { n: bytes.len() }),
+        match ShortList::of(bytes) {
+            Some(bytes) => Ok(Value { bytes }),
+            None => Err(BaseError::TooLong { n: bytes.len() }),
         }
     }
 
@@ -43,15 +43,15 @@ impl Value {
         ensures bytes { result.now ≡ self.now }
         ensures within { length self.now ≤ MAX_VALUE }
     {
-        &self.bytes
+        self.bytes.as_slice()
     }
 }
 
 impl TryCopy for Value {
     #[inline(always)]
-    fn try_copy(&self, alloc: Global) -> Result<Self, NoMemory> {
+    fn try_copy(&self, _alloc: Global) -> Result<Self, NoMemory> {
         Ok(Value {
-            bytes: self.bytes.try_copy(alloc)?,
+            bytes: self.bytes.copy(),
         })
     }
 }

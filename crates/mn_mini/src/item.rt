@@ -164,9 +164,12 @@ impl Items {
     pub fn new(alloc: Global, items: SmallVec<Item, ITEMS_IN_PLACE>) -> Result<Self, NoMemory>
         ensures { IfOk result (λ list. list ≡ items.items) }
     {
-        Ok(Items {
-            held: Held::Shared(Arc::new(alloc, items)?),
-        })
+        match Arc::new(alloc, items) {
+            Ok(items) => Ok(Items {
+                held: Held::Shared(items),
+            }),
+            Err(_) => Err(NoMemory),
+        }
     }
 
     pub fn as_slice(&self) -> &[Item]

@@ -121,9 +121,12 @@ impl Part {
     ) -> Result<Self, NoMemory>
         ensures { IfOk result (λ part. part ≡ items.items) }
     {
-        Ok(Part {
-            held: Held::Shared(Arc::new(alloc, items)?),
-        })
+        match Arc::new(alloc, items) {
+            Ok(items) => Ok(Part {
+                held: Held::Shared(items),
+            }),
+            Err(_) => Err(NoMemory),
+        }
     }
 
     /// One item. It takes no memory.

@@ -1,4 +1,5 @@
 ghost use Rattle.std.specs.Prelude.{◌≡◌, IfOk};
+ghost use Rattle.mn_padded.specs.Zeros.{IsFilled};
 
 use mn_base::{NoMemory, TryCopy};
 use mn_padded::{Padded, filled_in};
@@ -11,7 +12,7 @@ use std::sync::Arc;
 /// How many bytes lie beside the count of their owners: the count of a node's slots has 8.
 const BYTES_IN_PLACE: usize = 16;
 
-/// Bytes, and a place from which on they are zeros, found while they are at hand.
+/// Bytes, and a place from which on they are zeros.
 #[derive(Drop)]
 struct Filled {
     bytes: SmallVec<u8, BYTES_IN_PLACE>,
@@ -30,10 +31,18 @@ impl Model for Filled {
 }
 
 impl Filled {
-    fn new(bytes: SmallVec<u8, BYTES_IN_PLACE>) -> Self
+    /// Looks where the zeros at the end of the bytes begin.
+    fn found(bytes: SmallVec<u8, BYTES_IN_PLACE>) -> Self
         ensures { result ≡ bytes.items }
     {
         let filled = filled_in(bytes.as_slice());
+        Filled { bytes, filled }
+    }
+
+    fn new(bytes: SmallVec<u8, BYTES_IN_PLACE>, filled: usize) -> Self
+        requires { IsFilled filled bytes.items }
+        ensures { result ≡ bytes.items }
+    {
         Filled { bytes, filled }
     }
 
@@ -83,18 +92,35 @@ impl SharedBytes {
         if bytes.len() <= BYTES_IN_PLACE {
             return SharedBytes::copy_of(alloc, &bytes);
         }
-        Ok(SharedBytes {
-            bytes: Arc::new(alloc, Filled::new(SmallVec::from_vec(bytes)))?,
-        })
+        SharedBytes::counted(alloc, Filled::found(SmallVec::from_vec(bytes)))
+    }
+
+    /// These bytes, which are zeros from a place on; nobody looks for it, and they are not copied.
+    /// NoMemory: there was no memory to count their owners.
+    pub fn filled(alloc: Global, bytes: Vec<u8>, filled: usize) -> Result<Self, NoMemory>
+        requires { IsFilled filled bytes.items }
+        ensures { IfOk result (λ b. b ≡ bytes.items) }
+    {
+        SharedBytes::counted(alloc, Filled::new(SmallVec::from_vec(bytes), filled))
+    }
+
+    /// Counts their owners. NoMemory: there was no memory for that.
+    #[inline(always)]
+    fn counted(alloc: Global, bytes: Filled) -> Result<Self, NoMemory>
+        ensures { IfOk result (λ b. b ≡ bytes) }
+    {
+        match Arc::new(alloc, bytes) {
+            Ok(bytes) => Ok(SharedBytes { bytes }),
+            Err(_) => Err(NoMemory),
+        }
     }
 
     /// A copy of these bytes. NoMemory: there was no memory for it.
     pub fn copy_of(alloc: Global, bytes: &[u8]) -> Result<Self, NoMemory>
         ensures { IfOk result (λ b. b ≡ bytes.now) }
     {
-        Ok(SharedBytes {
-            bytes: Arc::new(alloc, Filled::new(SmallVec::from_slice(alloc, bytes)?))?,
-        })
+        let own = SmallVec::from_slice(alloc, bytes)?;
+        SharedBytes::counted(alloc, Filled::found(own))
     }
 
     pub fn as_slice(&self) -> &[u8]

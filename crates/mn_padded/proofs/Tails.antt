@@ -1,12 +1,12 @@
 -- Bytes that end with zeros.
-use Rattle.std.proofs.Common.{◌≡◌, ◌≤◌, ◌-◌, ◌+◌, ◌&&◌, ℕ, zero, suc, Bool, true, false, List, [], ◌∷◌, length, take, drop, refl, sym, ap, ◌∙◌, arith}
+use Rattle.std.proofs.Common.{◌≡◌, ◌≤◌, ◌-◌, ◌+◌, ◌&&◌, ℕ, zero, suc, Bool, true, false, List, [], ◌∷◌, ◌++◌, length, replicate, take, drop, refl, sym, ap, ◌∙◌, arith}
 use Rattle.std.specs.Prelude.{nat_eq, bytes_eq}
 use Rattle.std.specs.List.{list_all}
 use Rattle.std.proofs.lemmas.Bool.{eqb-true}
 use Rattle.std.proofs.lemmas.List.{drop-drop, take-append-drop}
 use Rattle.std.proofs.lemmas.List.Folds.{list_all-append}
 use Rattle.mn_base.proofs.Booleans.{left_true, right_true}
-use Rattle.mn_padded.specs.Zeros.{zeros_from}
+use Rattle.mn_padded.specs.Zeros.{zeros_from, IsFilled}
 
 -- all of these are zero
 abbrev are_zeros : List ℕ → Bool
@@ -56,3 +56,21 @@ same_front (suc n) [] [] l e f = refl
 same_front (suc n) [] (y ∷ b) l e f = absurd (omega (arith, l))
 same_front (suc n) (x ∷ a) [] l e f = absurd (omega (arith, l))
 same_front (suc n) (x ∷ a) (y ∷ b) l e f = ap (λ t. nat_eq x y && t) (same_front n a b (omega (arith, l)) e f)
+
+behind_front : (at : ℕ) (bytes rest : List ℕ) → at ≤ length bytes → drop at (take at bytes ++ rest) ≡ rest
+behind_front zero bytes rest le = refl
+behind_front (suc n) [] rest le = absurd (omega (arith, le))
+behind_front (suc n) (b ∷ bytes) rest le = behind_front n bytes rest (omega (arith, le))
+
+only_zeros : (n : ℕ) → are_zeros (replicate n 0) ≡ true
+only_zeros zero = refl
+only_zeros (suc n) = only_zeros n
+
+within_front : (at n : ℕ) (bytes : List ℕ) → at ≤ length bytes → at ≤ length (take at bytes ++ replicate n 0)
+within_front zero n bytes le = omega arith
+within_front (suc k) n [] le = absurd (omega (arith, le))
+within_front (suc k) n (b ∷ bytes) le = let rest = within_front k n bytes (omega (arith, le)) in omega (arith, rest)
+
+-- zeros that stand behind the front of bytes are all that stands from there on
+pub zeros_put : (at n : ℕ) (bytes : List ℕ) → at ≤ length bytes → IsFilled at (take at bytes ++ replicate n 0)
+zeros_put at n bytes le = (within_front at n bytes le, ap are_zeros (behind_front at bytes (replicate n 0) le) ∙ only_zeros n)

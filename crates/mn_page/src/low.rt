@@ -1,7 +1,6 @@
 ghost use Rattle.std.specs.Prelude.{◌≡◌, ◌<◌, None, IfSome, length};
 
-use crate::key_room::ShortKey;
-use mn_base::{Key, NoMemory, TryCopy};
+use mn_base::{Key, MAX_KEY, NoMemory, ShortList, TryCopy};
 use std::alloc::Global;
 use std::marker::Model;
 
@@ -9,7 +8,7 @@ use std::marker::Model;
 /// beside the page's. Contracts see it as a list.
 #[derive(Debug, Drop)]
 pub struct Low {
-    bytes: ShortKey,
+    bytes: ShortList<u8, MAX_KEY>,
 }
 
 impl Model for Low {
@@ -17,7 +16,7 @@ impl Model for Low {
 
     ghost Value = { List ℕ };
 
-    ghost view = { λ l. l.bytes.items };
+    ghost view = { λ l. l.bytes };
 }
 
 impl Low {
@@ -27,9 +26,9 @@ impl Low {
         ensures bound { IfSome result (λ low. low ≡ bytes.now) }
         ensures long { result ≡ None → 32 < length bytes.now }
     {
-        match ShortKey::try_from(bytes) {
-            Ok(bytes) => Some(Low { bytes }),
-            Err(_) => None,
+        match ShortList::of(bytes) {
+            Some(bytes) => Some(Low { bytes }),
+            None => None,
         }
     }
 
@@ -38,24 +37,24 @@ impl Low {
     pub fn at(key: &Key) -> Self
         ensures { result ≡ key.now }
     {
-        match ShortKey::try_from(key.as_slice()) {
-            Ok(bytes) => Low { bytes },
-            Err(_) => unreachable!(),
+        match ShortList::of(key.as_slice()) {
+            Some(bytes) => Low { bytes },
+            None => unreachable!(),
         }
     }
 
     pub fn as_slice(&self) -> &[u8]
         ensures { result.now ≡ self.now }
     {
-        &self.bytes
+        self.bytes.as_slice()
     }
 }
 
 impl TryCopy for Low {
     #[inline(always)]
-    fn try_copy(&self, alloc: Global) -> Result<Self, NoMemory> {
+    fn try_copy(&self, _alloc: Global) -> Result<Self, NoMemory> {
         Ok(Low {
-            bytes: self.bytes.try_copy(alloc)?,
+            bytes: self.bytes.copy(),
         })
     }
 }

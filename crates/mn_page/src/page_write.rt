@@ -4,6 +4,7 @@ ghost use Rattle.mn_page.specs.Grammar.{page_bytes, high_bytes, pair_bytes, chil
 ghost use Rattle.mn_page.specs.Grammar.{kind_of, height_of, body_bytes};
 ghost use Rattle.mn_page.specs.Space.{slot_size};
 ghost use Rattle.mn_page.specs.Written.{Adds, head_bytes, fence_bytes};
+ghost use Rattle.mn_padded.specs.Zeros.{IsFilled};
 
 use crate::write::{put_addr, put_byte, put_counted, put_u16, put_u64, put_zeros};
 use crate::{Body, Child, Page};
@@ -73,6 +74,7 @@ fn put_body(into: &mut [u8], at: usize, body: &Body) -> usize
     requires few { count_in body.now ≤ 8 }
     requires room { at + 785 ≤ length into.old }
     ensures added { Adds into.old into.new at result (count_in body.now ∷ body_bytes body.now) }
+    ensures end { result ≤ at + 785 }
 {
     match body {
         Body::Leaf { pairs } => {
@@ -118,26 +120,29 @@ fn put_fences(into: &mut [u8], at: usize, page: &Page) -> usize
 
 impl Page {
     /// Writes its spelling over a slot, all of its 1,024 bytes. The page has at most 8 pairs or
-    /// children, and a low fence of at most 32 bytes.
-    pub fn write(&self, into: &mut [u8])
+    /// children, and a low fence of at most 32 bytes. A place from which on the slot is zeros.
+    pub fn write(&self, into: &mut [u8]) -> usize
         requires slot { length into.old ≡ slot_size }
         requires few { count_in self.now.body ≤ 8 }
         requires low { length self.now.low ≤ 32 }
-        ensures { into.new ≡ page_bytes self.now }
+        ensures bytes { into.new ≡ page_bytes self.now }
+        ensures filled { IsFilled result into.new }
     {
-        self.write_as(self.seq, into);
+        self.write_as(self.seq, into)
     }
 
-    /// Writes the spelling that it has under this sequence number.
-    pub fn write_as(&self, seq: u64, into: &mut [u8])
+    /// Writes the spelling that it has under this sequence number, as `write` does.
+    pub fn write_as(&self, seq: u64, into: &mut [u8]) -> usize
         requires slot { length into.old ≡ slot_size }
         requires few { count_in self.now.body ≤ 8 }
         requires low { length self.now.low ≤ 32 }
-        ensures { into.new ≡ page_bytes (record self.now { seq = seq }) }
+        ensures bytes { into.new ≡ page_bytes (record self.now { seq = seq }) }
+        ensures filled { IsFilled result into.new }
     {
         let at = put_head(into, self, seq);
         let at = put_fences(into, at, self);
         let at = put_body(into, at, &self.body);
         put_zeros(into, at);
+        at
     }
 }

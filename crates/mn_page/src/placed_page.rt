@@ -1,6 +1,7 @@
 ghost use Rattle.std.specs.Prelude.{◌≡◌, ◌≤◌, length};
 ghost use Rattle.mn_page.specs.Grammar.{page_bytes, count_in};
 ghost use Rattle.mn_page.specs.Space.{slot_size};
+ghost use Rattle.mn_padded.specs.Zeros.{IsFilled};
 
 use crate::SharedPage;
 use mn_base::{NoMemory, TryCopy};
@@ -32,13 +33,14 @@ impl PlacedPage {
     }
 
     /// Writes its spelling over a slot, as `Page::write` does.
-    pub fn write(&self, into: &mut [u8])
+    pub fn write(&self, into: &mut [u8]) -> usize
         requires slot { length into.old ≡ slot_size }
         requires few { count_in self.now.body ≤ 8 }
         requires low { length self.now.low ≤ 32 }
-        ensures { into.new ≡ page_bytes self.now }
+        ensures bytes { into.new ≡ page_bytes self.now }
+        ensures filled { IsFilled result into.new }
     {
-        self.page.get().write_as(self.seq, into);
+        self.page.get().write_as(self.seq, into)
     }
 }
 

@@ -25,9 +25,10 @@ impl SharedPage {
     pub fn new(alloc: Global, page: Page) -> Result<Self, NoMemory>
         ensures { IfOk result (λ shared. shared ≡ page) }
     {
-        Ok(SharedPage {
-            page: Arc::new(alloc, page)?,
-        })
+        match Arc::new(alloc, page) {
+            Ok(page) => Ok(SharedPage { page }),
+            Err(_) => Err(NoMemory),
+        }
     }
 
     #[inline(always)]

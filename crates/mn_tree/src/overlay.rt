@@ -49,12 +49,15 @@ impl Overlay {
         requires within { version.0 < 64 }
         ensures { IfOk result (λ overlay. overlay ≡ new_state tree version root) }
     {
-        Ok(Overlay {
-            tree,
-            version,
-            root,
-            kept: Box::new(alloc, Kept::new(alloc, root))?,
-        })
+        match Box::new(alloc, Kept::new(alloc, root)) {
+            Ok(kept) => Ok(Overlay {
+                tree,
+                version,
+                root,
+                kept,
+            }),
+            Err(_) => Err(NoMemory),
+        }
     }
 
     /// Whether a page is what the last step asked for.

@@ -43,8 +43,8 @@ pub fn page_bytes(alloc: Global, page: &Page) -> Result<SharedBytes, NoMemory>
     ensures { IfOk result (λ bytes. bytes ≡ page_bytes page.now) }
 {
     let mut bytes = vec![in alloc; 0u8; 1_024]?;
-    page.write(&mut bytes);
-    Ok(SharedBytes::new(alloc, bytes)?)
+    let filled = page.write(&mut bytes);
+    SharedBytes::filled(alloc, bytes, filled)
 }
 
 /// The bytes of a page as a plan writes it.
@@ -54,8 +54,8 @@ pub fn placed_bytes(alloc: Global, page: &PlacedPage) -> Result<SharedBytes, NoM
     ensures { IfOk result (λ bytes. bytes ≡ page_bytes page.now) }
 {
     let mut bytes = vec![in alloc; 0u8; 1_024]?;
-    page.write(&mut bytes);
-    Ok(SharedBytes::new(alloc, bytes)?)
+    let filled = page.write(&mut bytes);
+    SharedBytes::filled(alloc, bytes, filled)
 }
 
 /// The bytes of an entry.
