@@ -44,7 +44,7 @@ pub fn page_bytes(alloc: Global, page: &Page) -> Result<SharedBytes, NoMemory>
 {
     let mut bytes = vec![in alloc; 0u8; 1_024]?;
     let filled = page.write(&mut bytes);
-    SharedBytes::filled(alloc, bytes, filled)
+    Ok(SharedBytes::filled(alloc, bytes, filled)?)
 }
 
 /// The bytes of a page as a plan writes it.
@@ -55,7 +55,7 @@ pub fn placed_bytes(alloc: Global, page: &PlacedPage) -> Result<SharedBytes, NoM
 {
     let mut bytes = vec![in alloc; 0u8; 1_024]?;
     let filled = page.write(&mut bytes);
-    SharedBytes::filled(alloc, bytes, filled)
+    Ok(SharedBytes::filled(alloc, bytes, filled)?)
 }
 
 /// The bytes of an entry.
