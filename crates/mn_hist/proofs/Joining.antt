@@ -36,7 +36,7 @@ use Rattle.mn_world.proofs.Reading.Same.{client_same-refl, client_same-true}
 use Rattle.mn_world.proofs.Meaning.Effects.{with_named}
 use Rattle.mn_hist.specs.declared.plans.Plans.{Plans}
 use Rattle.mn_hist.specs.Plans.{Planner, planner_kept}
-use Rattle.mn_hist.specs.declared.history.PlacedAct.{PlacedAct}
+use Rattle.mn_hist.specs.declared.acts.PlacedAct.{PlacedAct}
 use Rattle.mn_hist.specs.Acts.{Act, act_of, done_by, done_from}
 use Rattle.mn_hist.specs.History.{CallerState, placed_act, acts_in, begun_by, idle, planner_after, planner_of, state_after, caller_state}
 use Rattle.mn_hist.specs.History.{AreCallerStates, AreActsOf, KnowsPlanners, IsIssuedUnderId, AnswerIsInHistory, CommitIsInHistory, StandsInSet, AnswerHasPlace, EntryHasPlace, EntryIsInHistory}

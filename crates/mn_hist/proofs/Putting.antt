@@ -1,5 +1,5 @@
 -- An answer puts an operation into the history, at the place of a read.
-use Rattle.std.proofs.Common.{◌≡◌, ℕ, zero, suc, ◌<◌, Bool, true, false, ◌&&◌, ◌||◌, List, [], ◌∷◌, length, map, Option, Some, None, refl, subst, sym, ap, ◌∙◌, arith, if◌then◌else◌}
+use Rattle.std.proofs.Common.{◌≡◌, ℕ, zero, suc, ◌<◌, ◌≤◌, Bool, true, false, ◌&&◌, ◌||◌, List, [], ◌∷◌, ◌++◌, length, map, Option, Some, None, refl, subst, sym, ap, ◌∙◌, arith, if◌then◌else◌}
 use Rattle.std.specs.Prelude.{nat_eq, nat_lt, slice_get, slice_index_or, take, insert, MatchBool, Result, Ok, Err, OnErr, OnOk}
 use Rattle.std.specs.List.{AllByRecursion}
 use Rattle.mn_base.specs.declared.error.NoMemory.{NoMemory}
@@ -14,7 +14,7 @@ use Rattle.mn_world.specs.declared.entry.Entry.{Entry}
 use Rattle.mn_world.specs.Calls.{Begun, client_entries, under_way}
 use Rattle.mn_world.specs.History.{Placed, placed_in, has_past, AnswerPuts}
 use Rattle.mn_world.specs.OneHistory.{Ascend}
-use Rattle.mn_hist.specs.declared.history.PlacedAct.{PlacedAct}
+use Rattle.mn_hist.specs.declared.acts.PlacedAct.{PlacedAct}
 use Rattle.mn_hist.specs.History.{placed_act, caller_state, AreActsOf, IsNotedPlace, IsPutInto, IsIndexIn, StandsInSet, AnswerIsInHistory, AnswerHasPlace, stands}
 use Rattle.mn_hist.proofs.Noted.{begun_is, noted_place}
 use Rattle.mn_hist.proofs.Planning.{or_swap}
@@ -61,6 +61,16 @@ acts_more old new placed p are (at, index, is) =
     is
     ∙ (ap (λ (l : List PlacedAct). insert l at (placed_act p)) are
     ∙ put_acts p placed at (subst (λ (l : List PlacedAct). IsIndexIn l p.place at) are index))
+
+insert_last : (acts : List PlacedAct) (x : PlacedAct) → insert acts (length acts) x ≡ acts ++ x ∷ []
+insert_last [] x = refl
+insert_last (a ∷ acts) x = ap (λ (l : List PlacedAct). a ∷ l) (insert_last acts x)
+
+-- behind all others
+pub put_last : (old new : List PlacedAct) (x : PlacedAct) (at : ℕ) → at ≤ length old → length old ≤ at → IsIndexIn old x.place at → new ≡ old ++ x ∷ [] → IsPutInto old x new
+put_last old new x at within last index push =
+    let end : at ≡ length old = omega (arith, within, last) in
+    (at, index, push ∙ (sym (insert_last old x) ∙ ap (λ (n : ℕ). insert old n x) (sym end)))
 
 -- What stands
 

@@ -19,7 +19,7 @@ use Rattle.mn_world.specs.Commits.{committed_at, committed_by}
 use Rattle.mn_world.specs.History.{Placed}
 use Rattle.mn_world.specs.Shown.{seen_at, seen_by}
 use Rattle.mn_report.specs.declared.lines.LineAnswer.{LineAnswer}
-use Rattle.mn_hist.specs.declared.history.PlacedAct.{PlacedAct}
+use Rattle.mn_hist.specs.declared.acts.PlacedAct.{PlacedAct}
 use Rattle.mn_hist.specs.declared.sayings.Kept.{Kept}
 use Rattle.mn_hist.specs.Audit.{said_after, said_in}
 use Rattle.mn_hist.specs.History.{CallerState, caller_state, state_after, AreActsOf, AreCallerStates, CommitsAreInHistory, EntryIsInHistory, StandsInSet}

@@ -7,7 +7,7 @@ use Rattle.mn_world.specs.History.{Placed, pasts_of, IsHistory}
 use Rattle.mn_world.specs.OneHistory.{IsOneHistory}
 use Rattle.mn_world.specs.Protocol.{Start}
 use Rattle.mn_hist.specs.declared.history.Ending.{Ending}
-use Rattle.mn_hist.specs.declared.history.PlacedAct.{PlacedAct}
+use Rattle.mn_hist.specs.declared.acts.PlacedAct.{PlacedAct}
 use Rattle.mn_hist.specs.Acts.{done_from}
 use Rattle.mn_hist.specs.History.{StandsInSet, acts_in}
 use Rattle.mn_hist.specs.Saying.{TellsAnswers}

@@ -22,7 +22,7 @@ use Rattle.mn_world.specs.declared.commit_reader.CommittedMini.{CommittedMini}
 use Rattle.mn_world.specs.CommitReader.{issued_of}
 use Rattle.mn_world.specs.History.{Placed, has_past, AnswerPuts, EntryPuts}
 use Rattle.mn_world.specs.Shown.{Seen, seen_at}
-use Rattle.mn_hist.specs.declared.history.PlacedAct.{PlacedAct}
+use Rattle.mn_hist.specs.declared.acts.PlacedAct.{PlacedAct}
 use Rattle.mn_hist.specs.declared.plans.Plans.{Plans}
 use Rattle.mn_hist.specs.Acts.{Act, act_of}
 use Rattle.mn_hist.specs.Plans.{Planner, planner_kept}

@@ -10,7 +10,7 @@ ghost use Rattle.mn_hist.specs.Audit.{doubt_lines, doubts_from};
 ghost use Rattle.mn_hist.specs.History.{stands};
 ghost use Rattle.mn_hist.specs.Saying.{said_kept, TellsAnswers};
 
-use crate::history::is_standing;
+use crate::acts::is_standing;
 use crate::sayings::{AllSaid, Kept, kept_answer};
 use crate::table::Table;
 use mn_base::{ClientNo, Name, NoMemory, TryCopy};

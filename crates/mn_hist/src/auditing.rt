@@ -7,8 +7,9 @@ ghost use Rattle.mn_world.specs.Run.{entries_of};
 ghost use Rattle.mn_hist.specs.Audit.{client_name, ranked_act, IsAudit};
 ghost use Rattle.mn_hist.specs.History.{acts_in};
 
+use crate::acts::PlacedAct;
 use crate::answers::{answers_of, doubts_of, op_total};
-use crate::history::{PlacedAct, ending_of};
+use crate::history::ending_of;
 use crate::points::points_met;
 use crate::versions::versions_of;
 use mn_base::{ClientNo, Name, NoMemory, TryCopy};

@@ -1,8 +1,10 @@
 //! The one log of a run, from the lists of its clients, its history, and its audit.
 #![tactic(auto)]
 
+mod acts;
 mod answers;
 mod auditing;
+mod callers;
 mod history;
 mod lists;
 mod merging;

@@ -1,6 +1,0 @@
-use Rattle.std.proofs.Common.{◌≡◌, replicate}
-use Rattle.mn_hist.specs.History.{idle}
-use Rattle.mn_hist.proofs.history.idle_callers.Given as goal
-
-abbrev pub invariant-loop : goal.invariant-loop
-invariant-loop l = l.callers.items ≡ replicate l.counter idle
