@@ -1,4 +1,4 @@
-use Rattle.std.proofs.Common.{◌≡◌, ◌≤◌, List, arith, length, subst, sym}
+use Rattle.std.proofs.Common.{◌≤◌, List, arith, length, subst, sym}
 use Rattle.mn_hist.specs.declared.acts.PlacedAct.{PlacedAct}
 use Rattle.mn_hist.specs.History.{AreActsOf, IsIndexIn}
 use Rattle.mn_hist.proofs.Putting.{put_last}
