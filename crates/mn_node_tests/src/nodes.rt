@@ -9,7 +9,7 @@ ghost use Rattle.mn_node.specs.State.{HoldsPartsApart};
 use mn_base::{ClientNo, NodeNo, Nodes, StopAt, Tid};
 use mn_io::{Bytes as DiskBytes, Calls};
 use mn_memdisk::MemoryDisk;
-use mn_mini::{Part, PartItem, Request, SharedBytes};
+use mn_mini::{NodeReply, Part, PartItem, Request, SharedBytes};
 use mn_node::Node;
 use mn_redo::Redo;
 use std::alloc::Global;
@@ -174,6 +174,17 @@ fn request_of(alloc: Global, ask: Ask) -> Result<Request, Fail>
     }
 }
 
+/// A reply in words. Of the only vote that is held: its id, and its participants.
+fn words_of(alloc: Global, reply: &NodeReply) -> Result<String, Fail> {
+    if let NodeReply::Listed { doubts } = reply {
+        if let [held] = doubts.as_slice() {
+            let participants = held.participants.as_slice();
+            return Ok(format!(in alloc; "{:?} is held at {participants:?}", held.tid)?);
+        }
+    }
+    Ok(format!(in alloc; "{reply:?}")?)
+}
+
 /// Whether the node says this to the request.
 fn says(
     alloc: Global,
@@ -184,7 +195,7 @@ fn says(
 ) -> Result<bool, Fail> {
     let request = request_of(alloc, ask)?;
     let reply = node.handle(alloc, &request, stop);
-    Ok(format!(in alloc; "{reply:?}")?.as_str() == wanted)
+    Ok(words_of(alloc, &reply)?.as_str() == wanted)
 }
 
 /// A request, and what the node says to it.
@@ -238,7 +249,7 @@ const IT_IS_DECIDED: &[Said] = &[
     (Prepare(1, 4, Write(20, 1)), COUNT_IS_LOCKED),
     (
         List,
-        "Listed { doubts: Doubts { doubts: [Doubt { tid: Tid { run: 1, client: ClientNo(0), serial: 1 }, participants: Nodes { nodes: [NodeNo(0), NodeNo(1)] } }] } }",
+        "Tid { run: 1, client: ClientNo(0), serial: 1 } is held at [NodeNo(0), NodeNo(1)]",
     ),
     (Decide(0, 1, true), "Decided"),
     (
@@ -302,7 +313,7 @@ const ONE_HAS_ENDED: &[Said] = &[
     ),
     (
         List,
-        "Listed { doubts: Doubts { doubts: [Doubt { tid: Tid { run: 1, client: ClientNo(1), serial: 1 }, participants: Nodes { nodes: [NodeNo(0), NodeNo(1)] } }] } }",
+        "Tid { run: 1, client: ClientNo(1), serial: 1 } is held at [NodeNo(0), NodeNo(1)]",
     ),
 ];
 
