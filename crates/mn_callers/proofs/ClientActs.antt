@@ -1,6 +1,6 @@
 -- What a client does at an act is what the act says of its own list.
-use Rattle.std.proofs.Common.{◌≡◌, ◌≢◌, ℕ, ◌+◌, Bool, true, false, not, ◌&&◌, ◌||◌, nat_lt, IsTrue, List, [], ◌∷◌, ◌++◌, length, Option, Some, None, is_some, refl, sym, ap, ◌∙◌, subst, inl, inr}
-use Rattle.std.specs.Prelude.{MatchBool, slice_get}
+use Rattle.std.proofs.Common.{◌≡◌, ◌≢◌, ℕ, ◌+◌, Bool, true, false, not, ◌&&◌, ◌||◌, nat_lt, IsTrue, List, [], ◌∷◌, ◌++◌, length, Option, Some, None, Result, Ok, Err, is_some, refl, sym, ap, ◌∙◌, subst, inl, inr}
+use Rattle.std.specs.Prelude.{MatchBool, OnOk, slice_get}
 use Rattle.std.specs.List.{AllByRecursion}
 use Rattle.std.proofs.lemmas.List.{append_assoc}
 use Rattle.mn_base.specs.declared.ids.ClientNo.{ClientNo}
@@ -24,13 +24,13 @@ use Rattle.mn_hist.specs.Points.{may_stop}
 use Rattle.mn_proxy.specs.State.{ProxyState}
 use Rattle.mn_callers.specs.declared.client.Call.{Call}
 use Rattle.mn_callers.specs.declared.client.Client.{Client}
-use Rattle.mn_callers.specs.Acts.{AreOwn, Begins, BeginsOp, CallsOnce, CallsOrLacks, CallsWhile, GoesByItself, IsUnderWay, Role, Works, as_role, has_work, is_at_work, is_own, is_plan_due}
+use Rattle.mn_callers.specs.Acts.{AreOwn, Begins, BeginsOp, CallsOnce, CallsOrLacks, CallsWhile, GoesByItself, IsUnderWay, Lacks, Role, Works, as_role, has_work, is_at_work, is_own, is_plan_due}
 use Rattle.mn_callers.specs.Clients.{IsClient, IsOfRun, past_of}
 use Rattle.mn_callers.specs.Going.{HasAnswer, MayMake, is_planned}
 use Rattle.mn_callers.specs.Points.{has_died}
 use Rattle.mn_callers.specs.Steps.{Adds, own_entry}
 use Rattle.mn_callers.proofs.ClientSteps.{longer, out_works, ready_last}
-use Rattle.mn_callers.proofs.ClientCalls.{due_alive, entry_or_none, idle_alive, lives_by, works_none}
+use Rattle.mn_callers.proofs.ClientCalls.{due_alive, entry_or_none, idle_alive, lives_by, plain_out, works_none}
 use Rattle.mn_callers.proofs.PlansDue.{plan_is_due}
 
 -- Steps of its own
@@ -63,10 +63,36 @@ by_more c d es mid new same one two = record {
   steps = all_append (λ (e : Entry). (e.client ≡ Some c) × IsTrue (is_own e.what)) two.own one.own (subst (λ (k : ClientNo). AreOwn k two.own) same two.steps) one.steps;
 }
 
+-- some there are
+last_of_all : {X : Type 0} (x : X) (xs : List X) → (front : List X) × (last : X) × (x ∷ xs ≡ front ++ last ∷ [])
+last_of_all x [] = ([], x, refl)
+last_of_all {X} x (y ∷ xs) = let rest = last_of_all y xs in (x ∷ rest.0, rest.1, ap (λ (l : List X). x ∷ l) rest.2)
+
+lacks_by : (c : ClientNo) (es new own : List Entry) → own ≢ [] → new ≡ own ++ es → AreOwn c own → Lacks c es new
+lacks_by c es new [] some is steps = absurd (some refl)
+lacks_by c es new (e ∷ own) some is steps =
+    let split = last_of_all e own in
+    record {
+      first = split.1;
+      own = split.0;
+      new_is = is ∙ ap (λ (l : List Entry). l ++ es) split.2;
+      steps = subst (AreOwn c) split.2 steps;
+    }
+
 -- a minitransaction is issued
 pub issues_one : (start : Start) (old mid new : Client) (tid : Tid) (mini : Mini) → MayMake start old.list old.proxy (Issue tid mini) → Adds (own_entry old.list.client (Issue tid mini)) old.list mid.list → past_of new ≡ past_of mid
     → GoesByItself old.list.client (past_of old) (past_of new)
 issues_one start old mid new tid mini step adds same = subst (λ (l : List Entry). GoesByItself old.list.client (past_of old) l) (sym same) (by_one start old.list mid.list old.proxy (Issue tid mini) step adds)
+
+-- of a reply that is no entry this is so
+pub if_lacking : {T E : Type 0} (reply : NodeReply) (answered : Bool) (r : Result T E) (P : Type 0) → MatchBool answered (reply ≢ Say.NoMemory) (reply ≡ Say.NoMemory) → (answered ≡ false → OnOk r P) → OnOk r (reply ≡ Say.NoMemory → P)
+if_lacking reply answered (Err e) P is so = tt
+if_lacking reply true (Ok x) P is so = λ none. absurd (is none)
+if_lacking reply false (Ok x) P is so = λ none. so refl
+
+pub both_ok : {T E : Type 0} (r : Result T E) (P Q R : Type 0) → (P → Q → R) → OnOk r P → OnOk r Q → OnOk r R
+both_ok (Ok x) P Q R f p q = f p q
+both_ok (Err e) P Q R f p q = tt
 
 -- What stands to be done
 
@@ -163,15 +189,13 @@ module _ (start : Start) (points : List Point) (c : Client) (is : IsClient start
 
   module _ (call : Call) (due : c.due ≡ Some call) (left : Option Call) (after : Client) (reply : NodeReply) (run : IsOfRun start points after) (client : after.list.client ≡ c.list.client)
       (said : reply ≢ Say.NoMemory → HasAnswer points call.node call.request reply (record c { due = left }) after) (none : reply ≡ Say.NoMemory → past_of after ≡ past_of c) where
-    calls_or_lacks : (ops : List Op) (new : List Entry) (goes : GoesByItself c.list.client (past_of after) new) → (has_died points c.list.client (past_of after) ≡ true → goes.own ≡ []) → CallsOrLacks (as_role points c.list.client ops) (past_of c) new
-    calls_or_lacks ops new goes dead = elim (entry_or_none reply) [
-      | inl is ↦ lacks (none is)
+    calls_or_lacks : (ops : List Op) (new : List Entry) (goes : GoesByItself c.list.client (past_of after) new) → (has_died points c.list.client (past_of after) ≡ true → goes.own ≡ []) → (reply ≡ Say.NoMemory → goes.own ≢ [])
+        → CallsOrLacks (as_role points c.list.client ops) (past_of c) new
+    calls_or_lacks ops new goes dead some = elim (entry_or_none reply) [
+      | inl is ↦ inr (lacks_by c.list.client (past_of c) new goes.own (some is) (goes.new_is ∙ ap (λ (l : List Entry). goes.own ++ l) (none is)) goes.steps)
       | inr is ↦ calls (said is)
     ]
       where
-        lacks : past_of after ≡ past_of c → CallsOrLacks (as_role points c.list.client ops) (past_of c) new
-        lacks same = inr (record { own = goes.own; new_is = goes.new_is ∙ ap (λ (l : List Entry). goes.own ++ l) same; steps = goes.steps })
-
         calls : HasAnswer points call.node call.request reply (record c { due = left }) after → CallsOrLacks (as_role points c.list.client ops) (past_of c) new
         calls a = inl (record {
           entry = a.entry;
@@ -180,6 +204,7 @@ module _ (start : Start) (points : List Point) (c : Client) (is : IsClient start
           new_is = goes.new_is ∙ ap (λ (l : List Entry). goes.own ++ l) a.longer;
           by = (subst (λ (l : List Entry). AllByRecursion (λ e. e.client ≡ Some after.list.client) l) a.longer run.own).0 ∙ ap (λ (k : ClientNo). Some k) client;
           is_call = a.answers;
+          plain = plain_out c.proxy.work call.node call.request (due_alive start points c call is due).2.out;
           asked = a.stops;
           steps = goes.steps;
           dead = λ d. dead (ap (λ (l : List Entry). has_died points c.list.client l) a.longer ∙ d);
@@ -189,14 +214,25 @@ module _ (start : Start) (points : List Point) (c : Client) (is : IsClient start
     calls_once ops new calls = subst (λ b. MatchBool b (CallsOrLacks (as_role points c.list.client ops) (past_of c) new) (new ≡ past_of c)) (sym (works_due call due)) calls
 
     -- it died by the call
-    pub calls_last : (ops : List Op) → CallsOnce (as_role points c.list.client ops) (past_of c) (past_of after)
-    calls_last ops = calls_once ops (past_of after) (calls_or_lacks ops (past_of after) (by_none c.list.client (past_of after)) (λ d. refl))
+    pub calls_last : has_died points after.list.client (past_of after) ≡ true → (ops : List Op) → CallsOnce (as_role points c.list.client ops) (past_of c) (past_of after)
+    calls_last dies ops = calls_once ops (past_of after) (calls_or_lacks ops (past_of after) (by_none c.list.client (past_of after)) (λ d. refl) (λ is. absurd (lived is)))
+      where
+        lived : reply ≡ Say.NoMemory → ⊥
+        lived is = clash died (ap (λ (k : ClientNo). has_died points k (past_of c)) (sym client) ∙ (ap (λ (l : List Entry). has_died points after.list.client l) (sym (none is)) ∙ dies)) (due_lives call due)
 
     -- it goes on from the reply
-    pub calls_on : has_died points after.list.client (past_of after) ≡ false → (new : List Entry) → GoesByItself after.list.client (past_of after) new → (ops : List Op) → CallsOnce (as_role points c.list.client ops) (past_of c) new
-    calls_on lives new goes ops =
-        calls_once ops new (calls_or_lacks ops new (subst (λ (k : ClientNo). GoesByItself k (past_of after) new) client goes)
-        (λ d. absurd (clash (has_died points c.list.client (past_of after)) d (ap (λ (k : ClientNo). has_died points k (past_of after)) (sym client) ∙ lives))))
+    pub calls_on : has_died points after.list.client (past_of after) ≡ false → (new : List Entry) → GoesByItself after.list.client (past_of after) new → (reply ≡ Say.NoMemory → new ≢ past_of after) → (ops : List Op)
+        → CallsOnce (as_role points c.list.client ops) (past_of c) new
+    calls_on lives new goes some ops = calls_once ops new (calls_or_lacks ops new goes' dead longer')
+      where
+        goes' : GoesByItself c.list.client (past_of after) new
+        goes' = record { own = goes.own; new_is = goes.new_is; steps = subst (λ (k : ClientNo). AreOwn k goes.own) client goes.steps }
+
+        longer' : reply ≡ Say.NoMemory → goes.own ≢ []
+        longer' is none' = some is (goes.new_is ∙ ap (λ (l : List Entry). l ++ past_of after) none')
+
+        dead : has_died points c.list.client (past_of after) ≡ true → goes.own ≡ []
+        dead d = absurd (clash (has_died points c.list.client (past_of after)) d (ap (λ (k : ClientNo). has_died points k (past_of after)) (sym client) ∙ lives))
 
 -- an operation is begun as the next, with the steps that follow
 pub begins_op : (c d : ClientNo) (op copy : Op) (number : ℕ) (es mid new : List Entry) → last_number (begun_of es) ≡ number → copy ≡ op → d ≡ c → mid ≡ own_entry c (Begin (number + 1) copy) ∷ es → GoesByItself d mid new → BeginsOp c op es new

@@ -1,8 +1,8 @@
 -- What the calls of a client, and the operations that it begins, make of its list and its proxy.
-use Rattle.std.proofs.Common.{length, replicate, take, ◌≡◌, ◌≢◌, ℕ, ◌+◌, ◌-◌, ◌≤◌, Bool, true, false, List, [], ◌∷◌, ◌++◌, Option, Some, None, refl, sym, ap, ◌∙◌, subst, inl, inr}
-use Rattle.std.specs.Prelude.{◌⊎◌, MatchOption, ⊤, if◌then◌else◌, option_and_then}
+use Rattle.std.proofs.Common.{length, replicate, take, ◌≡◌, ◌≢◌, ℕ, ◌+◌, ◌-◌, ◌≤◌, Bool, true, false, not, ◌&&◌, List, [], ◌∷◌, ◌++◌, Option, Some, None, refl, sym, ap, ◌∙◌, subst, inl, inr, arith}
+use Rattle.std.specs.Prelude.{◌⊎◌, IsTrue, MatchOption, ⊤, if◌then◌else◌, nat_eq, option_and_then}
 use Rattle.std.specs.Option.{option_map}
-use Rattle.std.specs.List.{AllByRecursion}
+use Rattle.std.specs.List.{AllByRecursion, list_all}
 use Rattle.mn_base.specs.declared.gate.StopAt.{StopAt}
 use Rattle.mn_base.specs.declared.ids.ClientNo.{ClientNo}
 use Rattle.mn_base.specs.declared.ids.NodeNo.{NodeNo}
@@ -11,11 +11,12 @@ use Rattle.mn_base.specs.declared.op.Op.{Op}
 use Rattle.mn_base.proofs.Booleans.{clash}
 use Rattle.mn_cell.specs.Calls.{ObeysStop, MaySend, entry_at, what_said}
 use Rattle.mn_cell.specs.Runs.{IsIssueOf}
-use Rattle.mn_coord.specs.Coordination.{Coordination, step_at, stage_in}
+use Rattle.mn_coord.specs.Coordination.{Coordination, participant, step_at, stage_in, try_request}
 use Rattle.mn_coord.specs.Legal.{IsAnswered}
 use Rattle.mn_coord.specs.declared.stage.Stage.{Stage}
 use Rattle.mn_coord.specs.declared.stage.Stage.TheVariants as At
 use Rattle.mn_coord.specs.declared.step.CoordStep.TheVariants.{Send}
+use Rattle.mn_mini.specs.Mini.{part_of, participants_of}
 use Rattle.mn_mini.specs.RecordGrammar.{IsTid}
 use Rattle.mn_mini.specs.Sound.{Fits, IsDecide}
 use Rattle.mn_mini.specs.declared.reply.NodeReply.{NodeReply}
@@ -26,7 +27,8 @@ use Rattle.mn_script.specs.declared.elements.Point.{Point}
 use Rattle.mn_world.specs.declared.entry.Entry.{Entry}
 use Rattle.mn_world.specs.declared.entry.What.{What}
 use Rattle.mn_world.specs.declared.entry.What.TheVariants.{Begin, Called, Stopped}
-use Rattle.mn_world.specs.Calls.{Begun, begun_in, begun_of, issue_in, under_way}
+use Rattle.mn_world.specs.Calls.{Begun, Call as Asked, begun_in, begun_of, calls_of, issue_in, under_way}
+use Rattle.mn_world.specs.Causes.{is_recovery, recovers_nothing}
 use Rattle.mn_world.specs.Clients.{last_number}
 use Rattle.mn_world.specs.Lists.{ClientState}
 use Rattle.mn_world.specs.Protocol.{Start, run_number, start_nodes}
@@ -141,12 +143,16 @@ module _ (start : Start) (points : List Point) (c : Client) (node : NodeNo) (req
   pub said_unnoted : number_of (past_of c) ≡ Some c.begun → IsUnnoted points (record c { list = l })
   said_unnoted number = record { last = e; before = past_of c; split = longer e c.list l adds; own = own_after; number = number; met = run.met }
 
-  pub said_run : (flags : List Bool) → flags ≡ points_met points (entries_of l.entries) → IsListOfRun start points l flags c.begun c.shared c.is_plan
-  said_run flags met = record {
+  pub said_run : is_recovery request ≡ false → (flags : List Bool) → flags ≡ points_met points (entries_of l.entries) → IsListOfRun start points l flags c.begun c.shared c.is_plan
+  said_run plain flags met = record {
     own = own_after;
     of_run = with_entry (λ d es. AllByRecursion (IsIssueOf start) es) e c.list l adds (issues_none start node c.list.client request stop reply, run.of_run);
     met = met;
+    plain = with_entry (λ d es. IsTrue (recovers_nothing es)) e c.list l adds
+        (ap (λ (calls : List Asked). list_all (λ call. not (is_recovery call.request)) (calls ++ calls_of (past_of c))) (answered node c.list.client request stop reply)
+        ∙ (ap (λ (b : Bool). not b && recovers_nothing (past_of c)) plain ∙ run.plain));
     begun = with_entry (λ d es. last_number (begun_of es) ≡ c.begun) e c.list l adds (ap (λ (bs : List Begun). last_number (bs ++ begun_of (past_of c))) (begins_none request stop reply) ∙ run.begun);
+    counted = with_entry (λ d es. length (begun_of es) ≡ c.begun) e c.list l adds (ap (λ (bs : List Begun). length (bs ++ begun_of (past_of c))) (begins_none request stop reply) ∙ run.counted);
     shared = run.shared;
     issues = with_entry (λ d es. KeepsIssues es c.shared c.is_plan) e c.list l adds (same_issues e (past_of c) c.shared c.is_plan (no_issue request stop reply) run.issues);
   }
@@ -174,7 +180,9 @@ same_run start points old new flags flags' begun id plan keeps met run = record 
   own = same_list (λ d es. AllByRecursion (λ x. x.client ≡ Some d) es) old new keeps.client keeps.entries run.own;
   of_run = same_list (λ d es. AllByRecursion (IsIssueOf start) es) old new keeps.client keeps.entries run.of_run;
   met = met;
+  plain = same_list (λ d es. IsTrue (recovers_nothing es)) old new keeps.client keeps.entries run.plain;
   begun = same_list (λ d es. last_number (begun_of es) ≡ begun) old new keeps.client keeps.entries run.begun;
+  counted = same_list (λ d es. length (begun_of es) ≡ begun) old new keeps.client keeps.entries run.counted;
   shared = run.shared;
   issues = same_list (λ d es. KeepsIssues es id plan) old new keeps.client keeps.entries run.issues;
 }
@@ -224,10 +232,10 @@ module _ (start : Start) (points : List Point) (c : Client) (node : NodeNo) (req
   asked_noted is = run.met ∙ sym (ap (λ (k : List (ℕ × Entry)). points_met points (entries_of k)) (none is))
 
   module _ (m : Client) (same : m ≡ record c { list = l; met = m.met }) where
-    pub asked_run : m.met.items ≡ points_met points (entries_of l.entries) → IsOfRun start points m
-    asked_run met = as_same (IsOfRun start points) (record c { list = l; met = m.met }) m same (elim (entry_or_none reply) [
+    pub asked_run : is_recovery request ≡ false → m.met.items ≡ points_met points (entries_of l.entries) → IsOfRun start points m
+    asked_run plain met = as_same (IsOfRun start points) (record c { list = l; met = m.met }) m same (elim (entry_or_none reply) [
       | inl is ↦ same_run start points c.list l c.met.items m.met.items c.begun c.shared c.is_plan (record { client = client; entries = none is }) met run
-      | inr is ↦ said_run start points c node request stop reply l run (said is) m.met.items met
+      | inr is ↦ said_run start points c node request stop reply l run (said is) plain m.met.items met
     ])
 
     pub asked_answer : stop ≡ stop_due points c.list.client node request (past_of c) → ObeysStop stop request reply → reply ≢ Say.NoMemory → HasAnswer points node request reply c m
@@ -255,6 +263,29 @@ asks c At.Cancel node request is other = let same : Ask.Decide c.tid false ≡ r
 asks c At.Committed node request is other = absurd cc
 asks c At.Failed node request is other = absurd cc
 asks c At.Doubt node request is other = absurd cc
+
+-- a request that is out is none of a recovery
+plain_try : (alone : Bool) (exec prepare request : Request) → is_recovery exec ≡ false → is_recovery prepare ≡ false → (if alone then exec else prepare) ≡ request → is_recovery request ≡ false
+plain_try true exec prepare request one two is = subst (λ (r : Request). is_recovery r ≡ false) is one
+plain_try false exec prepare request one two is = subst (λ (r : Request). is_recovery r ≡ false) is two
+
+plain_at : (c : Coordination) (stage : Stage) (node : NodeNo) (request : Request) → step_at c stage ≡ Send node request → is_recovery request ≡ false
+plain_at c At.Ask node request is =
+    let same : try_request c.tid c.mini (participant c c.done) ≡ request = cc in
+    plain_try (nat_eq (length (participants_of c.mini)) 1) (Ask.Exec c.tid (part_of c.mini (participant c c.done))) (Ask.Prepare c.tid (participants_of c.mini) (part_of c.mini (participant c c.done))) request refl refl same
+plain_at c At.Commit node request is = let same : Ask.Decide c.tid true ≡ request = cc in subst (λ (r : Request). is_recovery r ≡ false) same refl
+plain_at c At.Abandon node request is = absurd cc
+plain_at c At.Cancel node request is = let same : Ask.Decide c.tid false ≡ request = cc in subst (λ (r : Request). is_recovery r ≡ false) same refl
+plain_at c At.Committed node request is = absurd cc
+plain_at c At.Failed node request is = absurd cc
+plain_at c At.Doubt node request is = absurd cc
+
+pub plain_out : (work : Option (Work × Errand)) (node : NodeNo) (request : Request) → HasOutIn work node request → is_recovery request ≡ false
+plain_out None node request has = absurd has
+plain_out (Some (work, out.Nothing)) node request has = absurd has
+plain_out (Some (work, out.Peek place purpose)) node request has = subst (λ (r : Request). is_recovery r ≡ false) (sym has.1) refl
+plain_out (Some (work, out.Peeked place reply purpose)) node request has = absurd has
+plain_out (Some (work, out.Mini tid c purpose)) node request has = plain_at c (stage_in c) node request has.1
 
 -- where the request that is out is other decision
 owes_none : (work : Option (Work × Errand)) (node : NodeNo) (request : Request) → HasOutIn work node request → (IsDecide request → ⊥) → OwesNoneIn work
@@ -372,7 +403,9 @@ begin_steps start points c op l p run lives none proxy idle adds begins = record
     own = with_entry (λ d es. AllByRecursion (λ x. x.client ≡ Some d) es) e c.list l adds (refl, run.own);
     of_run = with_entry (λ d es. AllByRecursion (IsIssueOf start) es) e c.list l adds (tt, run.of_run);
     met = run.met ∙ sym met;
+    plain = with_entry (λ d es. IsTrue (recovers_nothing es)) e c.list l adds run.plain;
     begun = with_entry (λ d es. last_number (begun_of es) ≡ c.begun + 1) e c.list l adds refl;
+    counted = with_entry (λ d es. length (begun_of es) ≡ c.begun + 1) e c.list l adds (let count = run.counted in omega arith);
     shared = run.shared;
     issues = with_entry (λ d es. KeepsIssues es c.shared c.is_plan) e c.list l adds (same_issues e (past_of c) c.shared c.is_plan refl run.issues);
   };
@@ -425,7 +458,9 @@ first_run start points c empty begun shared plan met = record {
   own = none (λ es. AllByRecursion (λ x. x.client ≡ Some c.list.client) es) tt;
   of_run = none (λ es. AllByRecursion (IsIssueOf start) es) tt;
   met = none_met points c.met.items met ∙ sym (ap (λ (l : List (ℕ × Entry)). points_met points (entries_of l)) empty);
+  plain = none (λ es. IsTrue (recovers_nothing es)) refl;
   begun = none (λ es. last_number (begun_of es) ≡ c.begun) (sym begun);
+  counted = none (λ es. length (begun_of es) ≡ c.begun) (sym begun);
   shared = subst (λ (o : Option Tid). MatchOption o ⊤ IsTid) (sym shared) tt;
   issues = none (λ es. KeepsIssues es c.shared c.is_plan) (record { id_is = shared; plan_is = plan });
 }

@@ -1,6 +1,6 @@
 -- What the entries of a client make of its list and its proxy.
 use Rattle.std.proofs.Common.{◌≡◌, ◌≢◌, ℕ, ◌+◌, ◌≤◌, Bool, true, not, List, [], ◌∷◌, ◌++◌, length, map, reverse, Option, Some, None, Result, Ok, Err, refl, sym, ap, ◌∙◌, subst, arith, inl, inr}
-use Rattle.std.specs.Prelude.{MatchOption, OnErr, OnOk, ⊤, if◌then◌else◌, nat_le}
+use Rattle.std.specs.Prelude.{IsTrue, MatchOption, OnErr, OnOk, ⊤, if◌then◌else◌, nat_le}
 use Rattle.std.specs.List.{AllByRecursion}
 use Rattle.std.specs.Option.{option_map}
 use Rattle.std.proofs.lemmas.List.{map-append, reverse-append}
@@ -22,6 +22,7 @@ use Rattle.mn_world.specs.declared.entry.What.{What}
 use Rattle.mn_world.specs.declared.entry.What.TheVariants.{Begin, Issue, Called, Stopped, Restarted, Abandoned, Answered}
 use Rattle.mn_world.specs.Answers.{MeansBy}
 use Rattle.mn_world.specs.Calls.{Begun, Call as Asked, Issued, begun_in, begun_of, call_in, issue_in, issues_of, under_way, under_way_after}
+use Rattle.mn_world.specs.Causes.{recovers_nothing}
 use Rattle.mn_world.specs.Clients.{ClientAllows, last_number}
 use Rattle.mn_world.specs.Lists.{ClientState}
 use Rattle.mn_world.specs.Places.{Place}
@@ -104,7 +105,9 @@ module _ (start : Start) (old new : ClientState) (p : ProxyState) (what : What) 
   made_list begun id id' plan plan' shared issues has = record {
     own = with_entry (λ d es. AllByRecursion (λ x. x.client ≡ Some d) es) e old new adds (refl, has.own);
     of_run = with_entry (λ d es. AllByRecursion (IsIssueOf start) es) e old new adds (step.of_run, has.of_run);
+    plain = with_entry (λ d es. IsTrue (recovers_nothing es)) e old new adds step.agrees.0.recovers;
     begun = with_entry (λ d es. last_number (begun_of es) ≡ begun) e old new adds (ap (λ (bs : List Begun). last_number (bs ++ begun_of (entries_of old.entries))) step.begins_none ∙ has.begun);
+    counted = with_entry (λ d es. length (begun_of es) ≡ begun) e old new adds (ap (λ (bs : List Begun). length (bs ++ begun_of (entries_of old.entries))) step.begins_none ∙ has.counted);
     shared = shared;
     issues = with_entry (λ d es. KeepsIssues es id' plan') e old new adds issues;
   }
@@ -133,7 +136,9 @@ pub kept_list : (start : Start) (old new : ClientState) (begun : ℕ) (id : Opti
 kept_list start old new begun id plan keeps has = record {
   own = same_list (λ d es. AllByRecursion (λ x. x.client ≡ Some d) es) old new keeps.client keeps.entries has.own;
   of_run = same_list (λ d es. AllByRecursion (IsIssueOf start) es) old new keeps.client keeps.entries has.of_run;
+  plain = same_list (λ d es. IsTrue (recovers_nothing es)) old new keeps.client keeps.entries has.plain;
   begun = same_list (λ d es. last_number (begun_of es) ≡ begun) old new keeps.client keeps.entries has.begun;
+  counted = same_list (λ d es. length (begun_of es) ≡ begun) old new keeps.client keeps.entries has.counted;
   shared = has.shared;
   issues = same_list (λ d es. KeepsIssues es id plan) old new keeps.client keeps.entries has.issues;
 }
@@ -349,7 +354,9 @@ kept_run start points old new flags flags' begun count id id' plan plan' has kee
   own = has.own;
   of_run = has.of_run;
   met = keeps.flags ∙ (run.met ∙ sym (keeps.met points));
+  plain = has.plain;
   begun = has.begun;
+  counted = has.counted;
   shared = has.shared;
   issues = has.issues;
 }
@@ -360,7 +367,7 @@ kept_death points old new flags flags' keeps dead =
     ∙ ap (λ (met : List Bool). is_some_met (is_kill_of old.client) points met) (keeps.met points)) ∙ dead
 
 pub list_of_run : (start : Start) (points : List Point) (l : ClientState) (flags : List Bool) (begun : ℕ) (id : Option Tid) (plan : Bool) → IsListOfRun start points l flags begun id plan → IsList start l begun id plan
-list_of_run start points l flags begun id plan run = record { own = run.own; of_run = run.of_run; begun = run.begun; shared = run.shared; issues = run.issues }
+list_of_run start points l flags begun id plan run = record { own = run.own; of_run = run.of_run; plain = run.plain; begun = run.begun; counted = run.counted; shared = run.shared; issues = run.issues }
 
 -- How a client has gone on
 

@@ -23,8 +23,9 @@ use Rattle.mn_world.specs.Run.{entries_of}
 use Rattle.mn_callers.specs.declared.callers.Callers.{Callers}
 use Rattle.mn_callers.specs.declared.client.Client.{Client}
 use Rattle.mn_callers.specs.declared.desk.Desk.{Desk}
-use Rattle.mn_callers.specs.Acts.{as_role, role_of}
-use Rattle.mn_callers.specs.Clients.{IsOfRun}
+use Rattle.mn_callers.specs.Acts.{as_role, ops_by, role_of}
+use Rattle.mn_callers.specs.Clients.{IsOfRun, past_of}
+use Rattle.mn_callers.specs.Going.{KeepsOrder}
 use Rattle.mn_callers.specs.Logs.{works_of}
 use Rattle.mn_callers.specs.Plays.{IsAtRest, IsPlay, PlayState, caller_at, list_by}
 use Rattle.mn_callers.specs.Stages.{GoesAs, IsOfClient, played_by}
@@ -90,12 +91,12 @@ module _ {D : Type 0} (board : TableId) (start : Start) (p : PlayState D) (rests
     pub client_ends : (script : Script) → IsPlay board start script p → (q : PlayState D) (w u : View Entry) (at : TableId) (t : Turn D) (c' : Client)
         → IsTurnOf board start p q (caller_at k) w u q.view at c.list t
         → q.callers.clients.items ≡ slice_set p.callers.clients.items k c' → q.callers.desks.items ≡ p.callers.desks.items → q.callers.closer.list ≡ p.callers.closer.list
-        → IsOfRun start script.points c' → IsPlay board start script q
-    client_ends script play q w u at t c' of clients desks closing of_run =
+        → IsOfRun start script.points c' → KeepsOrder (ops_by script.clients (caller_at k)) (past_of c) (past_of c') → IsPlay board start script q
+    client_ends script play q w u at t c' of clients desks closing of_run order =
         record {
           nodes = play.nodes;
           rests = turn_ends board start p q (caller_at k) w u q.view at c.list t of;
-          callers = client_among start script p.callers q.callers k c c' play.callers there clients desks closing of_run;
+          callers = client_among start script p.callers q.callers k c c' play.callers there clients desks closing of_run (order (play.callers.begins k c there));
         }
 
     -- what it does with its own list, its turn does with the log

@@ -1,6 +1,6 @@
 -- The closing coordinator's turn, and what its calls do to the nodes.
 use Rattle.std.proofs.Common.{◌≡◌, ◌≢◌, ℕ, zero, suc, ◌+◌, ◌<◌, ◌≤◌, ◌⊎◌, Bool, true, false, List, [], ◌∷◌, ◌++◌, length, map, reverse, slice_get, Option, Some, None, refl, sym, ap, ◌∙◌, subst, ⊎_elim, arith}
-use Rattle.std.specs.Prelude.{Contains, Err, Ok, OnOk, Result}
+use Rattle.std.specs.Prelude.{Contains, Err, IfErr, Ok, OnOk, Result}
 use Rattle.std.specs.List.{AllByRecursion}
 use Rattle.std.specs.Option.{option_map_or}
 use Rattle.std.proofs.lemmas.Bool.{cases_eq}
@@ -23,15 +23,20 @@ use Rattle.mn_mini.specs.declared.doubt.Doubt.{Doubt}
 use Rattle.mn_mini.specs.Node.{HeldPart, doubts_of, held_parts}
 use Rattle.mn_mini.specs.RecordGrammar.{IsTid}
 use Rattle.mn_mini.specs.Sound.{IsDoubt}
+use Rattle.mn_io.specs.DiskModel.{DiskState}
 use Rattle.mn_world.specs.declared.entry.Entry.{Entry}
 use Rattle.mn_world.specs.declared.entry.What.TheVariants.{Restarted}
 use Rattle.mn_world.specs.Lists.{ClientState}
+use Rattle.mn_world.specs.Nodes.{is_down}
 use Rattle.mn_world.specs.Protocol.{Start, start_nodes}
 use Rattle.mn_world.specs.Run.{entries_of}
+use Rattle.mn_callers.specs.Begins.{AreBare}
 use Rattle.mn_callers.specs.Causes.{IsCaused}
 use Rattle.mn_callers.specs.Closing.{AllExtend, AreHeldIn, ClosesOn, Extends, IsCallOrRestart, IsClosing, IsDone, failure_of}
 use Rattle.mn_callers.specs.Desks.{IsRecoveryCall}
 use Rattle.mn_callers.specs.Doings.{HasAnswered, IsAnswer, IsDownAs, OthersStay}
+use Rattle.mn_callers.specs.Ended.{AllHaveMade}
+use Rattle.mn_callers.specs.Failed.{IsDamage}
 use Rattle.mn_callers.specs.Settled.{AllUp, AreUpAndFree, records_at}
 use Rattle.mn_callers.specs.Steps.{Adds, KeepsList}
 use Rattle.mn_callers.specs.Turn.{AreStations, IsTurn, Turn}
@@ -234,3 +239,35 @@ closes_restarted old new n restarts = ⊎_elim
 pub closes_after : {X E : Type 0} (r : Result X E) (a b c : List Entry) → ClosesOn a b → OnOk r (ClosesOn b c) → OnOk r (ClosesOn a c)
 closes_after (Ok x) a b c one two = closes_further a b c one two
 closes_after (Err e) a b c one two = tt
+
+-- Failures
+
+-- the list has no further entry
+pub closes_kept : (es : List Entry) (old new : ClientState) → KeepsList old new → ClosesOn es (entries_of old.entries) → ClosesOn es (entries_of new.entries)
+closes_kept es old new keeps closes = subst (λ (l : List (ℕ × Entry)). ClosesOn es (entries_of l)) (sym keeps.entries) closes
+
+-- a reply is no damage
+pub never_damage : (n : NodeNo) (reply : NodeReply) (why : RunCause) → failure_of n reply ≡ Some why → IsDamage why → ⊥
+never_damage n Say.Stopped why is damage = let same : why ≡ cause.Disk n = cc in subst IsDamage same damage
+never_damage n Say.Down why is damage = let same : why ≡ cause.Disk n = cc in subst IsDamage same damage
+never_damage n Say.NoMemory why is damage = let same : why ≡ cause.NoMemory = cc in subst IsDamage same damage
+never_damage n (Say.Done reads) why is damage = absurd cc
+never_damage n (Say.BadLock from long holder) why is damage = absurd cc
+never_damage n (Say.BadCompare item found) why is damage = absurd cc
+never_damage n Say.BadForced why is damage = absurd cc
+never_damage n (Say.Vote vote) why is damage = absurd cc
+never_damage n Say.Decided why is damage = absurd cc
+never_damage n (Say.Listed doubts) why is damage = absurd cc
+never_damage n (Say.Peeked bytes) why is damage = absurd cc
+
+-- where no node has an entry each is up
+pub bare_up : {D : Type 0} (state : D → DiskState) (faults : D → ℕ) (start : Start) (counts : ℕ → ℕ) (honest : ℕ → Type 0) (stations : List (StationState D)) → AllHaveMade state faults start counts honest stations → AreBare stations → AllUp stations
+bare_up state faults start counts honest stations made bare k s at = (made k s at).down ∙ ap (λ (l : List (ℕ × Entry)). is_down (entries_of l)) (bare k s at)
+
+pub any_error : {T E : Type 0} (r : Result T E) (P : E → Type 0) → ((e : E) → P e) → IfErr r P
+any_error (Ok x) P each = tt
+any_error (Err e) P each = each e
+
+pub if_error : {T E : Type 0} (r : Result T E) (P Q : E → Type 0) → ((e : E) → P e → Q e) → IfErr r P → IfErr r Q
+if_error (Ok x) P Q each so = tt
+if_error (Err e) P Q each so = each e so

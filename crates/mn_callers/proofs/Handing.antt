@@ -19,6 +19,7 @@ use Rattle.mn_mini.specs.declared.record.Record.{Record}
 use Rattle.mn_mini.specs.Node.{held_parts}
 use Rattle.mn_node.specs.Restart.{DamageNames}
 use Rattle.mn_node.specs.State.{NodeState}
+use Rattle.mn_script.specs.Script.{Script}
 use Rattle.mn_world.specs.declared.entry.Entry.{Entry}
 use Rattle.mn_world.specs.Calls.{node_entries}
 use Rattle.mn_world.specs.Laws.{RecordsStaySound}
@@ -96,8 +97,8 @@ module _ {D : Type 0} (start : Start) (stations : List (StationState D)) (past :
       let sound_now = subst (λ (lists : NodeNo → List Record). AreSound (start_nodes start) lists) (sym same) sound in
       ap held_parts (sym (same_records n)) ∙ settled.1 sound_now n among
 
-module _ {D : Type 0} (state : D → DiskState) (faults : D → ℕ) (start : Start) (counts : ℕ → ℕ) (honest : ℕ → Type 0) (nodes : List (NodeState D))
-    (played : Result (Unit {0}) RunCause) (log : List (ℕ × Entry)) (ended : IsEnded state faults start counts honest nodes played log) where
+module _ {D : Type 0} (state : D → DiskState) (faults : D → ℕ) (start : Start) (counts : ℕ → ℕ) (honest : ℕ → Type 0) (script : Script) (nodes : List (NodeState D))
+    (played : Result (Unit {0}) RunCause) (log : List (ℕ × Entry)) (ended : IsEnded state faults start counts honest script nodes played log) where
   abbrev past : List Entry
   past = entries_of log
 
@@ -121,17 +122,17 @@ module _ {D : Type 0} (state : D → DiskState) (faults : D → ℕ) (start : St
 
 -- Handed back
 
-module _ {D : Type 0} (state : D → DiskState) (faults : D → ℕ) (records : List (List Record)) (counts : ℕ → ℕ) (honest : ℕ → Type 0) (given nodes : List (NodeState D))
+module _ {D : Type 0} (state : D → DiskState) (faults : D → ℕ) (records : List (List Record)) (counts : ℕ → ℕ) (honest : ℕ → Type 0) (script : Script) (given nodes : List (NodeState D))
     (played : Result (Unit {0}) RunCause) (log : List (ℕ × Entry)) (named : NamesGiven state faults records counts honest given)
-    (ended' : IsEnded state faults (start_of records) counts honest nodes played log) where
+    (ended' : IsEnded state faults (start_of records) counts honest script nodes played log) where
   abbrev start : Start
   start = start_on given
 
-  abbrev ended : IsEnded state faults start counts honest nodes played log
-  ended = subst (λ (rs : List (List Record)). IsEnded state faults (start_of rs) counts honest nodes played log) named.records_are ended'
+  abbrev ended : IsEnded state faults start counts honest script nodes played log
+  ended = subst (λ (rs : List (List Record)). IsEnded state faults (start_of rs) counts honest script nodes played log) named.records_are ended'
 
   made : (k : ℕ) (s : StationState D) → slice_get ended.stations k ≡ Some s → HasMadeEntries state faults start (numbered k) (counts k) (honest k) (node_entries (numbered k) (entries_of log)) s.node
-  made k s at = made_at state faults start counts honest nodes played log ended k s at
+  made k s at = made_at state faults start counts honest script nodes played log ended k s at
 
   handed : AreHandedBack state faults start (entries_of log) given nodes
   handed k m w gave left =
@@ -143,14 +144,15 @@ module _ {D : Type 0} (state : D → DiskState) (faults : D → ℕ) (records : 
         records = has.records;
         down = has.down;
         pending = has.pending;
+        sound = ended.sound k w left;
         stops = has.stops;
         counted = subst (λ (before : ℕ). RoseBy (unasked (node_entries (numbered k) (entries_of log))) before (faults w.disk)) (named.counted k m gave) has.counted;
         honest = λ was. has.as_honest ((named.is_honest k m gave).1 was);
         kept = λ is. subst (λ (before : ℕ). RestartsKeepRecordsAsAsked (Rose before (faults w.disk)) (node_entries (numbered k) (entries_of log))) (named.counted k m gave) (has.kept is);
       }
 
-  pub run_on : IsRunOn state faults given nodes log
-  run_on = (ended.run, handed)
+  pub run_on : IsRunOn state faults script given nodes log
+  run_on = (ended.run, ended.of_script, handed)
 
   pub as_many : length nodes ≡ length given
   as_many =
@@ -201,21 +203,22 @@ module _ {D : Type 0} (state : D → DiskState) (faults : D → ℕ) (records : 
             )) caused.3,
       )
 
-  pub fails_so : (cause : RunCause) → played ≡ Err cause → (cause ≡ NoMemory → ⊥) → FailsSo state faults given nodes log cause
+  pub fails_so : (cause : RunCause) → played ≡ Err cause → (cause ≡ NoMemory → ⊥) → FailsSo state faults script given nodes log cause
   fails_so cause is other = by cause (subst (λ (r : Result (Unit {0}) RunCause). IfErr r (IsCaused faults counts honest ended.stations)) is ended.caused) other
     where
-      by : (cause : RunCause) → IsCaused faults counts honest ended.stations cause → (cause ≡ NoMemory → ⊥) → FailsSo state faults given nodes log cause
+      by : (cause : RunCause) → IsCaused faults counts honest ended.stations cause → (cause ≡ NoMemory → ⊥) → FailsSo state faults script given nodes log cause
       by (Disk n) caused other = record { count = as_many; cause_is = disk_cause n caused; told = run_on }
       by (Damaged n place kept found) caused other = record { count = as_many; cause_is = damage_cause n place kept found caused; told = run_on }
       by NoMemory caused other = absurd (other refl)
 
   -- All
 
-  pub is_trace : RunsFollowProtocol → RecordsStaySound → (u : Unit {0}) → played ≡ Ok u → IsTrace state faults given nodes log
+  pub is_trace : RunsFollowProtocol → RecordsStaySound → (u : Unit {0}) → played ≡ Ok u → IsTrace state faults script given nodes log
   is_trace follow stay u is = record {
     count = as_many;
     run = ended.run;
+    of_script = ended.of_script;
     back = handed;
-    quiet = quiet state faults start counts honest nodes played log ended follow stay
+    quiet = quiet state faults start counts honest script nodes played log ended follow stay
         (subst (λ (r : Result (Unit {0}) RunCause). OnOk r (AreUpAndFree (start_nodes start) ended.stations)) is ended.settled);
   }

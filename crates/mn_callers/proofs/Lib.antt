@@ -7,6 +7,7 @@ pub mod Beginning
 pub mod Apart
 pub mod Listing
 pub mod Handing
+pub mod OfScript
 pub mod Merging
 pub mod Staged
 pub mod Opening
@@ -23,6 +24,7 @@ pub mod Advancing
 pub mod MetPoints
 pub mod ClientSteps
 pub mod ClientCalls
+pub mod Orders
 pub mod ClientEnds
 pub mod ClientActs
 pub mod OneTrail

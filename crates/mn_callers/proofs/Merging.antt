@@ -1,5 +1,5 @@
 -- The lists that a run leaves are one log, which is a run, and has each node's list.
-use Rattle.std.proofs.Common.{◌≡◌, ℕ, suc, ◌+◌, ◌<◌, Bool, true, false, Option, Some, None, List, [], ◌∷◌, ◌++◌, length, map, reverse, refl, sym, ap, ◌∙◌, subst, if◌then◌else◌, Result, Ok, Err, IfErr, IfOk, OnOk}
+use Rattle.std.proofs.Common.{◌≡◌, ℕ, suc, ◌+◌, ◌<◌, ◌≤◌, Bool, true, false, Option, Some, None, List, [], ◌∷◌, ◌++◌, length, map, reverse, refl, sym, ap, ◌∙◌, subst, if◌then◌else◌, Result, Ok, Err, IfErr, IfOk, OnOk}
 use Rattle.std.specs.Prelude.{filter, slice_get}
 use Rattle.std.specs.List.{AllByRecursion}
 use Rattle.std.specs.Option.{option_map_or}
@@ -11,7 +11,7 @@ use Rattle.mn_actors.specs.declared.actor.Actor.TheVariants.{Client, Node}
 use Rattle.mn_actors.specs.declared.clock.View.{View}
 use Rattle.mn_actors.specs.Lines.{IsActor, Line, is_node, stands_in}
 use Rattle.mn_actors.specs.Lists.{OwnsAll, held}
-use Rattle.mn_actors.specs.Log.{IsOneLog, entries_from}
+use Rattle.mn_actors.specs.Log.{IsManned, IsOneLog, entries_from}
 use Rattle.mn_base.specs.Ids.{node_same}
 use Rattle.mn_base.specs.declared.ids.ClientNo.{ClientNo}
 use Rattle.mn_base.specs.declared.ids.NodeNo.{NodeNo}
@@ -22,8 +22,9 @@ use Rattle.mn_cell.specs.Station.{StationState}
 use Rattle.mn_hist.specs.Merging.{AreOneLog, actor_list}
 use Rattle.mn_io.specs.DiskModel.{DiskState}
 use Rattle.mn_node.specs.State.{NodeState}
+use Rattle.mn_script.specs.Script.{Script}
 use Rattle.mn_world.specs.declared.entry.Entry.{Entry}
-use Rattle.mn_world.specs.Calls.{is_at, node_entries}
+use Rattle.mn_world.specs.Calls.{client_entries, is_at, is_by, node_entries}
 use Rattle.mn_world.specs.Laws.{NodeListAllowed}
 use Rattle.mn_world.specs.Lists.{ClientState}
 use Rattle.mn_world.specs.Protocol.{Start, start_nodes}
@@ -31,10 +32,13 @@ use Rattle.mn_world.specs.Run.{entries_of}
 use Rattle.mn_callers.specs.declared.callers.Callers.{Callers}
 use Rattle.mn_callers.specs.Causes.{IsCaused}
 use Rattle.mn_callers.specs.Ended.{AllHaveMade, AreLists, HoldsNodes, IsEnded}
-use Rattle.mn_callers.specs.Plays.{HasTrail, list_by}
+use Rattle.mn_callers.specs.Failed.{IsDamage}
+use Rattle.mn_callers.specs.Plays.{AreCallers, HasTrail, list_by}
 use Rattle.mn_callers.specs.Settled.{AreUpAndFree}
+use Rattle.mn_callers.specs.Trace.{HaveSoundRecords}
 use Rattle.mn_callers.specs.Turn.{AreStations, callers_count, past_in, trail_at, trail_by}
 use Rattle.mn_callers.proofs.Handing.{mapped_at, maps_at, some_same, within_at}
+use Rattle.mn_callers.proofs.OfScript.{client_from, log_of_script, none_from}
 use Rattle.mn_callers.proofs.OneTrail.{IsMannedBy, trail_is_past}
 
 -- A node's entries
@@ -77,6 +81,9 @@ node_from n p (x ∷ log) named = by (is_at n x.entry) (stands_in (Node n) x) sa
 
 node_list : (n : NodeNo) (log : List (Line Entry)) → AllByRecursion (λ x. x.entry.node ≡ x.node) log → node_entries n (entries_of (placed_from 0 log)) ≡ entries_of (entries_from 0 (Node n) log)
 node_list n log named = filter_turned (is_at n) (map entry_in (placed_from 0 log)) ∙ ap reverse (node_from n 0 log named)
+
+client_list : (c : ClientNo) (log : List (Line Entry)) → AllByRecursion (λ x. x.entry.client ≡ x.client) log → client_entries c (entries_of (placed_from 0 log)) ≡ entries_of (entries_from 0 (Client c) log)
+client_list c log called = filter_turned (is_by c) (map entry_in (placed_from 0 log)) ∙ ap reverse (client_from c 0 log called)
 
 -- The pass owns all
 
@@ -133,6 +140,9 @@ module _ {D : Type 0} (state : D → DiskState) (faults : D → ℕ) (start : St
     named : AllByRecursion (λ (x : Line Entry). x.entry.node ≡ x.node) one.log
     named = each_all (λ (x : Line Entry). x.entry.node ≡ x.node) one.log (λ k x at. (one.legal_then k x at).0)
 
+    called : AllByRecursion (λ (x : Line Entry). x.entry.client ≡ x.client) one.log
+    called = each_all (λ (x : Line Entry). x.entry.client ≡ x.client) one.log (λ k x at. (one.legal_then k x at).1)
+
     own : (k : ℕ) (s : StationState D) → slice_get stations k ≡ Some s → entries_of s.list ≡ node_entries (numbered k) (entries_of log)
     own k s at =
         let there : slice_get node_lists k ≡ Some s.list = ap (λ (l : List (List (ℕ × Entry))). slice_get l k) lists_are ∙ maps_at (λ (s : StationState D). s.list) stations k s at in
@@ -140,14 +150,29 @@ module _ {D : Type 0} (state : D → DiskState) (faults : D → ℕ) (start : St
         let list : s.list ≡ entries_from 0 (Node (numbered k)) one.log = some_same s.list (entries_from 0 (Node (numbered k)) one.log) (sym there ∙ one.lists (Node (numbered k)) below) in
         ap (λ (l : List (ℕ × Entry)). entries_of l) list ∙ sym (node_list (numbered k) one.log named)
 
-    pub ends : {E : Type 0} (merged : Result (List (ℕ × Entry)) E) → IfOk merged (λ l. l ≡ log)
-        → (past : List (ℕ × Entry)) × IsEnded state faults start counts honest nodes played past × IfOk merged (λ l. l ≡ past)
-    ends merged told = (
+    -- a client's entries in the log are its list, and no other has any
+    by_caller : (c : ClientNo) → c.0 < callers_count → client_entries c (entries_of log) ≡ entries_of (list_by callers c)
+    by_caller c below =
+        let on = subst (λ (k : ℕ). c.0 < k) (sym lists.count) below in
+        let list : list_by callers c ≡ entries_from 0 (Client c) one.log = some_same (list_by callers c) (entries_from 0 (Client c) one.log) (sym (lists.each c below) ∙ one.lists (Client c) on) in
+        client_list c one.log called ∙ ap (λ (l : List (ℕ × Entry)). entries_of l) (sym list)
+
+    by_no_other : (c : ClientNo) → callers_count ≤ c.0 → client_entries c (entries_of log) ≡ []
+    by_no_other c above =
+        client_list c one.log called
+        ∙ ap (λ (l : List (ℕ × Entry)). entries_of l)
+        (none_from (length node_lists) (length client_lists) 0 c one.log (subst (λ (k : ℕ). k ≤ c.0) (sym lists.count) above) (each_all (IsManned (length node_lists) (length client_lists)) one.log one.manned))
+
+    pub ends : (script : Script) → AreCallers start script callers → HaveSoundRecords nodes → {E : Type 0} (merged : Result (List (ℕ × Entry)) E) → IfOk merged (λ l. l ≡ log)
+        → (past : List (ℕ × Entry)) × IsEnded state faults start counts honest script nodes played past × IfOk merged (λ l. l ≡ past)
+    ends script are' sound merged told = (
       log,
       record {
         stations = stations;
         count = are.count;
         nodes_are = nodes_are;
+        sound = sound;
+        of_script = log_of_script start script callers are' (entries_of log) by_caller by_no_other;
         run = law start (length node_lists) (length client_lists) clock (actor_list node_lists client_lists) one parts;
         numbers = are.in_order;
         made = made;
@@ -176,9 +201,20 @@ module _ {D : Type 0} (state : D → DiskState) (faults : D → ℕ) (start : St
             lists.each c known ∙ ap (λ (l : List (ℕ × Entry)). Some l) (h.by c known)
 
     -- and so is the one that was merged
+    log_is : {E : Type 0} (merged : Result (List (ℕ × Entry)) E) (told : List (ℕ × Entry)) (known : ℕ) → IfOk merged (λ l. l ≡ log) → merged ≡ Ok told
+        → (past : List Entry) (h : HasTrail stations known callers) → past ≡ past_in h.trail → entries_of told ≡ past
+    log_is {E} merged told known so is past h past_is =
+        let same : told ≡ log = subst (λ (r : Result (List (ℕ × Entry)) E). IfOk r (λ l. l ≡ log)) is so in
+        ap (λ (l : List (ℕ × Entry)). entries_of l) same ∙ (log_told known h ∙ sym past_is)
+
+    -- also where the run failed by damage
+    pub log_failed : {X E F : Type 0} (cause_in : F → RunCause) (log_in : F → List (ℕ × Entry)) (result : Result X F) (merged : Result (List (ℕ × Entry)) E) (known : ℕ) → IfOk merged (λ l. l ≡ log)
+        → IfErr result (λ f. IsDamage (cause_in f) → (played ≡ Err (cause_in f)) × (merged ≡ Ok (log_in f)))
+        → IfErr result (λ f. IsDamage (cause_in f) → (played ≡ Err (cause_in f)) × ((past : List Entry) (h : HasTrail stations known callers) → past ≡ past_in h.trail → entries_of (log_in f) ≡ past))
+    log_failed cause_in log_in (Ok x) merged known told is = tt
+    log_failed cause_in log_in (Err f) merged known told is = λ damage. let both = is damage in (both.0, λ past h past_is. log_is merged (log_in f) known told both.1 past h past_is)
+
     pub log_merged : {X E F : Type 0} (log_in : X → List (ℕ × Entry)) (result : Result X F) (merged : Result (List (ℕ × Entry)) E) (known : ℕ) → IfOk merged (λ l. l ≡ log) → IfOk result (λ t. merged ≡ Ok (log_in t))
         → IfOk result (λ t. (past : List Entry) (h : HasTrail stations known callers) → past ≡ past_in h.trail → entries_of (log_in t) ≡ past)
     log_merged log_in (Err e) merged known told is = tt
-    log_merged {X} {E} log_in (Ok t) merged known told is = λ past h past_is.
-        let same : log_in t ≡ log = subst (λ (r : Result (List (ℕ × Entry)) E). IfOk r (λ l. l ≡ log)) is told in
-        ap (λ (l : List (ℕ × Entry)). entries_of l) same ∙ (log_told known h ∙ sym past_is)
+    log_merged log_in (Ok t) merged known told is = λ past h past_is. log_is merged (log_in t) known told is past h past_is

@@ -1,5 +1,5 @@
 -- A stage whose nodes are settled: by its log each is up, and none holds anything.
-use Rattle.std.proofs.Common.{◌≡◌, ℕ, ◌<◌, Some, List, reverse, sym, ap, ◌∙◌, subst}
+use Rattle.std.proofs.Common.{◌≡◌, ℕ, ◌<◌, Some, List, [], ◌∷◌, reverse, refl, sym, ap, ◌∙◌, subst}
 use Rattle.std.specs.Prelude.{slice_get}
 use Rattle.mn_base.specs.declared.ids.NodeNo.{NodeNo}
 use Rattle.mn_cell.specs.Calls.{numbered}
@@ -11,12 +11,13 @@ use Rattle.mn_world.specs.Nodes.{is_down, node_records}
 use Rattle.mn_world.specs.OneHistory.{AreUp}
 use Rattle.mn_world.specs.Protocol.{Start, base_at, records_of, start_nodes, start_records}
 use Rattle.mn_world.specs.Run.{entries_of}
+use Rattle.mn_callers.specs.Begins.{AreBare}
 use Rattle.mn_callers.specs.Ended.{AllHaveMade}
 use Rattle.mn_callers.specs.Logs.{HasLog}
 use Rattle.mn_callers.specs.Plays.{PlayState}
 use Rattle.mn_callers.specs.Settled.{AllUp, AreUpAndFree}
 use Rattle.mn_callers.specs.Stages.{AreFreeIfSound}
-use Rattle.mn_callers.specs.Turn.{AreStations}
+use Rattle.mn_callers.specs.Turn.{AreStations, past_in, trail_at}
 use Rattle.mn_callers.proofs.Handing.{free_as, within_at}
 use Rattle.mn_callers.proofs.Trails.{list_of_node}
 
@@ -38,3 +39,11 @@ module _ {D : Type 0} (state : D → DiskState) (faults : D → ℕ) (start : St
   up_in_log up past log n among =
       let found = within_at p.stations n.0 (subst (λ (k : ℕ). n.0 < k) (sym are.count) among) in
       sym (ap is_down (list_in n.0 found.0 found.1 past log)) ∙ (sym (made n.0 found.0 found.1).down ∙ up n.0 found.0 found.1)
+
+-- where nothing was done no station has an entry
+pub fresh_bare : {D : Type 0} (p : PlayState D) → HasLog p [] → AreBare p.stations
+fresh_bare p log k s at = log.trail.is.at_nodes k s at ∙ ap (trail_at k) (nothing log.trail.trail (sym log.past_is))
+  where
+    nothing : (t : List (ℕ × Entry)) → past_in t ≡ [] → t ≡ []
+    nothing [] is = refl
+    nothing (x ∷ t) is = absurd cc

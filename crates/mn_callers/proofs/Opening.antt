@@ -25,16 +25,17 @@ use Rattle.mn_callers.specs.Ended.{HoldsNodes, OwnsNodes, SameCallers}
 use Rattle.mn_callers.specs.Failed.{IsRunOn}
 use Rattle.mn_callers.specs.Logs.{IsFresh, works_of}
 use Rattle.mn_callers.specs.Plays.{AreCallers, HaveNumbers, IsPlay, NamesGiven, PlayState, list_by}
-use Rattle.mn_callers.specs.Trace.{IsHandedBack, MayBegin, start_on}
+use Rattle.mn_callers.specs.Trace.{HaveSoundRecords, IsHandedBack, MayBegin, start_on}
 use Rattle.mn_callers.specs.Turn.{AreStations, IsBoard, callers_count}
 use Rattle.mn_callers.proofs.Handing.{maps_at, some_same}
+use Rattle.mn_callers.proofs.OfScript.{nothing_of}
 
 -- Nothing was done
 
 -- nodes that are handed back at once
-back_at_once : {D : Type 0} (state : D → DiskState) (faults : D → ℕ) (nodes : ℕ) (given : List (NodeState D)) → MayBegin nodes given → (k : ℕ) (m : NodeState D) → slice_get given k ≡ Some m
+back_at_once : {D : Type 0} (state : D → DiskState) (faults : D → ℕ) (nodes : ℕ) (given : List (NodeState D)) → MayBegin nodes given → HaveSoundRecords given → (k : ℕ) (m : NodeState D) → slice_get given k ≡ Some m
     → IsHandedBack state faults (start_on given) [] (numbered k) m m
-back_at_once {D} state faults nodes given may k m at =
+back_at_once {D} state faults nodes given may sound k m at =
     let this = may.each k m at in
     let up : m.down ≡ true → true ≡ false = λ down. sym down ∙ this.2 in
     record {
@@ -43,16 +44,18 @@ back_at_once {D} state faults nodes given may k m at =
       records = ap (λ (l : List Record). reverse l) (sym (get_or_from_slice_get (map (λ (m : NodeState D). m.records) given) k m.records [] (maps_at (λ (m : NodeState D). m.records) given k m at)));
       down = this.2;
       pending = λ down. let same = up down in absurd cc;
+      sound = sound k m at;
       stops = tt;
       counted = omega arith;
       honest = λ is. is;
       kept = λ is. tt;
     }
 
-pub not_begun : {D : Type 0} (state : D → DiskState) (faults : D → ℕ) (nodes : ℕ) (given : List (NodeState D)) → MayBegin nodes given → IsRunOn state faults given given []
-not_begun {D} state faults nodes given may = (
+pub not_begun : {D : Type 0} (state : D → DiskState) (faults : D → ℕ) (script : Script) (nodes : ℕ) (given : List (NodeState D)) → MayBegin nodes given → HaveSoundRecords given → IsRunOn state faults script given given []
+not_begun {D} state faults script nodes given may sound = (
   record { places = refl; run = tt },
-  λ k m w gave left. subst (IsHandedBack state faults (start_on given) [] (numbered k) m) (some_same m w (sym gave ∙ left)) (back_at_once state faults nodes given may k m gave),
+  nothing_of script,
+  λ k m w gave left. subst (IsHandedBack state faults (start_on given) [] (numbered k) m) (some_same m w (sym gave ∙ left)) (back_at_once state faults nodes given may sound k m gave),
 )
 
 -- The nodes

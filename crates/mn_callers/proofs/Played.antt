@@ -1,18 +1,24 @@
 -- What the entries of one actor make of the log.
-use Rattle.std.proofs.Common.{◌≡◌, ℕ, Option, Some, List, [], ◌∷◌, ◌++◌, Result, Ok, Err, IfOk, IsOk, OnOk, refl, sym, ap, ◌∙◌, subst}
+use Rattle.std.proofs.Common.{◌≡◌, ℕ, Option, Some, List, [], ◌∷◌, ◌++◌, Result, Ok, Err, IfErr, IfOk, IsOk, OnOk, refl, sym, ap, ◌∙◌, subst}
 use Rattle.std.specs.List.{AllByRecursion}
 use Rattle.std.proofs.lemmas.List.{append_assoc, map-append}
 use Rattle.mn_base.specs.declared.ids.ClientNo.{ClientNo}
+use Rattle.mn_cell.specs.declared.trace.RunCause.{RunCause}
+use Rattle.mn_cell.specs.declared.trace.RunCause.TheVariants.{Disk, Damaged, NoMemory}
+use Rattle.mn_io.specs.DiskModel.{DiskState}
+use Rattle.mn_node.specs.State.{NodeState}
 use Rattle.mn_recov.specs.Recovery.{Recovery}
+use Rattle.mn_script.specs.Script.{Script}
 use Rattle.mn_world.specs.declared.entry.Entry.{Entry}
 use Rattle.mn_world.specs.Calls.{client_entries}
 use Rattle.mn_world.specs.Laws.{RecordsStaySound}
 use Rattle.mn_world.specs.OneHistory.{AreFree}
 use Rattle.mn_world.specs.Protocol.{FollowsProtocol, Start}
 use Rattle.mn_world.specs.Run.{IsRun, RunsFollowProtocol, entries_of}
+use Rattle.mn_callers.specs.Failed.{FailsSo, IsDamage, IsRunOn, TellsRun}
 use Rattle.mn_callers.specs.Stages.{AreFreeIfSound, GoesAs, GoesOnBy, IsOfClient, Played, played_by}
 use Rattle.mn_callers.specs.Plays.{PlayState}
-use Rattle.mn_callers.specs.Trace.{StartsSound}
+use Rattle.mn_callers.specs.Trace.{StartsSound, start_on}
 use Rattle.mn_callers.specs.Turn.{past_in, trail_by}
 use Rattle.mn_callers.proofs.Trails.{list_of_client}
 
@@ -80,3 +86,23 @@ goes_as_both does rest both p q r join one other past log =
     let first = one past log in
     let second = other first.0 first.1 in
     (second.0, second.1, join (played_by p past) (played_by q first.0) (played_by r second.0) first.2 second.2)
+
+-- the log that is told of a run that failed by damage is one
+told_run : {D : Type 0} (state : D → DiskState) (faults : D → ℕ) (script : Script) (given left : List (NodeState D)) (log : List (ℕ × Entry)) (cause : RunCause) → IsDamage cause → TellsRun state faults script given left log cause
+    → IsRunOn state faults script given left log
+told_run state faults script given left log (Damaged n place kept found) damage told = told
+told_run state faults script given left log (Disk n) damage told = told
+told_run state faults script given left log NoMemory damage told = absurd damage
+
+-- where a run failed by damage, what was said of its log is told of the one that is handed back
+module _ {D X : Type 0} (state : D → DiskState) (faults : D → ℕ) (script : Script) (given : List (NodeState D)) (says tells : List Entry → Type 0) (has : List Entry → Type 0)
+    (turn : (log : List (ℕ × Entry)) → IsRun (start_on given) (entries_of log) → says (entries_of log) → tells (entries_of log)) where
+  pub told_by : {F : Type 0} (left_in : F → List (NodeState D)) (log_in : F → List (ℕ × Entry)) (cause_in : F → RunCause) (result : Result X F) (played : Result (Unit {0}) RunCause)
+      → IfErr result (λ f. FailsSo state faults script given (left_in f) (log_in f) (cause_in f))
+      → IfErr result (λ f. IsDamage (cause_in f) → (played ≡ Err (cause_in f)) × ((past : List Entry) → has past → entries_of (log_in f) ≡ past))
+      → IfErr played (λ cause. IsDamage cause → (past : List Entry) × has past × says past) → IfErr result (λ f. IsDamage (cause_in f) → tells (entries_of (log_in f)))
+  told_by left_in log_in cause_in (Ok x) played fails told said = tt
+  told_by left_in log_in cause_in (Err f) played fails told said = λ damage.
+      let both = told damage in
+      let there = subst (λ (r : Result (Unit {0}) RunCause). IfErr r (λ cause. IsDamage cause → (past : List Entry) × has past × says past)) both.0 said damage in
+      turn (log_in f) (told_run state faults script given (left_in f) (log_in f) (cause_in f) damage fails.told).0.run (subst says (sym (both.1 there.0 there.1)) there.2)

@@ -20,7 +20,7 @@ use Rattle.mn_recov.specs.Legal.{Agrees, IsAnswered}
 use Rattle.mn_recov.specs.Recovery.{Recovery, fed, step_at, step_of}
 use Rattle.mn_world.specs.declared.entry.Entry.{Entry}
 use Rattle.mn_world.specs.declared.entry.What.TheVariants.{Restarted}
-use Rattle.mn_world.specs.Calls.{Call, call_in, calls_of, is_exec, is_in_doubt, is_last_of, is_prepare, is_stopped}
+use Rattle.mn_world.specs.Calls.{Begun, Call, begun_in, begun_of, call_in, calls_of, is_exec, is_in_doubt, is_last_of, is_prepare, is_stopped}
 use Rattle.mn_world.specs.Clients.{Sends}
 use Rattle.mn_world.specs.Lists.{ClientState}
 use Rattle.mn_world.specs.Protocol.{IsOfRun, Start}
@@ -65,6 +65,10 @@ of_run_said : (start : Start) (request : Request) (reply : NodeReply) → IsOfRu
 of_run_said start request Say.Stopped = tt
 of_run_said start request reply = tt
 
+begins_none_said : (request : Request) (reply : NodeReply) → begun_in (what_said request None reply) ≡ []
+begins_none_said request Say.Stopped = refl
+begins_none_said request reply = refl
+
 no_doubt : (tid : Tid) (request : Request) (n : NodeNo) → IsRecoveryCall request → (is_exec tid request || (is_prepare tid request && is_last_of n request)) ≡ false
 no_doubt tid (Ask.Prepare t ps part) n is = absurd is
 no_doubt tid (Ask.Exec t part) n is = absurd is
@@ -77,11 +81,21 @@ neither : (a b c : Bool) → b ≡ false → c ≡ false → ((a && b) || c) ≡
 neither true b c one two = ap (λ x. x || c) one ∙ two
 neither false b c one two = two
 
+-- a list that has no entry
+pub none_recovered : (start : Start) (l : ClientState) → l.entries ≡ [] → IsOfRecovery start l
+none_recovered start l none = record {
+  own = subst (λ (es : List (ℕ × Entry)). AllByRecursion (λ e. e.client ≡ Some l.client) (entries_of es)) (sym none) tt;
+  of_run = subst (λ (es : List (ℕ × Entry)). AllByRecursion (IsIssueOf start) (entries_of es)) (sym none) tt;
+  begins_none = ap (λ (es : List (ℕ × Entry)). begun_of (entries_of es)) none;
+  free = subst (λ (es : List (ℕ × Entry)). DoubtsNothing (entries_of es)) (sym none) (λ tid. refl);
+}
+
 module _ (start : Start) (old new : ClientState) (is : IsOfRecovery start old) where
   pub recovery_keeps : KeepsList old new → IsOfRecovery start new
   recovery_keeps keeps = record {
     own = subst (λ (l : List (ℕ × Entry)). AllByRecursion (λ e. e.client ≡ Some new.client) (entries_of l)) (sym keeps.entries) (subst (λ (c : ClientNo). AllByRecursion (λ e. e.client ≡ Some c) (entries_of old.entries)) (sym keeps.client) is.own);
     of_run = subst (λ (l : List (ℕ × Entry)). AllByRecursion (IsIssueOf start) (entries_of l)) (sym keeps.entries) is.of_run;
+    begins_none = ap (λ (l : List (ℕ × Entry)). begun_of (entries_of l)) keeps.entries ∙ is.begins_none;
     free = subst (λ (l : List (ℕ × Entry)). DoubtsNothing (entries_of l)) (sym keeps.entries) is.free;
   }
 
@@ -94,6 +108,7 @@ module _ (start : Start) (old new : ClientState) (is : IsOfRecovery start old) w
       record {
         own = subst (λ (l : List Entry). AllByRecursion (λ e. e.client ≡ Some new.client) l) (sym entries) (subst (λ (c : ClientNo). AllByRecursion (λ e. e.client ≡ Some c) (e ∷ es)) (sym adds.client) (refl, is.own));
         of_run = subst (λ (l : List Entry). AllByRecursion (IsIssueOf start) l) (sym entries) (of_run_said start request reply, is.of_run);
+        begins_none = ap begun_of entries ∙ (ap (λ (bs : List Begun). bs ++ begun_of es) (begins_none_said request reply) ∙ is.begins_none);
         free = subst DoubtsNothing (sym entries) (λ tid.
             ap (λ (l : List Call). list_any (λ c. is_stopped c.reply && (is_exec tid c.request || (is_prepare tid c.request && is_last_of c.node c.request))) (l ++ calls_of es)) (call_said n request reply)
             ∙ neither (is_stopped reply) _ (is_in_doubt tid es) (no_doubt tid request n kind) (is.free tid));
@@ -108,6 +123,7 @@ module _ (start : Start) (old new : ClientState) (is : IsOfRecovery start old) w
       record {
         own = subst (λ (l : List Entry). AllByRecursion (λ e. e.client ≡ Some new.client) l) (sym entries) (subst (λ (c : ClientNo). AllByRecursion (λ e. e.client ≡ Some c) (e ∷ es)) (sym adds.client) (refl, is.own));
         of_run = subst (λ (l : List Entry). AllByRecursion (IsIssueOf start) l) (sym entries) (tt, is.of_run);
+        begins_none = ap begun_of entries ∙ is.begins_none;
         free = subst DoubtsNothing (sym entries) (λ tid. is.free tid);
       }
 

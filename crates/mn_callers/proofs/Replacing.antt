@@ -15,7 +15,8 @@ use Rattle.mn_world.specs.Protocol.{Start}
 use Rattle.mn_callers.specs.declared.client.Client.{Client}
 use Rattle.mn_callers.specs.declared.desk.Desk.{Desk}
 use Rattle.mn_callers.specs.declared.callers.Callers.{Callers}
-use Rattle.mn_callers.specs.Clients.{IsClient, IsOfRun}
+use Rattle.mn_callers.specs.Acts.{BeginsFirst, ops_by}
+use Rattle.mn_callers.specs.Clients.{IsClient, IsOfRun, past_of}
 use Rattle.mn_callers.specs.Desks.{IsDesk, IsOfRecovery}
 use Rattle.mn_callers.specs.Failed.{closer}
 use Rattle.mn_callers.specs.Plays.{AreCallers, AreReady, HaveNumbers, caller_at}
@@ -80,11 +81,12 @@ client_replaced old new k c c' few numbers there clients desks closing client =
 
 pub client_among : (start : Start) (script : Script) (old new : Callers) (k : ℕ) (c c' : Client) → AreCallers start script old → slice_get old.clients.items k ≡ Some c
     → new.clients.items ≡ slice_set old.clients.items k c' → new.desks.items ≡ old.desks.items → new.closer.list ≡ old.closer.list → IsOfRun start script.points c'
-    → AreCallers start script new
-client_among start script old new k c c' are there clients desks closing of_run =
+    → BeginsFirst (ops_by script.clients (caller_at k)) (past_of c') → AreCallers start script new
+client_among start script old new k c c' are there clients desks closing of_run first =
     record {
       count = ap length clients ∙ (length-set old.clients.items k c' ∙ are.count);
       clients = replaced old.clients.items new.clients.items k c c' there clients (λ j y. IsOfRun start script.points y) of_run are.clients;
+      begins = replaced old.clients.items new.clients.items k c c' there clients (λ j y. BeginsFirst (ops_by script.clients (caller_at j)) (past_of y)) first are.begins;
       desks = λ j d at. are.desks j d (sym (ap (λ (l : List Desk). slice_get l j) desks) ∙ at);
       closer_list = subst (IsOfRecovery start) (sym closing) are.closer_list;
     }
@@ -130,6 +132,7 @@ desk_among start script old new k d d' are there desks clients closing desk =
     record {
       count = ap length clients ∙ are.count;
       clients = λ j c at. are.clients j c (sym (ap (λ (l : List Client). slice_get l j) clients) ∙ at);
+      begins = λ j c at. are.begins j c (sym (ap (λ (l : List Client). slice_get l j) clients) ∙ at);
       desks = replaced old.desks.items new.desks.items k d d' there desks (λ j y. IsDesk start y) desk are.desks;
       closer_list = subst (IsOfRecovery start) (sym closing) are.closer_list;
     }
@@ -163,6 +166,7 @@ closer_among start script old new are clients desks list =
     record {
       count = ap length clients ∙ are.count;
       clients = λ j c at. are.clients j c (sym (ap (λ (l : List Client). slice_get l j) clients) ∙ at);
+      begins = λ j c at. are.begins j c (sym (ap (λ (l : List Client). slice_get l j) clients) ∙ at);
       desks = λ j d at. are.desks j d (sym (ap (λ (l : List Desk). slice_get l j) desks) ∙ at);
       closer_list = list;
     }

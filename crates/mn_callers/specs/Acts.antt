@@ -2,7 +2,7 @@
 -- takes what follows from each reply. Lists of entries stand newest first; each relation is between
 -- the list before and the list after.
 use Rattle.std.specs.Prelude.{◌+◌, ◌≡◌, ◌⊎◌, Bool, true, false, not, ◌&&◌, ◌||◌, nat_lt, IsTrue}
-use Rattle.std.specs.Prelude.{List, [], ◌∷◌, ◌++◌, length, Some, is_some}
+use Rattle.std.specs.Prelude.{List, [], ◌∷◌, ◌++◌, length, map, reverse, take, Some, is_some}
 use Rattle.std.specs.Prelude.{slice_get, MatchBool}
 use Rattle.std.specs.List.{list_all, list_any, AllByRecursion}
 use Rattle.std.specs.Option.{option_map_or}
@@ -17,6 +17,7 @@ use Rattle.mn_world.specs.declared.entry.What.{What}
 use Rattle.mn_world.specs.declared.entry.What.TheVariants.{Begin, Issue, Abandoned, Answered}
 use Rattle.mn_world.specs.Calls.{Call, call_in, was_sent, was_done, was_abandoned, Issued}
 use Rattle.mn_world.specs.Calls.{issues_of, under_way, begun_of, since_begin}
+use Rattle.mn_world.specs.Causes.{is_recovery}
 use Rattle.mn_world.specs.Clients.{is_over, last_number}
 use Rattle.mn_callers.specs.Points.{has_died, stop_due, AsksAs}
 
@@ -65,6 +66,10 @@ is_first_to_be_sent es now (i ∷ is) = is_to_be_sent es now i
 abbrev pub is_plan_due : List Entry → Bool
 is_plan_due es = is_first_to_be_sent es (since_begin es) (issues_of (since_begin es))
 
+-- the operations that were begun are the first of these, in order
+abbrev pub BeginsFirst : List Op → List Entry → Type 0
+BeginsFirst ops es = map (λ b. b.op) (reverse (begun_of es)) ≡ take (length (begun_of es)) ops
+
 -- Steps
 
 abbrev pub is_own : What → Bool
@@ -99,8 +104,8 @@ pub record Begins (a : Role) (es new : List Entry) : Type 0 where
   pub next : slice_get a.ops (last_number (begun_of es)) ≡ Some op
   pub begins : BeginsOp a.number op es new
 
--- one call of a node, which stops where a point says so, with the steps that follow from its reply;
--- none, where the client died by it
+-- one call of a node, which is none of a recovery's and stops where a point says so, with the steps
+-- that follow from its reply; none, where the client died by it
 pub record Calls (a : Role) (es new : List Entry) : Type 0 where
   pub entry : Entry
   pub call : Call
@@ -108,13 +113,21 @@ pub record Calls (a : Role) (es new : List Entry) : Type 0 where
   pub new_is : new ≡ own ++ entry ∷ es
   pub by : entry.client ≡ Some a.number
   pub is_call : call_in entry.node entry.what ≡ call ∷ []
+  pub plain : is_recovery call.request ≡ false
   pub asked : AsksAs (stop_due a.points a.number call.node call.request es) entry.what
   pub steps : AreOwn a.number own
   pub dead : has_died a.points a.number (entry ∷ es) ≡ true → own ≡ []
 
--- a call that found no memory has no entry; what follows from it are steps of the client alone
+-- a call that found no memory has no entry: it ends its try, so one or more of the client's own
+-- steps follow
+pub record Lacks (c : ClientNo) (es new : List Entry) : Type 0 where
+  pub first : Entry
+  pub own : List Entry
+  pub new_is : new ≡ (own ++ first ∷ []) ++ es
+  pub steps : AreOwn c (own ++ first ∷ [])
+
 abbrev pub CallsOrLacks : Role → List Entry → List Entry → Type 0
-CallsOrLacks a es new = Calls a es new ⊎ GoesByItself a.number es new
+CallsOrLacks a es new = Calls a es new ⊎ Lacks a.number es new
 
 -- Acts
 

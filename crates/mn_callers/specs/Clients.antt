@@ -1,6 +1,6 @@
 -- How far a client of the script has come, by its own list. Lists of entries stand newest first.
 use Rattle.std.specs.Prelude.{ℕ, ◌≡◌, ◌<◌, Bool, true, false, not, nat_le, List, [], ◌∷◌, length}
-use Rattle.std.specs.Prelude.{MatchOption, Option, Some, None, if◌then◌else◌, ⊤}
+use Rattle.std.specs.Prelude.{IsTrue, MatchOption, Option, Some, None, if◌then◌else◌, ⊤}
 use Rattle.std.specs.List.{AllByRecursion}
 use Rattle.mn_base.specs.declared.ids.Tid.{Tid}
 use Rattle.mn_cell.specs.Runs.{IsIssueOf}
@@ -11,6 +11,7 @@ use Rattle.mn_proxy.specs.State.{IsIdle, IsReady, ProxyState}
 use Rattle.mn_script.specs.declared.elements.Point.{Point}
 use Rattle.mn_world.specs.declared.entry.Entry.{Entry}
 use Rattle.mn_world.specs.Calls.{Issued, begun_of, issues_of}
+use Rattle.mn_world.specs.Causes.{recovers_nothing}
 use Rattle.mn_world.specs.Clients.{Sends, last_number}
 use Rattle.mn_mini.specs.Mini.{participants_of, is_read}
 use Rattle.mn_world.specs.Lists.{ClientState}
@@ -76,14 +77,17 @@ pub record IsAlive (start : Start) (c : Client) : Type 0 where
   pub proxy : HasProxy start c
   pub due : MatchOption c.due (IsIdle c.proxy) (MayCallNext start c)
 
--- the list is its client's own and of this run, the flags tell the points that it met, so many
--- operations were begun, the shared id is such as there may be, and this is kept of its issues
+-- the list is its client's own and of this run, it has no request of a recovery, the flags tell the
+-- points that it met, so many operations were begun, under the numbers up to this, the shared id is
+-- such as there may be, and this is kept of its issues
 pub record IsListOfRun (start : Start) (points : List Point) (list : ClientState)
     (flags : List Bool) (count : ℕ) (id : Option Tid) (plan : Bool) : Type 0 where
   pub own : AllByRecursion (λ e. e.client ≡ Some list.client) (entries_of list.entries)
   pub of_run : AllByRecursion (IsIssueOf start) (entries_of list.entries)
   pub met : flags ≡ points_met points (entries_of list.entries)
+  pub plain : IsTrue (recovers_nothing (entries_of list.entries))
   pub begun : last_number (begun_of (entries_of list.entries)) ≡ count
+  pub counted : length (begun_of (entries_of list.entries)) ≡ count
   pub shared : MatchOption id ⊤ IsTid
   pub issues : KeepsIssues (entries_of list.entries) id plan
 

@@ -1,6 +1,6 @@
 -- The recovery coordinators of the script, and the one that opens and closes, by their own lists.
 -- Lists of entries stand newest first.
-use Rattle.std.specs.Prelude.{ℕ, ◌+◌, ◌≡◌, false, List, ◌++◌, Some, None, MatchOption, ⊤}
+use Rattle.std.specs.Prelude.{ℕ, ◌+◌, ◌≡◌, false, List, [], ◌++◌, Some, None, MatchOption, ⊤}
 use Rattle.std.specs.List.{AllByRecursion}
 use Rattle.mn_base.specs.declared.ids.ClientNo.{ClientNo}
 use Rattle.mn_base.specs.declared.ids.Tid.{Tid}
@@ -12,7 +12,7 @@ use Rattle.mn_recov.specs.Recovery.{Recovery}
 use Rattle.mn_world.specs.declared.entry.Entry.{Entry}
 use Rattle.mn_world.specs.declared.entry.What.{What}
 use Rattle.mn_world.specs.declared.entry.What.TheVariants.{Called, Stopped, Restarted}
-use Rattle.mn_world.specs.Calls.{is_in_doubt}
+use Rattle.mn_world.specs.Calls.{begun_of, is_in_doubt}
 use Rattle.mn_world.specs.Lists.{ClientState}
 use Rattle.mn_world.specs.Protocol.{Start, start_nodes}
 use Rattle.mn_world.specs.Run.{entries_of}
@@ -33,10 +33,12 @@ IsRecoveryCall request = ⊥
 abbrev pub DoubtsNothing : List Entry → Type 0
 DoubtsNothing es = (tid : Tid) → is_in_doubt tid es ≡ false
 
--- the list is the actor's own; it issues nothing, and sends no minitransaction
+-- the list is the actor's own; it begins no operation, issues nothing, and sends no
+-- minitransaction
 pub record IsOfRecovery (start : Start) (list : ClientState) : Type 0 where
   pub own : AllByRecursion (λ e. e.client ≡ Some list.client) (entries_of list.entries)
   pub of_run : AllByRecursion (IsIssueOf start) (entries_of list.entries)
+  pub begins_none : begun_of (entries_of list.entries) ≡ []
   pub free : DoubtsNothing (entries_of list.entries)
 
 -- the list shows how far the recovery has come, which is over the run's nodes

@@ -12,6 +12,7 @@ use Rattle.mn_cell.specs.declared.trace.RunCause.{RunCause}
 use Rattle.mn_cell.specs.Station.{HasMadeEntries, StationState}
 use Rattle.mn_io.specs.DiskModel.{DiskState}
 use Rattle.mn_node.specs.State.{NodeState}
+use Rattle.mn_script.specs.Script.{Script}
 use Rattle.mn_world.specs.declared.entry.Entry.{Entry}
 use Rattle.mn_world.specs.Calls.{node_entries}
 use Rattle.mn_world.specs.Lists.{ClientState}
@@ -21,6 +22,7 @@ use Rattle.mn_callers.specs.declared.callers.Callers.{Callers}
 use Rattle.mn_callers.specs.Causes.{IsCaused}
 use Rattle.mn_callers.specs.Plays.{list_by}
 use Rattle.mn_callers.specs.Settled.{AreUpAndFree}
+use Rattle.mn_callers.specs.Trace.{HaveSoundRecords, IsOfScript}
 use Rattle.mn_callers.specs.Turn.{callers_count}
 
 -- the station's node has made the entries of its list
@@ -60,15 +62,17 @@ pub record AreLists (callers : Callers) (lists : List ClientState) : Type 0 wher
   pub each : (c : ClientNo) → c.0 < callers_count
       → slice_get (map (λ l. l.entries) lists) c.0 ≡ Some (list_by callers c)
 
--- The nodes are those of the stations, each of whose lists is what the log, which is a run, has of
--- its node; and the run was played so.
+-- The nodes are those of the stations, each of whose lists is what the log, which is a run of the
+-- script, has of its node; and the run was played so.
 pub record IsEnded {D : Type 0} (state : D → DiskState) (faults : D → ℕ) (start : Start)
-    (counts : ℕ → ℕ) (honest : ℕ → Type 0) (nodes : List (NodeState D))
+    (counts : ℕ → ℕ) (honest : ℕ → Type 0) (script : Script) (nodes : List (NodeState D))
     (played : Result (Unit {0}) RunCause) (log : List (ℕ × Entry)) : Type 0 where
   pub stations : List (StationState D)
   pub count : length stations ≡ start_nodes start
   pub nodes_are : nodes ≡ map (λ s. s.node) stations
+  pub sound : HaveSoundRecords nodes
   pub run : IsLogOfRun start log
+  pub of_script : IsOfScript script (entries_of log)
   pub numbers : (k : ℕ) (s : StationState D) → slice_get stations k ≡ Some s
       → s.number ≡ numbered k
   pub made : AllHaveMade state faults start counts honest stations

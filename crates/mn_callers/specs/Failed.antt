@@ -1,6 +1,6 @@
 -- Why a run fails. Lists of entries stand newest first.
 use Rattle.std.specs.Prelude.{ℕ, ◌+◌, ◌≡◌, ◌⊎◌, List, [], ◌∷◌, length, reverse, true, Some}
-use Rattle.std.specs.Prelude.{Option, slice_get, if◌then◌else◌}
+use Rattle.std.specs.Prelude.{Option, slice_get, if◌then◌else◌, ⊤}
 use Rattle.mn_base.specs.declared.ids.ClientNo.{ClientNo}
 use Rattle.mn_base.specs.declared.ids.NodeNo.{NodeNo}
 use Rattle.mn_cell.specs.declared.trace.RunCause.{RunCause}
@@ -10,12 +10,13 @@ use Rattle.mn_io.specs.DiskModel.{DiskState}
 use Rattle.mn_mini.specs.declared.record.Record.{Record}
 use Rattle.mn_node.specs.Restart.{AreAbsent, IsNoLog, DamageNames}
 use Rattle.mn_node.specs.State.{NodeState}
+use Rattle.mn_script.specs.Script.{Script}
 use Rattle.mn_world.specs.declared.entry.Entry.{Entry}
 use Rattle.mn_world.specs.Calls.{is_by, node_entries}
 use Rattle.mn_world.specs.Nodes.{added_by, is_down, stopped_request}
 use Rattle.mn_world.specs.Protocol.{Start, base_at, records_of}
 use Rattle.mn_world.specs.Run.{IsLogOfRun, entries_of}
-use Rattle.mn_callers.specs.Trace.{AreHandedBack, start_on}
+use Rattle.mn_callers.specs.Trace.{AreHandedBack, IsOfScript, start_on}
 
 -- the actor that opens and closes, halts and restarts
 abbrev pub closer : ClientNo
@@ -61,22 +62,28 @@ HasCause state faults given left log (Damaged n place kept found) =
     × HadOther (start_on given) (entries_of log) n place kept found
 HasCause state faults given left log NoMemory = log ≡ []
 
--- the log is a run, and the nodes are handed back as it says
-abbrev pub IsRunOn : {D : Type 0} → (D → DiskState) → (D → ℕ) → List (NodeState D)
+-- a disk had another list than its node
+abbrev pub IsDamage : RunCause → Type 0
+IsDamage (Damaged n place kept found) = ⊤
+IsDamage cause = ⊥
+
+-- the log is a run of the script, and the nodes are handed back as it says
+abbrev pub IsRunOn : {D : Type 0} → (D → DiskState) → (D → ℕ) → Script → List (NodeState D)
     → List (NodeState D) → List (ℕ × Entry) → Type 0
-IsRunOn state faults given left log = IsLogOfRun (start_on given) log
+IsRunOn state faults script given left log = IsLogOfRun (start_on given) log
+    × IsOfScript script (entries_of log)
     × AreHandedBack state faults (start_on given) (entries_of log) given left
 
 -- the log that is told is one; where there was no memory, one that is not told is
-abbrev pub TellsRun : {D : Type 0} → (D → DiskState) → (D → ℕ) → List (NodeState D)
+abbrev pub TellsRun : {D : Type 0} → (D → DiskState) → (D → ℕ) → Script → List (NodeState D)
     → List (NodeState D) → List (ℕ × Entry) → RunCause → Type 0
-TellsRun state faults given left log NoMemory =
-    (past : List (ℕ × Entry)) × IsRunOn state faults given left past
-TellsRun state faults given left log cause = IsRunOn state faults given left log
+TellsRun state faults script given left log NoMemory =
+    (past : List (ℕ × Entry)) × IsRunOn state faults script given left past
+TellsRun state faults script given left log cause = IsRunOn state faults script given left log
 
--- a run failed so
-pub record FailsSo {D : Type 0} (state : D → DiskState) (faults : D → ℕ)
+-- a run of the script failed so
+pub record FailsSo {D : Type 0} (state : D → DiskState) (faults : D → ℕ) (script : Script)
     (given left : List (NodeState D)) (log : List (ℕ × Entry)) (cause : RunCause) : Type 0 where
   pub count : length left ≡ length given
   pub cause_is : HasCause state faults given left log cause
-  pub told : TellsRun state faults given left log cause
+  pub told : TellsRun state faults script given left log cause

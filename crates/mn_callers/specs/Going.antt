@@ -1,10 +1,11 @@
 -- How a client goes on by itself from one call to the next. Lists of entries stand newest first.
-use Rattle.std.specs.Prelude.{ℕ, ◌+◌, ◌-◌, ◌<◌, ◌≤◌, ◌≡◌, Bool, true, ◌&&◌}
-use Rattle.std.specs.Prelude.{List, [], ◌∷◌, Option, Some, None, MatchOption, ⊤}
+use Rattle.std.specs.Prelude.{ℕ, ◌+◌, ◌-◌, ◌<◌, ◌≤◌, ◌≡◌, ◌⊎◌, Bool, true, ◌&&◌, IsTrue}
+use Rattle.std.specs.Prelude.{List, [], ◌∷◌, length, Option, Some, None, MatchOption, ⊤}
 use Rattle.std.specs.List.{AllByRecursion}
 use Rattle.mn_base.specs.declared.ids.ClientNo.{ClientNo}
 use Rattle.mn_base.specs.declared.ids.NodeNo.{NodeNo}
 use Rattle.mn_base.specs.declared.ids.Tid.{Tid}
+use Rattle.mn_base.specs.declared.op.Op.{Op}
 use Rattle.mn_cell.specs.Runs.{IsIssueOf}
 use Rattle.mn_coord.specs.Legal.{IsAnswered}
 use Rattle.mn_mini.specs.RecordGrammar.{IsTid}
@@ -19,6 +20,7 @@ use Rattle.mn_world.specs.declared.entry.Entry.{Entry}
 use Rattle.mn_world.specs.declared.entry.What.{What}
 use Rattle.mn_world.specs.Answers.{MeansBy}
 use Rattle.mn_world.specs.Calls.{begun_in, begun_of, issue_in}
+use Rattle.mn_world.specs.Causes.{recovers_nothing}
 use Rattle.mn_world.specs.Clients.{ClientAllows, last_number}
 use Rattle.mn_world.specs.Lists.{ClientState}
 use Rattle.mn_world.specs.Protocol.{IsOwnStep, Start, run_number, start_nodes}
@@ -30,6 +32,7 @@ use Rattle.mn_callers.specs.declared.client.Call.{Call}
 use Rattle.mn_callers.specs.declared.client.Client.{Client}
 use Rattle.mn_callers.specs.declared.client.Went.{Went}
 use Rattle.mn_callers.specs.declared.client.Went.TheVariants.{On, Rests}
+use Rattle.mn_callers.specs.Acts.{BeginsFirst}
 use Rattle.mn_callers.specs.Clients.{HasProxy, IsAlive, KeepsIssues, past_of}
 use Rattle.mn_callers.specs.Points.{AsksAs, stop_due}
 use Rattle.mn_callers.specs.Steps.{own_entry}
@@ -48,13 +51,16 @@ IsSameButRoom old new = new ≡ record old { list = record old.list { room = new
 abbrev pub MayAdd : ClientNo → List Entry → What → Type 0
 MayAdd c es what = IsOwnStep what × ClientAllows c es None what × MeansBy es what
 
--- the list is its client's own and of this run, so many operations were begun, the shared id is
--- such as there may be, and this is kept of its issues
+-- the list is its client's own and of this run, it has no request of a recovery, so many operations
+-- were begun, under the numbers up to this, the shared id is such as there may be, and this is kept
+-- of its issues
 pub record IsList (start : Start) (list : ClientState) (count : ℕ) (id : Option Tid) (plan : Bool)
     : Type 0 where
   pub own : AllByRecursion (λ e. e.client ≡ Some list.client) (entries_of list.entries)
   pub of_run : AllByRecursion (IsIssueOf start) (entries_of list.entries)
+  pub plain : IsTrue (recovers_nothing (entries_of list.entries))
   pub begun : last_number (begun_of (entries_of list.entries)) ≡ count
+  pub counted : length (begun_of (entries_of list.entries)) ≡ count
   pub shared : MatchOption id ⊤ IsTid
   pub issues : KeepsIssues (entries_of list.entries) id plan
 
@@ -112,6 +118,18 @@ MayTake start c step = HandedOut start c.list c.proxy step
 abbrev pub HasGone : Start → Client → Went → Type 0
 HasGone start c On = HasProxy start c × IsReady c.proxy × (c.due ≡ None)
 HasGone start c Rests = IsAlive start c
+
+-- Operations
+
+-- none is begun, or this one
+abbrev pub BeginsAtMost : Op → List Entry → List Entry → Type 0
+BeginsAtMost op es new =
+    (begun_of new ≡ begun_of es)
+    ⊎ ((number : ℕ) × (begun_of new ≡ record { number = number; op = op } ∷ begun_of es))
+
+-- where those that were begun were the first of these, in order, they still are
+abbrev pub KeepsOrder : List Op → List Entry → List Entry → Type 0
+KeepsOrder ops es new = BeginsFirst ops es → BeginsFirst ops new
 
 -- Calls
 

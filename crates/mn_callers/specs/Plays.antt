@@ -25,7 +25,8 @@ use Rattle.mn_callers.specs.declared.desk.Desk.{Desk}
 use Rattle.mn_callers.specs.declared.callers.Callers.{Callers}
 use Rattle.mn_callers.specs.declared.table.Table.{Table}
 use Rattle.mn_actors.specs.declared.board.Pass.{Pass}
-use Rattle.mn_callers.specs.Clients.{IsClient, IsOfRun}
+use Rattle.mn_callers.specs.Acts.{BeginsFirst, ops_by}
+use Rattle.mn_callers.specs.Clients.{IsClient, IsOfRun, past_of}
 use Rattle.mn_callers.specs.Desks.{IsDesk, IsOfRecovery}
 use Rattle.mn_callers.specs.Failed.{closer}
 use Rattle.mn_callers.specs.Turn.{AreStations, BoardState, IsBoard, IsTrail, callers_count, seen_of}
@@ -45,11 +46,14 @@ list_by callers c =
     else (if nat_eq c.0 16 then callers.closer.list.entries
     else option_map_or (λ d. d.list.entries) (slice_get callers.desks.items (c.0 - 17)) [])
 
--- each client is one of the script, and has its list of this run; so has each recovery coordinator
+-- each client is one of the script, has its list of this run, and has begun the first of its
+-- operations; so each recovery coordinator has its list
 pub record AreCallers (start : Start) (script : Script) (callers : Callers) : Type 0 where
   pub count : length callers.clients.items ≡ length script.clients
   pub clients : (k : ℕ) (c : Client) → slice_get callers.clients.items k ≡ Some c
       → IsOfRun start script.points c
+  pub begins : (k : ℕ) (c : Client) → slice_get callers.clients.items k ≡ Some c
+      → BeginsFirst (ops_by script.clients (caller_at k)) (past_of c)
   pub desks : (k : ℕ) (d : Desk) → slice_get callers.desks.items k ≡ Some d → IsDesk start d
   pub closer_list : IsOfRecovery start callers.closer.list
 

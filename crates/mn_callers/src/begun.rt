@@ -1,5 +1,5 @@
 //! How a run of a script begins, on a board of its own.
-ghost use Rattle.std.specs.Prelude.{◌≡◌, [], IfErr, IfOk, None, OnOk, Some, length};
+ghost use Rattle.std.specs.Prelude.{◌≡◌, [], Err, IfErr, IfOk, None, OnOk, Some, length};
 ghost use Rattle.mn_actors.specs.declared.actor.Actor.{Actor as Who};
 ghost use Rattle.mn_actors.specs.Lines.{IsActor};
 ghost use Rattle.mn_actors.specs.Lists.{held};
@@ -11,9 +11,9 @@ ghost use Rattle.mn_world.specs.Run.{entries_of};
 ghost use Rattle.std.specs.Prelude.{IsOk, List};
 ghost use Rattle.mn_callers.specs.Begun.{HasRooms};
 ghost use Rattle.mn_callers.specs.Causes.{IsCaused};
-ghost use Rattle.mn_callers.specs.Failed.{FailsSo};
+ghost use Rattle.mn_callers.specs.Failed.{FailsSo, IsDamage};
 ghost use Rattle.mn_callers.specs.Logs.{HasLog, IsFresh};
-ghost use Rattle.mn_callers.specs.Plays.{AreReady, IsAtRest, IsPlay, NamesGiven};
+ghost use Rattle.mn_callers.specs.Plays.{AreReady, IsPlay, NamesGiven};
 ghost use Rattle.mn_callers.specs.Settled.{AreUpAndFree};
 ghost use Rattle.mn_callers.specs.Stages.{state_of};
 ghost use Rattle.mn_callers.specs.Trace.{IsTrace, MayBegin};
@@ -69,8 +69,9 @@ impl<'a, N: Named, D: Disk, G: Gate> Begun<'a, N, D, G> {
             begun.stage.callers) }
         ensures fresh { IfOk result (λ begun. IsFresh (state_of begun.stage)) }
         ensures rooms { IfOk result (HasRooms (length N.records)) }
-        ensures failed { IfErr result (λ failed. FailsSo D.state D.faults nodes.items
+        ensures failed { IfErr result (λ failed. FailsSo D.state D.faults script.now nodes.items
             failed.nodes.items failed.log failed.cause) }
+        ensures cause { IfErr result (λ failed. failed.cause ≡ RunCause.NoMemory) }
     {
         let mut nodes = nodes;
         let mut rest = all;
@@ -96,9 +97,14 @@ impl<'a, N: Named, D: Disk, G: Gate> Begun<'a, N, D, G> {
         })
     }
 
-    /// Ends a run that was played so, as `end` does.
-    pub fn end(self, alloc: Global, played: Result<(), RunCause>) -> Result<Trace<D>, RunFailed<D>>
-        requires rests { IsAtRest N.board (start_of N.records) (state_of self.stage) }
+    /// Ends a run of the script that was played so, as `end` does.
+    pub fn end(
+        self,
+        alloc: Global,
+        script: &Script,
+        played: Result<(), RunCause>,
+    ) -> Result<Trace<D>, RunFailed<D>>
+        requires play { IsPlay N.board (start_of N.records) script.now (state_of self.stage) }
         requires settled { OnOk played (AreUpAndFree (length N.records)
             self.stage.calls.inner.stations.items) }
         requires caused { IfErr played (IsCaused D.faults N.faults N.honest
@@ -106,14 +112,18 @@ impl<'a, N: Named, D: Disk, G: Gate> Begun<'a, N, D, G> {
         requires rooms { HasRooms (length N.records) self }
         ensures trace { (given : List (NodeState D))
             → NamesGiven D.state D.faults N.records N.faults N.honest given
-            → IfOk result (λ trace. IsTrace D.state D.faults given trace.nodes.items trace.log) }
+            → IfOk result (λ trace. IsTrace D.state D.faults script.now given trace.nodes.items
+            trace.log) }
         ensures failed { (given : List (NodeState D))
             → NamesGiven D.state D.faults N.records N.faults N.honest given
-            → IfErr result (λ failed. FailsSo D.state D.faults given failed.nodes.items failed.log
-            failed.cause) }
+            → IfErr result (λ failed. FailsSo D.state D.faults script.now given
+            failed.nodes.items failed.log failed.cause) }
         ensures done { IfOk result (λ trace. IsOk played) }
         ensures log { IfOk result (λ trace. (past : List Noted)
             → HasLog (state_of self.entry.stage) past → entries_of trace.log ≡ past) }
+        ensures told { IfErr result (λ failed. IsDamage failed.cause
+            → (played ≡ Err failed.cause) × ((past : List Noted)
+            → HasLog (state_of self.entry.stage) past → entries_of failed.log ≡ past)) }
     {
         let Begun {
             stage,
@@ -129,6 +139,6 @@ impl<'a, N: Named, D: Disk, G: Gate> Begun<'a, N, D, G> {
             inner: table,
             gate: _gate,
         } = calls;
-        end(alloc, table, rest, callers, nodes, lists, played)
+        end(alloc, script, table, rest, callers, nodes, lists, played)
     }
 }

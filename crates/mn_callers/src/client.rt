@@ -14,9 +14,9 @@ ghost use Rattle.mn_callers.specs.Acts.{BeginsOp, CallsOnce, DoesAll, DoesGo, Do
 ghost use Rattle.mn_callers.specs.Acts.{GoesByItself, IsUnderWay, as_role, has_work};
 ghost use Rattle.mn_callers.specs.Clients.{HasProxy, IsAtSteps, IsClient, MayCallNext, IsOfRun};
 ghost use Rattle.mn_callers.specs.Clients.{past_of};
-ghost use Rattle.mn_callers.specs.Going.{BeginsIfIdle, HasAnswer, HasFewer, HasGone, HasList};
-ghost use Rattle.mn_callers.specs.Going.{IsSameBut, IsSameButRoom, IsUnnoted, KeepsPoints};
-ghost use Rattle.mn_callers.specs.Going.{MakesStep, MayAdd, MayTake};
+ghost use Rattle.mn_callers.specs.Going.{BeginsAtMost, BeginsIfIdle, HasAnswer, HasFewer, HasGone};
+ghost use Rattle.mn_callers.specs.Going.{HasList, IsSameBut, IsSameButRoom, IsUnnoted, KeepsOrder};
+ghost use Rattle.mn_callers.specs.Going.{KeepsPoints, MakesStep, MayAdd, MayTake};
 ghost use Rattle.mn_callers.specs.Going.{is_planned, ops_left, work_left};
 ghost use Rattle.mn_callers.specs.Hands.{HasTurn, MovesOn, hand_of};
 ghost use Rattle.mn_callers.specs.Points.{has_died};
@@ -402,6 +402,40 @@ impl Client {
         }
     }
 
+    /// Goes on after a call that was answered, or that found no memory. Want of memory ends a try:
+    /// a step of its own follows, or the run ends.
+    fn go_on_from<X: Transport>(
+        &mut self,
+        alloc: Global,
+        table: &mut X,
+        pass: &mut Pass<CoreLaw>,
+        points: &[Point],
+        answered: bool,
+    ) -> Result<(), NoMemory>
+        requires turn { HasTurn X.board (X.ready table.old) (hand_of pass.old self.old.list) }
+        requires steps { IsAtSteps X.start points.now self.old }
+        ensures turn { HasTurn X.board (X.ready table.new) (hand_of pass.new self.new.list) }
+        ensures goes_on { MovesOn (X.went table.old table.new)
+            (hand_of pass.old self.old.list) (hand_of pass.new self.new.list) }
+        ensures client { OnOk result (IsClient X.start points.now self.new) }
+        ensures of_run { OnErr result (IsOfRun X.start points.now self.new) }
+        ensures own { OnOk result (GoesByItself self.old.list.client
+            (past_of self.old) (past_of self.new)) }
+        ensures some { answered ≡ false → OnOk result (past_of self.new ≢ past_of self.old) }
+        ensures begun { self.new.begun ≡ self.old.begun }
+        ensures falls { OnOk result (work_left self.new ≤ steps_left self.old.proxy) }
+    {
+        let before = self.list.as_slice().len();
+        self.go_on(alloc, table, pass, points)?;
+        if answered {
+            return Ok(());
+        }
+        if self.list.as_slice().len() > before {
+            return Ok(());
+        }
+        Err(NoMemory)
+    }
+
     /// Begins its next operation. NoMemory: there was no memory to begin it; the run ends.
     fn begin<X: Transport>(
         &mut self,
@@ -424,6 +458,7 @@ impl Client {
         ensures begins { OnOk result (BeginsOp self.old.list.client op.now
             (past_of self.old) (past_of self.new)) }
         ensures begun { OnOk result (self.new.begun ≡ self.old.begun + 1) }
+        ensures at_most { BeginsAtMost op.now (past_of self.old) (past_of self.new) }
     {
         let asked = op.try_copy(alloc)?;
         let work = Task::new(alloc, asked)?;
@@ -459,6 +494,7 @@ impl Client {
             (as_role points.now self.old.list.client ops.now)
             (past_of self.old) (past_of self.new)) }
         ensures begun { OnOk result (BeginsIfIdle self.old self.new) }
+        ensures order { KeepsOrder ops.now (past_of self.old) (past_of self.new) }
     {
         if self.is_at_work() {
             return Ok(());
@@ -619,8 +655,9 @@ impl Client {
         if self.has_died(points) {
             return Ok(());
         }
+        let answered = is_entry(&reply);
         self.proxy.feed(reply);
-        self.go_on(alloc, table, pass, points)
+        self.go_on_from(alloc, table, pass, points, answered)
     }
 
     /// One call, of an operation that is begun if none is under way; nothing where there is no
@@ -644,11 +681,13 @@ impl Client {
         ensures does { OnOk result (DoesStep
             (as_role points.now self.old.list.client ops.now)
             (past_of self.old) (past_of self.new)) }
+        ensures order { KeepsOrder ops.now (past_of self.old) (past_of self.new) }
     {
         if !self.has_work(points, ops) {
             return Ok(());
         }
         self.begin_if_idle(alloc, table, pass, points, ops)?;
+        // For want of memory the operation may be over already: then this does nothing.
         self.call(alloc, table, pass, points)
     }
 
@@ -672,6 +711,7 @@ impl Client {
         ensures does { OnOk result (DoesPlan
             (as_role points.now self.old.list.client ops.now)
             (past_of self.old) (past_of self.new)) }
+        ensures order { KeepsOrder ops.now (past_of self.old) (past_of self.new) }
     {
         if !self.has_work(points, ops) {
             return Ok(());
@@ -703,6 +743,7 @@ impl Client {
         ensures does { OnOk result (DoesGo
             (as_role points.now self.old.list.client ops.now)
             (past_of self.old) (past_of self.new)) }
+        ensures order { KeepsOrder ops.now (past_of self.old) (past_of self.new) }
         ensures falls { OnOk result (has_work
             (as_role points.now self.old.list.client ops.now) (past_of self.old) ≡ true
             → ops_left (length ops.now) self.new < ops_left (length ops.now) self.old) }
@@ -737,6 +778,7 @@ impl Client {
         ensures does { OnOk result (DoesAll
             (as_role points.now self.old.list.client ops.now)
             (past_of self.old) (past_of self.new)) }
+        ensures order { KeepsOrder ops.now (past_of self.old) (past_of self.new) }
     {
         while self.has_work(points, ops) {
             self.go(alloc, table, pass, points, ops)?;

@@ -12,11 +12,11 @@ ghost use Rattle.mn_world.specs.Run.{entries_of};
 ghost use Rattle.mn_callers.specs.Causes.{IsCaused};
 ghost use Rattle.mn_callers.specs.Ended.{AllHaveMade, AreLists, AreMadeFromLast};
 ghost use Rattle.mn_callers.specs.Ended.{HoldsNodes, IsEnded, OwnsNodes, SameCallers};
-ghost use Rattle.mn_callers.specs.Failed.{FailsSo, IsRunOn};
+ghost use Rattle.mn_callers.specs.Failed.{FailsSo, IsDamage, IsRunOn};
 ghost use Rattle.mn_callers.specs.Logs.{HasLog};
-ghost use Rattle.mn_callers.specs.Plays.{IsAtRest, NamesGiven, state_at};
+ghost use Rattle.mn_callers.specs.Plays.{IsPlay, NamesGiven, state_at};
 ghost use Rattle.mn_callers.specs.Settled.{AreUpAndFree};
-ghost use Rattle.mn_callers.specs.Trace.{IsTrace};
+ghost use Rattle.mn_callers.specs.Trace.{HaveSoundRecords, IsTrace};
 ghost use Rattle.mn_callers.specs.Turn.{AreStations, callers_count};
 
 use crate::callers::{CALLERS, Callers};
@@ -30,6 +30,7 @@ use mn_cell::{Named, RunCause, RunFailed, Station, Trace, parts_make_run};
 use mn_hist::{ClientLists, merge};
 use mn_io::Disk;
 use mn_node::Node;
+use mn_script::Script;
 use mn_world::{ClientList, CoreLaw, Log, records_stay_sound, runs_follow_protocol};
 use std::alloc::Global;
 
@@ -68,12 +69,24 @@ pub fn give_back<N: Named, D: Disk>(
     left.destroy_empty();
 }
 
+/// What the records of each node are.
+fn tell_records<D: Disk>(nodes: &[Node<D>])
+    ensures { HaveSoundRecords nodes.now }
+{
+    for node in nodes {
+        let _records = node.records();
+    }
+}
+
 /// No run, for want of memory.
 pub fn no_memory<D: Disk>(alloc: Global, nodes: Vec<Node<D>>) -> RunFailed<D>
-    ensures { (given : List (NodeState D)) → length nodes.items ≡ length given
-        → (past : _) → IsRunOn D.state D.faults given nodes.items past
-        → FailsSo D.state D.faults given result.nodes.items result.log result.cause }
+    ensures fails { (script : Script) (given : List (NodeState D))
+        → length nodes.items ≡ length given → (past : _) → (HaveSoundRecords nodes.items
+        → IsRunOn D.state D.faults script given nodes.items past)
+        → FailsSo D.state D.faults script given result.nodes.items result.log result.cause }
+    ensures cause { result.cause ≡ RunCause.NoMemory }
 {
+    tell_records(&nodes);
     RunFailed {
         nodes,
         log: Log::empty(alloc),
@@ -90,9 +103,11 @@ pub fn without_log<D: Disk>(
 ) -> RunFailed<D>
     requires board { board_of all ≡ id_of board }
     requires owns { OwnsAll (nodes_of board) (clients_of board) (view_of all) }
-    ensures { (given : List (NodeState D)) → length nodes.items ≡ length given
-        → (past : _) → IsRunOn D.state D.faults given nodes.items past
-        → FailsSo D.state D.faults given result.nodes.items result.log result.cause }
+    ensures fails { (script : Script) (given : List (NodeState D))
+        → length nodes.items ≡ length given → (past : _) → (HaveSoundRecords nodes.items
+        → IsRunOn D.state D.faults script given nodes.items past)
+        → FailsSo D.state D.faults script given result.nodes.items result.log result.cause }
+    ensures cause { result.cause ≡ RunCause.NoMemory }
 {
     board.close(all);
     no_memory(alloc, nodes)
@@ -180,19 +195,22 @@ fn take_lists(alloc: Global, callers: Callers, lists: &mut Vec<ClientList>)
     take_desks(desks, lists);
 }
 
-/// The run failed so.
+/// The run of the script failed so.
 fn failed_so<N: Named, D: Disk>(
     alloc: Global,
+    script: &Script,
     nodes: Vec<Node<D>>,
     log: Log,
     cause: RunCause,
 ) -> RunFailed<D>
-    requires { IsEnded D.state D.faults (start_of N.records) N.faults N.honest nodes.items
-        (Err cause) log }
-    ensures { (given : List (NodeState D))
+    requires { IsEnded D.state D.faults (start_of N.records) N.faults N.honest script.now
+        nodes.items (Err cause) log }
+    ensures fails { (given : List (NodeState D))
         → NamesGiven D.state D.faults N.records N.faults N.honest given
-        → FailsSo D.state D.faults given result.nodes.items result.log result.cause }
+        → FailsSo D.state D.faults script.now given result.nodes.items result.log result.cause }
+    ensures told { IsDamage result.cause → (cause ≡ result.cause) × (result.log ≡ log) }
 {
+    let _ = script;
     match cause {
         RunCause::Disk { node } => RunFailed {
             nodes,
@@ -221,22 +239,26 @@ fn failed_so<N: Named, D: Disk>(
 /// What the run comes to, where its lists were made one log or there was no memory for it.
 fn result_of<N: Named, D: Disk>(
     alloc: Global,
+    script: &Script,
     nodes: Vec<Node<D>>,
     merged: Result<Log, NoMemory>,
     played: Result<(), RunCause>,
 ) -> Result<Trace<D>, RunFailed<D>>
     requires { (past : _) × IsEnded D.state D.faults
-        (start_of N.records) N.faults N.honest nodes.items played past
+        (start_of N.records) N.faults N.honest script.now nodes.items played past
         × IfOk merged (λ log. log ≡ past) }
     ensures trace { (given : List (NodeState D))
         → NamesGiven D.state D.faults N.records N.faults N.honest given
-        → IfOk result (λ trace. IsTrace D.state D.faults given trace.nodes.items trace.log) }
+        → IfOk result (λ trace. IsTrace D.state D.faults script.now given trace.nodes.items
+        trace.log) }
     ensures failed { (given : List (NodeState D))
         → NamesGiven D.state D.faults N.records N.faults N.honest given
-        → IfErr result (λ failed. FailsSo D.state D.faults given failed.nodes.items failed.log
-        failed.cause) }
+        → IfErr result (λ failed. FailsSo D.state D.faults script.now given failed.nodes.items
+        failed.log failed.cause) }
     ensures log { IfOk result (λ trace. merged ≡ Ok trace.log) }
     ensures done { IfOk result (λ trace. IsOk played) }
+    ensures told { IfErr result (λ failed. IsDamage failed.cause
+        → (played ≡ Err failed.cause) × (merged ≡ Ok failed.log)) }
 {
     runs_follow_protocol();
     records_stay_sound();
@@ -245,14 +267,15 @@ fn result_of<N: Named, D: Disk>(
     };
     match played {
         Ok(()) => Ok(Trace { nodes, log }),
-        Err(cause) => Err(failed_so::<N, D>(alloc, nodes, log, cause)),
+        Err(cause) => Err(failed_so::<N, D>(alloc, script, nodes, log, cause)),
     }
 }
 
-/// Ends a run that was played so: its nodes go into `nodes` and the lists of its callers into
-/// `lists`, which have the room.
+/// Ends a run of the script that was played so: its nodes go into `nodes` and the lists of its
+/// callers into `lists`, which have the room.
 pub fn end<N: Named, D: Disk>(
     alloc: Global,
+    script: &Script,
     table: Table<N, D>,
     rest: Pass<CoreLaw>,
     callers: Callers,
@@ -260,7 +283,7 @@ pub fn end<N: Named, D: Disk>(
     lists: Vec<ClientList>,
     played: Result<(), RunCause>,
 ) -> Result<Trace<D>, RunFailed<D>>
-    requires rests { IsAtRest N.board (start_of N.records) (state_at table rest callers) }
+    requires play { IsPlay N.board (start_of N.records) script.now (state_at table rest callers) }
     requires settled { OnOk played (AreUpAndFree (length N.records) table.stations.items) }
     requires caused { IfErr played (IsCaused D.faults N.faults N.honest table.stations.items) }
     requires empty { nodes.items ≡ [] }
@@ -269,23 +292,28 @@ pub fn end<N: Named, D: Disk>(
     requires lists_room { callers_count ≤ vec_capacity lists }
     ensures trace { (given : List (NodeState D))
         → NamesGiven D.state D.faults N.records N.faults N.honest given
-        → IfOk result (λ trace. IsTrace D.state D.faults given trace.nodes.items trace.log) }
+        → IfOk result (λ trace. IsTrace D.state D.faults script.now given trace.nodes.items
+        trace.log) }
     ensures failed { (given : List (NodeState D))
         → NamesGiven D.state D.faults N.records N.faults N.honest given
-        → IfErr result (λ failed. FailsSo D.state D.faults given failed.nodes.items failed.log
-        failed.cause) }
+        → IfErr result (λ failed. FailsSo D.state D.faults script.now given failed.nodes.items
+        failed.log failed.cause) }
     ensures done { IfOk result (λ trace. IsOk played) }
     ensures log { IfOk result (λ trace. (past : List Noted)
         → HasLog (state_at table rest callers) past → entries_of trace.log ≡ past) }
+    ensures told { IfErr result (λ failed. IsDamage failed.cause
+        → (played ≡ Err failed.cause) × ((past : List Noted)
+        → HasLog (state_at table rest callers) past → entries_of failed.log ≡ past)) }
 {
     let Table { board, stations } = table;
     let mut nodes = nodes;
     let mut lists = lists;
     let mut all = rest;
     take_apart(&board, &mut all, stations, &mut nodes);
+    tell_records(&nodes);
     take_lists(alloc, callers, &mut lists);
     board.close(all);
     parts_make_run();
     let merged = merge(alloc, ClientLists::from_vec(lists));
-    result_of::<N, D>(alloc, nodes, merged, played)
+    result_of::<N, D>(alloc, script, nodes, merged, played)
 }

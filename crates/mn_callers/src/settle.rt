@@ -1,6 +1,6 @@
 //! What the coordinator does that opens and closes a run.
-ghost use Rattle.std.specs.Prelude.{◌≡◌, ◌<◌, ◌++◌, false, IfErr, IfOk, OnOk, None, Some};
-ghost use Rattle.std.specs.Prelude.{Contains, length, map};
+ghost use Rattle.std.specs.Prelude.{◌≡◌, ◌<◌, ◌++◌, true, false, IfErr, IfOk, OnErr, OnOk, None};
+ghost use Rattle.std.specs.Prelude.{Some, Contains, length, map};
 ghost use Rattle.std.specs.List.{AllByRecursion};
 ghost use Rattle.mn_base.specs.declared.ids.NodeNo.{NodeNo as Numbered};
 ghost use Rattle.mn_base.specs.declared.ids.Tid.{Tid as Id};
@@ -13,14 +13,15 @@ ghost use Rattle.mn_recov.specs.declared.step.RecovStep.TheVariants.{Send};
 ghost use Rattle.mn_world.specs.Clients.{Sends};
 ghost use Rattle.mn_world.specs.Protocol.{base_at, start_of};
 ghost use Rattle.mn_world.specs.Run.{entries_of};
+ghost use Rattle.mn_callers.specs.Begins.{AreBare};
 ghost use Rattle.mn_callers.specs.Causes.{IsCaused, cause_of};
 ghost use Rattle.mn_callers.specs.Closing.{AllExtend, AreHeldIn, AreInOrder, IsClosing, IsDone};
 ghost use Rattle.mn_callers.specs.Closing.{IsDoneTo, ClosesOn, calls_left, failure_of};
 ghost use Rattle.mn_callers.specs.Desks.{IsOfRecovery, IsRecoveryCall, IsWork};
 ghost use Rattle.mn_callers.specs.Doings.{HasAnswered, IsAnswer, IsDownAs, OthersStay};
-ghost use Rattle.mn_callers.specs.Failed.{closer};
+ghost use Rattle.mn_callers.specs.Failed.{IsDamage, closer};
 ghost use Rattle.mn_callers.specs.Settled.{AllUp, AreUpAndFree, records_at};
-ghost use Rattle.mn_callers.specs.Steps.{Adds};
+ghost use Rattle.mn_callers.specs.Steps.{Adds, KeepsList};
 ghost use Rattle.mn_callers.specs.Turn.{ExtendsLog, IsTurn, turn_at};
 
 use crate::desk::make_room;
@@ -93,6 +94,8 @@ impl Closer {
             (entries_of self.new.list.entries)) }
         ensures others { OthersStay node table.old.stations.items table.new.stations.items }
         ensures up { OnOk result (IsDownAs false table.new.stations.items node) }
+        ensures none { OnErr result (KeepsList self.old.list self.new.list) }
+        ensures was_down { OnErr result (IsDownAs true table.old.stations.items node) }
         ensures caused { IfErr result
             (IsCaused D.faults N.faults N.honest table.new.stations.items) }
     {
@@ -118,6 +121,9 @@ impl Closer {
         ensures closes { OnOk result (ClosesOn (entries_of self.old.list.entries)
             (entries_of self.new.list.entries)) }
         ensures up { OnOk result (AllUp table.new.stations.items) }
+        ensures closes_failed { OnErr result (ClosesOn (entries_of self.old.list.entries)
+            (entries_of self.new.list.entries)) }
+        ensures some_down { OnErr result (AllUp table.old.stations.items → ⊥) }
         ensures caused { IfErr result
             (IsCaused D.faults N.faults N.honest table.new.stations.items) }
     {
@@ -161,6 +167,7 @@ impl Closer {
             table.old.stations.items table.new.stations.items) }
         ensures caused { IfErr result
             (IsCaused D.faults N.faults N.honest table.new.stations.items) }
+        ensures whole { IfErr result (λ cause. IsDamage cause → ⊥) }
     {
         let reply = table.call(alloc, pass, &mut self.list, node, request, None);
         match failure_of(node, &reply) {
@@ -195,6 +202,7 @@ impl Closer {
             → records_at table.new.stations.items n ≡ records_at table.old.stations.items n) }
         ensures caused { IfErr result
             (IsCaused D.faults N.faults N.honest table.new.stations.items) }
+        ensures whole { IfErr result (λ cause. IsDamage cause → ⊥) }
     {
         let reply = self.call(alloc, table, pass, node, Request::List)?;
         let NodeReply::Listed { doubts } = reply else {
@@ -233,6 +241,7 @@ impl Closer {
             → records_at table.new.stations.items n ≡ records_at table.old.stations.items n) }
         ensures caused { IfErr result
             (IsCaused D.faults N.faults N.honest table.new.stations.items) }
+        ensures whole { IfErr result (λ cause. IsDamage cause → ⊥) }
     {
         let doubts = self.list_of(alloc, table, pass, node)?;
         match add_ids(tids, &doubts) {
@@ -264,6 +273,7 @@ impl Closer {
         ensures order { IfOk result (λ tids. AreInOrder tids.items) }
         ensures caused { IfErr result
             (IsCaused D.faults N.faults N.honest table.new.stations.items) }
+        ensures whole { IfErr result (λ cause. IsDamage cause → ⊥) }
     {
         let mut tids = Vec::new(alloc);
         for number in 0..table.nodes() {
@@ -310,6 +320,7 @@ impl Closer {
             < calls_left (length N.records) work.old.stage) }
         ensures caused { IfErr result
             (IsCaused D.faults N.faults N.honest table.new.stations.items) }
+        ensures whole { IfErr result (λ cause. IsDamage cause → ⊥) }
     {
         if make_room(&mut self.list, &request).is_err() {
             return Err(RunCause::NoMemory);
@@ -344,6 +355,7 @@ impl Closer {
             (records_at table.new.stations.items)) }
         ensures caused { IfErr result
             (IsCaused D.faults N.faults N.honest table.new.stations.items) }
+        ensures whole { IfErr result (λ cause. IsDamage cause → ⊥) }
     {
         let Ok(mut work) = Recoverer::new(alloc, tid, table.nodes()) else {
             return Err(RunCause::NoMemory);
@@ -379,6 +391,7 @@ impl Closer {
             → IsDone (length N.records) t (records_at table.new.stations.items)) }
         ensures caused { IfErr result
             (IsCaused D.faults N.faults N.honest table.new.stations.items) }
+        ensures whole { IfErr result (λ cause. IsDamage cause → ⊥) }
     {
         for tid in tids {
             self.recover(alloc, table, pass, *tid)?;
@@ -407,7 +420,14 @@ impl Closer {
         ensures settled { OnOk result (AreUpAndFree (length N.records) table.new.stations.items) }
         ensures caused { IfErr result
             (IsCaused D.faults N.faults N.honest table.new.stations.items) }
+
+        // A restart that finds another list is the last that is done, and not before any entry.
+        ensures damaged { IfErr result (λ cause. IsDamage cause
+            → ClosesOn (entries_of self.old.list.entries) (entries_of self.new.list.entries)
+            × (AreBare table.old.stations.items → ⊥)) }
     {
+        // Where no node has an entry each is up, as what its station has made shows.
+        table.made();
         self.restart_all(alloc, table, pass)?;
         let tids = self.held_ids(alloc, table, pass)?;
         self.recover_all(alloc, table, pass, &tids)

@@ -4,8 +4,11 @@ ghost use Rattle.mn_world.specs.declared.entry.Entry.{Entry};
 ghost use Rattle.mn_world.specs.OneHistory.{AreUp};
 ghost use Rattle.mn_world.specs.Protocol.{start_of};
 ghost use Rattle.mn_callers.specs.Acts.{as_role, role_of};
+ghost use Rattle.mn_callers.specs.Begins.{AreBare};
 ghost use Rattle.mn_callers.specs.Causes.{IsCaused};
 ghost use Rattle.mn_callers.specs.Clients.{IsClient, IsOfRun, past_of};
+ghost use Rattle.mn_callers.specs.Failed.{IsDamage};
+ghost use Rattle.mn_callers.specs.Going.{KeepsOrder};
 ghost use Rattle.mn_callers.specs.Hands.{HasTurn, MovesOn, hand_of};
 ghost use Rattle.mn_callers.specs.Logs.{HasLog};
 ghost use Rattle.mn_callers.specs.Plays.{AreReady, IsOfSome, IsPlay, StayReady, StaysPlay};
@@ -70,6 +73,7 @@ fn make_move<X: Transport>(
     ensures of_run { IsOfRun X.start points.now caller.new }
     ensures does { OnOk result (DoesMove what (as_role points.now caller.old.list.client ops.now)
         (past_of caller.old) (past_of caller.new)) }
+    ensures order { KeepsOrder ops.now (past_of caller.old) (past_of caller.new) }
 {
     match what {
         Move::Step => caller.step(alloc, table, pass, points, ops),
@@ -122,6 +126,9 @@ impl<'a, N: Named, D: Disk, G: Gate> Stage<'a, N, D, G> {
             → AreUp (start_of N.records) past) }
         ensures caused { IfErr result
             (IsCaused D.faults N.faults N.honest self.new.calls.inner.stations.items) }
+        ensures damaged { IfErr result (λ cause. IsDamage cause
+            → GoesAs (Settles) (state_of self.old) (state_of self.new)
+            × (AreBare self.old.calls.inner.stations.items → ⊥)) }
     {
         let actor = Actor::Client { client: CLOSER };
         let mut pass = self.calls.inner.board.split(&mut self.rest, actor);

@@ -23,9 +23,10 @@ use Rattle.mn_world.specs.Run.{entries_of}
 use Rattle.mn_callers.specs.declared.callers.Callers.{Callers}
 use Rattle.mn_callers.specs.declared.client.Client.{Client as OneClient}
 use Rattle.mn_callers.specs.declared.desk.Desk.{Desk}
-use Rattle.mn_callers.specs.Acts.{DoesAll, role_of}
+use Rattle.mn_callers.specs.Acts.{BeginsFirst, DoesAll, ops_by, role_of}
 use Rattle.mn_callers.specs.Clients.{IsClient, IsOfRun, past_of}
 use Rattle.mn_callers.specs.Desks.{IsDesk}
+use Rattle.mn_callers.specs.Going.{KeepsOrder}
 use Rattle.mn_callers.specs.Hearing.{GoesOnFrom, HaveGrown}
 use Rattle.mn_callers.specs.Logs.{HasLog}
 use Rattle.mn_callers.specs.Plays.{AreCallers, AreReady, HaveNumbers, IsAtRest, IsPlay, PlayState, caller_at, list_by}
@@ -111,10 +112,16 @@ module _ {D : Type 0} (board : TableId) (start : Start) (script : Script) (p : P
       (same_actor (Recoverer found.0) (Recoverer e) found.2 ∙ numbers.desks k found.0 found.1, (did (Recoverer found.0) (Recoverer e) found.2).0)
 
   client_at : (k : ℕ) (e : OneClient × Flag board start script known) → slice_get parted.clients_now k ≡ Some e → (e.0.list.client ≡ caller_at k) × IsOfRun start script.points e.0 × OnOk e.1 (IsClient start script.points e.0)
+      × BeginsFirst (ops_by script.clients (caller_at k)) (past_of e.0)
   client_at k e at =
       let found = there_at (ClientBecame board start script known) p.callers.clients.items parted.clients_now parted.each_client k e at in
       let so = did (Client found.0 (Ok tt)) (Client e.0 e.1) found.2 in
-      (same_actor (Client found.0 (Ok tt)) (Client e.0 e.1) found.2 ∙ numbers.clients k found.0 found.1, so.0, so.1)
+      let number = numbers.clients k found.0 found.1 in (
+        same_actor (Client found.0 (Ok tt)) (Client e.0 e.1) found.2 ∙ number,
+        so.0,
+        so.1,
+        subst (λ (c : ClientNo). KeepsOrder (ops_by script.clients c) (past_of found.0) (past_of e.0)) number so.3 (play.callers.begins k found.0 found.1),
+      )
 
   clients_long : length parted.clients_now ≡ length p.callers.clients.items
   clients_long = each_long (ClientBecame board start script known) p.callers.clients.items parted.clients_now parted.each_client
@@ -185,6 +192,9 @@ module _ {D : Type 0} (board : TableId) (start : Start) (script : Script) (p : P
       clients = λ k c at.
           let found = mapped (λ (c : OneClient × Flag board start script known). c.0) parted.clients_now k c (ap (λ (l : List OneClient). slice_get l k) (sym clients_now) ∙ at) in
           subst (λ (x : OneClient). IsOfRun start script.points x) found.2 (client_at k found.0 found.1).1;
+      begins = λ k c at.
+          let found = mapped (λ (c : OneClient × Flag board start script known). c.0) parted.clients_now k c (ap (λ (l : List OneClient). slice_get l k) (sym clients_now) ∙ at) in
+          subst (λ (x : OneClient). BeginsFirst (ops_by script.clients (caller_at k)) (past_of x)) found.2 (client_at k found.0 found.1).3;
       desks = λ k d at. (desk_at k d (ap (λ (l : List Desk). slice_get l k) (sym desks_now) ∙ at)).1;
       closer_list = subst (λ k. Rattle.mn_callers.specs.Desks.IsOfRecovery start k.list) (sym closing) play.callers.closer_list;
     }

@@ -1,5 +1,5 @@
 -- How the log of a run on threads goes on, phase after phase.
-use Rattle.std.proofs.Common.{◌≡◌, ℕ, ◌+◌, zero-add, Bool, true, false, List, [], ◌∷◌, ◌++◌, MatchBool, Result, Ok, Err, OnOk, is_err, refl, sym, ap, ◌∙◌, subst}
+use Rattle.std.proofs.Common.{◌≡◌, ℕ, ◌+◌, zero-add, Bool, true, false, List, [], ◌∷◌, ◌++◌, MatchBool, Result, Ok, Err, OnOk, is_err, refl, sym, ap, ◌∙◌, subst, inl, inr}
 use Rattle.std.specs.List.{range_with_len}
 use Rattle.std.proofs.lemmas.List.FromFn.{map-range_with_len_more}
 use Rattle.std.proofs.lemmas.List.{append-nil, map-id}
@@ -17,9 +17,9 @@ use Rattle.mn_callers.specs.Closing.{AreOfCloser}
 use Rattle.mn_callers.specs.Logs.{HasLog, IsFresh}
 use Rattle.mn_callers.specs.Plays.{PlayState, caller_at}
 use Rattle.mn_callers.specs.Stages.{AreFreeIfSound, GoesAs, IsOfClient, Settles}
-use Rattle.mn_cluster.specs.Follows.{DoesIfMarked, FollowsOnThreads, GoAtOnce, GoInTurn, IsRunThrough, Settle, TakeTurns}
+use Rattle.mn_cluster.specs.Follows.{DoesIfMarked, FollowsOnThreads, FollowsToClosing, GoAtOnce, GoInTurn, IsRunThrough, IsRunToClosing, Settle, TakeTurns}
 use Rattle.mn_cluster.specs.Marks.{is_marked}
-use Rattle.mn_cluster.specs.Runs.{GoFirst, RunsThrough, on_past}
+use Rattle.mn_cluster.specs.Runs.{GoFirst, RunsThrough, RunsToClosing, on_past}
 
 pub not_err : {E : Type 0} (r : Result (Unit {0}) E) (P : Type 0) → is_err r ≡ false → OnOk r P → P
 not_err (Ok u) P is p = p
@@ -94,6 +94,28 @@ run_whole start script p opened met closed followed ended fresh opens free goes 
       },
     )
 
+-- what it is up to the first closing
+pub run_to_closing : {D : Type 0} (start : Start) (script : Script) (p opened met closed : PlayState D) → IsFresh p
+    → GoesAs Settles p opened → ((past : List Entry) → HasLog opened past → AreFreeIfSound start past)
+    → GoesAs (on_past (GoFirst script)) opened met → GoesAs Settles met closed → (past : List Entry) × HasLog closed past × IsRunToClosing (AreFreeIfSound start) script past
+run_to_closing start script p opened met closed fresh opens free goes closes =
+    let one = opens [] fresh.log in
+    let two = goes one.0 one.1 in
+    let three = settled met closed two.0 closes two.1 in (
+      three.0,
+      three.1,
+      record {
+        opened = one.0;
+        opening = subst AreOfCloser (sym (one.2.past_is ∙ append-nil one.2.own)) one.2.of_closer;
+        opened_so = free one.0 one.1;
+        led = two.2.0;
+        first = two.2.1;
+        met = two.0;
+        middle = two.2.2;
+        closing = three.2;
+      },
+    )
+
 -- Each phase's log goes on from the one before
 
 turns_grow : (script : Script) (mark : Mark) (ks : List ℕ) (old new : List Entry) → TakeTurns script mark ks old new → Grows old new
@@ -130,3 +152,24 @@ follows_script start script past follow stay run through = record {
         grows_both through.opened through.led past (turns_grow script First _ through.opened through.led through.first)
         (grows_both through.led through.met past (record { later = through.middle.own; is = through.middle.past_is })
         (grows_both through.met through.closed past (record { later = through.closing.own; is = through.closing.past_is }) from_closed))
+
+-- the log of one that failed at a closing follows it up to there
+pub follows_to : (start : Start) (script : Script) (past : List Entry) → RunsFollowProtocol → RecordsStaySound → IsRun start past → RunsToClosing start script past → FollowsToClosing start script past
+follows_to start script past follow stay run (inr through) = inr (follows_script start script past follow stay run through)
+follows_to start script past follow stay run (inl first) =
+    inl (record {
+      opened = first.opened;
+      opening = first.opening;
+      opened_so = free_in start first.opened past follow stay run grows first.opened_so;
+      led = first.led;
+      first = first.first;
+      met = first.met;
+      middle = first.middle;
+      closing = first.closing;
+    })
+  where
+    grows : Grows first.opened past
+    grows =
+        grows_both first.opened first.led past (turns_grow script First _ first.opened first.led first.first)
+        (grows_both first.led first.met past (record { later = first.middle.own; is = first.middle.past_is })
+        (record { later = first.closing.own; is = first.closing.past_is }))

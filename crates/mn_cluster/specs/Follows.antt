@@ -91,9 +91,32 @@ pub record IsRunThrough (opens closes : List Entry → Type 0) (script : Script)
   pub last : GoInTurn script Last closed followed
   pub ending : Settle followed past
 
+-- the same up to the first closing, from which on the log has entries of the closing coordinator
+-- alone
+pub record IsRunToClosing (opens : List Entry → Type 0) (script : Script) (past : List Entry)
+    : Type 0 where
+  pub opened : List Entry
+  pub opening : AreOfCloser opened
+  pub opened_so : opens opened
+  pub led : List Entry
+  pub first : GoInTurn script First opened led
+  pub met : List Entry
+  pub middle : GoAtOnce script led met
+  pub closing : Settle met past
+
 -- a log follows the script on threads: the first closing leaves each node up; the opening and it
 -- leave nothing held, if the records with which the run starts fit together
 abbrev pub FollowsOnThreads : Start → Script → List Entry → Type 0
 FollowsOnThreads start script past =
     IsRunThrough (λ opened. StartsSound start → AreFree start opened)
     (λ closed. AreUp start closed × (StartsSound start → AreFree start closed)) script past
+
+-- a log follows it up to its first closing
+abbrev pub FollowsToFirstClosing : Start → Script → List Entry → Type 0
+FollowsToFirstClosing start script past =
+    IsRunToClosing (λ opened. StartsSound start → AreFree start opened) script past
+
+-- or up to its first or to its last one
+abbrev pub FollowsToClosing : Start → Script → List Entry → Type 0
+FollowsToClosing start script past =
+    FollowsToFirstClosing start script past ⊎ FollowsOnThreads start script past

@@ -1,7 +1,7 @@
 -- A run on threads as it goes, and how its log goes on. Lists of entries stand newest first.
-use Rattle.std.specs.Prelude.{List}
+use Rattle.std.specs.Prelude.{◌⊎◌, List}
 use Rattle.mn_callers.specs.Stages.{AreFreeIfSound, Played}
-use Rattle.mn_cluster.specs.Follows.{GoAtOnce, GoInTurn, IsRunThrough}
+use Rattle.mn_cluster.specs.Follows.{GoAtOnce, GoInTurn, IsRunThrough, IsRunToClosing}
 use Rattle.mn_script.specs.declared.elements.Mark.TheVariants.{First}
 use Rattle.mn_script.specs.Script.{Script}
 use Rattle.mn_world.specs.declared.entry.Entry.{Entry}
@@ -23,3 +23,8 @@ abbrev pub RunsThrough : Start → Script → List Entry → Type 0
 RunsThrough start script past =
     IsRunThrough (AreFreeIfSound start) (λ closed. AreUp start closed × AreFreeIfSound start closed)
     script past
+
+-- or it is one up to the first closing
+abbrev pub RunsToClosing : Start → Script → List Entry → Type 0
+RunsToClosing start script past =
+    IsRunToClosing (AreFreeIfSound start) script past ⊎ RunsThrough start script past

@@ -7,9 +7,10 @@ use Rattle.mn_cluster.specs.declared.worker.Role.{Role}
 use Rattle.mn_cluster.specs.declared.worker.Role.TheVariants.{Client, Recoverer}
 use Rattle.mn_cluster.specs.declared.worker.Worker.{Worker}
 use Rattle.mn_cluster.specs.Marks.{is_marked}
-use Rattle.mn_callers.specs.Acts.{DoesAll, role_of}
+use Rattle.mn_callers.specs.Acts.{DoesAll, ops_by, role_of}
 use Rattle.mn_callers.specs.Clients.{IsClient, IsOfRun, past_of}
 use Rattle.mn_callers.specs.Desks.{IsDesk, RecoversOn}
+use Rattle.mn_callers.specs.Going.{KeepsOrder}
 use Rattle.mn_callers.specs.Hands.{Hand, HasTurn, MovesOn, hand_of}
 use Rattle.mn_script.specs.declared.elements.Mark.TheVariants.{Plain}
 use Rattle.mn_script.specs.Script.{Script}
@@ -43,14 +44,16 @@ pub record IsWorker (board : TableId) (start : Start) (script : Script) (w : Wor
   pub turn : HasTurn board ⊤ (hand_with w)
   pub role_is : IsRole start script w.role
 
--- A client without a mark did all its operations, or found no memory; one with a mark did nothing.
--- A recovery coordinator of the script recovered what it found; another did nothing.
+-- A client without a mark did all its operations, or found no memory; one with a mark did nothing;
+-- either way it began its operations in order. A recovery coordinator of the script recovered what
+-- it found; another did nothing.
 abbrev pub DidWork : Start → Script → Role → Role → Type 0
 DidWork start script (Client c was) (Client d is) =
     IsOfRun start script.points d × OnOk is (IsClient start script.points d)
     × MatchBool (is_marked Plain script c.list.client)
     (OnOk is (DoesAll (role_of script c.list.client) (past_of c) (past_of d)))
     ((d ≡ c) × (is ≡ was))
+    × KeepsOrder (ops_by script.clients c.list.client) (past_of c) (past_of d)
 DidWork start script (Recoverer c) (Recoverer d) =
     IsDesk start d
     × MatchBool (is_of_script script c.list.client)

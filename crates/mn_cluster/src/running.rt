@@ -6,15 +6,16 @@ ghost use Rattle.mn_actors.specs.Lines.{IsActor};
 ghost use Rattle.mn_actors.specs.Lists.{held};
 ghost use Rattle.mn_actors.specs.Sight.{board_of, clients_of, id_of, nodes_of, view_of};
 ghost use Rattle.mn_callers.specs.Causes.{IsCaused};
-ghost use Rattle.mn_callers.specs.Failed.{FailsSo};
+ghost use Rattle.mn_callers.specs.Failed.{FailsSo, IsDamage};
 ghost use Rattle.mn_callers.specs.Logs.{HasLog, IsFresh};
 ghost use Rattle.mn_callers.specs.Plays.{AreReady, IsPlay, NamesGiven, caller_at};
 ghost use Rattle.mn_callers.specs.Settled.{AreUpAndFree};
 ghost use Rattle.mn_callers.specs.Stages.{GoesAs, state_of};
 ghost use Rattle.mn_callers.specs.Trace.{IsTrace, MayBegin, start_on};
 ghost use Rattle.mn_callers.specs.Turn.{IsTable, callers_count, seen_of};
-ghost use Rattle.mn_cluster.specs.Follows.{DoesIfMarked, FollowsOnThreads, GoAtOnce, GoInTurn};
-ghost use Rattle.mn_cluster.specs.Runs.{GoFirst, RunsThrough, on_past};
+ghost use Rattle.mn_cluster.specs.Follows.{DoesIfMarked, FollowsOnThreads, FollowsToClosing};
+ghost use Rattle.mn_cluster.specs.Follows.{GoAtOnce, GoInTurn};
+ghost use Rattle.mn_cluster.specs.Runs.{GoFirst, RunsThrough, RunsToClosing, on_past};
 ghost use Rattle.mn_cluster.specs.Workers.{HasWorked, IsWorker};
 ghost use Rattle.mn_cluster.specs.declared.worker.Worker.{Worker as OneWorker};
 ghost use Rattle.mn_world.specs.declared.entry.Entry.{Entry};
@@ -182,6 +183,9 @@ fn run_through<N: Named + Send + Sync, D: Disk + Send, T: Threads + Wait + Sync,
         (AreUpAndFree (length N.records) stage.new.calls.inner.stations.items) }
     ensures follows { IsFresh (state_of stage.old) → OnOk result ((past : List Entry) × HasLog
         (state_of stage.new) past × RunsThrough (start_of N.records) script.now past) }
+    ensures damaged { IsFresh (state_of stage.old) → IfErr result (λ cause. IsDamage cause
+        → (past : List Entry) × HasLog (state_of stage.new) past
+        × RunsToClosing (start_of N.records) script.now past) }
     ensures caused { IfErr result
         (IsCaused D.faults N.faults N.honest stage.new.calls.inner.stations.items) }
 {
@@ -216,12 +220,14 @@ fn run_on<N: Named + Send + Sync, D: Disk + Send, T: Threads + Wait + Sync, G: G
     requires nodes { MayBegin script.now.nodes nodes.items }
     requires named { NamesGiven D.state D.faults N.records N.faults N.honest nodes.items }
     requires run { run ≡ run_number (start_of N.records) }
-    ensures trace { IfOk result (λ trace. IsTrace D.state D.faults nodes.items trace.nodes.items
-        trace.log) }
+    ensures trace { IfOk result (λ trace. IsTrace D.state D.faults script.now nodes.items
+        trace.nodes.items trace.log) }
     ensures follows { IfOk result (λ trace. FollowsOnThreads (start_on nodes.items) script.now
         (entries_of trace.log)) }
-    ensures failed { IfErr result (λ failed. FailsSo D.state D.faults nodes.items
+    ensures failed { IfErr result (λ failed. FailsSo D.state D.faults script.now nodes.items
         failed.nodes.items failed.log failed.cause) }
+    ensures damaged { IfErr result (λ failed. IsDamage failed.cause
+        → FollowsToClosing (start_on nodes.items) script.now (entries_of failed.log)) }
 {
     runs_follow_protocol();
     records_stay_sound();
@@ -230,7 +236,7 @@ fn run_on<N: Named + Send + Sync, D: Disk + Send, T: Threads + Wait + Sync, G: G
     };
     let mut begun = Begun::<N, D, G>::new(alloc, gate, board, all, nodes, script, run)?;
     let played = run_through(rt, &mut begun.stage, alloc, script, &mut workers);
-    begun.end(alloc, played)
+    begun.end(alloc, script, played)
 }
 
 /// Runs a script on these nodes, one for each that the script says, numbered from 0 in order and
@@ -241,9 +247,10 @@ fn run_on<N: Named + Send + Sync, D: Disk + Send, T: Threads + Wait + Sync, G: G
 /// that are marked `last`, one after another. Before and behind these each node that is down is
 /// restarted, and each id recovered that a node holds. Each call of a client passes the gate.
 ///
-/// `Disk`: while the run was opened or closed that node's disk failed. `Damaged`: at closing a
-/// node's disk had another list than the node, which an honest disk never has. `NoMemory`: there
-/// was no memory for the run, and its log is empty. The nodes come back as they are then.
+/// `Disk`: while the run was opened or closed that node's disk failed. `Damaged`: at a closing,
+/// behind all operations of the clients before it, a node's disk had another list than the node,
+/// which an honest disk never has. `NoMemory`: there was no memory for the run, and its log is
+/// empty. The nodes come back as they are then.
 pub fn run_threads<D: Disk + Send, T: Threads + Wait + Sync, G: Gate + Sync>(
     rt: &T,
     alloc: Global,
@@ -254,12 +261,14 @@ pub fn run_threads<D: Disk + Send, T: Threads + Wait + Sync, G: Gate + Sync>(
 ) -> Result<Trace<D>, RunFailed<D>>
     requires nodes { MayBegin script.now.nodes nodes.items }
     requires run { run ≡ run_number (start_on nodes.items) }
-    ensures trace { IfOk result (λ trace. IsTrace D.state D.faults nodes.items trace.nodes.items
-        trace.log) }
+    ensures trace { IfOk result (λ trace. IsTrace D.state D.faults script.now nodes.items
+        trace.nodes.items trace.log) }
     ensures follows { IfOk result (λ trace. FollowsOnThreads (start_on nodes.items) script.now
         (entries_of trace.log)) }
-    ensures failed { IfErr result (λ failed. FailsSo D.state D.faults nodes.items
+    ensures failed { IfErr result (λ failed. FailsSo D.state D.faults script.now nodes.items
         failed.nodes.items failed.log failed.cause) }
+    ensures damaged { IfErr result (λ failed. IsDamage failed.cause
+        → FollowsToClosing (start_on nodes.items) script.now (entries_of failed.log)) }
 {
     match Board::<CoreLaw>::new(alloc, script.nodes(), CALLERS) {
         Ok((board, all)) => {

@@ -10,7 +10,7 @@ ghost use Rattle.mn_redo.specs.declared.redo.Phase.TheVariants.{Closing, Started
 ghost use Rattle.mn_mini.specs.RecordGrammar.{IsRecord};
 ghost use Rattle.mn_mini.specs.Sound.{Fits, IsDecide, IsSoundRequest};
 ghost use Rattle.mn_io.specs.DiskModel.{LeavesOnly, NoneNew, DiskStays, WritesNothing};
-ghost use Rattle.mn_node.specs.Node.{IsWithOrWithout, StandsWithOrWithout, bodies_of};
+ghost use Rattle.mn_node.specs.Node.{IsWithOrWithout, StandsWithOrWithout, added_to, bodies_of};
 ghost use Rattle.mn_node.specs.Restart.{FailsRestart, RestartLeaves};
 ghost use Rattle.mn_node.specs.State.{Answers, NodeKeepsDisk, IsFirstBadBody, IsStarted};
 ghost use Rattle.mn_node.specs.State.{HoldsPartsApart};
@@ -271,10 +271,12 @@ impl<D: Disk> Node<D> {
         }
     }
 
-    /// Its records, the oldest first.
+    /// Its records, the oldest first. It tells that these are such as there may be, with the one of
+    /// the request inside which the node stopped.
     pub fn records(&self) -> &[Record]
         ensures records { result.now ≡ self.now.records }
         ensures sound { AllByRecursion IsRecord result.now }
+        ensures left { AllByRecursion IsRecord (added_to self.now.records self.now.pending) }
     {
         &self.memory.records
     }

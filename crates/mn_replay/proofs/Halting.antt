@@ -1,5 +1,5 @@
 -- Halts and restarts between two turns.
-use Rattle.std.proofs.Common.{◌≡◌, ℕ, ◌⊎◌, Bool, true, false, Some, List, [], ◌∷◌, reverse, MatchBool, Result, Ok, Err, IsOk, OnErr, OnOk, None, refl, sym, ap, ◌∙◌, subst, inl, inr, ⊎_elim}
+use Rattle.std.proofs.Common.{◌≡◌, ℕ, ◌⊎◌, Bool, true, false, Some, List, [], ◌∷◌, ◌++◌, reverse, MatchBool, Result, Ok, Err, IsOk, OnErr, OnOk, None, refl, sym, ap, ◌∙◌, subst, inl, inr, ⊎_elim}
 use Rattle.std.specs.Prelude.{slice_get}
 use Rattle.std.specs.List.{AllByRecursion}
 use Rattle.std.proofs.lemmas.List.{append-nil, append_cancel_left, reverse-reverse}
@@ -13,7 +13,7 @@ use Rattle.mn_cell.proofs.Owed.{newest_entry}
 use Rattle.mn_world.specs.declared.entry.Entry.{Entry}
 use Rattle.mn_world.specs.declared.entry.What.{What}
 use Rattle.mn_world.specs.declared.entry.What.TheVariants.{Stopped, Restarted}
-use Rattle.mn_world.specs.Calls.{call_in, is_in_doubt, node_entries}
+use Rattle.mn_world.specs.Calls.{Begun, begun_in, begun_of, call_in, is_in_doubt, node_entries}
 use Rattle.mn_world.specs.Lists.{ClientState}
 use Rattle.mn_world.specs.Nodes.{is_down}
 use Rattle.mn_world.specs.Protocol.{IsOfRun, Start}
@@ -36,14 +36,15 @@ use Rattle.mn_replay.specs.Schedule.{HaltsNode, RestartsNode, with_entry}
 -- The list of the coordinator that opens and closes
 
 -- a step at a node that is no call
-adds_recovery : (start : Start) (old new : ClientState) (n : NodeNo) (what : What) → IsOfRun start what → call_in (Some n) what ≡ [] → Adds (entry_at n old.client what) old new → IsOfRecovery start old → IsOfRecovery start new
-adds_recovery start old new n what of_run none adds of =
+adds_recovery : (start : Start) (old new : ClientState) (n : NodeNo) (what : What) → IsOfRun start what → call_in (Some n) what ≡ [] → begun_in what ≡ [] → Adds (entry_at n old.client what) old new → IsOfRecovery start old → IsOfRecovery start new
+adds_recovery start old new n what of_run none begins adds of =
     let e = entry_at n old.client what in
     let entries : entries_of new.entries ≡ e ∷ entries_of old.entries = ap (λ (l : List (ℕ × Entry)). entries_of l) adds.ends ∙ newest_entry old.entries adds.place e in
     record {
       own = subst (λ (c : ClientNo). AllByRecursion (λ e. e.client ≡ Some c) (entries_of new.entries)) (sym adds.client)
           (subst (λ (es : List Entry). AllByRecursion (λ e. e.client ≡ Some old.client) es) (sym entries) (refl, of.own));
       of_run = subst (λ (es : List Entry). AllByRecursion (IsIssueOf start) es) (sym entries) (of_run, of.of_run);
+      begins_none = ap begun_of entries ∙ (ap (λ (bs : List Begun). bs ++ begun_of (entries_of old.entries)) begins ∙ of.begins_none);
       free = subst (λ (es : List Entry). DoubtsNothing es) (sym entries) (λ tid. doubts tid (entries_of old.entries) (of.free tid));
     }
   where
@@ -51,7 +52,7 @@ adds_recovery start old new n what of_run none adds of =
     doubts tid es is = rw none is
 
 pub halt_recovery : {D E : Type 0} {stations : List (StationState D)} (start : Start) (old new : ClientState) (n : NodeNo) (r : Result (Unit {0}) E) → Halts n stations r old new → OnErr r (KeepsList old new) → IsOfRecovery start old → IsOfRecovery start new
-halt_recovery start old new n (Ok u) halts none of = ⊎_elim (λ keeps. recovery_keeps start old new of keeps) (λ adds. adds_recovery start old new n (Stopped None None) tt refl adds of) (went_either_way n _ halts)
+halt_recovery start old new n (Ok u) halts none of = ⊎_elim (λ keeps. recovery_keeps start old new of keeps) (λ adds. adds_recovery start old new n (Stopped None None) tt refl refl adds of) (went_either_way n _ halts)
 halt_recovery start old new n (Err e) halts none of = recovery_keeps start old new of none
 
 pub restart_recovery : {D E : Type 0} {stations : List (StationState D)} (start : Start) (old new : ClientState) (n : NodeNo) (r : Result (Unit {0}) E) → Restarts n stations r old new → OnErr r (KeepsList old new) → IsOfRecovery start old → IsOfRecovery start new

@@ -8,6 +8,7 @@ ghost use Rattle.mn_world.specs.Protocol.{start_of};
 ghost use Rattle.mn_callers.specs.Causes.{IsCaused};
 ghost use Rattle.mn_callers.specs.Clients.{last_shared};
 ghost use Rattle.mn_callers.specs.Desks.{IsDesk};
+ghost use Rattle.mn_callers.specs.Failed.{IsDamage};
 ghost use Rattle.mn_callers.specs.Logs.{HasLog, IsFresh};
 ghost use Rattle.mn_callers.specs.Plays.{AreReady, IsOfSome, IsPlay, StayReady, StaysPlay};
 ghost use Rattle.mn_callers.specs.Recoveries.{bench_of};
@@ -233,6 +234,9 @@ pub fn play<N: Named, D: Disk>(
     ensures follows { IsFresh (state_of stage.old) → OnOk result ((past : List Entry) × HasLog
         (state_of stage.new) past × IsPlayed (AreFreeIfSound (start_of N.records)) script.now
         past) }
+    ensures damaged { IsFresh (state_of stage.old) → IfErr result (λ cause. IsDamage cause
+        → (past : List Entry) × HasLog (state_of stage.new) past
+        × IsPlayed (AreFreeIfSound (start_of N.records)) script.now past) }
     ensures caused { IfErr result
         (IsCaused D.faults N.faults N.honest stage.new.calls.inner.stations.items) }
 {

@@ -6,7 +6,7 @@ ghost use Rattle.mn_actors.specs.Lists.{held};
 ghost use Rattle.mn_actors.specs.Sight.{board_of, clients_of, id_of, nodes_of, view_of};
 ghost use Rattle.mn_world.specs.Protocol.{run_number, start_of};
 ghost use Rattle.mn_world.specs.Run.{entries_of};
-ghost use Rattle.mn_callers.specs.Failed.{FailsSo};
+ghost use Rattle.mn_callers.specs.Failed.{FailsSo, IsDamage};
 ghost use Rattle.mn_replay.specs.Follows.{Follows};
 ghost use Rattle.mn_callers.specs.Plays.{NamesGiven};
 ghost use Rattle.mn_callers.specs.Trace.{IsTrace, MayBegin, start_on};
@@ -42,19 +42,21 @@ fn play_on<N: Named, D: Disk>(
     requires nodes { MayBegin script.now.nodes nodes.items }
     requires named { NamesGiven D.state D.faults N.records N.faults N.honest nodes.items }
     requires run { run ≡ run_number (start_of N.records) }
-    ensures trace { IfOk result (λ trace. IsTrace D.state D.faults nodes.items trace.nodes.items
-        trace.log) }
+    ensures trace { IfOk result (λ trace. IsTrace D.state D.faults script.now nodes.items
+        trace.nodes.items trace.log) }
     ensures follows { IfOk result (λ trace. Follows (start_on nodes.items) script.now
         (entries_of trace.log)) }
-    ensures failed { IfErr result (λ failed. FailsSo D.state D.faults nodes.items
+    ensures failed { IfErr result (λ failed. FailsSo D.state D.faults script.now nodes.items
         failed.nodes.items failed.log failed.cause) }
+    ensures damaged { IfErr result (λ failed. IsDamage failed.cause
+        → Follows (start_on nodes.items) script.now (entries_of failed.log)) }
 {
     runs_follow_protocol();
     records_stay_sound();
     let gate = OpenGate;
     let mut begun = Begun::<N, D, OpenGate>::new(alloc, &gate, board, all, nodes, script, run)?;
     let played = play(alloc, &mut begun.stage, script);
-    begun.end(alloc, played)
+    begun.end(alloc, script, played)
 }
 
 /// Runs a script on these nodes, one for each that the script says, numbered from 0 in order and
@@ -63,9 +65,10 @@ fn play_on<N: Named, D: Disk>(
 /// recovered that a node holds, then the acts are done, then all that each client has left; then
 /// each node that is down is restarted, and each id recovered that a node holds.
 ///
-/// `Disk`: while the run was opened or closed that node's disk failed. `Damaged`: at closing a
-/// node's disk had another list than the node, which an honest disk never has. `NoMemory`: there
-/// was no memory for the run, and its log is empty. The nodes come back as they are then.
+/// `Disk`: while the run was opened or closed that node's disk failed. `Damaged`: at closing, when
+/// the whole script was played, a node's disk had another list than the node, which an honest disk
+/// never has. `NoMemory`: there was no memory for the run, and its log is empty. The nodes come
+/// back as they are then.
 pub fn replay<D: Disk>(
     alloc: Global,
     nodes: Vec<Node<D>>,
@@ -74,12 +77,14 @@ pub fn replay<D: Disk>(
 ) -> Result<Trace<D>, RunFailed<D>>
     requires nodes { MayBegin script.now.nodes nodes.items }
     requires run { run ≡ run_number (start_on nodes.items) }
-    ensures trace { IfOk result (λ trace. IsTrace D.state D.faults nodes.items trace.nodes.items
-        trace.log) }
+    ensures trace { IfOk result (λ trace. IsTrace D.state D.faults script.now nodes.items
+        trace.nodes.items trace.log) }
     ensures follows { IfOk result (λ trace. Follows (start_on nodes.items) script.now
         (entries_of trace.log)) }
-    ensures failed { IfErr result (λ failed. FailsSo D.state D.faults nodes.items
+    ensures failed { IfErr result (λ failed. FailsSo D.state D.faults script.now nodes.items
         failed.nodes.items failed.log failed.cause) }
+    ensures damaged { IfErr result (λ failed. IsDamage failed.cause
+        → Follows (start_on nodes.items) script.now (entries_of failed.log)) }
 {
     match Board::<CoreLaw>::new(alloc, script.nodes(), CALLERS) {
         Ok((board, all)) => play_on::<Brand, D>(alloc, board, all, nodes, script, run),

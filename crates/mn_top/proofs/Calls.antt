@@ -9,7 +9,7 @@ use Rattle.mn_top.specs.declared.due.Due.TheVariants.{Report, Usage, Refused, Re
 use Rattle.mn_top.specs.declared.words.Command.{Command}
 use Rattle.mn_top.specs.declared.words.Command.TheVariants.{Replay, Run, Gen, Check}
 use Rattle.mn_world.specs.declared.entry.Entry.{Entry}
-use Rattle.mn_top.specs.Ending.{ComesTo, EndsEarly, IsUntouchedOrRun, Replaying}
+use Rattle.mn_top.specs.Ending.{ComesTo, EndsEarly, HasFailed, Replaying}
 use Rattle.mn_top.specs.Program.{IsDue, IsDueBefore, IsLine}
 use Rattle.mn_top.specs.Words.{AskFor, AskScript, Asked, Asks, Text, asked_on, is_there, plays_script}
 
@@ -49,12 +49,14 @@ err_before words known failed given (Ok x) why = why
 err_before words known failed given (Err due) why = due_before words known failed given due why
 
 -- where there is no memory for a line, that is told, and it is true of the replay too
-early : {D : Type 0} (state : D → DiskState) (faults : D → ℕ) (r : Replaying D) → IsUntouchedOrRun state faults r → EndsEarly state faults r
-early state faults r (inl none) = inl none
-early state faults r (inr run) = inr (r.log, run, inl refl)
+early : {D : Type 0} (state : D → DiskState) (faults : D → ℕ) (r : Replaying D) (node : ℕ) → HasFailed state faults r node → EndsEarly state faults r
+early state faults r node failed = elim failed.log as (λ _. EndsEarly state faults r) [
+  | inl none ↦ inl none.0
+  | inr run ↦ inr (r.log, run, inl refl)
+]
 
 told_instead : {D : Type 0} (state : D → DiskState) (faults : D → ℕ) (r : Replaying D) (due : Due) → IsLine due → ComesTo state faults r due → ComesTo state faults r NoMemory
-told_instead state faults r (DiskFault node) line comes = early state faults r comes.log
+told_instead state faults r (DiskFault node) line comes = early state faults r node comes
 told_instead state faults r (Damaged node place Log) line comes = inl comes.0
 told_instead state faults r (Damaged node place Votes) line comes = inl comes.0
 told_instead state faults r (Damaged node place Both) line comes = inl comes.0

@@ -3,7 +3,7 @@ use Rattle.std.proofs.Common.{◌≡◌, ◌<◌, ◌≤◌, ◌+◌, ◌++◌, 
 use Rattle.std.specs.Prelude.{◌⊎◌, slice_get, IsSome}
 use Rattle.std.specs.List.{AllByRecursion}
 use Rattle.std.proofs.lemmas.Bool.{ne_eqb}
-use Rattle.std.proofs.lemmas.List.{reverse-append}
+use Rattle.std.proofs.lemmas.List.{reverse-append, reverse-reverse}
 use Rattle.mn_base.specs.History.{store_after}
 use Rattle.mn_base.specs.Store.{Store}
 use Rattle.mn_base.specs.declared.ids.NodeNo.{NodeNo}
@@ -12,7 +12,10 @@ use Rattle.mn_io.specs.DiskModel.{DiskState}
 use Rattle.mn_mini.specs.declared.record.Record.{Record}
 use Rattle.mn_mini.proofs.Parts.{same_self}
 use Rattle.mn_mini.specs.Node.{with_added}
+use Rattle.mn_mini.specs.RecordGrammar.{IsRecord}
 use Rattle.mn_node.specs.Node.{added_to, bodies_of}
+use Rattle.mn_node.proofs.Built.{all-reverse}
+use Rattle.mn_node.proofs.Found.{first_sound, pending_sound}
 use Rattle.mn_redo.specs.Grammar.{Stands}
 use Rattle.mn_world.specs.declared.entry.Entry.{Entry}
 use Rattle.mn_world.specs.declared.entry.What.TheVariants.{Restarted}
@@ -29,7 +32,7 @@ use Rattle.mn_top.specs.Crashes.{AreOpenable, HoldStore, StayOpenable, bases}
 use Rattle.mn_top.specs.declared.due.DamageRule.TheVariants.{Log, Votes, Both, Forest, Runs, Kept}
 use Rattle.mn_top.specs.declared.due.Due.{Due}
 use Rattle.mn_top.specs.declared.due.Due.TheVariants.{Report, Usage, Refused, ReadFault, DiskFault, Damaged, NoMemory, Disks, Unbuilt}
-use Rattle.mn_top.specs.Ending.{ComesTo, EndsEarly, HasRun, IsUntouchedOrRun}
+use Rattle.mn_top.specs.Ending.{ComesTo, EndsEarly, HasFailed, HasRun}
 use Rattle.mn_top.specs.Opening.{AreUnwritten}
 use Rattle.mn_top.specs.Replayed.{left_behind}
 use Rattle.mn_top.proofs.Gets.{one_at, there_at, within}
@@ -52,18 +55,27 @@ module _ (start : Start) (past : List Entry) (images : List (List ℕ)) where
     pub are : AllByRecursion (λ e. IsStop e.what) stops
     pub follow : FollowsProtocol start (stops ++ past)
     pub others : (n : NodeNo) → m ≤ n.0 → node_entries n (stops ++ past) ≡ node_entries n past
+    pub sound : (k : ℕ) → k < m → AllByRecursion IsRecord (records_of start (stops ++ past) (numbered k))
     pub stand : (k : ℕ) (image : List ℕ) → k < m → slice_get images k ≡ Some image
         → Stands k (start_nodes start) image (bodies_of (reverse (records_of start (stops ++ past) (numbered k))))
 
   none_yet : FollowsProtocol start past → Chosen 0
-  none_yet follow = record { stops = []; are = tt; follow = follow; others = λ n le. refl; stand = λ k image low is. absurd (omega (arith, low)) }
+  none_yet follow = record { stops = []; are = tt; follow = follow; others = λ n le. refl; sound = λ k low. absurd (omega (arith, low)); stand = λ k image low is. absurd (omega (arith, low)) }
 
-  module _ (m : ℕ) (among : m < start_nodes start) (before : Chosen m) where
+  abbrev LeftSound : ℕ → Type 0
+  LeftSound m = AllByRecursion IsRecord (added_to (reverse (records_of start past (numbered m))) (left_behind start past (numbered m)))
+
+  module _ (m : ℕ) (among : m < start_nodes start) (before : Chosen m) (left : LeftSound m) where
     here : node_entries (numbered m) (before.stops ++ past) ≡ node_entries (numbered m) past
     here = before.others (numbered m) (omega arith)
 
     abbrev recs : List Entry → List Record
     recs es = node_records (base_at start (numbered m)) (start_records start (numbered m)) es
+
+    sound_here : AllByRecursion IsRecord (recs (node_entries (numbered m) past))
+    sound_here =
+        subst (AllByRecursion IsRecord) (reverse-reverse (records_of start past (numbered m)))
+        (all-reverse IsRecord (reverse (records_of start past (numbered m))) (first_sound (reverse (records_of start past (numbered m))) (left_behind start past (numbered m)) left))
 
     -- it has its records already
     stays : (image : List ℕ) → slice_get images m ≡ Some image → Stands m (start_nodes start) image (bodies_of (reverse (recs (node_entries (numbered m) past)))) → Chosen (m + 1)
@@ -72,6 +84,7 @@ module _ (start : Start) (past : List Entry) (images : List (List ℕ)) where
       are = before.are;
       follow = before.follow;
       others = λ n le. before.others n (omega (arith, le));
+      sound = below_more (λ j. AllByRecursion IsRecord (records_of start (before.stops ++ past) (numbered j))) m before.sound (subst (λ (es : List Entry). AllByRecursion IsRecord (recs es)) (sym here) sound_here);
       stand = λ k other low is.
           below_more (λ j. (c : List ℕ) → slice_get images j ≡ Some c → Stands j (start_nodes start) c (bodies_of (reverse (records_of start (before.stops ++ past) (numbered j))))) m
           (λ j lower c there. before.stand j c lower there)
@@ -83,7 +96,7 @@ module _ (start : Start) (past : List Entry) (images : List (List ℕ)) where
 
     -- it comes back with one more
     module _ (image : List ℕ) (r : Record) (at : slice_get images m ≡ Some image) (down : is_down (node_entries (numbered m) past) ≡ true)
-        (added : added_by (base_at start (numbered m)) (recs (node_entries (numbered m) past)) (stopped_request (node_entries (numbered m) past)) ≡ Some r)
+        (added : added_by (base_at start (numbered m)) (recs (node_entries (numbered m) past)) (stopped_request (node_entries (numbered m) past)) ≡ Some r) (one : IsRecord r)
         (stands : Stands m (start_nodes start) image (bodies_of (reverse (recs (node_entries (numbered m) past)) ++ r ∷ []))) where
       allowed : NodeAllows (base_at start (numbered m)) (start_records start (numbered m)) (node_entries (numbered m) (before.stops ++ past)) (Restarted true)
       allowed = subst (λ (es : List Entry). NodeAllows (base_at start (numbered m)) (start_records start (numbered m)) es (Restarted true)) (sym here) (down, subst (λ (o : Option Record). IsSome o) (sym added) refl)
@@ -104,6 +117,11 @@ module _ (start : Start) (past : List Entry) (images : List (List ℕ)) where
         are = (tt, before.are);
         follow = (before.follow, record { actor = tt; at_node = (among, allowed); by_client = tt; of_run = tt });
         others = λ n le. beside m n (before.stops ++ past) (λ e. omega (arith, le, e)) ∙ before.others n (omega (arith, le));
+        sound = below_more (λ j. AllByRecursion IsRecord (records_of start (back m ∷ (before.stops ++ past)) (numbered j))) m
+            (λ j lower.
+            subst (λ (es : List Entry). AllByRecursion IsRecord (node_records (base_at start (numbered j)) (start_records start (numbered j)) es))
+            (sym (beside m (numbered j) (before.stops ++ past) (λ e. omega (arith, lower, e)))) (before.sound j lower))
+            (subst (AllByRecursion IsRecord) (sym records_are) (one, sound_here));
         stand = λ k other low is.
             below_more (λ j. (c : List ℕ) → slice_get images j ≡ Some c → Stands j (start_nodes start) c (bodies_of (reverse (records_of start (back m ∷ (before.stops ++ past)) (numbered j))))) m
             (λ j lower c there.
@@ -116,36 +134,38 @@ module _ (start : Start) (past : List Entry) (images : List (List ℕ)) where
     -- as its image says
     by_down : (image : List ℕ) → slice_get images m ≡ Some image → (down : Bool) (added : Option Record) → is_down (node_entries (numbered m) past) ≡ down
         → added_by (base_at start (numbered m)) (recs (node_entries (numbered m) past)) (stopped_request (node_entries (numbered m) past)) ≡ added
+        → AllByRecursion IsRecord (added_to (reverse (recs (node_entries (numbered m) past))) (if down then added else None))
         → Stands m (start_nodes start) image (bodies_of (added_to (reverse (recs (node_entries (numbered m) past))) (if down then added else None))) → Chosen (m + 1)
-    by_down image at true (Some r) down added stands = comes image r at down added stands
-    by_down image at true None down added stands = stays image at stands
-    by_down image at false added down is stands = stays image at stands
+    by_down image at true (Some r) down added sound stands = comes image r at down added (pending_sound (reverse (recs (node_entries (numbered m) past))) (Some r) r refl sound) stands
+    by_down image at true None down added sound stands = stays image at stands
+    by_down image at false added down is sound stands = stays image at stands
 
     chosen_by : (image : List ℕ) → slice_get images m ≡ Some image → Stands m (start_nodes start) image (bodies_of (reverse (records_of start past (numbered m))))
         ⊎ Stands m (start_nodes start) image (bodies_of (added_to (reverse (records_of start past (numbered m))) (left_behind start past (numbered m)))) → Chosen (m + 1)
     chosen_by image at (inl stands) = stays image at stands
     chosen_by image at (inr stands) =
-        by_down image at (is_down (node_entries (numbered m) past)) (added_by (base_at start (numbered m)) (recs (node_entries (numbered m) past)) (stopped_request (node_entries (numbered m) past))) refl refl stands
+        by_down image at (is_down (node_entries (numbered m) past)) (added_by (base_at start (numbered m)) (recs (node_entries (numbered m) past)) (stopped_request (node_entries (numbered m) past))) refl refl left stands
 
   -- all of them
-  chosen : FollowsProtocol start past → length images ≡ start_nodes start
+  chosen : FollowsProtocol start past → ((k : ℕ) → k < start_nodes start → LeftSound k) → length images ≡ start_nodes start
       → ((k : ℕ) (image : List ℕ) → slice_get images k ≡ Some image → Stands k (start_nodes start) image (bodies_of (reverse (records_of start past (numbered k))))
       ⊎ Stands k (start_nodes start) image (bodies_of (added_to (reverse (records_of start past (numbered k))) (left_behind start past (numbered k))))) → (m : ℕ) → m ≤ start_nodes start → Chosen m
-  chosen follow count each zero le = none_yet follow
-  chosen follow count each (suc m) le =
-      let before = chosen follow count each m (omega (arith, le)) in
+  chosen follow left count each zero le = none_yet follow
+  chosen follow left count each (suc m) le =
+      let before = chosen follow left count each m (omega (arith, le)) in
       let there = there_at images m (omega (arith, le, count)) in
-      subst Chosen (add-one m) (chosen_by m (omega (arith, le)) before there.0 there.1 (each m there.0 there.1))
+      subst Chosen (add-one m) (chosen_by m (omega (arith, le)) before (left m (omega (arith, le))) there.0 there.1 (each m there.0 there.1))
 
-  pub hold : StopsLeaveOpened → FollowsProtocol start past → (store : Store) → OpenedRun start store past → length images ≡ start_nodes start
+  pub hold : StopsLeaveOpened → FollowsProtocol start past → ((k : ℕ) → k < start_nodes start → LeftSound k) → (store : Store) → OpenedRun start store past → length images ≡ start_nodes start
       → ((k : ℕ) (image : List ℕ) → slice_get images k ≡ Some image → Stands k (start_nodes start) image (bodies_of (reverse (records_of start past (numbered k))))
       ⊎ Stands k (start_nodes start) image (bodies_of (added_to (reverse (records_of start past (numbered k))) (left_behind start past (numbered k))))) → HoldStore images
-  hold leave follow store run count each =
-      let all = chosen follow count each (start_nodes start) (omega arith) in
+  hold leave follow left store run count each =
+      let all = chosen follow left count each (start_nodes start) (omega arith) in
       let opened = leave start store past all.stops run all.are all.follow in
       record {
         lists = records_of start (all.stops ++ past);
         store = store_after store (pasts_of opened.0);
+        sound = λ n low. all.sound n.0 (omega (arith, low, count));
         stand = λ k image is.
             subst (λ (n : ℕ). Stands k n image (bodies_of (reverse (records_of start (all.stops ++ past) (numbered k))))) (sym count)
             (all.stand k image (let low = within images k image is in omega (arith, low, count)) is);
@@ -175,16 +195,23 @@ module _ {D : Type 0} (state : D → DiskState) (given left : List D) (count : l
       honest = λ k new is. let old = given_at k new is in (run.disks k old.0 new old.1 is).honest (open'.honest k old.0 old.1);
       hold = λ images are.
           let start = start_of run.records in
-          hold start (entries_of past) images leave (follow start (entries_of past) run.run.run) run.store (record { opened = run.opened; run = run.run.run }) (are.count ∙ count ∙ sym run.shown.count)
+          hold start (entries_of past) images leave (follow start (entries_of past) run.run.run)
+          (λ k low.
+          let old = there_at given k (let same = run.shown.count in omega (arith, low, same)) in
+          let new = there_at left k (let same = run.shown.count in omega (arith, low, same, count)) in
+          (run.disks k old.0 new.0 old.1 new.1).sound)
+          run.store (record { opened = run.opened; run = run.run.run }) (are.count ∙ count ∙ sym run.shown.count)
           (λ k image is.
           let new = there_at left k (let low = within images k image is in omega (arith, low, are.count)) in
           let old = given_at k new.0 new.1 in
           (run.disks k old.0 new.0 old.1 new.1).stands (open'.honest k old.0 old.1) image (are.each k new.0 image new.1 is));
     }
 
-    either : IsUntouchedOrRun state faults (record { command = command; script = script; given = given; left = left; log = log }) → StayOpenable state given left
-    either (inl same) = untouched same.0
-    either (inr run) = ran log run
+    after_fault : (n : ℕ) → HasFailed state faults (record { command = command; script = script; given = given; left = left; log = log }) n → StayOpenable state given left
+    after_fault n failed = elim failed.log as (λ _. StayOpenable state given left) [
+      | inl same ↦ untouched same.0.0
+      | inr run ↦ ran log run
+    ]
 
     early : EndsEarly state faults (record { command = command; script = script; given = given; left = left; log = log }) → StayOpenable state given left
     early (inl same) = untouched same.0
@@ -198,9 +225,10 @@ module _ {D : Type 0} (state : D → DiskState) (given left : List D) (count : l
       opened = done.opened;
       numbered_so = done.numbered_so;
       run = done.run;
+      of_script = done.of_script;
       disks = λ k old new was is. (done.disks k old new was is).0;
     })
-    stay (DiskFault n) failed = either failed.log
+    stay (DiskFault n) failed = after_fault n failed
     stay (Damaged n place Log) damage = untouched damage.0.0
     stay (Damaged n place Votes) damage = untouched damage.0.0
     stay (Damaged n place Both) damage = untouched damage.0.0

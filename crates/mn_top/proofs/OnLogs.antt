@@ -157,6 +157,7 @@ module _ {D : Type 0} (state : D → DiskState) (faults : D → ℕ) (given : Li
         let more = still.later in
         record {
           honest = λ h. still.honest (read.unwritten.honest h);
+          sound = subst (AllByRecursion IsRecord) (list_is k list.0 list.1) read.records.sound;
           stands = λ h c image. inl (
               subst (λ (l : List Record). Stands k (length records) c (bodies_of l)) (list_is k list.0 list.1)
               (subst (λ (l : List (List ℕ)). Stands k (length records) c l) read.records.bodies_are
@@ -169,7 +170,7 @@ module _ {D : Type 0} (state : D → DiskState) (faults : D → ℕ) (given : Li
         }
 
     no_run : HasRun state faults (record { command = command; script = script; given = given; left = left; log = [] }) []
-    no_run = record { records = records; shown = shown; store = store; opened = made.opened; numbered_so = made.numbered_so; run = record { places = refl; run = tt }; disks = still_at }
+    no_run = record { records = records; shown = shown; store = store; opened = made.opened; numbered_so = made.numbered_so; run = record { places = refl; run = tt }; of_script = record { plain = λ c low. refl; begins = λ c. refl }; disks = still_at }
 
     fault_at : (due' : Due) → IsDueAtStart faults redos left due' → ComesTo state faults (record { command = command; script = script; given = given; left = left; log = [] }) due'
     fault_at (DiskFault n) failed =

@@ -1,6 +1,7 @@
 -- What a run on started nodes leaves of the disks.
 use Rattle.std.proofs.Common.{◌≡◌, ◌<◌, ◌≤◌, ◌∙◌, ℕ, suc, List, [], ◌∷◌, Bool, true, false, length, map, reverse, refl, ap, sym, subst, arith, inl, inr, Option, Some, None, if◌then◌else◌}
 use Rattle.std.specs.Prelude.{slice_get}
+use Rattle.std.specs.List.{AllByRecursion}
 use Rattle.std.proofs.lemmas.List.{length-map, reverse-reverse}
 use Rattle.mn_base.specs.Store.{Store}
 use Rattle.mn_base.specs.declared.ids.NodeNo.{NodeNo}
@@ -11,12 +12,14 @@ use Rattle.mn_cell.specs.declared.trace.RunCause.TheVariants as runs
 use Rattle.mn_cell.proofs.Made.{all_keep_on}
 use Rattle.mn_io.specs.DiskModel.{DiskState}
 use Rattle.mn_mini.specs.declared.record.Record.{Record}
-use Rattle.mn_node.specs.Node.{StandsWithOrWithout, bodies_of}
+use Rattle.mn_mini.specs.RecordGrammar.{IsRecord}
+use Rattle.mn_node.specs.Node.{StandsWithOrWithout, added_to, bodies_of}
 use Rattle.mn_node.specs.State.{NodeState}
+use Rattle.mn_node.proofs.Found.{first_sound}
 use Rattle.mn_node.proofs.Steps.{rose_later}
 use Rattle.mn_redo.specs.Redo.{StandsFor}
-use Rattle.mn_callers.specs.Failed.{FailsSo, HadOther, HasCause, IsRunOn, TellsRun}
-use Rattle.mn_callers.specs.Trace.{AreHandedBack, IsHandedBack, IsQuiet, IsTrace, StartsSound, start_on}
+use Rattle.mn_callers.specs.Failed.{FailsSo, HadOther, HasCause, IsDamage, IsRunOn, TellsRun}
+use Rattle.mn_callers.specs.Trace.{AreHandedBack, IsHandedBack, IsOfScript, IsQuiet, IsTrace, StartsSound, start_on}
 use Rattle.mn_script.specs.Script.{Script}
 use Rattle.mn_top.specs.declared.words.Command.{Command}
 use Rattle.mn_world.specs.declared.entry.Entry.{Entry}
@@ -24,12 +27,13 @@ use Rattle.mn_world.specs.Calls.{node_entries}
 use Rattle.mn_world.specs.Nodes.{added_by, is_down, stopped_request}
 use Rattle.mn_world.specs.Protocol.{Start, base_at, records_of, start_nodes, start_of}
 use Rattle.mn_world.specs.Run.{IsLogOfRun, entries_of}
+use Rattle.mn_world.specs.Undisturbed.{UndisturbedIsAnswered}
 use Rattle.mn_top.specs.declared.due.Due.{Due}
 use Rattle.mn_top.specs.declared.due.Due.TheVariants.{Report, Usage, Refused, ReadFault, DiskFault, Damaged, NoMemory, Disks, Unbuilt}
 use Rattle.mn_top.specs.Ending.{ComesTo, HasRun}
 use Rattle.mn_top.specs.Logs.{AllCloseSo, AreReady, ClosesSo, IsReady, IsToldOf, MakeStart, due_of_failing}
 use Rattle.mn_top.specs.Opening.{Show}
-use Rattle.mn_top.specs.Replayed.{FollowsBy, IsLeft, StandsAsLogged, left_behind}
+use Rattle.mn_top.specs.Replayed.{FollowsBy, FollowsToClosingBy, IsLeft, StandsAsLogged, left_behind}
 use Rattle.mn_top.proofs.Gets.{map_at, mapped_at, there_at, within}
 use Rattle.mn_top.proofs.Starting.{all_at}
 
@@ -72,10 +76,19 @@ module _ {D : Type 0} (state : D → DiskState) (faults : D → ℕ) (start : St
   stands_behind : (state left.disk).honest → StandsWithOrWithout (state left.disk) n.0 (start_nodes start) (reverse (records_of start past n)) (left_behind start past n)
   stands_behind = stands_by (is_down (node_entries n past)) refl
 
+  sound_by : (down : Bool) → is_down (node_entries n past) ≡ down → AllByRecursion IsRecord (added_to (reverse (records_of start past n)) (left_behind start past n))
+  sound_by true is =
+      subst (λ (o : Option Record). AllByRecursion IsRecord (added_to (reverse (records_of start past n)) o)) (back.pending (back.down ∙ is) ∙ sym (behind_down is))
+      (subst (λ (l : List Record). AllByRecursion IsRecord (added_to l left.pending)) records_are back.sound)
+  sound_by false is =
+      subst (λ (o : Option Record). AllByRecursion IsRecord (added_to (reverse (records_of start past n)) o)) (sym (behind_up is))
+      (subst (AllByRecursion IsRecord) records_are (first_sound left.records left.pending back.sound))
+
   -- as it was before the node was started on it
   node_left : (old : D) → ((state old).honest → (state given.disk).honest) → faults old ≤ faults given.disk → IsLeft state faults start past n old left.disk
   node_left old honest later = record {
     honest = λ h. back.honest (honest h);
+    sound = sound_by (is_down (node_entries n past)) refl;
     stands = λ h. stands_behind (back.honest (honest h));
     stops = back.stops;
     counted = rose_before _ (faults old) (faults given.disk) (faults left.disk) later back.counted;
@@ -147,18 +160,18 @@ module _ {D : Type 0} (state : D → DiskState) (faults : D → ℕ) (given : Li
         subst (λ (d : D). StandsFor (state d) k (length records) (bodies_of (reverse (records_of (start_of records) past (numbered k))))) n.4
         (up_stands state faults (start_of records) past (numbered k) m w so (all_at (ClosesSo state) after k w close n.3) (up (numbered k) low) (so.honest (begun.1.honest h)))
 
-    same_run : (past : List (ℕ × Entry)) → IsRunOn state faults nodes after past → IsLogOfRun (start_of records) past × AreHandedBack state faults (start_of records) (entries_of past) nodes after
-    same_run past run = subst (λ (s : Start). IsLogOfRun s past × AreHandedBack state faults s (entries_of past) nodes after) start_same run
+    same_run : (past : List (ℕ × Entry)) → IsRunOn state faults script nodes after past → IsLogOfRun (start_of records) past × IsOfScript script (entries_of past) × AreHandedBack state faults (start_of records) (entries_of past) nodes after
+    same_run past run = subst (λ (s : Start). IsLogOfRun s past × IsOfScript script (entries_of past) × AreHandedBack state faults s (entries_of past) nodes after) start_same run
 
-    has_run : (log past : List (ℕ × Entry)) → IsRunOn state faults nodes after past → HasRun state faults (record { command = command; script = script; given = given; left = left; log = log }) past
+    has_run : (log past : List (ℕ × Entry)) → IsRunOn state faults script nodes after past → HasRun state faults (record { command = command; script = script; given = given; left = left; log = log }) past
     has_run log past run = let so = same_run past run in
-        record { records = records; shown = shown; store = store; opened = made.opened; numbered_so = made.numbered_so; run = so.0; disks = left_at (entries_of past) so.1 }
+        record { records = records; shown = shown; store = store; opened = made.opened; numbered_so = made.numbered_so; run = so.0; of_script = so.1; disks = left_at (entries_of past) so.2 }
 
     -- a run that failed
-    failed_so : (log : List (ℕ × Entry)) (cause : RunCause) → HasCause state faults nodes after log cause → TellsRun state faults nodes after log cause
-        → ComesTo state faults (record { command = command; script = script; given = given; left = left; log = log }) (due_of_failing cause)
+    failed_so : (log : List (ℕ × Entry)) (cause : RunCause) → HasCause state faults nodes after log cause → TellsRun state faults script nodes after log cause
+        → (IsDamage cause → FollowsToClosingBy command (start_on nodes) script (entries_of log)) → ComesTo state faults (record { command = command; script = script; given = given; left = left; log = log }) (due_of_failing cause)
     unfolding has_run
-    failed_so log (runs.Disk n) (at, rose) run =
+    failed_so log (runs.Disk n) (at, rose) run follows =
         let old = given_at n.0 at.before at.was in
         let begun = ready_at n.0 old.0 at.before old.1 at.was in
         record {
@@ -169,11 +182,12 @@ module _ {D : Type 0} (state : D → DiskState) (faults : D → ℕ) (given : Li
           rose = rose_before _ (faults old.0) (faults at.before.disk) (faults at.now.disk) begun.1.later rose;
           log = inr (has_run log log run);
         }
-    failed_so log (runs.Damaged n place kept found) (at, dishonest, down, other) run =
+    failed_so log (runs.Damaged n place kept found) (at, dishonest, down, other) run follows =
         let old = given_at n.0 at.before at.was in
         let begun = ready_at n.0 old.0 at.before old.1 at.was in
         record {
           made = has_run log log run;
+          follows = subst (λ (s : Start). FollowsToClosingBy command s script (entries_of log)) start_same (follows tt);
           old = old.0;
           was = old.1;
           dishonest = λ h. dishonest (begun.1.honest h);
@@ -182,12 +196,12 @@ module _ {D : Type 0} (state : D → DiskState) (faults : D → ℕ) (given : Li
           found = found;
           other = subst (λ (s : Start). HadOther s (entries_of log) n place kept found) start_same other;
         }
-    failed_so log runs.NoMemory none (past, run) = inr (past, has_run log past run, inr none)
+    failed_so log runs.NoMemory none (past, run) follows = inr (past, has_run log past run, inr none)
 
     -- a run that is done
-    told_so : (log : List (ℕ × Entry)) → IsTrace state faults nodes after log → FollowsBy command (start_on nodes) script (entries_of log) → (due : Due) → IsToldOf (start_of records) store script (entries_of log) due → ComesTo state faults (record { command = command; script = script; given = given; left = left; log = log }) due
-    told_so log trace follows (Report text) (report, audit, spelled) =
-        let so = same_run log (trace.run, trace.back) in
+    told_so : UndisturbedIsAnswered → (log : List (ℕ × Entry)) → IsTrace state faults script nodes after log → FollowsBy command (start_on nodes) script (entries_of log) → (due : Due) → IsToldOf (start_of records) store script (entries_of log) due → ComesTo state faults (record { command = command; script = script; given = given; left = left; log = log }) due
+    told_so law log trace follows (Report text) (report, audit, spelled) =
+        let so = same_run log (trace.run, trace.of_script, trace.back) in
         let quiet = subst (λ (s : Start). StartsSound s → IsQuiet s (entries_of log)) start_same trace.quiet made.opened.sound in
         record {
           records = records;
@@ -197,23 +211,27 @@ module _ {D : Type 0} (state : D → DiskState) (faults : D → ℕ) (given : Li
           numbered_so = made.numbered_so;
           run = so.0;
           follows = subst (λ (s : Start). FollowsBy command s script (entries_of log)) start_same follows;
+          of_script = so.1;
           report = report;
           audit = audit;
+          answered = λ c number answer low op free.
+              law (start_of records) store (entries_of log) c number answer (record { opened = made.opened; run = so.0.run }) (record { undisturbed = op; free = free; recovers = so.1.plain c low });
           printed = spelled;
           quiet = quiet;
-          disks = λ k old new was at. (left_at (entries_of log) so.1 k old new was at, up_at (entries_of log) so.1 quiet.0 k old new was at);
+          disks = λ k old new was at. (left_at (entries_of log) so.2 k old new was at, up_at (entries_of log) so.2 quiet.0 k old new was at);
         }
-    told_so log trace follows NoMemory told = inr (log, has_run log log (trace.run, trace.back), inl refl)
-    told_so log trace follows (DiskFault n) told = absurd told
-    told_so log trace follows (Damaged n place rule) told = absurd told
-    told_so log trace follows Usage told = absurd told
-    told_so log trace follows (Refused row column) told = absurd told
-    told_so log trace follows ReadFault told = absurd told
-    told_so log trace follows (Disks told wanted) is_told = absurd is_told
-    told_so log trace follows Unbuilt told = absurd told
+    told_so law log trace follows NoMemory told = inr (log, has_run log log (trace.run, trace.of_script, trace.back), inl refl)
+    told_so law log trace follows (DiskFault n) told = absurd told
+    told_so law log trace follows (Damaged n place rule) told = absurd told
+    told_so law log trace follows Usage told = absurd told
+    told_so law log trace follows (Refused row column) told = absurd told
+    told_so law log trace follows ReadFault told = absurd told
+    told_so law log trace follows (Disks told wanted) is_told = absurd is_told
+    told_so law log trace follows Unbuilt told = absurd told
 
-    pub played : (log : List (ℕ × Entry)) (due : Due) → IsTrace state faults nodes after log → FollowsBy command (start_on nodes) script (entries_of log) → IsToldOf (start_on nodes) store script (entries_of log) due → ComesTo state faults (record { command = command; script = script; given = given; left = left; log = log }) due
-    played log due trace follows told = told_so log trace follows due (subst (λ (s : Start). IsToldOf s store script (entries_of log) due) start_same told)
+    pub played : UndisturbedIsAnswered → (log : List (ℕ × Entry)) (due : Due) → IsTrace state faults script nodes after log → FollowsBy command (start_on nodes) script (entries_of log) → IsToldOf (start_on nodes) store script (entries_of log) due → ComesTo state faults (record { command = command; script = script; given = given; left = left; log = log }) due
+    played law log due trace follows told = told_so law log trace follows due (subst (λ (s : Start). IsToldOf s store script (entries_of log) due) start_same told)
 
-    pub failed : (log : List (ℕ × Entry)) (cause : RunCause) → FailsSo state faults nodes after log cause → ComesTo state faults (record { command = command; script = script; given = given; left = left; log = log }) (due_of_failing cause)
-    failed log cause fails = failed_so log cause fails.cause_is fails.told
+    pub failed : (log : List (ℕ × Entry)) (cause : RunCause) → FailsSo state faults script nodes after log cause
+        → (IsDamage cause → FollowsToClosingBy command (start_on nodes) script (entries_of log)) → ComesTo state faults (record { command = command; script = script; given = given; left = left; log = log }) (due_of_failing cause)
+    failed log cause fails follows = failed_so log cause fails.cause_is fails.told follows

@@ -14,7 +14,7 @@ use Rattle.mn_top.specs.declared.due.Due.{Due}
 use Rattle.mn_top.specs.declared.due.Due.TheVariants.{Report, Usage, Refused, ReadFault, DiskFault, Damaged, NoMemory, Disks, Unbuilt}
 use Rattle.mn_top.specs.Ending.{ComesTo}
 use Rattle.mn_top.specs.Logs.{AreRead, IsDueOf, WasRead, WasntRead}
-use Rattle.mn_top.specs.Opening.{AreUnwritten, IsBadLog, IsUnwritten, ReadsAs}
+use Rattle.mn_top.specs.Opening.{AreUnwritten, IsBadLog, IsUnwritten, ReadsAs, WereRead}
 use Rattle.mn_top.proofs.Gets.{drop_at, map_at, one_at, seam, split_at, there_at, unsome, within}
 
 module _ {D : Type 0} (state : D → DiskState) (faults : D → ℕ) (given : List D) where
@@ -111,6 +111,9 @@ module _ {D : Type 0} (state : D → DiskState) (faults : D → ℕ) (is_disk : 
     left_count = let low = within given (length redos) disk at in
         omega (arith, ap (λ (l : List D). length l) is, length-append (map (λ (r : RedoState D). r.disk) redos) (bad ∷ drop (length redos + 1) given), count, low, length-drop (length redos + 1) given)
 
+    before : (n : ℕ) → n ≡ length redos → WereRead state given n
+    before n here m d low is = reads_before m d (subst (λ (k : ℕ). m < k) here low) is
+
     so : (command : Command) (script : Script) (due' : Due) → IsDueOf state faults (length given) (length redos) disk bad due' → ComesTo state faults (record { command = command; script = script; given = given; left = left; log = [] }) due'
     so command script (DiskFault n) (here, rose) = record {
       old = disk;
@@ -118,7 +121,7 @@ module _ {D : Type 0} (state : D → DiskState) (faults : D → ℕ) (is_disk : 
       was = ap (slice_get given) here ∙ at;
       is = ap (slice_get left) here ∙ bad_at;
       rose = rose;
-      log = inl (untouched, refl);
+      log = inl ((untouched, refl), before n here);
     }
     so command script (Damaged n place Log) (here, bad_log) = (
       (untouched, refl),
@@ -126,7 +129,7 @@ module _ {D : Type 0} (state : D → DiskState) (faults : D → ℕ) (is_disk : 
         disk = disk;
         is = ap (slice_get given) here ∙ at;
         bad = subst (λ (k : ℕ). IsBadLog (length given) k (state disk) place) (sym here) bad_log;
-        before = λ m d low is. reads_before m d (subst (λ (k : ℕ). m < k) here low) is;
+        before = before n here;
       },
     )
     so command script NoMemory told = inl (untouched, refl)

@@ -9,6 +9,7 @@ use Rattle.mn_forest.specs.Refusal.{RefusesMemory}
 use Rattle.mn_io.specs.DiskModel.{DiskState}
 use Rattle.mn_mini.specs.declared.record.Record.{Record}
 use Rattle.mn_callers.specs.Failed.{HadOther, RoseBeyond}
+use Rattle.mn_callers.specs.Trace.{IsOfScript}
 use Rattle.mn_script.specs.Script.{Script}
 use Rattle.mn_world.specs.declared.entry.Entry.{Entry}
 use Rattle.mn_world.specs.Calls.{node_entries}
@@ -22,7 +23,8 @@ use Rattle.mn_top.specs.declared.due.DamageRule.TheVariants.{Log, Votes, Both, F
 use Rattle.mn_top.specs.declared.due.Due.{Due}
 use Rattle.mn_top.specs.declared.due.Due.TheVariants.{Report, DiskFault, Damaged, NoMemory}
 use Rattle.mn_top.specs.Opening.{AreUnwritten, HasNumber, IsFirstBadLog, IsOpenedAs, Show}
-use Rattle.mn_top.specs.Replayed.{IsLeft, IsReplayed}
+use Rattle.mn_top.specs.Opening.{WereRead}
+use Rattle.mn_top.specs.Replayed.{FollowsToClosingBy, IsLeft, IsReplayed}
 
 -- a script that is played on disks by a command: the disks as they were given and as they are left,
 -- and the log, which is empty where none was made
@@ -34,7 +36,8 @@ pub record Replaying (D : Type 0) : Type 0 where
   pub log : List (ℕ × Entry)
 
 -- From what the disks showed, which holds a store and leaves a number for a run, these entries made
--- one, and each disk is as they leave it.
+-- one. Its clients did no more than the script asks for: what each has begun are its first
+-- operations, in order. Each disk is as the entries leave it.
 pub record HasRun {D : Type 0} (state : D → DiskState) (faults : D → ℕ) (r : Replaying D)
     (past : List (ℕ × Entry)) : Type 0 where
   pub records : List (List Record)
@@ -43,6 +46,7 @@ pub record HasRun {D : Type 0} (state : D → DiskState) (faults : D → ℕ) (r
   pub opened : IsOpenedAs (start_of records) store
   pub numbered_so : HasNumber (start_of records)
   pub run : IsLogOfRun (start_of records) past
+  pub of_script : IsOfScript r.script (entries_of past)
   pub disks : (k : ℕ) (old new : D) → slice_get r.given k ≡ Some old
       → slice_get r.left k ≡ Some new
       → IsLeft state faults (start_of records) (entries_of past) (numbered k) old new
@@ -51,10 +55,6 @@ pub record HasRun {D : Type 0} (state : D → DiskState) (faults : D → ℕ) (r
 abbrev pub IsUntouched : {D : Type 0} → (D → DiskState) → Replaying D → Type 0
 IsUntouched state r = AreUnwritten state r.given r.left × (r.log ≡ [])
 
--- nothing was done; or the log, which may be empty, is a run
-abbrev pub IsUntouchedOrRun : {D : Type 0} → (D → DiskState) → (D → ℕ) → Replaying D → Type 0
-IsUntouchedOrRun state faults r = IsUntouched state r ⊎ HasRun state faults r r.log
-
 -- nothing was done; or some entries made a run, which the log tells, or it tells none
 abbrev pub EndsEarly : {D : Type 0} → (D → DiskState) → (D → ℕ) → Replaying D → Type 0
 EndsEarly state faults r =
@@ -62,7 +62,8 @@ EndsEarly state faults r =
     ⊎ ((past : List (ℕ × Entry)) × HasRun state faults r past × ((r.log ≡ past) ⊎ (r.log ≡ [])))
 
 -- The count of this disk rose beyond the stops of its node, inside requests of others than the
--- closing coordinator, that nobody asked for: where no log was made, it rose.
+-- closing coordinator, that nobody asked for: where no log was made, it rose. Nothing was done, but
+-- that the disks before it were read; or the log, which may be empty, is a run.
 pub record HasFailed {D : Type 0} (state : D → DiskState) (faults : D → ℕ) (r : Replaying D)
     (n : ℕ) : Type 0 where
   pub old : D
@@ -70,12 +71,14 @@ pub record HasFailed {D : Type 0} (state : D → DiskState) (faults : D → ℕ)
   pub was : slice_get r.given n ≡ Some old
   pub is : slice_get r.left n ≡ Some new
   pub rose : RoseBeyond (entries_of r.log) (numbered n) (faults old) (faults new)
-  pub log : IsUntouchedOrRun state faults r
+  pub log : (IsUntouched state r × WereRead state r.given n) ⊎ HasRun state faults r r.log
 
--- a restart at closing found another list on this disk than its node had: the disk was not honest
+-- The script was played up to a closing, where a restart found another list on this disk than its
+-- node had: the disk was not honest.
 pub record FoundOther {D : Type 0} (state : D → DiskState) (faults : D → ℕ) (r : Replaying D)
     (n place : ℕ) : Type 0 where
   pub made : HasRun state faults r r.log
+  pub follows : FollowsToClosingBy r.command (start_of made.records) r.script (entries_of r.log)
   pub old : D
   pub was : slice_get r.given n ≡ Some old
   pub dishonest : (state old).honest → ⊥

@@ -58,14 +58,19 @@ IsBadLog nodes k disk at =
     disk.honest → IsDamagedFirst nodes k disk.content at
     ⊎ ((bodies : List (List ℕ)) × Begins nodes k disk.content bodies × IsFirstBadBody bodies at)
 
--- that disk's log is bad there, and each disk before it reads as records
+-- the disks before this one were read: each reads as records
+abbrev pub WereRead : {D : Type 0} → (D → DiskState) → List D → ℕ → Type 0
+WereRead {D} state given k =
+    (m : ℕ) (disk : D) → m < k → slice_get given m ≡ Some disk
+    → (list : List Record) × ReadsAs (length given) m (state disk) list
+
+-- that disk's log is bad there, and those before it were read
 pub record IsFirstBadLog {D : Type 0} (state : D → DiskState) (given : List D) (k at : ℕ)
     : Type 0 where
   pub disk : D
   pub is : slice_get given k ≡ Some disk
   pub bad : IsBadLog (length given) k (state disk) at
-  pub before : (m : ℕ) (d : D) → m < k → slice_get given m ≡ Some d
-      → (list : List Record) × ReadsAs (length given) m (state d) list
+  pub before : WereRead state given k
 
 -- nothing was written to an honest disk
 pub record IsUnwritten (old new : DiskState) : Type 0 where

@@ -135,6 +135,14 @@ fn write<W: Sink>(sink: &mut W, text: &[u8], status: u8) -> u8
     }
 }
 
+/// Tells that there was no memory: writes that line and answers 7, or 4 after a fault of the sink.
+pub fn tell_no_memory<W: Sink>(sink: &mut W) -> u8
+    ensures { Finishes dues.NoMemory result (W.contents sink.old) (W.contents sink.new)
+        (Rose (W.faults sink.old) (W.faults sink.new)) }
+{
+    write(sink, b"no memory\n", 7)
+}
+
 /// Writes what is due and answers its status, or 4 after a fault of the sink. Where there is no
 /// memory for a line, that is told.
 pub fn finish<W: Sink>(alloc: Global, sink: &mut W, due: &Due) -> u8
@@ -148,6 +156,6 @@ pub fn finish<W: Sink>(alloc: Global, sink: &mut W, due: &Due) -> u8
     }
     match due.whole_line(alloc) {
         Ok(text) => write(sink, &text, due.status()),
-        Err(_) => write(sink, b"no memory\n", 7),
+        Err(_) => tell_no_memory(sink),
     }
 }

@@ -4,13 +4,13 @@ ghost use Rattle.std.specs.Prelude.{◌≡◌, ◌≤◌, ◌+◌, ◌++◌, ◌
 ghost use Rattle.std.specs.Prelude.{reverse, vec_capacity};
 ghost use Rattle.mn_base.specs.Store.{Store};
 ghost use Rattle.mn_mini.specs.declared.record.Record.{Record};
-ghost use Rattle.mn_callers.specs.Failed.{FailsSo};
+ghost use Rattle.mn_callers.specs.Failed.{FailsSo, IsDamage};
 ghost use Rattle.mn_callers.specs.Trace.{IsTrace, MayBegin, start_on};
 ghost use Rattle.mn_top.specs.Ending.{ComesTo};
 ghost use Rattle.mn_top.specs.Logs.{AllCloseSo, AllRead, AreReady, AreStarted, IsToldOf, MakeStart};
 ghost use Rattle.mn_top.specs.Logs.{MayAllBeStarted, WerentStarted, due_of_failing};
 ghost use Rattle.mn_top.specs.Opening.{Show};
-ghost use Rattle.mn_top.specs.Replayed.{FollowsBy};
+ghost use Rattle.mn_top.specs.Replayed.{FollowsBy, FollowsToClosingBy};
 ghost use Rattle.mn_top.specs.declared.due.Due.TheVariants.{Report};
 ghost use Rattle.mn_world.specs.Meaning.{OpenedRun};
 ghost use Rattle.mn_world.specs.Protocol.{Start, run_number};
@@ -31,7 +31,7 @@ use mn_redo::Redo;
 use mn_replay::replay;
 use mn_report::write_report;
 use mn_script::Script;
-use mn_world::Log;
+use mn_world::{Log, undisturbed_is_answered};
 use std::alloc::Global;
 use std::sync::Wait;
 use std::thread::Threads;
@@ -204,12 +204,14 @@ fn run_script<T: Threads + Wait + Sync, D: Disk + Send, G: Gate + Sync>(
 ) -> Result<Trace<D>, RunFailed<D>>
     requires nodes { MayBegin script.now.nodes nodes.items }
     requires run { run ≡ run_number (start_on nodes.items) }
-    ensures trace { IfOk result (λ trace. IsTrace D.state D.faults nodes.items trace.nodes.items
-        trace.log) }
+    ensures trace { IfOk result (λ trace. IsTrace D.state D.faults script.now nodes.items
+        trace.nodes.items trace.log) }
     ensures follows { IfOk result (λ trace. FollowsBy command (start_on nodes.items) script.now
         (entries_of trace.log)) }
-    ensures failed { IfErr result (λ failed. FailsSo D.state D.faults nodes.items
+    ensures failed { IfErr result (λ failed. FailsSo D.state D.faults script.now nodes.items
         failed.nodes.items failed.log failed.cause) }
+    ensures damaged { IfErr result (λ failed. IsDamage failed.cause
+        → FollowsToClosingBy command (start_on nodes.items) script.now (entries_of failed.log)) }
 {
     match command {
         Command::Run => run_threads(rt, alloc, gate, nodes, script, run),
@@ -244,6 +246,7 @@ fn play_on<T: Threads + Wait + Sync, D: Disk + Send, G: Gate + Sync>(
           log = result.log;
         }) result.due }
 {
+    undisturbed_is_answered();
     let Started { nodes, room } = started;
     match run_script(rt, alloc, gate, nodes, command, script, judged.run) {
         Ok(Trace { nodes, log }) => Ended {

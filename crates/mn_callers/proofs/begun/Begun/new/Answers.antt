@@ -8,18 +8,18 @@ use Rattle.mn_callers.specs.Failed.{IsRunOn}
 use Rattle.mn_callers.specs.Plays.{state_at}
 use Rattle.mn_callers.specs.Stages.{AreFreeIfSound, state_of}
 use Rattle.mn_callers.specs.Logs.{HasLog}
-use Rattle.mn_callers.specs.Trace.{IsTrace, start_on}
+use Rattle.mn_callers.specs.Trace.{HaveSoundRecords}
 use Rattle.mn_callers.specs.Turn.{callers_count}
 use Rattle.mn_callers.proofs.Opening.{all_back, as_named, first_play, fresh_play, holds_empty, not_begun}
 use Rattle.mn_callers.proofs.begun.Begun.new.Goals as goal
 
 pub returns-in_default-clause-failed : goal.returns-in_default-clause-failed
 returns-in_default-clause-failed g c =
-    c.without_log.ensures c.args.nodes.items refl [] (not_begun g.D.Disk.state g.D.Disk.faults c.args.script.now.nodes c.args.nodes.items c.requires.nodes)
+    c.without_log.ensures.fails c.args.script.now c.args.nodes.items refl [] (not_begun g.D.Disk.state g.D.Disk.faults c.args.script.now c.args.script.now.nodes c.args.nodes.items c.requires.nodes)
 
 pub returns-in_default-room_for_lists-clause-failed : goal.returns-in_default-room_for_lists-clause-failed
 returns-in_default-room_for_lists-clause-failed g c =
-    c.without_log-in_default-room_for_lists.ensures c.args.nodes.items refl [] (not_begun g.D.Disk.state g.D.Disk.faults c.args.script.now.nodes c.args.nodes.items c.requires.nodes)
+    c.without_log-in_default-room_for_lists.ensures.fails c.args.script.now c.args.nodes.items refl [] (not_begun g.D.Disk.state g.D.Disk.faults c.args.script.now c.args.script.now.nodes c.args.nodes.items c.requires.nodes)
 
 pub stations_of-requires-clause-empty : goal.stations_of-requires-clause-empty
 stations_of-requires-clause-empty g c =
@@ -35,9 +35,9 @@ without_log-requires-in_default-stations_of-clause-owns g c =
 pub returns-in_default-stations_of-clause-failed : goal.returns-in_default-stations_of-clause-failed
 returns-in_default-stations_of-clause-failed g c =
     let back = c.in_default-stations_of.ensures.back in
-    c.without_log-in_default-stations_of.ensures c.args.nodes.items (ap (λ (l : List (NodeState g.row.D.Denot)). length l) back) []
-    (subst (λ (l : List (NodeState g.row.D.Denot)). IsRunOn g.D.Disk.state g.D.Disk.faults c.args.nodes.items l []) (sym back)
-    (not_begun g.D.Disk.state g.D.Disk.faults c.args.script.now.nodes c.args.nodes.items c.requires.nodes))
+    c.without_log-in_default-stations_of.ensures.fails c.args.script.now c.args.nodes.items (ap (λ (l : List (NodeState g.row.D.Denot)). length l) back) []
+    (subst (λ (l : List (NodeState g.row.D.Denot)). HaveSoundRecords l → IsRunOn g.D.Disk.state g.D.Disk.faults c.args.script.now c.args.nodes.items l []) (sym back)
+    (not_begun g.D.Disk.state g.D.Disk.faults c.args.script.now c.args.script.now.nodes c.args.nodes.items c.requires.nodes))
 
 pub returns-clause-play : goal.returns-clause-play
 returns-clause-play g c =

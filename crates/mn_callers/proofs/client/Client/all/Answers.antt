@@ -7,7 +7,7 @@ use Rattle.mn_callers.proofs.Hands.{moves_further, moves_nowhere}
 use Rattle.mn_callers.proofs.client.Client.all.Goals as goal
 
 pub loop-alloc-init : goal.loop-alloc-init
-loop-alloc-init g c = record { turn = c.requires.turn; goes_on = moves_nowhere g.X.Transport.went g.met.X.Transport.stays _ _; client = c.requires.client; operates = OperatesOn.none }
+loop-alloc-init g c = record { turn = c.requires.turn; goes_on = moves_nowhere g.X.Transport.went g.met.X.Transport.stays _ _; client = c.requires.client; operates = OperatesOn.none; order = λ is. is }
 
 pub has_work-requires : goal.has_work-requires
 has_work-requires g c = c.loop-alloc.invariant.client.run.met
@@ -39,6 +39,7 @@ loop-alloc-preserved g c =
       goes_on = subst (λ (x : g.row.X.Denot). MovesOn (g.X.Transport.went c.args.table.now x) (hand_of c.args.pass.now old.list) (hand_of c.go.new.pass new.list)) paused
           (moves_further g.X.Transport.went g.met.X.Transport.goes_on _ _ _ _ _ _ c.loop-alloc.invariant.goes_on c.go.ensures.goes_on);
       client = c.in_ok-go.ensures.client;
+      order = λ is. c.go.ensures.order (c.loop-alloc.invariant.order is);
       operates = OperatesOn.one_more (past_of now) (past_of new) c.loop-alloc.invariant.operates (of_same (λ r. has_work r (past_of now) ≡ true) points now.list.client old.list.client ops same work)
           (of_same (λ r. DoesGo r (past_of now) (past_of new)) points now.list.client old.list.client ops same c.in_ok-go.ensures.does);
     }
@@ -54,3 +55,6 @@ returns-clause-does g c =
 pub loop-alloc-smaller : goal.loop-alloc-smaller
 loop-alloc-smaller g c =
     c.in_ok-go.ensures.falls (has_work_as g.X.Transport.start c.args.points.now c.loop-alloc.self c.loop-alloc.invariant.client c.args.ops.now c.has_work.result _ c.has_work.ensures.is c.loop-alloc-test.true)
+
+pub returns-in_err-go-clause-order : goal.returns-in_err-go-clause-order
+returns-in_err-go-clause-order g c = λ is. c.go.ensures.order (c.loop-alloc.invariant.order is)

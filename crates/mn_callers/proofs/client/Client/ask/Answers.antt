@@ -4,7 +4,7 @@ use Rattle.mn_hist.proofs.Flags.{as_many}
 use Rattle.mn_world.specs.Lists.{ClientState}
 use Rattle.mn_callers.specs.Clients.{past_of}
 use Rattle.mn_callers.proofs.Hands.{moves_further, moves_same, turn_same}
-use Rattle.mn_callers.proofs.ClientCalls.{asked_answer, asked_client, asked_list, asked_none, asked_noted, asked_run, asked_stays, asked_unnoted, at_work_number, may_send, stop_asked}
+use Rattle.mn_callers.proofs.ClientCalls.{asked_answer, asked_client, asked_list, asked_none, asked_noted, asked_run, asked_stays, asked_unnoted, at_work_number, may_send, plain_out, stop_asked}
 use Rattle.mn_callers.proofs.client.Client.ask.Goals as goal
 
 pub stop_due-stop-requires : goal.stop_due-stop-requires
@@ -47,7 +47,7 @@ returns g c =
     record {
       turn = turn_same _ call.turn new.list (ap (λ (k : ClientState). k.client) is) (ap (λ (k : ClientState). k.entries) is);
       goes_on = moves_further g.X.Transport.went g.met.X.Transport.goes_on _ _ _ _ _ _ call.goes_on (moves_same g.X.Transport.went g.met.X.Transport.stays _ _ new.list (ap (λ (k : ClientState). k.client) is) (ap (λ (k : ClientState). k.entries) is));
-      run = asked_run start points old node request stop reply l run call.goes_on.client call.said call.none new note.same note.met;
+      run = asked_run start points old node request stop reply l run call.goes_on.client call.said call.none new note.same (plain_out old.proxy.work node request c.requires.due.out) note.met;
       fits = call.fits;
       answer = asked_answer start points old node request stop reply l run call.goes_on.client call.said call.none new note.same due call.stop;
       none = asked_none start points old node request stop reply l run call.goes_on.client call.said call.none new note.same;

@@ -5,6 +5,7 @@ use Rattle.mn_callers.proofs.ClientActs.{begins_next, none_due, stays_under_way}
 use Rattle.mn_callers.proofs.ClientEnds.{begins_none, begins_one}
 use Rattle.mn_callers.proofs.ClientSteps.{on_ok}
 use Rattle.mn_callers.proofs.Hands.{moves_nowhere}
+use Rattle.mn_callers.proofs.Orders.{first_at_most}
 use Rattle.mn_callers.proofs.client.Client.begin_if_idle.Goals as goal
 
 pub returns-then-is_at_work-clause-goes_on : goal.returns-then-is_at_work-clause-goes_on
@@ -30,3 +31,12 @@ pub returns-clause-begun : goal.returns-clause-begun
 returns-clause-begun g c =
     let old = c.args.self.now in
     on_ok c.begin.result _ _ (begins_one old c.begin.new.self (none_due old.due (sym c.is_at_work.ensures ∙ c.if-is_at_work.false))) c.begin.ensures.begun
+
+pub returns-then-is_at_work-clause-order : goal.returns-then-is_at_work-clause-order
+returns-then-is_at_work-clause-order g c = λ is. is
+
+pub returns-clause-order : goal.returns-clause-order
+returns-clause-order g c =
+    let old = c.args.self.now in
+    let none = none_due old.due (sym c.is_at_work.ensures ∙ c.if-is_at_work.false) in
+    first_at_most c.args.ops.now (past_of old) (past_of c.begin.new.self) c.index-ops-self.result old.begun c.requires.client.run.counted (c.requires.left none) c.index-ops-self.is c.begin.ensures.at_most

@@ -5,6 +5,7 @@ use Rattle.mn_base.proofs.Booleans.{clash}
 use Rattle.mn_callers.proofs.ClientActs.{at_work, calls_more, has_work_as, none_due, of_same, works_not, works_so}
 use Rattle.mn_callers.proofs.ClientEnds.{op_falls}
 use Rattle.mn_callers.proofs.Hands.{moves_further, moves_nowhere}
+use Rattle.mn_callers.proofs.Orders.{still_first}
 use Rattle.mn_callers.proofs.client.Client.go.Goals as goal
 
 pub returns-then-not-has_work-clause-goes_on : goal.returns-then-not-has_work-clause-goes_on
@@ -26,7 +27,7 @@ pub returns-in_err-begin_if_idle-clause-of_run : goal.returns-in_err-begin_if_id
 returns-in_err-begin_if_idle-clause-of_run g c = c.in_err-begin_if_idle.ensures.of_run
 
 pub loop-alloc-init : goal.loop-alloc-init
-loop-alloc-init g c = record { turn = c.begin_if_idle.ensures.turn; goes_on = c.begin_if_idle.ensures.goes_on; client = c.in_ok-begin_if_idle.ensures.client; calls = CallsWhile.none; begun = refl }
+loop-alloc-init g c = record { turn = c.begin_if_idle.ensures.turn; goes_on = c.begin_if_idle.ensures.goes_on; client = c.in_ok-begin_if_idle.ensures.client; calls = CallsWhile.none; order = c.begin_if_idle.ensures.order; begun = refl }
 
 pub returns-clause-of_run : goal.returns-clause-of_run
 returns-clause-of_run g c = c.loop-alloc.invariant.client.run
@@ -52,6 +53,7 @@ loop-alloc-preserved g c =
       turn = c.call.ensures.turn;
       goes_on = moves_further g.X.Transport.went g.met.X.Transport.goes_on _ _ _ _ _ _ c.loop-alloc.invariant.goes_on c.call.ensures.goes_on;
       client = c.in_ok-call.ensures.client;
+      order = λ is. still_first ops g.X.Transport.start points now new _ _ refl refl c.call.ensures.goes_on c.loop-alloc.invariant.client.run c.in_ok-call.ensures.client.run c.call.ensures.begun (c.loop-alloc.invariant.order is);
       calls = calls_more role (λ now. not (is_at_work role now)) (past_of c.begin_if_idle.new.self) (past_of now) (past_of new) c.loop-alloc.invariant.calls (ap not works) works
           (of_same (λ r. CallsOnce r (past_of now) (past_of new)) points now.list.client old.list.client ops same (c.in_ok-call.ensures.calls ops));
       begun = c.call.ensures.begun ∙ c.loop-alloc.invariant.begun;
@@ -91,3 +93,14 @@ returns-clause-falls g c = λ has.
     let now = c.loop-alloc.self in
     op_falls (length c.args.ops.now) c.args.self.now c.begin_if_idle.new.self now (c.has_work.ensures.left c.if-not-has_work.false) c.in_ok-begin_if_idle.ensures.begun c.loop-alloc.invariant.begun
     (none_due now.due (sym c.is_at_work.ensures ∙ c.loop-alloc-test.false))
+
+pub returns-then-not-has_work-clause-order : goal.returns-then-not-has_work-clause-order
+returns-then-not-has_work-clause-order g c = λ is. is
+
+pub returns-in_err-begin_if_idle-clause-order : goal.returns-in_err-begin_if_idle-clause-order
+returns-in_err-begin_if_idle-clause-order g c = c.begin_if_idle.ensures.order
+
+pub returns-in_err-call-clause-order : goal.returns-in_err-call-clause-order
+returns-in_err-call-clause-order g c = λ is.
+    still_first c.args.ops.now g.X.Transport.start c.args.points.now c.loop-alloc.self c.call.new.self _ _ refl refl c.call.ensures.goes_on c.loop-alloc.invariant.client.run c.in_err-call.ensures.of_run c.call.ensures.begun
+    (c.loop-alloc.invariant.order is)

@@ -1,9 +1,10 @@
-use Rattle.std.proofs.Common.{◌≡◌, true, false, not, ◌||◌, sym, ◌∙◌}
+use Rattle.std.proofs.Common.{◌≡◌, true, false, not, ◌||◌, refl, sym, ◌∙◌}
 use Rattle.mn_callers.specs.Acts.{CallsOnce, CallsUntil, CallsWhile, as_role, is_at_work, is_plan_due}
 use Rattle.mn_callers.specs.Clients.{past_of}
 use Rattle.mn_callers.proofs.ClientActs.{calls_more, has_work_as, of_same, plan_goes_on, planned, works_not, works_so}
 use Rattle.mn_callers.proofs.ClientEnds.{unplanned}
 use Rattle.mn_callers.proofs.Hands.{moves_further, moves_nowhere}
+use Rattle.mn_callers.proofs.Orders.{still_first}
 use Rattle.mn_callers.proofs.client.Client.plan.Goals as goal
 
 pub returns-then-not-has_work-clause-goes_on : goal.returns-then-not-has_work-clause-goes_on
@@ -25,7 +26,7 @@ pub returns-in_err-begin_if_idle-clause-of_run : goal.returns-in_err-begin_if_id
 returns-in_err-begin_if_idle-clause-of_run g c = c.in_err-begin_if_idle.ensures.of_run
 
 pub loop-alloc-init : goal.loop-alloc-init
-loop-alloc-init g c = record { turn = c.begin_if_idle.ensures.turn; goes_on = c.begin_if_idle.ensures.goes_on; client = c.in_ok-begin_if_idle.ensures.client; calls = CallsWhile.none }
+loop-alloc-init g c = record { turn = c.begin_if_idle.ensures.turn; goes_on = c.begin_if_idle.ensures.goes_on; client = c.in_ok-begin_if_idle.ensures.client; calls = CallsWhile.none; order = c.begin_if_idle.ensures.order }
 
 pub returns-clause-of_run : goal.returns-clause-of_run
 returns-clause-of_run g c = c.loop-alloc.invariant.client.run
@@ -51,6 +52,7 @@ loop-alloc-preserved g c =
       turn = c.call.ensures.turn;
       goes_on = moves_further g.X.Transport.went g.met.X.Transport.goes_on _ _ _ _ _ _ c.loop-alloc.invariant.goes_on c.call.ensures.goes_on;
       client = c.in_ok-call.ensures.client;
+      order = λ is. still_first ops g.X.Transport.start points now new _ _ refl refl c.call.ensures.goes_on c.loop-alloc.invariant.client.run c.in_ok-call.ensures.client.run c.call.ensures.begun (c.loop-alloc.invariant.order is);
       calls = calls_more role (λ now. not (is_at_work role now) || is_plan_due now) (past_of c.begin_if_idle.new.self) (past_of now) (past_of new) c.loop-alloc.invariant.calls goes (plan_goes_on role (past_of now) goes)
           (of_same (λ r. CallsOnce r (past_of now) (past_of new)) points now.list.client old.list.client ops same (c.in_ok-call.ensures.calls ops));
     }
@@ -78,3 +80,14 @@ returns-clause-does g c =
 pub loop-alloc-smaller : goal.loop-alloc-smaller
 loop-alloc-smaller g c =
     let now = c.loop-alloc.self in c.in_ok-call.ensures.falls (unplanned now.due now.is_plan (sym c.is_planned.ensures ∙ c.loop-alloc-test.true))
+
+pub returns-then-not-has_work-clause-order : goal.returns-then-not-has_work-clause-order
+returns-then-not-has_work-clause-order g c = λ is. is
+
+pub returns-in_err-begin_if_idle-clause-order : goal.returns-in_err-begin_if_idle-clause-order
+returns-in_err-begin_if_idle-clause-order g c = c.begin_if_idle.ensures.order
+
+pub returns-in_err-call-clause-order : goal.returns-in_err-call-clause-order
+returns-in_err-call-clause-order g c = λ is.
+    still_first c.args.ops.now g.X.Transport.start c.args.points.now c.loop-alloc.self c.call.new.self _ _ refl refl c.call.ensures.goes_on c.loop-alloc.invariant.client.run c.in_err-call.ensures.of_run c.call.ensures.begun
+    (c.loop-alloc.invariant.order is)

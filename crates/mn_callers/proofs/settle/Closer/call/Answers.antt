@@ -1,7 +1,7 @@
-use Rattle.std.proofs.Common.{refl}
+use Rattle.std.proofs.Common.{refl, sym}
 use Rattle.mn_world.specs.Protocol.{start_of}
 use Rattle.mn_callers.specs.Turn.{turn_at}
-use Rattle.mn_callers.proofs.Closing.{caused_by, closes_called, closing_called, no_failure, up_not_down}
+use Rattle.mn_callers.proofs.Closing.{caused_by, closes_called, closing_called, never_damage, no_failure, up_not_down}
 use Rattle.mn_callers.proofs.Stations.{not_none}
 use Rattle.mn_callers.proofs.settle.Closer.call.Goals as goal
 
@@ -28,3 +28,6 @@ pub returns-in-None-clause-closes : goal.returns-in-None-clause-closes
 returns-in-None-clause-closes g c =
     let answers = no_failure c.args.node c.call-reply.result c.in-None.ensures in
     closes_called c.args.self.now.list c.call-reply.new.list c.args.node c.args.request c.call-reply.result answers (c.call-reply.ensures.said (not_none c.call-reply.result answers))
+
+pub returns-in-Some-clause-whole : goal.returns-in-Some-clause-whole
+returns-in-Some-clause-whole g c = λ damage. never_damage c.args.node c.call-reply.result c.in-Some.cause (sym c.in-Some.ensures) damage

@@ -4,6 +4,7 @@ use Rattle.mn_world.specs.Protocol.{start_of}
 use Rattle.mn_world.specs.Run.{entries_of}
 use Rattle.mn_callers.specs.Closing.{ClosesOn, IsClosing}
 use Rattle.mn_callers.specs.Doings.{IsDownAs}
+use Rattle.mn_callers.specs.Settled.{AllUp}
 use Rattle.mn_callers.specs.Turn.{ExtendsLog, turn_at}
 use Rattle.mn_callers.proofs.settle.Closer.restart_all.Given as goal
 
@@ -12,5 +13,6 @@ invariant-loop-number g l = record {
   closing : IsClosing g.N.Named.board (start_of g.N.Named.records) (turn_at l.table l.pass l.self.list);
   goes_on : ExtendsLog (turn_at l.fn.table l.fn.pass l.fn.self.list) (turn_at l.table l.pass l.self.list);
   closes : ClosesOn (entries_of l.fn.self.list.entries) (entries_of l.self.list.entries);
+  still : AllUp l.fn.table.stations.items → AllUp l.table.stations.items;
   up : (k : ℕ) → k < l.number → IsDownAs false l.table.stations.items (numbered k);
 }

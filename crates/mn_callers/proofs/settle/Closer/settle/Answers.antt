@@ -1,7 +1,8 @@
 use Rattle.std.proofs.Common.{List, subst, sym}
 use Rattle.std.specs.Prelude.{Contains}
 use Rattle.mn_base.specs.declared.ids.Tid.{Tid}
-use Rattle.mn_callers.proofs.Closing.{closes_after, closes_further, on_ok, settled_by}
+use Rattle.mn_world.specs.Protocol.{start_of}
+use Rattle.mn_callers.proofs.Closing.{any_error, bare_up, closes_after, closes_further, if_error, on_ok, settled_by}
 use Rattle.mn_callers.proofs.Turns.{goes_further}
 use Rattle.mn_callers.proofs.settle.Closer.settle.Goals as goal
 
@@ -20,3 +21,13 @@ returns-clause-settled g c =
 pub returns-clause-closes : goal.returns-clause-closes
 returns-clause-closes g c =
     closes_after c.recover_all.result _ _ _ (closes_further _ _ _ c.in_ok-restart_all.ensures.closes c.in_ok-tids.ensures.closes) c.recover_all.ensures.closes
+
+pub returns-in_err-restart_all-clause-damaged : goal.returns-in_err-restart_all-clause-damaged
+returns-in_err-restart_all-clause-damaged g c =
+    any_error c.from_residual.result _ (λ cause damage. (
+      c.in_err-restart_all.ensures.closes_failed,
+      λ bare. c.in_err-restart_all.ensures.some_down (bare_up g.D.Disk.state g.D.Disk.faults (start_of g.N.Named.records) g.N.Named.faults g.N.Named.honest c.args.table.now.stations.items c.made.ensures bare),
+    ))
+
+pub returns-clause-damaged : goal.returns-clause-damaged
+returns-clause-damaged g c = if_error c.recover_all.result _ _ (λ cause whole damage. absurd (whole damage)) c.recover_all.ensures.whole

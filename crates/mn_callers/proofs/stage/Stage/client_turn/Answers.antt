@@ -2,12 +2,14 @@ use Rattle.std.proofs.Common.{◌∙◌, ◌<◌, ℕ, List, length, refl, sym, 
 use Rattle.std.specs.Prelude.{slice_get, slice_set}
 use Rattle.std.specs.Vec.{with_item}
 use Rattle.mn_actors.specs.Sight.{board_of, view_of}
+use Rattle.mn_base.specs.declared.op.Op.{Op}
 use Rattle.mn_script.specs.declared.elements.Point.{Point}
 use Rattle.mn_script.specs.declared.elements.ScriptClient.{ScriptClient}
 use Rattle.mn_world.specs.Protocol.{start_of}
 use Rattle.mn_callers.specs.declared.callers.Callers.{Callers}
 use Rattle.mn_callers.specs.Acts.{Role, as_role}
 use Rattle.mn_callers.specs.Clients.{IsClient, IsOfRun, past_of}
+use Rattle.mn_callers.specs.Going.{KeepsOrder}
 use Rattle.mn_callers.specs.Stages.{DoesMove, GoesAs, IsOfClient, state_of}
 use Rattle.mn_callers.specs.Plays.{AreReady, state_at}
 use Rattle.mn_callers.specs.Turn.{turn_at}
@@ -51,8 +53,14 @@ returns-clause-play g c =
     let of = client_turn g.N.Named.board start state c.requires.play.rests c.args.client.0 c.index_mut-caller.result.now there after
     (view_of c.split-pass.new.from) (view_of c.split-pass.result) (board_of c.split-pass.result) turn caller
     c.split-pass.ensures.view c.make_move-done.ensures.turn c.make_move-done.ensures.goes_on c.join.ensures.view (c.join.ensures.board ∙ c.split-pass.ensures.board.0) refl refl refl items refl refl of_run.of_run in
+    let role = role_same c.args.script.now c.points-points.result.now c.args.client c.index_mut-caller.result.now.list.client c.as_slice-ops.result.now c.index-clients-at.result c.points-points.ensures.value
+    (c.requires.play.rests.numbers.clients c.args.client.0 c.index_mut-caller.result.now there)
+    (ap (λ (l : List ScriptClient). slice_get l c.args.client.0) (sym c.clients.ensures.value) ∙ met_at c.clients.result.now c.args.client.0 c.from-at.result c.index-clients-at.result
+    (subst (λ (l : List ScriptClient). c.args.client.0 < length l) (sym c.clients.ensures.value) c.requires.client) c.from-at.ensures c.index-clients-at.is)
+    (c.as_slice-ops.ensures ∙ ap (λ (k : ScriptClient). k.ops) (sym c.index-clients-at.is)) in
     client_ends g.N.Named.board start state c.requires.play.rests c.args.client.0 c.index_mut-caller.result.now there c.args.script.now c.requires.play after
     (view_of c.split-pass.new.from) (view_of c.split-pass.result) (board_of c.split-pass.result) turn caller of items refl refl of_run
+    (subst (λ (ops : List Op). KeepsOrder ops (past_of c.index_mut-caller.result.now) (past_of caller)) (ap (λ (a : Role). a.ops) role) c.make_move-done.ensures.order)
 
 pub returns-clause-does : goal.returns-clause-does
 returns-clause-does g c =
