@@ -2,21 +2,38 @@
 #![tactic(auto)]
 
 mod ends;
+#[cfg(test)]
+mod tests;
 
 use ends::{StdSink, StdSource};
 use mn_base::{NoMemory, OpenGate};
 use mn_io::{Bytes, Calls};
 use mn_memdisk::MemoryDisk;
-use mn_top::{Words, run_program, wanted};
+use mn_top::{Words, run_program, tell_no_memory, wanted};
 use std::alloc::Global;
+use std::env::Args;
+use std::io::ErrorKind;
 use std::process::ExitCode;
 use std::rt::Env;
 use std::{env, mem};
 
-/// The words of the command line.
+/// The arguments of the process. A list in which one isn't UTF-8 is taken for none.
+fn arguments_of<T: Env + AllocGlobal>(rt: &T) -> Result<Option<Args>, NoMemory> {
+    match env::args(rt) {
+        Ok(arguments) => Ok(Some(arguments)),
+        Err(error) => {
+            if error.kind() == ErrorKind::OutOfMemory {
+                return Err(NoMemory);
+            }
+            Ok(None)
+        }
+    }
+}
+
+/// The words of the command line: the arguments behind the program's name.
 fn words_of<T: Env + AllocGlobal>(rt: &T) -> Result<Words, NoMemory> {
     let mut words = Words::new(rt.alloc());
-    if let Ok(arguments) = env::args(rt) {
+    if let Some(arguments) = arguments_of(rt)? {
         for word in arguments.skip(1) {
             words.push(rt.alloc(), word.as_str())?;
         }
@@ -38,16 +55,14 @@ fn disks_of(alloc: Global, words: &Words) -> Result<Vec<MemoryDisk>, NoMemory> {
 
 fn main(rt: HostRuntime) -> ExitCode {
     let alloc = rt.alloc();
+    let mut sink = StdSink::new(std::io::writer(&rt));
     let Ok(words) = words_of(&rt) else {
-        let _ = println!(rt; "no memory");
-        return ExitCode::from(7);
+        return ExitCode::from(tell_no_memory(&mut sink));
     };
     let Ok(disks) = disks_of(alloc, &words) else {
-        let _ = println!(rt; "no memory");
-        return ExitCode::from(7);
+        return ExitCode::from(tell_no_memory(&mut sink));
     };
     let mut source = StdSource::new(rt.reader());
-    let mut sink = StdSink::new(std::io::writer(&rt));
     let outcome = run_program(&rt, alloc, &words, &mut source, &mut sink, disks, &OpenGate);
     let status = outcome.status;
     // The process ends, and its memory goes back as a whole.

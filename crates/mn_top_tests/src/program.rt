@@ -60,8 +60,9 @@ fn source_of(alloc: Global, given: &Given<'_>) -> Result<MemorySource, NoMemory>
     ))
 }
 
-fn sink_of(alloc: Global, given: &Given<'_>) -> Result<MemorySink, Fail> {
-    let fails = Calls::from_vec(given.sink_fails.to_vec(alloc)?);
+/// A sink of which the calls with these numbers fail.
+pub fn sink_of(alloc: Global, fails: &[u64]) -> Result<MemorySink, Fail> {
+    let fails = Calls::from_vec(fails.to_vec(alloc)?);
     Ok(MemorySink::new(alloc, 65_536, fails)?)
 }
 
@@ -104,7 +105,7 @@ fn ends_of(alloc: Global, words: &[&str], given: &Given<'_>) -> Result<Ends, Fai
     Ok(Ends {
         words: words_of(alloc, words)?,
         source: source_of(alloc, given)?,
-        sink: sink_of(alloc, given)?,
+        sink: sink_of(alloc, given.sink_fails)?,
     })
 }
 

@@ -1,7 +1,9 @@
 //! The statuses of the program, by its words, its source and its sink.
 use crate::disks::one_disk;
-use crate::program::{COMMANDS, Given, Row, first_wrong, fresh_disks, play, run, words_of};
-use mn_top::wanted;
+use crate::program::{
+    COMMANDS, Given, Row, first_wrong, fresh_disks, play, run, sink_of, words_of,
+};
+use mn_top::{tell_no_memory, wanted};
 use std::alloc::Global;
 use std::sync::Wait;
 use std::test::Fail;
@@ -121,6 +123,20 @@ fn wrong_words_are_told_in_a_line(rt: HostRuntime) -> Result<(), Fail> {
 fn faults_and_wrong_disks_are_told_in_a_line(rt: HostRuntime) -> Result<(), Fail> {
     let wrong = first_other(&rt, OTHER_ENDS)?;
     assert!(rt; wrong == None, "the row {wrong:?}");
+    Ok(())
+}
+
+/// Whether want of memory is told so to a sink of which these calls fail.
+fn is_told_so(alloc: Global, sink_fails: &[u64], status: u8, written: &[u8]) -> Result<bool, Fail> {
+    let mut sink = sink_of(alloc, sink_fails)?;
+    let told = tell_no_memory(&mut sink);
+    Ok(told == status && sink.written() == written)
+}
+
+#[test]
+fn want_of_memory_is_told_before_a_call(rt: HostRuntime) -> Result<(), Fail> {
+    assert!(rt; is_told_so(rt.alloc(), &[], 7, b"no memory\n")?);
+    assert!(rt; is_told_so(rt.alloc(), &[0], 4, b"")?);
     Ok(())
 }
 
