@@ -1,8 +1,10 @@
-//! Tests of pages, catalogs and scans.
+//! Tests of pages, catalogs, scans and the pages of a transaction.
 #![tactic(auto)]
 
 #[cfg(test)]
 mod catalogs;
+#[cfg(test)]
+mod overlays;
 #[cfg(test)]
 mod pages;
 #[cfg(test)]

@@ -108,6 +108,33 @@ fn the_lower_one_of_two_faults_is_told(rt: HostRuntime) -> Result<(), Fail> {
     Ok(())
 }
 
+const PUT: &str = "nodes 1\nclient a\nput main k w\n";
+
+const WORN: &str =
+    "a 1 worn 0 20480\nhistory 0\nversion main - writable 1 3a0511d85eacbbdd36deb83b3e4a9e8abe6bae92f89157155b49ae03a628c1ad\nend\n";
+
+/// The used disk, where the leaf in the first slot has the last sequence number: its page ends the
+/// record, before the closed gate.
+fn worn<T: Threads + Wait + Sync + AllocGlobal>(rt: &T) -> Result<Vec<u8>, Fail> {
+    let mut content = used(rt)?;
+    if content.len() > 1_025 {
+        let page = content.len() - 1_025;
+        for byte in &mut content[page..page + 8] {
+            *byte = 0xff;
+        }
+    }
+    Ok(content)
+}
+
+#[test]
+fn a_page_with_the_last_number_is_worn(rt: HostRuntime) -> Result<(), Fail> {
+    let content = worn(&rt)?;
+    let ran = replay(&rt, PUT, one_disk(rt.alloc(), &content, &[])?)?;
+    assert!(rt; ran.ended(0, WORN));
+    assert!(rt; ran.content(0) == content.as_slice());
+    Ok(())
+}
+
 /// The used disk without its last byte, and its one record again.
 fn with_two_records<T: Threads + Wait + Sync + AllocGlobal>(rt: &T) -> Result<Vec<u8>, Fail> {
     let mut content = used(rt)?;
